@@ -1,0 +1,49 @@
+//! A call of a queue, and what it was answered.
+
+/// What a call asks for.
+#[derive(Clone, Copy, Debug, PartialEq, Eq)]
+pub enum Op {
+    /// Put this item, from 1 to 2^24 - 1, into the queue.
+    Enqueue(u32),
+    /// Take one of the k oldest items.
+    Dequeue,
+}
+
+/// What a call was answered.
+#[derive(Clone, Copy, Debug, PartialEq, Eq)]
+pub enum Answer {
+    /// An enqueue's item is in the queue, or was already taken.
+    Done,
+    /// An enqueue saw the ring full in one round.
+    Full,
+    /// A dequeue took this item.
+    Got(u32),
+    /// A dequeue found the queue empty.
+    Empty,
+    /// All rounds of the call ended without an answer.
+    Busy,
+    /// The next step would need a version above the greatest one.
+    Worn,
+}
+
+/// The end of a finished call: its last step and its answer.
+#[derive(Clone, Copy, Debug, PartialEq, Eq)]
+pub struct End {
+    /// The place of the call's last step.
+    pub last: u64,
+    /// What the call was answered.
+    pub answer: Answer,
+}
+
+/// A call, from its first step on. It is unfinished where it has no end.
+#[derive(Clone, Copy, Debug, PartialEq, Eq)]
+pub struct Call {
+    /// The number of the thread that makes the call.
+    pub thread: u32,
+    /// What the call asks for.
+    pub op: Op,
+    /// The place of the call's first step.
+    pub first: u64,
+    /// The last step and the answer, where the call is finished.
+    pub end: Option<End>,
+}
