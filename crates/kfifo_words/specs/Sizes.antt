@@ -1,0 +1,17 @@
+-- Which sizes a shape may have, and what is answered where it may not.
+use Rattle.std.specs.Prelude.{ℕ, ◌&&◌, nat_le, if◌then◌else◌, Bool, not, Option, Some, None}
+use Rattle.kfifo_words.specs.declared.fault.ShapeFault.{ShapeFault}
+use Rattle.kfifo_words.specs.declared.fault.ShapeFault.TheVariants.{KOutOfRange, SegmentsOutOfRange, LastOutOfRange, ProbesOutOfRange}
+
+-- a lies within these bounds, both among them
+abbrev pub within : ℕ → ℕ → ℕ → Bool
+within least most a = nat_le least a && nat_le a most
+
+-- the first fault of these sizes
+abbrev pub fault_of : ℕ → ℕ → ℕ → ℕ → Option ShapeFault
+fault_of k n last probes =
+    if not (within 1 64 k) then Some KOutOfRange
+    else if not (within 2 1024 n) then Some SegmentsOutOfRange
+    else if not (within 2 1099511627775 last) then Some LastOutOfRange
+    else if not (within 1 k probes) then Some ProbesOutOfRange
+    else None

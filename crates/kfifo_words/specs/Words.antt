@@ -1,0 +1,26 @@
+-- A word of the table as a number of 64 bits: its low 24 bits are a value, its high 40 bits a version.
+use Rattle.std.specs.Prelude.{ℕ, ◌+◌, ◌*◌, ◌/◌, ◌%◌}
+
+-- the word of a slot: its item, or 0 where it is empty, and its version
+unfoldable pub slot_word : ℕ → ℕ → ℕ
+slot_word value version = version * 16777216 + value
+
+-- the value of a slot's word
+unfoldable pub value_of : ℕ → ℕ
+value_of word = word % 16777216
+
+-- the version of a word, of a slot and of the ends
+unfoldable pub version_of : ℕ → ℕ
+version_of word = word / 16777216
+
+-- the ends word: head and tail are segment numbers of 12 bits each, under one version
+unfoldable pub ends_word : ℕ → ℕ → ℕ → ℕ
+ends_word head tail version = version * 16777216 + (head * 4096 + tail)
+
+-- the segment that an ends word names as the head
+unfoldable pub head_of : ℕ → ℕ
+head_of ends = ends / 4096 % 4096
+
+-- the segment that an ends word names as the tail
+unfoldable pub tail_of : ℕ → ℕ
+tail_of ends = ends % 4096

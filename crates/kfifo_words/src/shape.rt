@@ -1,0 +1,132 @@
+//! The shape of a ring.
+ghost use Rattle.std.specs.Prelude.{◌≡◌, ℕ, ◌+◌, ◌*◌, ◌^◌, ◌<◌, ◌≤◌, Some, None, MatchResult};
+
+use crate::ShapeFault;
+
+/// The sizes of a ring: n segments of k slots, how far versions go, and how many slots an enqueue
+/// looks at.
+#[derive(Clone, Copy, PartialEq, Eq, Debug)]
+pub struct Shape {
+    /// Slots in a segment, 1 to 64.
+    pub k: u32,
+    /// Segments in the ring, 2 to 1,024.
+    pub n: u32,
+    /// The greatest version, 2 to 2^40 - 1.
+    pub last: u64,
+    /// Slots of a segment that an enqueue probes from its start, 1 to k.
+    pub probes: u32,
+    pub ghost some_slot: { 1 ≤ k },
+    pub ghost few_slots: { k ≤ 64 },
+    pub ghost some_segments: { 2 ≤ n },
+    pub ghost few_segments: { n ≤ 1024 },
+    pub ghost some_versions: { 2 ≤ last },
+    pub ghost few_versions: { last < 2 ^ 40 },
+    pub ghost some_probe: { 1 ≤ probes },
+    pub ghost few_probes: { probes ≤ k },
+}
+
+impl Shape {
+    ghost use Rattle.kfifo_words.specs.Ring.{next_segment, distance, slot_at, clock_at};
+    ghost use Rattle.kfifo_words.specs.Sizes.{fault_of};
+
+    /// The shape of n segments of k slots whose enqueues probe all k slots.
+    ///
+    /// Refused, in this order, where k is not 1 to 64, n not 2 to 1,024, `last` not 2 to 2^40 - 1.
+    pub fn new(k: u32, n: u32, last: u64) -> Result<Shape, ShapeFault>
+        ensures { MatchResult result (λ s. (s.k ≡ k) × (s.n ≡ n) × (s.last ≡ last) × (s.probes ≡ k)) (λ f. fault_of k n last k ≡ Some f) }
+    {
+        Shape::with_probes(k, n, last, k)
+    }
+
+    /// The shape of n segments of k slots whose enqueues probe the first `probes` slots from their
+    /// start.
+    ///
+    /// Refused as by `new`, and then where `probes` is not 1 to k.
+    pub fn with_probes(k: u32, n: u32, last: u64, probes: u32) -> Result<Shape, ShapeFault>
+        ensures { MatchResult result (λ s. (s.k ≡ k) × (s.n ≡ n) × (s.last ≡ last) × (s.probes ≡ probes)) (λ f. fault_of k n last probes ≡ Some f) }
+    {
+        if k < 1 || k > 64 {
+            return Err(ShapeFault::KOutOfRange);
+        }
+        if n < 2 || n > 1024 {
+            return Err(ShapeFault::SegmentsOutOfRange);
+        }
+        if last < 2 || last > 1_099_511_627_775 {
+            return Err(ShapeFault::LastOutOfRange);
+        }
+        if probes < 1 || probes > k {
+            return Err(ShapeFault::ProbesOutOfRange);
+        }
+        Ok(Shape { k, n, last, probes })
+    }
+
+    /// Slots in a segment.
+    pub fn k(&self) -> u32
+        ensures { result ≡ self.now.k }
+    {
+        self.k
+    }
+
+    /// Segments in the ring.
+    pub fn n(&self) -> u32
+        ensures { result ≡ self.now.n }
+    {
+        self.n
+    }
+
+    /// The greatest version.
+    pub fn last(&self) -> u64
+        ensures { result ≡ self.now.last }
+    {
+        self.last
+    }
+
+    /// Slots of a segment that an enqueue probes.
+    pub fn probes(&self) -> u32
+        ensures { result ≡ self.now.probes }
+    {
+        self.probes
+    }
+
+    /// The next segment round the ring.
+    #[tactic(auto, unfolding(crate::specs::Ring::next_segment))]
+    pub fn next(&self, segment: u32) -> u32
+        requires { segment < self.now.n }
+        ensures value { result ≡ next_segment self.now.n segment }
+        ensures below { result < self.now.n }
+    {
+        if segment + 1 == self.n { 0 } else { segment + 1 }
+    }
+
+    /// How many steps forward round the ring lead from one segment to another, 0 to n - 1.
+    #[tactic(auto, unfolding(crate::specs::Ring::distance))]
+    pub fn dist(&self, from: u32, to: u32) -> u32
+        requires from_in { from < self.now.n }
+        requires to_in { to < self.now.n }
+        ensures value { result ≡ distance self.now.n from to }
+        ensures below { result < self.now.n }
+    {
+        if from <= to { to - from } else { to + self.n - from }
+    }
+
+    /// The index of a slot's word in the table.
+    ///
+    /// Distinct slots have distinct indexes, none of which is that of the ends word or of the clock.
+    pub fn slot_index(&self, segment: u32, slot: u32) -> usize
+        requires segment_in { segment < self.now.n }
+        requires slot_in { slot < self.now.k }
+        ensures value { result ≡ slot_at self.now.k segment slot }
+        ensures not_ends { 0 < result }
+        ensures below_clock { result < clock_at self.now.k self.now.n }
+        ensures distinct { (s i : ℕ) → s < self.now.n → i < self.now.k → slot_at self.now.k s i ≡ result → (s ≡ segment) × (i ≡ slot) }
+    {
+        1 + segment as usize * self.k as usize + slot as usize
+    }
+
+    /// The index of the clock in the table, the last one.
+    pub fn clock_index(&self) -> usize
+        ensures { result ≡ clock_at self.now.k self.now.n }
+    {
+        1 + self.n as usize * self.k as usize
+    }
+}
