@@ -1,0 +1,416 @@
+//! One atomic step: which it is, and what a thread does with the word that it found.
+
+ghost use Rattle.std.specs.Prelude.{◌≡◌, ◌≢◌, ℕ, ◌+◌, ◌*◌, ◌^◌, ◌<◌, ◌≤◌};
+ghost use Rattle.kfifo_words.specs.Words.{value_of, version_of, head_of, tail_of};
+ghost use Rattle.kfifo_machine.specs.Program.{scan_index, access, advance, enqueue_access, dequeue_access, enqueue_advance, dequeue_advance, enqueue_again, dequeue_again};
+ghost use Rattle.kfifo_machine.specs.Places.{IsEnds, IsPlace, IsEnqueuePhase, IsDequeuePhase, IsFound, IsFoundBy};
+
+use crate::{Access, DequeuePhase, EnqueuePhase, Next, Running, Seen};
+use kfifo_model::Answer;
+use kfifo_words::{Ends, Shape, Word};
+
+/// The index of the slot at which a scan of a segment stands.
+#[tactic(auto, unfolding(crate::specs::Program::scan_index))]
+fn scan(shape: &Shape, segment: u32, start: u32, offset: u32) -> usize
+    requires segment { segment < shape.now.n }
+    requires start { start < shape.now.k }
+    requires offset { offset < shape.now.k }
+    ensures { result ≡ scan_index shape.now segment start offset }
+{
+    shape.slot_index(segment, (start + offset) % shape.k())
+}
+
+fn head_moved(shape: &Shape, ends: Ends) -> Access
+    requires ends { IsEnds shape.now ends }
+    requires version { version_of ends < shape.now.last }
+    ensures { result ≡ Access.Exchange 0 ends (Rattle.kfifo_machine.specs.Program.head_moved shape.now ends) }
+{
+    Access::Exchange {
+        index: 0,
+        from: ends.into(),
+        to: Ends::pack(shape.next(ends.head()), ends.tail(), ends.version() + 1).into(),
+    }
+}
+
+fn tail_moved(shape: &Shape, ends: Ends) -> Access
+    requires ends { IsEnds shape.now ends }
+    requires version { version_of ends < shape.now.last }
+    ensures { result ≡ Access.Exchange 0 ends (Rattle.kfifo_machine.specs.Program.tail_moved shape.now ends) }
+{
+    Access::Exchange {
+        index: 0,
+        from: ends.into(),
+        to: Ends::pack(ends.head(), shape.next(ends.tail()), ends.version() + 1).into(),
+    }
+}
+
+/// The step that an enqueue makes next.
+fn enqueue_step(shape: &Shape, item: u32, start: u32, phase: EnqueuePhase) -> Access
+    requires item { item < 2 ^ 24 }
+    requires start { start < shape.now.k }
+    requires phase { IsEnqueuePhase shape.now phase }
+    ensures { result ≡ enqueue_access shape.now item start phase }
+{
+    match phase {
+        EnqueuePhase::LoadEnds => Access::Load { index: 0 },
+        EnqueuePhase::ScanTail { ends, offset } => Access::Load {
+            index: scan(shape, ends.tail(), start, offset),
+        },
+        EnqueuePhase::Recheck { .. } => Access::Load { index: 0 },
+        EnqueuePhase::Put { index, empty, .. } => Access::Exchange {
+            index,
+            from: empty,
+            to: Word::pack(item, empty.version() + 1),
+        },
+        EnqueuePhase::ReloadSlot { index, .. } => Access::Load { index },
+        EnqueuePhase::ReloadEnds { .. } => Access::Load { index: 0 },
+        EnqueuePhase::HoldHead { held, .. } => Access::Exchange {
+            index: 0,
+            from: held.into(),
+            to: Ends::pack(held.head(), held.tail(), held.version() + 1).into(),
+        },
+        EnqueuePhase::Undo { index, filled, .. } => Access::Exchange {
+            index,
+            from: filled,
+            to: Word::pack(0, filled.version() + 1),
+        },
+        EnqueuePhase::ScanHead { ends, offset } => Access::Load {
+            index: scan(shape, ends.head(), 0, offset),
+        },
+        EnqueuePhase::ConfirmFull { .. } => Access::Load { index: 0 },
+        EnqueuePhase::MoveHead { ends } => head_moved(shape, ends),
+        EnqueuePhase::MoveTail { ends } => tail_moved(shape, ends),
+    }
+}
+
+/// The step that a dequeue makes next.
+fn dequeue_step(shape: &Shape, start: u32, phase: DequeuePhase) -> Access
+    requires start { start < shape.now.k }
+    requires phase { IsDequeuePhase shape.now phase }
+    ensures { result ≡ dequeue_access shape.now start phase }
+{
+    match phase {
+        DequeuePhase::LoadEnds => Access::Load { index: 0 },
+        DequeuePhase::ScanHead { ends, offset } => Access::Load {
+            index: scan(shape, ends.head(), start, offset),
+        },
+        DequeuePhase::Recheck { .. } => Access::Load { index: 0 },
+        DequeuePhase::MoveTail { ends, .. } => tail_moved(shape, ends),
+        DequeuePhase::Take { index, filled, .. } => Access::Exchange {
+            index,
+            from: filled,
+            to: Word::pack(0, filled.version() + 1),
+        },
+        DequeuePhase::MoveHead { ends } => head_moved(shape, ends),
+    }
+}
+
+impl Running {
+    /// The atomic step that a thread at this place makes next.
+    pub fn access(&self, shape: &Shape) -> Access
+        requires place { IsPlace shape.now self.now }
+        ensures { result ≡ access shape.now self.now }
+    {
+        match *self {
+            Running::Enqueue { item, start, phase, .. } => enqueue_step(shape, item, start, phase),
+            Running::Dequeue { start, phase, .. } => dequeue_step(shape, start, phase),
+        }
+    }
+}
+
+
+/// An enqueue in one of its rounds.
+#[derive(Clone, Copy)]
+struct EnqueueRound {
+    item: u32,
+    start: u32,
+    left: u16,
+}
+
+impl EnqueueRound {
+    /// The round goes on.
+    fn goes(self, phase: EnqueuePhase) -> Next
+        ensures { result ≡ Next.Goes (Running.Enqueue self.item self.start self.left phase) }
+    {
+        Next::Goes(Running::Enqueue { item: self.item, start: self.start, left: self.left, phase })
+    }
+
+    /// The round ends: the next one begins, or the call answers Busy.
+    fn again(self) -> Next
+        requires { 0 < self.left }
+        ensures { result ≡ enqueue_again self.item self.start self.left }
+    {
+        if self.left == 1 {
+            Next::Answers(Answer::Busy)
+        } else {
+            let left = self.left - 1;
+            EnqueueRound { left, ..self }.goes(EnqueuePhase::LoadEnds)
+        }
+    }
+
+    /// After a slot of the tail's segment was loaded.
+    fn tail_scanned(self, shape: &Shape, ends: Ends, offset: u32, word: Word) -> Next
+        requires start { self.start < shape.now.k }
+        requires ends { IsEnds shape.now ends }
+        requires offset { offset < shape.now.probes }
+        ensures { result ≡ enqueue_advance shape.now self.item self.start self.left (EnqueuePhase.ScanTail ends offset) word }
+    {
+        if word.value() == 0 {
+            let index = scan(shape, ends.tail(), self.start, offset);
+            self.goes(EnqueuePhase::Recheck { ends, found: Some(Seen { index, word }) })
+        } else if offset + 1 == shape.probes() {
+            self.goes(EnqueuePhase::Recheck { ends, found: None })
+        } else {
+            self.goes(EnqueuePhase::ScanTail { ends, offset: offset + 1 })
+        }
+    }
+
+    /// After the ends word was loaded again, an empty slot having been found or none.
+    fn rechecked(self, shape: &Shape, ends: Ends, found: Option<Seen>, now: Ends) -> Next
+        requires left { 0 < self.left }
+        requires ends { IsEnds shape.now ends }
+        ensures { result ≡ enqueue_advance shape.now self.item self.start self.left (EnqueuePhase.Recheck ends found) now }
+    {
+        if now != ends {
+            return self.again();
+        }
+        match found {
+            Some(Seen { index, word }) => {
+                if shape.last() < word.version() + 2 {
+                    Next::Answers(Answer::Worn)
+                } else {
+                    self.goes(EnqueuePhase::Put { ends, index, empty: word })
+                }
+            }
+            None => {
+                if shape.next(ends.tail()) == ends.head() {
+                    self.goes(EnqueuePhase::ScanHead { ends, offset: 0 })
+                } else if ends.version() == shape.last() {
+                    Next::Answers(Answer::Worn)
+                } else {
+                    self.goes(EnqueuePhase::MoveTail { ends })
+                }
+            }
+        }
+    }
+
+    /// After the ends word was loaded again, the item being in its slot.
+    fn placed(self, shape: &Shape, ends: Ends, index: usize, filled: Word, now: Ends) -> Next
+        requires ends { IsEnds shape.now ends }
+        requires now { IsEnds shape.now now }
+        ensures { result ≡ enqueue_advance shape.now self.item self.start self.left (EnqueuePhase.ReloadEnds ends index filled) now }
+    {
+        let segment = ends.tail();
+        let head = now.head();
+        if segment == head && now.version() == shape.last() {
+            self.goes(EnqueuePhase::Undo { index, filled, worn: true })
+        } else if segment == head {
+            self.goes(EnqueuePhase::HoldHead { index, filled, held: now })
+        } else if shape.dist(head, segment) <= shape.dist(head, now.tail()) {
+            Next::Answers(Answer::Done)
+        } else {
+            self.goes(EnqueuePhase::Undo { index, filled, worn: false })
+        }
+    }
+
+    /// After a slot of the head's segment was loaded.
+    fn head_scanned(self, shape: &Shape, ends: Ends, offset: u32, word: Word) -> Next
+        requires ends { IsEnds shape.now ends }
+        requires offset { offset < shape.now.k }
+        ensures { result ≡ enqueue_advance shape.now self.item self.start self.left (EnqueuePhase.ScanHead ends offset) word }
+    {
+        if word.value() != 0 {
+            self.goes(EnqueuePhase::ConfirmFull { ends })
+        } else if offset + 1 != shape.k() {
+            self.goes(EnqueuePhase::ScanHead { ends, offset: offset + 1 })
+        } else if ends.version() == shape.last() {
+            Next::Answers(Answer::Worn)
+        } else {
+            self.goes(EnqueuePhase::MoveHead { ends })
+        }
+    }
+
+    /// After an undo.
+    fn undone(self, filled: Word, worn: bool, index: usize, word: Word, shape: &Shape) -> Next
+        requires left { 0 < self.left }
+        ensures { result ≡ enqueue_advance shape.now self.item self.start self.left (EnqueuePhase.Undo index filled worn) word }
+    {
+        if word != filled {
+            Next::Answers(Answer::Done)
+        } else if worn {
+            Next::Answers(Answer::Worn)
+        } else {
+            self.again()
+        }
+    }
+
+    /// What an enqueue does with the word that its step found.
+    fn next(self, shape: &Shape, phase: EnqueuePhase, word: Word) -> Next
+        requires item { self.item < 2 ^ 24 }
+        requires start { self.start < shape.now.k }
+        requires left { 0 < self.left }
+        requires phase { IsEnqueuePhase shape.now phase }
+        requires word { IsFound shape.now phase word }
+        ensures { result ≡ enqueue_advance shape.now self.item self.start self.left phase word }
+    {
+        match phase {
+            EnqueuePhase::LoadEnds => self.goes(EnqueuePhase::ScanTail { ends: word.into(), offset: 0 }),
+            EnqueuePhase::ScanTail { ends, offset } => self.tail_scanned(shape, ends, offset, word),
+            EnqueuePhase::Recheck { ends, found } => self.rechecked(shape, ends, found, word.into()),
+            EnqueuePhase::Put { ends, index, empty } => {
+                if word == empty {
+                    let filled = Word::pack(self.item, empty.version() + 1);
+                    self.goes(EnqueuePhase::ReloadSlot { ends, index, filled })
+                } else {
+                    self.again()
+                }
+            }
+            EnqueuePhase::ReloadSlot { ends, index, filled } => {
+                if word == filled {
+                    self.goes(EnqueuePhase::ReloadEnds { ends, index, filled })
+                } else {
+                    Next::Answers(Answer::Done)
+                }
+            }
+            EnqueuePhase::ReloadEnds { ends, index, filled } => self.placed(shape, ends, index, filled, word.into()),
+            EnqueuePhase::HoldHead { index, filled, held } => {
+                if Ends::from(word) == held {
+                    Next::Answers(Answer::Done)
+                } else {
+                    self.goes(EnqueuePhase::Undo { index, filled, worn: false })
+                }
+            }
+            EnqueuePhase::Undo { index, filled, worn } => self.undone(filled, worn, index, word, shape),
+            EnqueuePhase::ScanHead { ends, offset } => self.head_scanned(shape, ends, offset, word),
+            EnqueuePhase::ConfirmFull { ends } => {
+                if Ends::from(word) == ends {
+                    Next::Answers(Answer::Full)
+                } else {
+                    self.again()
+                }
+            }
+            EnqueuePhase::MoveHead { .. } | EnqueuePhase::MoveTail { .. } => self.again(),
+        }
+    }
+}
+
+/// A dequeue in one of its rounds.
+#[derive(Clone, Copy)]
+struct DequeueRound {
+    start: u32,
+    left: u16,
+}
+
+impl DequeueRound {
+    /// The round goes on.
+    fn goes(self, phase: DequeuePhase) -> Next
+        ensures { result ≡ Next.Goes (Running.Dequeue self.start self.left phase) }
+    {
+        Next::Goes(Running::Dequeue { start: self.start, left: self.left, phase })
+    }
+
+    /// The round ends: the next one begins, or the call answers Busy.
+    fn again(self) -> Next
+        requires { 0 < self.left }
+        ensures { result ≡ dequeue_again self.start self.left }
+    {
+        if self.left == 1 {
+            Next::Answers(Answer::Busy)
+        } else {
+            let left = self.left - 1;
+            DequeueRound { left, ..self }.goes(DequeuePhase::LoadEnds)
+        }
+    }
+
+    /// After a slot of the head's segment was loaded.
+    fn head_scanned(self, shape: &Shape, ends: Ends, offset: u32, word: Word) -> Next
+        requires start { self.start < shape.now.k }
+        requires ends { IsEnds shape.now ends }
+        requires offset { offset < shape.now.k }
+        ensures { result ≡ dequeue_advance shape.now self.start self.left (DequeuePhase.ScanHead ends offset) word }
+    {
+        if word.value() != 0 {
+            let index = scan(shape, ends.head(), self.start, offset);
+            self.goes(DequeuePhase::Recheck { ends, found: Some(Seen { index, word }) })
+        } else if offset + 1 == shape.k() {
+            self.goes(DequeuePhase::Recheck { ends, found: None })
+        } else {
+            self.goes(DequeuePhase::ScanHead { ends, offset: offset + 1 })
+        }
+    }
+
+    /// After the ends word was loaded again, a filled slot having been found or none.
+    fn rechecked(self, shape: &Shape, ends: Ends, found: Option<Seen>, now: Ends) -> Next
+        requires left { 0 < self.left }
+        ensures { result ≡ dequeue_advance shape.now self.start self.left (DequeuePhase.Recheck ends found) now }
+    {
+        if now != ends {
+            return self.again();
+        }
+        let together = ends.tail() == ends.head();
+        let worn = ends.version() == shape.last();
+        match found {
+            Some(Seen { index, word }) => {
+                if !together {
+                    self.goes(DequeuePhase::Take { ends, index, filled: word })
+                } else if worn {
+                    Next::Answers(Answer::Worn)
+                } else {
+                    self.goes(DequeuePhase::MoveTail { ends, index, filled: word })
+                }
+            }
+            None => {
+                if together {
+                    Next::Answers(Answer::Empty)
+                } else if worn {
+                    Next::Answers(Answer::Worn)
+                } else {
+                    self.goes(DequeuePhase::MoveHead { ends })
+                }
+            }
+        }
+    }
+
+    /// What a dequeue does with the word that its step found.
+    fn next(self, shape: &Shape, phase: DequeuePhase, word: Word) -> Next
+        requires start { self.start < shape.now.k }
+        requires left { 0 < self.left }
+        requires phase { IsDequeuePhase shape.now phase }
+        ensures { result ≡ dequeue_advance shape.now self.start self.left phase word }
+    {
+        match phase {
+            DequeuePhase::LoadEnds => self.goes(DequeuePhase::ScanHead { ends: word.into(), offset: 0 }),
+            DequeuePhase::ScanHead { ends, offset } => self.head_scanned(shape, ends, offset, word),
+            DequeuePhase::Recheck { ends, found } => self.rechecked(shape, ends, found, word.into()),
+            DequeuePhase::MoveTail { ends, index, filled } => {
+                if Ends::from(word) == ends {
+                    self.goes(DequeuePhase::Take { ends, index, filled })
+                } else {
+                    self.again()
+                }
+            }
+            DequeuePhase::Take { filled, .. } => {
+                if word == filled {
+                    Next::Answers(Answer::Got(filled.value()))
+                } else {
+                    self.again()
+                }
+            }
+            DequeuePhase::MoveHead { .. } => self.again(),
+        }
+    }
+}
+
+impl Running {
+    /// What a thread at this place does with the word that its step found.
+    pub fn advance(&self, shape: &Shape, word: Word) -> Next
+        requires place { IsPlace shape.now self.now }
+        requires word { IsFoundBy shape.now self.now word }
+        ensures { result ≡ advance shape.now self.now word }
+    {
+        match *self {
+            Running::Enqueue { item, start, left, phase } => EnqueueRound { item, start, left }.next(shape, phase, word),
+            Running::Dequeue { start, left, phase } => DequeueRound { start, left }.next(shape, phase, word),
+        }
+    }
+}
