@@ -1,3 +1,5 @@
 pub mod Program
 pub mod Machine
+pub mod Runs
 pub mod Places
+pub mod Faults

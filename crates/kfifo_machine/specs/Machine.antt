@@ -1,6 +1,6 @@
 -- The machine: the words of the table with each thread's place in its call, one atomic step of one thread, and whole
 -- schedules of them.
-use Rattle.std.specs.Prelude.{◌≡◌, ℕ, ◌+◌, ◌*◌, ◌==◌, ◌&&◌, nat_lt, if◌then◌else◌, Bool, true, List, [], ◌∷◌, length, get_or, set, replicate, Option, Some, None, Result, Ok, Err, IsTrue, is_some}
+use Rattle.std.specs.Prelude.{◌≡◌, ℕ, ◌+◌, ◌*◌, ◌==◌, ◌&&◌, nat_lt, if◌then◌else◌, Bool, true, List, [], ◌∷◌, length, get_or, set, replicate, Option, Some, None, Result, Ok, Err, IsTrue, is_some, take, slice_get}
 use Rattle.kfifo_words.specs.declared.shape.Shape.{Shape}
 use Rattle.kfifo_words.specs.Ring.{clock_at}
 use Rattle.kfifo_machine.specs.declared.place.EnqueuePhase.TheVariants as E
@@ -24,6 +24,11 @@ use Rattle.kfifo_machine.specs.Program.{access, accessed, advance}
 pub record World : Type 0 where
   pub words : List ℕ
   pub places : List (Option Running)
+
+-- a machine of a shape
+pub record Machine : Type 0 where
+  pub shape : Shape
+  pub world : World
 
 -- the word with an index, and the place of a thread in its call
 unfoldable pub word_at : World → ℕ → ℕ
@@ -118,3 +123,16 @@ run shape (Some world) (event ∷ events) = run shape (world_of (step shape worl
 -- each event is enabled in turn, from the opening
 abbrev pub IsSchedule : Shape → ℕ → List Event → Type 0
 IsSchedule shape threads events = IsTrue (is_some (run shape (Some (opening shape threads)) events))
+
+-- the world after a schedule from the opening, where it is one
+abbrev pub after : Shape → ℕ → List Event → Option World
+after shape threads events = run shape (Some (opening shape threads)) events
+
+-- the event at this place is the first that is not enabled
+pub record IsFirstRefused (shape : Shape) (threads : ℕ) (events : List Event) (place : ℕ) : Type 0 where
+  pub event : Event
+  pub world : World
+  pub fault : NotEnabled
+  pub is_there : slice_get events place ≡ Some event
+  pub before : after shape threads (take place events) ≡ Some world
+  pub refused : step shape world event ≡ Err fault

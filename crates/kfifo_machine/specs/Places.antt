@@ -2,7 +2,8 @@
 use Rattle.std.specs.Prelude.{◌≡◌, ◌≢◌, ℕ, ◌+◌, ◌-◌, ◌*◌, ◌^◌, ◌<◌, ◌≤◌, Option, Some, None, List, length, get_or}
 use Rattle.kfifo_words.specs.Words.{value_of, version_of, head_of, tail_of}
 use Rattle.kfifo_words.specs.declared.shape.Shape.{Shape}
-use Rattle.kfifo_machine.specs.declared.place.Seen.{Seen}
+use Rattle.kfifo_machine.specs.declared.place.Found.{Found}
+use Rattle.kfifo_machine.specs.declared.place.Found.TheVariants.{Slot, Nothing}
 use Rattle.kfifo_machine.specs.declared.place.EnqueuePhase.{EnqueuePhase}
 use Rattle.kfifo_machine.specs.declared.place.EnqueuePhase.TheVariants as E
 use Rattle.kfifo_machine.specs.declared.place.DequeuePhase.{DequeuePhase}
@@ -25,8 +26,8 @@ pub record IsSlotIndex (shape : Shape) (index : ℕ) : Type 0 where
 abbrev pub IsEnqueuePhase : Shape → EnqueuePhase → Type 0
 IsEnqueuePhase shape E.LoadEnds = Unit {0}
 IsEnqueuePhase shape (E.ScanTail ends offset) = IsEnds shape ends × (offset < shape.probes)
-IsEnqueuePhase shape (E.Recheck ends None) = IsEnds shape ends
-IsEnqueuePhase shape (E.Recheck ends (Some seen)) = IsEnds shape ends × IsSlotIndex shape seen.index
+IsEnqueuePhase shape (E.Recheck ends Nothing) = IsEnds shape ends
+IsEnqueuePhase shape (E.Recheck ends (Slot index seen)) = IsEnds shape ends × IsSlotIndex shape index
 IsEnqueuePhase shape (E.Put ends index empty) = IsEnds shape ends × (version_of empty + 2 ≤ shape.last) × IsSlotIndex shape index
 IsEnqueuePhase shape (E.ReloadSlot ends index filled) = IsEnds shape ends × (version_of filled < shape.last) × IsSlotIndex shape index
 IsEnqueuePhase shape (E.ReloadEnds ends index filled) = IsEnds shape ends × (version_of filled < shape.last) × IsSlotIndex shape index
@@ -41,8 +42,8 @@ IsEnqueuePhase shape (E.MoveTail ends) = IsEnds shape ends × (version_of ends <
 abbrev pub IsDequeuePhase : Shape → DequeuePhase → Type 0
 IsDequeuePhase shape D.LoadEnds = Unit {0}
 IsDequeuePhase shape (D.ScanHead ends offset) = IsEnds shape ends × (offset < shape.k)
-IsDequeuePhase shape (D.Recheck ends None) = IsEnds shape ends
-IsDequeuePhase shape (D.Recheck ends (Some seen)) = IsEnds shape ends × (version_of seen.word < shape.last) × IsSlotIndex shape seen.index
+IsDequeuePhase shape (D.Recheck ends Nothing) = IsEnds shape ends
+IsDequeuePhase shape (D.Recheck ends (Slot index seen)) = IsEnds shape ends × (version_of seen < shape.last) × IsSlotIndex shape index
 IsDequeuePhase shape (D.MoveTail ends index filled) = IsEnds shape ends × (version_of ends < shape.last) × (version_of filled < shape.last) × IsSlotIndex shape index
 IsDequeuePhase shape (D.Take ends index filled) = version_of filled < shape.last × IsSlotIndex shape index
 IsDequeuePhase shape (D.MoveHead ends) = IsEnds shape ends × (version_of ends < shape.last)

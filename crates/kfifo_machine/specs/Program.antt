@@ -6,7 +6,8 @@ use Rattle.kfifo_words.specs.Words.{slot_word, value_of, version_of, ends_word, 
 use Rattle.kfifo_words.specs.Ring.{next_segment, distance, slot_at}
 use Rattle.kfifo_model.specs.declared.calls.Answer.{Answer}
 use Rattle.kfifo_model.specs.declared.calls.Answer.TheVariants.{Done, Full, Got, Empty, Busy, Worn}
-use Rattle.kfifo_machine.specs.declared.place.Seen.{Seen}
+use Rattle.kfifo_machine.specs.declared.place.Found.{Found}
+use Rattle.kfifo_machine.specs.declared.place.Found.TheVariants.{Slot, Nothing}
 use Rattle.kfifo_machine.specs.declared.place.EnqueuePhase.{EnqueuePhase}
 use Rattle.kfifo_machine.specs.declared.place.EnqueuePhase.TheVariants as E
 use Rattle.kfifo_machine.specs.declared.place.DequeuePhase.{DequeuePhase}
@@ -79,15 +80,15 @@ abbrev pub enqueue_advance : Shape → ℕ → ℕ → ℕ → EnqueuePhase → 
 enqueue_advance shape item start left E.LoadEnds word = Goes (R.Enqueue item start left (E.ScanTail word 0))
 enqueue_advance shape item start left (E.ScanTail ends offset) word =
     if value_of word == 0
-    then Goes (R.Enqueue item start left (E.Recheck ends (Some (record { index = scan_index shape (tail_of ends) start offset; word = word }))))
+    then Goes (R.Enqueue item start left (E.Recheck ends (Slot (scan_index shape (tail_of ends) start offset) word)))
     else if offset + 1 == shape.probes
-    then Goes (R.Enqueue item start left (E.Recheck ends None))
+    then Goes (R.Enqueue item start left (E.Recheck ends Nothing))
     else Goes (R.Enqueue item start left (E.ScanTail ends (offset + 1)))
-enqueue_advance shape item start left (E.Recheck ends (Some seen)) word =
+enqueue_advance shape item start left (E.Recheck ends (Slot index seen)) word =
     if not (word == ends) then enqueue_again item start left
-    else if nat_lt shape.last (version_of seen.word + 2) then Answers Worn
-    else Goes (R.Enqueue item start left (E.Put ends seen.index seen.word))
-enqueue_advance shape item start left (E.Recheck ends None) word =
+    else if nat_lt shape.last (version_of seen + 2) then Answers Worn
+    else Goes (R.Enqueue item start left (E.Put ends index seen))
+enqueue_advance shape item start left (E.Recheck ends Nothing) word =
     if not (word == ends) then enqueue_again item start left
     else if next_segment shape.n (tail_of ends) == head_of ends
     then Goes (R.Enqueue item start left (E.ScanHead ends 0))
@@ -128,17 +129,17 @@ abbrev pub dequeue_advance : Shape → ℕ → ℕ → DequeuePhase → ℕ → 
 dequeue_advance shape start left D.LoadEnds word = Goes (R.Dequeue start left (D.ScanHead word 0))
 dequeue_advance shape start left (D.ScanHead ends offset) word =
     if not (value_of word == 0)
-    then Goes (R.Dequeue start left (D.Recheck ends (Some (record { index = scan_index shape (head_of ends) start offset; word = word }))))
+    then Goes (R.Dequeue start left (D.Recheck ends (Slot (scan_index shape (head_of ends) start offset) word)))
     else if offset + 1 == shape.k
-    then Goes (R.Dequeue start left (D.Recheck ends None))
+    then Goes (R.Dequeue start left (D.Recheck ends Nothing))
     else Goes (R.Dequeue start left (D.ScanHead ends (offset + 1)))
-dequeue_advance shape start left (D.Recheck ends (Some seen)) word =
+dequeue_advance shape start left (D.Recheck ends (Slot index seen)) word =
     if not (word == ends) then dequeue_again start left
     else if not (tail_of ends == head_of ends)
-    then Goes (R.Dequeue start left (D.Take ends seen.index seen.word))
+    then Goes (R.Dequeue start left (D.Take ends index seen))
     else if version_of ends == shape.last then Answers Worn
-    else Goes (R.Dequeue start left (D.MoveTail ends seen.index seen.word))
-dequeue_advance shape start left (D.Recheck ends None) word =
+    else Goes (R.Dequeue start left (D.MoveTail ends index seen))
+dequeue_advance shape start left (D.Recheck ends Nothing) word =
     if not (word == ends) then dequeue_again start left
     else if tail_of ends == head_of ends then Answers Empty
     else if version_of ends == shape.last then Answers Worn

@@ -3,8 +3,14 @@
 #![tactic(auto)]
 
 mod event;
+mod fault;
 mod place;
-mod step;
+mod schedule;
+mod state;
+mod steps;
 
 pub use event::{Begin, Event, NotEnabled, Outcome};
-pub use place::{Access, DequeuePhase, EnqueuePhase, Next, Running, Seen};
+pub use fault::{RunFault, StartFault};
+pub use place::{Access, DequeuePhase, EnqueuePhase, Found, Next, Running};
+pub use schedule::run;
+pub use state::{MAX_THREADS, State, start, step};

@@ -1,13 +1,19 @@
 //! A thread's place in its call: the step that it makes next, and what it has read for it.
 
+ghost use Rattle.std.specs.Prelude.{◌≡◌, IfOk, None, map};
+ghost use Rattle.std.specs.List.{range_with_len};
+
 use kfifo_model::Answer;
 use kfifo_words::{Ends, Word};
+use std::alloc::{AllocError, Global};
 
-/// A slot that a scan stopped at: the index of its word in the table, and the word found there.
+/// What a scan of a segment came to.
 #[derive(Clone, Copy, PartialEq, Eq, Debug)]
-pub struct Seen {
-    pub index: usize,
-    pub word: Word,
+pub enum Found {
+    /// It stopped at a slot: the index of its word in the table, and the word that was there.
+    Slot { index: usize, word: Word },
+    /// It saw all its slots and stopped at none.
+    Nothing,
 }
 
 /// The step that an enqueue makes next. `ends` is the ends word with which its round began.
@@ -18,7 +24,7 @@ pub enum EnqueuePhase {
     /// Loads a slot of the tail's segment, the next one from the start after `offset` slots.
     ScanTail { ends: Ends, offset: u32 },
     /// Loads the ends word again, with the empty slot that was found.
-    Recheck { ends: Ends, found: Option<Seen> },
+    Recheck { ends: Ends, found: Found },
     /// Puts the item into the empty slot.
     Put { ends: Ends, index: usize, empty: Word },
     /// Loads the slot again.
@@ -47,7 +53,7 @@ pub enum DequeuePhase {
     /// Loads a slot of the head's segment, the next one from the start after `offset` slots.
     ScanHead { ends: Ends, offset: u32 },
     /// Loads the ends word again, with the filled slot that was found.
-    Recheck { ends: Ends, found: Option<Seen> },
+    Recheck { ends: Ends, found: Found },
     /// Moves the tail on, off the segment of the filled slot.
     MoveTail { ends: Ends, index: usize, filled: Word },
     /// Takes the item out of the filled slot.
@@ -81,4 +87,11 @@ pub enum Next {
     Goes(Running),
     /// Its call answers.
     Answers(Answer),
+}
+
+/// The place of each of these threads, which is in no call.
+pub(crate) fn idle_places(alloc: Global, threads: u32) -> Result<Vec<Option<Running>>, AllocError>
+    ensures { IfOk result (λ v. v.items ≡ map (λ _. None) (range_with_len 0 threads)) }
+{
+    (0..threads).map(|_thread| None).collect(alloc)
 }

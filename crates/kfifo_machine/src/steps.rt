@@ -5,7 +5,7 @@ ghost use Rattle.kfifo_words.specs.Words.{value_of, version_of, head_of, tail_of
 ghost use Rattle.kfifo_machine.specs.Program.{scan_index, access, advance, enqueue_access, dequeue_access, enqueue_advance, dequeue_advance, enqueue_again, dequeue_again};
 ghost use Rattle.kfifo_machine.specs.Places.{IsEnds, IsPlace, IsEnqueuePhase, IsDequeuePhase, IsFound, IsFoundBy};
 
-use crate::{Access, DequeuePhase, EnqueuePhase, Next, Running, Seen};
+use crate::{Access, DequeuePhase, EnqueuePhase, Found, Next, Running};
 use kfifo_model::Answer;
 use kfifo_words::{Ends, Shape, Word};
 
@@ -157,16 +157,16 @@ impl EnqueueRound {
     {
         if word.value() == 0 {
             let index = scan(shape, ends.tail(), self.start, offset);
-            self.goes(EnqueuePhase::Recheck { ends, found: Some(Seen { index, word }) })
+            self.goes(EnqueuePhase::Recheck { ends, found: Found::Slot { index, word } })
         } else if offset + 1 == shape.probes() {
-            self.goes(EnqueuePhase::Recheck { ends, found: None })
+            self.goes(EnqueuePhase::Recheck { ends, found: Found::Nothing })
         } else {
             self.goes(EnqueuePhase::ScanTail { ends, offset: offset + 1 })
         }
     }
 
     /// After the ends word was loaded again, an empty slot having been found or none.
-    fn rechecked(self, shape: &Shape, ends: Ends, found: Option<Seen>, now: Ends) -> Next
+    fn rechecked(self, shape: &Shape, ends: Ends, found: Found, now: Ends) -> Next
         requires left { 0 < self.left }
         requires ends { IsEnds shape.now ends }
         ensures { result ≡ enqueue_advance shape.now self.item self.start self.left (EnqueuePhase.Recheck ends found) now }
@@ -175,14 +175,14 @@ impl EnqueueRound {
             return self.again();
         }
         match found {
-            Some(Seen { index, word }) => {
+            Found::Slot { index, word } => {
                 if shape.last() < word.version() + 2 {
                     Next::Answers(Answer::Worn)
                 } else {
                     self.goes(EnqueuePhase::Put { ends, index, empty: word })
                 }
             }
-            None => {
+            Found::Nothing => {
                 if shape.next(ends.tail()) == ends.head() {
                     self.goes(EnqueuePhase::ScanHead { ends, offset: 0 })
                 } else if ends.version() == shape.last() {
@@ -331,16 +331,16 @@ impl DequeueRound {
     {
         if word.value() != 0 {
             let index = scan(shape, ends.head(), self.start, offset);
-            self.goes(DequeuePhase::Recheck { ends, found: Some(Seen { index, word }) })
+            self.goes(DequeuePhase::Recheck { ends, found: Found::Slot { index, word } })
         } else if offset + 1 == shape.k() {
-            self.goes(DequeuePhase::Recheck { ends, found: None })
+            self.goes(DequeuePhase::Recheck { ends, found: Found::Nothing })
         } else {
             self.goes(DequeuePhase::ScanHead { ends, offset: offset + 1 })
         }
     }
 
     /// After the ends word was loaded again, a filled slot having been found or none.
-    fn rechecked(self, shape: &Shape, ends: Ends, found: Option<Seen>, now: Ends) -> Next
+    fn rechecked(self, shape: &Shape, ends: Ends, found: Found, now: Ends) -> Next
         requires left { 0 < self.left }
         ensures { result ≡ dequeue_advance shape.now self.start self.left (DequeuePhase.Recheck ends found) now }
     {
@@ -350,7 +350,7 @@ impl DequeueRound {
         let together = ends.tail() == ends.head();
         let worn = ends.version() == shape.last();
         match found {
-            Some(Seen { index, word }) => {
+            Found::Slot { index, word } => {
                 if !together {
                     self.goes(DequeuePhase::Take { ends, index, filled: word })
                 } else if worn {
@@ -359,7 +359,7 @@ impl DequeueRound {
                     self.goes(DequeuePhase::MoveTail { ends, index, filled: word })
                 }
             }
-            None => {
+            Found::Nothing => {
                 if together {
                     Next::Answers(Answer::Empty)
                 } else if worn {

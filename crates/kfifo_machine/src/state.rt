@@ -1,0 +1,155 @@
+//! The whole state of a machine, and one event.
+ghost use Rattle.std.specs.Prelude.{◌≡◌, ℕ, ◌+◌, ◌*◌, ◌^◌, ◌<◌, ◌≤◌, ◌⊎◌, ◌↔◌, length, get_or, set, Some, None, IfOk, IfErr, OnErr, Ok, Err, IsErrOf};
+ghost use Rattle.kfifo_words.specs.Ring.{clock_at};
+ghost use Rattle.kfifo_machine.specs.Program.{access, accessed, advance};
+ghost use Rattle.kfifo_machine.specs.Machine.{opening, word_at, words_after, moved, found, outcome_of};
+ghost use Rattle.kfifo_machine.specs.Places.{IsPlace};
+
+use crate::fault::StartFault;
+use crate::place::idle_places;
+use crate::{Access, Begin, DequeuePhase, EnqueuePhase, Event, Next, NotEnabled, Outcome, Running};
+use kfifo_words::{Shape, Word};
+use std::alloc::Global;
+use std::marker::Model;
+
+/// The most threads of a machine.
+pub const MAX_THREADS: u32 = 64;
+
+/// The words of the table, and each thread's place in its call.
+#[derive(Drop)]
+pub struct State {
+    shape: Shape,
+    words: Vec<Word>,
+    places: Vec<Option<Running>>,
+}
+
+impl Model for State {
+    ghost use Rattle.kfifo_machine.specs.Machine.{Machine};
+    ghost use Rattle.kfifo_machine.specs.Places.{IsState};
+
+    ghost Value = { Machine };
+
+    ghost view = { λ s. record { shape = s.shape; world = record { words = s.words.items; places = s.places.items } } };
+
+    ghost invariant = { λ s. IsState s.shape s.words.items s.places.items };
+}
+
+/// The opening state: every word is 0, every thread idle.
+///
+/// ThreadsOutOfRange where the number of threads is not 1 to 64; Memory where a growth was refused.
+pub fn start(alloc: Global, shape: Shape, threads: u32) -> Result<State, StartFault>
+    ensures opening { IfOk result (λ s. (s.shape ≡ shape) × (s.world ≡ opening shape threads)) }
+    ensures threads { (result ≡ Err StartFault.ThreadsOutOfRange) ↔ ((threads ≡ 0) ⊎ (64 < threads)) }
+{
+    if threads == 0 || threads > MAX_THREADS {
+        return Err(StartFault::ThreadsOutOfRange);
+    }
+    let size = 2 + shape.n() as usize * shape.k() as usize;
+    let words = vec![in alloc; Word::of_bits(0); size]?;
+    let places = idle_places(alloc, threads)?;
+    Ok(State { shape, words, places })
+}
+
+impl State {
+    /// The shape of the machine.
+    pub fn shape(&self) -> Shape
+        ensures { result ≡ self.now.shape }
+    {
+        self.shape
+    }
+
+    /// The bits of the word with this index: 0 is the ends word, then come the slots, segment by
+    /// segment, and last the clock.
+    #[tactic(auto, unfolding(crate::specs::Machine::word_at))]
+    pub fn word(&self, index: usize) -> u64
+        requires { index < 2 + self.now.shape.n * self.now.shape.k }
+        ensures { result ≡ word_at self.now.world index }
+    {
+        self.words[index].bits()
+    }
+}
+
+/// Makes one access to the words, and gives the word that it found.
+fn touch(words: &mut Vec<Word>, access: Access) -> Word
+    requires { accessed access < length words.old.items }
+    ensures found { result ≡ get_or words.old.items (accessed access) 0 }
+    ensures words { words.new.items ≡ words_after access words.old.items }
+{
+    match access {
+        Access::Load { index } => words[index],
+        Access::Exchange { index, from, to } => {
+            let word = words[index];
+            if word == from {
+                words[index] = to;
+            }
+            word
+        }
+    }
+}
+
+/// One step of a thread at this place.
+fn make_step(state: &mut State, thread: usize, running: Running) -> Outcome
+    requires thread { thread < length state.old.world.places }
+    requires place { IsPlace state.old.shape running }
+    ensures shape { state.new.shape ≡ state.old.shape }
+    ensures world { state.new.world ≡ moved state.old.shape state.old.world thread running }
+    ensures outcome { result ≡ outcome_of (advance state.old.shape running (found state.old.shape state.old.world running)) }
+{
+    let access = running.access(&state.shape);
+    let word = touch(&mut state.words, access);
+    match running.advance(&state.shape, word) {
+        Next::Goes(next) => {
+            state.places[thread] = Some(next);
+            Outcome::Went
+        }
+        Next::Answers(answer) => {
+            state.places[thread] = None;
+            Outcome::Ended(answer)
+        }
+    }
+}
+
+/// Makes one event, or says why it cannot be made and leaves the state as it was.
+#[tactic(auto, unfolding(crate::specs::Machine::step, crate::specs::Machine::place_of, crate::specs::Machine::found, crate::specs::Machine::word_at, crate::specs::Machine::ticked))]
+pub fn step(state: &mut State, event: Event) -> Result<Outcome, NotEnabled>
+    ensures shape { state.new.shape ≡ state.old.shape }
+    ensures made { IfOk result (λ outcome. Rattle.kfifo_machine.specs.Machine.step state.old.shape state.old.world event ≡ Ok (state.new.world, outcome)) }
+    ensures refused { IfErr result (λ fault. Rattle.kfifo_machine.specs.Machine.step state.old.shape state.old.world event ≡ Err fault) }
+    ensures unchanged { OnErr result (state.new ≡ state.old) }
+{
+    let thread = event.thread as usize;
+    if thread >= state.places.len() {
+        return Err(NotEnabled::NoSuchThread);
+    }
+    match (state.places[thread], event.begin) {
+        (None, None) => Err(NotEnabled::Idle),
+        (None, Some(Begin::Enqueue { item, start, turns })) => {
+            if start < state.shape.k() && 0 < turns && 0 < item && item < 16_777_216 {
+                let running = Running::Enqueue { item, start, left: turns, phase: EnqueuePhase::LoadEnds };
+                Ok(make_step(state, thread, running))
+            } else {
+                Err(NotEnabled::BadCall)
+            }
+        }
+        (None, Some(Begin::Dequeue { start, turns })) => {
+            if start < state.shape.k() && 0 < turns {
+                let running = Running::Dequeue { start, left: turns, phase: DequeuePhase::LoadEnds };
+                Ok(make_step(state, thread, running))
+            } else {
+                Err(NotEnabled::BadCall)
+            }
+        }
+        (None, Some(Begin::Tick)) => {
+            let clock = state.shape.clock_index();
+            let time = state.words[clock].bits();
+            if time == u64::MAX {
+                Err(NotEnabled::ClockSpent)
+            } else {
+                state.words[clock] = Word::of_bits(time + 1);
+                Ok(Outcome::Went)
+            }
+        }
+        (Some(running), None) => Ok(make_step(state, thread, running)),
+        (Some(_), Some(_)) => Err(NotEnabled::InCall),
+    }
+}
