@@ -1,15 +1,23 @@
 -- What one thread did in a schedule: its own events, its place, and the whole run of a call.
-use Rattle.std.specs.Prelude.{◌≡◌, ℕ, ◌*◌, ◌+◌, ◌==◌, List, [], ◌∷◌, ◌++◌, filter, Option, Some, None, Result, Ok}
+use Rattle.std.specs.Prelude.{◌≡◌, ℕ, ◌*◌, ◌+◌, ◌==◌, List, [], ◌∷◌, ◌++◌, filter, Option, Some, None, Result, Ok, if◌then◌else◌}
 use Rattle.kfifo_words.specs.declared.shape.Shape.{Shape}
 use Rattle.kfifo_model.specs.declared.calls.Answer.{Answer}
 use Rattle.kfifo_machine.specs.declared.event.Begin.{Begin}
 use Rattle.kfifo_machine.specs.declared.event.Event.{Event}
 use Rattle.kfifo_machine.specs.declared.event.Outcome.{Outcome}
 use Rattle.kfifo_machine.specs.declared.event.Outcome.TheVariants.{Went, Ended}
-use Rattle.kfifo_machine.specs.Machine.{World, step, after}
+use Rattle.kfifo_machine.specs.declared.place.Running.{Running}
+use Rattle.kfifo_machine.specs.Machine.{World, begun, may_begin, step, after}
 
 abbrev pub event : ℕ → Option Begin → Event
 event thread begin = record { thread = thread; begin = begin }
+
+-- the place from which a thread makes its step: that of its call, or the first of the call that it begins
+abbrev pub going : Shape → Option Running → Option Begin → Option Running
+going shape None None = None
+going shape None (Some begin) = if may_begin shape begin then begun begin else None
+going shape (Some running) None = Some running
+going shape (Some running) (Some begin) = None
 
 -- the events of a thread
 abbrev pub own : ℕ → List Event → List Event
