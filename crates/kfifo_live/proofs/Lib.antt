@@ -1,0 +1,5 @@
+pub mod Keeps
+pub mod Cuts
+pub mod Whole
+pub mod Opens
+pub mod Passes
