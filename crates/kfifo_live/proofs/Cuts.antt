@@ -1,19 +1,17 @@
 -- A look at the schedule, and views that are cut in two or put together, keep the rule.
-use Rattle.std.proofs.Common.{◌≡◌, ◌≢◌, ◌⊎◌, ℕ, zero, suc, ◌+◌, ◌-◌, ◌<◌, ◌≤◌, List, [], ◌∷◌, ◌++◌, length, set, get_or, replicate, ◌*◌, take, drop, Option, Some, None, Bool, true, false, refl, sym, ap, ◌∙◌, subst, inl, inr, ⊎_elim, arith, cond, eq-eqb, ne_eqb, length-append, nat_eq, nat_le}
-use Rattle.std.specs.Prelude.{slice_get, slice_index, slice_set, ◌==◌}
+use Rattle.std.proofs.Common.{◌≡◌, ◌≢◌, ◌⊎◌, ℕ, zero, suc, ◌+◌, ◌-◌, ◌<◌, ◌≤◌, List, [], ◌∷◌, ◌++◌, length, set, get_or, replicate, ◌*◌, take, drop, true, false, refl, sym, ap, ◌∙◌, subst, inl, inr, ⊎_elim, arith, cond, eq-eqb, ne_eqb, nat_eq, nat_le}
+use Rattle.std.specs.Prelude.{slice_index, slice_set}
 use Rattle.std.proofs.lemmas.List.{append-nil, set-get_or}
 use Rattle.std.proofs.lemmas.Bool.Decides.{nat_tests}
 use mathlib.Core.Option.{some, some-ne-none, some-injective}
 use lib.ListN.{get_elem?}
-use Rattle.atomic_table.specs.Table.{State, keeps, Me, Allows, Splits, Joins, opening as table_opening}
-use Rattle.atomic_table.proofs.Lists.{at_set}
+use Rattle.atomic_table.specs.Table.{State, keeps, Me, Allows, Splits}
 use Rattle.kfifo_machine.specs.declared.event.Event.{Event}
-use Rattle.kfifo_machine.specs.Machine.{World, opening}
-use Rattle.kfifo_machine.specs.Runs.{own, Begins}
+use Rattle.kfifo_machine.specs.Machine.{opening}
 use Rattle.kfifo_live.specs.declared.view.Opening.{Opening}
 use Rattle.kfifo_live.specs.declared.view.Part.{Part}
 use Rattle.kfifo_live.specs.declared.view.View.{View}
-use Rattle.kfifo_live.specs.Schedule.{part, view_of, fresh, first_view, thread_of, seen_of, with_seen, more_in, IsSeated, AllBegin, Owns, Fits, OneSchedule, first_part, other_parts}
+use Rattle.kfifo_live.specs.Schedule.{part, view_of, fresh, first_view, thread_of, seen_of, with_seen, more_in, IsSeated, AllBegin, Owns, Fits, OneSchedule}
 use Rattle.kfifo_live.specs.Step.{Looks}
 use Rattle.kfifo_live.proofs.Keeps.{adds, fits_set}
 

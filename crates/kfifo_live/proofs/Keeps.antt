@@ -1,12 +1,11 @@
 -- Each step keeps the rule: there is still one schedule.
-use Rattle.std.proofs.Common.{◌≡◌, ◌≢◌, ◌⊎◌, ℕ, zero, suc, ◌+◌, ◌*◌, ◌<◌, ◌≤◌, List, [], ◌∷◌, ◌++◌, length, set, get_or, Option, Some, None, Bool, true, false, refl, sym, ap, ◌∙◌, subst, inl, inr, ⊎_elim, arith, append_assoc, cond, eqb, eq-eqb, ne_eqb}
+use Rattle.std.proofs.Common.{◌≡◌, ◌≢◌, ℕ, suc, ◌<◌, ◌≤◌, List, [], ◌∷◌, ◌++◌, length, set, get_or, Option, Some, Bool, true, false, refl, sym, ap, ◌∙◌, subst, ⊎_elim, arith, append_assoc, cond, eq-eqb, ne_eqb}
 use Rattle.std.specs.Prelude.{slice_index, slice_set, ◌==◌}
 use Rattle.std.proofs.lemmas.List.{append-nil, set-get_or}
-use mathlib.Core.Option.{some, some-ne-none, some-injective}
+use mathlib.Core.Option.{some}
 use lib.ListN.{get_elem?}
 use prog.Atomic.{either}
 use Rattle.atomic_table.specs.Table.{State, keeps, Me, Allows}
-use Rattle.atomic_table.specs.Seated.{TableId}
 use Rattle.atomic_table.proofs.Lists.{at_set}
 use Rattle.kfifo_words.specs.declared.shape.Shape.{Shape}
 use Rattle.kfifo_machine.specs.declared.event.Begin.{Begin}
@@ -14,15 +13,15 @@ use Rattle.kfifo_machine.specs.declared.event.Event.{Event}
 use Rattle.kfifo_machine.specs.declared.place.Running.{Running}
 use Rattle.kfifo_machine.specs.declared.place.Access.{Access}
 use Rattle.kfifo_machine.specs.declared.place.Access.TheVariants.{Load, Exchange}
-use Rattle.kfifo_machine.specs.Program.{access, accessed, advance}
-use Rattle.kfifo_machine.specs.Machine.{World, opening, moved, found, word_at, place_of, words_after, world_of, step, run, outcome_of}
+use Rattle.kfifo_machine.specs.Program.{access, accessed}
+use Rattle.kfifo_machine.specs.Machine.{World, opening, moved, found, word_at, place_of, words_after, world_of, run}
 use Rattle.kfifo_machine.specs.Runs.{event, own, going, Begins}
-use Rattle.kfifo_machine.proofs.Schedules.{run_on, run_before, own-append, same_place, still_threads, steps_on}
+use Rattle.kfifo_machine.proofs.Schedules.{run_on, own-append, same_place, still_threads, steps_on}
 use Rattle.kfifo_live.specs.declared.view.Opening.{Opening}
 use Rattle.kfifo_live.specs.declared.view.Part.{Part}
 use Rattle.kfifo_live.specs.declared.view.View.{View}
 use Rattle.kfifo_live.specs.Schedule.{part, view_of, world_after, AllBegin, Owns, Fits, OneSchedule, thread_of, seen_of, more_in, with_seen}
-use Rattle.kfifo_live.specs.Step.{At, Steps, Ready}
+use Rattle.kfifo_live.specs.Step.{At, Steps}
 
 -- a longer schedule, with nothing more of the thread
 begins_on : (thread : ℕ) (seen all more : List Event) → Begins thread seen all → own thread more ≡ [] → Begins thread seen (all ++ more)
@@ -135,7 +134,7 @@ goes_at o s id thread seen more here reached within begin running from i word f 
     let inside : thread < length kept.world.places = omega (arith, within, still) in
     let end = moved o.shape kept.world thread running in
     let new_words : slice_set s.words i (f (slice_index s.words i)) ≡ end.words =
-        (λ k. slice_set (kept.words_are k) i (same (slice_index (kept.words_are k) i) k)) ∙ sym (words-moved o.shape kept.world thread running i word) in
+    (λ k. slice_set (kept.words_are k) i (same (slice_index (kept.words_are k) i) k)) ∙ sym (words-moved o.shape kept.world thread running i word) in
     let w = view_of o (part thread ((seen ++ b.rest) ++ e ∷ []) ∷ more) in
     let w' = view_of o (part thread (kept.all ++ e ∷ []) ∷ more) in
     let is_w : w' ≡ w = ap (λ (es : List Event). view_of o (part thread (es ++ e ∷ []) ∷ more)) b.goes_on in

@@ -2,4 +2,5 @@ pub mod Keeps
 pub mod Cuts
 pub mod Whole
 pub mod Opens
+pub mod Scans
 pub mod Passes

@@ -1,15 +1,14 @@
 -- The passes of an opening.
-use Rattle.std.proofs.Common.{◌≡◌, ℕ, zero, suc, ◌+◌, ◌-◌, ◌<◌, List, [], ◌∷◌, ◌++◌, Option, Some, None, get_or, replicate, length, refl, sym, ap, ◌∙◌, subst, arith}
+use Rattle.std.proofs.Common.{◌≡◌, ℕ, zero, suc, ◌+◌, ◌-◌, ◌<◌, [], ◌∷◌, ◌++◌, Option, None, get_or, replicate, length, refl, sym, ap, ◌∙◌, subst, arith}
 use Rattle.std.proofs.lemmas.List.{length-replicate}
 use Rattle.atomic_table.specs.Table.{Me}
 use Rattle.kfifo_machine.specs.declared.place.Running.{Running}
-use Rattle.kfifo_machine.specs.Machine.{World, opening, place_of}
+use Rattle.kfifo_machine.specs.Machine.{opening, place_of}
 use Rattle.kfifo_live.specs.declared.view.Opening.{Opening}
-use Rattle.kfifo_live.specs.declared.view.Part.{Part}
 use Rattle.kfifo_live.specs.declared.view.View.{View}
 use Rattle.kfifo_live.specs.Schedule.{part, view_of, fresh, seen_of, first_part, other_parts}
 use Rattle.kfifo_live.specs.Step.{Idle}
-use Rattle.kfifo_live.specs.Pass.{OpenQueue, Known, new_passes, IsPass}
+use Rattle.kfifo_live.specs.Pass.{OpenQueue, new_passes, IsPass}
 
 pub fresh_more : (first count : ℕ) → first < count → fresh first (count - first) ≡ part first [] ∷ fresh (first + 1) (count - (first + 1))
 fresh_more first count lt =

@@ -1,5 +1,5 @@
 -- A pass that has seen more is still in no call.
-use Rattle.std.proofs.Common.{◌≡◌, ℕ, ◌<◌, List, [], ◌∷◌, ◌++◌, length, Option, Some, None, refl, sym, ap, ◌∙◌, subst, arith}
+use Rattle.std.proofs.Common.{◌≡◌, ℕ, ◌<◌, List, [], ◌∷◌, ◌++◌, length, Some, None, refl, sym, ap, ◌∙◌, subst, arith}
 use Rattle.atomic_table.specs.Table.{Me}
 use Rattle.atomic_table.specs.Seated.{TableId}
 use Rattle.kfifo_model.specs.declared.calls.Answer.{Answer}
@@ -7,15 +7,15 @@ use Rattle.kfifo_machine.specs.declared.event.Begin.{Begin}
 use Rattle.kfifo_machine.specs.declared.event.Event.{Event}
 use Rattle.kfifo_machine.specs.declared.place.Next.TheVariants.{Answers}
 use Rattle.kfifo_machine.specs.Machine.{World, opening, place_of, run, word_at}
-use Rattle.kfifo_machine.specs.Runs.{Begins, WholeRun}
+use Rattle.kfifo_machine.specs.Runs.{Begins}
 use Rattle.kfifo_machine.proofs.Schedules.{run_on, same_place, still_threads}
 use Rattle.kfifo_live.specs.declared.view.Opening.{Opening}
 use Rattle.kfifo_live.specs.declared.view.Part.{Part}
 use Rattle.kfifo_live.specs.declared.view.View.{View}
 use Rattle.kfifo_live.specs.Schedule.{part, view_of, world_after, thread_in, thread_of, more_in, seen_of, with_seen, AllBegin}
 use Rattle.kfifo_live.specs.Step.{Idle, Looks, Went}
-use Rattle.kfifo_live.specs.Pass.{IsPass, Known, known_of, IsSame, Finds}
-use Rattle.kfifo_live.proofs.Whole.{idle_after, whole}
+use Rattle.kfifo_live.specs.Pass.{IsPass, known_of, Finds}
+use Rattle.kfifo_live.proofs.Whole.{idle_after}
 
 -- a pass acts for its thread
 pub pass_thread : (thread : ℕ) (me : Me (Unit {0}) View) → IsPass thread me → thread_of me.0 ≡ thread
@@ -74,11 +74,3 @@ called begin answer thread table table' old new p w =
       held = w.same_slots ∙ p.held;
       idle = idle_after (Some begin) old.0 new.0 answer l;
     }
-
--- and the call was one whole run
-pub ran : (begin : Begin) (answer : Answer) (thread : ℕ) (table table' : TableId) (old new : Me (Unit {0}) View) → IsPass thread old
-    → Went (Some begin) table old (Answers answer) table' new
-    → IsSame (known_of table thread old.0) (known_of table' thread new.0) × WholeRun old.0.opened.shape old.0.opened.threads thread begin answer (seen_of old.0) (seen_of new.0)
-ran begin answer thread table table' old new p w =
-    ((w.same_table, ap (λ (v : View). v.opened) w.leads.now, refl),
-      subst (λ (t : ℕ). WholeRun old.0.opened.shape old.0.opened.threads t begin answer (seen_of old.0) (seen_of new.0)) (pass_thread thread old p) (whole begin old.0 new.0 answer w.leads))

@@ -1,6 +1,6 @@
 -- Steps one after another, and the whole run that they make.
-use Rattle.std.proofs.Common.{◌≡◌, ◌≢◌, ℕ, zero, suc, ◌+◌, ◌-◌, ◌*◌, ◌<◌, ◌≤◌, true, false, cond, List, [], ◌∷◌, ◌++◌, length, set, get_or, Option, Some, None, Result, Ok, refl, sym, ap, ◌∙◌, subst, append_assoc, arith}
-use Rattle.std.proofs.lemmas.List.{append-nil, length-set}
+use Rattle.std.proofs.Common.{◌≡◌, ℕ, ◌<◌, List, [], ◌∷◌, ◌++◌, length, Option, Some, None, Ok, refl, sym, ap, ◌∙◌, subst, append_assoc, arith}
+use Rattle.std.proofs.lemmas.List.{length-set}
 use Rattle.std.proofs.lemmas.Grind.{get_or-set_at}
 use Rattle.atomic_table.specs.Table.{Me}
 use Rattle.atomic_table.specs.Seated.{TableId}
@@ -12,15 +12,15 @@ use Rattle.kfifo_machine.specs.declared.place.Running.{Running}
 use Rattle.kfifo_machine.specs.declared.place.Next.{Next}
 use Rattle.kfifo_machine.specs.declared.place.Next.TheVariants.{Goes, Answers}
 use Rattle.kfifo_machine.specs.Program.{access, accessed, advance}
-use Rattle.kfifo_machine.specs.Machine.{World, opening, moved, found, word_at, place_of, place_after, outcome_of, world_of, step, run, after}
-use Rattle.kfifo_machine.specs.Runs.{event, own, going, AllGoOn, BeginsOnce, WholeRun}
-use Rattle.kfifo_machine.specs.Places.{IsPlace, IsFoundBy, IsState}
+use Rattle.kfifo_machine.specs.Machine.{World, moved, found, word_at, place_of, place_after, outcome_of, world_of}
+use Rattle.kfifo_machine.specs.Runs.{event, own, going, AllGoOn, WholeRun}
+use Rattle.kfifo_machine.specs.Places.{IsPlace, IsFoundBy}
 use Rattle.kfifo_machine.proofs.Places.{found_by, in_table}
 use Rattle.kfifo_machine.proofs.Schedules.{after-snoc, own-append, steps_on}
 use Rattle.kfifo_machine.proofs.Sound.{sound, going_place, place_is}
 use Rattle.kfifo_live.specs.declared.view.View.{View}
 use Rattle.kfifo_live.specs.Schedule.{world_after, thread_of, seen_of, with_seen}
-use Rattle.kfifo_live.specs.Step.{At, Idle, Steps, IsOwnRun, Leads, Ready, Stepped, Went}
+use Rattle.kfifo_live.specs.Step.{At, Idle, Steps, IsOwnRun, Leads, Ready, Rests, Stepped, Went}
 use Rattle.kfifo_live.proofs.Keeps.{own_same}
 
 AllGoOn-append : (xs ys : List Event) → AllGoOn xs → AllGoOn ys → AllGoOn (xs ++ ys)
@@ -83,9 +83,9 @@ more_steps begin v w x running next a b = from_there (subst (λ (y : View). Lead
         let t = thread_of v in
         let between = (a.between ++ a.last ∷ []) ++ b.between in
         let upto : ((seen_of v ++ a.between) ++ a.last ∷ []) ++ b.between ≡ seen_of v ++ between =
-            ap (λ es. es ++ b.between) (append_assoc (seen_of v) a.between (a.last ∷ [])) ∙ append_assoc (seen_of v) (a.between ++ a.last ∷ []) b.between in
+        ap (λ es. es ++ b.between) (append_assoc (seen_of v) a.between (a.last ∷ [])) ∙ append_assoc (seen_of v) (a.between ++ a.last ∷ []) b.between in
         let own_are : own t (between ++ b.last ∷ []) ≡ own t (a.between ++ a.last ∷ []) ++ own t (b.between ++ b.last ∷ []) =
-            ap (own t) (append_assoc (a.between ++ a.last ∷ []) b.between (b.last ∷ [])) ∙ own-append t (a.between ++ a.last ∷ []) (b.between ++ b.last ∷ []) in
+        ap (own t) (append_assoc (a.between ++ a.last ∷ []) b.between (b.last ∷ [])) ∙ own-append t (a.between ++ a.last ∷ []) (b.between ++ b.last ∷ []) in
         record {
           between = between;
           last = b.last;
@@ -207,3 +207,19 @@ pub within_table : (table : TableId) (shape : Shape) (begin : Option Begin) (run
 within_table table shape begin running seat v r i is =
     let below = in_table shape running (ready_place table shape begin running seat v r) in
     omega (arith, below, r.size, is)
+
+-- a step from a place that leads to this
+pub leads_to : {S : Type 0} (table : TableId) (shape : Shape) (begin : Option Begin) (running place : Running) (seat seat' : TableId) (me me' : Me S View) (word : ℕ) (next : Next)
+    → place ≡ running → Ready table shape begin running seat me.0 → Stepped shape begin place seat me word seat' me' → advance shape running word ≡ next → Went begin seat me next seat' me'
+leads_to {S} table shape begin running place seat seat' me me' word next same ready stepped is =
+    went_one table shape begin running seat seat' me me' word next ready (subst (λ (r : Running). Stepped shape begin r seat me word seat' me') same stepped) is
+
+-- a seat that rests may make the first step of a call
+pub first_ready : (table : TableId) (shape : Shape) (begin : Begin) (running : Running) (seat : TableId) (v : View) → Rests table shape seat v → going shape None (Some begin) ≡ Some running
+    → Ready table shape (Some begin) running seat v
+first_ready table shape begin running seat v r is = record {
+  same_table = r.same_table;
+  size = r.size;
+  shape_is = r.shape_is;
+  at = at_first begin running v r.idle (ap (λ (s : Shape). going s None (Some begin)) r.shape_is ∙ is);
+}

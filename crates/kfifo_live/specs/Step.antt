@@ -1,5 +1,5 @@
 -- What one atomic step adds to what a seat has seen, and where that leads its thread in a call.
-use Rattle.std.specs.Prelude.{◌≡◌, ℕ, ◌+◌, ◌*◌, ◌<◌, List, [], ◌∷◌, ◌++◌, length, get_or, Option, Some, None, Result, Ok}
+use Rattle.std.specs.Prelude.{◌≡◌, ℕ, ◌+◌, ◌*◌, ◌<◌, List, [], ◌∷◌, ◌++◌, length, get_or, Option, Some, None, Ok}
 use Rattle.atomic_table.specs.Table.{Me}
 use Rattle.atomic_table.specs.Seated.{TableId}
 use Rattle.kfifo_words.specs.declared.shape.Shape.{Shape}
@@ -12,7 +12,6 @@ use Rattle.kfifo_machine.specs.declared.place.Next.TheVariants.{Goes, Answers}
 use Rattle.kfifo_machine.specs.Machine.{World, found, place_of, place_after, outcome_of, step}
 use Rattle.kfifo_machine.specs.Runs.{event, own, going, AllGoOn, BeginsOnce}
 use Rattle.kfifo_machine.specs.Places.{IsFoundBy}
-use Rattle.kfifo_live.specs.declared.view.Opening.{Opening}
 use Rattle.kfifo_live.specs.declared.view.View.{View}
 use Rattle.kfifo_live.specs.Schedule.{world_after, AllBegin, thread_of, seen_of, with_seen, IsSeated}
 
@@ -79,6 +78,13 @@ pub record Ready (table : TableId) (shape : Shape) (begin : Option Begin) (runni
   pub size : table.words ≡ 2 + shape.n * shape.k
   pub shape_is : v.opened.shape ≡ shape
   pub at : At begin running v
+
+-- a seat of this table whose thread is in no call
+pub record Rests (table : TableId) (shape : Shape) (seat : TableId) (v : View) : Type 0 where
+  pub same_table : seat ≡ table
+  pub size : table.words ≡ 2 + shape.n * shape.k
+  pub shape_is : v.opened.shape ≡ shape
+  pub idle : Idle v
 
 -- a seat whose thread made one step, with the word that it found
 pub record Stepped {S : Type 0} (shape : Shape) (begin : Option Begin) (running : Running) (seat : TableId) (me : Me S View) (word : ℕ) (seat' : TableId) (me' : Me S View) : Type 0 where

@@ -2,10 +2,13 @@
 //! machine's program.
 #![tactic(auto)]
 
+mod dequeue;
+mod enqueue;
 mod fault;
 mod law;
 mod opening;
 mod queue;
+mod scan;
 mod seats;
 mod touch;
 mod view;

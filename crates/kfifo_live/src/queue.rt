@@ -8,6 +8,7 @@ ghost use Rattle.kfifo_live.specs.Pass.{OpenQueue, Known, queue_of, known_of, Is
 use crate::law::Law;
 use crate::seats::glance;
 use crate::view::{Opening, View};
+use crate::{dequeue, enqueue};
 use atomic_table::{Seat, Table};
 use kfifo_model::Answer;
 use kfifo_words::Shape;
@@ -65,6 +66,53 @@ impl Pass {
         ensures { result ≡ self.now.thread }
     {
         self.thread
+    }
+
+    /// Puts an item, from 1 to 2^24 - 1, into the queue.
+    ///
+    /// Scans begin at slot `start`, below k. Answers Done, Full where the ring was seen full, Busy
+    /// where each of `turns` rounds, at least 1, was lost, or Worn where a version would pass the
+    /// greatest one. After Full, Busy and Worn the item is not in the queue and never comes out.
+    /// What the pass has seen grows by events of others and by one whole run of the call, the last
+    /// event being its own. It never allocates, waits or locks.
+    pub fn enqueue(&mut self, queue: &Queue, item: u32, start: u32, turns: u16) -> Answer
+        requires of { IsOf queue.now self.old }
+        requires item { (1 ≤ item) × (item < 2 ^ 24) }
+        requires start { start < queue.now.opened.shape.k }
+        requires turns { 1 ≤ turns }
+        ensures same { IsSame self.old self.new }
+        ensures run { WholeRun self.old.opened.shape self.old.opened.threads self.old.thread (Enqueue item start turns) result self.old.seen self.new.seen }
+    {
+        enqueue::enqueue(
+            &queue.table.shared,
+            &mut self.seat,
+            &queue.shape,
+            item,
+            start,
+            turns,
+        )
+    }
+
+    /// Takes one of the k oldest items.
+    ///
+    /// Scans begin at slot `start`, below k. Answers Got with the item, Empty where the queue was
+    /// empty, Busy where each of `turns` rounds, at least 1, was lost, or Worn where a version would
+    /// pass the greatest one. What the pass has seen grows by events of others and by one whole run
+    /// of the call, the last event being its own. It never allocates, waits or locks.
+    pub fn dequeue(&mut self, queue: &Queue, start: u32, turns: u16) -> Answer
+        requires of { IsOf queue.now self.old }
+        requires start { start < queue.now.opened.shape.k }
+        requires turns { 1 ≤ turns }
+        ensures same { IsSame self.old self.new }
+        ensures run { WholeRun self.old.opened.shape self.old.opened.threads self.old.thread (Dequeue start turns) result self.old.seen self.new.seen }
+    {
+        dequeue::dequeue(
+            &queue.table.shared,
+            &mut self.seat,
+            &queue.shape,
+            start,
+            turns,
+        )
     }
 
     /// One load of the word with this index: 0 is the ends word, then come the slots, segment by

@@ -1,7 +1,5 @@
-use Rattle.std.proofs.Common.{◌≡◌, ℕ, ◌<◌, ◌+◌, ◌++◌, [], ◌∷◌, sym, ap, ◌∙◌, subst, arith}
-use Rattle.kfifo_live.specs.declared.view.View.{View}
-use Rattle.kfifo_live.specs.Schedule.{seen_of}
-use Rattle.kfifo_live.specs.Pass.{Known, queue_of, known_of, new_passes}
+use Rattle.std.proofs.Common.{◌≡◌, ◌<◌, ◌+◌, ◌++◌, [], ◌∷◌, sym, ◌∙◌, arith}
+use Rattle.kfifo_live.specs.Pass.{queue_of, known_of}
 use Rattle.kfifo_live.proofs.Opens.{new_passes-snoc, new_pass, cut_first}
 use Rattle.kfifo_live.proofs.opening.deal.Goals as goal
 

@@ -1,4 +1,4 @@
-use Rattle.std.proofs.Common.{◌≡◌, subst}
+use Rattle.std.proofs.Common.{subst}
 use Rattle.kfifo_live.specs.Pass.{Known, known_of, Finds}
 use Rattle.kfifo_live.proofs.Passes.{looked, finds}
 use Rattle.kfifo_live.proofs.queue.Pass.word.Goals as goal
