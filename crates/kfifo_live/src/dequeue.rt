@@ -1,12 +1,12 @@
 //! The dequeue of the running queue, step by step.
 ghost use Rattle.std.specs.Prelude.{◌≡◌, ◌<◌, ◌≤◌, ◌+◌, ◌-◌, ◌^◌, None, Some};
-ghost use Rattle.kfifo_words.specs.Words.{version_of};
+ghost use Rattle.kfifo_words.specs.Words.{version_of, head_of};
 ghost use Rattle.kfifo_machine.specs.Program.{dequeue_again};
 ghost use Rattle.kfifo_machine.specs.Places.{IsEnds};
-ghost use Rattle.kfifo_live.specs.Step.{Ready, Rests, Went, next_of};
+ghost use Rattle.kfifo_live.specs.Step.{Ready, Rests, Went, next_of, SlotsInARow, head_scanned};
 
 use crate::law::Law;
-use crate::scan::next_slot;
+use crate::scan::Row;
 use crate::touch::{exchange, load};
 use crate::view::{Opening, View};
 use atomic_table::{Seat, Shared};
@@ -48,7 +48,55 @@ impl Demand {
     }
 }
 
+/// Looks for a filled slot among slots in a row, two at a time.
+#[inline]
+fn scan_row(
+    shared: &Shared<(), View, Opening, Law>,
+    seat: &mut Seat<(), View>,
+    shape: &Shape,
+    demand: Demand,
+    ends: Ends,
+    row: Row,
+) -> Found
+    requires row { SlotsInARow shape.now (head_of ends) demand.start row.offset row.index row.count shape.now.k }
+    requires ready { Ready shared.now.table_id shape.now None (Running.Dequeue demand.start demand.left (DequeuePhase.ScanHead ends row.offset)) seat.old.table_id seat.old.me.0 }
+    ensures { Went None seat.old.table_id seat.old.me (head_scanned demand.start demand.left ends (row.offset + row.count) shape.now.k result) seat.new.table_id seat.new.me }
+{
+    let end = row.index + row.count as usize;
+    let mut at = row.index;
+    let mut seen = row.offset;
+    'pairs: while end - at > 2 {
+        let place = demand.at(DequeuePhase::ScanHead { ends, offset: seen });
+        let word = load::<Brand>(shared, seat, shape, None, place, at);
+        if word.value() != 0 {
+            return Found::Slot { index: at, word };
+        }
+        let place = demand.at(DequeuePhase::ScanHead { ends, offset: seen + 1 });
+        let word = load::<Brand>(shared, seat, shape, None, place, at + 1);
+        if word.value() != 0 {
+            return Found::Slot { index: at + 1, word };
+        }
+        at += 2;
+        seen += 2;
+    }
+    let place = demand.at(DequeuePhase::ScanHead { ends, offset: seen });
+    let word = load::<Brand>(shared, seat, shape, None, place, at);
+    if word.value() != 0 {
+        return Found::Slot { index: at, word };
+    }
+    if at + 1 == end {
+        return Found::Nothing;
+    }
+    let place = demand.at(DequeuePhase::ScanHead { ends, offset: seen + 1 });
+    let word = load::<Brand>(shared, seat, shape, None, place, at + 1);
+    if word.value() != 0 {
+        return Found::Slot { index: at + 1, word };
+    }
+    Found::Nothing
+}
+
 /// Looks for a filled slot in the head's segment.
+#[inline]
 fn scan_head(
     shared: &Shared<(), View, Opening, Law>,
     seat: &mut Seat<(), View>,
@@ -62,20 +110,18 @@ fn scan_head(
     ensures { Went None seat.old.table_id seat.old.me (Next.Goes (Running.Dequeue demand.start demand.left (DequeuePhase.Recheck ends result))) seat.new.table_id seat.new.me }
 {
     let first = shape.slot_index(ends.head(), 0);
-    let mut slot = demand.start;
-    let mut offset = 0;
-    'slots: loop {
-        let index = first + slot as usize;
-        let place = demand.at(DequeuePhase::ScanHead { ends, offset });
-        let word = load::<Brand>(shared, seat, shape, None, place, index);
-        if word.value() != 0 {
-            return Found::Slot { index, word };
+    let start = demand.start;
+    let upper = shape.k() - start;
+    let row = Row { offset: 0, index: first + start as usize, count: upper };
+    match scan_row(shared, seat, shape, demand, ends, row) {
+        Found::Slot { index, word } => Found::Slot { index, word },
+        Found::Nothing => {
+            if start == 0 {
+                return Found::Nothing;
+            }
+            let row = Row { offset: upper, index: first, count: start };
+            scan_row(shared, seat, shape, demand, ends, row)
         }
-        if offset + 1 == shape.k() {
-            return Found::Nothing;
-        }
-        offset += 1;
-        slot = next_slot(shape, slot);
     }
 }
 

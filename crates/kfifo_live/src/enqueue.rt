@@ -1,12 +1,12 @@
 //! The enqueue of the running queue, step by step.
 ghost use Rattle.std.specs.Prelude.{◌≡◌, ◌<◌, ◌≤◌, ◌+◌, ◌-◌, ◌^◌, ◌==◌, None, Some, if◌then◌else◌};
-ghost use Rattle.kfifo_words.specs.Words.{version_of};
+ghost use Rattle.kfifo_words.specs.Words.{version_of, tail_of};
 ghost use Rattle.kfifo_machine.specs.Program.{enqueue_again};
 ghost use Rattle.kfifo_machine.specs.Places.{IsEnds, IsSlotIndex};
-ghost use Rattle.kfifo_live.specs.Step.{Ready, Rests, Went, next_of};
+ghost use Rattle.kfifo_live.specs.Step.{Ready, Rests, Went, next_of, SlotsInARow, tail_scanned};
 
 use crate::law::Law;
-use crate::scan::next_slot;
+use crate::scan::Row;
 use crate::touch::{exchange, load};
 use crate::view::{Opening, View};
 use atomic_table::{Seat, Shared};
@@ -50,7 +50,55 @@ impl Offer {
     }
 }
 
+/// Looks for an empty slot among slots in a row, two at a time.
+#[inline]
+fn scan_row(
+    shared: &Shared<(), View, Opening, Law>,
+    seat: &mut Seat<(), View>,
+    shape: &Shape,
+    offer: Offer,
+    ends: Ends,
+    row: Row,
+) -> Found
+    requires row { SlotsInARow shape.now (tail_of ends) offer.start row.offset row.index row.count shape.now.probes }
+    requires ready { Ready shared.now.table_id shape.now None (Running.Enqueue offer.item offer.start offer.left (EnqueuePhase.ScanTail ends row.offset)) seat.old.table_id seat.old.me.0 }
+    ensures { Went None seat.old.table_id seat.old.me (tail_scanned offer.item offer.start offer.left ends (row.offset + row.count) shape.now.probes result) seat.new.table_id seat.new.me }
+{
+    let end = row.index + row.count as usize;
+    let mut at = row.index;
+    let mut seen = row.offset;
+    'pairs: while end - at > 2 {
+        let place = offer.at(EnqueuePhase::ScanTail { ends, offset: seen });
+        let word = load::<Brand>(shared, seat, shape, None, place, at);
+        if word.value() == 0 {
+            return Found::Slot { index: at, word };
+        }
+        let place = offer.at(EnqueuePhase::ScanTail { ends, offset: seen + 1 });
+        let word = load::<Brand>(shared, seat, shape, None, place, at + 1);
+        if word.value() == 0 {
+            return Found::Slot { index: at + 1, word };
+        }
+        at += 2;
+        seen += 2;
+    }
+    let place = offer.at(EnqueuePhase::ScanTail { ends, offset: seen });
+    let word = load::<Brand>(shared, seat, shape, None, place, at);
+    if word.value() == 0 {
+        return Found::Slot { index: at, word };
+    }
+    if at + 1 == end {
+        return Found::Nothing;
+    }
+    let place = offer.at(EnqueuePhase::ScanTail { ends, offset: seen + 1 });
+    let word = load::<Brand>(shared, seat, shape, None, place, at + 1);
+    if word.value() == 0 {
+        return Found::Slot { index: at + 1, word };
+    }
+    Found::Nothing
+}
+
 /// Looks for an empty slot in the tail's segment.
+#[inline]
 fn scan_tail(
     shared: &Shared<(), View, Opening, Law>,
     seat: &mut Seat<(), View>,
@@ -64,20 +112,19 @@ fn scan_tail(
     ensures { Went None seat.old.table_id seat.old.me (Next.Goes (Running.Enqueue offer.item offer.start offer.left (EnqueuePhase.Recheck ends result))) seat.new.table_id seat.new.me }
 {
     let first = shape.slot_index(ends.tail(), 0);
-    let mut slot = offer.start;
-    let mut offset = 0;
-    'slots: loop {
-        let index = first + slot as usize;
-        let place = offer.at(EnqueuePhase::ScanTail { ends, offset });
-        let word = load::<Brand>(shared, seat, shape, None, place, index);
-        if word.value() == 0 {
-            return Found::Slot { index, word };
+    let start = offer.start;
+    let probes = shape.probes();
+    let upper = probes.min(shape.k() - start);
+    let row = Row { offset: 0, index: first + start as usize, count: upper };
+    match scan_row(shared, seat, shape, offer, ends, row) {
+        Found::Slot { index, word } => Found::Slot { index, word },
+        Found::Nothing => {
+            if upper == probes {
+                return Found::Nothing;
+            }
+            let row = Row { offset: upper, index: first, count: probes - upper };
+            scan_row(shared, seat, shape, offer, ends, row)
         }
-        if offset + 1 == shape.probes() {
-            return Found::Nothing;
-        }
-        offset += 1;
-        slot = next_slot(shape, slot);
     }
 }
 

@@ -83,10 +83,11 @@ impl Pass {
         ensures same { IsSame self.old self.new }
         ensures run { WholeRun self.old.opened.shape self.old.opened.threads self.old.thread (Enqueue item start turns) result self.old.seen self.new.seen }
     {
+        let shape = queue.shape;
         enqueue::enqueue(
             &queue.table.shared,
             &mut self.seat,
-            &queue.shape,
+            &shape,
             item,
             start,
             turns,
@@ -106,10 +107,11 @@ impl Pass {
         ensures same { IsSame self.old self.new }
         ensures run { WholeRun self.old.opened.shape self.old.opened.threads self.old.thread (Dequeue start turns) result self.old.seen self.new.seen }
     {
+        let shape = queue.shape;
         dequeue::dequeue(
             &queue.table.shared,
             &mut self.seat,
-            &queue.shape,
+            &shape,
             start,
             turns,
         )
