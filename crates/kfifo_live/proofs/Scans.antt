@@ -30,17 +30,18 @@ index_is shape segment start offset first slot at is = omega (arith, at, is)
 pub from_first : (k offset : ℕ) → offset < k → offset ≡ (0 + offset) % k
 from_first k offset within = sym (ap (λ n. n % k) (zero-add offset) ∙ mod-eq_of_lt within)
 
--- the slots from a scan's start to the end of the segment
-pub upper_row : (shape : Shape) (segment start first count limit : ℕ) → first ≡ slot_at shape.k segment 0 → segment < shape.n → start + count ≤ shape.k → count ≤ limit → 0 < count
-    → SlotsInARow shape segment start 0 (first + start) count limit
+-- the slots from a scan's place on, as far as the end of the segment
+pub upper_row : (shape : Shape) (segment start offset first count limit : ℕ) → first ≡ slot_at shape.k segment 0 → segment < shape.n → start + offset + count ≤ shape.k → offset + count ≤ limit → 0 < count
+    → SlotsInARow shape segment start offset (first + start + offset) count limit
 unfolding scan_index
-upper_row shape segment start first count limit at inside fits within some =
+upper_row shape segment start offset first count limit at inside fits within some =
     let few : segment * shape.k ≤ 1024 * shape.k = mul-le-mul_right shape.k (let s = shape.few_segments in omega arith) in
     record {
       some = some;
-      within = omega arith;
+      above = omega arith;
+      within = within;
       below = (let k = shape.few_slots in omega arith);
-      each = λ i less. (let here : (start + (0 + i)) % shape.k ≡ start + (0 + i) = mod-eq_of_lt (omega arith) in omega (arith, at, here));
+      each = λ i less. (let here : (start + (offset + i)) % shape.k ≡ start + (offset + i) = mod-eq_of_lt (omega arith) in omega (arith, at, here));
     }
 
 -- the slots before the start, which come behind those
@@ -51,6 +52,7 @@ lower_row shape segment start offset first count limit at inside upper few_left 
     let few : segment * shape.k ≤ 1024 * shape.k = mul-le-mul_right shape.k (let s = shape.few_segments in omega arith) in
     record {
       some = some;
+      above = omega arith;
       within = within;
       below = (let k = shape.few_slots in omega arith);
       each = λ i less.
@@ -80,3 +82,7 @@ pub head_on : (start left ends offset next limit : ℕ) → offset ≢ limit →
 head_on start left ends offset next limit apart is =
     ap (λ b. cond b (Goes (R.Dequeue start left (D.Recheck ends Nothing))) (Goes (R.Dequeue start left (D.ScanHead ends offset)))) (ne_eqb offset limit apart)
     ∙ ap (λ (n : ℕ). Goes (R.Dequeue start left (D.ScanHead ends n))) is
+
+-- a scan begins at its start
+pub at_start : (k start : ℕ) → start < k → start ≡ (start + 0) % k
+at_start k start within = sym (ap (λ n. n % k) (let e : start + 0 ≡ start = omega arith in e) ∙ mod-eq_of_lt within)

@@ -113,6 +113,7 @@ next_of again (Some answer) = Answers answer
 -- `count` slots of a segment that stand side by side from `index` on, where a scan from `start` comes after `offset` others
 pub record SlotsInARow (shape : Shape) (segment start offset index count limit : ℕ) : Type 0 where
   pub some : 0 < count
+  pub above : 0 < index
   pub within : offset + count ≤ limit
   pub below : index + count < 2 ^ 32
   pub each : (i : ℕ) → i < count → scan_index shape segment start (offset + i) ≡ index + i

@@ -1,6 +1,7 @@
 //! The dequeue of the running queue, step by step.
 ghost use Rattle.std.specs.Prelude.{◌≡◌, ◌<◌, ◌≤◌, ◌+◌, ◌-◌, ◌^◌, None, Some};
 ghost use Rattle.kfifo_words.specs.Words.{version_of, head_of};
+ghost use Rattle.kfifo_words.specs.Ring.{slot_at};
 ghost use Rattle.kfifo_machine.specs.Program.{dequeue_again};
 ghost use Rattle.kfifo_machine.specs.Places.{IsEnds};
 ghost use Rattle.kfifo_live.specs.Step.{Ready, Rests, Went, next_of, SlotsInARow, head_scanned};
@@ -62,10 +63,10 @@ fn scan_row(
     requires ready { Ready shared.now.table_id shape.now None (Running.Dequeue demand.start demand.left (DequeuePhase.ScanHead ends row.offset)) seat.old.table_id seat.old.me.0 }
     ensures { Went None seat.old.table_id seat.old.me (head_scanned demand.start demand.left ends (row.offset + row.count) shape.now.k result) seat.new.table_id seat.new.me }
 {
-    let end = row.index + row.count as usize;
+    let stop = row.index + row.count as usize - 2;
     let mut at = row.index;
     let mut seen = row.offset;
-    'pairs: while end - at > 2 {
+    'pairs: while at < stop {
         let place = demand.at(DequeuePhase::ScanHead { ends, offset: seen });
         let word = load::<Brand>(shared, seat, shape, None, place, at);
         if word.value() != 0 {
@@ -84,7 +85,7 @@ fn scan_row(
     if word.value() != 0 {
         return Found::Slot { index: at, word };
     }
-    if at + 1 == end {
+    if at > stop {
         return Found::Nothing;
     }
     let place = demand.at(DequeuePhase::ScanHead { ends, offset: seen + 1 });
@@ -93,6 +94,41 @@ fn scan_row(
         return Found::Slot { index: at + 1, word };
     }
     Found::Nothing
+}
+
+/// Looks for a filled slot in the head's segment, the first look having been in vain.
+#[inline]
+fn scan_rest(
+    shared: &Shared<(), View, Opening, Law>,
+    seat: &mut Seat<(), View>,
+    shape: &Shape,
+    demand: Demand,
+    ends: Ends,
+    first: usize,
+) -> Found
+    requires start { demand.start < shape.now.k }
+    requires ends { IsEnds shape.now ends }
+    requires first { first ≡ slot_at shape.now.k (head_of ends) 0 }
+    requires more { 1 < shape.now.k }
+    requires ready { Ready shared.now.table_id shape.now None (Running.Dequeue demand.start demand.left (DequeuePhase.ScanHead ends 1)) seat.old.table_id seat.old.me.0 }
+    ensures { Went None seat.old.table_id seat.old.me (Next.Goes (Running.Dequeue demand.start demand.left (DequeuePhase.Recheck ends result))) seat.new.table_id seat.new.me }
+{
+    let start = demand.start;
+    let upper = shape.k() - start - 1;
+    if upper == 0 {
+        return scan_row(shared, seat, shape, demand, ends, Row { offset: 1, index: first, count: start });
+    }
+    let row = Row { offset: 1, index: first + start as usize + 1, count: upper };
+    match scan_row(shared, seat, shape, demand, ends, row) {
+        Found::Slot { index, word } => Found::Slot { index, word },
+        Found::Nothing => {
+            if start == 0 {
+                return Found::Nothing;
+            }
+            let row = Row { offset: upper + 1, index: first, count: start };
+            scan_row(shared, seat, shape, demand, ends, row)
+        }
+    }
 }
 
 /// Looks for a filled slot in the head's segment.
@@ -110,19 +146,16 @@ fn scan_head(
     ensures { Went None seat.old.table_id seat.old.me (Next.Goes (Running.Dequeue demand.start demand.left (DequeuePhase.Recheck ends result))) seat.new.table_id seat.new.me }
 {
     let first = shape.slot_index(ends.head(), 0);
-    let start = demand.start;
-    let upper = shape.k() - start;
-    let row = Row { offset: 0, index: first + start as usize, count: upper };
-    match scan_row(shared, seat, shape, demand, ends, row) {
-        Found::Slot { index, word } => Found::Slot { index, word },
-        Found::Nothing => {
-            if start == 0 {
-                return Found::Nothing;
-            }
-            let row = Row { offset: upper, index: first, count: start };
-            scan_row(shared, seat, shape, demand, ends, row)
-        }
+    let index = first + demand.start as usize;
+    let place = demand.at(DequeuePhase::ScanHead { ends, offset: 0 });
+    let word = load::<Brand>(shared, seat, shape, None, place, index);
+    if word.value() != 0 {
+        return Found::Slot { index, word };
     }
+    if shape.k() == 1 {
+        return Found::Nothing;
+    }
+    scan_rest(shared, seat, shape, demand, ends, first)
 }
 
 /// Takes the item out of a filled slot.

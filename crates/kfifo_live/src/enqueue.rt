@@ -1,6 +1,7 @@
 //! The enqueue of the running queue, step by step.
 ghost use Rattle.std.specs.Prelude.{◌≡◌, ◌<◌, ◌≤◌, ◌+◌, ◌-◌, ◌^◌, ◌==◌, None, Some, if◌then◌else◌};
 ghost use Rattle.kfifo_words.specs.Words.{version_of, tail_of};
+ghost use Rattle.kfifo_words.specs.Ring.{slot_at};
 ghost use Rattle.kfifo_machine.specs.Program.{enqueue_again};
 ghost use Rattle.kfifo_machine.specs.Places.{IsEnds, IsSlotIndex};
 ghost use Rattle.kfifo_live.specs.Step.{Ready, Rests, Went, next_of, SlotsInARow, tail_scanned};
@@ -64,10 +65,10 @@ fn scan_row(
     requires ready { Ready shared.now.table_id shape.now None (Running.Enqueue offer.item offer.start offer.left (EnqueuePhase.ScanTail ends row.offset)) seat.old.table_id seat.old.me.0 }
     ensures { Went None seat.old.table_id seat.old.me (tail_scanned offer.item offer.start offer.left ends (row.offset + row.count) shape.now.probes result) seat.new.table_id seat.new.me }
 {
-    let end = row.index + row.count as usize;
+    let stop = row.index + row.count as usize - 2;
     let mut at = row.index;
     let mut seen = row.offset;
-    'pairs: while end - at > 2 {
+    'pairs: while at < stop {
         let place = offer.at(EnqueuePhase::ScanTail { ends, offset: seen });
         let word = load::<Brand>(shared, seat, shape, None, place, at);
         if word.value() == 0 {
@@ -86,7 +87,7 @@ fn scan_row(
     if word.value() == 0 {
         return Found::Slot { index: at, word };
     }
-    if at + 1 == end {
+    if at > stop {
         return Found::Nothing;
     }
     let place = offer.at(EnqueuePhase::ScanTail { ends, offset: seen + 1 });
@@ -95,6 +96,42 @@ fn scan_row(
         return Found::Slot { index: at + 1, word };
     }
     Found::Nothing
+}
+
+/// Looks for an empty slot in the tail's segment, the first look having been in vain.
+#[inline]
+fn scan_rest(
+    shared: &Shared<(), View, Opening, Law>,
+    seat: &mut Seat<(), View>,
+    shape: &Shape,
+    offer: Offer,
+    ends: Ends,
+    first: usize,
+) -> Found
+    requires start { offer.start < shape.now.k }
+    requires ends { IsEnds shape.now ends }
+    requires first { first ≡ slot_at shape.now.k (tail_of ends) 0 }
+    requires more { 1 < shape.now.probes }
+    requires ready { Ready shared.now.table_id shape.now None (Running.Enqueue offer.item offer.start offer.left (EnqueuePhase.ScanTail ends 1)) seat.old.table_id seat.old.me.0 }
+    ensures { Went None seat.old.table_id seat.old.me (Next.Goes (Running.Enqueue offer.item offer.start offer.left (EnqueuePhase.Recheck ends result))) seat.new.table_id seat.new.me }
+{
+    let start = offer.start;
+    let rest = shape.probes() - 1;
+    let upper = rest.min(shape.k() - start - 1);
+    if upper == 0 {
+        return scan_row(shared, seat, shape, offer, ends, Row { offset: 1, index: first, count: rest });
+    }
+    let row = Row { offset: 1, index: first + start as usize + 1, count: upper };
+    match scan_row(shared, seat, shape, offer, ends, row) {
+        Found::Slot { index, word } => Found::Slot { index, word },
+        Found::Nothing => {
+            if upper == rest {
+                return Found::Nothing;
+            }
+            let row = Row { offset: upper + 1, index: first, count: rest - upper };
+            scan_row(shared, seat, shape, offer, ends, row)
+        }
+    }
 }
 
 /// Looks for an empty slot in the tail's segment.
@@ -112,20 +149,16 @@ fn scan_tail(
     ensures { Went None seat.old.table_id seat.old.me (Next.Goes (Running.Enqueue offer.item offer.start offer.left (EnqueuePhase.Recheck ends result))) seat.new.table_id seat.new.me }
 {
     let first = shape.slot_index(ends.tail(), 0);
-    let start = offer.start;
-    let probes = shape.probes();
-    let upper = probes.min(shape.k() - start);
-    let row = Row { offset: 0, index: first + start as usize, count: upper };
-    match scan_row(shared, seat, shape, offer, ends, row) {
-        Found::Slot { index, word } => Found::Slot { index, word },
-        Found::Nothing => {
-            if upper == probes {
-                return Found::Nothing;
-            }
-            let row = Row { offset: upper, index: first, count: probes - upper };
-            scan_row(shared, seat, shape, offer, ends, row)
-        }
+    let index = first + offer.start as usize;
+    let place = offer.at(EnqueuePhase::ScanTail { ends, offset: 0 });
+    let word = load::<Brand>(shared, seat, shape, None, place, index);
+    if word.value() == 0 {
+        return Found::Slot { index, word };
     }
+    if shape.probes() == 1 {
+        return Found::Nothing;
+    }
+    scan_rest(shared, seat, shape, offer, ends, first)
 }
 
 /// Takes the item out again.

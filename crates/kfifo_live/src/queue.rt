@@ -83,11 +83,10 @@ impl Pass {
         ensures same { IsSame self.old self.new }
         ensures run { WholeRun self.old.opened.shape self.old.opened.threads self.old.thread (Enqueue item start turns) result self.old.seen self.new.seen }
     {
-        let shape = queue.shape;
         enqueue::enqueue(
             &queue.table.shared,
             &mut self.seat,
-            &shape,
+            &queue.shape,
             item,
             start,
             turns,
@@ -107,11 +106,10 @@ impl Pass {
         ensures same { IsSame self.old self.new }
         ensures run { WholeRun self.old.opened.shape self.old.opened.threads self.old.thread (Dequeue start turns) result self.old.seen self.new.seen }
     {
-        let shape = queue.shape;
         dequeue::dequeue(
             &queue.table.shared,
             &mut self.seat,
-            &shape,
+            &queue.shape,
             start,
             turns,
         )

@@ -1,7 +1,6 @@
--- The slots from the start on, and then those before it.
+-- The first look decides, or leads on to the others.
 use Rattle.std.proofs.Common.{◌≡◌, ◌+◌, ◌-◌, ℕ, refl, arith, Option, Some, None, true, false, sym, ap, ◌∙◌, cond}
 use Rattle.std.proofs.lemmas.Bool.Decides.{nat_tests}
-use Rattle.std.proofs.Common.{zero-add}
 use Rattle.kfifo_words.specs.Words.{head_of, tail_of}
 use Rattle.kfifo_words.specs.Ring.{slot_at}
 use Rattle.kfifo_model.specs.declared.calls.Answer.TheVariants as A
@@ -11,28 +10,35 @@ use Rattle.kfifo_machine.specs.declared.place.EnqueuePhase.TheVariants as E
 use Rattle.kfifo_machine.specs.declared.place.DequeuePhase.TheVariants as D
 use Rattle.kfifo_machine.specs.declared.place.Found.TheVariants.{Slot, Nothing}
 use Rattle.kfifo_machine.specs.declared.place.Next.TheVariants.{Goes, Answers}
-use Rattle.kfifo_machine.specs.Program.{advance, filled_with}
-use Rattle.kfifo_live.proofs.Scans.{upper_row, lower_row, head_on, head_over}
+use Rattle.kfifo_machine.specs.Program.{advance, scan_index}
+use Rattle.kfifo_live.proofs.Scans.{index_is, at_start}
 use Rattle.kfifo_live.proofs.Whole.{leads_to, ready_next, went_on}
 use Rattle.kfifo_live.proofs.dequeue.scan_head.Goals as goal
 
-pub scan_row-requires-clause-row : goal.scan_row-requires-clause-row
-scan_row-requires-clause-row c =
-    upper_row c.args.shape.now (head_of c.args.ends) c.args.demand.start c.slot_index-first.result (c.k.result - c.args.demand.start) c.args.shape.now.k (c.slot_index-first.ensures.value ∙ ap (λ s. slot_at c.args.shape.now.k s 0) c.head.ensures.value) c.requires.ends.head
-    (omega arith) (omega arith) (omega arith)
+pub load-word-requires-clause-access : goal.load-word-requires-clause-access
+load-word-requires-clause-access c =
+    let first : c.slot_index-first.result ≡ slot_at c.args.shape.now.k (head_of c.args.ends) 0 = c.slot_index-first.ensures.value ∙ ap (λ s. slot_at c.args.shape.now.k s 0) c.head.ensures.value in
+    let index = index_is c.args.shape.now (head_of c.args.ends) c.args.demand.start 0 c.slot_index-first.result c.args.demand.start first (at_start c.args.shape.now.k c.args.demand.start c.requires.start) in
+    rw (c.at-place.ensures, index) refl
 
-pub scan_row-requires-in-Nothing-clause-row : goal.scan_row-requires-in-Nothing-clause-row
-scan_row-requires-in-Nothing-clause-row c =
-    lower_row c.args.shape.now (head_of c.args.ends) c.args.demand.start (c.k.result - c.args.demand.start) c.slot_index-first.result c.args.demand.start c.args.shape.now.k (c.slot_index-first.ensures.value ∙ ap (λ s. slot_at c.args.shape.now.k s 0) c.head.ensures.value) c.requires.ends.head
-    (omega arith) (omega arith) (omega arith) (omega arith) c.requires.start
+pub returns-then-value-ne0 : goal.returns-then-value-ne0
+returns-then-value-ne0 c =
+    let first : c.slot_index-first.result ≡ slot_at c.args.shape.now.k (head_of c.args.ends) 0 = c.slot_index-first.ensures.value ∙ ap (λ s. slot_at c.args.shape.now.k s 0) c.head.ensures.value in
+    let index = index_is c.args.shape.now (head_of c.args.ends) c.args.demand.start 0 c.slot_index-first.result c.args.demand.start first (at_start c.args.shape.now.k c.args.demand.start c.requires.start) in
+    let e : advance c.args.shape.now (R.Dequeue c.args.demand.start c.args.demand.left (D.ScanHead c.args.ends 0)) c.load-word.result ≡ Goes (R.Dequeue c.args.demand.start c.args.demand.left (D.Recheck c.args.ends (Slot (scan_index c.args.shape.now (head_of c.args.ends) c.args.demand.start 0) c.load-word.result))) = grind (arith, nat_tests) in
+    leads_to _ _ _ _ _ _ _ _ _ _ _ c.at-place.ensures c.requires.ready c.load-word.ensures (rw (← index) e)
 
-pub scan_row-requires-in-Nothing-clause-ready : goal.scan_row-requires-in-Nothing-clause-ready
-scan_row-requires-in-Nothing-clause-ready c =
-    let on = head_on c.args.demand.start c.args.demand.left c.args.ends (0 + (c.k.result - c.args.demand.start)) (c.k.result - c.args.demand.start) c.args.shape.now.k (λ same. (omega arith)) (zero-add (c.k.result - c.args.demand.start)) in
-    ready_next _ _ _ _ _ _ _ _ _ c.requires.ready (rw on at c.in-Nothing.ensures)
+pub returns-then-k-eq1 : goal.returns-then-k-eq1
+returns-then-k-eq1 c =
+    let e : advance c.args.shape.now (R.Dequeue c.args.demand.start c.args.demand.left (D.ScanHead c.args.ends 0)) c.load-word.result ≡ Goes (R.Dequeue c.args.demand.start c.args.demand.left (D.Recheck c.args.ends Nothing)) = grind (arith, nat_tests) in
+    leads_to _ _ _ _ _ _ _ _ _ _ _ c.at-place.ensures c.requires.ready c.load-word.ensures e
 
-pub returns-else-start-eq0 : goal.returns-else-start-eq0
-returns-else-start-eq0 c =
-    let on = head_on c.args.demand.start c.args.demand.left c.args.ends (0 + (c.k.result - c.args.demand.start)) (c.k.result - c.args.demand.start) c.args.shape.now.k (λ same. (omega arith)) (zero-add (c.k.result - c.args.demand.start)) in
-    let over = head_over c.args.demand.start c.args.demand.left c.args.ends ((c.k.result - c.args.demand.start) + c.args.demand.start) c.args.shape.now.k c.scan_row-in-Nothing.result (omega arith) in
-    went_on _ _ _ _ _ _ _ _ _ (rw on at c.in-Nothing.ensures) (rw over at c.scan_row-in-Nothing.ensures)
+pub scan_rest-requires-clause-ready : goal.scan_rest-requires-clause-ready
+scan_rest-requires-clause-ready c =
+    let e : advance c.args.shape.now (R.Dequeue c.args.demand.start c.args.demand.left (D.ScanHead c.args.ends 0)) c.load-word.result ≡ Goes (R.Dequeue c.args.demand.start c.args.demand.left (D.ScanHead c.args.ends 1)) = grind (arith, nat_tests) in
+    ready_next _ _ _ _ _ _ _ _ _ c.requires.ready (leads_to _ _ _ _ _ _ _ _ _ _ _ c.at-place.ensures c.requires.ready c.load-word.ensures e)
+
+pub returns : goal.returns
+returns c =
+    let e : advance c.args.shape.now (R.Dequeue c.args.demand.start c.args.demand.left (D.ScanHead c.args.ends 0)) c.load-word.result ≡ Goes (R.Dequeue c.args.demand.start c.args.demand.left (D.ScanHead c.args.ends 1)) = grind (arith, nat_tests) in
+    went_on _ _ _ _ _ _ _ _ _ (leads_to _ _ _ _ _ _ _ _ _ _ _ c.at-place.ensures c.requires.ready c.load-word.ensures e) c.scan_rest.ensures

@@ -80,8 +80,8 @@ returns-then-value-ne0-3 c =
     let e : advance c.args.shape.now (R.Dequeue c.args.demand.start c.args.demand.left (D.ScanHead c.args.ends c.pairs.seen)) c.load-word-2.result ≡ Goes (R.Dequeue c.args.demand.start c.args.demand.left (D.Recheck c.args.ends (Slot (scan_index c.args.shape.now (head_of c.args.ends) c.args.demand.start c.pairs.seen) c.load-word-2.result))) = grind (arith, nat_tests) in
     c.pairs.invariant.so_far _ _ _ (leads_to _ _ _ _ _ _ _ _ _ _ _ c.at-place-2.ensures c.pairs.invariant.ready c.load-word-2.ensures (rw (← index) e))
 
-pub returns-then-at-end : goal.returns-then-at-end
-returns-then-at-end c =
+pub returns-then-at-stop : goal.returns-then-at-stop
+returns-then-at-stop c =
     let end : (c.pairs.seen + 1) ≡ (c.args.row.offset + c.args.row.count) = (let a = c.pairs.invariant.at in omega arith) in
     let e : advance c.args.shape.now (R.Dequeue c.args.demand.start c.args.demand.left (D.ScanHead c.args.ends c.pairs.seen)) c.load-word-2.result ≡ past_row (Goes (R.Dequeue c.args.demand.start c.args.demand.left (D.Recheck c.args.ends Nothing))) (Goes (R.Dequeue c.args.demand.start c.args.demand.left (D.ScanHead c.args.ends (c.pairs.seen + 1)))) (c.pairs.seen + 1) c.args.shape.now.k = grind (arith, nat_tests) in
     c.pairs.invariant.so_far _ _ _ (leads_to _ _ _ _ _ _ _ _ _ _ _ c.at-place-2.ensures c.pairs.invariant.ready c.load-word-2.ensures (e ∙ ap (λ (n : ℕ). past_row (Goes (R.Dequeue c.args.demand.start c.args.demand.left (D.Recheck c.args.ends Nothing))) (Goes (R.Dequeue c.args.demand.start c.args.demand.left (D.ScanHead c.args.ends n))) n c.args.shape.now.k) end))

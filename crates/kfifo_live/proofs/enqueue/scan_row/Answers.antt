@@ -80,8 +80,8 @@ returns-then-value-eq0-3 c =
     let e : advance c.args.shape.now (R.Enqueue c.args.offer.item c.args.offer.start c.args.offer.left (E.ScanTail c.args.ends c.pairs.seen)) c.load-word-2.result ≡ Goes (R.Enqueue c.args.offer.item c.args.offer.start c.args.offer.left (E.Recheck c.args.ends (Slot (scan_index c.args.shape.now (tail_of c.args.ends) c.args.offer.start c.pairs.seen) c.load-word-2.result))) = grind (arith, nat_tests) in
     c.pairs.invariant.so_far _ _ _ (leads_to _ _ _ _ _ _ _ _ _ _ _ c.at-place-2.ensures c.pairs.invariant.ready c.load-word-2.ensures (rw (← index) e))
 
-pub returns-then-at-end : goal.returns-then-at-end
-returns-then-at-end c =
+pub returns-then-at-stop : goal.returns-then-at-stop
+returns-then-at-stop c =
     let end : (c.pairs.seen + 1) ≡ (c.args.row.offset + c.args.row.count) = (let a = c.pairs.invariant.at in omega arith) in
     let e : advance c.args.shape.now (R.Enqueue c.args.offer.item c.args.offer.start c.args.offer.left (E.ScanTail c.args.ends c.pairs.seen)) c.load-word-2.result ≡ past_row (Goes (R.Enqueue c.args.offer.item c.args.offer.start c.args.offer.left (E.Recheck c.args.ends Nothing))) (Goes (R.Enqueue c.args.offer.item c.args.offer.start c.args.offer.left (E.ScanTail c.args.ends (c.pairs.seen + 1)))) (c.pairs.seen + 1) c.args.shape.now.probes = grind (arith, nat_tests) in
     c.pairs.invariant.so_far _ _ _ (leads_to _ _ _ _ _ _ _ _ _ _ _ c.at-place-2.ensures c.pairs.invariant.ready c.load-word-2.ensures (e ∙ ap (λ (n : ℕ). past_row (Goes (R.Enqueue c.args.offer.item c.args.offer.start c.args.offer.left (E.Recheck c.args.ends Nothing))) (Goes (R.Enqueue c.args.offer.item c.args.offer.start c.args.offer.left (E.ScanTail c.args.ends n))) n c.args.shape.now.probes) end))

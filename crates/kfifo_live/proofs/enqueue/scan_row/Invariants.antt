@@ -16,10 +16,10 @@ abbrev pub invariant-pairs : goal.invariant-pairs
 invariant-pairs l = record {
   at : l.at + l.fn.row.offset ≡ l.fn.row.index + l.seen;
   from : l.fn.row.index ≤ l.at;
-  inside : l.at < l.end;
+  inside : l.at < l.fn.row.index + l.fn.row.count;
   ready : Ready l.shared.table_id l.shape None (R.Enqueue l.fn.offer.item l.fn.offer.start l.fn.offer.left (E.ScanTail l.ends l.seen)) l.seat.table_id l.seat.me.0;
   so_far : (next : Next) (table : TableId) (me : Me (Unit {0}) View) → Went None l.seat.table_id l.seat.me next table me → Went None l.fn.seat.table_id l.fn.seat.me next table me;
 }
 
 abbrev pub decreases-pairs : goal.decreases-pairs
-decreases-pairs l = l.end - l.at
+decreases-pairs l = l.fn.row.index + l.fn.row.count - l.at
