@@ -1,16 +1,17 @@
 -- Where a scan of a segment stands.
-use Rattle.std.proofs.Common.{◌≡◌, ℕ, ◌+◌, ◌-◌, ◌*◌, ◌%◌, ◌<◌, ◌≤◌, ◌≢◌, ap, ◌∙◌, sym, refl, zero-add, arith, cond, eq-eqb, ne_eqb}
+use Rattle.std.proofs.Common.{◌≡◌, ℕ, ◌+◌, ◌-◌, ◌*◌, ◌%◌, ◌<◌, ◌≤◌, ◌≢◌, ap, ◌∙◌, sym, refl, zero-add, arith, Bool, true, false, cond, eqb, eq-eqb, ne_eqb}
 use Rattle.std.proofs.Math.Nat.{mod-eq_of_lt, add-mod_left, mul-le-mul_right}
 use Rattle.kfifo_words.specs.declared.shape.Shape.{Shape}
 use Rattle.kfifo_words.specs.Ring.{slot_at}
 use Rattle.kfifo_machine.specs.Program.{scan_index}
 use Rattle.kfifo_machine.specs.declared.place.Next.TheVariants.{Goes}
+use Rattle.kfifo_machine.specs.declared.place.Running.{Running}
 use Rattle.kfifo_machine.specs.declared.place.Running.TheVariants as R
 use Rattle.kfifo_machine.specs.declared.place.EnqueuePhase.TheVariants as E
 use Rattle.kfifo_machine.specs.declared.place.DequeuePhase.TheVariants as D
 use Rattle.kfifo_machine.specs.declared.place.Found.{Found}
 use Rattle.kfifo_machine.specs.declared.place.Found.TheVariants.{Slot, Nothing}
-use Rattle.kfifo_live.specs.Step.{SlotsInARow, tail_scanned, head_scanned}
+use Rattle.kfifo_live.specs.Step.{SlotsInARow, tail_seen, head_seen, tail_scanned, head_scanned}
 
 -- the index of a slot of a row, by the number of slots seen before it
 pub row_at : {shape : Shape} {segment start offset index count limit : ℕ} → SlotsInARow shape segment start offset index count limit
@@ -31,28 +32,28 @@ pub from_first : (k offset : ℕ) → offset < k → offset ≡ (0 + offset) % k
 from_first k offset within = sym (ap (λ n. n % k) (zero-add offset) ∙ mod-eq_of_lt within)
 
 -- the slots from a scan's place on, as far as the end of the segment
-pub upper_row : (shape : Shape) (segment start offset first count limit : ℕ) → first ≡ slot_at shape.k segment 0 → segment < shape.n → start + offset + count ≤ shape.k → offset + count ≤ limit → 0 < count
+pub upper_row : (shape : Shape) (segment start offset first count limit : ℕ) → first ≡ slot_at shape.k segment 0 → segment < shape.n → start + offset + count ≤ shape.k → offset < limit → offset + count ≤ limit
     → SlotsInARow shape segment start offset (first + start + offset) count limit
 unfolding scan_index
-upper_row shape segment start offset first count limit at inside fits within some =
+upper_row shape segment start offset first count limit at inside fits more within =
     let few : segment * shape.k ≤ 1024 * shape.k = mul-le-mul_right shape.k (let s = shape.few_segments in omega arith) in
     record {
-      some = some;
       above = omega arith;
+      more = more;
       within = within;
       below = (let k = shape.few_slots in omega arith);
       each = λ i less. (let here : (start + (offset + i)) % shape.k ≡ start + (offset + i) = mod-eq_of_lt (omega arith) in omega (arith, at, here));
     }
 
 -- the slots before the start, which come behind those
-pub lower_row : (shape : Shape) (segment start offset first count limit : ℕ) → first ≡ slot_at shape.k segment 0 → segment < shape.n → start + offset ≡ shape.k → count ≤ start → offset + count ≤ limit → 0 < count → start < shape.k
+pub lower_row : (shape : Shape) (segment start offset first count limit : ℕ) → first ≡ slot_at shape.k segment 0 → segment < shape.n → start + offset ≡ shape.k → count ≤ start → offset < limit → offset + count ≤ limit → start < shape.k
     → SlotsInARow shape segment start offset first count limit
 unfolding scan_index
-lower_row shape segment start offset first count limit at inside upper few_left within some below =
+lower_row shape segment start offset first count limit at inside upper few_left more within below =
     let few : segment * shape.k ≤ 1024 * shape.k = mul-le-mul_right shape.k (let s = shape.few_segments in omega arith) in
     record {
-      some = some;
       above = omega arith;
+      more = more;
       within = within;
       below = (let k = shape.few_slots in omega arith);
       each = λ i less.
@@ -61,27 +62,36 @@ lower_row shape segment start offset first count limit at inside upper few_left 
           omega (arith, at, here));
     }
 
--- where a scan of all slots leads
-pub tail_over : (item start left ends offset limit : ℕ) (found : Found) → offset ≡ limit → tail_scanned item start left ends offset limit found ≡ Goes (R.Enqueue item start left (E.Recheck ends found))
-tail_over item start left ends offset limit (Slot index word) is = refl
-tail_over item start left ends offset limit Nothing is =
-    ap (λ b. cond b (Goes (R.Enqueue item start left (E.Recheck ends Nothing))) (Goes (R.Enqueue item start left (E.ScanTail ends offset)))) (eq-eqb offset limit is)
+either_goes : (b : Bool) (x y : Running) → (r : Running) × (cond b (Goes x) (Goes y) ≡ Goes r)
+either_goes true x y = (x, refl)
+either_goes false x y = (y, refl)
 
-pub head_over : (start left ends offset limit : ℕ) (found : Found) → offset ≡ limit → head_scanned start left ends offset limit found ≡ Goes (R.Dequeue start left (D.Recheck ends found))
-head_over start left ends offset limit (Slot index word) is = refl
-head_over start left ends offset limit Nothing is =
-    ap (λ b. cond b (Goes (R.Dequeue start left (D.Recheck ends Nothing))) (Goes (R.Dequeue start left (D.ScanHead ends offset)))) (eq-eqb offset limit is)
+-- a scan in vain goes on
+pub tail_goes : (item start left ends limit seen : ℕ) → (r : Running) × (tail_seen item start left ends limit seen ≡ Goes r)
+tail_goes item start left ends limit seen = either_goes (eqb seen limit) _ _
 
--- and where a scan of the first slots leads that found none
-pub tail_on : (item start left ends offset next limit : ℕ) → offset ≢ limit → offset ≡ next → tail_scanned item start left ends offset limit Nothing ≡ Goes (R.Enqueue item start left (E.ScanTail ends next))
-tail_on item start left ends offset next limit apart is =
-    ap (λ b. cond b (Goes (R.Enqueue item start left (E.Recheck ends Nothing))) (Goes (R.Enqueue item start left (E.ScanTail ends offset)))) (ne_eqb offset limit apart)
-    ∙ ap (λ (n : ℕ). Goes (R.Enqueue item start left (E.ScanTail ends n))) is
+pub head_goes : (start left ends limit seen : ℕ) → (r : Running) × (head_seen start left ends limit seen ≡ Goes r)
+head_goes start left ends limit seen = either_goes (eqb seen limit) _ _
 
-pub head_on : (start left ends offset next limit : ℕ) → offset ≢ limit → offset ≡ next → head_scanned start left ends offset limit Nothing ≡ Goes (R.Dequeue start left (D.ScanHead ends next))
-head_on start left ends offset next limit apart is =
-    ap (λ b. cond b (Goes (R.Dequeue start left (D.Recheck ends Nothing))) (Goes (R.Dequeue start left (D.ScanHead ends offset)))) (ne_eqb offset limit apart)
-    ∙ ap (λ (n : ℕ). Goes (R.Dequeue start left (D.ScanHead ends n))) is
+-- while slots are left it goes on to the next one
+pub tail_more : (item start left ends limit seen : ℕ) → seen < limit → tail_seen item start left ends limit seen ≡ Goes (R.Enqueue item start left (E.ScanTail ends seen))
+tail_more item start left ends limit seen less =
+    ap (λ b. cond b (Goes (R.Enqueue item start left (E.Recheck ends Nothing))) (Goes (R.Enqueue item start left (E.ScanTail ends seen)))) (ne_eqb seen limit (λ same. omega arith))
+
+pub head_more : (start left ends limit seen : ℕ) → seen < limit → head_seen start left ends limit seen ≡ Goes (R.Dequeue start left (D.ScanHead ends seen))
+head_more start left ends limit seen less =
+    ap (λ b. cond b (Goes (R.Dequeue start left (D.Recheck ends Nothing))) (Goes (R.Dequeue start left (D.ScanHead ends seen)))) (ne_eqb seen limit (λ same. omega arith))
+
+-- and when all are seen, to the second look at the ends word
+pub tail_over : (item start left ends limit seen : ℕ) (found : Found) → seen ≡ limit → tail_scanned item start left ends limit seen found ≡ Goes (R.Enqueue item start left (E.Recheck ends found))
+tail_over item start left ends limit seen (Slot index word) is = refl
+tail_over item start left ends limit seen Nothing is =
+    ap (λ b. cond b (Goes (R.Enqueue item start left (E.Recheck ends Nothing))) (Goes (R.Enqueue item start left (E.ScanTail ends seen)))) (eq-eqb seen limit is)
+
+pub head_over : (start left ends limit seen : ℕ) (found : Found) → seen ≡ limit → head_scanned start left ends limit seen found ≡ Goes (R.Dequeue start left (D.Recheck ends found))
+head_over start left ends limit seen (Slot index word) is = refl
+head_over start left ends limit seen Nothing is =
+    ap (λ b. cond b (Goes (R.Dequeue start left (D.Recheck ends Nothing))) (Goes (R.Dequeue start left (D.ScanHead ends seen)))) (eq-eqb seen limit is)
 
 -- a scan begins at its start
 pub at_start : (k start : ℕ) → start < k → start ≡ (start + 0) % k

@@ -4,7 +4,7 @@ ghost use Rattle.kfifo_words.specs.Words.{version_of, head_of};
 ghost use Rattle.kfifo_words.specs.Ring.{slot_at};
 ghost use Rattle.kfifo_machine.specs.Program.{dequeue_again};
 ghost use Rattle.kfifo_machine.specs.Places.{IsEnds};
-ghost use Rattle.kfifo_live.specs.Step.{Ready, Rests, Went, next_of, SlotsInARow, head_scanned};
+ghost use Rattle.kfifo_live.specs.Step.{Ready, Rests, Went, Onward, next_of, SlotsInARow, head_scanned};
 
 use crate::law::Law;
 use crate::scan::Row;
@@ -49,7 +49,7 @@ impl Demand {
     }
 }
 
-/// Looks for a filled slot among slots in a row, two at a time.
+/// Looks for a filled slot among slots in a row, which may be none, two at a time.
 #[inline]
 fn scan_row(
     shared: &Shared<(), View, Opening, Law>,
@@ -61,16 +61,20 @@ fn scan_row(
 ) -> Found
     requires row { SlotsInARow shape.now (head_of ends) demand.start row.offset row.index row.count shape.now.k }
     requires ready { Ready shared.now.table_id shape.now None (Running.Dequeue demand.start demand.left (DequeuePhase.ScanHead ends row.offset)) seat.old.table_id seat.old.me.0 }
-    ensures { Went None seat.old.table_id seat.old.me (head_scanned demand.start demand.left ends (row.offset + row.count) shape.now.k result) seat.new.table_id seat.new.me }
+    ensures { Onward shared.now.table_id shape.now (head_scanned demand.start demand.left ends shape.now.k (row.offset + row.count) result) seat.old.table_id seat.old.me seat.new.table_id seat.new.me }
 {
-    let stop = row.index + row.count as usize - 2;
+    let end = row.index + row.count as usize;
+    let last = end - 1;
     let mut at = row.index;
     let mut seen = row.offset;
-    'pairs: while at < stop {
+    'pairs: while at != end {
         let place = demand.at(DequeuePhase::ScanHead { ends, offset: seen });
         let word = load::<Brand>(shared, seat, shape, None, place, at);
         if word.value() != 0 {
             return Found::Slot { index: at, word };
+        }
+        if at == last {
+            return Found::Nothing;
         }
         let place = demand.at(DequeuePhase::ScanHead { ends, offset: seen + 1 });
         let word = load::<Brand>(shared, seat, shape, None, place, at + 1);
@@ -79,19 +83,6 @@ fn scan_row(
         }
         at += 2;
         seen += 2;
-    }
-    let place = demand.at(DequeuePhase::ScanHead { ends, offset: seen });
-    let word = load::<Brand>(shared, seat, shape, None, place, at);
-    if word.value() != 0 {
-        return Found::Slot { index: at, word };
-    }
-    if at > stop {
-        return Found::Nothing;
-    }
-    let place = demand.at(DequeuePhase::ScanHead { ends, offset: seen + 1 });
-    let word = load::<Brand>(shared, seat, shape, None, place, at + 1);
-    if word.value() != 0 {
-        return Found::Slot { index: at + 1, word };
     }
     Found::Nothing
 }
@@ -111,13 +102,10 @@ fn scan_rest(
     requires first { first ≡ slot_at shape.now.k (head_of ends) 0 }
     requires more { 1 < shape.now.k }
     requires ready { Ready shared.now.table_id shape.now None (Running.Dequeue demand.start demand.left (DequeuePhase.ScanHead ends 1)) seat.old.table_id seat.old.me.0 }
-    ensures { Went None seat.old.table_id seat.old.me (Next.Goes (Running.Dequeue demand.start demand.left (DequeuePhase.Recheck ends result))) seat.new.table_id seat.new.me }
+    ensures { Onward shared.now.table_id shape.now (Next.Goes (Running.Dequeue demand.start demand.left (DequeuePhase.Recheck ends result))) seat.old.table_id seat.old.me seat.new.table_id seat.new.me }
 {
     let start = demand.start;
     let upper = shape.k() - start - 1;
-    if upper == 0 {
-        return scan_row(shared, seat, shape, demand, ends, Row { offset: 1, index: first, count: start });
-    }
     let row = Row { offset: 1, index: first + start as usize + 1, count: upper };
     match scan_row(shared, seat, shape, demand, ends, row) {
         Found::Slot { index, word } => Found::Slot { index, word },
@@ -143,7 +131,7 @@ fn scan_head(
     requires start { demand.start < shape.now.k }
     requires ends { IsEnds shape.now ends }
     requires ready { Ready shared.now.table_id shape.now None (Running.Dequeue demand.start demand.left (DequeuePhase.ScanHead ends 0)) seat.old.table_id seat.old.me.0 }
-    ensures { Went None seat.old.table_id seat.old.me (Next.Goes (Running.Dequeue demand.start demand.left (DequeuePhase.Recheck ends result))) seat.new.table_id seat.new.me }
+    ensures { Onward shared.now.table_id shape.now (Next.Goes (Running.Dequeue demand.start demand.left (DequeuePhase.Recheck ends result))) seat.old.table_id seat.old.me seat.new.table_id seat.new.me }
 {
     let first = shape.slot_index(ends.head(), 0);
     let index = first + demand.start as usize;
@@ -178,11 +166,10 @@ fn take(
         filled,
     });
     let emptied = Word::pack(0, filled.version() + 1);
-    if exchange::<Brand>(shared, seat, shape, place, index, filled, emptied) == filled {
-        Some(Answer::Got(filled.value()))
-    } else {
-        demand.lost()
+    if exchange::<Brand>(shared, seat, shape, place, index, filled, emptied) != filled {
+        return demand.lost();
     }
+    Some(Answer::Got(filled.value()))
 }
 
 /// Goes on from a filled slot of the head's segment, if head and tail stand as before.

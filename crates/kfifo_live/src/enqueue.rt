@@ -4,7 +4,7 @@ ghost use Rattle.kfifo_words.specs.Words.{version_of, tail_of};
 ghost use Rattle.kfifo_words.specs.Ring.{slot_at};
 ghost use Rattle.kfifo_machine.specs.Program.{enqueue_again};
 ghost use Rattle.kfifo_machine.specs.Places.{IsEnds, IsSlotIndex};
-ghost use Rattle.kfifo_live.specs.Step.{Ready, Rests, Went, next_of, SlotsInARow, tail_scanned};
+ghost use Rattle.kfifo_live.specs.Step.{Ready, Rests, Went, Onward, next_of, SlotsInARow, tail_scanned};
 
 use crate::law::Law;
 use crate::scan::Row;
@@ -51,7 +51,7 @@ impl Offer {
     }
 }
 
-/// Looks for an empty slot among slots in a row, two at a time.
+/// Looks for an empty slot among slots in a row, which may be none, two at a time.
 #[inline]
 fn scan_row(
     shared: &Shared<(), View, Opening, Law>,
@@ -63,16 +63,20 @@ fn scan_row(
 ) -> Found
     requires row { SlotsInARow shape.now (tail_of ends) offer.start row.offset row.index row.count shape.now.probes }
     requires ready { Ready shared.now.table_id shape.now None (Running.Enqueue offer.item offer.start offer.left (EnqueuePhase.ScanTail ends row.offset)) seat.old.table_id seat.old.me.0 }
-    ensures { Went None seat.old.table_id seat.old.me (tail_scanned offer.item offer.start offer.left ends (row.offset + row.count) shape.now.probes result) seat.new.table_id seat.new.me }
+    ensures { Onward shared.now.table_id shape.now (tail_scanned offer.item offer.start offer.left ends shape.now.probes (row.offset + row.count) result) seat.old.table_id seat.old.me seat.new.table_id seat.new.me }
 {
-    let stop = row.index + row.count as usize - 2;
+    let end = row.index + row.count as usize;
+    let last = end - 1;
     let mut at = row.index;
     let mut seen = row.offset;
-    'pairs: while at < stop {
+    'pairs: while at != end {
         let place = offer.at(EnqueuePhase::ScanTail { ends, offset: seen });
         let word = load::<Brand>(shared, seat, shape, None, place, at);
         if word.value() == 0 {
             return Found::Slot { index: at, word };
+        }
+        if at == last {
+            return Found::Nothing;
         }
         let place = offer.at(EnqueuePhase::ScanTail { ends, offset: seen + 1 });
         let word = load::<Brand>(shared, seat, shape, None, place, at + 1);
@@ -81,19 +85,6 @@ fn scan_row(
         }
         at += 2;
         seen += 2;
-    }
-    let place = offer.at(EnqueuePhase::ScanTail { ends, offset: seen });
-    let word = load::<Brand>(shared, seat, shape, None, place, at);
-    if word.value() == 0 {
-        return Found::Slot { index: at, word };
-    }
-    if at > stop {
-        return Found::Nothing;
-    }
-    let place = offer.at(EnqueuePhase::ScanTail { ends, offset: seen + 1 });
-    let word = load::<Brand>(shared, seat, shape, None, place, at + 1);
-    if word.value() == 0 {
-        return Found::Slot { index: at + 1, word };
     }
     Found::Nothing
 }
@@ -113,14 +104,11 @@ fn scan_rest(
     requires first { first ≡ slot_at shape.now.k (tail_of ends) 0 }
     requires more { 1 < shape.now.probes }
     requires ready { Ready shared.now.table_id shape.now None (Running.Enqueue offer.item offer.start offer.left (EnqueuePhase.ScanTail ends 1)) seat.old.table_id seat.old.me.0 }
-    ensures { Went None seat.old.table_id seat.old.me (Next.Goes (Running.Enqueue offer.item offer.start offer.left (EnqueuePhase.Recheck ends result))) seat.new.table_id seat.new.me }
+    ensures { Onward shared.now.table_id shape.now (Next.Goes (Running.Enqueue offer.item offer.start offer.left (EnqueuePhase.Recheck ends result))) seat.old.table_id seat.old.me seat.new.table_id seat.new.me }
 {
     let start = offer.start;
     let rest = shape.probes() - 1;
     let upper = rest.min(shape.k() - start - 1);
-    if upper == 0 {
-        return scan_row(shared, seat, shape, offer, ends, Row { offset: 1, index: first, count: rest });
-    }
     let row = Row { offset: 1, index: first + start as usize + 1, count: upper };
     match scan_row(shared, seat, shape, offer, ends, row) {
         Found::Slot { index, word } => Found::Slot { index, word },
@@ -146,7 +134,7 @@ fn scan_tail(
     requires start { offer.start < shape.now.k }
     requires ends { IsEnds shape.now ends }
     requires ready { Ready shared.now.table_id shape.now None (Running.Enqueue offer.item offer.start offer.left (EnqueuePhase.ScanTail ends 0)) seat.old.table_id seat.old.me.0 }
-    ensures { Went None seat.old.table_id seat.old.me (Next.Goes (Running.Enqueue offer.item offer.start offer.left (EnqueuePhase.Recheck ends result))) seat.new.table_id seat.new.me }
+    ensures { Onward shared.now.table_id shape.now (Next.Goes (Running.Enqueue offer.item offer.start offer.left (EnqueuePhase.Recheck ends result))) seat.old.table_id seat.old.me seat.new.table_id seat.new.me }
 {
     let first = shape.slot_index(ends.tail(), 0);
     let index = first + offer.start as usize;
@@ -222,7 +210,8 @@ fn settle(
     let segment = ends.tail();
     let head = now.head();
     if segment != head {
-        if shape.dist(head, segment) <= shape.dist(head, now.tail()) {
+        let tail = now.tail();
+        if segment == tail || shape.dist(head, segment) <= shape.dist(head, tail) {
             return Some(Answer::Done);
         }
         return undo(shared, seat, shape, offer, index, filled, false);

@@ -1,9 +1,7 @@
 -- The slots behind the start, and then those before it.
 use Rattle.std.proofs.Common.{◌≡◌, ◌+◌, ◌-◌, ℕ, refl, arith, Option, Some, None, true, false, sym, ap, ◌∙◌, cond}
 use Rattle.std.proofs.lemmas.Bool.Decides.{nat_tests}
-use Rattle.std.proofs.Common.{zero-add}
 use Rattle.kfifo_words.specs.Words.{head_of, tail_of}
-use Rattle.kfifo_words.specs.Ring.{slot_at}
 use Rattle.kfifo_model.specs.declared.calls.Answer.TheVariants as A
 use Rattle.kfifo_machine.specs.declared.place.Running.{Running}
 use Rattle.kfifo_machine.specs.declared.place.Running.TheVariants as R
@@ -12,17 +10,12 @@ use Rattle.kfifo_machine.specs.declared.place.DequeuePhase.TheVariants as D
 use Rattle.kfifo_machine.specs.declared.place.Found.TheVariants.{Slot, Nothing}
 use Rattle.kfifo_machine.specs.declared.place.Next.TheVariants.{Goes, Answers}
 use Rattle.kfifo_machine.specs.Program.{advance, filled_with}
-use Rattle.kfifo_live.proofs.Scans.{upper_row, lower_row, head_on, head_over}
-use Rattle.kfifo_live.proofs.Whole.{leads_to, ready_next, went_on}
+use Rattle.kfifo_live.proofs.Scans.{upper_row, lower_row, head_more, head_over}
+use Rattle.kfifo_live.proofs.Whole.{onward_on}
 use Rattle.kfifo_live.proofs.dequeue.scan_rest.Goals as goal
 
 pub scan_row-requires-clause-row : goal.scan_row-requires-clause-row
 scan_row-requires-clause-row c =
-    lower_row c.args.shape.now (head_of c.args.ends) c.args.demand.start 1 c.args.first c.args.demand.start c.args.shape.now.k c.requires.first c.requires.ends.head
-    (omega arith) (omega arith) (omega arith) (omega arith) c.requires.start
-
-pub scan_row-requires-2-clause-row : goal.scan_row-requires-2-clause-row
-scan_row-requires-2-clause-row c =
     upper_row c.args.shape.now (head_of c.args.ends) c.args.demand.start 1 c.args.first (c.k.result - c.args.demand.start - 1) c.args.shape.now.k c.requires.first c.requires.ends.head
     (omega arith) (omega arith) (omega arith)
 
@@ -33,11 +26,16 @@ scan_row-requires-in-Nothing-clause-row c =
 
 pub scan_row-requires-in-Nothing-clause-ready : goal.scan_row-requires-in-Nothing-clause-ready
 scan_row-requires-in-Nothing-clause-ready c =
-    let on = head_on c.args.demand.start c.args.demand.left c.args.ends (1 + (c.k.result - c.args.demand.start - 1)) ((c.k.result - c.args.demand.start - 1) + 1) c.args.shape.now.k (λ same. (omega arith)) (omega arith) in
-    ready_next _ _ _ _ _ _ _ _ _ c.requires.ready (rw on at c.in-Nothing.ensures)
+    let turned : 1 + (c.k.result - c.args.demand.start - 1) ≡ (c.k.result - c.args.demand.start - 1) + 1 = omega arith in
+    let is = head_more c.args.demand.start c.args.demand.left c.args.ends c.args.shape.now.k (1 + (c.k.result - c.args.demand.start - 1)) (omega arith) ∙ ap (λ (n : ℕ). Goes (R.Dequeue c.args.demand.start c.args.demand.left (D.ScanHead c.args.ends n))) turned in
+    c.in-Nothing.ensures.ready _ is
+
+pub returns-then-start-eq0 : goal.returns-then-start-eq0
+returns-then-start-eq0 c =
+    let over = head_over c.args.demand.start c.args.demand.left c.args.ends c.args.shape.now.k (1 + (c.k.result - c.args.demand.start - 1)) Nothing (omega arith) in
+    rw over at c.in-Nothing.ensures
 
 pub returns-else-start-eq0 : goal.returns-else-start-eq0
 returns-else-start-eq0 c =
-    let on = head_on c.args.demand.start c.args.demand.left c.args.ends (1 + (c.k.result - c.args.demand.start - 1)) ((c.k.result - c.args.demand.start - 1) + 1) c.args.shape.now.k (λ same. (omega arith)) (omega arith) in
-    let over = head_over c.args.demand.start c.args.demand.left c.args.ends ((c.k.result - c.args.demand.start - 1) + 1 + c.args.demand.start) c.args.shape.now.k c.scan_row-in-Nothing.result (omega arith) in
-    went_on _ _ _ _ _ _ _ _ _ (rw on at c.in-Nothing.ensures) (rw over at c.scan_row-in-Nothing.ensures)
+    let over = head_over c.args.demand.start c.args.demand.left c.args.ends c.args.shape.now.k ((c.k.result - c.args.demand.start - 1) + 1 + c.args.demand.start) c.scan_row-in-Nothing.result (omega arith) in
+    onward_on _ _ _ _ _ _ _ _ _ _ c.in-Nothing.ensures (rw over at c.scan_row-in-Nothing.ensures)

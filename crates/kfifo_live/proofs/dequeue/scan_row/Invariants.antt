@@ -1,24 +1,17 @@
-use Rattle.std.proofs.Common.{◌≡◌, ℕ, ◌+◌, ◌-◌, ◌≤◌, ◌<◌, Option, None}
-use Rattle.atomic_table.specs.Table.{Me}
-use Rattle.atomic_table.specs.Seated.{TableId}
-use Rattle.kfifo_machine.specs.declared.place.Next.{Next}
-use Rattle.kfifo_machine.specs.declared.place.Running.TheVariants as R
-use Rattle.kfifo_machine.specs.declared.place.DequeuePhase.TheVariants as D
-use Rattle.kfifo_live.specs.declared.view.View.{View}
-use Rattle.kfifo_live.specs.Step.{Ready, Went}
+use Rattle.std.proofs.Common.{◌≡◌, ◌+◌, ◌-◌, ◌≤◌}
+use Rattle.kfifo_live.specs.Step.{Onward, head_seen}
 use Rattle.kfifo_live.proofs.dequeue.scan_row.Given as goal
 
 abbrev pub ghosts-load : goal.ghosts-load
 ghosts-load a = record { begin = a.begin; place = a.running }
 
--- where the scan stands, and that whatever follows from here follows from its beginning
+-- where the scan stands, and what it has seen in vain
 abbrev pub invariant-pairs : goal.invariant-pairs
 invariant-pairs l = record {
   at : l.at + l.fn.row.offset ≡ l.fn.row.index + l.seen;
   from : l.fn.row.index ≤ l.at;
-  inside : l.at < l.fn.row.index + l.fn.row.count;
-  ready : Ready l.shared.table_id l.shape None (R.Dequeue l.fn.demand.start l.fn.demand.left (D.ScanHead l.ends l.seen)) l.seat.table_id l.seat.me.0;
-  so_far : (next : Next) (table : TableId) (me : Me (Unit {0}) View) → Went None l.seat.table_id l.seat.me next table me → Went None l.fn.seat.table_id l.fn.seat.me next table me;
+  inside : l.at ≤ l.fn.row.index + l.fn.row.count;
+  onward : Onward l.shared.table_id l.shape (head_seen l.fn.demand.start l.fn.demand.left l.ends l.shape.k l.seen) l.fn.seat.table_id l.fn.seat.me l.seat.table_id l.seat.me;
 }
 
 abbrev pub decreases-pairs : goal.decreases-pairs

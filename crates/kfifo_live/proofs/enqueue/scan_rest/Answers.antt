@@ -1,9 +1,7 @@
 -- The slots behind the start, and then those before it.
 use Rattle.std.proofs.Common.{◌≡◌, ◌+◌, ◌-◌, ℕ, refl, arith, Option, Some, None, true, false, sym, ap, ◌∙◌, cond}
 use Rattle.std.proofs.lemmas.Bool.Decides.{nat_tests}
-use Rattle.std.proofs.Common.{zero-add}
 use Rattle.kfifo_words.specs.Words.{head_of, tail_of}
-use Rattle.kfifo_words.specs.Ring.{slot_at}
 use Rattle.kfifo_model.specs.declared.calls.Answer.TheVariants as A
 use Rattle.kfifo_machine.specs.declared.place.Running.{Running}
 use Rattle.kfifo_machine.specs.declared.place.Running.TheVariants as R
@@ -12,17 +10,12 @@ use Rattle.kfifo_machine.specs.declared.place.DequeuePhase.TheVariants as D
 use Rattle.kfifo_machine.specs.declared.place.Found.TheVariants.{Slot, Nothing}
 use Rattle.kfifo_machine.specs.declared.place.Next.TheVariants.{Goes, Answers}
 use Rattle.kfifo_machine.specs.Program.{advance, filled_with}
-use Rattle.kfifo_live.proofs.Scans.{upper_row, lower_row, tail_on, tail_over}
-use Rattle.kfifo_live.proofs.Whole.{leads_to, ready_next, went_on}
+use Rattle.kfifo_live.proofs.Scans.{upper_row, lower_row, tail_more, tail_over}
+use Rattle.kfifo_live.proofs.Whole.{onward_on}
 use Rattle.kfifo_live.proofs.enqueue.scan_rest.Goals as goal
 
 pub scan_row-requires-clause-row : goal.scan_row-requires-clause-row
 scan_row-requires-clause-row c =
-    lower_row c.args.shape.now (tail_of c.args.ends) c.args.offer.start 1 c.args.first (c.probes-rest.result - 1) c.args.shape.now.probes c.requires.first c.requires.ends.tail
-    (omega arith) (omega arith) (omega arith) (omega arith) c.requires.start
-
-pub scan_row-requires-2-clause-row : goal.scan_row-requires-2-clause-row
-scan_row-requires-2-clause-row c =
     upper_row c.args.shape.now (tail_of c.args.ends) c.args.offer.start 1 c.args.first c.min-upper.result c.args.shape.now.probes c.requires.first c.requires.ends.tail
     (omega arith) (omega arith) (omega arith)
 
@@ -33,11 +26,16 @@ scan_row-requires-in-Nothing-clause-row c =
 
 pub scan_row-requires-in-Nothing-clause-ready : goal.scan_row-requires-in-Nothing-clause-ready
 scan_row-requires-in-Nothing-clause-ready c =
-    let on = tail_on c.args.offer.item c.args.offer.start c.args.offer.left c.args.ends (1 + c.min-upper.result) (c.min-upper.result + 1) c.args.shape.now.probes (λ same. (omega arith)) (omega arith) in
-    ready_next _ _ _ _ _ _ _ _ _ c.requires.ready (rw on at c.in-Nothing.ensures)
+    let turned : 1 + c.min-upper.result ≡ c.min-upper.result + 1 = omega arith in
+    let is = tail_more c.args.offer.item c.args.offer.start c.args.offer.left c.args.ends c.args.shape.now.probes (1 + c.min-upper.result) (omega arith) ∙ ap (λ (n : ℕ). Goes (R.Enqueue c.args.offer.item c.args.offer.start c.args.offer.left (E.ScanTail c.args.ends n))) turned in
+    c.in-Nothing.ensures.ready _ is
+
+pub returns-then-upper-rest : goal.returns-then-upper-rest
+returns-then-upper-rest c =
+    let over = tail_over c.args.offer.item c.args.offer.start c.args.offer.left c.args.ends c.args.shape.now.probes (1 + c.min-upper.result) Nothing (omega arith) in
+    rw over at c.in-Nothing.ensures
 
 pub returns-else-upper-rest : goal.returns-else-upper-rest
 returns-else-upper-rest c =
-    let on = tail_on c.args.offer.item c.args.offer.start c.args.offer.left c.args.ends (1 + c.min-upper.result) (c.min-upper.result + 1) c.args.shape.now.probes (λ same. (omega arith)) (omega arith) in
-    let over = tail_over c.args.offer.item c.args.offer.start c.args.offer.left c.args.ends (c.min-upper.result + 1 + (c.probes-rest.result - 1 - c.min-upper.result)) c.args.shape.now.probes c.scan_row-in-Nothing.result (omega arith) in
-    went_on _ _ _ _ _ _ _ _ _ (rw on at c.in-Nothing.ensures) (rw over at c.scan_row-in-Nothing.ensures)
+    let over = tail_over c.args.offer.item c.args.offer.start c.args.offer.left c.args.ends c.args.shape.now.probes (c.min-upper.result + 1 + (c.probes-rest.result - 1 - c.min-upper.result)) c.scan_row-in-Nothing.result (omega arith) in
+    onward_on _ _ _ _ _ _ _ _ _ _ c.in-Nothing.ensures (rw over at c.scan_row-in-Nothing.ensures)
