@@ -51,7 +51,7 @@ impl Offer {
     }
 }
 
-/// Looks for an empty slot among slots in a row, which may be none, two at a time.
+/// Looks for an empty slot among slots in a row, which may be none.
 #[inline]
 fn scan_row(
     shared: &Shared<(), View, Opening, Law>,
@@ -66,25 +66,16 @@ fn scan_row(
     ensures { Onward shared.now.table_id shape.now (tail_scanned offer.item offer.start offer.left ends shape.now.probes (row.offset + row.count) result) seat.old.table_id seat.old.me seat.new.table_id seat.new.me }
 {
     let end = row.index + row.count as usize;
-    let last = end - 1;
     let mut at = row.index;
     let mut seen = row.offset;
-    'pairs: while at != end {
+    'slots: while at != end {
         let place = offer.at(EnqueuePhase::ScanTail { ends, offset: seen });
         let word = load::<Brand>(shared, seat, shape, None, place, at);
         if word.value() == 0 {
             return Found::Slot { index: at, word };
         }
-        if at == last {
-            return Found::Nothing;
-        }
-        let place = offer.at(EnqueuePhase::ScanTail { ends, offset: seen + 1 });
-        let word = load::<Brand>(shared, seat, shape, None, place, at + 1);
-        if word.value() == 0 {
-            return Found::Slot { index: at + 1, word };
-        }
-        at += 2;
-        seen += 2;
+        at += 1;
+        seen += 1;
     }
     Found::Nothing
 }
@@ -109,14 +100,22 @@ fn scan_rest(
     let start = offer.start;
     let rest = shape.probes() - 1;
     let upper = rest.min(shape.k() - start - 1);
-    let row = Row { offset: 1, index: first + start as usize + 1, count: upper };
+    let row = Row {
+        offset: 1,
+        index: first + start as usize + 1,
+        count: upper,
+    };
     match scan_row(shared, seat, shape, offer, ends, row) {
         Found::Slot { index, word } => Found::Slot { index, word },
         Found::Nothing => {
             if upper == rest {
                 return Found::Nothing;
             }
-            let row = Row { offset: upper + 1, index: first, count: rest - upper };
+            let row = Row {
+                offset: upper + 1,
+                index: first,
+                count: rest - upper,
+            };
             scan_row(shared, seat, shape, offer, ends, row)
         }
     }

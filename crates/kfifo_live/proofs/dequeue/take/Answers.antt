@@ -1,16 +1,12 @@
 -- The item is out where the exchange was won, and else the round is lost.
-use Rattle.std.proofs.Common.{◌≡◌, ◌+◌, ◌-◌, ℕ, refl, arith, Option, Some, None, true, false, sym, ap, ◌∙◌, cond}
+use Rattle.std.proofs.Common.{◌≡◌, arith, sym, ◌∙◌}
 use Rattle.std.proofs.lemmas.Bool.Decides.{nat_tests}
-use Rattle.kfifo_words.specs.Words.{version_of}
 use Rattle.kfifo_model.specs.declared.calls.Answer.TheVariants as A
-use Rattle.kfifo_machine.specs.declared.place.Running.{Running}
 use Rattle.kfifo_machine.specs.declared.place.Running.TheVariants as R
-use Rattle.kfifo_machine.specs.declared.place.EnqueuePhase.TheVariants as E
 use Rattle.kfifo_machine.specs.declared.place.DequeuePhase.TheVariants as D
-use Rattle.kfifo_machine.specs.declared.place.Found.TheVariants.{Slot, Nothing}
-use Rattle.kfifo_machine.specs.declared.place.Next.TheVariants.{Goes, Answers}
+use Rattle.kfifo_machine.specs.declared.place.Next.TheVariants.{Answers}
 use Rattle.kfifo_machine.specs.Program.{advance, dequeue_again}
-use Rattle.kfifo_live.proofs.Whole.{leads_to, ready_next, went_on}
+use Rattle.kfifo_live.proofs.Whole.{leads_to}
 use Rattle.kfifo_live.proofs.dequeue.take.Goals as goal
 
 pub returns-then-ne : goal.returns-then-ne

@@ -1,15 +1,10 @@
 -- The slots behind the start, and then those before it.
-use Rattle.std.proofs.Common.{◌≡◌, ◌+◌, ◌-◌, ℕ, refl, arith, Option, Some, None, true, false, sym, ap, ◌∙◌, cond}
-use Rattle.std.proofs.lemmas.Bool.Decides.{nat_tests}
-use Rattle.kfifo_words.specs.Words.{head_of, tail_of}
-use Rattle.kfifo_model.specs.declared.calls.Answer.TheVariants as A
-use Rattle.kfifo_machine.specs.declared.place.Running.{Running}
+use Rattle.std.proofs.Common.{◌≡◌, ◌+◌, ◌-◌, ℕ, arith, ap, ◌∙◌}
+use Rattle.kfifo_words.specs.Words.{tail_of}
 use Rattle.kfifo_machine.specs.declared.place.Running.TheVariants as R
 use Rattle.kfifo_machine.specs.declared.place.EnqueuePhase.TheVariants as E
-use Rattle.kfifo_machine.specs.declared.place.DequeuePhase.TheVariants as D
-use Rattle.kfifo_machine.specs.declared.place.Found.TheVariants.{Slot, Nothing}
-use Rattle.kfifo_machine.specs.declared.place.Next.TheVariants.{Goes, Answers}
-use Rattle.kfifo_machine.specs.Program.{advance, filled_with}
+use Rattle.kfifo_machine.specs.declared.place.Found.TheVariants.{Nothing}
+use Rattle.kfifo_machine.specs.declared.place.Next.TheVariants.{Goes}
 use Rattle.kfifo_live.proofs.Scans.{upper_row, lower_row, tail_more, tail_over}
 use Rattle.kfifo_live.proofs.Whole.{onward_on}
 use Rattle.kfifo_live.proofs.enqueue.scan_rest.Goals as goal

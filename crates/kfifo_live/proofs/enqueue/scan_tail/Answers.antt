@@ -1,15 +1,12 @@
 -- The first look decides, or leads on to the others.
-use Rattle.std.proofs.Common.{◌≡◌, ◌+◌, ◌-◌, ℕ, refl, arith, Option, Some, None, true, false, sym, ap, ◌∙◌, cond}
+use Rattle.std.proofs.Common.{◌≡◌, refl, arith, ap, ◌∙◌}
 use Rattle.std.proofs.lemmas.Bool.Decides.{nat_tests}
-use Rattle.kfifo_words.specs.Words.{head_of, tail_of}
+use Rattle.kfifo_words.specs.Words.{tail_of}
 use Rattle.kfifo_words.specs.Ring.{slot_at}
-use Rattle.kfifo_model.specs.declared.calls.Answer.TheVariants as A
-use Rattle.kfifo_machine.specs.declared.place.Running.{Running}
 use Rattle.kfifo_machine.specs.declared.place.Running.TheVariants as R
 use Rattle.kfifo_machine.specs.declared.place.EnqueuePhase.TheVariants as E
-use Rattle.kfifo_machine.specs.declared.place.DequeuePhase.TheVariants as D
 use Rattle.kfifo_machine.specs.declared.place.Found.TheVariants.{Slot, Nothing}
-use Rattle.kfifo_machine.specs.declared.place.Next.TheVariants.{Goes, Answers}
+use Rattle.kfifo_machine.specs.declared.place.Next.TheVariants.{Goes}
 use Rattle.kfifo_machine.specs.Program.{advance, scan_index}
 use Rattle.kfifo_live.proofs.Scans.{index_is, at_start}
 use Rattle.kfifo_live.proofs.Whole.{onward_here, onward_on, onward_step}
