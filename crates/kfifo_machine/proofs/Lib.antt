@@ -1,3 +1,4 @@
 pub mod Places
 pub mod Schedules
 pub mod Sound
+pub mod Versions

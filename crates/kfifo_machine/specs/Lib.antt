@@ -3,3 +3,4 @@ pub mod Machine
 pub mod Runs
 pub mod Places
 pub mod Faults
+pub mod Laws
