@@ -76,7 +76,7 @@ goes_on_from shape here e there outcome is none =
     from_place (Some r) running at = at
 
 -- the own events of a schedule are those of its first event and of the others
-own_first : (thread : ℕ) (e : Event) (es : List Event) → ((e.thread ≡ thread) × (own thread (e ∷ es) ≡ e ∷ own thread es)) ⊎ ((thread ≢ e.thread) × (own thread (e ∷ es) ≡ own thread es))
+pub own_first : (thread : ℕ) (e : Event) (es : List Event) → ((e.thread ≡ thread) × (own thread (e ∷ es) ≡ e ∷ own thread es)) ⊎ ((thread ≢ e.thread) × (own thread (e ∷ es) ≡ own thread es))
 own_first thread e es = by_test (e.thread == thread) refl
   where
     by_test : (b : Bool) → (e.thread == thread) ≡ b → ((e.thread ≡ thread) × (cond b (e ∷ own thread es) (own thread es) ≡ e ∷ own thread es)) ⊎ ((thread ≢ e.thread) × (cond b (e ∷ own thread es) (own thread es) ≡ own thread es))

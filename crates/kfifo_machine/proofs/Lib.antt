@@ -5,3 +5,5 @@ pub mod Versions
 pub mod Ring
 pub mod NoWrap
 pub mod Budget
+pub mod Refusals
+pub mod Laws

@@ -49,7 +49,7 @@ unfolding version_of
 version-rises a b h = omega arith
 
 -- an exchange asks for a word above the one that it finds, of the next version
-rises : (shape : Shape) (running : Running) (index from to : ℕ) → IsPlace shape running → access shape running ≡ Exchange index from to → from < to
+pub rises : (shape : Shape) (running : Running) (index from to : ℕ) → IsPlace shape running → access shape running ≡ Exchange index from to → from < to
 rises shape running index from to s e = grind (arith, nat_tests, slot_word-above, ends_word-above, next_segment-below)
 
 raises : (shape : Shape) (running : Running) (index from to : ℕ) → IsPlace shape running → access shape running ≡ Exchange index from to → version_of to ≡ version_of from + 1
@@ -69,7 +69,7 @@ changed shape here thread running i sound place =
 exchanged : (words : List ℕ) (index to : ℕ) → index < length words → get_or (words_after (Exchange index (get_or words index 0) to) words) index 0 ≡ to
 exchanged words index to h = rw (eq-eqb (get_or words index 0) (get_or words index 0) refl) (get_or-set_at words index index to 0 refl h)
 
-won_word : (shape : Shape) (here : World) (thread : ℕ) (running : Running) (i to : ℕ) → IsSound shape here → IsPlace shape running
+pub won_word : (shape : Shape) (here : World) (thread : ℕ) (running : Running) (i to : ℕ) → IsSound shape here → IsPlace shape running
     → access shape running ≡ Exchange i (word_at here i) to → word_at (moved shape here thread running) i ≡ to
 unfolding moved word_at
 won_word shape here thread running i to sound place is =
@@ -80,7 +80,7 @@ won_word shape here thread running i to sound place is =
 exchange-index : (i j a b c d : ℕ) → Exchange i a b ≡ Exchange j c d → i ≡ j
 exchange-index i j a b c d e = cc
 
-no_going_tick : (shape : Shape) (place : Option Running) (begin : Option Begin) (running : Running) → begin ≡ Some B.Tick → going shape place begin ≡ Some running → ⊥
+pub no_going_tick : (shape : Shape) (place : Option Running) (begin : Option Begin) (running : Running) → begin ≡ Some B.Tick → going shape place begin ≡ Some running → ⊥
 no_going_tick shape None begin running b is = let e : going shape None (Some B.Tick) ≡ Some running = ap (going shape None) (sym b) ∙ is in cc
 no_going_tick shape (Some r) begin running b is = let e : going shape (Some r) (Some B.Tick) ≡ Some running = ap (going shape (Some r)) (sym b) ∙ is in cc
 
@@ -132,7 +132,7 @@ one_word shape here e there outcome sound is =
     ]
 
 -- No word falls
-word_rises : (shape : Shape) (here : World) (e : Event) (there : World) (outcome : Outcome) (i : ℕ) → IsSound shape here → step shape here e ≡ Ok (there, outcome) → word_at here i ≤ word_at there i
+pub word_rises : (shape : Shape) (here : World) (e : Event) (there : World) (outcome : Outcome) (i : ℕ) → IsSound shape here → step shape here e ≡ Ok (there, outcome) → word_at here i ≤ word_at there i
 word_rises shape here e there outcome i sound is =
     let one = one_word shape here e there outcome sound is in
     elim (cases_eq (word_at there i) (word_at here i)) [
