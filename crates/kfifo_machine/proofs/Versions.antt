@@ -156,3 +156,9 @@ run_rises shape here there (e ∷ es) i sound is =
     let first : word_at here i ≤ word_at m.0 i = word_rises shape here e m.0 m.1.0 i sound m.1.1.0 in
     let others : word_at m.0 i ≤ word_at there i = run_rises shape m.0 there es i (step_sound shape here e m.0 m.1.0 sound m.1.1.0) m.1.1.1 in
     omega arith
+
+pub none_falls : (old new : World) → new ≡ old → NoneFalls old new
+none_falls old new same = λ i.
+    let w : word_at old i ≡ word_at new i = ap (λ (x : World). word_at x i) (sym same) in
+    let up : word_at old i ≤ word_at new i = omega arith in
+    (up, version-rises (word_at old i) (word_at new i) up)

@@ -1,6 +1,6 @@
 use Rattle.std.proofs.Common.{◌≡◌, Some, take}
 use Rattle.kfifo_machine.specs.Machine.{after}
-use Rattle.kfifo_machine.proofs.schedule.run.Given as goal
+use Rattle.kfifo_machine.proofs.schedule.run_events.Given as goal
 
 abbrev pub invariant-loop-place : goal.invariant-loop-place
 invariant-loop-place l = record {
