@@ -46,17 +46,17 @@ left_falls : (shape : Shape) (here : World) (e : Event) (there : World) (outcome
     → going shape (place_of here e.thread) e.begin ≡ Some running → left_of shape.k (place_of there e.thread) < budget shape.k running
 left_falls shape here e there outcome running sound is goes =
     elim (stepped shape here e there outcome is) [
-      inl s ↦
-        let same : s.running ≡ running = Some-injective s.running running (sym s.goes ∙ goes) in
-        let place : IsPlace shape s.running = going_place shape (place_of here e.thread) e.begin s.running (λ r t. place_is shape here e.thread r sound t) s.goes in
-        let next : left_of shape.k (place_after (advance shape s.running (found shape here s.running))) < budget shape.k s.running =
+      | inl s ↦
+          let same : s.running ≡ running = Some-injective s.running running (sym s.goes ∙ goes) in
+          let place : IsPlace shape s.running = going_place shape (place_of here e.thread) e.begin s.running (λ r t. place_is shape here e.thread r sound t) s.goes in
+          let next : left_of shape.k (place_after (advance shape s.running (found shape here s.running))) < budget shape.k s.running =
           below_left shape.k (budget shape.k s.running) (advance shape s.running (found shape here s.running)) (budget-some shape s.running place) (budget_falls shape s.running (found shape here s.running) place) in
-        let at : place_of there e.thread ≡ place_after (advance shape s.running (found shape here s.running)) =
+          let at : place_of there e.thread ≡ place_after (advance shape s.running (found shape here s.running)) =
           ap (λ (w : World). place_of w e.thread) s.there_is ∙ own_place shape here e.thread s.running (made_within shape here e there outcome is) in
-        let e1 : left_of shape.k (place_of there e.thread) ≡ left_of shape.k (place_after (advance shape s.running (found shape here s.running))) = ap (left_of shape.k) at in
-        let e2 : budget shape.k s.running ≡ budget shape.k running = ap (budget shape.k) same in
-        omega arith
-    | inr t ↦ absurd (idle_ticks (place_of here e.thread) t.idle t.begins goes)
+          let e1 : left_of shape.k (place_of there e.thread) ≡ left_of shape.k (place_after (advance shape s.running (found shape here s.running))) = ap (left_of shape.k) at in
+          let e2 : budget shape.k s.running ≡ budget shape.k running = ap (budget shape.k) same in
+          omega arith
+      | inr t ↦ absurd (idle_ticks (place_of here e.thread) t.idle t.begins goes)
     ]
   where
     idle_ticks : (place : Option Running) → place ≡ None → e.begin ≡ Some B.Tick → going shape place e.begin ≡ Some running → ⊥
@@ -67,8 +67,8 @@ pub goes_on_from : (shape : Shape) (here : World) (e : Event) (there : World) (o
     → (running : Running) × (place_of here e.thread ≡ Some running)
 goes_on_from shape here e there outcome is none =
     elim (stepped shape here e there outcome is) [
-      inl s ↦ (s.running, from_place (place_of here e.thread) s.running (ap (going shape (place_of here e.thread)) (sym none) ∙ s.goes))
-    | inr t ↦ absurd (let h : None ≡ Some B.Tick = sym none ∙ t.begins in cc)
+      | inl s ↦ (s.running, from_place (place_of here e.thread) s.running (ap (going shape (place_of here e.thread)) (sym none) ∙ s.goes))
+      | inr t ↦ absurd (let h : None ≡ Some B.Tick = sym none ∙ t.begins in cc)
     ]
   where
     from_place : (place : Option Running) (running : Running) → going shape place None ≡ Some running → place ≡ Some running
@@ -91,21 +91,21 @@ few_left shape here there thread (e ∷ es) sound on is =
     let m = first_made shape here e there es is in
     let later : IsSound shape m.0 = step_sound shape here e m.0 m.1.0 sound m.1.1.0 in
     elim (own_first thread e es) [
-      inl mine ↦
-        let both : (e.begin ≡ None) × AllGoOn (own thread es) = subst AllGoOn mine.1 on in
-        let at = goes_on_from shape here e m.0 m.1.0 m.1.1.0 both.0 in
-        let goes : going shape (place_of here e.thread) e.begin ≡ Some at.0 = ap (going shape (place_of here e.thread)) both.0 ∙ ap (λ (p : Option Running). going shape p None) at.1 in
-        let falls : left_of shape.k (place_of m.0 e.thread) < budget shape.k at.0 = left_falls shape here e m.0 m.1.0 at.0 sound m.1.1.0 goes in
-        let others : length (own thread es) ≤ left_of shape.k (place_of m.0 thread) = few_left shape m.0 there thread es later both.1 m.1.1.1 in
-        let e1 : left_of shape.k (place_of m.0 e.thread) ≡ left_of shape.k (place_of m.0 thread) = ap (λ t. left_of shape.k (place_of m.0 t)) mine.0 in
-        let e2 : left_of shape.k (place_of here thread) ≡ budget shape.k at.0 = ap (λ t. left_of shape.k (place_of here t)) (sym mine.0) ∙ ap (left_of shape.k) at.1 in
-        let e3 : length (own thread (e ∷ es)) ≡ length (e ∷ own thread es) = ap length mine.1 in
-        omega arith
-    | inr other ↦
-        let others : length (own thread es) ≤ left_of shape.k (place_of m.0 thread) = few_left shape m.0 there thread es later (subst AllGoOn other.1 on) m.1.1.1 in
-        let e1 : left_of shape.k (place_of m.0 thread) ≡ left_of shape.k (place_of here thread) = ap (left_of shape.k) (other_place shape here e m.0 m.1.0 thread other.0 m.1.1.0) in
-        let e3 : length (own thread (e ∷ es)) ≡ length (own thread es) = ap length other.1 in
-        omega arith
+      | inl mine ↦
+          let both : (e.begin ≡ None) × AllGoOn (own thread es) = subst AllGoOn mine.1 on in
+          let at = goes_on_from shape here e m.0 m.1.0 m.1.1.0 both.0 in
+          let goes : going shape (place_of here e.thread) e.begin ≡ Some at.0 = ap (going shape (place_of here e.thread)) both.0 ∙ ap (λ (p : Option Running). going shape p None) at.1 in
+          let falls : left_of shape.k (place_of m.0 e.thread) < budget shape.k at.0 = left_falls shape here e m.0 m.1.0 at.0 sound m.1.1.0 goes in
+          let others : length (own thread es) ≤ left_of shape.k (place_of m.0 thread) = few_left shape m.0 there thread es later both.1 m.1.1.1 in
+          let e1 : left_of shape.k (place_of m.0 e.thread) ≡ left_of shape.k (place_of m.0 thread) = ap (λ t. left_of shape.k (place_of m.0 t)) mine.0 in
+          let e2 : left_of shape.k (place_of here thread) ≡ budget shape.k at.0 = ap (λ t. left_of shape.k (place_of here t)) (sym mine.0) ∙ ap (left_of shape.k) at.1 in
+          let e3 : length (own thread (e ∷ es)) ≡ length (e ∷ own thread es) = ap length mine.1 in
+          omega arith
+      | inr other ↦
+          let others : length (own thread es) ≤ left_of shape.k (place_of m.0 thread) = few_left shape m.0 there thread es later (subst AllGoOn other.1 on) m.1.1.1 in
+          let e1 : left_of shape.k (place_of m.0 thread) ≡ left_of shape.k (place_of here thread) = ap (left_of shape.k) (other_place shape here e m.0 m.1.0 thread other.0 m.1.1.0) in
+          let e3 : length (own thread (e ∷ es)) ≡ length (own thread es) = ap length other.1 in
+          omega arith
     ]
 
 -- the place at which a call begins leaves it all its events
@@ -127,6 +127,7 @@ begun_left shape None (B.Dequeue start turns) running is = begins (may_begin sha
       where
         some_turns : may_begin shape (B.Dequeue start turns) ≡ true → 0 < turns
         some_turns may = grind (arith, nat_tests)
+
         dequeue_begin : 0 < turns → budget shape.k (R.Dequeue start turns D.LoadEnds) ≡ turns * (2 * shape.k + 9)
         dequeue_begin h = budget-begin shape.k 0 start turns h
     begins false may at = absurd (cc)
@@ -141,14 +142,14 @@ begin_left : (shape : Shape) (here : World) (e : Event) (there : World) (outcome
     → left_of shape.k (place_of there e.thread) < most_events shape call
 begin_left shape here e there outcome call sound is begins =
     elim (stepped shape here e there outcome is) [
-      inl s ↦
-        let falls : left_of shape.k (place_of there e.thread) < budget shape.k s.running = left_falls shape here e there outcome s.running sound is s.goes in
-        let all : budget shape.k s.running ≡ most_events shape call = begun_left shape (place_of here e.thread) call s.running (ap (going shape (place_of here e.thread)) (sym begins) ∙ s.goes) in
-        omega arith
-    | inr t ↦
-        let gone : left_of shape.k (place_of there e.thread) ≡ 0 = ap (λ (w : World). left_of shape.k (place_of w e.thread)) t.there_is ∙ ap (left_of shape.k) (tick_leaves shape here e.thread ∙ t.idle) in
-        let one : most_events shape call ≡ 1 = ap (most_events shape) (Some-injective call B.Tick (sym begins ∙ t.begins)) in
-        omega arith
+      | inl s ↦
+          let falls : left_of shape.k (place_of there e.thread) < budget shape.k s.running = left_falls shape here e there outcome s.running sound is s.goes in
+          let all : budget shape.k s.running ≡ most_events shape call = begun_left shape (place_of here e.thread) call s.running (ap (going shape (place_of here e.thread)) (sym begins) ∙ s.goes) in
+          omega arith
+      | inr t ↦
+          let gone : left_of shape.k (place_of there e.thread) ≡ 0 = ap (λ (w : World). left_of shape.k (place_of w e.thread)) t.there_is ∙ ap (left_of shape.k) (tick_leaves shape here e.thread ∙ t.idle) in
+          let one : most_events shape call ≡ 1 = ap (most_events shape) (Some-injective call B.Tick (sym begins ∙ t.begins)) in
+          omega arith
     ]
 
 few_run : (shape : Shape) (here there : World) (thread : ℕ) (call : Begin) (events others : List Event) → IsSound shape here → run shape (Some here) events ≡ Some there
@@ -158,19 +159,19 @@ few_run shape here there thread call (e ∷ es) others sound is first on =
     let m = first_made shape here e there es is in
     let later : IsSound shape m.0 = step_sound shape here e m.0 m.1.0 sound m.1.1.0 in
     elim (own_first thread e es) [
-      inl mine ↦
-        let both : e ∷ own thread es ≡ event thread (Some call) ∷ others = sym mine.1 ∙ first in
-        let rest : own thread es ≡ others = cc in
-        let begins : e.begin ≡ Some call = let same : e ≡ event thread (Some call) = cc in ap (λ (x : Event). x.begin) same in
-        let some : left_of shape.k (place_of m.0 e.thread) < most_events shape call = begin_left shape here e m.0 m.1.0 call sound m.1.1.0 begins in
-        let few : length (own thread es) ≤ left_of shape.k (place_of m.0 thread) = few_left shape m.0 there thread es later (subst AllGoOn (sym rest) on) m.1.1.1 in
-        let e1 : left_of shape.k (place_of m.0 e.thread) ≡ left_of shape.k (place_of m.0 thread) = ap (λ t. left_of shape.k (place_of m.0 t)) mine.0 in
-        let e3 : length (own thread (e ∷ es)) ≡ length (e ∷ own thread es) = ap length mine.1 in
-        omega arith
-    | inr other ↦
-        let few : length (own thread es) ≤ most_events shape call = few_run shape m.0 there thread call es others later m.1.1.1 (sym other.1 ∙ first) on in
-        let e3 : length (own thread (e ∷ es)) ≡ length (own thread es) = ap length other.1 in
-        omega arith
+      | inl mine ↦
+          let both : e ∷ own thread es ≡ event thread (Some call) ∷ others = sym mine.1 ∙ first in
+          let rest : own thread es ≡ others = cc in
+          let begins : e.begin ≡ Some call = let same : e ≡ event thread (Some call) = cc in ap (λ (x : Event). x.begin) same in
+          let some : left_of shape.k (place_of m.0 e.thread) < most_events shape call = begin_left shape here e m.0 m.1.0 call sound m.1.1.0 begins in
+          let few : length (own thread es) ≤ left_of shape.k (place_of m.0 thread) = few_left shape m.0 there thread es later (subst AllGoOn (sym rest) on) m.1.1.1 in
+          let e1 : left_of shape.k (place_of m.0 e.thread) ≡ left_of shape.k (place_of m.0 thread) = ap (λ t. left_of shape.k (place_of m.0 t)) mine.0 in
+          let e3 : length (own thread (e ∷ es)) ≡ length (e ∷ own thread es) = ap length mine.1 in
+          omega arith
+      | inr other ↦
+          let few : length (own thread es) ≤ most_events shape call = few_run shape m.0 there thread call es others later m.1.1.1 (sym other.1 ∙ first) on in
+          let e3 : length (own thread (e ∷ es)) ≡ length (own thread es) = ap length other.1 in
+          omega arith
     ]
 
 -- in every schedule a call has few events

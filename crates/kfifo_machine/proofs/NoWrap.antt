@@ -117,15 +117,17 @@ get_or-ends_after : (a : Access) (words : List ℕ) → 0 < length words → get
 get_or-ends_after (Load index) words h = refl
 get_or-ends_after (Exchange index from to) words h =
     elim (cases_eq index 0) [
-      inl zero_is ↦ rw zero_is (at_zero (get_or words 0 0 == from))
-    | inr ne ↦ elsewhere (get_or words index 0 == from) ne
+      | inl zero_is ↦ rw zero_is (at_zero (get_or words 0 0 == from))
+      | inr ne ↦ elsewhere (get_or words index 0 == from) ne
     ]
   where
     at_zero : (b : Bool) → get_or (cond b (set words 0 to) words) 0 0 ≡ cond b to (get_or words 0 0)
     at_zero true = get_or-set_at words 0 0 to 0 refl h
     at_zero false = refl
+
     apart : (b : Bool) → index ≢ 0 → (index == 0) ≡ b → ◌≡◌ {A = ℕ} (get_or words 0 0) (cond b (cond (get_or words 0 0 == from) to (get_or words 0 0)) (get_or words 0 0))
     apart b ne is = grind (arith, nat_tests)
+
     elsewhere : (b : Bool) → index ≢ 0 → get_or (cond b (set words index to) words) 0 0 ≡ cond (index == 0) (cond (get_or words 0 0 == from) to (get_or words 0 0)) (get_or words 0 0)
     elsewhere true ne = get_or-set_other words index 0 to 0 (λ e. ne (sym e)) ∙ apart (index == 0) ne refl
     elsewhere false ne = apart (index == 0) ne refl
@@ -189,8 +191,8 @@ unfolding moved place_of
 moved_aims shape here thread running within aims old t r at =
     let next = place_after (advance shape running (found shape here running)) in
     elim (cases_eq t thread) [
-      inl same ↦ next_aims shape (advance shape running (found shape here running)) r (stays_aimed shape running (found shape here running) aims) (sym (get_or-set_at here.places thread t next None same within) ∙ at)
-    | inr ne ↦ old t r (sym (get_or-set_other here.places thread t next None ne) ∙ at)
+      | inl same ↦ next_aims shape (advance shape running (found shape here running)) r (stays_aimed shape running (found shape here running) aims) (sym (get_or-set_at here.places thread t next None same within) ∙ at)
+      | inr ne ↦ old t r (sym (get_or-set_other here.places thread t next None ne) ∙ at)
     ]
 
 ticked_aims : (shape : Shape) (here : World) → ((t : ℕ) (r : Running) → place_of here t ≡ Some r → Aims shape r) → (t : ℕ) (r : Running) → place_of (ticked shape here) t ≡ Some r → Aims shape r
@@ -218,19 +220,19 @@ step_counted : (shape : Shape) (here : World) (e : Event) (there : World) (outco
     → Counted shape there (a + counted shape moves_head here (going shape (place_of here e.thread) e.begin)) (b + counted shape moves_tail here (going shape (place_of here e.thread) e.begin))
 step_counted shape here e there outcome a b sound at is =
     elim (stepped shape here e there outcome is) [
-      inl s ↦
-        let place : IsPlace shape s.running = going_place shape (place_of here e.thread) e.begin s.running (λ r t. place_is shape here e.thread r sound t) s.goes in
-        let aims : Aims shape s.running = going_aims shape (place_of here e.thread) e.begin s.running (λ r t. at.aims e.thread r t) s.goes in
-        let all : Counted shape (moved shape here e.thread s.running) (a + counted shape moves_head here (Some s.running)) (b + counted shape moves_tail here (Some s.running)) =
+      | inl s ↦
+          let place : IsPlace shape s.running = going_place shape (place_of here e.thread) e.begin s.running (λ r t. place_is shape here e.thread r sound t) s.goes in
+          let aims : Aims shape s.running = going_aims shape (place_of here e.thread) e.begin s.running (λ r t. at.aims e.thread r t) s.goes in
+          let all : Counted shape (moved shape here e.thread s.running) (a + counted shape moves_head here (Some s.running)) (b + counted shape moves_tail here (Some s.running)) =
           moved_counted shape here e.thread s.running a b sound at place aims (made_within shape here e there outcome is) in
-        same_counts shape (moved shape here e.thread s.running) there _ _ _ _ all (sym s.there_is)
+          same_counts shape (moved shape here e.thread s.running) there _ _ _ _ all (sym s.there_is)
           (ap (λ (p : Option Running). a + counted shape moves_head here p) (sym s.goes))
           (ap (λ (p : Option Running). b + counted shape moves_tail here p) (sym s.goes))
-    | inr t ↦
-        let same : Counted shape (ticked shape here) a b = record { ends = rw (ends-ticked shape here) at.ends; aims = ticked_aims shape here at.aims } in
-        let none_a : a ≡ a + counted shape moves_head here (going shape (place_of here e.thread) e.begin) = omega (arith, none_counted shape moves_head here (place_of here e.thread) e.begin t.begins) in
-        let none_b : b ≡ b + counted shape moves_tail here (going shape (place_of here e.thread) e.begin) = omega (arith, none_counted shape moves_tail here (place_of here e.thread) e.begin t.begins) in
-        same_counts shape (ticked shape here) there a b _ _ same (sym t.there_is) none_a none_b
+      | inr t ↦
+          let same : Counted shape (ticked shape here) a b = record { ends = rw (ends-ticked shape here) at.ends; aims = ticked_aims shape here at.aims } in
+          let none_a : a ≡ a + counted shape moves_head here (going shape (place_of here e.thread) e.begin) = omega (arith, none_counted shape moves_head here (place_of here e.thread) e.begin t.begins) in
+          let none_b : b ≡ b + counted shape moves_tail here (going shape (place_of here e.thread) e.begin) = omega (arith, none_counted shape moves_tail here (place_of here e.thread) e.begin t.begins) in
+          same_counts shape (ticked shape here) there a b _ _ same (sym t.there_is) none_a none_b
     ]
 
 -- a schedule
@@ -241,7 +243,7 @@ run_counted shape here there [] a b sound at is =
 run_counted shape here there (e ∷ es) a b sound at is =
     let m = first_made shape here e there es is in
     let next : Counted shape there ((a + counted shape moves_head here (going shape (place_of here e.thread) e.begin)) + count shape moves_head (Some m.0) es) ((b + counted shape moves_tail here (going shape (place_of here e.thread) e.begin)) + count shape moves_tail (Some m.0) es) =
-      run_counted shape m.0 there es _ _ (step_sound shape here e m.0 m.1.0 sound m.1.1.0) (step_counted shape here e m.0 m.1.0 a b sound at m.1.1.0) m.1.1.1 in
+    run_counted shape m.0 there es _ _ (step_sound shape here e m.0 m.1.0 sound m.1.1.0) (step_counted shape here e m.0 m.1.0 a b sound at m.1.1.0) m.1.1.1 in
     let ea : (a + counted shape moves_head here (going shape (place_of here e.thread) e.begin)) + count shape moves_head (Some m.0) es ≡ a + count shape moves_head (Some here) (e ∷ es) = regroup moves_head a m.0 m.1.0 m.1.1.0 in
     let eb : (b + counted shape moves_tail here (going shape (place_of here e.thread) e.begin)) + count shape moves_tail (Some m.0) es ≡ b + count shape moves_tail (Some here) (e ∷ es) = regroup moves_tail b m.0 m.1.0 m.1.1.0 in
     same_counts shape there there _ _ _ _ next refl ea eb

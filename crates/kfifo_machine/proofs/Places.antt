@@ -103,11 +103,11 @@ pub get_or-after : (a : Access) (words : List ℕ) (i : ℕ) → accessed a < le
 get_or-after (Load index) words i h = inl refl
 get_or-after (Exchange index from to) words i h =
     elim (cases_Bool (eqb (get_or words index 0) from)) [
-      inl e ↦ elim (cases_eq i index) [
-          inl same ↦ inr (same, (from, (to, (refl, ap (λ j. get_or words j 0) same ∙ eqb-true (get_or words index 0) from e, rw e (get_or-set_at words index i to 0 same h)))))
+      | inl e ↦ elim (cases_eq i index) [
+        | inl same ↦ inr (same, (from, (to, (refl, ap (λ j. get_or words j 0) same ∙ eqb-true (get_or words index 0) from e, rw e (get_or-set_at words index i to 0 same h)))))
         | inr ne ↦ inl (rw e (get_or-set_other words index i to 0 ne))
-        ]
-    | inr e ↦ inl (rw e refl)
+      ]
+      | inr e ↦ inl (rw e refl)
     ]
 
 head-ends_word : (head tail version : ℕ) → head < 4096 → tail < 4096 → head_of (ends_word head tail version) ≡ head
@@ -137,7 +137,6 @@ writes_ends shape running from to s e = grind (arith, nat_tests, head-ends_word,
 writes_slot : (shape : Shape) → (running : Running) (index from to : ℕ) → IsPlace shape running → 0 < index → access shape running ≡ Exchange index from to → IsSlotWord shape to
 writes_slot shape running index from to s pos e = grind (arith, nat_tests, version-filled_with, value-emptied, scan_index-is_slot)
 
-
 next_place : (shape : Shape) (next : Next) (r : Running) → NextIsPlace shape next → place_after next ≡ Some r → IsPlace shape r
 next_place shape next r h e = grind arith
 
@@ -147,23 +146,23 @@ pub state_stays : (shape : Shape) → (words : List ℕ) (places : List (Option 
 state_stays shape words places thread running h s t =
     let within : accessed (access shape running) < length words = omega (arith, in_table shape running s, h.size) in
     let next : NextIsPlace shape (advance shape running (get_or words (accessed (access shape running)) 0)) =
-      stays_place shape running (get_or words (accessed (access shape running)) 0) s
-        (λ z. rw z h.ends)
-        (λ pos. h.each_slot (accessed (access shape running)) pos (in_table shape running s)) in
+    stays_place shape running (get_or words (accessed (access shape running)) 0) s
+    (λ z. rw z h.ends)
+    (λ pos. h.each_slot (accessed (access shape running)) pos (in_table shape running s)) in
     record {
       size = length-after (access shape running) words ∙ h.size;
       ends = elim (get_or-after (access shape running) words 0 within) [
-          inl e ↦ rw e h.ends
+        | inl e ↦ rw e h.ends
         | inr k ↦ rw k.1.1.1.2 (writes_ends shape running k.1.0 k.1.1.0 s (rw (← k.0) at k.1.1.1.0))
-        ];
+      ];
       each_slot = λ i pos below. elim (get_or-after (access shape running) words i within) [
-          inl e ↦ rw e (h.each_slot i pos below)
+        | inl e ↦ rw e (h.each_slot i pos below)
         | inr k ↦ rw k.1.1.1.2 (writes_slot shape running (accessed (access shape running)) k.1.0 k.1.1.0 s (omega (arith, pos, k.0)) k.1.1.1.0)
-        ];
+      ];
       each_place = λ u r f. elim (cases_eq u thread) [
-          inl same ↦ next_place shape (advance shape running (get_or words (accessed (access shape running)) 0)) r next (sym (get_or-set_at places thread u (place_after (advance shape running (get_or words (accessed (access shape running)) 0))) None same t) ∙ f)
+        | inl same ↦ next_place shape (advance shape running (get_or words (accessed (access shape running)) 0)) r next (sym (get_or-set_at places thread u (place_after (advance shape running (get_or words (accessed (access shape running)) 0))) None same t) ∙ f)
         | inr ne ↦ h.each_place u r (sym (get_or-set_other places thread u (place_after (advance shape running (get_or words (accessed (access shape running)) 0))) None ne) ∙ f)
-        ];
+      ];
     }
 
 -- the state after a step, as the machine says

@@ -67,6 +67,7 @@ carry_on shape (R.Enqueue item start left (E.Undo i filled worn)) seen index wor
   where
     lost : (shape : Shape) (item start left i filled seen index word : ℕ) (worn : Bool) → eqb seen filled ≡ false → NextCarries (advance shape (R.Enqueue item start left (E.Undo i filled worn)) seen) index word
     lost shape item start left i filled seen index word worn is = rw is refl
+
     by_test : (b : Bool) → eqb seen filled ≡ b → NextCarries (advance shape (R.Enqueue item start left (E.Undo i filled worn)) seen) index word ⊎ Undoes shape (R.Enqueue item start left (E.Undo i filled worn)) seen index word
     by_test true is = inr (record { exchange = ap (λ (j : ℕ). Exchange j filled (emptied filled)) c.0 ∙ ap (λ (f : ℕ). Exchange index f (emptied f)) c.1; won = eqb-true seen filled is ∙ c.1 })
     by_test false is = inl (lost shape item start left i filled seen index word worn is)
@@ -98,8 +99,8 @@ own_status : (shape : Shape) (here : World) (thread : ℕ) (running : Running) (
     → (word < word_at (moved shape here thread running) index) ⊎ NextCarries (advance shape running (found shape here running)) index word
 own_status shape here thread running index word sound place within c =
     elim (carry_on shape running (found shape here running) index word c) [
-      inl kept ↦ inr kept
-    | inr u ↦ inl (undone shape here thread running index word sound place (undo_accessed shape running (found shape here running) index word u) u)
+      | inl kept ↦ inr kept
+      | inr u ↦ inl (undone shape here thread running index word sound place (undo_accessed shape running (found shape here running) index word u) u)
     ]
 
 next_status : (world : World) (thread index word : ℕ) (next : Next) → place_of world thread ≡ place_after next → NextCarries next index word → Status world thread index word
@@ -111,14 +112,15 @@ own_step : (shape : Shape) (here : World) (e : Event) (there : World) (outcome :
     → (there ≡ moved shape here e.thread running) × (outcome ≡ outcome_of (advance shape running (found shape here running)))
 own_step shape here e there outcome running is at =
     elim (stepped shape here e there outcome is) [
-      inl s ↦ let same : s.running ≡ running = from_place (place_of here e.thread) e.begin s.running at s.goes in
-        (s.there_is ∙ ap (moved shape here e.thread) same, s.outcome_is ∙ ap (λ (r : Running). outcome_of (advance shape r (found shape here r))) same)
-    | inr t ↦ absurd (let h : None ≡ Some running = sym t.idle ∙ at in cc)
+      | inl s ↦ let same : s.running ≡ running = from_place (place_of here e.thread) e.begin s.running at s.goes in
+          (s.there_is ∙ ap (moved shape here e.thread) same, s.outcome_is ∙ ap (λ (r : Running). outcome_of (advance shape r (found shape here r))) same)
+      | inr t ↦ absurd (let h : None ≡ Some running = sym t.idle ∙ at in cc)
     ]
   where
     from_some : (begin : Option Begin) (r : Running) → going shape (Some running) begin ≡ Some r → r ≡ running
     from_some None r goes = sym (Some-injective running r goes)
     from_some (Some b) r goes = absurd (cc)
+
     from_place : (place : Option Running) (begin : Option Begin) (r : Running) → place ≡ Some running → going shape place begin ≡ Some r → r ≡ running
     from_place place begin r at goes = from_some begin r (ap (λ (p : Option Running). going shape p begin) (sym at) ∙ goes)
 
@@ -129,8 +131,8 @@ mine_status shape here e there outcome index word sound is none (In running at c
     let both = own_step shape here e there outcome running is at in
     let within : e.thread < length here.places = made_within shape here e there outcome is in
     elim (own_status shape here e.thread running index word sound (place_is shape here e.thread running sound at) within c) [
-      inl up ↦ Out (subst (λ (w : World). word < word_at w index) (sym both.0) up)
-    | inr kept ↦ next_status there e.thread index word (advance shape running (found shape here running)) (ap (λ (w : World). place_of w e.thread) both.0 ∙ own_place shape here e.thread running within) kept
+      | inl up ↦ Out (subst (λ (w : World). word < word_at w index) (sym both.0) up)
+      | inr kept ↦ next_status there e.thread index word (advance shape running (found shape here running)) (ap (λ (w : World). place_of w e.thread) both.0 ∙ own_place shape here e.thread running within) kept
     ]
 mine_status shape here e there outcome index word sound is none (Over at) =
     let k = goes_on_from shape here e there outcome is none in
@@ -150,13 +152,13 @@ run_status shape here there thread index word (e ∷ es) sound on is status =
     let m = first_made shape here e there es is in
     let later : IsSound shape m.0 = step_sound shape here e m.0 m.1.0 sound m.1.1.0 in
     elim (own_first thread e es) [
-      inl mine ↦
-        let both : (e.begin ≡ None) × AllGoOn (own thread es) = subst AllGoOn mine.1 on in
-        let next : Status m.0 thread index word = subst (λ (t : ℕ). Status m.0 t index word) mine.0
+      | inl mine ↦
+          let both : (e.begin ≡ None) × AllGoOn (own thread es) = subst AllGoOn mine.1 on in
+          let next : Status m.0 thread index word = subst (λ (t : ℕ). Status m.0 t index word) mine.0
           (mine_status shape here e m.0 m.1.0 index word sound m.1.1.0 both.0 (subst (λ (t : ℕ). Status here t index word) (sym mine.0) status)) in
-        run_status shape m.0 there thread index word es later both.1 m.1.1.1 next
-    | inr other ↦
-        run_status shape m.0 there thread index word es later (subst AllGoOn other.1 on) m.1.1.1
+          run_status shape m.0 there thread index word es later both.1 m.1.1.1 next
+      | inr other ↦
+          run_status shape m.0 there thread index word es later (subst AllGoOn other.1 on) m.1.1.1
           (others_status shape here e m.0 m.1.0 thread index word sound m.1.1.0 other.0 status)
     ]
 
@@ -171,8 +173,8 @@ last_out shape here e there answer index word sound is refuses none (Out up) = l
 last_out shape here e there answer index word sound is refuses none (In running at c) =
     let both = own_step shape here e there (Ended answer) running is at in
     elim (own_status shape here e.thread running index word sound (place_is shape here e.thread running sound at) (made_within shape here e there (Ended answer) is) c) [
-      inl up ↦ subst (λ (w : World). word < word_at w index) (sym both.0) up
-    | inr kept ↦ absurd (not_done (advance shape running (found shape here running)) answer index word (sym both.1) refuses kept)
+      | inl up ↦ subst (λ (w : World). word < word_at w index) (sym both.0) up
+      | inr kept ↦ absurd (not_done (advance shape running (found shape here running)) answer index word (sym both.1) refuses kept)
     ]
 last_out shape here e there answer index word sound is refuses none (Over at) =
     let k = goes_on_from shape here e there (Ended answer) is none in
@@ -189,8 +191,8 @@ split_last (x ∷ xs) (y ∷ ys) zs last e is =
     let head : x ≡ y = cc in
     let tails : xs ++ last ∷ [] ≡ ys ++ e ∷ zs = cc in
     elim (split_last xs ys zs last e tails) [
-      inl k ↦ inl (k.0, k.1, (let t : xs ≡ ys = k.2 in cc))
-    | inr k ↦ inr (k.0, (k.1.0, (let t : xs ≡ ys ++ e ∷ k.0 = k.1.1 in cc)))
+      | inl k ↦ inl (k.0, k.1, (let t : xs ≡ ys = k.2 in cc))
+      | inr k ↦ inr (k.0, (k.1.0, (let t : xs ≡ ys ++ e ∷ k.0 = k.1.1 in cc)))
     ]
 
 -- those after an event of a call go on
@@ -212,7 +214,7 @@ put_goes : (shape : Shape) (here : World) (item start left ends index : ℕ)
 unfolding found
 put_goes shape here item start left ends index =
     ap (λ (b : Bool). cond b (Goes (R.Enqueue item start left (E.ReloadSlot ends index (filled_with item (word_at here index))))) (cond (eqb left 1) (Answers Busy) (Goes (R.Enqueue item start (left - 1) E.LoadEnds))))
-      (eq-eqb (word_at here index) (word_at here index) refl)
+    (eq-eqb (word_at here index) (word_at here index) refl)
 
 -- after a won put the thread carries the word, and its call goes on
 put_carries : (shape : Shape) (here : World) (e : Event) (there : World) (outcome : Outcome) (item start left ends index word : ℕ) → step shape here e ≡ Ok (there, outcome)
@@ -223,7 +225,7 @@ put_carries shape here e there outcome item start left ends index word is at put
     let both = own_step shape here e there outcome running is at in
     let goes = put_goes shape here item start left ends index in
     let next : place_of there e.thread ≡ Some (R.Enqueue item start left (E.ReloadSlot ends index (filled_with item (word_at here index)))) =
-      ap (λ (w : World). place_of w e.thread) both.0 ∙ own_place shape here e.thread running (made_within shape here e there outcome is) ∙ ap place_after goes in
+    ap (λ (w : World). place_of w e.thread) both.0 ∙ own_place shape here e.thread running (made_within shape here e there outcome is) ∙ ap place_after goes in
     (In (R.Enqueue item start left (E.ReloadSlot ends index (filled_with item (word_at here index)))) next (refl, sym puts), both.1 ∙ ap outcome_of goes)
 
 -- after the last event of the run the word is out
@@ -235,37 +237,39 @@ out_at_end shape threads thread call answer old new w refuses some rest e index 
     let here_at : place_of put.here e.thread ≡ Some (R.Enqueue put.item put.start put.left (E.Put put.ends index (word_at put.here index))) = ap (place_of put.here) mine ∙ put.place in
     let whole : after shape threads new ≡ Some w.world = ap (after shape threads) w.new_is ∙ after-snoc shape threads (old ++ w.between) w.before w.last w.reached ∙ ap world_of w.ends in
     elim (split_last w.between some rest w.last e (append_cancel_left old (w.between ++ w.last ∷ []) (some ++ e ∷ rest) parts)) [
-      inl k ↦
-        let same : put.here ≡ w.before = Some-injective put.here w.before (sym put.reached ∙ ap (λ (xs : List Event). after shape threads (old ++ xs)) (sym k.2) ∙ w.reached) in
-        let made : step shape put.here e ≡ Ok (w.world, Ended answer) = ap (λ (x : World). step shape x e) same ∙ ap (step shape w.before) (sym k.1) ∙ w.ends in
-        let c = put_carries shape put.here e w.world (Ended answer) put.item put.start put.left put.ends index word made here_at put.puts in
-        absurd (let h : Ended answer ≡ Went = c.1 in cc)
-    | inr k ↦
-        let reached : run shape (Some put.here) (e ∷ k.0) ≡ Some w.before =
+      | inl k ↦
+          let same : put.here ≡ w.before = Some-injective put.here w.before (sym put.reached ∙ ap (λ (xs : List Event). after shape threads (old ++ xs)) (sym k.2) ∙ w.reached) in
+          let made : step shape put.here e ≡ Ok (w.world, Ended answer) = ap (λ (x : World). step shape x e) same ∙ ap (step shape w.before) (sym k.1) ∙ w.ends in
+          let c = put_carries shape put.here e w.world (Ended answer) put.item put.start put.left put.ends index word made here_at put.puts in
+          absurd (let h : Ended answer ≡ Went = c.1 in cc)
+      | inr k ↦
+          let reached : run shape (Some put.here) (e ∷ k.0) ≡ Some w.before =
           sym (run_on shape (Some (opening shape threads)) put.here (old ++ some) (e ∷ k.0) put.reached) ∙ ap (after shape threads) (append_assoc old some (e ∷ k.0) ∙ ap (λ (xs : List Event). old ++ xs) (sym k.1.1)) ∙ w.reached in
-        let m = first_made shape put.here e w.before k.0 reached in
-        let safe : IsSound shape put.here = sound shape threads (old ++ some) put.here put.reached in
-        let c = put_carries shape put.here e m.0 m.1.0 put.item put.start put.left put.ends index word m.1.1.0 here_at put.puts in
-        let onwards : AllGoOn (own thread (k.0 ++ w.last ∷ [])) = own_rest thread call w.between some k.0 w.last e k.1.1 mine w.one_call in
-        let parted : AllGoOn (own thread k.0 ++ w.last ∷ []) = subst AllGoOn (own-append thread k.0 (w.last ∷ []) ∙ ap (λ (xs : List Event). own thread k.0 ++ xs) (own_last thread w.last w.last_own)) onwards in
-        let ends_so = first_part_goes_on (own thread k.0) w.last parted in
-        let status : Status w.before thread index word =
+          let m = first_made shape put.here e w.before k.0 reached in
+          let safe : IsSound shape put.here = sound shape threads (old ++ some) put.here put.reached in
+          let c = put_carries shape put.here e m.0 m.1.0 put.item put.start put.left put.ends index word m.1.1.0 here_at put.puts in
+          let onwards : AllGoOn (own thread (k.0 ++ w.last ∷ [])) = own_rest thread call w.between some k.0 w.last e k.1.1 mine w.one_call in
+          let parted : AllGoOn (own thread k.0 ++ w.last ∷ []) = subst AllGoOn (own-append thread k.0 (w.last ∷ []) ∙ ap (λ (xs : List Event). own thread k.0 ++ xs) (own_last thread w.last w.last_own)) onwards in
+          let ends_so = first_part_goes_on (own thread k.0) w.last parted in
+          let status : Status w.before thread index word =
           run_status shape m.0 w.before thread index word k.0 (step_sound shape put.here e m.0 m.1.0 safe m.1.1.0) ends_so.0 m.1.1.1 (subst (λ (t : ℕ). Status m.0 t index word) mine c.0) in
-        let last_safe : IsSound shape w.before = sound shape threads (old ++ w.between) w.before w.reached in
-        (w.world, (whole, last_out shape w.before w.last w.world answer index word last_safe w.ends refuses ends_so.1 (subst (λ (t : ℕ). Status w.before t index word) (sym w.last_own) status)))
+          let last_safe : IsSound shape w.before = sound shape threads (old ++ w.between) w.before w.reached in
+          (w.world, (whole, last_out shape w.before w.last w.world answer index word last_safe w.ends refuses ends_so.1 (subst (λ (t : ℕ). Status w.before t index word) (sym w.last_own) status)))
     ]
   where
     own_last : (thread : ℕ) (e : Event) → e.thread ≡ thread → own thread (e ∷ []) ≡ e ∷ []
     own_last thread e mine = ap (λ (b : Bool). cond b (e ∷ []) []) (eq-eqb e.thread thread mine)
+
     own_cons : (thread : ℕ) (e : Event) (es : List Event) → e.thread ≡ thread → own thread (e ∷ es) ≡ e ∷ own thread es
     own_cons thread e es mine = ap (λ (b : Bool). cond b (e ∷ own thread es) (own thread es)) (eq-eqb e.thread thread mine)
+
     own_rest : (thread : ℕ) (call : Begin) (between some init : List Event) (last e : Event) → between ≡ some ++ e ∷ init → e.thread ≡ thread → BeginsOnce thread call (own thread (between ++ last ∷ []))
         → AllGoOn (own thread (init ++ last ∷ []))
     own_rest thread call between some init last e is mine once =
         rest_goes_on (own thread some) (own thread (init ++ last ∷ [])) once.others (event thread (Some call)) e
-          (ap (λ (xs : List Event). own thread some ++ xs) (sym (own_cons thread e (init ++ last ∷ []) mine)) ∙ sym (own-append thread some (e ∷ (init ++ last ∷ [])))
-            ∙ ap (own thread) (sym (append_assoc some (e ∷ init) (last ∷ [])) ∙ ap (λ (xs : List Event). xs ++ last ∷ []) (sym is)) ∙ once.first)
-          once.go_on
+        (ap (λ (xs : List Event). own thread some ++ xs) (sym (own_cons thread e (init ++ last ∷ []) mine)) ∙ sym (own-append thread some (e ∷ (init ++ last ∷ [])))
+        ∙ ap (own thread) (sym (append_assoc some (e ∷ init) (last ∷ [])) ∙ ap (λ (xs : List Event). xs ++ last ∷ []) (sym is)) ∙ once.first)
+        once.go_on
 
 -- a refused call leaves no item of its own
 pub leaves_none : (shape : Shape) (threads : ℕ) → LeavesNone shape threads

@@ -11,11 +11,11 @@ ring_add n a d h =
     let below : a % n < n = mod-lt a (omega arith) in
     let e : (a % n + d) % n ≡ (a + d) % n = mod-add-mod a n d in
     elim (cases_lt (a % n + d) n) [
-      inl lt ↦ let s : (a % n + d) % n ≡ a % n + d = mod-eq_of_lt lt in inl (lt, cc)
-    | inr ge ↦
-        let s : (a % n + d) % n ≡ (a % n + d - n) % n = mod-eq-sub-mod ge in
-        let u : (a % n + d - n) % n ≡ a % n + d - n = mod-eq_of_lt (omega arith) in
-        inr (ge, omega arith)
+      | inl lt ↦ let s : (a % n + d) % n ≡ a % n + d = mod-eq_of_lt lt in inl (lt, cc)
+      | inr ge ↦
+          let s : (a % n + d) % n ≡ (a % n + d - n) % n = mod-eq-sub-mod ge in
+          let u : (a % n + d - n) % n ≡ a % n + d - n = mod-eq_of_lt (omega arith) in
+          inr (ge, omega arith)
     ]
 
 -- the same of any number v of the window that begins at a
@@ -44,9 +44,9 @@ next_place n a b h l u e =
 pub not_next_place : (n a b : ℕ) → 2 ≤ n → a ≤ b → b < a + n → (next_segment n (b % n) ≡ a % n → ⊥) → b + 1 < a + n
 not_next_place n a b h l u ne =
     elim (cases_lt (b + 1) (a + n)) [
-      inl lt ↦ lt
-    | inr ge ↦
-        let e : b + 1 ≡ a + n = omega arith in
-        let s : (a + n) % n ≡ a % n = add-mod_right a n in
-        absurd (ne (next-mod n b h ∙ ap (λ x. x % n) e ∙ s))
+      | inl lt ↦ lt
+      | inr ge ↦
+          let e : b + 1 ≡ a + n = omega arith in
+          let s : (a + n) % n ≡ a % n = add-mod_right a n in
+          absurd (ne (next-mod n b h ∙ ap (λ x. x % n) e ∙ s))
     ]

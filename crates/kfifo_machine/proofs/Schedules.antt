@@ -194,9 +194,9 @@ pub other_place : (shape : Shape) (here : World) (e : Event) (there : World) (ou
 unfolding moved ticked place_of
 other_place shape here e there outcome thread apart is =
     elim (stepped shape here e there outcome is) [
-      inl s ↦ ap (λ (w : World). place_of w thread) s.there_is
-        ∙ get_or-set_other here.places e.thread thread (place_after (advance shape s.running (found shape here s.running))) None apart
-    | inr t ↦ ap (λ (w : World). place_of w thread) t.there_is
+      | inl s ↦ ap (λ (w : World). place_of w thread) s.there_is
+          ∙ get_or-set_other here.places e.thread thread (place_after (advance shape s.running (found shape here s.running))) None apart
+      | inr t ↦ ap (λ (w : World). place_of w thread) t.there_is
     ]
 
 -- the number of threads stays
@@ -204,8 +204,8 @@ pub same_threads : (shape : Shape) (here : World) (e : Event) (there : World) (o
 unfolding moved ticked
 same_threads shape here e there outcome is =
     elim (stepped shape here e there outcome is) [
-      inl s ↦ ap (λ (w : World). length w.places) s.there_is ∙ length-set here.places e.thread (place_after (advance shape s.running (found shape here s.running)))
-    | inr t ↦ ap (λ (w : World). length w.places) t.there_is
+      | inl s ↦ ap (λ (w : World). length w.places) s.there_is ∙ length-set here.places e.thread (place_after (advance shape s.running (found shape here s.running)))
+      | inr t ↦ ap (λ (w : World). length w.places) t.there_is
     ]
 
 -- the event that a longer schedule begins with was made

@@ -62,8 +62,8 @@ unfolding moved word_at
 changed shape here thread running i sound place =
     let within : accessed (access shape running) < length here.words = omega (arith, in_table shape running place, sound.size) in
     elim (get_or-after (access shape running) here.words i within) [
-      inl e ↦ inl e
-    | inr k ↦ inr (k.1.1.1.0 ∙ ap (λ (a : ℕ). Exchange a k.1.0 k.1.1.0) (sym k.0) ∙ ap (λ (a : ℕ). Exchange i a k.1.1.0) (sym k.1.1.1.1) ∙ ap (λ (a : ℕ). Exchange i (get_or here.words i 0) a) (sym k.1.1.1.2))
+      | inl e ↦ inl e
+      | inr k ↦ inr (k.1.1.1.0 ∙ ap (λ (a : ℕ). Exchange a k.1.0 k.1.1.0) (sym k.0) ∙ ap (λ (a : ℕ). Exchange i a k.1.1.0) (sym k.1.1.1.1) ∙ ap (λ (a : ℕ). Exchange i (get_or here.words i 0) a) (sym k.1.1.1.2))
     ]
 
 exchanged : (words : List ℕ) (index to : ℕ) → index < length words → get_or (words_after (Exchange index (get_or words index 0) to) words) index 0 ≡ to
@@ -102,14 +102,14 @@ one_word_moved : (shape : Shape) (here : World) (e : Event) (running : Running) 
     → OneWord shape here (moved shape here e.thread running) e
 one_word_moved shape here e running sound place goes =
     let told : (i : ℕ) → word_at (moved shape here e.thread running) i ≢ word_at here i → access shape running ≡ Exchange i (word_at here i) (word_at (moved shape here e.thread running) i) =
-      λ i ne. elim (changed shape here e.thread running i sound place) [ inl same ↦ absurd (ne same) | inr x ↦ x ] in
+    λ i ne. elim (changed shape here e.thread running i sound place) [ inl same ↦ absurd (ne same) | inr x ↦ x ] in
     record {
       at_most_one = λ i j ni nj. exchange-index i j _ _ _ _ (sym (told i ni) ∙ told j nj);
       only_so = λ i ne. inl record { running = running; stands = goes; exchange = told i ne };
       won = λ i to w.
-        let same : w.running ≡ running = Some-injective w.running running (sym w.stands ∙ goes) in
-        let is : access shape running ≡ Exchange i (word_at here i) to = ap (access shape) (sym same) ∙ w.exchange in
-        (won_word shape here e.thread running i to sound place is, raises shape running i (word_at here i) to place is);
+          let same : w.running ≡ running = Some-injective w.running running (sym w.stands ∙ goes) in
+          let is : access shape running ≡ Exchange i (word_at here i) to = ap (access shape) (sym same) ∙ w.exchange in
+          (won_word shape here e.thread running i to sound place is, raises shape running i (word_at here i) to place is);
       ticked = λ i t. absurd (no_going_tick shape (place_of here e.thread) e.begin running t.begins goes);
     }
 
@@ -125,10 +125,10 @@ one_word_ticked shape here e sound begins = record {
 pub one_word : (shape : Shape) (here : World) (e : Event) (there : World) (outcome : Outcome) → IsSound shape here → step shape here e ≡ Ok (there, outcome) → OneWord shape here there e
 one_word shape here e there outcome sound is =
     elim (stepped shape here e there outcome is) [
-      inl s ↦ subst (λ (w : World). OneWord shape here w e) (sym s.there_is)
-        (one_word_moved shape here e s.running sound
+      | inl s ↦ subst (λ (w : World). OneWord shape here w e) (sym s.there_is)
+          (one_word_moved shape here e s.running sound
           (going_place shape (place_of here e.thread) e.begin s.running (λ r at. place_is shape here e.thread r sound at) s.goes) s.goes)
-    | inr t ↦ subst (λ (w : World). OneWord shape here w e) (sym t.there_is) (one_word_ticked shape here e sound t.begins)
+      | inr t ↦ subst (λ (w : World). OneWord shape here w e) (sym t.there_is) (one_word_ticked shape here e sound t.begins)
     ]
 
 -- No word falls
@@ -136,13 +136,13 @@ pub word_rises : (shape : Shape) (here : World) (e : Event) (there : World) (out
 word_rises shape here e there outcome i sound is =
     let one = one_word shape here e there outcome sound is in
     elim (cases_eq (word_at there i) (word_at here i)) [
-      inl same ↦ omega arith
-    | inr ne ↦ elim (one.only_so i ne) [
-          inl w ↦
+      | inl same ↦ omega arith
+      | inr ne ↦ elim (one.only_so i ne) [
+        | inl w ↦
             let place : IsPlace shape w.running = going_place shape (place_of here e.thread) e.begin w.running (λ r at. place_is shape here e.thread r sound at) w.stands in
             omega (arith, rises shape w.running i (word_at here i) (word_at there i) place w.exchange)
         | inr t ↦ omega (arith, one.ticked i t)
-        ]
+      ]
     ]
 
 pub step_rises : (shape : Shape) (here : World) (e : Event) (there : World) (outcome : Outcome) → IsSound shape here → step shape here e ≡ Ok (there, outcome) → NoneFalls here there

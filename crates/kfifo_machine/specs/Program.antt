@@ -103,8 +103,8 @@ enqueue_advance shape item start left (E.ReloadSlot ends index filled) word =
 enqueue_advance shape item start left (E.ReloadEnds ends index filled) word =
     if tail_of ends == head_of word
     then (if version_of word == shape.last
-        then Goes (R.Enqueue item start left (E.Undo index filled true))
-        else Goes (R.Enqueue item start left (E.HoldHead index filled word)))
+    then Goes (R.Enqueue item start left (E.Undo index filled true))
+    else Goes (R.Enqueue item start left (E.HoldHead index filled word)))
     else if nat_le (distance shape.n (head_of word) (tail_of ends)) (distance shape.n (head_of word) (tail_of word))
     then Answers Done
     else Goes (R.Enqueue item start left (E.Undo index filled false))

@@ -9,7 +9,12 @@ use kfifo_words::Shape;
 use std::alloc::Global;
 
 /// The state after these events, from the opening, or why there is none.
-fn run_events(alloc: Global, shape: Shape, threads: u32, events: &[Event]) -> Result<State, RunFault>
+fn run_events(
+    alloc: Global,
+    shape: Shape,
+    threads: u32,
+    events: &[Event],
+) -> Result<State, RunFault>
     ensures state { IfOk result (λ s. (s.shape ≡ shape) × (after shape threads events.now ≡ Some s.world)) }
     ensures threads { (result ≡ Err RunFault.ThreadsOutOfRange) ↔ ((threads ≡ 0) ⊎ (64 < threads)) }
     ensures refused { (place : ℕ) → result ≡ Err (RunFault.NotASchedule place) → IsFirstRefused shape threads events.now place }
