@@ -5,3 +5,6 @@ pub mod Checking
 pub mod Ranges
 pub mod Measuring
 pub mod Watching
+pub mod Forgetting
+pub mod Resting
+pub mod Adding

@@ -8,3 +8,5 @@ pub mod Progress
 pub mod Validity
 pub mod FaultNumbers
 pub mod Measures
+pub mod Reach
+pub mod Searching

@@ -7,8 +7,10 @@ mod history;
 mod measures;
 mod orders;
 mod progress;
+mod search;
 
 pub use calls::{Answer, Call, End, Op};
 pub use history::{History, RecordFault};
 pub use measures::{OvertakenFault, RankFault, overtaken, ranks};
 pub use orders::{Verdict, check_order};
+pub use search::{SearchFault, has_order};

@@ -27,7 +27,7 @@ pub enum OvertakenFault {
 }
 
 /// The item that a call adds to the queue.
-fn added(call: &Call) -> Option<u32>
+pub(crate) fn added(call: &Call) -> Option<u32>
     ensures { MatchOption result ((x : ℕ) → effect_of call.now ≡ Adds x → ⊥) (λ x. effect_of call.now ≡ Adds x) }
 {
     match (call.op, call.end) {
@@ -44,7 +44,7 @@ fn added(call: &Call) -> Option<u32>
 }
 
 /// The item that a call takes from the queue.
-fn taken(call: &Call) -> Option<u32>
+pub(crate) fn taken(call: &Call) -> Option<u32>
     ensures { MatchOption result ((x : ℕ) → effect_of call.now ≡ Takes x → ⊥) (λ x. effect_of call.now ≡ Takes x) }
 {
     match (call.op, call.end) {
