@@ -8,3 +8,4 @@ pub mod Watching
 pub mod Forgetting
 pub mod Resting
 pub mod Adding
+pub mod RecordLemmas

@@ -3,13 +3,15 @@ use Rattle.std.proofs.Common.{ℕ, suc, ◌≡◌, ◌≢◌, ◌+◌, ◌<◌, 
 use Rattle.std.proofs.lemmas.Bool.{cases_lt, cases_eq}
 use Rattle.std.proofs.lemmas.List.{get_or_default, get_or_append_left}
 use Rattle.std.proofs.Math.ListN.{length-set}
+use Rattle.std.proofs.Math.Seq.{get_or-append_seam}
+use Rattle.kfifo_model.specs.declared.history.RecordFault.TheVariants.{EndsEarly, OutOfOrder, Overlap}
 use Rattle.kfifo_model.specs.declared.calls.Call.{Call}
 use Rattle.kfifo_model.specs.declared.calls.End.{End}
 use Rattle.kfifo_model.specs.declared.progress.Progress.{Progress}
 use Rattle.kfifo_model.specs.declared.progress.ThreadState.{ThreadState}
 use Rattle.kfifo_model.specs.declared.progress.ThreadState.TheVariants.{Fresh, Ended, InCall}
 use Rattle.kfifo_model.specs.Histories.{call, no_call, EndsBelow}
-use Rattle.kfifo_model.specs.Validity.{IsGood, IsInRange, Answers, EndsFrom, Rises, IsApart}
+use Rattle.kfifo_model.specs.Validity.{IsHistory, IsGoodBelow, IsFault, IsGood, IsInRange, Answers, EndsFrom, Rises, IsApart}
 use Rattle.kfifo_model.specs.Progress.{LetsBegin, RisesFrom, state_after}
 
 -- the calls before n, as a next call has to heed them
@@ -137,3 +139,97 @@ pub rises_at : (h : List Call) (n : ℕ) (p : Progress) (d : Call) → n < lengt
 rises_at h n p d lt was t =
     let P : Call → Type 0 = λ w. RisesFrom p.latest w.first in
     (was.latest (call h n).first).0 (subst P (get_or_default h n d no_call lt) t)
+
+-- ---- a call after those of a history
+
+pub before_last : (h : List Call) (c : Call) (j : ℕ) → j < length h → call (h ++ c ∷ []) j ≡ call h j
+before_last h c j lt = get_or_append_left h (c ∷ []) no_call j lt
+
+pub the_last : (h : List Call) (c : Call) (n : ℕ) → length h ≡ n → call (h ++ c ∷ []) n ≡ c
+the_last h c n e = ap (call (h ++ c ∷ [])) (sym e) ∙ get_or-append_seam h c [] no_call
+
+good_with : (h : List Call) (c : Call) (n : ℕ) → n < length h → IsGood h n → IsGood (h ++ c ∷ []) n
+good_with h c n lt g =
+    let e : (j : ℕ) → j < length h → call h j ≡ call (h ++ c ∷ []) j = λ j l. sym (before_last h c j l) in
+    let R : Call → Type 0 = λ w. IsInRange w in
+    let A : Call → Type 0 = λ w. Answers w.op w.end in
+    let E : Call → Type 0 = λ w. EndsFrom w.first w.end in
+    record {
+      ranged = subst R (e n lt) g.ranged;
+      answers = subst A (e n lt) g.answers;
+      ends = subst E (e n lt) g.ends;
+      rises = λ j s.
+          let lj : j < length h = omega arith in
+          let P : Call → Type 0 = λ w. w.first < (call h n).first in
+          let Q : Call → Type 0 = λ w. (call (h ++ c ∷ []) j).first < w.first in
+          subst Q (e n lt) (subst P (e j lj) (g.rises j s));
+      apart = λ j l t.
+          let lj : j < length h = omega arith in
+          let P : Call → Type 0 = λ w. EndsBelow w.end (call h n).first in
+          let Q : Call → Type 0 = λ w. EndsBelow (call (h ++ c ∷ []) j).end w.first in
+          subst Q (e n lt) (subst P (e j lj) (g.apart j l (ap (λ w. w.thread) (e j lj) ∙ (t ∙ ap (λ w. w.thread) (sym (e n lt))))));
+    }
+
+progress_with : (h : List Call) (c : Call) (n : ℕ) (p : Progress) → length h ≡ n → IsProgress h n p → IsProgress (h ++ c ∷ []) n p
+progress_with h c n p len was =
+    let e : (j : ℕ) → j < n → call h j ≡ call (h ++ c ∷ []) j = λ j l. sym (before_last h c j (omega arith)) in
+    record {
+      sized = was.sized;
+      latest = λ s. (
+        λ r j q. (let lj : j < n = omega arith in let P : Call → Type 0 = λ w. w.first < s in subst P (e j lj) ((was.latest s).0 r j q)),
+        λ f. (was.latest s).1 (λ j q. let lj : j < n = omega arith in let P : Call → Type 0 = λ w. w.first < s in subst P (sym (e j lj)) (f j q)),
+      );
+      threads = λ t s d lt. (
+        λ l j lj th. (let P : Call → Type 0 = λ w. EndsBelow w.end s in subst P (e j lj) ((was.threads t s d lt).0 l j lj (ap (λ w. w.thread) (e j lj) ∙ th))),
+        λ f. (was.threads t s d lt).1 (λ j lj th. let P : Call → Type 0 = λ w. EndsBelow w.end s in subst P (sym (e j lj)) (f j lj (ap (λ w. w.thread) (sym (e j lj)) ∙ th))),
+      );
+    }
+
+good_below : (h : List Call) (c : Call) (n : ℕ) → length h ≡ n → IsHistory h → IsGoodBelow (h ++ c ∷ []) n
+good_below h c n len v =
+    (simp length-append (omega arith), λ j lt. let lj : j < length h = omega arith in good_with h c j lj (v j lj))
+
+-- what holds of the call holds of the last of them
+of_last : (h : List Call) (c : Call) (n : ℕ) (P : Call → Type 0) → length h ≡ n → P c → P (call (h ++ c ∷ []) n)
+of_last h c n P len p = subst P (sym (the_last h c n len)) p
+
+pub fault_ends : (h : List Call) (c : Call) (n : ℕ) → length h ≡ n → IsHistory h → IsInRange c → Answers c.op c.end → (EndsFrom c.first c.end → ⊥) → IsFault (h ++ c ∷ []) (EndsEarly n)
+fault_ends h c n len v r a f = (
+  good_below h c n len v,
+  of_last h c n (λ w. IsInRange w) len r,
+  of_last h c n (λ w. Answers w.op w.end) len a,
+  of_last h c n (λ w. EndsFrom w.first w.end → ⊥) len f,
+)
+
+pub fault_rises : (h : List Call) (c : Call) (n : ℕ) (p : Progress) → length h ≡ n → IsHistory h → IsProgress h n p → IsInRange c → Answers c.op c.end → EndsFrom c.first c.end → (RisesFrom p.latest c.first → ⊥) → IsFault (h ++ c ∷ []) (OutOfOrder n)
+fault_rises h c n p len v was r a e f = (
+  good_below h c n len v,
+  of_last h c n (λ w. IsInRange w) len r,
+  of_last h c n (λ w. Answers w.op w.end) len a,
+  of_last h c n (λ w. EndsFrom w.first w.end) len e,
+  λ s. of_last h c n (λ w. RisesFrom p.latest w.first → ⊥) len f (((progress_with h c n p len was).latest (call (h ++ c ∷ []) n).first).1 s),
+)
+
+pub fault_lets : (h : List Call) (c : Call) (n : ℕ) (p : Progress) → length h ≡ n → IsHistory h → IsProgress h n p → IsInRange c → Answers c.op c.end → EndsFrom c.first c.end → RisesFrom p.latest c.first → ((d : ThreadState) → LetsBegin (get_or p.threads c.thread d) c.first → ⊥) → IsFault (h ++ c ∷ []) (Overlap n)
+fault_lets h c n p len v was r a e s f = (
+  good_below h c n len v,
+  of_last h c n (λ w. IsInRange w) len r,
+  of_last h c n (λ w. Answers w.op w.end) len a,
+  of_last h c n (λ w. EndsFrom w.first w.end) len e,
+  ((progress_with h c n p len was).latest (call (h ++ c ∷ []) n).first).0 (of_last h c n (λ w. RisesFrom p.latest w.first) len s),
+  λ apart. of_last h c n (λ w. LetsBegin (get_or p.threads w.thread Fresh) w.first → ⊥) len (f Fresh)
+      (((progress_with h c n p len was).threads (call (h ++ c ∷ []) n).thread (call (h ++ c ∷ []) n).first Fresh (of_last h c n (λ w. w.thread < 64) len r.0)).1 apart),
+)
+
+good_last : (h : List Call) (c : Call) (n : ℕ) (p : Progress) → length h ≡ n → IsProgress h n p → Tests p c → IsGood (h ++ c ∷ []) n
+good_last h c n p len was t = good_call (h ++ c ∷ []) n p (progress_with h c n p len was) (of_last h c n (λ w. Tests p w) len t)
+
+pub more_valid : (h : List Call) (c : Call) (n : ℕ) (p : Progress) → length h ≡ n → IsHistory h → IsProgress h n p → Tests p c → IsHistory (h ++ c ∷ [])
+more_valid h c n p len v was t j lt =
+    let lj : j < n + 1 = (let e = length-append h (c ∷ []) in omega arith) in
+    good_more (h ++ c ∷ []) n (good_below h c n len v).1 (good_last h c n p len was t) j lj
+
+pub more_noted : (h : List Call) (c : Call) (n : ℕ) (p q : Progress) → length h ≡ n → IsProgress h n p → Tests p c → q.latest ≡ Some c.first → q.threads ≡ set p.threads c.thread (state_after c.end) → IsProgress (h ++ c ∷ []) (n + 1) q
+more_noted h c n p q len was t a b =
+    let m = of_last h c n (λ w. (q.latest ≡ Some w.first) × (q.threads ≡ set p.threads w.thread (state_after w.end))) len (a, b) in
+    more_progress (h ++ c ∷ []) n p q (progress_with h c n p len was) (good_last h c n p len was t) m.0 m.1

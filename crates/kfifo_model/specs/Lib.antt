@@ -10,3 +10,4 @@ pub mod FaultNumbers
 pub mod Measures
 pub mod Reach
 pub mod Searching
+pub mod Records

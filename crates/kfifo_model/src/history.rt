@@ -173,6 +173,14 @@ impl History {
         }
     }
 
+    /// Calls that are known to be a history.
+    pub(crate) fn of_valid(calls: Vec<Call>) -> Self
+        requires { IsHistory calls.items }
+        ensures { result ≡ calls.items }
+    {
+        History { calls }
+    }
+
     /// The calls, by their numbers.
     pub fn calls(&self) -> &[Call]
         ensures calls { result.now ≡ self.now }

@@ -7,10 +7,12 @@ mod history;
 mod measures;
 mod orders;
 mod progress;
+mod reading;
 mod search;
 
 pub use calls::{Answer, Call, End, Op};
 pub use history::{History, RecordFault};
 pub use measures::{OvertakenFault, RankFault, overtaken, ranks};
 pub use orders::{Verdict, check_order};
+pub use reading::{MOST_CALLS, read_history};
 pub use search::{SearchFault, has_order};
