@@ -7,3 +7,4 @@ pub mod NoWrap
 pub mod Budget
 pub mod Refusals
 pub mod Laws
+pub mod Calls

@@ -4,3 +4,4 @@ pub mod Runs
 pub mod Places
 pub mod Faults
 pub mod Laws
+pub mod Calls

@@ -41,6 +41,7 @@ impl Model for State {
 pub fn start(alloc: Global, shape: Shape, threads: u32) -> Result<State, StartFault>
     ensures opening { IfOk result (λ s. (s.shape ≡ shape) × (s.world ≡ opening shape threads)) }
     ensures threads { (result ≡ Err StartFault.ThreadsOutOfRange) ↔ ((threads ≡ 0) ⊎ (64 < threads)) }
+    ensures few { IfOk result (λ _. (0 < threads) × (threads ≤ 64)) }
 {
     if threads == 0 || threads > MAX_THREADS {
         return Err(StartFault::ThreadsOutOfRange);
