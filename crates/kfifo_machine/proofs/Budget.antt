@@ -1,7 +1,7 @@
 -- A call has few events.
-use Rattle.std.proofs.Common.{◌≡◌, ◌≢◌, ◌⊎◌, ℕ, ◌+◌, ◌*◌, ◌-◌, ◌<◌, ◌≤◌, List, [], ◌∷◌, ◌++◌, length, get_or, set, Option, Some, None, Ok, Err, Bool, true, false, refl, sym, ap, ◌∙◌, subst, inl, inr, arith, cond, eqb, eq-eqb}
+use Rattle.std.proofs.Common.{◌≡◌, ◌≢◌, ◌⊎◌, ℕ, ◌+◌, ◌*◌, ◌<◌, ◌≤◌, List, [], ◌∷◌, length, Option, Some, None, Ok, Bool, true, false, refl, sym, ap, ◌∙◌, subst, inl, inr, arith, cond, eq-eqb}
 use Rattle.std.specs.Prelude.{◌==◌}
-use Rattle.std.proofs.lemmas.Bool.{cases_eq, eqb-true}
+use Rattle.std.proofs.lemmas.Bool.{eqb-true}
 use Rattle.std.proofs.lemmas.Bool.Decides.{nat_tests}
 use Rattle.std.proofs.lemmas.Grind.{get_or-set_at}
 use Rattle.kfifo_words.specs.declared.shape.Shape.{Shape}
@@ -15,13 +15,13 @@ use Rattle.kfifo_machine.specs.declared.place.Running.{Running}
 use Rattle.kfifo_machine.specs.declared.place.Running.TheVariants as R
 use Rattle.kfifo_machine.specs.declared.place.Next.{Next}
 use Rattle.kfifo_machine.specs.declared.place.Next.TheVariants.{Goes, Answers}
-use Rattle.kfifo_machine.specs.Program.{access, advance}
-use Rattle.kfifo_machine.specs.Machine.{World, opening, place_of, place_after, moved, ticked, found, begun, may_begin, step, run, after}
-use Rattle.kfifo_machine.specs.Runs.{event, own, going, AllGoOn, BeginsOnce}
+use Rattle.kfifo_machine.specs.Program.{advance}
+use Rattle.kfifo_machine.specs.Machine.{World, opening, place_of, place_after, moved, ticked, found, may_begin, step, run}
+use Rattle.kfifo_machine.specs.Runs.{event, own, going, AllGoOn}
 use Rattle.kfifo_machine.specs.Places.{IsPlace}
 use Rattle.kfifo_machine.specs.Laws.{most_events, FewEvents}
 use Rattle.kfifo_machine.proofs.Places.{budget, budget_falls, budget-begin, NextBelow}
-use Rattle.kfifo_machine.proofs.Schedules.{Some-injective, run_before, first_made, made_within, stepped, StepsFrom, Ticks, other_place}
+use Rattle.kfifo_machine.proofs.Schedules.{Some-injective, run_before, first_made, made_within, stepped, other_place}
 use Rattle.kfifo_machine.proofs.Sound.{IsSound, going_place, place_is, step_sound, opening_sound, run_sound}
 
 -- how many events a thread may still have in its call

@@ -1,5 +1,5 @@
 -- The calls of a schedule are a history: they begin in turn, and those of one thread do not overlap.
-use Rattle.std.proofs.Common.{◌≡◌, ◌≢◌, ◌⊎◌, ℕ, zero, suc, ◌+◌, ◌*◌, ◌^◌, ◌<◌, ◌≤◌, ◌%◌, List, [], ◌∷◌, ◌++◌, length, get_or, set, replicate, Option, Some, None, Result, Ok, take, Bool, true, false, refl, sym, ap, ◌∙◌, subst, inl, inr, arith, cond, length-append}
+use Rattle.std.proofs.Common.{◌≡◌, ◌≢◌, ◌⊎◌, ℕ, zero, suc, ◌+◌, ◌<◌, ◌≤◌, List, [], ◌∷◌, ◌++◌, length, get_or, set, replicate, Option, Some, None, Result, Ok, take, Bool, true, false, refl, sym, ap, ◌∙◌, subst, inl, inr, arith, cond, length-append}
 use Rattle.std.proofs.Math.ListN.{get_or-append}
 use Rattle.std.proofs.Math.Seq.{get_or-append_seam}
 use Rattle.std.proofs.lemmas.Bool.{cases_eq, cases_lt, and_parts}
@@ -18,14 +18,13 @@ use Rattle.kfifo_model.specs.declared.history.RecordFault.{RecordFault}
 use Rattle.kfifo_model.specs.declared.history.RecordFault.TheVariants as F
 use Rattle.kfifo_model.specs.Relaxed.{Wrong, effect}
 use Rattle.kfifo_model.specs.Histories.{call, no_call, EndsBelow}
-use Rattle.kfifo_model.specs.Validity.{IsFault, IsItem, OpInRange, AnswerInRange, EndInRange, IsInRange, Answers, EndsFrom, Rises, IsApart, IsGood, IsHistory}
+use Rattle.kfifo_model.specs.Validity.{IsFault, IsItem, OpInRange, AnswerInRange, IsInRange, Answers, EndsFrom, Rises, IsApart, IsGood, IsHistory}
 use Rattle.kfifo_machine.specs.declared.event.Begin.{Begin}
 use Rattle.kfifo_machine.specs.declared.event.Begin.TheVariants as B
 use Rattle.kfifo_machine.specs.declared.event.Event.{Event}
 use Rattle.kfifo_machine.specs.declared.event.Outcome.{Outcome}
-use Rattle.kfifo_machine.specs.declared.event.Outcome.TheVariants.{Went, Ended}
 use Rattle.kfifo_machine.specs.declared.event.NotEnabled.{NotEnabled}
-use Rattle.kfifo_machine.specs.declared.place.Found.TheVariants.{Slot, Nothing}
+use Rattle.kfifo_machine.specs.declared.place.Found.TheVariants.{Slot}
 use Rattle.kfifo_machine.specs.declared.place.EnqueuePhase.TheVariants as E
 use Rattle.kfifo_machine.specs.declared.place.DequeuePhase.{DequeuePhase}
 use Rattle.kfifo_machine.specs.declared.place.DequeuePhase.TheVariants as D
@@ -33,11 +32,11 @@ use Rattle.kfifo_machine.specs.declared.place.Running.{Running}
 use Rattle.kfifo_machine.specs.declared.place.Running.TheVariants as R
 use Rattle.kfifo_machine.specs.declared.place.Next.{Next}
 use Rattle.kfifo_machine.specs.declared.place.Next.TheVariants as N
-use Rattle.kfifo_machine.specs.Program.{access, advance}
-use Rattle.kfifo_machine.specs.Machine.{World, opening, place_of, place_after, outcome_of, moved, ticked, found, begun, may_begin, step, world_of, run, after}
+use Rattle.kfifo_machine.specs.Program.{advance}
+use Rattle.kfifo_machine.specs.Machine.{World, opening, place_of, place_after, outcome_of, found, begun, may_begin, step, world_of, run, after}
 use Rattle.kfifo_machine.specs.Runs.{going}
 use Rattle.kfifo_machine.specs.Calls.{Log, begins, ended, ends, logged, logged_by, log_from, blank, log_of, history_of}
-use Rattle.kfifo_machine.proofs.Schedules.{Some-injective, first_made, made_within, stepped, StepsFrom, Ticks, other_place, same_threads, take-next}
+use Rattle.kfifo_machine.proofs.Schedules.{Some-injective, first_made, made_within, stepped, other_place, same_threads, take-next}
 use Rattle.kfifo_machine.proofs.Budget.{own_place, tick_leaves, goes_on_from}
 
 -- what a thread at this place was asked for
@@ -153,8 +152,8 @@ stays_good h g n same good =
       ends = rw at good.ends;
       rises = λ j e. let b : call g j ≡ call h j = same j (omega arith) in rw (at, b) (good.rises j e);
       apart = λ j less mine. let b : call g j ≡ call h j = same j (omega arith) in
-        let old : EndsBelow (call h j).end (call h n).first = good.apart j less (ap (λ (c : Call). c.thread) (sym b) ∙ mine ∙ ap (λ (c : Call). c.thread) at) in
-        rw (at, b) old;
+          let old : EndsBelow (call h j).end (call h n).first = good.apart j less (ap (λ (c : Call). c.thread) (sym b) ∙ mine ∙ ap (λ (c : Call). c.thread) at) in
+          rw (at, b) old;
     }
 
 past_on : (now : ℕ) (c : Call) → IsPast now c → IsPast (now + 1) c
@@ -182,10 +181,9 @@ opened now thread op = record { thread = thread; op = op; first = now; end = Non
 module _ (threads : ℕ) (here there : World) (now thread : ℕ) (op : Op) (running : Running) (log : Log) (is : IsLog threads here now log) (few : threads ≤ 64) (within : thread < length here.places)
     (idle : place_of here thread ≡ None) (at : place_of there thread ≡ Some running) (asks : op_of running ≡ op) (finds : FindsAt running) (apart : (t : ℕ) → t ≢ thread → place_of there t ≡ place_of here t)
     (still : length there.places ≡ length here.places) where
-
   old_or_new : (n : ℕ) → n < length (begins now thread op log).calls → (n < length log.calls) ⊎ (n ≡ length log.calls)
   old_or_new n less = let all : length (log.calls ++ opened now thread op ∷ []) ≡ length log.calls + 1 = length-more log.calls (opened now thread op) in
-    elim (cases_lt n (length log.calls)) [ inl lt ↦ inl lt | inr ge ↦ inr (omega arith) ]
+      elim (cases_lt n (length log.calls)) [ inl lt ↦ inl lt | inr ge ↦ inr (omega arith) ]
 
   -- no unfinished call is of an idle thread
   over_before : (j : ℕ) (e : Option End) → j < length log.calls → (call log.calls j).end ≡ e → (call log.calls j).thread ≡ thread → EndPast now e → EndsBelow e now
@@ -203,31 +201,31 @@ module _ (threads : ℕ) (here there : World) (now thread : ℕ) (op : Op) (runn
         answers = rw c tt;
         ends = rw c tt;
         rises = λ j e.
-          let b : call (log.calls ++ opened now thread op ∷ []) j ≡ call log.calls j = call-before log.calls (opened now thread op) j (omega arith) in
-          let first : (call log.calls j).first < now = (is.past j (omega arith)).begun in
-          rw (c, b) first;
+            let b : call (log.calls ++ opened now thread op ∷ []) j ≡ call log.calls j = call-before log.calls (opened now thread op) j (omega arith) in
+            let first : (call log.calls j).first < now = (is.past j (omega arith)).begun in
+            rw (c, b) first;
         apart = λ j less mine.
-          let in_old : j < length log.calls = omega arith in
-          let b : call (log.calls ++ opened now thread op ∷ []) j ≡ call log.calls j = call-before log.calls (opened now thread op) j in_old in
-          let own : (call log.calls j).thread ≡ thread = ap (λ (x : Call). x.thread) (sym b) ∙ mine ∙ ap (λ (x : Call). x.thread) c in
-          rw (c, b) (over_before j (call log.calls j).end in_old refl own (is.past j in_old).over);
+            let in_old : j < length log.calls = omega arith in
+            let b : call (log.calls ++ opened now thread op ∷ []) j ≡ call log.calls j = call-before log.calls (opened now thread op) j in_old in
+            let own : (call log.calls j).thread ≡ thread = ap (λ (x : Call). x.thread) (sym b) ∙ mine ∙ ap (λ (x : Call). x.thread) c in
+            rw (c, b) (over_before j (call log.calls j).end in_old refl own (is.past j in_old).over);
       }
 
   begin_good : IsHistory (begins now thread op log).calls
   begin_good n less = elim (old_or_new n less) [
-      inl in_old ↦ stays_good log.calls (begins now thread op log).calls n (λ j low. call-before log.calls (opened now thread op) j (omega arith)) (is.history n in_old)
+    | inl in_old ↦ stays_good log.calls (begins now thread op log).calls n (λ j low. call-before log.calls (opened now thread op) j (omega arith)) (is.history n in_old)
     | inr last ↦ new_good n last
-    ]
+  ]
 
   begin_past : (n : ℕ) → n < length (begins now thread op log).calls → IsPast (now + 1) (call (begins now thread op log).calls n)
   begin_past n less = elim (old_or_new n less) [
-      inl in_old ↦ rw (call-before log.calls (opened now thread op) n in_old) (past_on now (call log.calls n) (is.past n in_old))
+    | inl in_old ↦ rw (call-before log.calls (opened now thread op) n in_old) (past_on now (call log.calls n) (is.past n in_old))
     | inr last ↦ rw (call-new log.calls (opened now thread op) n last) (record { begun = omega arith; over = tt })
-    ]
+  ]
 
   begin_open : (n : ℕ) → n < length (begins now thread op log).calls → (call (begins now thread op log).calls n).end ≡ None → IsOpen there (set log.latest thread (length log.calls)) n (call (begins now thread op log).calls n)
   begin_open n less unfinished = elim (old_or_new n less) [
-      inl in_old ↦
+    | inl in_old ↦
         let b : call (log.calls ++ opened now thread op ∷ []) n ≡ call log.calls n = call-before log.calls (opened now thread op) n in_old in
         let o = is.open_calls n in_old (ap (λ (x : Call). x.end) (sym b) ∙ unfinished) in
         let ne : (call log.calls n).thread ≢ thread = λ mine. absurd (let h : None ≡ Some o.running = sym idle ∙ ap (place_of here) (sym mine) ∙ o.there in cc) in
@@ -246,11 +244,11 @@ module _ (threads : ℕ) (here there : World) (now thread : ℕ) (op : Op) (runn
           asks = asks;
           number = get_or-set_at log.latest thread thread (length log.calls) 0 refl known ∙ sym last;
         })
-    ]
+  ]
 
   begin_running : (t : ℕ) (r : Running) → place_of there t ≡ Some r → IsMade (begins now thread op log) t r
   begin_running t r there_at = elim (cases_eq t thread) [
-      inl mine ↦
+    | inl mine ↦
         let known : thread < length log.latest = let k = is.known in let l = is.threads_are in omega arith in
         let number : get_or (set log.latest thread (length log.calls)) t 0 ≡ length log.calls = get_or-set_at log.latest thread t (length log.calls) 0 mine known in
         let c : call (log.calls ++ opened now thread op ∷ []) (get_or (set log.latest thread (length log.calls)) t 0) ≡ opened now thread op = call-new log.calls (opened now thread op) _ number in
@@ -266,45 +264,49 @@ module _ (threads : ℕ) (here there : World) (now thread : ℕ) (op : Op) (runn
         let number : get_or (set log.latest thread (length log.calls)) t 0 ≡ get_or log.latest t 0 = get_or-set_other log.latest thread t (length log.calls) 0 ne in
         let low : get_or log.latest t 0 < length log.calls = m.within in
         let b : call (log.calls ++ opened now thread op ∷ []) (get_or (set log.latest thread (length log.calls)) t 0) ≡ call log.calls (get_or log.latest t 0) =
-          ap (call (log.calls ++ opened now thread op ∷ [])) number ∙ call-before log.calls (opened now thread op) (get_or log.latest t 0) low in
+        ap (call (log.calls ++ opened now thread op ∷ [])) number ∙ call-before log.calls (opened now thread op) (get_or log.latest t 0) low in
         record {
           within = omega (arith, length-more log.calls (opened now thread op));
           mine = rw b m.mine;
           unfinished = rw b m.unfinished;
           finds = m.finds;
         }
-    ]
+  ]
 
   begin_log : IsLog threads there (now + 1) (begins now thread op log)
   begin_log = record {
-    history = begin_good; past = begin_past; open_calls = begin_open; running_calls = begin_running;
-    known = length-set log.latest thread (length log.calls) ∙ is.known; threads_are = still ∙ is.threads_are;
+    history = begin_good;
+    past = begin_past;
+    open_calls = begin_open;
+    running_calls = begin_running;
+    known = length-set log.latest thread (length log.calls) ∙ is.known;
+    threads_are = still ∙ is.threads_are;
   }
 
 -- A thread goes on with its call, or idles and ticks
 module _ (threads : ℕ) (here there : World) (now thread : ℕ) (log : Log) (is : IsLog threads here now log) (apart : (t : ℕ) → t ≢ thread → place_of there t ≡ place_of here t)
     (still : length there.places ≡ length here.places) where
-
   go_log : (running next : Running) → place_of here thread ≡ Some running → place_of there thread ≡ Some next → op_of next ≡ op_of running → FindsAt next → IsLog threads there (now + 1) log
   go_log running next was at same finds = record {
     history = is.history;
     past = λ n less. past_on now (call log.calls n) (is.past n less);
     open_calls = λ n less unfinished.
-      let o = is.open_calls n less unfinished in
-      elim (cases_eq (call log.calls n).thread thread) [
-        inl mine ↦
-          let r : o.running ≡ running = Some-injective o.running running (sym o.there ∙ ap (place_of here) mine ∙ was) in
-          record { running = next; there = ap (place_of there) mine ∙ at; asks = same ∙ ap op_of (sym r) ∙ o.asks; number = o.number }
-      | inr ne ↦ record { running = o.running; there = apart (call log.calls n).thread ne ∙ o.there; asks = o.asks; number = o.number }
-      ];
+        let o = is.open_calls n less unfinished in
+        elim (cases_eq (call log.calls n).thread thread) [
+          | inl mine ↦
+              let r : o.running ≡ running = Some-injective o.running running (sym o.there ∙ ap (place_of here) mine ∙ was) in
+              record { running = next; there = ap (place_of there) mine ∙ at; asks = same ∙ ap op_of (sym r) ∙ o.asks; number = o.number }
+          | inr ne ↦ record { running = o.running; there = apart (call log.calls n).thread ne ∙ o.there; asks = o.asks; number = o.number }
+        ];
     running_calls = λ t r there_at. elim (cases_eq t thread) [
-        inl mine ↦
+      | inl mine ↦
           let m = is.running_calls t running (ap (place_of here) mine ∙ was) in
           let e : next ≡ r = Some-injective next r (sym at ∙ ap (place_of there) (sym mine) ∙ there_at) in
           record { within = m.within; mine = m.mine; unfinished = m.unfinished; finds = subst FindsAt e finds }
       | inr ne ↦ is.running_calls t r (sym (apart t ne) ∙ there_at)
-      ];
-    known = is.known; threads_are = still ∙ is.threads_are;
+    ];
+    known = is.known;
+    threads_are = still ∙ is.threads_are;
   }
 
   tick_log : place_of there thread ≡ place_of here thread → IsLog threads there (now + 1) log
@@ -315,14 +317,14 @@ module _ (threads : ℕ) (here there : World) (now thread : ℕ) (log : Log) (is
         past = λ n less. past_on now (call log.calls n) (is.past n less);
         open_calls = λ n less unfinished. let o = is.open_calls n less unfinished in record { running = o.running; there = all (call log.calls n).thread ∙ o.there; asks = o.asks; number = o.number };
         running_calls = λ t r there_at. is.running_calls t r (sym (all t) ∙ there_at);
-        known = is.known; threads_are = still ∙ is.threads_are;
+        known = is.known;
+        threads_are = still ∙ is.threads_are;
       }
 
 -- A thread's call ends
 module _ (threads : ℕ) (here there : World) (now thread : ℕ) (running : Running) (answer : Answer) (log : Log) (is : IsLog threads here now log) (was : place_of here thread ≡ Some running)
     (at : place_of there thread ≡ None) (right : IsAnswer (op_of running) answer) (apart : (t : ℕ) → t ≢ thread → place_of there t ≡ place_of here t)
     (still : length there.places ≡ length here.places) where
-
   this_call : IsMade log thread running
   this_call = is.running_calls thread running was
 
@@ -346,26 +348,26 @@ module _ (threads : ℕ) (here there : World) (now thread : ℕ) (running : Runn
   -- threads and first steps stay
   same_thread : (n : ℕ) → (call (ends now thread answer log).calls n).thread ≡ (call log.calls n).thread
   same_thread n = elim (cases_eq n (get_or log.latest thread 0)) [
-      inl same ↦ ap (λ (c : Call). c.thread) (this_now n same ∙ refl) ∙ ap (λ (m : ℕ). (call log.calls m).thread) (sym same)
+    | inl same ↦ ap (λ (c : Call). c.thread) (this_now n same ∙ refl) ∙ ap (λ (m : ℕ). (call log.calls m).thread) (sym same)
     | inr ne ↦ ap (λ (c : Call). c.thread) (other_now n ne)
-    ]
+  ]
 
   same_first : (n : ℕ) → (call (ends now thread answer log).calls n).first ≡ (call log.calls n).first
   same_first n = elim (cases_eq n (get_or log.latest thread 0)) [
-      inl same ↦ ap (λ (c : Call). c.first) (this_now n same) ∙ ap (λ (m : ℕ). (call log.calls m).first) (sym same)
+    | inl same ↦ ap (λ (c : Call). c.first) (this_now n same) ∙ ap (λ (m : ℕ). (call log.calls m).first) (sym same)
     | inr ne ↦ ap (λ (c : Call). c.first) (other_now n ne)
-    ]
+  ]
 
   end_apart : (n : ℕ) → n < length log.calls → IsApart (ends now thread answer log).calls n
   end_apart n less j before mine =
       let old : EndsBelow (call log.calls j).end (call log.calls n).first = (is.history n less).apart j before (sym (same_thread j) ∙ mine ∙ same_thread n) in
       elim (cases_eq j (get_or log.latest thread 0)) [
-        inl same ↦
-          let none : (call log.calls j).end ≡ None = ap (λ (m : ℕ). (call log.calls m).end) same ∙ this_call.unfinished in
-          absurd (subst (λ (e : Option End). EndsBelow e (call log.calls n).first) none old)
-      | inr ne ↦
-          let first : (call (ends now thread answer log).calls n).first ≡ (call log.calls n).first = same_first n in
-          subst (λ (c : Call). EndsBelow c.end (call (ends now thread answer log).calls n).first) (sym (other_now j ne))
+        | inl same ↦
+            let none : (call log.calls j).end ≡ None = ap (λ (m : ℕ). (call log.calls m).end) same ∙ this_call.unfinished in
+            absurd (subst (λ (e : Option End). EndsBelow e (call log.calls n).first) none old)
+        | inr ne ↦
+            let first : (call (ends now thread answer log).calls n).first ≡ (call log.calls n).first = same_first n in
+            subst (λ (c : Call). EndsBelow c.end (call (ends now thread answer log).calls n).first) (sym (other_now j ne))
             (subst (λ (f : ℕ). EndsBelow (call log.calls j).end f) (sym first) old)
       ]
 
@@ -385,69 +387,73 @@ module _ (threads : ℕ) (here there : World) (now thread : ℕ) (running : Runn
       let less : n < length log.calls = let s = size_now in omega arith in
       let old = is.history n less in
       elim (cases_eq n (get_or log.latest thread 0)) [
-        inl same ↦
-          let c : call (ends now thread answer log).calls n ≡ ended (call log.calls (get_or log.latest thread 0)) now answer = this_now n same in
-          let both = end_one (call log.calls (get_or log.latest thread 0)) (is.history (get_or log.latest thread 0) this_call.within).ranged this_asks in
-          let begun : (call log.calls (get_or log.latest thread 0)).first < now = (is.past (get_or log.latest thread 0) this_call.within).begun in
-          record {
-            ranged = subst IsInRange (sym c) both.0;
-            answers = subst (λ (x : Call). Answers x.op x.end) (sym c) both.1;
-            ends = subst (λ (x : Call). EndsFrom x.first x.end) (sym c) (omega arith);
-            rises = end_rises n less;
-            apart = end_apart n less;
-          }
-      | inr ne ↦
-          let b : call (ends now thread answer log).calls n ≡ call log.calls n = other_now n ne in
-          record {
-            ranged = subst IsInRange (sym b) old.ranged;
-            answers = subst (λ (x : Call). Answers x.op x.end) (sym b) old.answers;
-            ends = subst (λ (x : Call). EndsFrom x.first x.end) (sym b) old.ends;
-            rises = end_rises n less;
-            apart = end_apart n less;
-          }
+        | inl same ↦
+            let c : call (ends now thread answer log).calls n ≡ ended (call log.calls (get_or log.latest thread 0)) now answer = this_now n same in
+            let both = end_one (call log.calls (get_or log.latest thread 0)) (is.history (get_or log.latest thread 0) this_call.within).ranged this_asks in
+            let begun : (call log.calls (get_or log.latest thread 0)).first < now = (is.past (get_or log.latest thread 0) this_call.within).begun in
+            record {
+              ranged = subst IsInRange (sym c) both.0;
+              answers = subst (λ (x : Call). Answers x.op x.end) (sym c) both.1;
+              ends = subst (λ (x : Call). EndsFrom x.first x.end) (sym c) (omega arith);
+              rises = end_rises n less;
+              apart = end_apart n less;
+            }
+        | inr ne ↦
+            let b : call (ends now thread answer log).calls n ≡ call log.calls n = other_now n ne in
+            record {
+              ranged = subst IsInRange (sym b) old.ranged;
+              answers = subst (λ (x : Call). Answers x.op x.end) (sym b) old.answers;
+              ends = subst (λ (x : Call). EndsFrom x.first x.end) (sym b) old.ends;
+              rises = end_rises n less;
+              apart = end_apart n less;
+            }
       ]
 
   end_past : (n : ℕ) → n < length (ends now thread answer log).calls → IsPast (now + 1) (call (ends now thread answer log).calls n)
   end_past n less_now =
       let less : n < length log.calls = let s = size_now in omega arith in
       elim (cases_eq n (get_or log.latest thread 0)) [
-        inl same ↦
-          let begun : (call log.calls (get_or log.latest thread 0)).first < now = (is.past (get_or log.latest thread 0) this_call.within).begun in
-          subst (IsPast (now + 1)) (sym (this_now n same)) (record { begun = omega arith; over = omega arith })
-      | inr ne ↦ subst (IsPast (now + 1)) (sym (other_now n ne)) (past_on now (call log.calls n) (is.past n less))
+        | inl same ↦
+            let begun : (call log.calls (get_or log.latest thread 0)).first < now = (is.past (get_or log.latest thread 0) this_call.within).begun in
+            subst (IsPast (now + 1)) (sym (this_now n same)) (record { begun = omega arith; over = omega arith })
+        | inr ne ↦ subst (IsPast (now + 1)) (sym (other_now n ne)) (past_on now (call log.calls n) (is.past n less))
       ]
 
   end_open : (n : ℕ) → n < length (ends now thread answer log).calls → (call (ends now thread answer log).calls n).end ≡ None → IsOpen there log.latest n (call (ends now thread answer log).calls n)
   end_open n less_now unfinished =
       let less : n < length log.calls = let s = size_now in omega arith in
       elim (cases_eq n (get_or log.latest thread 0)) [
-        inl same ↦ absurd (let h : Some (record { last = now; answer = answer }) ≡ None = ap (λ (c : Call). c.end) (sym (this_now n same)) ∙ unfinished in cc)
-      | inr ne ↦
-          let o = is.open_calls n less (ap (λ (c : Call). c.end) (sym (other_now n ne)) ∙ unfinished) in
-          let other : (call log.calls n).thread ≢ thread = λ mine. ne (sym o.number ∙ ap (λ (t : ℕ). get_or log.latest t 0) mine) in
-          subst (IsOpen there log.latest n) (sym (other_now n ne)) (record { running = o.running; there = apart (call log.calls n).thread other ∙ o.there; asks = o.asks; number = o.number })
+        | inl same ↦ absurd (let h : Some (record { last = now; answer = answer }) ≡ None = ap (λ (c : Call). c.end) (sym (this_now n same)) ∙ unfinished in cc)
+        | inr ne ↦
+            let o = is.open_calls n less (ap (λ (c : Call). c.end) (sym (other_now n ne)) ∙ unfinished) in
+            let other : (call log.calls n).thread ≢ thread = λ mine. ne (sym o.number ∙ ap (λ (t : ℕ). get_or log.latest t 0) mine) in
+            subst (IsOpen there log.latest n) (sym (other_now n ne)) (record { running = o.running; there = apart (call log.calls n).thread other ∙ o.there; asks = o.asks; number = o.number })
       ]
 
   end_running : (t : ℕ) (r : Running) → place_of there t ≡ Some r → IsMade (ends now thread answer log) t r
   end_running t r there_at =
       elim (cases_eq t thread) [
-        inl mine ↦ absurd (let h : None ≡ Some r = sym at ∙ ap (place_of there) (sym mine) ∙ there_at in cc)
-      | inr ne ↦
-          let m = is.running_calls t r (sym (apart t ne) ∙ there_at) in
-          let other : get_or log.latest t 0 ≢ get_or log.latest thread 0 = λ same. ne (sym m.mine ∙ ap (λ (n : ℕ). (call log.calls n).thread) same ∙ this_call.mine) in
-          let b : call (ends now thread answer log).calls (get_or log.latest t 0) ≡ call log.calls (get_or log.latest t 0) = other_now (get_or log.latest t 0) other in
-          record {
-            within = let s = size_now in let low = m.within in omega arith;
-            mine = ap (λ (c : Call). c.thread) b ∙ m.mine;
-            unfinished = ap (λ (c : Call). c.end) b ∙ m.unfinished;
-            finds = m.finds;
-          }
+        | inl mine ↦ absurd (let h : None ≡ Some r = sym at ∙ ap (place_of there) (sym mine) ∙ there_at in cc)
+        | inr ne ↦
+            let m = is.running_calls t r (sym (apart t ne) ∙ there_at) in
+            let other : get_or log.latest t 0 ≢ get_or log.latest thread 0 = λ same. ne (sym m.mine ∙ ap (λ (n : ℕ). (call log.calls n).thread) same ∙ this_call.mine) in
+            let b : call (ends now thread answer log).calls (get_or log.latest t 0) ≡ call log.calls (get_or log.latest t 0) = other_now (get_or log.latest t 0) other in
+            record {
+              within = let s = size_now in let low = m.within in omega arith;
+              mine = ap (λ (c : Call). c.thread) b ∙ m.mine;
+              unfinished = ap (λ (c : Call). c.end) b ∙ m.unfinished;
+              finds = m.finds;
+            }
       ]
 
   end_log : IsLog threads there (now + 1) (ends now thread answer log)
   end_log = record {
-    history = end_good; past = end_past; open_calls = end_open; running_calls = end_running;
-    known = is.known; threads_are = still ∙ is.threads_are;
+    history = end_good;
+    past = end_past;
+    open_calls = end_open;
+    running_calls = end_running;
+    known = is.known;
+    threads_are = still ∙ is.threads_are;
   }
 
 may_begun : (shape : Shape) (begin : Begin) (running : Running) (may : Bool) → may_begin shape begin ≡ may → cond may (begun begin) None ≡ Some running → FindsAt running × (begun begin ≡ Some running)
@@ -468,7 +474,6 @@ first_goes shape B.Tick running word answer is ends = cc
 -- An event that was made keeps the log
 module _ (shape : Shape) (threads : ℕ) (here : World) (e : Event) (there : World) (outcome : Outcome) (now : ℕ) (log : Log) (is : IsLog threads here now log) (few : threads ≤ 64)
     (made : step shape here e ≡ Ok (there, outcome)) where
-
   others : (t : ℕ) → t ≢ e.thread → place_of there t ≡ place_of here t
   others t ne = other_place shape here e there outcome t ne made
 
@@ -485,12 +490,12 @@ module _ (shape : Shape) (threads : ℕ) (here : World) (e : Event) (there : Wor
       let finds : FindsAt running = (is.running_calls e.thread running was).finds in
       let fit : (op_of next ≡ op_of running) × FindsAt next = subst (NextFits (op_of running)) goes (fits shape running (found shape here running) finds) in
       subst (λ (o : Outcome). IsLog threads there (now + 1) (logged now e.thread None o log)) (sym comes)
-        (go_log threads here there now e.thread log is others (same_threads shape here e there outcome made) running next was at fit.0 fit.1)
+      (go_log threads here there now e.thread log is others (same_threads shape here e there outcome made) running next was at fit.0 fit.1)
   goes_so running (N.Answers answer) was goes at comes =
       let finds : FindsAt running = (is.running_calls e.thread running was).finds in
       let right : IsAnswer (op_of running) answer = subst (NextFits (op_of running)) goes (fits shape running (found shape here running) finds) in
       subst (λ (o : Outcome). IsLog threads there (now + 1) (logged now e.thread None o log)) (sym comes)
-        (end_log threads here there now e.thread running answer log is was at right others (same_threads shape here e there outcome made))
+      (end_log threads here there now e.thread running answer log is was at right others (same_threads shape here e there outcome made))
 
   steps_so : (begin : Option Begin) (place : Option Running) (running : Running) → place_of here e.thread ≡ place → going shape place begin ≡ Some running
       → place_of there e.thread ≡ place_after (advance shape running (found shape here running)) → outcome ≡ outcome_of (advance shape running (found shape here running))
@@ -509,12 +514,12 @@ module _ (shape : Shape) (threads : ℕ) (here : World) (e : Event) (there : Wor
   step_log : IsLog threads there (now + 1) (logged now e.thread e.begin outcome log)
   step_log =
       elim (stepped shape here e there outcome made) [
-        inl s ↦ steps_so e.begin (place_of here e.thread) s.running refl s.goes
-          (ap (λ (w : World). place_of w e.thread) s.there_is ∙ own_place shape here e.thread s.running (made_within shape here e there outcome made)) s.outcome_is
-      | inr t ↦
-          subst (λ (b : Option Begin). IsLog threads there (now + 1) (logged now e.thread b outcome log)) (sym t.begins)
+        | inl s ↦ steps_so e.begin (place_of here e.thread) s.running refl s.goes
+            (ap (λ (w : World). place_of w e.thread) s.there_is ∙ own_place shape here e.thread s.running (made_within shape here e there outcome made)) s.outcome_is
+        | inr t ↦
+            subst (λ (b : Option Begin). IsLog threads there (now + 1) (logged now e.thread b outcome log)) (sym t.begins)
             (tick_log threads here there now e.thread log is others (same_threads shape here e there outcome made)
-              (ap (λ (w : World). place_of w e.thread) t.there_is ∙ tick_leaves shape here e.thread))
+            (ap (λ (w : World). place_of w e.thread) t.there_is ∙ tick_leaves shape here e.thread))
       ]
 
 -- a schedule keeps the log
@@ -575,7 +580,7 @@ log-snoc shape world here now [] e log is =
 log-snoc shape world here now (f ∷ fs) e log is =
     let m = first_made shape world f here fs is in
     let rest : log_from shape (Some m.0) (now + 1) (fs ++ e ∷ []) (logged_by now f (step shape world f) log) ≡ logged_by ((now + 1) + length fs) e (step shape here e) (log_from shape (Some m.0) (now + 1) fs (logged_by now f (step shape world f) log)) =
-      log-snoc shape m.0 here (now + 1) fs e (logged_by now f (step shape world f) log) m.1.1.1 in
+    log-snoc shape m.0 here (now + 1) fs e (logged_by now f (step shape world f) log) m.1.1.1 in
     let next : world_of (step shape world f) ≡ Some m.0 = ap world_of m.1.1.0 in
     let places : (now + 1) + length fs ≡ now + length (f ∷ fs) = omega arith in
     ap (λ (w : Option World). log_from shape w (now + 1) (fs ++ e ∷ []) (logged_by now f (step shape world f) log)) next
@@ -625,7 +630,7 @@ log_goes_on shape s threads events place d here there outcome log next within sa
     let taken : length (take place events) ≡ place = length-take-le place events (omega arith) in
     let size : 0 + length (take place events) ≡ place = omega arith in
     let more : log_of shape threads (take place events ++ e ∷ []) ≡ logged_by (0 + length (take place events)) e (step shape here e) (log_of shape threads (take place events)) =
-      log-snoc shape (opening shape threads) here 0 (take place events) e (blank threads) at in
+    log-snoc shape (opening shape threads) here 0 (take place events) e (blank threads) at in
     is
     ∙ ap (logged place e.thread e.begin outcome) logs
     ∙ ap (λ (r : Result (World × Outcome) NotEnabled). logged_by place e r (log_of shape threads (take place events))) (sym made_so)

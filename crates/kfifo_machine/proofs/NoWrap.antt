@@ -1,13 +1,13 @@
 -- Head and tail are where the numbers of their won moves say, and the tail is never a whole round ahead.
-use Rattle.std.proofs.Common.{◌≡◌, ◌≢◌, ◌⊎◌, ℕ, zero, suc, ◌+◌, ◌*◌, ◌%◌, ◌<◌, ◌≤◌, List, [], ◌∷◌, length, get_or, set, replicate, Option, Some, None, Ok, Bool, true, false, refl, sym, ap, ◌∙◌, subst, inl, inr, arith, cond, eqb}
+use Rattle.std.proofs.Common.{◌≡◌, ◌≢◌, ℕ, zero, suc, ◌+◌, ◌*◌, ◌%◌, ◌<◌, ◌≤◌, List, [], ◌∷◌, length, get_or, set, replicate, Option, Some, None, Ok, Bool, true, false, refl, sym, ap, ◌∙◌, inl, inr, arith, cond}
 use Rattle.std.specs.Prelude.{◌==◌}
 use Rattle.std.proofs.Math.Nat.{zero-mod, mod-lt}
-use Rattle.std.proofs.lemmas.Bool.{cases_eq, cases_lt, cases_Bool, and_parts}
+use Rattle.std.proofs.lemmas.Bool.{cases_eq, cases_lt}
 use Rattle.std.proofs.lemmas.Bool.Decides.{nat_tests}
 use Rattle.std.proofs.lemmas.Grind.{get_or-set_at}
 use Rattle.std.proofs.lemmas.List.{get_or-set_other}
 use Rattle.kfifo_words.specs.declared.shape.Shape.{Shape}
-use Rattle.kfifo_words.specs.Words.{version_of, ends_word, head_of, tail_of}
+use Rattle.kfifo_words.specs.Words.{ends_word, head_of, tail_of}
 use Rattle.kfifo_words.specs.Ring.{next_segment, clock_at}
 use Rattle.kfifo_machine.specs.declared.event.Begin.{Begin}
 use Rattle.kfifo_machine.specs.declared.event.Begin.TheVariants as B
@@ -23,13 +23,12 @@ use Rattle.kfifo_machine.specs.declared.place.Next.{Next}
 use Rattle.kfifo_machine.specs.declared.place.Next.TheVariants.{Goes, Answers}
 use Rattle.kfifo_machine.specs.declared.place.Access.{Access}
 use Rattle.kfifo_machine.specs.declared.place.Access.TheVariants.{Load, Exchange}
-use Rattle.kfifo_machine.specs.Program.{access, accessed, advance, head_moved, tail_moved, head_held}
-use Rattle.kfifo_machine.specs.Machine.{World, opening, word_at, place_of, place_after, words_after, moved, ticked, found, begun, may_begin, step, run, after}
+use Rattle.kfifo_machine.specs.Program.{access, accessed, advance}
+use Rattle.kfifo_machine.specs.Machine.{World, opening, word_at, place_of, place_after, words_after, moved, ticked, found, begun, may_begin, step, run}
 use Rattle.kfifo_machine.specs.Runs.{going}
-use Rattle.kfifo_machine.specs.Places.{IsEnds, IsPlace, IsState}
-use Rattle.kfifo_machine.specs.Laws.{moves_head, moves_tail, counted, count, head_ons, tail_ons, NoWrap}
-use Rattle.kfifo_machine.proofs.Places.{scan_index-is_slot, in_table}
-use Rattle.kfifo_machine.proofs.Schedules.{Some-injective, first_made, made_within, stepped, StepsFrom, Ticks}
+use Rattle.kfifo_machine.specs.Places.{IsPlace}
+use Rattle.kfifo_machine.specs.Laws.{moves_head, moves_tail, counted, count, NoWrap}
+use Rattle.kfifo_machine.proofs.Schedules.{Some-injective, first_made, made_within, stepped}
 use Rattle.kfifo_machine.proofs.Sound.{IsSound, going_place, place_is, step_sound, opening_sound}
 use Rattle.kfifo_machine.proofs.Versions.{next_segment-below}
 use Rattle.kfifo_machine.proofs.Ring.{same_place, next_place, not_next_place, next-mod}

@@ -1,5 +1,5 @@
 -- A step leads from a place to a place, and brings the call nearer to its end.
-use Rattle.std.proofs.Common.{zero, suc, replicate, map, ◌≡◌, ◌≢◌, ℕ, ◌+◌, ◌-◌, ◌*◌, ◌^◌, ◌%◌, ◌<◌, ◌≤◌, ◌⊎◌, inl, inr, Bool, true, false, refl, sym, ap, ◌∙◌, arith, Option, Some, None, lit<, List, length, get_or, set, eqb, cond}
+use Rattle.std.proofs.Common.{zero, suc, replicate, map, ◌≡◌, ◌≢◌, ℕ, ◌+◌, ◌-◌, ◌*◌, ◌%◌, ◌<◌, ◌≤◌, ◌⊎◌, inl, inr, refl, sym, ap, ◌∙◌, arith, Option, Some, None, List, length, get_or, set, eqb}
 use Rattle.std.proofs.Math.Nat.{mod-lt, mul-le-mul_right}
 use Rattle.std.proofs.lemmas.Bool.{cases_Bool, cases_eq, cond_both, eqb-true}
 use Rattle.std.proofs.lemmas.List.{length-set, length-replicate, get_or-set_other}
@@ -12,13 +12,10 @@ use Rattle.kfifo_machine.specs.declared.place.Access.TheVariants.{Load, Exchange
 use Rattle.std.proofs.lemmas.Bool.Decides.{nat_tests}
 use Rattle.kfifo_words.specs.declared.shape.Shape.{Shape}
 use Rattle.kfifo_words.specs.Words.{slot_word, value_of, version_of, ends_word, head_of, tail_of}
-use Rattle.kfifo_words.specs.Ring.{next_segment, distance, clock_at}
-use Rattle.kfifo_model.specs.declared.calls.Answer.{Answer}
+use Rattle.kfifo_words.specs.Ring.{next_segment, clock_at}
 use Rattle.kfifo_machine.specs.Program.{access, accessed, advance, scan_index, filled_with, emptied}
 use Rattle.kfifo_machine.specs.Machine.{World, opening, moved, found, word_at, words_after, place_after, outcome_of}
-use Rattle.kfifo_machine.specs.Places.{IsSlotIndex, IsEnds, IsPlace, IsSlotWord, IsFound, IsFoundBy, IsState}
-use Rattle.kfifo_machine.specs.declared.place.Found.{Found}
-use Rattle.kfifo_machine.specs.declared.place.Found.TheVariants.{Slot, Nothing}
+use Rattle.kfifo_machine.specs.Places.{IsSlotIndex, IsEnds, IsPlace, IsSlotWord, IsFoundBy, IsState}
 use Rattle.kfifo_machine.specs.declared.place.EnqueuePhase.{EnqueuePhase}
 use Rattle.kfifo_machine.specs.declared.place.EnqueuePhase.TheVariants as E
 use Rattle.kfifo_machine.specs.declared.place.DequeuePhase.{DequeuePhase}

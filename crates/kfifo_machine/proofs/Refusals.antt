@@ -1,13 +1,11 @@
 -- A call that is refused leaves no item of its own in the table.
-use Rattle.std.proofs.Common.{◌≡◌, ◌≢◌, ◌⊎◌, ℕ, ◌+◌, ◌*◌, ◌-◌, ◌<◌, ◌≤◌, List, [], ◌∷◌, ◌++◌, length, Option, Some, None, Ok, Bool, true, false, refl, sym, ap, ◌∙◌, subst, inl, inr, arith, cond, eqb, eq-eqb, eqb-true}
+use Rattle.std.proofs.Common.{◌≡◌, ◌≢◌, ◌⊎◌, ℕ, ◌-◌, ◌<◌, ◌≤◌, List, [], ◌∷◌, ◌++◌, length, Option, Some, None, Ok, Bool, true, false, refl, sym, ap, ◌∙◌, subst, inl, inr, arith, cond, eqb, eq-eqb, eqb-true}
 use Rattle.std.proofs.lemmas.Bool.Decides.{nat_tests}
 use Rattle.std.proofs.lemmas.List.{append_cancel_left, append_assoc}
 use Rattle.kfifo_words.specs.declared.shape.Shape.{Shape}
-use Rattle.kfifo_words.specs.Words.{slot_word, value_of, version_of}
 use Rattle.kfifo_model.specs.declared.calls.Answer.{Answer}
 use Rattle.kfifo_model.specs.declared.calls.Answer.TheVariants.{Done, Busy}
 use Rattle.kfifo_machine.specs.declared.event.Begin.{Begin}
-use Rattle.kfifo_machine.specs.declared.event.Begin.TheVariants as B
 use Rattle.kfifo_machine.specs.declared.event.Event.{Event}
 use Rattle.kfifo_machine.specs.declared.event.Outcome.{Outcome}
 use Rattle.kfifo_machine.specs.declared.event.Outcome.TheVariants.{Went, Ended}
@@ -23,8 +21,8 @@ use Rattle.kfifo_machine.specs.Machine.{World, opening, word_at, place_of, place
 use Rattle.kfifo_machine.specs.Runs.{event, own, going, AllGoOn, BeginsOnce, WholeRun}
 use Rattle.kfifo_machine.specs.Places.{IsPlace}
 use Rattle.kfifo_machine.specs.Laws.{IsRefusal, PutsNext, LeavesNone}
-use Rattle.kfifo_machine.proofs.Schedules.{Some-injective, run-append, run_before, run_on, after-snoc, first_made, made_within, stepped, StepsFrom, Ticks, other_place, own-append}
-use Rattle.kfifo_machine.proofs.Sound.{IsSound, sound, going_place, place_is, step_sound}
+use Rattle.kfifo_machine.proofs.Schedules.{Some-injective, run_on, after-snoc, first_made, made_within, stepped, other_place, own-append}
+use Rattle.kfifo_machine.proofs.Sound.{IsSound, sound, place_is, step_sound}
 use Rattle.kfifo_machine.proofs.Versions.{rises, won_word, word_rises, run_rises}
 use Rattle.kfifo_machine.proofs.Budget.{own_place, own_first, goes_on_from}
 

@@ -1,11 +1,11 @@
 -- What an event changes: one word at most, which rises.
-use Rattle.std.proofs.Common.{◌≡◌, ◌≢◌, ◌⊎◌, ℕ, ◌+◌, ◌*◌, ◌/◌, ◌<◌, ◌≤◌, List, [], ◌∷◌, length, get_or, set, Option, Some, None, Ok, Bool, true, false, refl, sym, ap, ◌∙◌, subst, inl, inr, arith, cond, eqb, eq-eqb}
+use Rattle.std.proofs.Common.{◌≡◌, ◌≢◌, ◌⊎◌, ℕ, ◌+◌, ◌<◌, ◌≤◌, List, [], ◌∷◌, length, get_or, Option, Some, None, Ok, refl, sym, ap, ◌∙◌, subst, inl, inr, arith, eq-eqb}
 use Rattle.std.proofs.lemmas.Bool.{cases_eq}
 use Rattle.std.proofs.lemmas.Bool.Decides.{nat_tests}
 use Rattle.std.proofs.lemmas.Grind.{get_or-set_at}
 use Rattle.std.proofs.lemmas.List.{get_or-set_other}
 use Rattle.kfifo_words.specs.declared.shape.Shape.{Shape}
-use Rattle.kfifo_words.specs.Words.{slot_word, version_of, ends_word, head_of, tail_of}
+use Rattle.kfifo_words.specs.Words.{slot_word, version_of, ends_word}
 use Rattle.kfifo_words.specs.Ring.{next_segment, clock_at}
 use Rattle.kfifo_machine.specs.declared.event.Begin.{Begin}
 use Rattle.kfifo_machine.specs.declared.event.Begin.TheVariants as B
@@ -13,14 +13,14 @@ use Rattle.kfifo_machine.specs.declared.event.Event.{Event}
 use Rattle.kfifo_machine.specs.declared.event.Outcome.{Outcome}
 use Rattle.kfifo_machine.specs.declared.place.Running.{Running}
 use Rattle.kfifo_machine.specs.declared.place.Access.{Access}
-use Rattle.kfifo_machine.specs.declared.place.Access.TheVariants.{Load, Exchange}
-use Rattle.kfifo_machine.specs.Program.{access, accessed, advance, head_moved, tail_moved, head_held, filled_with, emptied}
-use Rattle.kfifo_machine.specs.Machine.{World, word_at, place_of, words_after, moved, ticked, found, step, run, after}
+use Rattle.kfifo_machine.specs.declared.place.Access.TheVariants.{Exchange}
+use Rattle.kfifo_machine.specs.Program.{access, accessed}
+use Rattle.kfifo_machine.specs.Machine.{World, word_at, place_of, words_after, moved, ticked, step, run}
 use Rattle.kfifo_machine.specs.Runs.{going}
-use Rattle.kfifo_machine.specs.Places.{IsEnds, IsPlace, IsState}
-use Rattle.kfifo_machine.specs.Laws.{OthersStay, NoneFalls, Wins, IsTick, OneWord}
+use Rattle.kfifo_machine.specs.Places.{IsPlace}
+use Rattle.kfifo_machine.specs.Laws.{NoneFalls, OneWord}
 use Rattle.kfifo_machine.proofs.Places.{in_table, get_or-after}
-use Rattle.kfifo_machine.proofs.Schedules.{Some-injective, first_made, made_within, stepped, StepsFrom, Ticks, other_place}
+use Rattle.kfifo_machine.proofs.Schedules.{Some-injective, first_made, stepped}
 use Rattle.kfifo_machine.proofs.Sound.{IsSound, going_place, place_is, step_sound}
 
 -- a word of the next version is above

@@ -1,10 +1,9 @@
 -- The calls of a schedule: what each thread asked for and was answered, with the places of its first and last events.
-use Rattle.std.specs.Prelude.{ℕ, ◌≡◌, ◌+◌, List, [], ◌∷◌, ◌++◌, length, get_or, set, replicate, Option, Some, None, Result, Ok, Err}
+use Rattle.std.specs.Prelude.{ℕ, ◌+◌, List, [], ◌∷◌, ◌++◌, length, get_or, set, replicate, Option, Some, None, Result, Ok, Err}
 use Rattle.kfifo_words.specs.declared.shape.Shape.{Shape}
 use Rattle.kfifo_model.specs.declared.calls.Answer.{Answer}
 use Rattle.kfifo_model.specs.declared.calls.Op.{Op}
 use Rattle.kfifo_model.specs.declared.calls.Op.TheVariants as O
-use Rattle.kfifo_model.specs.declared.calls.End.{End}
 use Rattle.kfifo_model.specs.declared.calls.Call.{Call}
 use Rattle.kfifo_model.specs.Histories.{call}
 use Rattle.kfifo_machine.specs.declared.event.Begin.{Begin}

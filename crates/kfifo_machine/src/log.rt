@@ -33,7 +33,10 @@ impl Log {
         ensures { IfOk result (λ l. l ≡ blank threads) }
     {
         let latest = vec![in alloc; 0; threads as usize]?;
-        Ok(Log { calls: Vec::new(alloc), latest })
+        Ok(Log {
+            calls: Vec::new(alloc),
+            latest,
+        })
     }
 
     /// A thread begins a call at this place.
@@ -42,7 +45,12 @@ impl Log {
         ensures { IfOk result (λ _. self.new ≡ begins place thread op self.old) }
     {
         self.latest[thread as usize] = self.calls.len();
-        let call = Call { thread, op, first: place as u64, end: None };
+        let call = Call {
+            thread,
+            op,
+            first: place as u64,
+            end: None,
+        };
         self.calls.push(call)?;
         Ok(())
     }
@@ -54,8 +62,14 @@ impl Log {
         ensures { self.new ≡ ends place thread answer self.old }
     {
         let number = self.latest[thread as usize];
-        let end = End { last: place as u64, answer };
-        self.calls[number] = Call { end: Some(end), ..self.calls[number] };
+        let end = End {
+            last: place as u64,
+            answer,
+        };
+        self.calls[number] = Call {
+            end: Some(end),
+            ..self.calls[number]
+        };
     }
 
     /// The event at this place was made, and came to this.
@@ -65,7 +79,11 @@ impl Log {
         ensures { IfOk result (λ _. self.new ≡ logged place event.thread event.begin outcome self.old) }
     {
         match (event.begin, outcome) {
-            (Some(Begin::Enqueue { item, .. }), _) => self.begin(place, event.thread, Op::Enqueue(item)),
+            (Some(Begin::Enqueue { item, .. }), _) => self.begin(
+                place,
+                event.thread,
+                Op::Enqueue(item),
+            ),
             (Some(Begin::Dequeue { .. }), _) => self.begin(place, event.thread, Op::Dequeue),
             (Some(Begin::Tick), _) | (None, Outcome::Went) => Ok(()),
             (None, Outcome::Ended(answer)) => {
@@ -80,7 +98,12 @@ impl Log {
 /// places of its events, from 0.
 ///
 /// Refused as by `run`.
-pub fn history(alloc: Global, shape: Shape, threads: u32, events: &[Event]) -> Result<History, RunFault>
+pub fn history(
+    alloc: Global,
+    shape: Shape,
+    threads: u32,
+    events: &[Event],
+) -> Result<History, RunFault>
     ensures history { IfOk result (λ h. IsSchedule shape threads events.now × (h ≡ history_of shape threads events.now)) }
     ensures threads { (result ≡ Err RunFault.ThreadsOutOfRange) ↔ ((threads ≡ 0) ⊎ (64 < threads)) }
     ensures refused { (place : ℕ) → result ≡ Err (RunFault.NotASchedule place) → IsFirstRefused shape threads events.now place }

@@ -1,9 +1,11 @@
 //! Schedules worked out by hand, event by event.
 
-use crate::{Begin, Event, NotEnabled, Outcome, RunFault, StartFault, State, run, start, step};
-use kfifo_model::Answer;
+use crate::{
+    Begin, Event, NotEnabled, Outcome, RunFault, StartFault, State, history, run, start, step,
+};
+use kfifo_model::{Answer, Call, End, Op};
 use kfifo_words::{Ends, Shape, Word};
-use std::alloc::Global;
+use std::alloc::{AllocError, Global};
 use std::process::Abort;
 use std::test::Fail;
 
@@ -367,6 +369,67 @@ fn runs_events(rt: HostRuntime) -> Result<(), Fail> {
     Ok(())
 }
 
+/// The events of these rows.
+fn events_of(alloc: Global, rows: &[Row]) -> Result<Vec<Event>, AllocError> {
+    let mut events = Vec::new(alloc);
+    for row in rows {
+        for i in 0..row.events {
+            events.push(if i == 0 {
+                row.first
+            } else {
+                event(row.first.thread, None)
+            })?;
+        }
+    }
+    Ok(events)
+}
+
+fn call(thread: u32, op: Op, first: u64, last: u64, answer: Answer) -> Call {
+    Call {
+        thread,
+        op,
+        first,
+        end: Some(End { last, answer }),
+    }
+}
+
+#[test]
+fn writes_the_history(rt: HostRuntime) -> Result<(), Fail> {
+    let rows = [
+        enqueue(1, 6, 1, 1, 7, None),
+        enqueue(0, 5, 0, 2, 3, None),
+        dequeue(2, 0, 1, 6, None),
+        dequeue(2, 0, 2, 9, None),
+        goes_on(0, 11, None),
+        Row {
+            first: event(1, Some(Begin::Tick)),
+            events: 1,
+            end: None,
+        },
+    ];
+    let events = events_of(rt.alloc(), &rows)?;
+    let shape = Shape::new(2, 2, LAST)?;
+    let found = history(rt.alloc(), shape, 3, &events)?;
+    let calls = [
+        call(1, Op::Enqueue(6), 0, 6, Answer::Done),
+        call(0, Op::Enqueue(5), 7, 35, Answer::Done),
+        call(2, Op::Dequeue, 10, 15, Answer::Got(6)),
+        call(2, Op::Dequeue, 16, 24, Answer::Empty),
+    ];
+    assert_eq!(rt; found.calls(), calls.as_slice());
+    let mut early = events_of(rt.alloc(), &rows[..3])?;
+    early.push(event(2, None))?;
+    assert_eq!(rt;
+        history(rt.alloc(), shape, 3, &early).err(),
+        Some(RunFault::NotASchedule(16))
+    );
+    assert_eq!(rt;
+        history(rt.alloc(), shape, 0, &[]).err(),
+        Some(RunFault::ThreadsOutOfRange)
+    );
+    Ok(())
+}
+
 /// Whichever request for memory fails, the answer is the refusal, or what it is without a failure.
 #[test]
 fn memory_is_refused(rt: HostRuntime) -> Result<(), Fail> {
@@ -374,6 +437,15 @@ fn memory_is_refused(rt: HostRuntime) -> Result<(), Fail> {
     match start(rt.alloc(), shape, 64) {
         Ok(state) => check_table(&rt, &state, (0, 0, 0), &[(0, 0), (0, 0)]),
         Err(fault) => assert_eq!(rt; fault, StartFault::Memory),
+    }
+    match history(
+        rt.alloc(),
+        shape,
+        64,
+        &[event(63, Some(Begin::Dequeue { start: 0, turns: 1 }))],
+    ) {
+        Ok(found) => assert_eq!(rt; found.calls().len(), 1),
+        Err(fault) => assert_eq!(rt; fault, RunFault::Memory),
     }
     match run(rt.alloc(), shape, 64, &[event(63, Some(Begin::Tick))]) {
         Ok(state) => assert_eq!(rt; state.word(shape.clock_index()), 1),

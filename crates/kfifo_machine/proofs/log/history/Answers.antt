@@ -1,5 +1,5 @@
 -- The log is that of the events so far, and so it is a history.
-use Rattle.std.proofs.Common.{◌≡◌, ℕ, ◌∙◌, subst, sym, ap, Some}
+use Rattle.std.proofs.Common.{◌≡◌, ℕ, ◌∙◌, subst, sym, ap}
 use Rattle.kfifo_model.specs.Validity.{IsHistory}
 use Rattle.kfifo_machine.specs.Machine.{IsFirstRefused}
 use Rattle.kfifo_machine.specs.Calls.{Log}
@@ -23,7 +23,7 @@ returns-in-Err-clause-refused c place e =
     let P : ℕ → Type 0 = λ p. IsFirstRefused c.args.shape c.args.threads c.args.events.now p in
     subst P same
     (stops c.args.shape c.args.threads c.args.events.now c.loop-place.place _ c.loop-place.state.shape c.loop-place.state.world _
-      c.loop-place-test.true c.loop-place.invariant.shape c.loop-place.invariant.reached c.in-Err.ensures.refused)
+    c.loop-place-test.true c.loop-place.invariant.shape c.loop-place.invariant.reached c.in-Err.ensures.refused)
 
 pub loop-place-preserved : goal.loop-place-preserved
 loop-place-preserved c = record {
@@ -38,5 +38,5 @@ pub unreachable-requires : goal.unreachable-requires
 unreachable-requires c =
     let calls : c.loop-place.log.calls ≡ c.log-2.inside.calls.items = ap (λ (l : Log). l.calls) (sym c.log-2.view_is) in
     let good : IsHistory c.log-2.inside.calls.items =
-      subst IsHistory (sym (ap (λ (l : Log). l.calls) c.loop-place.invariant.logs) ∙ calls) (history_is c.args.shape c.args.threads _ c.loop-place.state.world c.in_ok-state.ensures.few.1 c.loop-place.invariant.reached) in
+    subst IsHistory (sym (ap (λ (l : Log). l.calls) c.loop-place.invariant.logs) ∙ calls) (history_is c.args.shape c.args.threads _ c.loop-place.state.world c.in_ok-state.ensures.few.1 c.loop-place.invariant.reached) in
     no_fault c.log-2.inside.calls.items c.in-Err-new._fault good c.in-Err-new.ensures

@@ -1,7 +1,7 @@
 -- The step's access is within the table, and what it leaves is what the machine says.
-use Rattle.std.proofs.Common.{arith, sym, ◌∙◌, refl, ap, ◌≡◌, ℕ, Some, None, ◌<◌, length, subst}
-use Rattle.kfifo_machine.specs.Program.{access, accessed, advance}
-use Rattle.kfifo_machine.specs.Machine.{Machine, World, moved, found, outcome_of}
+use Rattle.std.proofs.Common.{arith, sym, ◌∙◌, refl, ap}
+use Rattle.kfifo_machine.specs.Program.{advance}
+use Rattle.kfifo_machine.specs.Machine.{Machine, moved, found, outcome_of}
 use Rattle.kfifo_machine.specs.Places.{IsPlace}
 use Rattle.kfifo_machine.proofs.Places.{in_table, moved_is, sound_is, outcome_is}
 use Rattle.kfifo_machine.proofs.state.make_step.Goals as goal

@@ -1,10 +1,10 @@
 -- An event moves its thread alone, and changes one word at most, which rises.
-use Rattle.std.proofs.Common.{◌≡◌, ℕ, ◌≤◌, Result, Ok, Err, IfOk, OnErr, refl, ap, arith}
+use Rattle.std.proofs.Common.{◌≡◌, Result, Ok, Err, IfOk, OnErr, ap}
 use Rattle.kfifo_words.specs.declared.shape.Shape.{Shape}
 use Rattle.kfifo_machine.specs.declared.event.Event.{Event}
 use Rattle.kfifo_machine.specs.declared.event.Outcome.{Outcome}
 use Rattle.kfifo_machine.specs.declared.event.NotEnabled.{NotEnabled}
-use Rattle.kfifo_machine.specs.Machine.{Machine, World, word_at, place_of, step}
+use Rattle.kfifo_machine.specs.Machine.{Machine, place_of, step}
 use Rattle.kfifo_machine.specs.Laws.{OthersStay, NoneFalls, OneWord}
 use Rattle.kfifo_machine.proofs.Schedules.{other_place}
 use Rattle.kfifo_machine.proofs.Sound.{IsSound}
