@@ -456,11 +456,11 @@ module _ (threads : ℕ) (here there : World) (now thread : ℕ) (running : Runn
     threads_are = still ∙ is.threads_are;
   }
 
-may_begun : (shape : Shape) (begin : Begin) (running : Running) (may : Bool) → may_begin shape begin ≡ may → cond may (begun begin) None ≡ Some running → FindsAt running × (begun begin ≡ Some running)
+pub may_begun : (shape : Shape) (begin : Begin) (running : Running) (may : Bool) → may_begin shape begin ≡ may → cond may (begun begin) None ≡ Some running → FindsAt running × (begun begin ≡ Some running)
 may_begun shape begin running true may is = (begun_fits shape begin running may is, is)
 may_begun shape begin running false may is = absurd (cc)
 
-first_goes : (shape : Shape) (begin : Begin) (running : Running) (word : ℕ) (answer : Answer) → begun begin ≡ Some running → advance shape running word ≡ N.Answers answer → ⊥
+pub first_goes : (shape : Shape) (begin : Begin) (running : Running) (word : ℕ) (answer : Answer) → begun begin ≡ Some running → advance shape running word ≡ N.Answers answer → ⊥
 first_goes shape (B.Enqueue item start turns) running word answer is ends =
     let same : R.Enqueue item start turns E.LoadEnds ≡ running = Some-injective _ running is in
     let h : N.Goes (R.Enqueue item start turns (E.ScanTail word 0)) ≡ N.Answers answer = ap (λ (r : Running). advance shape r word) same ∙ ends in

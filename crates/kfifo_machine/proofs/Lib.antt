@@ -8,3 +8,4 @@ pub mod Budget
 pub mod Refusals
 pub mod Laws
 pub mod Calls
+pub mod Paths

@@ -106,7 +106,7 @@ next_status world thread index word (Goes running) at c = In running at c
 next_status world thread index word (Answers answer) at c = Over at
 
 -- an event of the thread that begins nothing is a step from its place
-own_step : (shape : Shape) (here : World) (e : Event) (there : World) (outcome : Outcome) (running : Running) → step shape here e ≡ Ok (there, outcome) → place_of here e.thread ≡ Some running
+pub own_step : (shape : Shape) (here : World) (e : Event) (there : World) (outcome : Outcome) (running : Running) → step shape here e ≡ Ok (there, outcome) → place_of here e.thread ≡ Some running
     → (there ≡ moved shape here e.thread running) × (outcome ≡ outcome_of (advance shape running (found shape here running)))
 own_step shape here e there outcome running is at =
     elim (stepped shape here e there outcome is) [

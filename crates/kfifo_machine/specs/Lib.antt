@@ -5,3 +5,4 @@ pub mod Places
 pub mod Faults
 pub mod Laws
 pub mod Calls
+pub mod Causes
