@@ -9,3 +9,4 @@ pub mod Refusals
 pub mod Laws
 pub mod Calls
 pub mod Paths
+pub mod Causes

@@ -75,7 +75,6 @@ pub record CauseOfFull (shape : Shape) (start : ℕ) (all : List Look) : Type 0 
   pub ring_full : next_segment shape.n (tail_of ends) ≡ head_of ends
   pub probes : length probed ≡ shape.probes
   pub each_filled : AllFilled shape (tail_of ends) start 0 probed
-  pub in_head : offset < shape.k
   pub loads_filled : Loads shape filled (scan_index shape (head_of ends) 0 offset) filled.word
   pub is_filled : value_of filled.word ≢ 0
 
