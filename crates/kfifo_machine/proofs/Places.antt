@@ -1,5 +1,5 @@
 -- A step leads from a place to a place, and brings the call nearer to its end.
-use Rattle.std.proofs.Common.{zero, suc, replicate, map, ◌≡◌, ◌≢◌, ℕ, ◌+◌, ◌-◌, ◌*◌, ◌^◌, ◌%◌, ◌<◌, ◌≤◌, ◌⊎◌, inl, inr, Bool, true, false, refl, sym, ap, ◌∙◌, arith, Option, Some, None, lit<, List, length, get_or, set, eqb, cond}
+use Rattle.std.proofs.Common.{zero, suc, replicate, map, ◌≡◌, ◌≢◌, ℕ, ◌+◌, ◌-◌, ◌*◌, ◌%◌, ◌<◌, ◌≤◌, ◌⊎◌, inl, inr, refl, sym, ap, ◌∙◌, arith, Option, Some, None, List, length, get_or, set, eqb}
 use Rattle.std.proofs.Math.Nat.{mod-lt, mul-le-mul_right}
 use Rattle.std.proofs.lemmas.Bool.{cases_Bool, cases_eq, cond_both, eqb-true}
 use Rattle.std.proofs.lemmas.List.{length-set, length-replicate, get_or-set_other}
@@ -12,13 +12,10 @@ use Rattle.kfifo_machine.specs.declared.place.Access.TheVariants.{Load, Exchange
 use Rattle.std.proofs.lemmas.Bool.Decides.{nat_tests}
 use Rattle.kfifo_words.specs.declared.shape.Shape.{Shape}
 use Rattle.kfifo_words.specs.Words.{slot_word, value_of, version_of, ends_word, head_of, tail_of}
-use Rattle.kfifo_words.specs.Ring.{next_segment, distance, clock_at}
-use Rattle.kfifo_model.specs.declared.calls.Answer.{Answer}
+use Rattle.kfifo_words.specs.Ring.{next_segment, clock_at}
 use Rattle.kfifo_machine.specs.Program.{access, accessed, advance, scan_index, filled_with, emptied}
 use Rattle.kfifo_machine.specs.Machine.{World, opening, moved, found, word_at, words_after, place_after, outcome_of}
-use Rattle.kfifo_machine.specs.Places.{IsSlotIndex, IsEnds, IsPlace, IsSlotWord, IsFound, IsFoundBy, IsState}
-use Rattle.kfifo_machine.specs.declared.place.Found.{Found}
-use Rattle.kfifo_machine.specs.declared.place.Found.TheVariants.{Slot, Nothing}
+use Rattle.kfifo_machine.specs.Places.{IsSlotIndex, IsEnds, IsPlace, IsSlotWord, IsFoundBy, IsState}
 use Rattle.kfifo_machine.specs.declared.place.EnqueuePhase.{EnqueuePhase}
 use Rattle.kfifo_machine.specs.declared.place.EnqueuePhase.TheVariants as E
 use Rattle.kfifo_machine.specs.declared.place.DequeuePhase.{DequeuePhase}
@@ -103,11 +100,11 @@ get_or-after : (a : Access) (words : List ℕ) (i : ℕ) → accessed a < length
 get_or-after (Load index) words i h = inl refl
 get_or-after (Exchange index from to) words i h =
     elim (cases_Bool (eqb (get_or words index 0) from)) [
-      inl e ↦ elim (cases_eq i index) [
-          inl same ↦ inr (same, (from, (to, (refl, ap (λ j. get_or words j 0) same ∙ eqb-true (get_or words index 0) from e, rw e (get_or-set_at words index i to 0 same h)))))
+      | inl e ↦ elim (cases_eq i index) [
+        | inl same ↦ inr (same, (from, (to, (refl, ap (λ j. get_or words j 0) same ∙ eqb-true (get_or words index 0) from e, rw e (get_or-set_at words index i to 0 same h)))))
         | inr ne ↦ inl (rw e (get_or-set_other words index i to 0 ne))
-        ]
-    | inr e ↦ inl (rw e refl)
+      ]
+      | inr e ↦ inl (rw e refl)
     ]
 
 head-ends_word : (head tail version : ℕ) → head < 4096 → tail < 4096 → head_of (ends_word head tail version) ≡ head
@@ -137,7 +134,6 @@ writes_ends shape running from to s e = grind (arith, nat_tests, head-ends_word,
 writes_slot : (shape : Shape) → (running : Running) (index from to : ℕ) → IsPlace shape running → 0 < index → access shape running ≡ Exchange index from to → IsSlotWord shape to
 writes_slot shape running index from to s pos e = grind (arith, nat_tests, version-filled_with, value-emptied, scan_index-is_slot)
 
-
 next_place : (shape : Shape) (next : Next) (r : Running) → NextIsPlace shape next → place_after next ≡ Some r → IsPlace shape r
 next_place shape next r h e = grind arith
 
@@ -147,23 +143,23 @@ pub state_stays : (shape : Shape) → (words : List ℕ) (places : List (Option 
 state_stays shape words places thread running h s t =
     let within : accessed (access shape running) < length words = omega (arith, in_table shape running s, h.size) in
     let next : NextIsPlace shape (advance shape running (get_or words (accessed (access shape running)) 0)) =
-      stays_place shape running (get_or words (accessed (access shape running)) 0) s
-        (λ z. rw z h.ends)
-        (λ pos. h.each_slot (accessed (access shape running)) pos (in_table shape running s)) in
+    stays_place shape running (get_or words (accessed (access shape running)) 0) s
+    (λ z. rw z h.ends)
+    (λ pos. h.each_slot (accessed (access shape running)) pos (in_table shape running s)) in
     record {
       size = length-after (access shape running) words ∙ h.size;
       ends = elim (get_or-after (access shape running) words 0 within) [
-          inl e ↦ rw e h.ends
+        | inl e ↦ rw e h.ends
         | inr k ↦ rw k.1.1.1.2 (writes_ends shape running k.1.0 k.1.1.0 s (rw (← k.0) at k.1.1.1.0))
-        ];
+      ];
       each_slot = λ i pos below. elim (get_or-after (access shape running) words i within) [
-          inl e ↦ rw e (h.each_slot i pos below)
+        | inl e ↦ rw e (h.each_slot i pos below)
         | inr k ↦ rw k.1.1.1.2 (writes_slot shape running (accessed (access shape running)) k.1.0 k.1.1.0 s (omega (arith, pos, k.0)) k.1.1.1.0)
-        ];
+      ];
       each_place = λ u r f. elim (cases_eq u thread) [
-          inl same ↦ next_place shape (advance shape running (get_or words (accessed (access shape running)) 0)) r next (sym (get_or-set_at places thread u (place_after (advance shape running (get_or words (accessed (access shape running)) 0))) None same t) ∙ f)
+        | inl same ↦ next_place shape (advance shape running (get_or words (accessed (access shape running)) 0)) r next (sym (get_or-set_at places thread u (place_after (advance shape running (get_or words (accessed (access shape running)) 0))) None same t) ∙ f)
         | inr ne ↦ h.each_place u r (sym (get_or-set_other places thread u (place_after (advance shape running (get_or words (accessed (access shape running)) 0))) None ne) ∙ f)
-        ];
+      ];
     }
 
 -- the state after a step, as the machine says

@@ -1,6 +1,6 @@
 -- What one event and a schedule leave of the machine.
-use Rattle.std.proofs.Common.{◌≡◌, ◌≢◌, ◌⊎◌, ℕ, zero, suc, ◌+◌, ◌*◌, ◌-◌, ◌<◌, ◌≤◌, List, [], ◌∷◌, ◌++◌, length, get_or, set, Option, Some, None, Result, Ok, Err, Bool, true, false, refl, sym, ap, ◌∙◌, subst, inl, inr, arith, cond, eqb, eq-eqb, nat_lt, take, add-one}
-use Rattle.std.specs.Prelude.{filter, ◌==◌, slice_get}
+use Rattle.std.proofs.Common.{◌≡◌, ◌≢◌, ◌⊎◌, ℕ, zero, suc, ◌+◌, ◌<◌, List, [], ◌∷◌, ◌++◌, length, get_or, Option, Some, None, Result, Ok, Err, Bool, true, false, refl, sym, ap, ◌∙◌, subst, inl, inr, arith, cond, eq-eqb, nat_lt, take, add-one}
+use Rattle.std.specs.Prelude.{◌==◌, slice_get}
 use Rattle.std.proofs.lemmas.List.{get_or-set_other, length-set}
 use Rattle.std.proofs.lemmas.List.Elements.{filter-append}
 use Rattle.std.proofs.lemmas.Bool.{ltb-true, lt-ltb}
@@ -10,17 +10,17 @@ use Rattle.kfifo_machine.specs.declared.event.Begin.{Begin}
 use Rattle.kfifo_machine.specs.declared.event.Begin.TheVariants as B
 use Rattle.kfifo_machine.specs.declared.event.Event.{Event}
 use Rattle.kfifo_machine.specs.declared.event.Outcome.{Outcome}
-use Rattle.kfifo_machine.specs.declared.event.Outcome.TheVariants.{Went, Ended}
-use Rattle.kfifo_machine.specs.declared.event.NotEnabled.TheVariants.{NoSuchThread, Idle, InCall, BadCall, ClockSpent}
+use Rattle.kfifo_machine.specs.declared.event.Outcome.TheVariants.{Went}
+use Rattle.kfifo_machine.specs.declared.event.NotEnabled.TheVariants.{NoSuchThread, BadCall, ClockSpent}
 use Rattle.kfifo_machine.specs.declared.place.Running.TheVariants as R
 use Rattle.kfifo_machine.specs.declared.place.EnqueuePhase.TheVariants as E
 use Rattle.kfifo_machine.specs.declared.place.DequeuePhase.TheVariants as D
 use Rattle.kfifo_words.specs.Ring.{clock_at}
 use Rattle.kfifo_machine.specs.declared.event.NotEnabled.{NotEnabled}
 use Rattle.kfifo_machine.specs.declared.place.Running.{Running}
-use Rattle.kfifo_machine.specs.Program.{access, advance}
+use Rattle.kfifo_machine.specs.Program.{advance}
 use Rattle.kfifo_machine.specs.Machine.{World, word_at, opening, moved, ticked, found, place_of, place_after, outcome_of, begun, may_begin, step_from, step, world_of, run, after, IsFirstRefused}
-use Rattle.kfifo_machine.specs.Runs.{event, own, going, Begins}
+use Rattle.kfifo_machine.specs.Runs.{own, going}
 
 pub Some-injective : {A : Type 0} (x y : A) → Some x ≡ Some y → x ≡ y
 Some-injective x y e = cc
@@ -194,9 +194,9 @@ pub other_place : (shape : Shape) (here : World) (e : Event) (there : World) (ou
 unfolding moved ticked place_of
 other_place shape here e there outcome thread apart is =
     elim (stepped shape here e there outcome is) [
-      inl s ↦ ap (λ (w : World). place_of w thread) s.there_is
-        ∙ get_or-set_other here.places e.thread thread (place_after (advance shape s.running (found shape here s.running))) None apart
-    | inr t ↦ ap (λ (w : World). place_of w thread) t.there_is
+      | inl s ↦ ap (λ (w : World). place_of w thread) s.there_is
+          ∙ get_or-set_other here.places e.thread thread (place_after (advance shape s.running (found shape here s.running))) None apart
+      | inr t ↦ ap (λ (w : World). place_of w thread) t.there_is
     ]
 
 -- the number of threads stays
@@ -204,8 +204,8 @@ pub same_threads : (shape : Shape) (here : World) (e : Event) (there : World) (o
 unfolding moved ticked
 same_threads shape here e there outcome is =
     elim (stepped shape here e there outcome is) [
-      inl s ↦ ap (λ (w : World). length w.places) s.there_is ∙ length-set here.places e.thread (place_after (advance shape s.running (found shape here s.running)))
-    | inr t ↦ ap (λ (w : World). length w.places) t.there_is
+      | inl s ↦ ap (λ (w : World). length w.places) s.there_is ∙ length-set here.places e.thread (place_after (advance shape s.running (found shape here s.running)))
+      | inr t ↦ ap (λ (w : World). length w.places) t.there_is
     ]
 
 -- the event that a longer schedule begins with was made

@@ -1,12 +1,10 @@
 -- The two programs of Kirsch, Lippautz and Payer's bounded k-FIFO queue (2013), a step at a time: which atomic step comes
 -- next at each place in a call, and what the thread does with the word that it found.
-use Rattle.std.specs.Prelude.{ℕ, ◌+◌, ◌-◌, ◌*◌, ◌%◌, ◌==◌, not, nat_lt, nat_le, if◌then◌else◌, Bool, true, false, Option, Some, None}
+use Rattle.std.specs.Prelude.{ℕ, ◌+◌, ◌-◌, ◌%◌, ◌==◌, not, nat_lt, nat_le, if◌then◌else◌, true, false}
 use Rattle.kfifo_words.specs.declared.shape.Shape.{Shape}
 use Rattle.kfifo_words.specs.Words.{slot_word, value_of, version_of, ends_word, head_of, tail_of}
 use Rattle.kfifo_words.specs.Ring.{next_segment, distance, slot_at}
-use Rattle.kfifo_model.specs.declared.calls.Answer.{Answer}
 use Rattle.kfifo_model.specs.declared.calls.Answer.TheVariants.{Done, Full, Got, Empty, Busy, Worn}
-use Rattle.kfifo_machine.specs.declared.place.Found.{Found}
 use Rattle.kfifo_machine.specs.declared.place.Found.TheVariants.{Slot, Nothing}
 use Rattle.kfifo_machine.specs.declared.place.EnqueuePhase.{EnqueuePhase}
 use Rattle.kfifo_machine.specs.declared.place.EnqueuePhase.TheVariants as E
@@ -103,8 +101,8 @@ enqueue_advance shape item start left (E.ReloadSlot ends index filled) word =
 enqueue_advance shape item start left (E.ReloadEnds ends index filled) word =
     if tail_of ends == head_of word
     then (if version_of word == shape.last
-        then Goes (R.Enqueue item start left (E.Undo index filled true))
-        else Goes (R.Enqueue item start left (E.HoldHead index filled word)))
+    then Goes (R.Enqueue item start left (E.Undo index filled true))
+    else Goes (R.Enqueue item start left (E.HoldHead index filled word)))
     else if nat_le (distance shape.n (head_of word) (tail_of ends)) (distance shape.n (head_of word) (tail_of word))
     then Answers Done
     else Goes (R.Enqueue item start left (E.Undo index filled false))

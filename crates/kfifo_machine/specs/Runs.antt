@@ -1,11 +1,10 @@
 -- What one thread did in a schedule: its own events, its place, and the whole run of a call.
-use Rattle.std.specs.Prelude.{◌≡◌, ℕ, ◌*◌, ◌+◌, ◌==◌, List, [], ◌∷◌, ◌++◌, filter, Option, Some, None, Result, Ok, if◌then◌else◌}
+use Rattle.std.specs.Prelude.{◌≡◌, ℕ, ◌==◌, List, [], ◌∷◌, ◌++◌, filter, Option, Some, None, Ok, if◌then◌else◌}
 use Rattle.kfifo_words.specs.declared.shape.Shape.{Shape}
 use Rattle.kfifo_model.specs.declared.calls.Answer.{Answer}
 use Rattle.kfifo_machine.specs.declared.event.Begin.{Begin}
 use Rattle.kfifo_machine.specs.declared.event.Event.{Event}
-use Rattle.kfifo_machine.specs.declared.event.Outcome.{Outcome}
-use Rattle.kfifo_machine.specs.declared.event.Outcome.TheVariants.{Went, Ended}
+use Rattle.kfifo_machine.specs.declared.event.Outcome.TheVariants.{Ended}
 use Rattle.kfifo_machine.specs.declared.place.Running.{Running}
 use Rattle.kfifo_machine.specs.Machine.{World, begun, may_begin, step, after}
 

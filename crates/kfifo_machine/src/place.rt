@@ -22,27 +22,62 @@ pub enum EnqueuePhase {
     /// Loads the ends word.
     LoadEnds,
     /// Loads a slot of the tail's segment, the next one from the start after `offset` slots.
-    ScanTail { ends: Ends, offset: u32 },
+    ScanTail {
+        ends: Ends,
+        offset: u32,
+    },
     /// Loads the ends word again, with the empty slot that was found.
-    Recheck { ends: Ends, found: Found },
+    Recheck {
+        ends: Ends,
+        found: Found,
+    },
     /// Puts the item into the empty slot.
-    Put { ends: Ends, index: usize, empty: Word },
+    Put {
+        ends: Ends,
+        index: usize,
+        empty: Word,
+    },
     /// Loads the slot again.
-    ReloadSlot { ends: Ends, index: usize, filled: Word },
+    ReloadSlot {
+        ends: Ends,
+        index: usize,
+        filled: Word,
+    },
     /// Loads the ends word again, the item being in its slot.
-    ReloadEnds { ends: Ends, index: usize, filled: Word },
+    ReloadEnds {
+        ends: Ends,
+        index: usize,
+        filled: Word,
+    },
     /// Raises the version of the ends word `held`.
-    HoldHead { index: usize, filled: Word, held: Ends },
+    HoldHead {
+        index: usize,
+        filled: Word,
+        held: Ends,
+    },
     /// Takes the item out again; a won undo answers Worn where `worn` says so.
-    Undo { index: usize, filled: Word, worn: bool },
+    Undo {
+        index: usize,
+        filled: Word,
+        worn: bool,
+    },
     /// Loads a slot of the head's segment.
-    ScanHead { ends: Ends, offset: u32 },
+    ScanHead {
+        ends: Ends,
+        offset: u32,
+    },
     /// Loads the ends word again, a slot of the head's segment being filled.
-    ConfirmFull { ends: Ends },
+    ConfirmFull {
+        ends: Ends,
+    },
     /// Moves the head on.
-    MoveHead { ends: Ends },
+    MoveHead {
+        ends: Ends,
+    },
     /// Moves the tail on.
-    MoveTail { ends: Ends },
+    MoveTail {
+        ends: Ends,
+    },
 }
 
 /// The step that a dequeue makes next. `ends` is the ends word with which its round began.
@@ -51,24 +86,49 @@ pub enum DequeuePhase {
     /// Loads the ends word.
     LoadEnds,
     /// Loads a slot of the head's segment, the next one from the start after `offset` slots.
-    ScanHead { ends: Ends, offset: u32 },
+    ScanHead {
+        ends: Ends,
+        offset: u32,
+    },
     /// Loads the ends word again, with the filled slot that was found.
-    Recheck { ends: Ends, found: Found },
+    Recheck {
+        ends: Ends,
+        found: Found,
+    },
     /// Moves the tail on, off the segment of the filled slot.
-    MoveTail { ends: Ends, index: usize, filled: Word },
+    MoveTail {
+        ends: Ends,
+        index: usize,
+        filled: Word,
+    },
     /// Takes the item out of the filled slot.
-    Take { ends: Ends, index: usize, filled: Word },
+    Take {
+        ends: Ends,
+        index: usize,
+        filled: Word,
+    },
     /// Moves the head on.
-    MoveHead { ends: Ends },
+    MoveHead {
+        ends: Ends,
+    },
 }
 
 /// A thread's place in its call. `left` counts the rounds that are left, this one among them.
 #[derive(Clone, Copy, PartialEq, Eq, Debug)]
 pub enum Running {
     /// In an enqueue.
-    Enqueue { item: u32, start: u32, left: u16, phase: EnqueuePhase },
+    Enqueue {
+        item: u32,
+        start: u32,
+        left: u16,
+        phase: EnqueuePhase,
+    },
     /// In a dequeue.
-    Dequeue { start: u32, left: u16, phase: DequeuePhase },
+    Dequeue {
+        start: u32,
+        left: u16,
+        phase: DequeuePhase,
+    },
 }
 
 /// One atomic step on one word of the table.

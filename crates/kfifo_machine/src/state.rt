@@ -47,7 +47,11 @@ pub fn start(alloc: Global, shape: Shape, threads: u32) -> Result<State, StartFa
     let size = 2 + shape.n() as usize * shape.k() as usize;
     let words = vec![in alloc; Word::of_bits(0); size]?;
     let places = idle_places(alloc, threads)?;
-    Ok(State { shape, words, places })
+    Ok(State {
+        shape,
+        words,
+        places,
+    })
 }
 
 impl State {
@@ -125,7 +129,12 @@ pub fn step(state: &mut State, event: Event) -> Result<Outcome, NotEnabled>
         (None, None) => Err(NotEnabled::Idle),
         (None, Some(Begin::Enqueue { item, start, turns })) => {
             if start < state.shape.k() && 0 < turns && 0 < item && item < 16_777_216 {
-                let running = Running::Enqueue { item, start, left: turns, phase: EnqueuePhase::LoadEnds };
+                let running = Running::Enqueue {
+                    item,
+                    start,
+                    left: turns,
+                    phase: EnqueuePhase::LoadEnds,
+                };
                 Ok(make_step(state, thread, running))
             } else {
                 Err(NotEnabled::BadCall)
@@ -133,7 +142,11 @@ pub fn step(state: &mut State, event: Event) -> Result<Outcome, NotEnabled>
         }
         (None, Some(Begin::Dequeue { start, turns })) => {
             if start < state.shape.k() && 0 < turns {
-                let running = Running::Dequeue { start, left: turns, phase: DequeuePhase::LoadEnds };
+                let running = Running::Dequeue {
+                    start,
+                    left: turns,
+                    phase: DequeuePhase::LoadEnds,
+                };
                 Ok(make_step(state, thread, running))
             } else {
                 Err(NotEnabled::BadCall)

@@ -112,12 +112,16 @@ impl Running {
         ensures { result ≡ access shape.now self.now }
     {
         match *self {
-            Running::Enqueue { item, start, phase, .. } => enqueue_step(shape, item, start, phase),
+            Running::Enqueue {
+                item,
+                start,
+                phase,
+                ..
+            } => enqueue_step(shape, item, start, phase),
             Running::Dequeue { start, phase, .. } => dequeue_step(shape, start, phase),
         }
     }
 }
-
 
 /// An enqueue in one of its rounds.
 #[derive(Clone, Copy)]
@@ -132,7 +136,12 @@ impl EnqueueRound {
     fn goes(self, phase: EnqueuePhase) -> Next
         ensures { result ≡ Next.Goes (Running.Enqueue self.item self.start self.left phase) }
     {
-        Next::Goes(Running::Enqueue { item: self.item, start: self.start, left: self.left, phase })
+        Next::Goes(Running::Enqueue {
+            item: self.item,
+            start: self.start,
+            left: self.left,
+            phase,
+        })
     }
 
     /// The round ends: the next one begins, or the call answers Busy.
@@ -157,11 +166,20 @@ impl EnqueueRound {
     {
         if word.value() == 0 {
             let index = scan(shape, ends.tail(), self.start, offset);
-            self.goes(EnqueuePhase::Recheck { ends, found: Found::Slot { index, word } })
+            self.goes(EnqueuePhase::Recheck {
+                ends,
+                found: Found::Slot { index, word },
+            })
         } else if offset + 1 == shape.probes() {
-            self.goes(EnqueuePhase::Recheck { ends, found: Found::Nothing })
+            self.goes(EnqueuePhase::Recheck {
+                ends,
+                found: Found::Nothing,
+            })
         } else {
-            self.goes(EnqueuePhase::ScanTail { ends, offset: offset + 1 })
+            self.goes(EnqueuePhase::ScanTail {
+                ends,
+                offset: offset + 1,
+            })
         }
     }
 
@@ -179,7 +197,11 @@ impl EnqueueRound {
                 if shape.last() < word.version() + 2 {
                     Next::Answers(Answer::Worn)
                 } else {
-                    self.goes(EnqueuePhase::Put { ends, index, empty: word })
+                    self.goes(EnqueuePhase::Put {
+                        ends,
+                        index,
+                        empty: word,
+                    })
                 }
             }
             Found::Nothing => {
@@ -203,13 +225,25 @@ impl EnqueueRound {
         let segment = ends.tail();
         let head = now.head();
         if segment == head && now.version() == shape.last() {
-            self.goes(EnqueuePhase::Undo { index, filled, worn: true })
+            self.goes(EnqueuePhase::Undo {
+                index,
+                filled,
+                worn: true,
+            })
         } else if segment == head {
-            self.goes(EnqueuePhase::HoldHead { index, filled, held: now })
+            self.goes(EnqueuePhase::HoldHead {
+                index,
+                filled,
+                held: now,
+            })
         } else if shape.dist(head, segment) <= shape.dist(head, now.tail()) {
             Next::Answers(Answer::Done)
         } else {
-            self.goes(EnqueuePhase::Undo { index, filled, worn: false })
+            self.goes(EnqueuePhase::Undo {
+                index,
+                filled,
+                worn: false,
+            })
         }
     }
 
@@ -222,7 +256,10 @@ impl EnqueueRound {
         if word.value() != 0 {
             self.goes(EnqueuePhase::ConfirmFull { ends })
         } else if offset + 1 != shape.k() {
-            self.goes(EnqueuePhase::ScanHead { ends, offset: offset + 1 })
+            self.goes(EnqueuePhase::ScanHead {
+                ends,
+                offset: offset + 1,
+            })
         } else if ends.version() == shape.last() {
             Next::Answers(Answer::Worn)
         } else {
@@ -254,33 +291,69 @@ impl EnqueueRound {
         ensures { result ≡ enqueue_advance shape.now self.item self.start self.left phase word }
     {
         match phase {
-            EnqueuePhase::LoadEnds => self.goes(EnqueuePhase::ScanTail { ends: word.into(), offset: 0 }),
+            EnqueuePhase::LoadEnds => self.goes(EnqueuePhase::ScanTail {
+                ends: word.into(),
+                offset: 0,
+            }),
             EnqueuePhase::ScanTail { ends, offset } => self.tail_scanned(shape, ends, offset, word),
-            EnqueuePhase::Recheck { ends, found } => self.rechecked(shape, ends, found, word.into()),
+            EnqueuePhase::Recheck { ends, found } => self.rechecked(
+                shape,
+                ends,
+                found,
+                word.into(),
+            ),
             EnqueuePhase::Put { ends, index, empty } => {
                 if word == empty {
                     let filled = Word::pack(self.item, empty.version() + 1);
-                    self.goes(EnqueuePhase::ReloadSlot { ends, index, filled })
+                    self.goes(EnqueuePhase::ReloadSlot {
+                        ends,
+                        index,
+                        filled,
+                    })
                 } else {
                     self.again()
                 }
             }
-            EnqueuePhase::ReloadSlot { ends, index, filled } => {
+            EnqueuePhase::ReloadSlot {
+                ends,
+                index,
+                filled,
+            } => {
                 if word == filled {
-                    self.goes(EnqueuePhase::ReloadEnds { ends, index, filled })
+                    self.goes(EnqueuePhase::ReloadEnds {
+                        ends,
+                        index,
+                        filled,
+                    })
                 } else {
                     Next::Answers(Answer::Done)
                 }
             }
-            EnqueuePhase::ReloadEnds { ends, index, filled } => self.placed(shape, ends, index, filled, word.into()),
-            EnqueuePhase::HoldHead { index, filled, held } => {
+            EnqueuePhase::ReloadEnds {
+                ends,
+                index,
+                filled,
+            } => self.placed(shape, ends, index, filled, word.into()),
+            EnqueuePhase::HoldHead {
+                index,
+                filled,
+                held,
+            } => {
                 if Ends::from(word) == held {
                     Next::Answers(Answer::Done)
                 } else {
-                    self.goes(EnqueuePhase::Undo { index, filled, worn: false })
+                    self.goes(EnqueuePhase::Undo {
+                        index,
+                        filled,
+                        worn: false,
+                    })
                 }
             }
-            EnqueuePhase::Undo { index, filled, worn } => self.undone(filled, worn, index, word, shape),
+            EnqueuePhase::Undo {
+                index,
+                filled,
+                worn,
+            } => self.undone(filled, worn, index, word, shape),
             EnqueuePhase::ScanHead { ends, offset } => self.head_scanned(shape, ends, offset, word),
             EnqueuePhase::ConfirmFull { ends } => {
                 if Ends::from(word) == ends {
@@ -306,7 +379,11 @@ impl DequeueRound {
     fn goes(self, phase: DequeuePhase) -> Next
         ensures { result ≡ Next.Goes (Running.Dequeue self.start self.left phase) }
     {
-        Next::Goes(Running::Dequeue { start: self.start, left: self.left, phase })
+        Next::Goes(Running::Dequeue {
+            start: self.start,
+            left: self.left,
+            phase,
+        })
     }
 
     /// The round ends: the next one begins, or the call answers Busy.
@@ -331,11 +408,20 @@ impl DequeueRound {
     {
         if word.value() != 0 {
             let index = scan(shape, ends.head(), self.start, offset);
-            self.goes(DequeuePhase::Recheck { ends, found: Found::Slot { index, word } })
+            self.goes(DequeuePhase::Recheck {
+                ends,
+                found: Found::Slot { index, word },
+            })
         } else if offset + 1 == shape.k() {
-            self.goes(DequeuePhase::Recheck { ends, found: Found::Nothing })
+            self.goes(DequeuePhase::Recheck {
+                ends,
+                found: Found::Nothing,
+            })
         } else {
-            self.goes(DequeuePhase::ScanHead { ends, offset: offset + 1 })
+            self.goes(DequeuePhase::ScanHead {
+                ends,
+                offset: offset + 1,
+            })
         }
     }
 
@@ -352,11 +438,19 @@ impl DequeueRound {
         match found {
             Found::Slot { index, word } => {
                 if !together {
-                    self.goes(DequeuePhase::Take { ends, index, filled: word })
+                    self.goes(DequeuePhase::Take {
+                        ends,
+                        index,
+                        filled: word,
+                    })
                 } else if worn {
                     Next::Answers(Answer::Worn)
                 } else {
-                    self.goes(DequeuePhase::MoveTail { ends, index, filled: word })
+                    self.goes(DequeuePhase::MoveTail {
+                        ends,
+                        index,
+                        filled: word,
+                    })
                 }
             }
             Found::Nothing => {
@@ -379,12 +473,28 @@ impl DequeueRound {
         ensures { result ≡ dequeue_advance shape.now self.start self.left phase word }
     {
         match phase {
-            DequeuePhase::LoadEnds => self.goes(DequeuePhase::ScanHead { ends: word.into(), offset: 0 }),
+            DequeuePhase::LoadEnds => self.goes(DequeuePhase::ScanHead {
+                ends: word.into(),
+                offset: 0,
+            }),
             DequeuePhase::ScanHead { ends, offset } => self.head_scanned(shape, ends, offset, word),
-            DequeuePhase::Recheck { ends, found } => self.rechecked(shape, ends, found, word.into()),
-            DequeuePhase::MoveTail { ends, index, filled } => {
+            DequeuePhase::Recheck { ends, found } => self.rechecked(
+                shape,
+                ends,
+                found,
+                word.into(),
+            ),
+            DequeuePhase::MoveTail {
+                ends,
+                index,
+                filled,
+            } => {
                 if Ends::from(word) == ends {
-                    self.goes(DequeuePhase::Take { ends, index, filled })
+                    self.goes(DequeuePhase::Take {
+                        ends,
+                        index,
+                        filled,
+                    })
                 } else {
                     self.again()
                 }
@@ -409,8 +519,15 @@ impl Running {
         ensures { result ≡ advance shape.now self.now word }
     {
         match *self {
-            Running::Enqueue { item, start, left, phase } => EnqueueRound { item, start, left }.next(shape, phase, word),
-            Running::Dequeue { start, left, phase } => DequeueRound { start, left }.next(shape, phase, word),
+            Running::Enqueue {
+                item,
+                start,
+                left,
+                phase,
+            } => EnqueueRound { item, start, left }.next(shape, phase, word),
+            Running::Dequeue { start, left, phase } => DequeueRound { start, left }.next(
+                shape, phase, word,
+            ),
         }
     }
 }

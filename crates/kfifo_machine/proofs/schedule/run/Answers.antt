@@ -17,4 +17,4 @@ returns-in-Err-clause-refused c place e =
     let P : ℕ → Type 0 = λ p. IsFirstRefused c.args.shape c.args.threads c.args.events.now p in
     subst P same
     (stops c.args.shape c.args.threads c.args.events.now c.loop-place.place _ c.loop-place.state.shape c.loop-place.state.world _
-      c.loop-place-test.true c.loop-place.invariant.shape c.loop-place.invariant.reached c.in-Err.ensures.refused)
+    c.loop-place-test.true c.loop-place.invariant.shape c.loop-place.invariant.reached c.in-Err.ensures.refused)

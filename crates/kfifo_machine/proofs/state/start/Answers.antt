@@ -1,8 +1,5 @@
 -- The opening state is sound.
-use Rattle.std.proofs.Common.{◌≡◌, ℕ, List, Option, ◌+◌, ◌*◌, ◌∙◌, replicate, map, None, refl, rules, arith}
-use Rattle.std.specs.List.{range_with_len}
-use Rattle.kfifo_machine.specs.declared.place.Running.{Running}
-use Rattle.kfifo_machine.specs.Machine.{World, opening}
+use Rattle.std.proofs.Common.{◌≡◌, ◌+◌, ◌*◌, ◌∙◌, replicate, None, refl, rules}
 use Rattle.kfifo_machine.proofs.Places.{opens, opening_is, all_none}
 use Rattle.kfifo_machine.proofs.state.start.Goals as goal
 

@@ -1,0 +1,158 @@
+-- A look at the schedule, and views that are cut in two or put together, keep the rule.
+use Rattle.std.proofs.Common.{◌≡◌, ◌≢◌, ◌⊎◌, ℕ, zero, suc, ◌+◌, ◌-◌, ◌<◌, ◌≤◌, List, [], ◌∷◌, ◌++◌, length, set, get_or, replicate, ◌*◌, take, drop, true, false, refl, sym, ap, ◌∙◌, subst, inl, inr, ⊎_elim, arith, cond, eq-eqb, ne_eqb, nat_eq, nat_le}
+use Rattle.std.specs.Prelude.{slice_index, slice_set}
+use Rattle.std.proofs.lemmas.List.{append-nil, set-get_or}
+use Rattle.std.proofs.lemmas.Bool.Decides.{nat_tests}
+use mathlib.Core.Option.{some, some-ne-none, some-injective}
+use lib.ListN.{get_elem?}
+use Rattle.atomic_table.specs.Table.{State, keeps, Me, Allows, Splits}
+use Rattle.kfifo_machine.specs.declared.event.Event.{Event}
+use Rattle.kfifo_machine.specs.Machine.{opening}
+use Rattle.kfifo_live.specs.declared.view.Opening.{Opening}
+use Rattle.kfifo_live.specs.declared.view.Part.{Part}
+use Rattle.kfifo_live.specs.declared.view.View.{View}
+use Rattle.kfifo_live.specs.Schedule.{part, view_of, fresh, first_view, thread_of, seen_of, with_seen, more_in, IsSeated, AllBegin, Owns, Fits, OneSchedule}
+use Rattle.kfifo_live.specs.Step.{Looks}
+use Rattle.kfifo_live.proofs.Keeps.{adds, fits_set}
+
+-- a look, at a view with these parts
+looks_at : {S : Type 0} (o : Opening) (s : State S View) (id thread : ℕ) (seen : List Event) (more : List Part) (i : ℕ)
+    → OneSchedule o s.words s.views → get_elem? s.views id ≡ some (view_of o (part thread seen ∷ more))
+    → (w : View) × OneSchedule o (slice_set s.words i (slice_index s.words i)) (set s.views id w) × Looks i (slice_index s.words i) (view_of o (part thread seen ∷ more)) w
+looks_at o s id thread seen more i kept at =
+    let words : slice_set s.words i (slice_index s.words i) ≡ kept.world.words = set-get_or s.words i 0 ∙ kept.words_are in
+    let k = adds o s.words (slice_set s.words i (slice_index s.words i)) s.views id thread seen more kept at [] (λ u apart. refl) kept.world refl words in
+    let mine = kept.fit id (view_of o (part thread seen ∷ more)) at in (
+      view_of o (part thread kept.all ∷ more),
+      subst (λ (es : List Event). OneSchedule o (slice_set s.words i (slice_index s.words i)) (set s.views id (view_of o (part thread es ∷ more)))) (append-nil kept.all) k,
+      record { all = kept.all; world = kept.world; reached = kept.runs; word_is = ap (λ ws. get_or ws i 0) kept.words_are; begin = mine.begin; afterwards = refl },
+    )
+
+pub looks : {S : Type 0} (o : Opening) (slots id : ℕ) (me : Me S View) (i : ℕ) → IsSeated me.0
+    → Allows (λ (s : State S View). OneSchedule o s.words s.views) slots id me i (λ n. n) (λ found w. Looks i found me.0 w.0 × (w.1 ≡ me.1))
+looks {S} o slots id me i seated s kept homes at fits =
+    let v = me.0 in
+    let opened = (kept.fit id v at).opened in
+    let P : View → Type 0 = λ x. (w : View) × OneSchedule o (slice_set s.words i (slice_index s.words i)) (set s.views id w) × Looks i (slice_index s.words i) x w in
+    let Q : Opening → Type 0 = λ x. OneSchedule x s.words s.views → (w : View) × OneSchedule x (slice_set s.words i (slice_index s.words i)) (set s.views id w) × Looks i (slice_index s.words i) (with_seen v (seen_of v)) w in
+    let got : P (with_seen v (seen_of v)) = subst Q opened (λ k. looks_at v.opened s id (thread_of v) (seen_of v) (more_in v.parts) i k (at ∙ ap some seated)) kept in
+    let put = subst P (sym seated) got in
+    (put.0, keeps, tt, put.1, (put.2, refl))
+
+AllBegin-take : (n : ℕ) (xs : List Part) (all : List Event) → AllBegin xs all → AllBegin (take n xs) all
+AllBegin-take zero xs all a = tt
+AllBegin-take (suc n) [] all a = tt
+AllBegin-take (suc n) (x ∷ xs) all a = (a.0, AllBegin-take n xs all a.1)
+
+AllBegin-drop : (n : ℕ) (xs : List Part) (all : List Event) → AllBegin xs all → AllBegin (drop n xs) all
+AllBegin-drop zero xs all a = a
+AllBegin-drop (suc n) [] all a = tt
+AllBegin-drop (suc n) (x ∷ xs) all a = AllBegin-drop n xs all a.1
+
+-- the seat `from` gives its parts from the k-th on to the seat `to`, where they follow the first m
+abbrev pub passed_on : ℕ → ℕ → ℕ → ℕ → ℕ × ℕ → ℕ × ℕ
+passed_on from k to m x = cond (nat_eq x.0 from) (cond (nat_le k x.1) (to, m + (x.1 - k)) x) x
+
+passed_other : (from k to m seat at : ℕ) → seat ≢ from → passed_on from k to m (seat, at) ≡ (seat, at)
+passed_other from k to m seat at apart = ap (λ b. cond b (cond (nat_le k at) (to, m + (at - k)) (seat, at)) (seat, at)) (ne_eqb seat from apart)
+
+passed_here : (from k to m at : ℕ) → k ≤ at → passed_on from k to m (from, at) ≡ (to, m + (at - k))
+passed_here from k to m at le =
+    ap (λ b. cond b (cond (nat_le k at) (to, m + (at - k)) (from, at)) (from, at)) (eq-eqb from from refl)
+    ∙ ap (λ b. cond b (to, m + (at - k)) (from, at)) (let t : nat_le k at ≡ true = grind (arith, nat_tests) in t)
+
+passed_kept : (from k to m at : ℕ) → at < k → passed_on from k to m (from, at) ≡ (from, at)
+passed_kept from k to m at lt =
+    ap (λ b. cond b (cond (nat_le k at) (to, m + (at - k)) (from, at)) (from, at)) (eq-eqb from from refl)
+    ∙ ap (λ b. cond b (to, m + (at - k)) (from, at)) (let t : nat_le k at ≡ false = grind (arith, nat_tests) in t)
+
+module _ (owner : ℕ → ℕ × ℕ) (from k to m : ℕ) where
+  owns_other : (seat at : ℕ) (ps : List Part) → seat ≢ from → Owns owner seat at ps → Owns (λ t. passed_on from k to m (owner t)) seat at ps
+  owns_other seat at [] apart o = tt
+  owns_other seat at (p ∷ ps) apart o = (ap (passed_on from k to m) o.0 ∙ passed_other from k to m seat at apart, owns_other seat (suc at) ps apart o.1)
+
+  owns_first : (at n : ℕ) (ps : List Part) → at + n ≤ k → Owns owner from at ps → Owns (λ t. passed_on from k to m (owner t)) from at (take n ps)
+  owns_first at zero ps le o = tt
+  owns_first at (suc n) [] le o = tt
+  owns_first at (suc n) (p ∷ ps) le o = (ap (passed_on from k to m) o.0 ∙ passed_kept from k to m at (omega arith), owns_first (suc at) n ps (omega arith) o.1)
+
+  owns_given : (at : ℕ) (ps : List Part) → k ≤ at → Owns owner from at ps → Owns (λ t. passed_on from k to m (owner t)) to (m + (at - k)) ps
+  owns_given at [] le o = tt
+  owns_given at (p ∷ ps) le o =
+      let n : m + (suc at - k) ≡ suc (m + (at - k)) = omega arith in
+      (ap (passed_on from k to m) o.0 ∙ passed_here from k to m at le, subst (λ (x : ℕ). Owns (λ t. passed_on from k to m (owner t)) to x ps) n (owns_given (suc at) ps (omega arith) o.1))
+
+owns_drop : (owner : ℕ → ℕ × ℕ) (seat at n : ℕ) (ps : List Part) → n ≤ length ps → Owns owner seat at ps → Owns owner seat (at + n) (drop n ps)
+owns_drop owner seat at zero ps le o = subst (λ (x : ℕ). Owns owner seat x ps) (let e : at ≡ at + 0 = omega arith in e) o
+owns_drop owner seat at (suc n) [] le o = tt
+owns_drop owner seat at (suc n) (p ∷ ps) le o = subst (λ (x : ℕ). Owns owner seat x (drop n ps)) (let e : suc at + n ≡ at + suc n = omega arith in e) (owns_drop owner seat (suc at) n ps (omega arith) o.1)
+
+at_end : {A : Type 0} (l : List A) (a b : A) (j : ℕ) → get_elem? (l ++ a ∷ []) j ≡ some b → (get_elem? l j ≡ some b) ⊎ ((j ≡ length l) × (a ≡ b))
+at_end [] a b zero e = inr (refl, some-injective a b e)
+at_end [] a b (suc j) e = absurd (some-ne-none b (sym e))
+at_end (x ∷ xs) a b zero e = inl e
+at_end (x ∷ xs) a b (suc j) e = ⊎_elim (λ t. inl t) (λ t. inr (ap suc t.0, t.1)) (at_end xs a b j e)
+
+at_within : {A : Type 0} (l : List A) (j : ℕ) (b : A) → get_elem? l j ≡ some b → j < length l
+at_within [] j b e = absurd (some-ne-none b (sym e))
+at_within (x ∷ xs) zero b e = omega arith
+at_within (x ∷ xs) (suc j) b e = let h = at_within xs j b e in omega arith
+
+length_set : {A : Type 0} (l : List A) (i : ℕ) (a : A) → length (set l i a) ≡ length l
+length_set [] i a = refl
+length_set (x ∷ xs) zero a = refl
+length_set (x ∷ xs) (suc i) a = ap suc (length_set xs i a)
+
+-- a seat keeps its first n parts, and a new seat has the others
+pub cuts : {S : Type 0} (o : Opening) (id : ℕ) (v : View) (n : ℕ) → n ≤ length v.parts
+    → Splits (λ (s : State S View). OneSchedule o s.words s.views) id v (view_of v.opened (take n v.parts)) (view_of v.opened (drop n v.parts))
+cuts o id v n le s kept at =
+    let mine = kept.fit id v at in
+    let left = view_of v.opened (take n v.parts) in
+    let right = view_of v.opened (drop n v.parts) in
+    let new = length s.views in
+    let inside : id < new = at_within s.views id v at in
+    let owner = λ (t : ℕ). passed_on id n new 0 (kept.owner t) in
+    let at_left : Fits o kept.all owner id left = record { opened = mine.opened; begin = AllBegin-take n v.parts kept.all mine.begin; owns = owns_first kept.owner id n new 0 0 n v.parts (omega arith) mine.owns } in
+    let given = owns_given kept.owner id n new 0 (0 + n) (drop n v.parts) (omega arith) (owns_drop kept.owner id 0 n v.parts le mine.owns) in
+    let at_right : Fits o kept.all owner new right = record { opened = mine.opened; begin = AllBegin-drop n v.parts kept.all mine.begin; owns = subst (λ (x : ℕ). Owns owner new x (drop n v.parts)) (let e : 0 + (0 + n - n) ≡ 0 = omega arith in e) given } in
+    record {
+      all = kept.all;
+      world = kept.world;
+      owner = owner;
+      runs = kept.runs;
+      words_are = kept.words_are;
+      fit = λ j u e.
+          ⊎_elim
+          (λ (x : get_elem? (set s.views id left) j ≡ some u).
+          fits_set o kept.all owner s.views id left
+          (λ i y apart f. let theirs = kept.fit i y f in record { opened = theirs.opened; begin = theirs.begin; owns = owns_other kept.owner id n new 0 i 0 y.parts apart theirs.owns })
+          at_left j u x)
+          (λ (x : (j ≡ length (set s.views id left)) × (right ≡ u)).
+          subst (λ (y : ℕ × View). Fits o kept.all owner y.0 y.1) (λ k. (sym (x.0 ∙ length_set s.views id left) k, x.1 k)) at_right)
+          (at_end (set s.views id left) right u j e);
+    }
+
+-- the opening
+fresh_begin : (first count : ℕ) → AllBegin (fresh first count) []
+fresh_begin first zero = tt
+fresh_begin first (suc count) = (record { rest = []; goes_on = refl; no_own = refl }, fresh_begin (suc first) count)
+
+fresh_owns : (first count : ℕ) → Owns (λ t. (0, t)) 0 first (fresh first count)
+fresh_owns first zero = tt
+fresh_owns first (suc count) = (refl, fresh_owns (suc first) count)
+
+pub opens : (o : Opening) (words : List ℕ) → words ≡ replicate (2 + o.shape.n * o.shape.k) 0 → OneSchedule o words (first_view o ∷ [])
+unfolding opening
+opens o words is = record {
+  all = [];
+  world = opening o.shape o.threads;
+  owner = λ t. (0, t);
+  runs = refl;
+  words_are = is;
+  fit = one;
+}
+  where
+    one : (seat : ℕ) (v : View) → get_elem? (first_view o ∷ []) seat ≡ some v → Fits o [] (λ t. (0, t)) seat v
+    one zero v e = subst (Fits o [] (λ t. (0, t)) 0) (some-injective _ _ e) record { opened = refl; begin = fresh_begin 0 o.threads; owns = fresh_owns 0 o.threads }
+    one (suc seat) v e = absurd (some-ne-none v (sym e))

@@ -1,0 +1,182 @@
+-- Each step keeps the rule: there is still one schedule.
+use Rattle.std.proofs.Common.{◌≡◌, ◌≢◌, ℕ, suc, ◌<◌, ◌≤◌, List, [], ◌∷◌, ◌++◌, length, set, get_or, Option, Some, Bool, true, false, refl, sym, ap, ◌∙◌, subst, ⊎_elim, arith, append_assoc, cond, eq-eqb, ne_eqb}
+use Rattle.std.specs.Prelude.{slice_index, slice_set, ◌==◌}
+use Rattle.std.proofs.lemmas.List.{append-nil, set-get_or}
+use mathlib.Core.Option.{some}
+use lib.ListN.{get_elem?}
+use prog.Atomic.{either}
+use Rattle.atomic_table.specs.Table.{State, keeps, Me, Allows}
+use Rattle.atomic_table.proofs.Lists.{at_set}
+use Rattle.kfifo_words.specs.declared.shape.Shape.{Shape}
+use Rattle.kfifo_machine.specs.declared.event.Begin.{Begin}
+use Rattle.kfifo_machine.specs.declared.event.Event.{Event}
+use Rattle.kfifo_machine.specs.declared.place.Running.{Running}
+use Rattle.kfifo_machine.specs.declared.place.Access.{Access}
+use Rattle.kfifo_machine.specs.declared.place.Access.TheVariants.{Load, Exchange}
+use Rattle.kfifo_machine.specs.Program.{access, accessed}
+use Rattle.kfifo_machine.specs.Machine.{World, opening, moved, found, word_at, place_of, words_after, world_of, run}
+use Rattle.kfifo_machine.specs.Runs.{event, own, going, Begins}
+use Rattle.kfifo_machine.proofs.Schedules.{run_on, own-append, same_place, still_threads, steps_on}
+use Rattle.kfifo_live.specs.declared.view.Opening.{Opening}
+use Rattle.kfifo_live.specs.declared.view.Part.{Part}
+use Rattle.kfifo_live.specs.declared.view.View.{View}
+use Rattle.kfifo_live.specs.Schedule.{part, view_of, world_after, AllBegin, Owns, Fits, OneSchedule, thread_of, seen_of, more_in, with_seen}
+use Rattle.kfifo_live.specs.Step.{At, Steps}
+
+-- a longer schedule, with nothing more of the thread
+begins_on : (thread : ℕ) (seen all more : List Event) → Begins thread seen all → own thread more ≡ [] → Begins thread seen (all ++ more)
+begins_on thread seen all more b empty = record {
+  rest = b.rest ++ more;
+  goes_on = ap (λ xs. xs ++ more) b.goes_on ∙ append_assoc seen b.rest more;
+  no_own = own-append thread b.rest more ∙ (λ i. b.no_own i ++ empty i);
+}
+
+begins_whole : (thread : ℕ) (all : List Event) → Begins thread all all
+begins_whole thread all = record { rest = []; goes_on = sym (append-nil all); no_own = refl }
+
+-- the parts whose threads are not the one that made the new events
+all_begin_on : (owner : ℕ → ℕ × ℕ) (seat at : ℕ) (parts : List Part) (all more : List Event) (thread : ℕ)
+    → ((u : ℕ) → u ≢ thread → own u more ≡ [])
+    → ((k : ℕ) → at ≤ k → owner thread ≢ (seat, k))
+    → Owns owner seat at parts → AllBegin parts all → AllBegin parts (all ++ more)
+all_begin_on owner seat at [] all more thread others apart owns begin = tt
+all_begin_on owner seat at (p ∷ ps) all more thread others apart owns begin = (
+  begins_on p.thread p.seen all more begin.0 (others p.thread (λ same. apart at (omega arith) (ap owner (sym same) ∙ owns.0))),
+  all_begin_on owner seat (suc at) ps all more thread others (λ k le. apart k (omega arith)) owns.1 begin.1,
+)
+
+-- what a seat knows at another place of the list, or at its own
+pub fits_set : (o : Opening) (all : List Event) (owner : ℕ → ℕ × ℕ) (views : List View) (id : ℕ) (w : View)
+    → ((j : ℕ) (u : View) → j ≢ id → get_elem? views j ≡ some u → Fits o all owner j u)
+    → Fits o all owner id w → (j : ℕ) (u : View) → get_elem? (set views id w) j ≡ some u → Fits o all owner j u
+fits_set o all owner views id w others mine j u e =
+    ⊎_elim
+    (λ (x : (j ≡ id) × (w ≡ u)). subst (λ (y : ℕ × View). Fits o all owner y.0 y.1) (λ i. (sym x.0 i, x.1 i)) mine)
+    (λ (x : (j ≢ id) × (get_elem? views j ≡ some u)). others j u x.0 x.1)
+    (at_set views id j w u e)
+
+-- The one lemma of all steps: the seat's first thread has seen the schedule so far, and then adds what is its own
+pub adds : (o : Opening) (words after_words : List ℕ) (views : List View) (id : ℕ) (thread : ℕ) (seen : List Event) (more : List Part)
+    → (kept : OneSchedule o words views) → get_elem? views id ≡ some (view_of o (part thread seen ∷ more))
+    → (tail : List Event) → ((u : ℕ) → u ≢ thread → own u tail ≡ [])
+    → (end : World) → run o.shape (Some kept.world) tail ≡ Some end → after_words ≡ end.words
+    → OneSchedule o after_words (set views id (view_of o (part thread (kept.all ++ tail) ∷ more)))
+adds o words after_words views id thread seen more kept at tail others end runs words_are =
+    let mine = kept.fit id (view_of o (part thread seen ∷ more)) at in
+    let owned : kept.owner thread ≡ (id, 0) = mine.owns.0 in
+    record {
+      all = kept.all ++ tail;
+      world = end;
+      owner = kept.owner;
+      runs = run_on o.shape (Some (opening o.shape o.threads)) kept.world kept.all tail kept.runs ∙ runs;
+      words_are = words_are;
+      fit = fits_set o (kept.all ++ tail) kept.owner views id (view_of o (part thread (kept.all ++ tail) ∷ more))
+          (λ j u apart e.
+          let theirs = kept.fit j u e in
+          record {
+            opened = theirs.opened;
+            begin = all_begin_on kept.owner j 0 u.parts kept.all tail thread others (λ k le same. apart (ap (λ (x : ℕ × ℕ). x.0) (sym same ∙ owned))) theirs.owns theirs.begin;
+            owns = theirs.owns;
+          })
+          record {
+            opened = refl;
+            begin = (
+              begins_whole thread (kept.all ++ tail),
+              all_begin_on kept.owner id 1 more kept.all tail thread others (λ k le same. let e : k ≡ 0 = ap (λ (x : ℕ × ℕ). x.1) (sym same ∙ owned) in absurd (omega arith)) mine.owns.1 mine.begin.1,
+            );
+            owns = mine.owns;
+          };
+    }
+
+pub own_other : (thread u : ℕ) (begin : Option Begin) → u ≢ thread → own u (event thread begin ∷ []) ≡ []
+own_other thread u begin apart = ap (λ b. cond b (event thread begin ∷ []) []) (ne_eqb thread u (λ e. apart (sym e)))
+
+pub own_same : (thread : ℕ) (begin : Option Begin) → own thread (event thread begin ∷ []) ≡ event thread begin ∷ []
+own_same thread begin = ap (λ b. cond b (event thread begin ∷ []) []) (eq-eqb thread thread refl)
+
+-- the word that a step leaves where it found this one
+abbrev pub written : Access → ℕ → ℕ
+written (Load index) word = word
+written (Exchange index from to) word = cond (word == from) to word
+
+exchanged : (words : List ℕ) (i to : ℕ) (won : Bool) → cond won (set words i to) words ≡ set words i (cond won to (get_or words i 0))
+exchanged words i to true = refl
+exchanged words i to false = sym (set-get_or words i 0)
+
+words_after-is : (a : Access) (words : List ℕ) → words_after a words ≡ set words (accessed a) (written a (get_or words (accessed a) 0))
+words_after-is (Load index) words = sym (set-get_or words index 0)
+words_after-is (Exchange index from to) words = exchanged words index to (get_or words index 0 == from)
+
+words-moved : (shape : Shape) (world : World) (thread : ℕ) (running : Running) (i : ℕ) → accessed (access shape running) ≡ i
+    → (moved shape world thread running).words ≡ set world.words i (written (access shape running) (get_or world.words i 0))
+unfolding moved
+words-moved shape world thread running i is = words_after-is (access shape running) world.words ∙ (λ k. set world.words (is k) (written (access shape running) (get_or world.words (is k) 0)))
+
+found-is : (shape : Shape) (world : World) (running : Running) (i : ℕ) → accessed (access shape running) ≡ i → get_or world.words i 0 ≡ found shape world running
+unfolding found word_at
+found-is shape world running i is = ap (λ j. get_or world.words j 0) (sym is)
+
+-- the step of a thread which is at this place once it has seen this
+goes_at : {S : Type 0} (o : Opening) (s : State S View) (id : ℕ) (thread : ℕ) (seen : List Event) (more : List Part) (here : World)
+    → world_after o seen ≡ Some here → thread < length here.places → (begin : Option Begin) (running : Running) → going o.shape (place_of here thread) begin ≡ Some running
+    → (i : ℕ) → accessed (access o.shape running) ≡ i → (f : ℕ → ℕ) → ((n : ℕ) → f n ≡ written (access o.shape running) n)
+    → OneSchedule o s.words s.views → get_elem? s.views id ≡ some (view_of o (part thread seen ∷ more))
+    → (w : View) × OneSchedule o (slice_set s.words i (f (slice_index s.words i))) (set s.views id w) × Steps begin running (view_of o (part thread seen ∷ more)) (slice_index s.words i) w
+goes_at o s id thread seen more here reached within begin running from i word f same kept at =
+    let mine = kept.fit id (view_of o (part thread seen ∷ more)) at in
+    let b = mine.begin.0 in
+    let e = event thread begin in
+    let arrived : world_after o (seen ++ b.rest) ≡ Some kept.world = ap (λ es. world_after o es) (sym b.goes_on) ∙ kept.runs in
+    let onward : run o.shape (Some here) b.rest ≡ Some kept.world = sym (run_on o.shape (Some (opening o.shape o.threads)) here seen b.rest reached) ∙ arrived in
+    let place : place_of kept.world thread ≡ place_of here thread = same_place o.shape here kept.world b.rest thread b.no_own onward in
+    let now : going o.shape (place_of kept.world thread) begin ≡ Some running = ap (λ p. going o.shape p begin) place ∙ from in
+    let still : length kept.world.places ≡ length here.places = still_threads o.shape here kept.world b.rest onward in
+    let inside : thread < length kept.world.places = omega (arith, within, still) in
+    let end = moved o.shape kept.world thread running in
+    let new_words : slice_set s.words i (f (slice_index s.words i)) ≡ end.words =
+    (λ k. slice_set (kept.words_are k) i (same (slice_index (kept.words_are k) i) k)) ∙ sym (words-moved o.shape kept.world thread running i word) in
+    let w = view_of o (part thread ((seen ++ b.rest) ++ e ∷ []) ∷ more) in
+    let w' = view_of o (part thread (kept.all ++ e ∷ []) ∷ more) in
+    let is_w : w' ≡ w = ap (λ (es : List Event). view_of o (part thread (es ++ e ∷ []) ∷ more)) b.goes_on in
+    let made : run o.shape (Some kept.world) (e ∷ []) ≡ Some end = ap world_of (steps_on o.shape kept.world e running inside now) in
+    let k = adds o s.words (slice_set s.words i (f (slice_index s.words i))) s.views id thread seen more kept at (e ∷ []) (λ u apart. own_other thread u begin apart) end made new_words in (
+      w,
+      subst (λ (x : View). OneSchedule o (slice_set s.words i (f (slice_index s.words i))) (set s.views id x)) is_w k,
+      record {
+        between = b.rest;
+        here = kept.world;
+        others = b.no_own;
+        reached = arrived;
+        within = inside;
+        goes = now;
+        word_is = ap (λ ws. slice_index ws i) kept.words_are ∙ found-is o.shape kept.world running i word;
+        afterwards = refl;
+      },
+    )
+
+-- One lemma for all kinds of step, whether they load or exchange: the word becomes what the machine writes
+pub goes : {S : Type 0} (o : Opening) (slots id : ℕ) (carried : List (ℕ × S)) (v : View) (begin : Option Begin) (running : Running) → At begin running v
+    → (i : ℕ) → accessed (access v.opened.shape running) ≡ i → (f : ℕ → ℕ) → ((n : ℕ) → f n ≡ written (access v.opened.shape running) n)
+    → Allows (λ (s : State S View). OneSchedule o s.words s.views) slots id (v, carried) i f (λ found w. Steps begin running v found w.0 × (w.1 ≡ carried))
+goes {S} o slots id carried v begin running a i word f same s kept homes at fits =
+    let opened = (kept.fit id v at).opened in
+    let v' = with_seen v (seen_of v) in
+    let P : View → Type 0 = λ x. (w : View) × OneSchedule o (slice_set s.words i (f (slice_index s.words i))) (set s.views id w) × Steps begin running x (slice_index s.words i) w in
+    let Q : Opening → Type 0 = λ x. OneSchedule x s.words s.views → (w : View) × OneSchedule x (slice_set s.words i (f (slice_index s.words i))) (set s.views id w) × Steps begin running v' (slice_index s.words i) w in
+    let got : P v' = subst Q opened (λ k. goes_at v.opened s id (thread_of v) (seen_of v) (more_in v.parts) a.here a.reached a.within begin running a.goes i word f same k (at ∙ ap some a.seated)) kept in
+    let put = subst P (sym a.seated) got in
+    (put.0, keeps, tt, put.1, (put.2, refl))
+
+-- the same at a step that a ghost member names
+pub touches : {S : Type 0} (o : Opening) (slots id : ℕ) (me : Me S View) (b begin : Option Begin) (p running : Running) → b ≡ begin → p ≡ running
+    → (shape : Shape) → me.0.opened.shape ≡ shape → At begin running me.0
+    → (a : Access) → access shape running ≡ a → (f : ℕ → ℕ) → ((n : ℕ) → f n ≡ written a n)
+    → Allows (λ (s : State S View). OneSchedule o s.words s.views) slots id me (accessed a) f (λ found w. Steps b p me.0 found w.0 × (w.1 ≡ me.1))
+touches {S} o slots id me b begin p running same_begin same_place shape same_shape at a is f writes =
+    let here : At b p me.0 = subst (λ (x : Option Begin × Running). At x.0 x.1 me.0) (λ i. (sym same_begin i, sym same_place i)) at in
+    let touch : a ≡ access me.0.opened.shape p = sym is ∙ (λ i. access (sym same_shape i) (sym same_place i)) in
+    goes o slots id me.1 me.0 b p here (accessed a) (ap accessed (sym touch)) f (λ n. writes n ∙ ap (λ (x : Access). written x n) touch)
+
+pub either-cond : (b : Bool) (x y : ℕ) → either b x y ≡ cond b x y
+either-cond true x y = refl
+either-cond false x y = refl

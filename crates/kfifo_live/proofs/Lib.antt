@@ -1,0 +1,6 @@
+pub mod Keeps
+pub mod Cuts
+pub mod Whole
+pub mod Opens
+pub mod Scans
+pub mod Passes

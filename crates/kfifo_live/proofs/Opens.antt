@@ -1,0 +1,50 @@
+-- The passes of an opening.
+use Rattle.std.proofs.Common.{◌≡◌, ℕ, zero, suc, ◌+◌, ◌-◌, ◌<◌, [], ◌∷◌, ◌++◌, Option, None, get_or, replicate, length, refl, sym, ap, ◌∙◌, subst, arith}
+use Rattle.std.proofs.lemmas.List.{length-replicate}
+use Rattle.atomic_table.specs.Table.{Me}
+use Rattle.kfifo_machine.specs.declared.place.Running.{Running}
+use Rattle.kfifo_machine.specs.Machine.{opening, place_of}
+use Rattle.kfifo_live.specs.declared.view.Opening.{Opening}
+use Rattle.kfifo_live.specs.declared.view.View.{View}
+use Rattle.kfifo_live.specs.Schedule.{part, view_of, fresh, seen_of, first_part, other_parts}
+use Rattle.kfifo_live.specs.Step.{Idle}
+use Rattle.kfifo_live.specs.Pass.{OpenQueue, new_passes, IsPass}
+
+pub fresh_more : (first count : ℕ) → first < count → fresh first (count - first) ≡ part first [] ∷ fresh (first + 1) (count - (first + 1))
+fresh_more first count lt =
+    let n : count - first ≡ suc (count - (first + 1)) = omega arith in
+    let m : suc first ≡ first + 1 = omega arith in
+    ap (fresh first) n ∙ ap (λ (k : ℕ). part first [] ∷ fresh k (count - (first + 1))) m
+
+pub new_passes-snoc : (q : OpenQueue) (first n : ℕ) → new_passes q first (n + 1) ≡ new_passes q first n ++ record { table = q.table; opened = q.opened; thread = first + n; seen = [] } ∷ []
+new_passes-snoc q first zero = ap (λ (k : ℕ). record { table = q.table; opened = q.opened; thread = k; seen = [] } ∷ []) (let e : first ≡ first + zero = omega arith in e)
+new_passes-snoc q first (suc n) =
+    ap (new_passes q first) (let e : suc n + 1 ≡ suc (n + 1) = omega arith in e)
+    ∙ ap (λ ps. record { table = q.table; opened = q.opened; thread = first; seen = [] } ∷ ps) (new_passes-snoc q (suc first) n)
+    ∙ ap (λ (k : ℕ). record { table = q.table; opened = q.opened; thread = first; seen = [] } ∷ (new_passes q (suc first) n ++ record { table = q.table; opened = q.opened; thread = k; seen = [] } ∷ [])) (let e : suc first + n ≡ first + suc n = omega arith in e)
+
+none_at : (n i : ℕ) → get_or (replicate {A = Option Running} n None) i None ≡ None
+none_at zero i = refl
+none_at (suc n) zero = refl
+none_at (suc n) (suc i) = none_at n i
+
+idle_at : (o : Opening) (thread : ℕ) → place_of (opening o.shape o.threads) thread ≡ None
+unfolding opening place_of
+idle_at o thread = none_at o.threads thread
+
+inside : (o : Opening) (thread : ℕ) → thread < o.threads → thread < length (opening o.shape o.threads).places
+unfolding opening
+inside o thread lt = let idle : Option Running = None in let n = length-replicate o.threads idle in omega (arith, lt, n)
+
+pub new_pass : (o : Opening) (thread : ℕ) (me : Me (Unit {0}) View) → thread < o.threads → me.0 ≡ view_of o (part thread [] ∷ []) → me.1 ≡ [] → IsPass thread me
+new_pass o thread me lt is held =
+    let idle : Idle (view_of o (part thread [] ∷ [])) = record { here = opening o.shape o.threads; seated = refl; reached = refl; within = inside o thread lt; idle = idle_at o thread } in
+    record { alone = ap (λ v. v.parts) is ∙ ap (λ es. part thread es ∷ []) (sym (ap seen_of is)); held = held; idle = subst Idle (sym is) idle }
+
+-- the first part is cut off
+pub cut_first : (o : Opening) (first count : ℕ) (v left right : View) → first < count → v ≡ view_of o (fresh first (count - first)) → left ≡ first_part v → right ≡ other_parts v
+    → (left ≡ view_of o (part first [] ∷ [])) × (right ≡ view_of o (fresh (first + 1) (count - (first + 1)))) × (1 < length v.parts + 1)
+cut_first o first count v left right lt is l r =
+    let v' = is ∙ ap (view_of o) (fresh_more first count lt) in
+    let n = ap (λ (x : View). length x.parts) v' in
+    (l ∙ ap first_part v', r ∙ ap other_parts v', omega (arith, n))

@@ -1,0 +1,8 @@
+use Rattle.std.proofs.Common.{◌≡◌, replicate, ◌+◌, ◌*◌, ◌∙◌, rules}
+use Rattle.kfifo_live.proofs.Cuts.{opens}
+use Rattle.kfifo_live.proofs.queue.Queue.open.Goals as goal
+
+pub of_words-requires : goal.of_words-requires
+of_words-requires c =
+    let zeros : c.in_ok-words.words.items ≡ replicate (2 + c.args.shape.n * c.args.shape.k) 0 = search rules in
+    opens _ _ (c.as_slice.ensures.value ∙ zeros)

@@ -1,0 +1,55 @@
+-- A queue and its passes, as callers see them.
+use Rattle.std.specs.Prelude.{◌≡◌, ℕ, zero, suc, List, [], ◌∷◌, Some}
+use Rattle.atomic_table.specs.Table.{Me}
+use Rattle.atomic_table.specs.Seated.{TableId}
+use Rattle.kfifo_machine.specs.declared.event.Event.{Event}
+use Rattle.kfifo_machine.specs.Machine.{World, word_at}
+use Rattle.kfifo_machine.specs.Runs.{Begins}
+use Rattle.kfifo_live.specs.declared.view.Opening.{Opening}
+use Rattle.kfifo_live.specs.declared.view.View.{View}
+use Rattle.kfifo_live.specs.Schedule.{part, world_after, seen_of}
+use Rattle.kfifo_live.specs.Step.{Idle}
+
+-- an open queue: its table, and what it was opened with
+pub record OpenQueue : Type 0 where
+  pub table : TableId
+  pub opened : Opening
+
+-- a pass of a thread, and the schedule that it has seen
+pub record Known : Type 0 where
+  pub table : TableId
+  pub opened : Opening
+  pub thread : ℕ
+  pub seen : List Event
+
+abbrev pub queue_of : TableId → Opening → OpenQueue
+queue_of table o = record { table = table; opened = o }
+
+abbrev pub known_of : TableId → ℕ → View → Known
+known_of table thread v = record { table = table; opened = v.opened; thread = thread; seen = seen_of v }
+
+-- what is always so of a pass: it acts for its thread alone, which is in no call, and its seat holds no slot
+pub record IsPass (thread : ℕ) (me : Me (Unit {0}) View) : Type 0 where
+  pub alone : me.0.parts ≡ part thread (seen_of me.0) ∷ []
+  pub held : me.1 ≡ []
+  pub idle : Idle me.0
+
+-- the pass came from this opening
+abbrev pub IsOf : OpenQueue → Known → Type 0
+IsOf q p = (p.table ≡ q.table) × (p.opened ≡ q.opened)
+
+-- the pass is the same, but for what it has seen
+abbrev pub IsSame : Known → Known → Type 0
+IsSame p q = (q.table ≡ p.table) × (q.opened ≡ p.opened) × (q.thread ≡ p.thread)
+
+-- the passes of threads first, first + 1, .., which have seen the empty schedule
+abbrev pub new_passes : OpenQueue → ℕ → ℕ → List Known
+new_passes q first zero = []
+new_passes q first (suc count) = record { table = q.table; opened = q.opened; thread = first; seen = [] } ∷ new_passes q (suc first) count
+
+-- the word was this after a schedule that the pass has then seen: others' events follow what it had seen
+pub record Finds (p q : Known) (index word : ℕ) : Type 0 where
+  pub others : Begins p.thread p.seen q.seen
+  pub world : World
+  pub reached : world_after p.opened q.seen ≡ Some world
+  pub word_is : word ≡ word_at world index

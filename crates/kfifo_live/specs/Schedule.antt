@@ -1,0 +1,92 @@
+-- The one schedule of a running queue, and what each seat of its table has seen of it.
+use Rattle.std.specs.Prelude.{◌≡◌, ℕ, zero, suc, List, [], ◌∷◌, Option, Some, take, drop}
+use mathlib.Core.Option.{some}
+use lib.ListN.{get_elem?}
+use Rattle.kfifo_words.specs.declared.shape.Shape.{Shape}
+use Rattle.kfifo_machine.specs.declared.event.Event.{Event}
+use Rattle.kfifo_machine.specs.Machine.{World, after}
+use Rattle.kfifo_machine.specs.Runs.{Begins}
+use Rattle.kfifo_live.specs.declared.view.Opening.{Opening}
+use Rattle.kfifo_live.specs.declared.view.Part.{Part}
+use Rattle.kfifo_live.specs.declared.view.View.{View}
+
+abbrev pub opening : Shape → ℕ → Opening
+opening shape threads = record { shape = shape; threads = threads }
+
+abbrev pub part : ℕ → List Event → Part
+part thread seen = record { thread = thread; seen = seen }
+
+abbrev pub view_of : Opening → List Part → View
+view_of o parts = record { opened = o; parts = parts }
+
+-- the world after a schedule of an opening
+abbrev pub world_after : Opening → List Event → Option World
+world_after o events = after o.shape o.threads events
+
+-- threads first, first + 1, .. that have seen nothing
+abbrev pub fresh : ℕ → ℕ → List Part
+fresh first zero = []
+fresh first (suc count) = part first [] ∷ fresh (suc first) count
+
+-- the seat of an opening may act for every thread
+abbrev pub first_view : Opening → View
+first_view o = view_of o (fresh 0 o.threads)
+
+-- what each part has seen is a beginning of the schedule, which has no own event of it after that beginning
+abbrev pub AllBegin : List Part → List Event → Type 0
+AllBegin [] all = Unit {0}
+AllBegin (p ∷ ps) all = Begins p.thread p.seen all × AllBegin ps all
+
+-- each thread is acted for by one seat, at one place of its parts
+abbrev pub Owns : (ℕ → ℕ × ℕ) → ℕ → ℕ → List Part → Type 0
+Owns owner seat at [] = Unit {0}
+Owns owner seat at (p ∷ ps) = (owner p.thread ≡ (seat, at)) × Owns owner seat (suc at) ps
+
+pub record Fits (o : Opening) (all : List Event) (owner : ℕ → ℕ × ℕ) (seat : ℕ) (v : View) : Type 0 where
+  pub opened : v.opened ≡ o
+  pub begin : AllBegin v.parts all
+  pub owns : Owns owner seat 0 v.parts
+
+-- One schedule: the words of the table are those after it, and what each seat has seen of its threads is a beginning of
+-- it with all their events
+pub record OneSchedule (o : Opening) (words : List ℕ) (views : List View) : Type 0 where
+  pub all : List Event
+  pub world : World
+  pub owner : ℕ → ℕ × ℕ
+  pub runs : world_after o all ≡ Some world
+  pub words_are : words ≡ world.words
+  pub fit : (seat : ℕ) (v : View) → get_elem? views seat ≡ some v → Fits o all owner seat v
+
+-- the first part's thread, what was seen by it, and the other parts
+abbrev pub thread_in : List Part → ℕ
+thread_in [] = 0
+thread_in (p ∷ ps) = p.thread
+
+abbrev pub seen_in : List Part → List Event
+seen_in [] = []
+seen_in (p ∷ ps) = p.seen
+
+abbrev pub more_in : List Part → List Part
+more_in [] = []
+more_in (p ∷ ps) = ps
+
+abbrev pub thread_of : View → ℕ
+thread_of v = thread_in v.parts
+
+abbrev pub seen_of : View → List Event
+seen_of v = seen_in v.parts
+
+-- the view whose first part has seen this
+abbrev pub with_seen : View → List Event → View
+with_seen v seen = view_of v.opened (part (thread_in v.parts) seen ∷ more_in v.parts)
+
+-- it has a first part
+abbrev pub IsSeated : View → Type 0
+IsSeated v = v ≡ with_seen v (seen_of v)
+
+-- a view cut in two: the first part, and the others
+abbrev pub first_part : View → View
+first_part v = view_of v.opened (take 1 v.parts)
+
+abbrev pub other_parts : View → View
+other_parts v = view_of v.opened (drop 1 v.parts)

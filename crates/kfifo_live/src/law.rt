@@ -1,0 +1,60 @@
+//! The rule of the table, and what its steps tell.
+ghost use Rattle.std.specs.Prelude.{◌≡◌, Option, None};
+ghost use Rattle.kfifo_machine.specs.declared.event.Begin.{Begin};
+ghost use Rattle.kfifo_machine.specs.declared.place.Running.{Running};
+ghost use Rattle.kfifo_machine.specs.declared.place.Running.TheVariants.{Dequeue};
+ghost use Rattle.kfifo_machine.specs.declared.place.DequeuePhase.TheVariants.{LoadEnds};
+ghost use Rattle.kfifo_live.specs.Schedule.{OneSchedule, first_view, first_part, other_parts};
+ghost use Rattle.kfifo_live.specs.Step.{Steps, Looks};
+
+use crate::view::{Opening, View};
+use atomic_table::{Play, Split, TableRule};
+use std::marker::{Brand, PhantomData};
+
+/// One schedule: the words are those after it, and each seat has seen a beginning of it with all
+/// events of its threads.
+pub struct Law;
+
+impl TableRule<(), View, Opening> for Law {
+    ghost holds = { λ o s. OneSchedule o s.words s.views };
+
+    ghost first = { first_view };
+}
+
+/// The call that a step begins, and the place from which it is made. Each step picks them.
+pub trait Going {
+    ghost begin: { Option Begin };
+
+    ghost place: { Running };
+}
+
+impl Going for Brand {
+    ghost begin = { None };
+
+    ghost place = { Dequeue 0 1 LoadEnds };
+}
+
+/// A step of a thread.
+pub struct Own<G: Going> {
+    of: PhantomData<G>,
+}
+
+impl<G: Going> Play<(), View> for Own<G> {
+    ghost then = { λ s v found w. Steps G.begin G.place v.0 found w.0 × (w.1 ≡ v.1) };
+}
+
+/// A load that is no step of a thread.
+pub struct Glance;
+
+impl Play<(), View> for Glance {
+    ghost then = { λ s v found w. Looks s.word found v.0 w.0 × (w.1 ≡ v.1) };
+}
+
+/// Keeps the first part, and gives the others.
+pub struct Rest;
+
+impl Split<View> for Rest {
+    ghost left = { first_part };
+
+    ghost right = { other_parts };
+}

@@ -1,0 +1,60 @@
+//! Opening a queue.
+ghost use Rattle.std.specs.Prelude.{◌≡◌, ◌<◌, ◌≤◌, ◌+◌, ◌⊎◌, ◌↔◌, [], IfOk, IsErrOf, length};
+ghost use Rattle.kfifo_live.specs.Schedule.{opening, fresh, view_of};
+ghost use Rattle.kfifo_live.specs.Pass.{queue_of, new_passes};
+ghost use Rattle.kfifo_live.specs.declared.fault.OpenFault.TheVariants.{ThreadsOutOfRange};
+
+use crate::fault::OpenFault;
+use crate::law::Law;
+use crate::queue::{Pass, Queue};
+use crate::seats::give_rest;
+use crate::view::{Opening, View};
+use atomic_table::{Seat, Shared, Table};
+use kfifo_machine::MAX_THREADS;
+use kfifo_words::Shape;
+use std::alloc::{AllocError, Global};
+
+/// A pass for each thread, which has seen nothing.
+fn deal(
+    alloc: Global,
+    shared: &Shared<(), View, Opening, Law>,
+    mut seat: Seat<(), View>,
+    threads: u32,
+) -> Result<Vec<Pass>, AllocError>
+    requires table { (seat.table_id ≡ shared.now.table_id) × (0 < shared.now.table_id.words) }
+    requires seat { (seat.me.1 ≡ []) × (seat.me.0 ≡ view_of seat.me.0.opened (fresh 0 threads)) × (seat.me.0.opened.threads ≡ threads) }
+    ensures { IfOk result (λ ps. ps.items ≡ new_passes (queue_of seat.table_id seat.me.0.opened) 0 threads) }
+{
+    let mut passes = Vec::with_capacity(alloc, threads as usize)?;
+    for thread in 0..threads {
+        let rest = give_rest(shared, &mut seat);
+        passes.push(Pass { thread, seat })?;
+        seat = rest;
+    }
+    Ok(passes)
+}
+
+impl Queue {
+    /// A queue with all words 0, and one pass for each thread, numbered from 0.
+    ///
+    /// ThreadsOutOfRange where the number of threads is not 1 to 64; Memory where a growth was
+    /// refused. Nothing is kept after a refusal.
+    pub fn open(alloc: Global, shape: Shape, threads: u32) -> Result<(Queue, Vec<Pass>), OpenFault>
+        ensures ok { IfOk result (λ r. (r.0.opened ≡ opening shape threads) × (r.1.items ≡ new_passes r.0 0 threads)) }
+        ensures threads { IsErrOf result ThreadsOutOfRange ↔ ((threads ≡ 0) ⊎ (64 < threads)) }
+    {
+        if threads == 0 || threads > MAX_THREADS {
+            return Err(OpenFault::ThreadsOutOfRange);
+        }
+        let words = vec![in alloc; 0; 2 + shape.n() as usize * shape.k() as usize]?;
+        let about = Opening { shape, threads };
+        let (table, seat) = Table::of_words(alloc, words.as_slice(), &about)?;
+        let passes = deal(alloc, &table.shared, seat, threads)?;
+        let queue = Queue {
+            table,
+            shape,
+            threads,
+        };
+        Ok((queue, passes))
+    }
+}

@@ -1,0 +1,129 @@
+//! A running queue and its passes.
+ghost use Rattle.std.specs.Prelude.{◌≡◌, ◌<◌, ◌≤◌, ◌+◌, ◌*◌, ◌^◌};
+ghost use Rattle.kfifo_machine.specs.Runs.{WholeRun};
+ghost use Rattle.kfifo_machine.specs.declared.event.Begin.TheVariants.{Enqueue, Dequeue};
+ghost use Rattle.kfifo_live.specs.Schedule.{opening};
+ghost use Rattle.kfifo_live.specs.Pass.{OpenQueue, Known, queue_of, known_of, IsPass, IsOf, IsSame, Finds};
+
+use crate::law::Law;
+use crate::seats::glance;
+use crate::view::{Opening, View};
+use crate::{dequeue, enqueue};
+use atomic_table::{Seat, Table};
+use kfifo_model::Answer;
+use kfifo_words::Shape;
+use std::alloc::Global;
+use std::marker::Model;
+
+/// A running queue: the ends word, the slots and the clock, as atomic words.
+///
+/// Clauses see it as its table and what it was opened with.
+#[derive(Drop)]
+pub struct Queue {
+    pub(crate) table: Table<(), View, Opening, Law, Global>,
+    pub(crate) shape: Shape,
+    pub(crate) threads: u32,
+}
+
+impl Model for Queue {
+    ghost Value = { OpenQueue };
+
+    ghost view = { λ q. queue_of q.table.shared.table_id (opening q.shape q.threads) };
+
+    ghost invariant = { λ q. (q.table.shared.key ≡ opening q.shape q.threads) × (q.table.shared.table_id.words ≡ 2 + q.shape.n * q.shape.k) × (q.table.shared.table_id.slots ≡ 0) };
+}
+
+/// What a thread makes its calls with. It may go to another thread between two calls.
+///
+/// Clauses see it as the schedule that it has seen: a schedule of the machine that holds all events
+/// which this pass made up to now.
+#[derive(Drop)]
+pub struct Pass {
+    pub(crate) thread: u32,
+    pub(crate) seat: Seat<(), View>,
+}
+
+impl Model for Pass {
+    ghost Value = { Known };
+
+    ghost view = { λ p. known_of p.seat.table_id p.thread p.seat.me.0 };
+
+    ghost invariant = { λ p. IsPass p.thread p.seat.me };
+}
+
+impl Queue {
+    /// The sizes of the ring.
+    pub fn shape(&self) -> Shape
+        ensures { result ≡ self.now.opened.shape }
+    {
+        self.shape
+    }
+}
+
+impl Pass {
+    /// The number of the pass, which is that of its thread in the schedule.
+    pub fn thread(&self) -> u32
+        ensures { result ≡ self.now.thread }
+    {
+        self.thread
+    }
+
+    /// Puts an item, from 1 to 2^24 - 1, into the queue.
+    ///
+    /// Scans begin at slot `start`, below k. Answers Done, Full where the ring was seen full, Busy
+    /// where each of `turns` rounds, at least 1, was lost, or Worn where a version would pass the
+    /// greatest one. After Full, Busy and Worn the item is not in the queue and never comes out.
+    /// What the pass has seen grows by events of others and by one whole run of the call, the last
+    /// event being its own. It never allocates, waits or locks.
+    pub fn enqueue(&mut self, queue: &Queue, item: u32, start: u32, turns: u16) -> Answer
+        requires of { IsOf queue.now self.old }
+        requires item { (1 ≤ item) × (item < 2 ^ 24) }
+        requires start { start < queue.now.opened.shape.k }
+        requires turns { 1 ≤ turns }
+        ensures same { IsSame self.old self.new }
+        ensures run { WholeRun self.old.opened.shape self.old.opened.threads self.old.thread (Enqueue item start turns) result self.old.seen self.new.seen }
+    {
+        enqueue::enqueue(
+            &queue.table.shared,
+            &mut self.seat,
+            &queue.shape,
+            item,
+            start,
+            turns,
+        )
+    }
+
+    /// Takes one of the k oldest items.
+    ///
+    /// Scans begin at slot `start`, below k. Answers Got with the item, Empty where the queue was
+    /// empty, Busy where each of `turns` rounds, at least 1, was lost, or Worn where a version would
+    /// pass the greatest one. What the pass has seen grows by events of others and by one whole run
+    /// of the call, the last event being its own. It never allocates, waits or locks.
+    pub fn dequeue(&mut self, queue: &Queue, start: u32, turns: u16) -> Answer
+        requires of { IsOf queue.now self.old }
+        requires start { start < queue.now.opened.shape.k }
+        requires turns { 1 ≤ turns }
+        ensures same { IsSame self.old self.new }
+        ensures run { WholeRun self.old.opened.shape self.old.opened.threads self.old.thread (Dequeue start turns) result self.old.seen self.new.seen }
+    {
+        dequeue::dequeue(
+            &queue.table.shared,
+            &mut self.seat,
+            &queue.shape,
+            start,
+            turns,
+        )
+    }
+
+    /// One load of the word with this index: 0 is the ends word, then come the slots, segment by
+    /// segment, and last the clock. The load is no event. The pass has then seen a schedule, in which
+    /// events of others alone are new to it, that leaves this word.
+    pub fn word(&mut self, queue: &Queue, index: usize) -> u64
+        requires of { IsOf queue.now self.old }
+        requires index { index < 2 + queue.now.opened.shape.n * queue.now.opened.shape.k }
+        ensures same { IsSame self.old self.new }
+        ensures finds { Finds self.old self.new index result }
+    {
+        glance(&queue.table.shared, &mut self.seat, index)
+    }
+}

@@ -1,0 +1,36 @@
+//! Moves of seats that are no steps of a thread.
+ghost use Rattle.std.specs.Prelude.{◌≡◌, ◌<◌, ◌≤◌, [], length};
+ghost use Rattle.kfifo_live.specs.Schedule.{IsSeated, first_part, other_parts};
+ghost use Rattle.kfifo_live.specs.Step.{Looks};
+
+use crate::law::{Glance, Law, Rest};
+use crate::view::{Opening, View};
+use atomic_table::{Seat, Shared};
+
+/// One load of a word. All that was done up to now was then seen.
+pub(crate) fn glance(
+    shared: &Shared<(), View, Opening, Law>,
+    seat: &mut Seat<(), View>,
+    index: usize,
+) -> u64
+    requires table { (seat.old.table_id ≡ shared.now.table_id) × (index < shared.now.table_id.words) }
+    requires seated { IsSeated seat.old.me.0 }
+    ensures same { (seat.new.table_id ≡ seat.old.table_id) × (seat.new.me.1 ≡ seat.old.me.1) }
+    ensures looks { Looks index result seat.old.me.0 seat.new.me.0 }
+{
+    shared.load::<Glance>(seat, index)
+}
+
+/// Keeps the first part of a seat's view, and gives a new seat the others.
+pub(crate) fn give_rest(
+    shared: &Shared<(), View, Opening, Law>,
+    seat: &mut Seat<(), View>,
+) -> Seat<(), View>
+    requires table { (seat.old.table_id ≡ shared.now.table_id) × (0 < shared.now.table_id.words) }
+    requires some { 1 ≤ length seat.old.me.0.parts }
+    ensures same { (seat.new.table_id ≡ seat.old.table_id) × (seat.new.me.1 ≡ seat.old.me.1) }
+    ensures kept { seat.new.me.0 ≡ first_part seat.old.me.0 }
+    ensures given { (result.table_id ≡ seat.old.table_id) × (result.me.0 ≡ other_parts seat.old.me.0) × (result.me.1 ≡ []) }
+{
+    shared.split_seat::<Rest>(seat)
+}

@@ -1,0 +1,29 @@
+//! What the seats of a table know. No value of `Part` or `View` is ever made: they live in proofs alone.
+use kfifo_machine::Event;
+use kfifo_words::Shape;
+use std::collections::LinkedList;
+
+/// What a queue was opened with.
+#[derive(Clone, Copy)]
+pub struct Opening {
+    /// The sizes of its ring.
+    pub shape: Shape,
+    /// How many passes it has.
+    pub threads: u32,
+}
+
+/// What was seen of the schedule on behalf of a thread.
+pub struct Part {
+    /// The thread.
+    pub thread: u32,
+    /// A beginning of the schedule, with all events of the thread.
+    pub seen: LinkedList<Event>,
+}
+
+/// The threads that a seat may act for.
+pub struct View {
+    /// The opening of the queue.
+    pub opened: Opening,
+    /// A part for each thread.
+    pub parts: LinkedList<Part>,
+}
