@@ -53,10 +53,18 @@ pub fn command<'a>(alloc: Global) -> Result<Command<'a>, AllocError> {
 pub fn answer(alloc: Global, matches: &ArgMatches<'_>) -> Result<String, Fault> {
     let shape = Sizes::of(matches).shape().map_err(Fault::Shape)?;
     let texts = matches.get_strs(WORDS).unwrap_or(&[]);
-    let calls = words::read_calls(alloc, texts, shape.k(), options::turns_of(matches))?;
+    let turns = options::turns_of(matches);
+    let calls = words::read_calls(alloc, texts, shape.k(), turns)?;
+    report_of(alloc, shape, calls.as_slice())
+}
+
+/// What is printed of these calls, made one after the other on a new queue.
+fn report_of(alloc: Global, shape: Shape, calls: &[Begin]) -> Result<String, Fault>
+    requires { All (IsCall shape.k) calls.now }
+{
     let (queue, mut pass) = open(alloc, shape)?;
     let mut text = String::new(alloc);
-    make_calls(&queue, &mut pass, calls.as_slice(), &mut text)?;
+    make_calls(&queue, &mut pass, calls, &mut text)?;
     push_words(&queue, &mut pass, &mut text)?;
     Ok(text)
 }
