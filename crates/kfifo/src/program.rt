@@ -1,4 +1,6 @@
 //! The whole program over any reader and writers.
+ghost use Rattle.std.specs.Prelude.{◌≡◌, ◌≢◌, ◌≤◌, ◌⊎◌, IfSome, IfOk, IfErr, OnOk};
+ghost use Rattle.std.specs.Io.KnownBytes.{Appends, Keeps};
 
 use crate::commands::run;
 use crate::fault::Fault;
@@ -25,7 +27,13 @@ pub fn program<T: Threads, R: Read, W: Write, F: Write>(
     _input: &mut R,
     output: &mut W,
     faults: &mut F,
-) -> u8 {
+) -> u8
+    ensures status { result ≤ 2 }
+    ensures answered { result ≡ 0 → Keeps (F.contents faults.old) (F.contents faults.new) }
+    ensures failed { result ≡ 1 → (Keeps (W.contents output.old) (W.contents output.new))
+        ⊎ (Keeps (F.contents faults.old) (F.contents faults.new)) }
+    ensures misused { result ≡ 2 → Keeps (W.contents output.old) (W.contents output.new) }
+{
     let status = match parse(alloc, words) {
         Ok(matches) => match answer(alloc, &matches, output) {
             Ok(status) => status,
@@ -37,7 +45,10 @@ pub fn program<T: Threads, R: Read, W: Write, F: Write>(
 }
 
 /// Writes the line of a fault. Where that fails the status stays.
-pub fn end_with_fault<F: Write>(fault: Fault, faults: &mut F) -> Status {
+pub fn end_with_fault<F: Write>(fault: Fault, faults: &mut F) -> Status
+    ensures status { result ≡ Status.Failed }
+    ensures silent { fault ≡ Fault.Output → Keeps (F.contents faults.old) (F.contents faults.new) }
+{
     if fault != Fault::Output {
         let _ = writeln!(faults, "kfifo: {fault}");
     }
@@ -45,7 +56,12 @@ pub fn end_with_fault<F: Write>(fault: Fault, faults: &mut F) -> Status {
 }
 
 /// Writes what a command line came to that names no command to be done: help, or what is wrong with it.
-fn end_with_text<W: Write, F: Write>(error: &Error, output: &mut W, faults: &mut F) -> Status {
+fn end_with_text<W: Write, F: Write>(error: &Error, output: &mut W, faults: &mut F) -> Status
+    ensures answered { result ≡ Status.Answered → Keeps (F.contents faults.old) (F.contents faults.new) }
+    ensures failed { result ≡ Status.Failed → (Keeps (W.contents output.old) (W.contents output.new))
+        ⊎ (Keeps (F.contents faults.old) (F.contents faults.new)) }
+    ensures misused { result ≡ Status.Misused → Keeps (W.contents output.old) (W.contents output.new) }
+{
     if error.kind() == ErrorKind::OutOfMemory {
         return end_with_fault(Fault::Memory, faults);
     }
@@ -83,7 +99,10 @@ fn answer<W: Write>(
     alloc: Global,
     matches: &ArgMatches<'_>,
     output: &mut W,
-) -> Result<Status, Fault> {
+) -> Result<Status, Fault>
+    ensures failed { IfErr result (λ fault. fault ≢ Fault.Output → Keeps (W.contents output.old) (W.contents output.new)) }
+    ensures misused { IfOk result (λ status. status ≢ Status.Answered → (status ≡ Status.Misused) × Keeps (W.contents output.old) (W.contents output.new)) }
+{
     match matches.subcommand() {
         Some((run::NAME, options)) => print(run::answer(alloc, options)?.as_str(), output)?,
         _ => return Ok(Status::Misused),
@@ -92,9 +111,12 @@ fn answer<W: Write>(
 }
 
 /// Writes an answer, and sees that it leaves the writer.
-fn print<W: Write, D: Display + Drop>(text: D, output: &mut W) -> Result<(), Fault> {
-    let written = write!(output, "{text}").and_then(|()| output.flush());
-    written.map_err(|_| Fault::Output)
+fn print<W: Write, D: Display + Drop>(text: D, output: &mut W) -> Result<(), Fault>
+    ensures ok { OnOk result (IfSome (D.output text) (Appends (W.contents output.old) (W.contents output.new))) }
+    ensures err { IfErr result (λ fault. fault ≡ Fault.Output) }
+{
+    write!(output, "{text}").map_err(|_| Fault::Output)?;
+    output.flush().map_err(|_| Fault::Output)
 }
 
 #[cfg(test)]

@@ -1,5 +1,5 @@
 //! The command `run`: the calls of a script, made by one pass on the running queue.
-ghost use Rattle.std.specs.Prelude.{◌≡◌, IfOk, All};
+ghost use Rattle.std.specs.Prelude.{◌≡◌, ◌≢◌, IfOk, IfErr, All};
 ghost use Rattle.kfifo_live.specs.Pass.{IsOf, IsSame};
 ghost use Rattle.kfifo.specs.Words.{IsCall};
 
@@ -50,7 +50,9 @@ pub fn command<'a>(alloc: Global) -> Result<Command<'a>, AllocError> {
 }
 
 /// The answers of the calls, and then the words of the table, a line for each.
-pub fn answer(alloc: Global, matches: &ArgMatches<'_>) -> Result<String, Fault> {
+pub fn answer(alloc: Global, matches: &ArgMatches<'_>) -> Result<String, Fault>
+    ensures { IfErr result (λ fault. fault ≢ Fault.Output) }
+{
     let shape = Sizes::of(matches).shape().map_err(Fault::Shape)?;
     let texts = matches.get_strs(WORDS).unwrap_or(&[]);
     let turns = options::turns_of(matches);
@@ -61,6 +63,7 @@ pub fn answer(alloc: Global, matches: &ArgMatches<'_>) -> Result<String, Fault> 
 /// What is printed of these calls, made one after the other on a new queue.
 fn report_of(alloc: Global, shape: Shape, calls: &[Begin]) -> Result<String, Fault>
     requires { All (IsCall shape.k) calls.now }
+    ensures { IfErr result (λ fault. fault ≡ Fault.Memory) }
 {
     let (queue, mut pass) = open(alloc, shape)?;
     let mut text = String::new(alloc);
@@ -71,7 +74,8 @@ fn report_of(alloc: Global, shape: Shape, calls: &[Begin]) -> Result<String, Fau
 
 /// A queue with one pass.
 fn open(alloc: Global, shape: Shape) -> Result<(Queue, Pass), Fault>
-    ensures { IfOk result (λ opened. IsOf opened.0 opened.1 × (opened.0.opened.shape ≡ shape)) }
+    ensures opened { IfOk result (λ opened. IsOf opened.0 opened.1 × (opened.0.opened.shape ≡ shape)) }
+    ensures refused { IfErr result (λ fault. fault ≡ Fault.Memory) }
 {
     let (queue, mut passes) = Queue::open(alloc, shape, 1).map_err(|_| Fault::Memory)?;
     let pass = passes.pop().unwrap();
