@@ -1,7 +1,12 @@
 //! The command `run`: the calls of a script, made by one pass on the running queue.
-ghost use Rattle.std.specs.Prelude.{◌≡◌, ◌≢◌, IfOk, IfErr, All};
+ghost use Rattle.std.specs.Prelude.{◌≡◌, ◌≢◌, ◌+◌, ◌*◌, ◌<◌, ◌++◌, [], List, ℕ, Some, IfOk, IfErr, OnOk, All, string_bytes};
+ghost use Rattle.kfifo_model.specs.declared.calls.Answer.{Answer};
+ghost use Rattle.kfifo_machine.specs.Machine.{World, after, word_at};
+ghost use Rattle.kfifo_machine.specs.Runs.{WholeRun};
+ghost use Rattle.kfifo_live.specs.Schedule.{opening};
 ghost use Rattle.kfifo_live.specs.Pass.{IsOf, IsSame};
 ghost use Rattle.kfifo.specs.Words.{IsCall};
+ghost use Rattle.kfifo.specs.Reports.{IsAlone, IsReport, RunInTurn, call_line, slot_lines, world_lines};
 
 use crate::fault::Fault;
 use crate::options::Sizes;
@@ -63,7 +68,8 @@ pub fn answer(alloc: Global, matches: &ArgMatches<'_>) -> Result<String, Fault>
 /// What is printed of these calls, made one after the other on a new queue.
 fn report_of(alloc: Global, shape: Shape, calls: &[Begin]) -> Result<String, Fault>
     requires { All (IsCall shape.k) calls.now }
-    ensures { IfErr result (λ fault. fault ≡ Fault.Memory) }
+    ensures ok { IfOk result (λ text. IsReport shape calls.now (string_bytes text)) }
+    ensures err { IfErr result (λ fault. fault ≡ Fault.Memory) }
 {
     let (queue, mut pass) = open(alloc, shape)?;
     let mut text = String::new(alloc);
@@ -72,9 +78,9 @@ fn report_of(alloc: Global, shape: Shape, calls: &[Begin]) -> Result<String, Fau
     Ok(text)
 }
 
-/// A queue with one pass.
+/// A queue with one pass, which has seen nothing.
 fn open(alloc: Global, shape: Shape) -> Result<(Queue, Pass), Fault>
-    ensures opened { IfOk result (λ opened. IsOf opened.0 opened.1 × (opened.0.opened.shape ≡ shape)) }
+    ensures opened { IfOk result (λ r. IsOf r.0 r.1 × (r.0.opened ≡ opening shape 1) × (r.1.thread ≡ 0) × (r.1.seen ≡ [])) }
     ensures refused { IfErr result (λ fault. fault ≡ Fault.Memory) }
 {
     let (queue, mut passes) = Queue::open(alloc, shape, 1).map_err(|_| Fault::Memory)?;
@@ -89,37 +95,88 @@ fn make_calls(
     calls: &[Begin],
     text: &mut String,
 ) -> Result<(), AllocError>
-    requires of { IsOf queue.now pass.old }
+    requires alone { IsAlone queue.now pass.old }
     requires calls { All (IsCall queue.now.opened.shape.k) calls.now }
-    ensures { IsSame pass.old pass.new }
+    ensures same { IsSame pass.old pass.new }
+    ensures runs { OnOk result ((answers : List Answer) × (lines : List ℕ)
+        × RunInTurn queue.now.opened.shape calls.now answers pass.old.seen pass.new.seen lines
+        × (string_bytes text.new ≡ string_bytes text.old ++ lines)) }
 {
     for call in calls {
-        match *call {
-            Begin::Enqueue { item, start, turns } => {
-                let answer = pass.enqueue(queue, item, start, turns);
-                report::push_enqueue(text, item, answer)?;
-            }
-            Begin::Dequeue { start, turns } => {
-                let answer = pass.dequeue(queue, start, turns);
-                report::push_dequeue(text, answer)?;
-            }
-            Begin::Tick => unreachable!(),
-        }
+        make_call(queue, pass, *call, text)?;
     }
     Ok(())
 }
 
+/// Makes a call, and adds its line.
+fn make_call(
+    queue: &Queue,
+    pass: &mut Pass,
+    call: Begin,
+    text: &mut String,
+) -> Result<(), AllocError>
+    requires alone { IsAlone queue.now pass.old }
+    requires call { IsCall queue.now.opened.shape.k call }
+    ensures same { IsSame pass.old pass.new }
+    ensures runs { OnOk result ((answer : Answer)
+        × WholeRun queue.now.opened.shape 1 0 call answer pass.old.seen pass.new.seen
+        × (string_bytes text.new ≡ string_bytes text.old ++ call_line call answer)) }
+{
+    match call {
+        Begin::Enqueue { item, start, turns } => {
+            let answer = pass.enqueue(queue, item, start, turns);
+            report::push_enqueue(text, item, answer)
+        }
+        Begin::Dequeue { start, turns } => {
+            let answer = pass.dequeue(queue, start, turns);
+            report::push_dequeue(text, answer)
+        }
+        Begin::Tick => unreachable!(),
+    }
+}
+
 /// Adds the lines of the ends word and of each slot.
 fn push_words(queue: &Queue, pass: &mut Pass, text: &mut String) -> Result<(), AllocError>
-    requires { IsOf queue.now pass.old }
+    requires { IsAlone queue.now pass.old }
+    ensures { OnOk result ((world : World)
+        × (after queue.now.opened.shape 1 pass.old.seen ≡ Some world)
+        × (string_bytes text.new ≡ string_bytes text.old ++ world_lines queue.now.opened.shape world)) }
 {
     let shape = queue.shape();
-    report::push_ends(text, Ends::of_bits(pass.word(queue, 0)))?;
+    report::push_ends(text, Ends::of_bits(load(queue, pass, 0)))?;
     for segment in 0..shape.n() {
-        for slot in 0..shape.k() {
-            let word = Word::of_bits(pass.word(queue, shape.slot_index(segment, slot)));
-            report::push_slot(text, segment, slot, word)?;
-        }
+        push_slots(queue, pass, segment, text)?;
     }
     Ok(())
+}
+
+/// Adds the lines of the slots of a segment.
+fn push_slots(
+    queue: &Queue,
+    pass: &mut Pass,
+    segment: u32,
+    text: &mut String,
+) -> Result<(), AllocError>
+    requires alone { IsAlone queue.now pass.old }
+    requires segment { segment < queue.now.opened.shape.n }
+    ensures same { pass.new ≡ pass.old }
+    ensures lines { OnOk result ((world : World) → after queue.now.opened.shape 1 pass.old.seen ≡ Some world
+        → string_bytes text.new ≡ string_bytes text.old ++ slot_lines queue.now.opened.shape.k world segment queue.now.opened.shape.k) }
+{
+    let shape = queue.shape();
+    for slot in 0..shape.k() {
+        let word = Word::of_bits(load(queue, pass, shape.slot_index(segment, slot)));
+        report::push_slot(text, segment, slot, word)?;
+    }
+    Ok(())
+}
+
+/// A word of the table. With one pass the schedule that it has seen is the whole one.
+fn load(queue: &Queue, pass: &mut Pass, index: usize) -> u64
+    requires alone { IsAlone queue.now pass.old }
+    requires index { index < 2 + queue.now.opened.shape.n * queue.now.opened.shape.k }
+    ensures same { pass.new ≡ pass.old }
+    ensures word { (world : World) × (after queue.now.opened.shape 1 pass.old.seen ≡ Some world) × (result ≡ word_at world index) }
+{
+    pass.word(queue, index)
 }
