@@ -1,0 +1,3 @@
+//! The commands, one module for each: its options, its words, and its answer.
+
+pub mod run;

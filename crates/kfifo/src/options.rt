@@ -1,0 +1,105 @@
+//! Options that several commands share.
+ghost use Rattle.std.specs.Prelude.{◌≡◌, ◌≤◌, Some, MatchResult, unwrap_or};
+ghost use Rattle.kfifo_words.specs.Sizes.{fault_of};
+
+use clap::{Arg, ArgAction, ArgMatches, Command, value_parser};
+use kfifo_words::{Shape, ShapeFault};
+use std::alloc::{AllocError, Global};
+
+const K: &str = "k";
+
+const SEGMENTS: &str = "segments";
+
+const LAST: &str = "last";
+
+const PROBES: &str = "probes";
+
+const TURNS: &str = "turns";
+
+const DEFAULT_K: u32 = 2;
+
+const DEFAULT_SEGMENTS: u32 = 2;
+
+const DEFAULT_LAST: u64 = 1_099_511_627_775;
+
+const DEFAULT_TURNS: u16 = 2;
+
+/// The sizes of a shape, as the command line gives them.
+#[derive(Clone, Copy, PartialEq, Eq, Debug)]
+pub struct Sizes {
+    /// Slots in a segment.
+    pub k: u32,
+    /// Segments in the ring.
+    pub segments: u32,
+    /// The greatest version.
+    pub last: u64,
+    /// Slots of a segment that an enqueue looks at; all k where it is left out.
+    pub probes: Option<u32>,
+}
+
+impl Sizes {
+    /// The sizes that the options give.
+    pub fn of(matches: &ArgMatches<'_>) -> Sizes {
+        Sizes {
+            k: matches.get_one(K).unwrap_or(DEFAULT_K),
+            segments: matches.get_one(SEGMENTS).unwrap_or(DEFAULT_SEGMENTS),
+            last: matches.get_one(LAST).unwrap_or(DEFAULT_LAST),
+            probes: matches.get_one(PROBES),
+        }
+    }
+
+    /// The shape of these sizes.
+    pub fn shape(self) -> Result<Shape, ShapeFault>
+        ensures { let probes = unwrap_or self.probes self.k in MatchResult result
+            (λ s. (s.k ≡ self.k) × (s.n ≡ self.segments) × (s.last ≡ self.last) × (s.probes ≡ probes))
+            (λ fault. fault_of self.k self.segments self.last probes ≡ Some fault) }
+    {
+        let probes = self.probes.unwrap_or(self.k);
+        Shape::with_probes(self.k, self.segments, self.last, probes)
+    }
+}
+
+/// Adds the options `--k`, `--segments`, `--last` and `--probes`.
+pub fn with_sizes<'a>(alloc: Global, command: Command<'a>) -> Result<Command<'a>, AllocError> {
+    let k = option(alloc, K)
+        .value_name("SLOTS")
+        .value_parser(value_parser!(u32))
+        .default_value("2")
+        .help("Slots in a segment, 1 to 64: a dequeue takes one of the k oldest items");
+    let segments = option(alloc, SEGMENTS)
+        .value_name("NUMBER")
+        .value_parser(value_parser!(u32))
+        .default_value("2")
+        .help("Segments in the ring, 2 to 1024");
+    let last = option(alloc, LAST)
+        .value_name("VERSION")
+        .value_parser(value_parser!(u64).range(0..=1_099_511_627_775))
+        .default_value("1099511627775")
+        .help("The greatest version of a word, at least 2");
+    let probes = option(alloc, PROBES)
+        .value_name("SLOTS")
+        .value_parser(value_parser!(u32))
+        .help("Slots of a segment that an enqueue looks at, 1 to k [default: k]");
+    command.arg(k)?.arg(segments)?.arg(last)?.arg(probes)
+}
+
+/// Adds the option `--turns`.
+pub fn with_turns<'a>(alloc: Global, command: Command<'a>) -> Result<Command<'a>, AllocError> {
+    let turns = option(alloc, TURNS)
+        .value_name("ROUNDS")
+        .value_parser(value_parser!(u16).range(1..))
+        .default_value("2")
+        .help("Rounds that a call makes before it answers busy, 1 to 65535");
+    command.arg(turns)
+}
+
+/// The rounds of a call, at least 1: the option admits no less.
+pub fn turns_of(matches: &ArgMatches<'_>) -> u16
+    ensures { 1 ≤ result }
+{
+    matches.get_one(TURNS).unwrap_or(DEFAULT_TURNS).max(1)
+}
+
+fn option<'a>(alloc: Global, name: &'a str) -> Arg<'a> {
+    Arg::new(alloc, name).long(name).action(ArgAction::Set)
+}

@@ -1,0 +1,64 @@
+//! The program over readers and writers in memory.
+
+mod closed;
+mod memory;
+mod runs;
+mod steps;
+mod usage;
+
+use crate::program::program;
+use std::alloc::{AllocError, Global};
+use std::io;
+use std::thread::Threads;
+
+/// What a run of the program came to.
+#[derive(Drop)]
+struct Told {
+    status: u8,
+    output: Vec<u8>,
+    faults: Vec<u8>,
+}
+
+impl Told {
+    fn is(&self, status: u8, output: &str, faults: &str) -> bool {
+        self.status == status
+            && self.output.as_slice() == output.as_bytes()
+            && self.faults.as_slice() == faults.as_bytes()
+    }
+}
+
+/// The words of a command line.
+fn words(alloc: Global, texts: &[&str]) -> Result<Vec<String>, AllocError> {
+    let mut words = Vec::new(alloc);
+    for text in texts {
+        words.push(String::from_str(alloc, text)?)?;
+    }
+    Ok(words)
+}
+
+/// Runs the program on these words and no input.
+fn run_words<R: Threads + AllocGlobal>(rt: &R, texts: &[&str]) -> Result<Told, AllocError> {
+    let alloc = rt.alloc();
+    let words = words(alloc, texts)?;
+    let mut output = Vec::new(alloc);
+    let mut faults = Vec::new(alloc);
+    let status = program(
+        rt,
+        alloc,
+        words.as_slice(),
+        &mut io::empty(),
+        &mut output,
+        &mut faults,
+    );
+    Ok(Told {
+        status,
+        output,
+        faults,
+    })
+}
+
+/// Runs the program on a line of words with a space between each two.
+fn run_line<R: Threads + AllocGlobal>(rt: &R, line: &str) -> Result<Told, AllocError> {
+    let texts: Vec<&str> = line.split(' ').collect(rt.alloc())?;
+    run_words(rt, texts.as_slice())
+}

@@ -1,0 +1,100 @@
+//! Help, and faults of the command line.
+
+use super::{run_line, run_words};
+use std::str::from_utf8;
+use std::test::Fail;
+
+#[test]
+fn helps(rt: HostRuntime) -> Result<(), Fail> {
+    for (line, parts) in [
+        (
+            "--help",
+            [
+                "Usage: kfifo <COMMAND>\n",
+                "\n  run ",
+                "\n  kfifo run e7 e8 d ",
+            ],
+        ),
+        (
+            "-h",
+            [
+                "Usage: kfifo <COMMAND>\n",
+                "\n  run ",
+                "\n  kfifo help run ",
+            ],
+        ),
+        (
+            "help",
+            ["Usage: kfifo <COMMAND>\n", "\nCommands:\n", "\nExamples:\n"],
+        ),
+        (
+            "run --help",
+            [
+                "Usage: kfifo run [OPTIONS] <WORD>...\n",
+                "--k <SLOTS>",
+                "[default: 1099511627775]\n",
+            ],
+        ),
+        (
+            "run -h",
+            [
+                "--segments <NUMBER>",
+                "--turns <ROUNDS>",
+                "\n  kfifo run e7 e8 d ",
+            ],
+        ),
+        (
+            "help run",
+            ["--last <VERSION>", "--probes <SLOTS>", "\n  d:<START> "],
+        ),
+        // Help is asked for before a shape or a word is looked at.
+        (
+            "run --k 0 x --help",
+            ["Usage: kfifo run ", "\nArguments:\n", "\nOptions:\n"],
+        ),
+    ] {
+        let told = run_line(&rt, line)?;
+        let text = from_utf8(told.output.as_slice())?;
+        assert!(rt; told.status == 0 && told.faults.is_empty(), "{line}");
+        for part in parts {
+            assert!(rt; text.contains(part), "{line}: {part}: {text}");
+        }
+    }
+    Ok(())
+}
+
+#[test]
+fn tells_what_is_wrong_with_a_command_line(rt: HostRuntime) -> Result<(), Fail> {
+    for (line, part) in [
+        ("run", "<WORD>..."),
+        ("walk", "unrecognized subcommand 'walk'"),
+        ("run --k", "a value is required for '--k <SLOTS>'"),
+        ("run --k x e7", "invalid value 'x' for '--k <SLOTS>'"),
+        (
+            "run --k 4294967296 e7",
+            "invalid value '4294967296' for '--k <SLOTS>'",
+        ),
+        ("run --segments 4294967296 e7", "'--segments <NUMBER>'"),
+        ("run --last 1099511627776 e7", "'--last <VERSION>'"),
+        ("run --probes 4294967296 e7", "'--probes <SLOTS>'"),
+        ("run --turns 0 e7", "'--turns <ROUNDS>'"),
+        ("run --turns 65536 e7", "'--turns <ROUNDS>'"),
+        ("run --k 1 --k 1 e7", "cannot be used multiple times"),
+        ("run --picks 0 e7", "unexpected argument '--picks'"),
+        ("run -d", "unexpected argument '-d'"),
+        ("run --k -1 e7", "unexpected argument '-1'"),
+    ] {
+        let told = run_line(&rt, line)?;
+        let text = from_utf8(told.faults.as_slice())?;
+        assert!(rt; told.status == 2 && told.output.is_empty(), "{line}");
+        assert!(rt;
+            text.starts_with("error: ") && text.contains(part),
+            "{line}: {text}"
+        );
+    }
+    let bare = run_words(&rt, [].as_slice())?;
+    let text = from_utf8(bare.faults.as_slice())?;
+    assert!(rt; bare.status == 2 && bare.output.is_empty());
+    assert!(rt; text.contains("Usage: kfifo <COMMAND>\n"), "{text}");
+    Ok(())
+}
