@@ -5,13 +5,14 @@ use Rattle.std.proofs.lemmas.List.{append-nil, set-get_or}
 use Rattle.std.proofs.lemmas.Bool.Decides.{nat_tests}
 use mathlib.Core.Option.{some, some-ne-none, some-injective}
 use lib.ListN.{get_elem?}
-use Rattle.atomic_table.specs.Table.{State, keeps, Me, Allows, Splits}
+use Rattle.atomic_table.specs.Table.{State, keeps, Me, Allows, Splits, Joins}
+use Rattle.atomic_table.proofs.Lists.{at_set}
 use Rattle.kfifo_machine.specs.declared.event.Event.{Event}
 use Rattle.kfifo_machine.specs.Machine.{opening}
 use Rattle.kfifo_live.specs.declared.view.Opening.{Opening}
 use Rattle.kfifo_live.specs.declared.view.Part.{Part}
 use Rattle.kfifo_live.specs.declared.view.View.{View}
-use Rattle.kfifo_live.specs.Schedule.{part, view_of, fresh, first_view, thread_of, seen_of, with_seen, more_in, IsSeated, AllBegin, Owns, Fits, OneSchedule}
+use Rattle.kfifo_live.specs.Schedule.{part, view_of, fresh, first_view, thread_of, seen_of, with_seen, more_in, IsSeated, AllBegin, Owns, Fits, OneSchedule, both_parts}
 use Rattle.kfifo_live.specs.Step.{Looks}
 use Rattle.kfifo_live.proofs.Keeps.{adds, fits_set}
 
@@ -38,6 +39,10 @@ looks {S} o slots id me i seated s kept homes at fits =
     let got : P (with_seen v (seen_of v)) = subst Q opened (λ k. looks_at v.opened s id (thread_of v) (seen_of v) (more_in v.parts) i k (at ∙ ap some seated)) kept in
     let put = subst P (sym seated) got in
     (put.0, keeps, tt, put.1, (put.2, refl))
+
+AllBegin-append : (xs ys : List Part) (all : List Event) → AllBegin xs all → AllBegin ys all → AllBegin (xs ++ ys) all
+AllBegin-append [] ys all a b = b
+AllBegin-append (x ∷ xs) ys all a b = (a.0, AllBegin-append xs ys all a.1 b)
 
 AllBegin-take : (n : ℕ) (xs : List Part) (all : List Event) → AllBegin xs all → AllBegin (take n xs) all
 AllBegin-take zero xs all a = tt
@@ -87,6 +92,10 @@ owns_drop owner seat at zero ps le o = subst (λ (x : ℕ). Owns owner seat x ps
 owns_drop owner seat at (suc n) [] le o = tt
 owns_drop owner seat at (suc n) (p ∷ ps) le o = subst (λ (x : ℕ). Owns owner seat x (drop n ps)) (let e : suc at + n ≡ at + suc n = omega arith in e) (owns_drop owner seat (suc at) n ps (omega arith) o.1)
 
+Owns-append : (owner : ℕ → ℕ × ℕ) (seat at : ℕ) (xs ys : List Part) → Owns owner seat at xs → Owns owner seat (at + length xs) ys → Owns owner seat at (xs ++ ys)
+Owns-append owner seat at [] ys a b = subst (λ (x : ℕ). Owns owner seat x ys) (let e : at + 0 ≡ at = omega arith in e) b
+Owns-append owner seat at (x ∷ xs) ys a b = (a.0, Owns-append owner seat (suc at) xs ys a.1 (subst (λ (n : ℕ). Owns owner seat n ys) (let e : at + length (x ∷ xs) ≡ suc at + length xs = omega arith in e) b))
+
 at_end : {A : Type 0} (l : List A) (a b : A) (j : ℕ) → get_elem? (l ++ a ∷ []) j ≡ some b → (get_elem? l j ≡ some b) ⊎ ((j ≡ length l) × (a ≡ b))
 at_end [] a b zero e = inr (refl, some-injective a b e)
 at_end [] a b (suc j) e = absurd (some-ne-none b (sym e))
@@ -132,6 +141,46 @@ cuts o id v n le s kept at =
           subst (λ (y : ℕ × View). Fits o kept.all owner y.0 y.1) (λ k. (sym (x.0 ∙ length_set s.views id left) k, x.1 k)) at_right)
           (at_end (set s.views id left) right u j e);
     }
+
+-- a seat takes the parts of another
+pub gathers : {S : Type 0} (o : Opening) (id : ℕ) (v : View) (other : ℕ) (w : View) (opened : Opening) → opened ≡ v.opened
+    → Joins (λ (s : State S View). OneSchedule o s.words s.views) id v other w (both_parts v w) (view_of opened [])
+gathers o id v other w opened same s kept at apart there =
+    let mine = kept.fit id v at in
+    let both = both_parts v w in
+    let m = length v.parts in
+    let theirs_at : get_elem? s.views other ≡ some w =
+    ⊎_elim (λ (t : (other ≡ id) × (both ≡ w)). absurd (apart t.0)) (λ (t : (other ≢ id) × (get_elem? s.views other ≡ some w)). t.1) (at_set s.views id other both w there) in
+    let theirs = kept.fit other w theirs_at in
+    let owner = λ (t : ℕ). passed_on other 0 id m (kept.owner t) in
+    let given = owns_given kept.owner other 0 id m 0 w.parts (omega arith) theirs.owns in
+    let at_both : Fits o kept.all owner id both = record {
+      opened = mine.opened;
+      begin = AllBegin-append v.parts w.parts kept.all mine.begin theirs.begin;
+      owns = Owns-append owner id 0 v.parts w.parts (owns_other kept.owner other 0 id m id 0 v.parts (λ e. apart (sym e)) mine.owns) (subst (λ (x : ℕ). Owns owner id x w.parts) (let e : m + (0 - 0) ≡ 0 + m = omega arith in e) given);
+    } in
+    let at_other : Fits o kept.all owner other (view_of opened []) = record { opened = same ∙ mine.opened; begin = tt; owns = tt } in
+    record {
+      all = kept.all;
+      world = kept.world;
+      owner = owner;
+      runs = kept.runs;
+      words_are = kept.words_are;
+      fit = λ j u e. fits_set o kept.all owner (set s.views id both) other (view_of opened [])
+          (λ i y not_other f. fits_at o kept.all owner s.views id both other
+          (λ i y not_id not_other f. let they = kept.fit i y f in record { opened = they.opened; begin = they.begin; owns = owns_other kept.owner other 0 id m i 0 y.parts not_other they.owns })
+          at_both i y not_other f)
+          at_other j u e;
+    }
+  where
+    fits_at : (o : Opening) (all : List Event) (owner : ℕ → ℕ × ℕ) (views : List View) (id : ℕ) (both : View) (other : ℕ)
+        → ((i : ℕ) (y : View) → i ≢ id → i ≢ other → get_elem? views i ≡ some y → Fits o all owner i y)
+        → Fits o all owner id both → (i : ℕ) (y : View) → i ≢ other → get_elem? (set views id both) i ≡ some y → Fits o all owner i y
+    fits_at o all owner views id both other others mine i y apart e =
+        ⊎_elim
+        (λ (x : (i ≡ id) × (both ≡ y)). subst (λ (z : ℕ × View). Fits o all owner z.0 z.1) (λ k. (sym x.0 k, x.1 k)) mine)
+        (λ (x : (i ≢ id) × (get_elem? views i ≡ some y)). others i y x.0 apart x.1)
+        (at_set views id i both y e)
 
 -- the opening
 fresh_begin : (first count : ℕ) → AllBegin (fresh first count) []

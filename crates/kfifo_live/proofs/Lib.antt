@@ -4,3 +4,5 @@ pub mod Whole
 pub mod Opens
 pub mod Scans
 pub mod Passes
+pub mod Gathered
+pub mod Leftovers

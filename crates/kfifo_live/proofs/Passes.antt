@@ -1,5 +1,6 @@
 -- A pass that has seen more is still in no call.
-use Rattle.std.proofs.Common.{◌≡◌, ℕ, ◌<◌, List, [], ◌∷◌, ◌++◌, length, Some, None, refl, sym, ap, ◌∙◌, subst, arith}
+use Rattle.std.proofs.Common.{◌≡◌, ℕ, ◌<◌, List, [], ◌∷◌, ◌++◌, length, Some, None, refl, sym, ap, ◌∙◌, subst, arith, append_assoc}
+use Rattle.std.proofs.lemmas.List.{append-nil}
 use Rattle.atomic_table.specs.Table.{Me}
 use Rattle.atomic_table.specs.Seated.{TableId}
 use Rattle.kfifo_model.specs.declared.calls.Answer.{Answer}
@@ -7,14 +8,14 @@ use Rattle.kfifo_machine.specs.declared.event.Begin.{Begin}
 use Rattle.kfifo_machine.specs.declared.event.Event.{Event}
 use Rattle.kfifo_machine.specs.declared.place.Next.TheVariants.{Answers}
 use Rattle.kfifo_machine.specs.Machine.{World, opening, place_of, run, word_at}
-use Rattle.kfifo_machine.specs.Runs.{Begins}
-use Rattle.kfifo_machine.proofs.Schedules.{run_on, same_place, still_threads}
+use Rattle.kfifo_machine.specs.Runs.{Begins, own}
+use Rattle.kfifo_machine.proofs.Schedules.{own-append, run_on, same_place, still_threads}
 use Rattle.kfifo_live.specs.declared.view.Opening.{Opening}
 use Rattle.kfifo_live.specs.declared.view.Part.{Part}
 use Rattle.kfifo_live.specs.declared.view.View.{View}
-use Rattle.kfifo_live.specs.Schedule.{part, view_of, world_after, thread_in, thread_of, more_in, seen_of, with_seen, AllBegin}
+use Rattle.kfifo_live.specs.Schedule.{part, view_of, world_after, thread_in, thread_of, more_in, seen_of, with_seen, AllBegin, first_part, both_parts}
 use Rattle.kfifo_live.specs.Step.{Idle, Looks, Went}
-use Rattle.kfifo_live.specs.Pass.{IsPass, known_of, Finds}
+use Rattle.kfifo_live.specs.Pass.{StartsWith, IsPass, known_of, Finds}
 use Rattle.kfifo_live.proofs.Whole.{idle_after}
 
 -- a pass acts for its thread
@@ -74,3 +75,45 @@ called begin answer thread table table' old new p w =
       held = w.same_slots ∙ p.held;
       idle = idle_after (Some begin) old.0 new.0 answer l;
     }
+
+-- after a look with another's parts beside its own, which it then gives back
+pub met : (thread word found : ℕ) (old new : Me (Unit {0}) View) (other both seen : View) → IsPass thread old → new.1 ≡ old.1
+    → both ≡ both_parts old.0 other → Looks word found both seen → new.0 ≡ first_part seen → IsPass thread new
+met thread word found old new other both seen p held is l kept =
+    let parts : both.parts ≡ part thread (seen_of old.0) ∷ other.parts = ap (λ v. v.parts) is ∙ ap (λ (ps : List Part). ps ++ other.parts) p.alone in
+    let b = subst (λ (ps : List Part). AllBegin ps l.all) parts l.begin in
+    let opened : both.opened ≡ old.0.opened = ap (λ v. v.opened) is in
+    passes_on thread old new l.all l.world p
+    (kept ∙ ap first_part l.afterwards ∙ (λ i. view_of (opened i) (part (thread_in (parts i)) l.all ∷ [])))
+    (held ∙ p.held) b.0 (ap (λ (o : Opening). world_after o l.all) (sym opened) ∙ l.reached)
+
+-- a look at the schedule with the parts of two passes: each has seen a beginning of it with all its own events
+pub both_begin : (whole both : View) (thread other : ℕ) (old : Me (Unit {0}) View) (mine : Me (Unit {0}) View) (index word : ℕ) (seen : View)
+    → IsPass thread old → IsPass other mine → whole ≡ old.0 → both ≡ both_parts mine.0 whole → (l : Looks index word both seen)
+    → Begins thread (seen_of old.0) l.all × Begins other (seen_of mine.0) l.all
+both_begin whole both thread other old mine index word seen p q is put l =
+    let parts : both.parts ≡ part other (seen_of mine.0) ∷ (part thread (seen_of old.0) ∷ []) =
+    ap (λ (v : View). v.parts) put ∙ (λ i. q.alone i ++ (ap (λ (v : View). v.parts) is ∙ p.alone) i) in
+    let b = subst (λ (ps : List Part). AllBegin ps l.all) parts l.begin in
+    (b.1.0, b.0)
+
+-- a schedule that one pass had seen, and that begins with what the other has seen, has no own event of the other beyond
+pub exactly_own : (thread other : ℕ) (seen mine before all : List Event) → Begins thread seen all → Begins other mine all → StartsWith mine before → StartsWith before seen
+    → own thread before ≡ own thread seen
+exactly_own thread other seen mine before all b o on from =
+    let rest : b.rest ≡ from.0 ++ (on.0 ++ o.rest) =
+    append_cancel seen b.rest (from.0 ++ (on.0 ++ o.rest))
+    (sym b.goes_on ∙ o.goes_on ∙ ap (λ es. es ++ o.rest) (on.1 ∙ ap (λ es. es ++ on.0) from.1) ∙ append_assoc (seen ++ from.0) on.0 o.rest ∙ append_assoc seen from.0 (on.0 ++ o.rest)) in
+    let none : own thread from.0 ++ own thread (on.0 ++ o.rest) ≡ [] = sym (own-append thread from.0 (on.0 ++ o.rest)) ∙ ap (own thread) (sym rest) ∙ b.no_own in
+    ap (own thread) from.1 ∙ own-append thread seen from.0 ∙ ap (λ es. own thread seen ++ es) (left_nil (own thread from.0) (own thread (on.0 ++ o.rest)) none) ∙ append-nil (own thread seen)
+  where
+    append_cancel : (xs ys zs : List Event) → xs ++ ys ≡ xs ++ zs → ys ≡ zs
+    append_cancel [] ys zs e = e
+    append_cancel (x ∷ xs) ys zs e = append_cancel xs ys zs (tail_same x (xs ++ ys) (xs ++ zs) e)
+      where
+        tail_same : (x : Event) (ys zs : List Event) → x ∷ ys ≡ x ∷ zs → ys ≡ zs
+        tail_same x ys zs e = cc
+
+    left_nil : (xs ys : List Event) → xs ++ ys ≡ [] → xs ≡ []
+    left_nil [] ys e = refl
+    left_nil (x ∷ xs) ys e = absurd (cc)

@@ -1,3 +1,4 @@
 pub mod Schedule
 pub mod Step
+pub mod Left
 pub mod Pass

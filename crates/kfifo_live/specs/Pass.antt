@@ -1,5 +1,6 @@
 -- A queue and its passes, as callers see them.
-use Rattle.std.specs.Prelude.{◌≡◌, ℕ, zero, suc, List, [], ◌∷◌, Some}
+use Rattle.std.specs.Prelude.{◌<◌, ◌≡◌, ℕ, zero, suc, List, [], ◌∷◌, Some, ◌++◌, length, true, ◌==◌}
+use Rattle.std.specs.List.{list_any}
 use Rattle.atomic_table.specs.Table.{Me}
 use Rattle.atomic_table.specs.Seated.{TableId}
 use Rattle.kfifo_machine.specs.declared.event.Event.{Event}
@@ -7,7 +8,8 @@ use Rattle.kfifo_machine.specs.Machine.{World, word_at}
 use Rattle.kfifo_machine.specs.Runs.{Begins}
 use Rattle.kfifo_live.specs.declared.view.Opening.{Opening}
 use Rattle.kfifo_live.specs.declared.view.View.{View}
-use Rattle.kfifo_live.specs.Schedule.{part, world_after, seen_of}
+use Rattle.kfifo_live.specs.Schedule.{part, world_after, seen_of, AllBegin}
+use Rattle.kfifo_live.specs.Left.{items_left}
 use Rattle.kfifo_live.specs.Step.{Idle}
 
 -- an open queue: its table, and what it was opened with
@@ -53,3 +55,36 @@ pub record Finds (p q : Known) (index word : ℕ) : Type 0 where
   pub world : World
   pub reached : world_after p.opened q.seen ≡ Some world
   pub word_is : word ≡ word_at world index
+
+-- a list that begins with another
+abbrev pub StartsWith : List Event → List Event → Type 0
+StartsWith all seen = (rest : List Event) × (all ≡ seen ++ rest)
+
+-- each pass has seen a beginning of this schedule, with all its own events
+abbrev pub AllSeen : List Known → List Event → Type 0
+AllSeen [] all = Unit {0}
+AllSeen (p ∷ ps) all = Begins p.thread p.seen all × AllSeen ps all
+
+-- all these passes came from this opening
+abbrev pub AllOf : OpenQueue → List Known → Type 0
+AllOf q [] = Unit {0}
+AllOf q (p ∷ ps) = IsOf q p × AllOf q ps
+
+-- each pass of the opening is there once
+pub record IsComplete (threads : ℕ) (ps : List Known) : Type 0 where
+  pub count : length ps ≡ threads
+  pub each : (thread : ℕ) → thread < threads → list_any (λ p. p.thread == thread) ps ≡ true
+
+-- the view w has the parts of v, and what was seen by these passes: a schedule which all parts begin, they have all seen
+pub record IsGathered (v : View) (ps : List Known) (w : View) : Type 0 where
+  pub opened : w.opened ≡ v.opened
+  pub all_seen : (all : List Event) → AllBegin w.parts all → AllBegin v.parts all × AllSeen ps all
+
+-- What is left at the end: there is one schedule, a beginning of which each pass has seen with all its own events, and
+-- the items are those of the filled slots after it
+pub record Closes (q : OpenQueue) (ps : List Known) (items : List ℕ) : Type 0 where
+  pub all : List Event
+  pub world : World
+  pub reached : world_after q.opened all ≡ Some world
+  pub begin : AllSeen ps all
+  pub items_are : items ≡ items_left q.opened.shape world.words

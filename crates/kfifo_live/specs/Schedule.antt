@@ -1,5 +1,6 @@
 -- The one schedule of a running queue, and what each seat of its table has seen of it.
-use Rattle.std.specs.Prelude.{◌≡◌, ℕ, zero, suc, List, [], ◌∷◌, Option, Some, take, drop}
+use Rattle.std.specs.Prelude.{◌≡◌, ℕ, zero, suc, List, [], ◌∷◌, Option, Some, take, drop, ◌++◌}
+use Rattle.std.proofs.Common.{lit<, lit≤}
 use mathlib.Core.Option.{some}
 use lib.ListN.{get_elem?}
 use Rattle.kfifo_words.specs.declared.shape.Shape.{Shape}
@@ -83,6 +84,33 @@ with_seen v seen = view_of v.opened (part (thread_in v.parts) seen ∷ more_in v
 -- it has a first part
 abbrev pub IsSeated : View → Type 0
 IsSeated v = v ≡ with_seen v (seen_of v)
+
+-- a view with no parts, and two views put together
+abbrev pub no_part : View → View
+no_part v = view_of v.opened []
+
+abbrev pub both_parts : View → View → View
+both_parts v w = view_of v.opened (v.parts ++ w.parts)
+
+-- any opening, for a seat that is spent
+abbrev pub small_opening : Opening
+small_opening =
+    opening
+    record {
+      k = 1;
+      n = 2;
+      last = 2;
+      probes = 1;
+      some_slot = lit≤ tt;
+      few_slots = lit≤ tt;
+      some_segments = lit≤ tt;
+      few_segments = lit≤ tt;
+      some_versions = lit≤ tt;
+      few_versions = lit< tt;
+      some_probe = lit≤ tt;
+      few_probes = lit≤ tt;
+    }
+    1
 
 -- a view cut in two: the first part, and the others
 abbrev pub first_part : View → View

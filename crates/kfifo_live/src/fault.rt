@@ -1,4 +1,4 @@
-//! Why a queue was not opened.
+//! Why a queue was not opened, or not closed.
 ghost use Rattle.std.specs.Prelude.{◌≡◌};
 
 use std::alloc::AllocError;
@@ -19,5 +19,24 @@ impl From<AllocError> for OpenFault {
 
     fn from(_: AllocError) -> OpenFault {
         OpenFault::Memory
+    }
+}
+
+/// Why a queue was lost at its end.
+#[derive(Clone, Copy, PartialEq, Eq, Debug)]
+pub enum CloseFault {
+    /// A growth was refused.
+    Memory = 1,
+    /// Not each pass of the opening is there once.
+    MissingPass = 2,
+}
+
+impl From<AllocError> for CloseFault {
+    ghost use Rattle.kfifo_live.specs.declared.fault.CloseFault.TheVariants.{Memory};
+
+    ghost from_gives = { λ _ fault. fault ≡ Memory };
+
+    fn from(_: AllocError) -> CloseFault {
+        CloseFault::Memory
     }
 }

@@ -1,14 +1,15 @@
 //! The rule of the table, and what its steps tell.
-ghost use Rattle.std.specs.Prelude.{◌≡◌, Option, None};
+ghost use Rattle.std.specs.Prelude.{◌≡◌, Option, None, []};
+ghost use Rattle.kfifo_live.specs.declared.view.Opening.{Opening};
 ghost use Rattle.kfifo_machine.specs.declared.event.Begin.{Begin};
 ghost use Rattle.kfifo_machine.specs.declared.place.Running.{Running};
 ghost use Rattle.kfifo_machine.specs.declared.place.Running.TheVariants.{Dequeue};
 ghost use Rattle.kfifo_machine.specs.declared.place.DequeuePhase.TheVariants.{LoadEnds};
-ghost use Rattle.kfifo_live.specs.Schedule.{OneSchedule, first_view, first_part, other_parts};
+ghost use Rattle.kfifo_live.specs.Schedule.{OneSchedule, first_view, first_part, other_parts, no_part, both_parts, view_of, small_opening};
 ghost use Rattle.kfifo_live.specs.Step.{Steps, Looks};
 
 use crate::view::{Opening, View};
-use atomic_table::{Play, Split, TableRule};
+use atomic_table::{Join, Play, Split, TableRule};
 use std::marker::{Brand, PhantomData};
 
 /// One schedule: the words are those after it, and each seat has seen a beginning of it with all
@@ -57,4 +58,33 @@ impl Split<View> for Rest {
     ghost left = { first_part };
 
     ghost right = { other_parts };
+}
+
+/// Keeps nothing, and gives the whole view.
+pub struct All;
+
+impl Split<View> for All {
+    ghost left = { no_part };
+
+    ghost right = { λ v. v };
+}
+
+/// The opening of the queue. Each join picks it.
+pub trait Opened {
+    ghost opened: { Opening };
+}
+
+impl Opened for Brand {
+    ghost opened = { small_opening };
+}
+
+/// Takes the parts of another seat, which is spent.
+pub struct Gather<O: Opened> {
+    of: PhantomData<O>,
+}
+
+impl<O: Opened> Join<View> for Gather<O> {
+    ghost both = { both_parts };
+
+    ghost spent = { view_of O.opened [] };
 }

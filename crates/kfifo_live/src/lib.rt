@@ -2,10 +2,12 @@
 //! machine's program.
 #![tactic(auto)]
 
+mod closing;
 mod dequeue;
 mod enqueue;
 mod fault;
 mod law;
+mod meeting;
 mod opening;
 mod queue;
 mod scan;
@@ -15,7 +17,9 @@ mod tests;
 mod touch;
 mod view;
 
-pub use fault::OpenFault;
-pub use law::{Glance, Going, Law, Own, Rest};
+pub use closing::close;
+pub use fault::{CloseFault, OpenFault};
+pub use law::{All, Gather, Glance, Going, Law, Opened, Own, Rest};
+pub use meeting::meet;
 pub use queue::{Pass, Queue};
 pub use view::{Opening, Part, View};

@@ -30,7 +30,7 @@ impl Model for Queue {
 
     ghost view = { λ q. queue_of q.table.shared.table_id (opening q.shape q.threads) };
 
-    ghost invariant = { λ q. (q.table.shared.key ≡ opening q.shape q.threads) × (q.table.shared.table_id.words ≡ 2 + q.shape.n * q.shape.k) × (q.table.shared.table_id.slots ≡ 0) };
+    ghost invariant = { λ q. (q.table.shared.key ≡ opening q.shape q.threads) × (q.table.shared.table_id.words ≡ 2 + q.shape.n * q.shape.k) × (q.table.shared.table_id.slots ≡ 0) × (0 < q.threads) };
 }
 
 /// What a thread makes its calls with. It may go to another thread between two calls.

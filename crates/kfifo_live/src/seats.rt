@@ -1,9 +1,9 @@
 //! Moves of seats that are no steps of a thread.
 ghost use Rattle.std.specs.Prelude.{◌≡◌, ◌<◌, ◌≤◌, [], length};
-ghost use Rattle.kfifo_live.specs.Schedule.{IsSeated, first_part, other_parts};
+ghost use Rattle.kfifo_live.specs.Schedule.{IsSeated, first_part, other_parts, no_part, both_parts};
 ghost use Rattle.kfifo_live.specs.Step.{Looks};
 
-use crate::law::{Glance, Law, Rest};
+use crate::law::{All, Gather, Glance, Law, Opened, Rest};
 use crate::view::{Opening, View};
 use atomic_table::{Seat, Shared};
 
@@ -33,4 +33,32 @@ pub(crate) fn give_rest(
     ensures given { (result.table_id ≡ seat.old.table_id) × (result.me.0 ≡ other_parts seat.old.me.0) × (result.me.1 ≡ []) }
 {
     shared.split_seat::<Rest>(seat)
+}
+
+/// Gives a new seat the whole view, and keeps nothing.
+pub(crate) fn give_all(
+    shared: &Shared<(), View, Opening, Law>,
+    seat: &mut Seat<(), View>,
+) -> Seat<(), View>
+    requires table { (seat.old.table_id ≡ shared.now.table_id) × (0 < shared.now.table_id.words) }
+    ensures same { (seat.new.table_id ≡ seat.old.table_id) × (seat.new.me.1 ≡ seat.old.me.1) }
+    ensures kept { seat.new.me.0 ≡ no_part seat.old.me.0 }
+    ensures given { (result.table_id ≡ seat.old.table_id) × (result.me.0 ≡ seat.old.me.0) × (result.me.1 ≡ []) }
+{
+    shared.split_seat::<All>(seat)
+}
+
+/// Takes the parts of another seat, behind its own.
+pub(crate) fn gather<O: Opened>(
+    shared: &Shared<(), View, Opening, Law>,
+    seat: &mut Seat<(), View>,
+    other: Seat<(), View>,
+)
+    requires table { (seat.old.table_id ≡ shared.now.table_id) × (0 < shared.now.table_id.words) }
+    requires other { (other.table_id ≡ shared.now.table_id) × (other.me.1 ≡ []) }
+    requires picked { O.opened ≡ seat.old.me.0.opened }
+    ensures same { (seat.new.table_id ≡ seat.old.table_id) × (seat.new.me.1 ≡ seat.old.me.1) }
+    ensures both { seat.new.me.0 ≡ both_parts seat.old.me.0 other.me.0 }
+{
+    shared.join_seat::<Gather<O>>(seat, other);
 }

@@ -1,0 +1,66 @@
+-- The seats of all passes, put together.
+use Rattle.std.proofs.Common.{◌≡◌, ℕ, zero, suc, ◌+◌, List, [], ◌∷◌, ◌++◌, take, get_or, ◌<◌, sym, ap, ◌∙◌, subst, arith}
+use mathlib.Core.Option.{some, some-ne-none, some-injective}
+use lib.ListN.{get_elem?}
+use Rattle.atomic_table.specs.Table.{Me, State, Final, Seen}
+use Rattle.kfifo_words.specs.Words.{head_of}
+use Rattle.kfifo_machine.specs.Machine.{word_at}
+use Rattle.kfifo_machine.proofs.Sound.{sound_ends}
+use Rattle.kfifo_machine.specs.declared.event.Event.{Event}
+use Rattle.kfifo_machine.specs.Runs.{Begins}
+use Rattle.kfifo_live.specs.declared.view.Opening.{Opening}
+use Rattle.kfifo_live.specs.declared.view.Part.{Part}
+use Rattle.kfifo_live.specs.declared.view.View.{View}
+use Rattle.kfifo_live.specs.Schedule.{world_after, seen_of, AllBegin, OneSchedule}
+use Rattle.kfifo_live.specs.Left.{items_left}
+use Rattle.kfifo_live.specs.Pass.{OpenQueue, Known, IsPass, IsOf, AllSeen, AllOf, IsGathered, Closes}
+
+pub all_of_last : (q : OpenQueue) (ps : List Known) (p : Known) → AllOf q (ps ++ p ∷ []) → AllOf q ps × IsOf q p
+all_of_last q [] p o = (tt, o.0)
+all_of_last q (x ∷ ps) p o = let r = all_of_last q ps p o.1 in ((o.0, r.0), r.1)
+
+pub all_seen_push : (ps : List Known) (p : Known) (all : List Event) → AllSeen ps all → Begins p.thread p.seen all → AllSeen (ps ++ p ∷ []) all
+all_seen_push [] p all s b = (b, tt)
+all_seen_push (x ∷ ps) p all s b = (s.0, all_seen_push ps p all s.1 b)
+
+pub all_begin_parts : (xs ys : List Part) (all : List Event) → AllBegin (xs ++ ys) all → AllBegin xs all × AllBegin ys all
+all_begin_parts [] ys all b = (tt, b)
+all_begin_parts (x ∷ xs) ys all b = let r = all_begin_parts xs ys all b.1 in ((b.0, r.0), r.1)
+
+-- the one part of a pass
+pub pass_begins : (thread : ℕ) (me : Me (Unit {0}) View) (p : Known) (all : List Event) → IsPass thread me → p.thread ≡ thread → p.seen ≡ seen_of me.0 → AllBegin me.0.parts all → Begins p.thread p.seen all
+pass_begins thread me p all is same_thread same_seen b =
+    let one = subst (λ (ps : List Part). AllBegin ps all) is.alone b in
+    subst (λ (x : ℕ × List Event). Begins x.0 x.1 all) (λ i. (sym same_thread i, sym same_seen i)) one.0
+
+pub closes : (q : OpenQueue) (ps : List Known) (items table_words : List ℕ) (slots : List (Unit {0})) (key : Opening) (id : ℕ) (v w : View) (rest : List Known) (last : Known)
+    → key ≡ q.opened → ps ≡ rest ++ last ∷ [] → IsGathered v rest w
+    → ((all : List Event) → AllBegin v.parts all → Begins last.thread last.seen all)
+    → items ≡ items_left q.opened.shape table_words → Final (Seen (λ (s : State (Unit {0}) View). OneSchedule key s.words s.views) id w) table_words slots → Closes q ps items
+closes q ps items table_words slots key id v w rest last opened ps_are gathered of_last same f =
+    let kept = f.1.0 in
+    let parts = (kept.fit id w f.1.1).begin in
+    let seen = gathered.all_seen kept.all parts in
+    record {
+      all = kept.all;
+      world = kept.world;
+      reached = ap (λ (o : Opening). world_after o kept.all) (sym opened) ∙ kept.runs;
+      begin = subst (λ (xs : List Known). AllSeen xs kept.all) (sym ps_are) (all_seen_push rest last kept.all seen.1 (of_last kept.all seen.0));
+      items_are = same ∙ ap (items_left q.opened.shape) (sym f.2 ∙ kept.words_are);
+    }
+
+-- the ends word of a closed table names segments
+pub final_head : (slots : List (Unit {0})) (words : List ℕ) (o : Opening) (id : ℕ) (w : View) → Final (Seen (λ (s : State (Unit {0}) View). OneSchedule o s.words s.views) id w) words slots → head_of (get_or words 0 0) < o.shape.n
+unfolding word_at
+final_head slots words o id w f =
+    let kept = f.1.0 in
+    let ends = sound_ends o.shape o.threads kept.all kept.world kept.runs in
+    subst (λ (ws : List ℕ). head_of (get_or ws 0 0) < o.shape.n) (sym kept.words_are ∙ f.2) ends.head
+
+pub take_next : {A : Type 0} (xs : List A) (i : ℕ) (x : A) → get_elem? xs i ≡ some x → take (i + 1) xs ≡ take i xs ++ x ∷ []
+take_next xs i x e = ap (λ (n : ℕ). take n xs) (let s : i + 1 ≡ suc i = omega arith in s) ∙ next xs i x e
+  where
+    next : {A : Type 0} (xs : List A) (i : ℕ) (x : A) → get_elem? xs i ≡ some x → take (suc i) xs ≡ take i xs ++ x ∷ []
+    next [] i x e = absurd (some-ne-none x (sym e))
+    next (y ∷ ys) zero x e = ap (λ z. z ∷ []) (some-injective y x e)
+    next (y ∷ ys) (suc i) x e = ap (λ zs. y ∷ zs) (next ys i x e)

@@ -1,0 +1,129 @@
+//! Closing a queue.
+ghost use Rattle.std.specs.Prelude.{◌≡◌, ◌<◌, ◌≤◌, ◌+◌, ◌*◌, ◌↔◌, ◌==◌, [], IfOk, length, slice_index, IsErrOf, IsTrue};
+ghost use Rattle.std.specs.List.{list_any};
+ghost use Rattle.core.specs.Mem.Slots.{slots_items, slots_len, IsFull};
+ghost use Rattle.kfifo_words.specs.Words.{head_of};
+ghost use Rattle.kfifo_live.specs.Left.{items_left};
+ghost use Rattle.kfifo_live.specs.Pass.{queue_of, AllOf, IsGathered, Closes, IsComplete};
+ghost use Rattle.kfifo_live.specs.declared.fault.CloseFault.TheVariants.{MissingPass};
+
+use crate::fault::CloseFault;
+use crate::law::Law;
+use crate::queue::{Pass, Queue};
+use crate::seats::gather;
+use crate::view::{Opening, View};
+use atomic_table::{Closed, Seat, Shared};
+use kfifo_words::{Ends, Shape, Word};
+use std::alloc::{AllocError, Global};
+use std::marker::Brand;
+
+/// Whether one of the passes is of this thread.
+fn has_pass(passes: &[Pass], thread: u32) -> bool
+    ensures { result ≡ list_any (λ p. p.thread == thread) passes.now }
+{
+    passes.iter().any(|pass| pass.thread() == thread)
+}
+
+/// Whether each pass of the opening is there once.
+fn is_complete(passes: &[Pass], threads: u32) -> bool
+    ensures { IsTrue result ↔ IsComplete threads passes.now }
+{
+    if passes.len() != threads as usize {
+        return false;
+    }
+    for thread in 0..threads {
+        if !has_pass(passes, thread) {
+            return false;
+        }
+    }
+    true
+}
+
+/// The words of a table that is closed.
+fn read_words(
+    alloc: Global,
+    closed: &Closed<(), Global>,
+    count: usize,
+) -> Result<Vec<u64>, AllocError>
+    requires { (slots_len closed.now.words ≡ count) × IsFull closed.now.words × (length (slots_items closed.now.words) ≡ count) }
+    ensures { IfOk result (λ v. v.items ≡ slots_items closed.now.words) }
+{
+    let mut words = Vec::with_capacity(alloc, count)?;
+    for index in 0..count {
+        words.push_reserved(closed.word(index));
+    }
+    Ok(words)
+}
+
+/// The items in the slots of these words, segment by segment from the head's, within a segment by
+/// slot number.
+fn read_items(alloc: Global, shape: &Shape, words: &[u64]) -> Result<Vec<u32>, AllocError>
+    requires size { length words.now ≡ 2 + shape.now.n * shape.now.k }
+    requires head { head_of (slice_index words.now 0) < shape.now.n }
+    ensures { IfOk result (λ v. v.items ≡ items_left shape.now words.now) }
+{
+    let mut items = Vec::new(alloc);
+    let mut segment = Ends::of_bits(words[0]).head();
+    'segments: for count in 0..shape.n() {
+        let first = shape.slot_index(segment, 0);
+        'slots: for slot in 0..shape.k() {
+            let item = Word::of_bits(words[first + slot as usize]).value();
+            if item != 0 {
+                items.push(item)?;
+            }
+        }
+        segment = shape.next(segment);
+    }
+    Ok(items)
+}
+
+/// A seat with the parts of all passes.
+fn gather_all(
+    shared: &Shared<(), View, Opening, Law>,
+    mut seat: Seat<(), View>,
+    mut passes: Vec<Pass>,
+) -> Seat<(), View>
+    requires table { (seat.table_id ≡ shared.now.table_id) × (0 < shared.now.table_id.words) }
+    requires of { AllOf (queue_of seat.table_id seat.me.0.opened) passes.items }
+    ensures table { result.table_id ≡ seat.table_id }
+    ensures all { IsGathered seat.me.0 passes.items result.me.0 }
+{
+    while let Some(pass) = passes.pop() {
+        let Pass {
+            thread: _,
+            seat: other,
+        } = pass;
+        gather::<Brand>(shared, &mut seat, other);
+    }
+    seat
+}
+
+/// The items that are left, if each pass of the opening is given back: segment by segment from the
+/// head's round the ring, within a segment by slot number.
+///
+/// MissingPass where not each pass of the opening is there once, which is tested first; Memory where
+/// a growth was refused. The items are then lost to the caller.
+pub fn close(alloc: Global, queue: Queue, mut passes: Vec<Pass>) -> Result<Vec<u32>, CloseFault>
+    requires { AllOf queue passes.items }
+    ensures ok { IfOk result (λ items. Closes queue passes.items items.items) }
+    ensures missing { IsErrOf result MissingPass ↔ ¬ IsComplete queue.opened.threads passes.items }
+{
+    if !is_complete(passes.as_slice(), queue.threads) {
+        return Err(CloseFault::MissingPass);
+    }
+    let Some(last) = passes.pop() else {
+        unreachable!()
+    };
+    let Queue {
+        table,
+        shape,
+        threads: _,
+    } = queue;
+    let Pass { thread: _, seat } = last;
+    let seat = gather_all(&table.shared, seat, passes);
+    let closed = table.close_with(seat);
+    let words = read_words(alloc, &closed, 2 + shape.n() as usize * shape.k() as usize);
+    closed.free();
+    let items = read_items(alloc, &shape, words?.as_slice())?;
+    Ok(items)
+}
