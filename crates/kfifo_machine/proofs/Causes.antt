@@ -2,6 +2,7 @@
 use Rattle.std.proofs.Common.{◌≡◌, ◌≢◌, ◌⊎◌, ℕ, ◌+◌, ◌*◌, ◌-◌, ◌<◌, ◌≤◌, List, [], ◌∷◌, ◌++◌, length, Option, Some, None, Bool, true, false, refl, sym, ap, ◌∙◌, subst, inl, inr, arith, cond, eqb, eqb-true, length-append}
 use Rattle.std.specs.Prelude.{◌==◌, not, nat_lt, nat_le}
 use Rattle.std.proofs.lemmas.Bool.{eqb-false}
+use Rattle.std.proofs.lemmas.Bool.Decides.{nat_tests}
 use Rattle.std.proofs.lemmas.List.{append_assoc}
 use Rattle.kfifo_words.specs.declared.shape.Shape.{Shape}
 use Rattle.kfifo_words.specs.Words.{value_of, version_of, head_of, tail_of}
@@ -14,6 +15,7 @@ use Rattle.kfifo_machine.specs.declared.event.Event.{Event}
 use Rattle.kfifo_machine.specs.declared.place.Found.TheVariants.{Slot, Nothing}
 use Rattle.kfifo_machine.specs.declared.place.EnqueuePhase.{EnqueuePhase}
 use Rattle.kfifo_machine.specs.declared.place.EnqueuePhase.TheVariants as E
+use Rattle.kfifo_machine.specs.declared.place.DequeuePhase.{DequeuePhase}
 use Rattle.kfifo_machine.specs.declared.place.DequeuePhase.TheVariants as D
 use Rattle.kfifo_machine.specs.declared.place.Running.{Running}
 use Rattle.kfifo_machine.specs.declared.place.Running.TheVariants as R
@@ -25,7 +27,7 @@ use Rattle.kfifo_machine.specs.Machine.{begun}
 use Rattle.kfifo_machine.specs.Runs.{WholeRun}
 use Rattle.kfifo_machine.specs.Causes.{Look, Loads, AllOfRound, AllFilled, CauseOfFull, FullHasCause, round_of, start_of, looks_of}
 use Rattle.kfifo_machine.proofs.Schedules.{Some-injective}
-use Rattle.kfifo_machine.proofs.Paths.{IsPath, PathOf, whole_path}
+use Rattle.kfifo_machine.proofs.Paths.{IsPath, PathOf, whole_path, along}
 
 all_of_round-append : (round : ℕ) (xs ys : List Look) → AllOfRound round xs → AllOfRound round ys → AllOfRound round (xs ++ ys)
 all_of_round-append round [] ys a b = b
@@ -272,3 +274,39 @@ enqueue_on shape begun_at item start left (E.ConfirmFull ends) word past so = by
     by_test false is = again_so_far shape begun_at item start left so.0 (past ++ look (R.Enqueue item start left (E.ConfirmFull ends)) word ∷ [])
 enqueue_on shape begun_at item start left (E.MoveHead ends) word past same = again_so_far shape begun_at item start left same (past ++ look (R.Enqueue item start left (E.MoveHead ends)) word ∷ [])
 enqueue_on shape begun_at item start left (E.MoveTail ends) word past same = again_so_far shape begun_at item start left same (past ++ look (R.Enqueue item start left (E.MoveTail ends)) word ∷ [])
+
+-- a dequeue goes on as one, and is never answered Full
+abbrev StaysDequeue : Next → Type 0
+StaysDequeue (Goes (R.Dequeue start left phase)) = Unit {0}
+StaysDequeue (Goes (R.Enqueue item start left phase)) = ⊥
+StaysDequeue (Answers A.Full) = ⊥
+StaysDequeue (Answers other) = Unit {0}
+
+stays_dequeue : (shape : Shape) (start left : ℕ) (phase : DequeuePhase) (word : ℕ) → StaysDequeue (advance shape (R.Dequeue start left phase) word)
+stays_dequeue shape start left phase word = grind (arith, nat_tests)
+
+dequeue_so_far : (shape : Shape) (begun_at : ℕ) (next : Next) (past : List Look) → StaysDequeue next → NextSoFar shape begun_at next past
+dequeue_so_far shape begun_at (Goes (R.Dequeue start left phase)) past stays = tt
+dequeue_so_far shape begun_at (Goes (R.Enqueue item start left phase)) past stays = absurd stays
+dequeue_so_far shape begun_at (Answers A.Full) past stays = absurd stays
+dequeue_so_far shape begun_at (Answers A.Done) past stays = tt
+dequeue_so_far shape begun_at (Answers (A.Got item)) past stays = tt
+dequeue_so_far shape begun_at (Answers A.Empty) past stays = tt
+dequeue_so_far shape begun_at (Answers A.Busy) past stays = tt
+dequeue_so_far shape begun_at (Answers A.Worn) past stays = tt
+
+so_far_on : (shape : Shape) (begun_at : ℕ) (running : Running) (word : ℕ) (past : List Look) → SoFar shape begun_at running past → NextSoFar shape begun_at (advance shape running word) (past ++ look running word ∷ [])
+so_far_on shape begun_at (R.Enqueue item start left phase) word past so = enqueue_on shape begun_at item start left phase word past so
+so_far_on shape begun_at (R.Dequeue start left phase) word past so = dequeue_so_far shape begun_at (advance shape (R.Dequeue start left phase) word) _ (stays_dequeue shape start left phase word)
+
+first_so_far : (shape : Shape) (call : Begin) (running : Running) → begun call ≡ Some running → SoFar shape (start_of call) running []
+first_so_far shape (B.Enqueue item start turns) running is = subst (λ (r : Running). SoFar shape start r []) (Some-injective (R.Enqueue item start turns E.LoadEnds) running is) refl
+first_so_far shape (B.Dequeue start turns) running is = subst (λ (r : Running). SoFar shape start r []) (Some-injective (R.Dequeue start turns D.LoadEnds) running is) tt
+first_so_far shape B.Tick running is = absurd (cc)
+
+-- Full has its cause
+pub full_has_cause : (shape : Shape) (threads : ℕ) → FullHasCause shape threads
+full_has_cause shape threads = λ thread call old new whole.
+    let p = whole_path shape threads thread call A.Full old new whole in
+    along shape (SoFar shape (start_of call)) (NextSoFar shape (start_of call)) (λ running past so. so) (so_far_on shape (start_of call)) p.running [] (looks_of shape threads thread call A.Full old new whole) A.Full p.path
+      (first_so_far shape call p.running p.begins)

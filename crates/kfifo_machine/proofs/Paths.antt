@@ -1,6 +1,7 @@
 -- The own steps of a whole run are a path through the program of its call.
 use Rattle.std.proofs.Common.{◌≡◌, ◌≢◌, ◌⊎◌, ℕ, ◌+◌, ◌*◌, ◌<◌, ◌≤◌, List, [], ◌∷◌, ◌++◌, length, Option, Some, None, Ok, Bool, true, false, refl, sym, ap, ◌∙◌, subst, inl, inr, arith, cond, eqb, eq-eqb, eqb-true, length-append}
 use Rattle.std.specs.Prelude.{◌==◌}
+use Rattle.std.proofs.lemmas.List.{append_assoc}
 use Rattle.kfifo_words.specs.declared.shape.Shape.{Shape}
 use Rattle.kfifo_model.specs.declared.calls.Answer.{Answer}
 use Rattle.kfifo_machine.specs.declared.event.Begin.{Begin}
@@ -196,3 +197,21 @@ whole_path shape threads thread call answer old new whole =
     let k = run_before shape (Some (opening shape threads)) whole.before old whole.between whole.reached in
     subst (λ (w : Option World). PathOf shape call (looks shape thread w (whole.between ++ whole.last ∷ [])) answer) (sym k.1)
       (path_from shape k.0 whole.world thread call whole.between whole.one_call.others whole.last whole.before answer (sound shape threads old k.0 k.1) whole.last_own whole.one_call.first whole.one_call.go_on k.2 whole.ends)
+
+-- What each step adds to what was seen so far holds of the whole path, at its answer
+module _ (shape : Shape) (So : Running → List Look → Type 0) (NextSo : Next → List Look → Type 0)
+    (goes : (running : Running) (past : List Look) → NextSo (Goes running) past → So running past)
+    (on : (running : Running) (word : ℕ) (past : List Look) → So running past → NextSo (advance shape running word) (past ++ (record { running = running; word = word }) ∷ [])) where
+
+  look_is : (l : Look) (running : Running) → l.running ≡ running → ◌≡◌ {A = Look} (record { running = running; word = l.word }) l
+  look_is l running from = ap (λ (r : Running). record { running = r; word = l.word }) (sym from)
+
+  one_more : (l : Look) (running : Running) (past : List Look) → l.running ≡ running → So running past → NextSo (advance shape running l.word) (past ++ l ∷ [])
+  one_more l running past from so = subst (λ (x : Look). NextSo (advance shape running l.word) (past ++ x ∷ [])) (look_is l running from) (on running l.word past so)
+
+  pub along : (running : Running) (past looks : List Look) (answer : Answer) → IsPath shape running looks answer → So running past → NextSo (Answers answer) (past ++ looks)
+  along running past [] answer path so = absurd path
+  along running past (l ∷ []) answer path so = subst (λ (n : Next). NextSo n (past ++ l ∷ [])) path.1 (one_more l running past path.0 so)
+  along running past (l ∷ (n ∷ ls)) answer path so =
+      let next : So n.running (past ++ l ∷ []) = goes n.running (past ++ l ∷ []) (subst (λ (x : Next). NextSo x (past ++ l ∷ [])) path.1 (one_more l running past path.0 so)) in
+      subst (NextSo (Answers answer)) (append_assoc past (l ∷ []) (n ∷ ls)) (along n.running (past ++ l ∷ []) (n ∷ ls) answer path.2 next)
