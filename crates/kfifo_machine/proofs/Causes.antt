@@ -29,7 +29,7 @@ use Rattle.kfifo_machine.specs.Causes.{Look, Loads, AllOfRound, AllFilled, Cause
 use Rattle.kfifo_machine.proofs.Schedules.{Some-injective}
 use Rattle.kfifo_machine.proofs.Paths.{IsPath, PathOf, whole_path, along}
 
-all_of_round-append : (round : ℕ) (xs ys : List Look) → AllOfRound round xs → AllOfRound round ys → AllOfRound round (xs ++ ys)
+pub all_of_round-append : (round : ℕ) (xs ys : List Look) → AllOfRound round xs → AllOfRound round ys → AllOfRound round (xs ++ ys)
 all_of_round-append round [] ys a b = b
 all_of_round-append round (x ∷ xs) ys a b = (a.0, all_of_round-append round xs ys a.1 b)
 

@@ -10,3 +10,4 @@ pub mod Laws
 pub mod Calls
 pub mod Paths
 pub mod Causes
+pub mod Wear

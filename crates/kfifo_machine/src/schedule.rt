@@ -1,6 +1,7 @@
 //! Whole schedules.
 ghost use Rattle.std.specs.Prelude.{◌≡◌, ℕ, ◌<◌, ◌⊎◌, ◌↔◌, Some, IfOk, IfErr, Err};
 ghost use Rattle.kfifo_machine.specs.Machine.{after, IsFirstRefused};
+ghost use Rattle.kfifo_machine.specs.Causes.{FullHasCause, WornHasCause};
 ghost use Rattle.kfifo_machine.specs.Laws.{NoWrap, FewEvents, LeavesNone, VersionsRise, NoneReturns, OthersLeave};
 
 use crate::fault::RunFault;
@@ -46,6 +47,8 @@ pub fn run(alloc: Global, shape: Shape, threads: u32, events: &[Event]) -> Resul
     ensures versions_rise { VersionsRise shape threads }
     ensures none_returns { NoneReturns shape threads }
     ensures others_leave { OthersLeave shape threads }
+    ensures full_has_cause { FullHasCause shape threads }
+    ensures worn_has_cause { WornHasCause shape threads }
 {
     run_events(alloc, shape, threads, events)
 }
