@@ -11,3 +11,4 @@ pub mod Calls
 pub mod Paths
 pub mod Causes
 pub mod Wear
+pub mod Quiet
