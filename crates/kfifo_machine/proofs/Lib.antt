@@ -12,3 +12,4 @@ pub mod Paths
 pub mod Causes
 pub mod Wear
 pub mod Quiet
+pub mod Losses

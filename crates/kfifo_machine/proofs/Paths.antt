@@ -28,7 +28,7 @@ IsPath shape running [] answer = ⊥
 IsPath shape running (look ∷ []) answer = (look.running ≡ running) × (advance shape running look.word ≡ Answers answer)
 IsPath shape running (look ∷ (next ∷ looks)) answer = (look.running ≡ running) × (advance shape running look.word ≡ Goes next.running) × IsPath shape next.running (next ∷ looks) answer
 
-abbrev look_of : Shape → World → Running → Look
+abbrev pub look_of : Shape → World → Running → Look
 look_of shape here running = record { running = running; word = found shape here running }
 
 goes_to : (shape : Shape) (look next : Look) (running place : Running) (looks : List Look) (answer : Answer) → look.running ≡ running → advance shape running look.word ≡ Goes place
@@ -45,14 +45,14 @@ path-cons shape look running place [] answer from goes path = absurd path
 path-cons shape look running place (next ∷ looks) answer from goes path = goes_to shape look next running place looks answer from goes (starts_at shape place next looks answer path) path
 
 -- the looks of a schedule that begins with an own event, and with another's
-looks-own : (shape : Shape) (thread : ℕ) (here next : World) (outcome : Outcome) (e : Event) (es : List Event) (running : Running) → e.thread ≡ thread → step shape here e ≡ Ok (next, outcome)
+pub looks-own : (shape : Shape) (thread : ℕ) (here next : World) (outcome : Outcome) (e : Event) (es : List Event) (running : Running) → e.thread ≡ thread → step shape here e ≡ Ok (next, outcome)
     → going shape (place_of here e.thread) e.begin ≡ Some running → looks shape thread (Some here) (e ∷ es) ≡ look_of shape here running ∷ looks shape thread (Some next) es
 looks-own shape thread here next outcome e es running mine made goes =
     ap (λ (b : Bool). cond b (looks_from shape here (going shape (place_of here e.thread) e.begin)) [] ++ looks shape thread (world_of (step shape here e)) es) (eq-eqb e.thread thread mine)
     ∙ ap (λ (p : Option Running). looks_from shape here p ++ looks shape thread (world_of (step shape here e)) es) goes
     ∙ ap (λ (w : Option World). look_of shape here running ∷ looks shape thread w es) (ap world_of made)
 
-looks-other : (shape : Shape) (thread : ℕ) (here next : World) (outcome : Outcome) (e : Event) (es : List Event) → thread ≢ e.thread → step shape here e ≡ Ok (next, outcome)
+pub looks-other : (shape : Shape) (thread : ℕ) (here next : World) (outcome : Outcome) (e : Event) (es : List Event) → thread ≢ e.thread → step shape here e ≡ Ok (next, outcome)
     → looks shape thread (Some here) (e ∷ es) ≡ looks shape thread (Some next) es
 looks-other shape thread here next outcome e es apart made = by_test (e.thread == thread) refl ∙ ap (λ (w : Option World). looks shape thread w es) (ap world_of made)
   where
@@ -61,12 +61,12 @@ looks-other shape thread here next outcome e es apart made = by_test (e.thread =
     by_test true is = absurd (apart (sym (eqb-true e.thread thread is)))
     by_test false is = refl
 
-answered : (next : Next) (answer : Answer) → Ended answer ≡ outcome_of next → next ≡ Answers answer
+pub answered : (next : Next) (answer : Answer) → Ended answer ≡ outcome_of next → next ≡ Answers answer
 answered (Goes running) answer is = cc
 answered (Answers a) answer is = let h : answer ≡ a = cc in ap Answers (sym h)
 
 -- a thread that is in no call makes no event that goes on
-none_after : (shape : Shape) (here there : World) (thread : ℕ) (es : List Event) (last : Event) → IsSound shape here → place_of here thread ≡ None → last.thread ≡ thread
+pub none_after : (shape : Shape) (here there : World) (thread : ℕ) (es : List Event) (last : Event) → IsSound shape here → place_of here thread ≡ None → last.thread ≡ thread
     → AllGoOn (own thread (es ++ last ∷ [])) → run shape (Some here) (es ++ last ∷ []) ≡ Some there → ⊥
 none_after shape here there thread es last sound idle mine on is =
     let few : length (own thread (es ++ last ∷ [])) ≤ left_of shape.k (place_of here thread) = few_left shape here there thread (es ++ last ∷ []) sound on is in
@@ -118,11 +118,11 @@ path_on shape here there thread (e ∷ es) last before answer running sound at m
         absurd (none_after shape world there thread es last safe at_next mine goes_on
           (run-append shape (Some world) es (last ∷ []) ∙ ap (λ (w : Option World). run shape w (last ∷ [])) runs ∙ ap world_of ends))
 
-begun_goes : (shape : Shape) (begin : Begin) (running : Running) (word : ℕ) → begun begin ≡ Some running → (next : Next) → advance shape running word ≡ next → (place : Running) × (next ≡ Goes place)
+pub begun_goes : (shape : Shape) (begin : Begin) (running : Running) (word : ℕ) → begun begin ≡ Some running → (next : Next) → advance shape running word ≡ next → (place : Running) × (next ≡ Goes place)
 begun_goes shape begin running word is (Goes place) goes = (place, refl)
 begun_goes shape begin running word is (Answers answer) goes = absurd (first_goes shape begin running word answer is goes)
 
-begins_from : (shape : Shape) (place : Option Running) (call : Begin) (running : Running) → going shape place (Some call) ≡ Some running → begun call ≡ Some running
+pub begins_from : (shape : Shape) (place : Option Running) (call : Begin) (running : Running) → going shape place (Some call) ≡ Some running → begun call ≡ Some running
 begins_from shape None call running goes = (may_begun shape call running (may_begin shape call) refl goes).1
 begins_from shape (Some r) call running goes = absurd (cc)
 
@@ -133,7 +133,7 @@ pub record PathOf (shape : Shape) (call : Begin) (all : List Look) (answer : Ans
   pub path : IsPath shape running all answer
 
 -- a call does not end with its first step
-never_at_once : (shape : Shape) (here : World) (e : Event) (there : World) (answer : Answer) (call : Begin) → step shape here e ≡ Ok (there, Ended answer) → e.begin ≡ Some call → ⊥
+pub never_at_once : (shape : Shape) (here : World) (e : Event) (there : World) (answer : Answer) (call : Begin) → step shape here e ≡ Ok (there, Ended answer) → e.begin ≡ Some call → ⊥
 never_at_once shape here e there answer call made begins =
     elim (stepped shape here e there (Ended answer) made) [
       inl s ↦

@@ -37,7 +37,7 @@ RoundNext round (Goes running) = cond (opens_round running) (round_of running + 
 RoundNext round (Answers A.Busy) = round ≡ 1
 RoundNext round (Answers other) = Unit {0}
 
-round_next : (shape : Shape) (running : Running) (word : ℕ) → IsPlace shape running → RoundNext (round_of running) (advance shape running word)
+pub round_next : (shape : Shape) (running : Running) (word : ℕ) → IsPlace shape running → RoundNext (round_of running) (advance shape running word)
 round_next shape running word place = grind (arith, nat_tests)
 
 -- the words after an access, by their indexes
@@ -104,12 +104,12 @@ NextQuiet w (Goes running) = (opens_round running ≡ false) × Quiet w running
 NextQuiet w (Answers A.Busy) = ⊥
 NextQuiet w (Answers other) = Unit {0}
 
-enqueue_quiet : (shape : Shape) (w : ℕ → ℕ) (item start left : ℕ) (phase : EnqueuePhase) (word : ℕ) → IsPlace shape (R.Enqueue item start left phase) → EnqueueQuiet w phase
+pub enqueue_quiet : (shape : Shape) (w : ℕ → ℕ) (item start left : ℕ) (phase : EnqueuePhase) (word : ℕ) → IsPlace shape (R.Enqueue item start left phase) → EnqueueQuiet w phase
     → word ≡ w (accessed (access shape (R.Enqueue item start left phase))) → moves_head (R.Enqueue item start left phase) word ≡ false → moves_tail (R.Enqueue item start left phase) word ≡ false
     → NextQuiet (words_by (access shape (R.Enqueue item start left phase)) w) (advance shape (R.Enqueue item start left phase) word)
 enqueue_quiet shape w item start left phase word place quiet is no_head no_tail = grind (arith, nat_tests, scan_index-is_slot)
 
-dequeue_quiet : (shape : Shape) (w : ℕ → ℕ) (start left : ℕ) (phase : DequeuePhase) (word : ℕ) → IsPlace shape (R.Dequeue start left phase) → DequeueQuiet w phase
+pub dequeue_quiet : (shape : Shape) (w : ℕ → ℕ) (start left : ℕ) (phase : DequeuePhase) (word : ℕ) → IsPlace shape (R.Dequeue start left phase) → DequeueQuiet w phase
     → word ≡ w (accessed (access shape (R.Dequeue start left phase))) → moves_head (R.Dequeue start left phase) word ≡ false → moves_tail (R.Dequeue start left phase) word ≡ false
     → NextQuiet (words_by (access shape (R.Dequeue start left phase)) w) (advance shape (R.Dequeue start left phase) word)
 dequeue_quiet shape w start left phase word place quiet is no_head no_tail = grind (arith, nat_tests, scan_index-is_slot)
