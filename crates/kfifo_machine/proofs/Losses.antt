@@ -31,7 +31,7 @@ use Rattle.kfifo_machine.specs.Causes.{Look, AllOfRound, looks, looks_from, roun
 use Rattle.kfifo_machine.specs.Rounds.{MovesOn, WinsSome, Disturbed, LostRound, LosesThen, LosesAll, turns_of, BusyHasCause}
 use Rattle.kfifo_machine.proofs.Places.{in_table}
 use Rattle.kfifo_machine.proofs.Schedules.{Some-injective, run_before, run-append, run_on, first_made, made_within, stepped, StepsFrom, Ticks, other_place, own-append}
-use Rattle.kfifo_machine.proofs.Sound.{IsSound, sound, place_is, step_sound}
+use Rattle.kfifo_machine.proofs.Sound.{IsSound, sound, going_place, place_is, step_sound}
 use Rattle.kfifo_machine.proofs.Versions.{one_word}
 use Rattle.kfifo_machine.proofs.Budget.{own_place, own_first, tick_leaves}
 use Rattle.kfifo_machine.proofs.Refusals.{own_step}
@@ -400,3 +400,64 @@ module _ (shape : Shape) (thread : ℕ) (last : Event) (before there : World) (m
   claims : (es : List Event) → Between es × Within es
   claims [] = (between_last, at_last)
   claims (e ∷ es) = let ih = claims es in (between_more e es ih.0 ih.1, within_more e es ih.0 ih.1)
+
+-- a call that begins opens its first round
+begun_open : (call : Begin) (running : Running) → begun call ≡ Some running → (opens_round running ≡ true) × (round_of running ≡ turns_of call)
+begun_open (B.Enqueue item start turns) running is =
+    let same : R.Enqueue item start turns E.LoadEnds ≡ running = Some-injective _ running is in
+    (ap opens_round (sym same), ap round_of (sym same))
+begun_open (B.Dequeue start turns) running is =
+    let same : R.Dequeue start turns D.LoadEnds ≡ running = Some-injective _ running is in
+    (ap opens_round (sym same), ap round_of (sym same))
+begun_open B.Tick running is = absurd (cc)
+
+-- the first event of the call
+first_own_step : (shape : Shape) (thread : ℕ) (call : Begin) (last : Event) (before there : World) → last.thread ≡ thread → step shape before last ≡ Ok (there, Ended A.Busy)
+    → (e : Event) (es : List Event) (here next : World) (outcome : Outcome) → IsSound shape here → IsSound shape next → e.thread ≡ thread → e.begin ≡ Some call → step shape here e ≡ Ok (next, outcome)
+    → AllGoOn (own thread (es ++ last ∷ [])) → run shape (Some next) es ≡ Some before → (0 < turns_of call) × LosesAll shape thread (turns_of call) here (e ∷ (es ++ last ∷ []))
+first_own_step shape thread call last before there mine ends e es here next outcome sound safe own_is begins made on runs =
+    elim (stepped shape here e next outcome made) [
+      inl s ↦
+        let is_begun : begun call ≡ Some s.running = begins_from shape (place_of here e.thread) call s.running (ap (going shape (place_of here e.thread)) (sym begins) ∙ s.goes) in
+        let opens = begun_open call s.running is_begun in
+        let place : IsPlace shape s.running = going_place shape (place_of here e.thread) e.begin s.running (λ r at. place_is shape here e.thread r sound at) s.goes in
+        let some : 0 < round_of s.running = round-some shape s.running place in
+        let both = claims shape thread last before there mine ends es in
+        (let same = opens.1 in omega arith,
+         subst (λ (m : ℕ). LosesAll shape thread m here (e ∷ (es ++ last ∷ []))) opens.1
+           (opens_now shape thread last before there mine ends e es both.0 both.1 here next outcome s.running safe place made own_is s.goes s.there_is opens.0 on runs sound))
+    | inr t ↦
+        let idle : place_of next thread ≡ None = ap (place_of next) (sym own_is) ∙ ap (λ (w : World). place_of w e.thread) t.there_is ∙ tick_leaves shape here e.thread ∙ t.idle in
+        absurd (none_after shape next there thread es last safe idle mine on
+          (run-append shape (Some next) es (last ∷ []) ∙ ap (λ (w : Option World). run shape w (last ∷ [])) runs ∙ ap world_of ends))
+    ]
+
+loses_from : (shape : Shape) (here before there : World) (thread : ℕ) (call : Begin) (between others : List Event) (last : Event) → IsSound shape here → last.thread ≡ thread
+    → step shape before last ≡ Ok (there, Ended A.Busy) → own thread (between ++ last ∷ []) ≡ event thread (Some call) ∷ others → AllGoOn others → run shape (Some here) between ≡ Some before
+    → (0 < turns_of call) × LosesAll shape thread (turns_of call) here (between ++ last ∷ [])
+loses_from shape here before there thread call [] others last sound mine ends first on is =
+    let same : here ≡ before = Some-injective here before is in
+    let made : step shape here last ≡ Ok (there, Ended A.Busy) = ap (λ (w : World). step shape w last) same ∙ ends in
+    let one : own thread (last ∷ []) ≡ last ∷ [] = ap (λ (b : Bool). cond b (last ∷ []) []) (eq-eqb last.thread thread mine) in
+    let both : last ∷ [] ≡ event thread (Some call) ∷ others = sym one ∙ first in
+    let begins : last.begin ≡ Some call = (let h : last ≡ event thread (Some call) = cc in ap (λ (x : Event). x.begin) h) in
+    absurd (never_at_once shape here last there A.Busy call made begins)
+loses_from shape here before there thread call (e ∷ es) others last sound mine ends first on is =
+    let m = first_made shape here e before es is in
+    let later : IsSound shape m.0 = step_sound shape here e m.0 m.1.0 sound m.1.1.0 in
+    elim (own_first thread e (es ++ last ∷ [])) [
+      inl own_is ↦
+        let both : e ∷ own thread (es ++ last ∷ []) ≡ event thread (Some call) ∷ others = sym own_is.1 ∙ first in
+        let begins : e.begin ≡ Some call = (let h : e ≡ event thread (Some call) = cc in ap (λ (x : Event). x.begin) h) in
+        let rest : own thread (es ++ last ∷ []) ≡ others = cc in
+        first_own_step shape thread call last before there mine ends e es here m.0 m.1.0 sound later own_is.0 begins m.1.1.0 (subst AllGoOn (sym rest) on) m.1.1.1
+    | inr other ↦
+        let next = loses_from shape m.0 before there thread call es others last later mine ends (sym other.1 ∙ first) on m.1.1.1 in
+        (next.0, loses_later shape thread (turns_of call) here m.0 m.1.0 e (es ++ last ∷ []) next.0 other.0 m.1.1.0 next.1)
+    ]
+
+-- Busy has its cause
+pub busy_has_cause : (shape : Shape) (threads : ℕ) → BusyHasCause shape threads
+busy_has_cause shape threads = λ thread call old new whole here is.
+    let runs : run shape (Some here) whole.between ≡ Some whole.before = sym (run_on shape (Some (opening shape threads)) here old whole.between is) ∙ whole.reached in
+    (loses_from shape here whole.before whole.world thread call whole.between whole.one_call.others whole.last (sound shape threads old here is) whole.last_own whole.ends whole.one_call.first whole.one_call.go_on runs).1

@@ -5,6 +5,7 @@ use Rattle.kfifo_machine.proofs.Refusals.{leaves_none}
 use Rattle.kfifo_machine.proofs.Laws.{versions_rise, none_returns, others_leave}
 use Rattle.kfifo_machine.proofs.Causes.{full_has_cause}
 use Rattle.kfifo_machine.proofs.Wear.{worn_has_cause}
+use Rattle.kfifo_machine.proofs.Losses.{busy_has_cause}
 use Rattle.kfifo_machine.proofs.schedule.run.Goals as goal
 
 pub returns-clause-no_wrap : goal.returns-clause-no_wrap
@@ -30,3 +31,6 @@ returns-clause-full_has_cause c = full_has_cause c.args.shape c.args.threads
 
 pub returns-clause-worn_has_cause : goal.returns-clause-worn_has_cause
 returns-clause-worn_has_cause c = worn_has_cause c.args.shape c.args.threads
+
+pub returns-clause-busy_has_cause : goal.returns-clause-busy_has_cause
+returns-clause-busy_has_cause c = busy_has_cause c.args.shape c.args.threads
