@@ -13,3 +13,4 @@ pub mod Causes
 pub mod Wear
 pub mod Quiet
 pub mod Losses
+pub mod Ahead
