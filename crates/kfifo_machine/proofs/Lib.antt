@@ -14,3 +14,4 @@ pub mod Wear
 pub mod Quiet
 pub mod Losses
 pub mod Ahead
+pub mod Alone

@@ -1,0 +1,217 @@
+-- A call that nobody disturbs ends within n + 2 rounds.
+use Rattle.std.proofs.Common.{◌≡◌, ◌≢◌, ◌⊎◌, ℕ, zero, suc, ◌+◌, ◌*◌, ◌-◌, ◌%◌, ◌<◌, ◌≤◌, List, [], ◌∷◌, ◌++◌, length, get_or, set, Option, Some, None, Ok, Bool, true, false, refl, sym, ap, ◌∙◌, subst, inl, inr, arith, cond, eqb, eqb-true, eq-eqb}
+use Rattle.std.specs.Prelude.{◌==◌, not, nat_lt, nat_le}
+use Rattle.std.proofs.Math.Nat.{mod-lt, mod-eq_of_lt, mul-le-mul_right}
+use Rattle.std.proofs.lemmas.Bool.{cases_eq, cases_lt, cases_Bool, eqb-false}
+use Rattle.std.proofs.lemmas.Bool.Decides.{nat_tests}
+use Rattle.kfifo_words.specs.declared.shape.Shape.{Shape}
+use Rattle.kfifo_words.specs.Words.{value_of, version_of, ends_word, head_of, tail_of}
+use Rattle.kfifo_words.specs.Ring.{next_segment, distance, slot_at, clock_at}
+use Rattle.kfifo_model.specs.declared.calls.Answer.{Answer}
+use Rattle.kfifo_model.specs.declared.calls.Answer.TheVariants as A
+use Rattle.kfifo_machine.specs.declared.place.Found.TheVariants.{Slot, Nothing}
+use Rattle.kfifo_machine.specs.declared.place.EnqueuePhase.{EnqueuePhase}
+use Rattle.kfifo_machine.specs.declared.place.EnqueuePhase.TheVariants as E
+use Rattle.kfifo_machine.specs.declared.place.DequeuePhase.{DequeuePhase}
+use Rattle.kfifo_machine.specs.declared.place.DequeuePhase.TheVariants as D
+use Rattle.kfifo_machine.specs.declared.place.Running.{Running}
+use Rattle.kfifo_machine.specs.declared.place.Running.TheVariants as R
+use Rattle.kfifo_machine.specs.declared.place.Access.{Access}
+use Rattle.kfifo_machine.specs.declared.place.Access.TheVariants.{Load, Exchange}
+use Rattle.kfifo_machine.specs.declared.place.Next.{Next}
+use Rattle.kfifo_machine.specs.declared.place.Next.TheVariants.{Goes, Answers}
+use Rattle.kfifo_machine.specs.Program.{access, accessed, advance, scan_index, filled_with, head_moved, tail_moved, enqueue_again, dequeue_again}
+use Rattle.kfifo_machine.specs.Places.{IsSlotIndex, IsEnds, IsPlace}
+use Rattle.kfifo_machine.proofs.Places.{scan_index-is_slot}
+use Rattle.kfifo_machine.proofs.Versions.{next_segment-below}
+use Rattle.kfifo_machine.proofs.NoWrap.{head-ends_word, tail-ends_word}
+use Rattle.kfifo_machine.proofs.Quiet.{EnqueueQuiet, DequeueQuiet, words_by}
+use Rattle.kfifo_machine.proofs.Ahead.{distance-below, distance-tail_on, distance-full, distance-head_on, next-apart}
+
+-- how far the tail is ahead
+abbrev pub ahead : Shape → ℕ → ℕ
+ahead shape ends = distance shape.n (head_of ends) (tail_of ends)
+
+-- the first slots of a segment are empty
+abbrev pub EmptyBelow : Shape → (ℕ → ℕ) → ℕ → ℕ → Type 0
+EmptyBelow shape w segment m = (j : ℕ) → j < m → value_of (w (slot_at shape.k segment j)) ≡ 0
+
+-- Why an undisturbed enqueue has rounds enough: the tail has yet so far to go; or the head was moved on and the segment that it
+-- left, where the tail goes next, is empty; or the tail is there
+pub data Room (shape : Shape) (w : ℕ → ℕ) (left ends : ℕ) : Type 0 where
+  Early : shape.n + 1 < left + ahead shape ends → Room shape w left ends
+  Freed : 1 < left → next_segment shape.n (tail_of ends) ≢ head_of ends → EmptyBelow shape w (next_segment shape.n (tail_of ends)) shape.k → Room shape w left ends
+  Ready : EmptyBelow shape w (tail_of ends) shape.k → Room shape w left ends
+
+-- the same before the tail is there
+pub data Moving (shape : Shape) (w : ℕ → ℕ) (left ends : ℕ) : Type 0 where
+  Far : shape.n + 1 < left + ahead shape ends → Moving shape w left ends
+  Near : 1 < left → next_segment shape.n (tail_of ends) ≢ head_of ends → EmptyBelow shape w (next_segment shape.n (tail_of ends)) shape.k → Moving shape w left ends
+
+abbrev pub EnqueueAlone : Shape → (ℕ → ℕ) → ℕ → EnqueuePhase → Type 0
+EnqueueAlone shape w left E.LoadEnds = Room shape w left (w 0)
+EnqueueAlone shape w left (E.ScanTail ends offset) = (w 0 ≡ ends) × Room shape w left ends
+EnqueueAlone shape w left (E.Recheck ends Nothing) = (w 0 ≡ ends) × Moving shape w left ends
+EnqueueAlone shape w left (E.ScanHead ends offset) = (w 0 ≡ ends) × (2 < left) × (next_segment shape.n (tail_of ends) ≡ head_of ends) × EmptyBelow shape w (head_of ends) offset
+EnqueueAlone shape w left (E.MoveHead ends) = (w 0 ≡ ends) × (2 < left) × (next_segment shape.n (tail_of ends) ≡ head_of ends) × EmptyBelow shape w (head_of ends) shape.k
+EnqueueAlone shape w left (E.MoveTail ends) = (w 0 ≡ ends) × (next_segment shape.n (tail_of ends) ≢ head_of ends) × Moving shape w left ends
+EnqueueAlone shape w left other = EnqueueQuiet w other
+
+abbrev pub DequeueAlone : Shape → (ℕ → ℕ) → ℕ → DequeuePhase → Type 0
+DequeueAlone shape w left D.LoadEnds = ahead shape (w 0) < left
+DequeueAlone shape w left (D.ScanHead ends offset) = (w 0 ≡ ends) × (ahead shape ends < left)
+DequeueAlone shape w left (D.Recheck ends Nothing) = (w 0 ≡ ends) × (ahead shape ends < left)
+DequeueAlone shape w left (D.MoveHead ends) = (w 0 ≡ ends) × (ahead shape ends < left) × (tail_of ends ≢ head_of ends)
+DequeueAlone shape w left other = DequeueQuiet w other
+
+abbrev pub Alone : Shape → (ℕ → ℕ) → Running → Type 0
+Alone shape w (R.Enqueue item start left phase) = EnqueueAlone shape w left phase
+Alone shape w (R.Dequeue start left phase) = DequeueAlone shape w left phase
+
+abbrev pub NextAlone : Shape → (ℕ → ℕ) → Next → Type 0
+NextAlone shape w (Goes running) = Alone shape w running
+NextAlone shape w (Answers A.Busy) = ⊥
+NextAlone shape w (Answers other) = Unit {0}
+
+abbrev MovesNoHead : DequeuePhase → Type 0
+MovesNoHead (D.MoveHead ends) = ⊥
+MovesNoHead other = Unit {0}
+
+still_dequeue : (shape : Shape) (w : ℕ → ℕ) (start left : ℕ) (phase : DequeuePhase) (word : ℕ) → MovesNoHead phase → IsPlace shape (R.Dequeue start left phase) → DequeueAlone shape w left phase
+    → word ≡ w (accessed (access shape (R.Dequeue start left phase))) → NextAlone shape (words_by (access shape (R.Dequeue start left phase)) w) (advance shape (R.Dequeue start left phase) word)
+still_dequeue shape w start left phase word still place alone is = grind (arith, nat_tests, scan_index-is_slot)
+
+-- the ends after the head was moved on
+ahead-head_moved : (shape : Shape) (ends : ℕ) → IsEnds shape ends → tail_of ends ≢ head_of ends → ahead shape (head_moved shape ends) + 1 ≡ ahead shape ends
+ahead-head_moved shape ends e apart =
+    let head_in = e.head in
+    let tail_in = e.tail in
+    let on : next_segment shape.n (head_of ends) < shape.n = next_segment-below shape.n (head_of ends) e.head in
+    let h : head_of (head_moved shape ends) ≡ next_segment shape.n (head_of ends) = head-ends_word (next_segment shape.n (head_of ends)) (tail_of ends) (version_of ends + 1) (omega arith) (omega arith) in
+    let t : tail_of (head_moved shape ends) ≡ tail_of ends = tail-ends_word (next_segment shape.n (head_of ends)) (tail_of ends) (version_of ends + 1) (omega arith) (omega arith) in
+    ap (λ (x : ℕ). distance shape.n x (tail_of (head_moved shape ends)) + 1) h ∙ ap (λ (x : ℕ). distance shape.n (next_segment shape.n (head_of ends)) x + 1) t
+    ∙ distance-head_on shape.n (head_of ends) (tail_of ends) e.head e.tail apart
+
+move_dequeue : (shape : Shape) (w : ℕ → ℕ) (start left ends word : ℕ) → IsEnds shape ends → w 0 ≡ ends → ahead shape ends < left → tail_of ends ≢ head_of ends → 0 < left
+    → NextAlone shape (words_by (Exchange 0 ends (head_moved shape ends)) w) (dequeue_again start left)
+move_dequeue shape w start left ends word e same less apart some =
+    let d : ahead shape (head_moved shape ends) + 1 ≡ ahead shape ends = ahead-head_moved shape ends e apart in
+    grind (arith, nat_tests)
+
+dequeue_alone : (shape : Shape) (w : ℕ → ℕ) (start left : ℕ) (phase : DequeuePhase) (word : ℕ) → IsPlace shape (R.Dequeue start left phase) → DequeueAlone shape w left phase
+    → word ≡ w (accessed (access shape (R.Dequeue start left phase))) → NextAlone shape (words_by (access shape (R.Dequeue start left phase)) w) (advance shape (R.Dequeue start left phase) word)
+dequeue_alone shape w start left (D.MoveHead ends) word place alone is = move_dequeue shape w start left ends word place.2.0 alone.0 alone.1 alone.2 place.1
+dequeue_alone shape w start left D.LoadEnds word place alone is = still_dequeue shape w start left D.LoadEnds word tt place alone is
+dequeue_alone shape w start left (D.ScanHead ends offset) word place alone is = still_dequeue shape w start left (D.ScanHead ends offset) word tt place alone is
+dequeue_alone shape w start left (D.Recheck ends Nothing) word place alone is = still_dequeue shape w start left (D.Recheck ends Nothing) word tt place alone is
+dequeue_alone shape w start left (D.Recheck ends (Slot index seen)) word place alone is = still_dequeue shape w start left (D.Recheck ends (Slot index seen)) word tt place alone is
+dequeue_alone shape w start left (D.MoveTail ends index filled) word place alone is = still_dequeue shape w start left (D.MoveTail ends index filled) word tt place alone is
+dequeue_alone shape w start left (D.Take ends index filled) word place alone is = still_dequeue shape w start left (D.Take ends index filled) word tt place alone is
+
+-- the steps of an enqueue from its second load of the ends on
+abbrev IsPlain : EnqueuePhase → Type 0
+IsPlain E.LoadEnds = ⊥
+IsPlain (E.ScanTail ends offset) = ⊥
+IsPlain (E.Recheck ends Nothing) = ⊥
+IsPlain (E.ScanHead ends offset) = ⊥
+IsPlain (E.MoveHead ends) = ⊥
+IsPlain (E.MoveTail ends) = ⊥
+IsPlain other = Unit {0}
+
+plain_alone : (shape : Shape) (w : ℕ → ℕ) (item start left : ℕ) (phase : EnqueuePhase) (word : ℕ) → IsPlace shape (R.Enqueue item start left phase) → IsPlain phase → EnqueueQuiet w phase
+    → word ≡ w (accessed (access shape (R.Enqueue item start left phase))) → NextAlone shape (words_by (access shape (R.Enqueue item start left phase)) w) (advance shape (R.Enqueue item start left phase) word)
+plain_alone shape w item start left phase word place plain quiet is = grind (arith, nat_tests, scan_index-is_slot)
+
+-- a slot of the segment, as a scan names it
+scan-slot : (shape : Shape) (w : ℕ → ℕ) (segment start offset : ℕ) → EmptyBelow shape w segment shape.k → value_of (w (scan_index shape segment start offset)) ≡ 0
+unfolding scan_index
+scan-slot shape w segment start offset empty = empty ((start + offset) % shape.k) (mod-lt (start + offset) shape.some_slot)
+
+scan-first : (shape : Shape) (segment offset : ℕ) → offset < shape.k → scan_index shape segment 0 offset ≡ slot_at shape.k segment offset
+unfolding scan_index
+scan-first shape segment offset less =
+    let z : 0 + offset ≡ offset = omega arith in
+    let m : offset % shape.k ≡ offset = mod-eq_of_lt less in
+    ap (λ (x : ℕ). slot_at shape.k segment (x % shape.k)) z ∙ ap (slot_at shape.k segment) m
+
+-- the ends after the tail was moved on
+tail_moved-tail : (shape : Shape) (ends : ℕ) → IsEnds shape ends → tail_of (tail_moved shape ends) ≡ next_segment shape.n (tail_of ends)
+tail_moved-tail shape ends e =
+    let head_in = e.head in
+    let tail_in = e.tail in
+    let on : next_segment shape.n (tail_of ends) < shape.n = next_segment-below shape.n (tail_of ends) e.tail in
+    tail-ends_word (head_of ends) (next_segment shape.n (tail_of ends)) (version_of ends + 1) (omega arith) (omega arith)
+
+tail_moved-head : (shape : Shape) (ends : ℕ) → IsEnds shape ends → head_of (tail_moved shape ends) ≡ head_of ends
+tail_moved-head shape ends e =
+    let head_in = e.head in
+    let tail_in = e.tail in
+    let on : next_segment shape.n (tail_of ends) < shape.n = next_segment-below shape.n (tail_of ends) e.tail in
+    head-ends_word (head_of ends) (next_segment shape.n (tail_of ends)) (version_of ends + 1) (omega arith) (omega arith)
+
+ahead-tail_moved : (shape : Shape) (ends : ℕ) → IsEnds shape ends → next_segment shape.n (tail_of ends) ≢ head_of ends → (ahead shape (tail_moved shape ends) ≡ ahead shape ends + 1) × (ahead shape ends + 1 < shape.n)
+ahead-tail_moved shape ends e room =
+    let k = distance-tail_on shape.n (head_of ends) (tail_of ends) e.head e.tail room in
+    (ap (λ (x : ℕ). distance shape.n x (tail_of (tail_moved shape ends))) (tail_moved-head shape ends e) ∙ ap (distance shape.n (head_of ends)) (tail_moved-tail shape ends e) ∙ k.0, k.1)
+
+head_moved-tail : (shape : Shape) (ends : ℕ) → IsEnds shape ends → tail_of (head_moved shape ends) ≡ tail_of ends
+head_moved-tail shape ends e =
+    let head_in = e.head in
+    let tail_in = e.tail in
+    let on : next_segment shape.n (head_of ends) < shape.n = next_segment-below shape.n (head_of ends) e.head in
+    tail-ends_word (next_segment shape.n (head_of ends)) (tail_of ends) (version_of ends + 1) (omega arith) (omega arith)
+
+head_moved-head : (shape : Shape) (ends : ℕ) → IsEnds shape ends → head_of (head_moved shape ends) ≡ next_segment shape.n (head_of ends)
+head_moved-head shape ends e =
+    let head_in = e.head in
+    let tail_in = e.tail in
+    let on : next_segment shape.n (head_of ends) < shape.n = next_segment-below shape.n (head_of ends) e.head in
+    head-ends_word (next_segment shape.n (head_of ends)) (tail_of ends) (version_of ends + 1) (omega arith) (omega arith)
+
+-- an exchange of the ends word leaves the slots
+slots_stay : (w : ℕ → ℕ) (from to i : ℕ) → 0 < i → words_by (Exchange 0 from to) w i ≡ w i
+slots_stay w from to i above = grind (arith, nat_tests)
+
+ends_change : (w : ℕ → ℕ) (from to : ℕ) → w 0 ≡ from → words_by (Exchange 0 from to) w 0 ≡ to
+ends_change w from to same = grind (arith, nat_tests)
+
+empty_stays : (shape : Shape) (w : ℕ → ℕ) (from to segment m : ℕ) → EmptyBelow shape w segment m → EmptyBelow shape (words_by (Exchange 0 from to) w) segment m
+empty_stays shape w from to segment m empty j less = ap value_of (slots_stay w from to (slot_at shape.k segment j) (omega arith)) ∙ empty j less
+
+-- a new round, which is not the last one that was left
+again_alone : (shape : Shape) (w : ℕ → ℕ) (item start left : ℕ) → 1 < left → Room shape w (left - 1) (w 0) → NextAlone shape w (enqueue_again item start left)
+again_alone shape w item start left more room = by_test (left == 1) refl
+  where
+    by_test : (b : Bool) → (left == 1) ≡ b → NextAlone shape w (cond b (Answers A.Busy) (Goes (R.Enqueue item start (left - 1) E.LoadEnds)))
+    by_test true is = absurd (let e : left ≡ 1 = eqb-true left 1 is in omega arith)
+    by_test false is = room
+
+-- the tail was moved on
+tail_alone : (shape : Shape) (w : ℕ → ℕ) (item start left ends : ℕ) → IsEnds shape ends → w 0 ≡ ends → next_segment shape.n (tail_of ends) ≢ head_of ends → Moving shape w left ends
+    → NextAlone shape (words_by (Exchange 0 ends (tail_moved shape ends)) w) (enqueue_again item start left)
+tail_alone shape w item start left ends e same room (Far far) =
+    let k = ahead-tail_moved shape ends e room in
+    let changed : words_by (Exchange 0 ends (tail_moved shape ends)) w 0 ≡ tail_moved shape ends = ends_change w ends (tail_moved shape ends) same in
+    let now : shape.n + 1 < (left - 1) + ahead shape (tail_moved shape ends) = let x = k.0 in let y = k.1 in omega arith in
+    let two : 1 < left = let y = k.1 in omega arith in
+    again_alone shape (words_by (Exchange 0 ends (tail_moved shape ends)) w) item start left two
+      (subst (Room shape (words_by (Exchange 0 ends (tail_moved shape ends)) w) (left - 1)) (sym changed) (Early now))
+tail_alone shape w item start left ends e same room (Near two apart empty) =
+    let changed : words_by (Exchange 0 ends (tail_moved shape ends)) w 0 ≡ tail_moved shape ends = ends_change w ends (tail_moved shape ends) same in
+    let empty_now : EmptyBelow shape (words_by (Exchange 0 ends (tail_moved shape ends)) w) (next_segment shape.n (tail_of ends)) shape.k = empty_stays shape w ends (tail_moved shape ends) (next_segment shape.n (tail_of ends)) shape.k empty in
+    again_alone shape (words_by (Exchange 0 ends (tail_moved shape ends)) w) item start left two
+      (subst (Room shape (words_by (Exchange 0 ends (tail_moved shape ends)) w) (left - 1)) (sym changed)
+        (Ready (subst (λ (s : ℕ). EmptyBelow shape (words_by (Exchange 0 ends (tail_moved shape ends)) w) s shape.k) (sym (tail_moved-tail shape ends e)) empty_now)))
+
+-- the head was moved on, off an empty segment
+head_alone : (shape : Shape) (w : ℕ → ℕ) (item start left ends : ℕ) → IsEnds shape ends → w 0 ≡ ends → 2 < left → next_segment shape.n (tail_of ends) ≡ head_of ends → EmptyBelow shape w (head_of ends) shape.k
+    → NextAlone shape (words_by (Exchange 0 ends (head_moved shape ends)) w) (enqueue_again item start left)
+head_alone shape w item start left ends e same more full empty =
+    let changed : words_by (Exchange 0 ends (head_moved shape ends)) w 0 ≡ head_moved shape ends = ends_change w ends (head_moved shape ends) same in
+    let next_is : next_segment shape.n (tail_of (head_moved shape ends)) ≡ head_of ends = ap (next_segment shape.n) (head_moved-tail shape ends e) ∙ full in
+    let empty_now : EmptyBelow shape (words_by (Exchange 0 ends (head_moved shape ends)) w) (head_of ends) shape.k = empty_stays shape w ends (head_moved shape ends) (head_of ends) shape.k empty in
+    again_alone shape (words_by (Exchange 0 ends (head_moved shape ends)) w) item start left (omega arith)
+      (subst (Room shape (words_by (Exchange 0 ends (head_moved shape ends)) w) (left - 1)) (sym changed)
+        (Freed (omega arith)
+          (λ meet. next-apart shape.n (head_of ends) shape.some_segments e.head (sym (sym next_is ∙ meet ∙ head_moved-head shape ends e)))
+          (subst (λ (s : ℕ). EmptyBelow shape (words_by (Exchange 0 ends (head_moved shape ends)) w) s shape.k) (sym next_is) empty_now)))
