@@ -15,3 +15,4 @@ pub mod Quiet
 pub mod Losses
 pub mod Ahead
 pub mod Alone
+pub mod Undisturbed

@@ -59,13 +59,13 @@ after_by : (a : Access) (words : List ℕ) (i : ℕ) → accessed a < length wor
 after_by (Load index) words i h = refl
 after_by (Exchange index from to) words i h = exchanged_by words index from to i h
 
-word-moved : (shape : Shape) (here : World) (thread : ℕ) (running : Running) (i : ℕ) → IsSound shape here → IsPlace shape running → word_at (moved shape here thread running) i ≡ words_by (access shape running) (word_at here) i
+pub word-moved : (shape : Shape) (here : World) (thread : ℕ) (running : Running) (i : ℕ) → IsSound shape here → IsPlace shape running → word_at (moved shape here thread running) i ≡ words_by (access shape running) (word_at here) i
 unfolding moved word_at
 word-moved shape here thread running i sound place =
     let within : accessed (access shape running) < length here.words = omega (arith, in_table shape running place, sound.size) in
     after_by (access shape running) here.words i within
 
-quiet_step : (shape : Shape) (here : World) (running : Running) → IsPlace shape running → Quiet (word_at here) running → moves_head running (found shape here running) ≡ false → moves_tail running (found shape here running) ≡ false
+pub quiet_step : (shape : Shape) (here : World) (running : Running) → IsPlace shape running → Quiet (word_at here) running → moves_head running (found shape here running) ≡ false → moves_tail running (found shape here running) ≡ false
     → NextQuiet (words_by (access shape running) (word_at here)) (advance shape running (found shape here running))
 unfolding found
 quiet_step shape here (R.Enqueue item start left phase) place quiet no_head no_tail = enqueue_quiet shape (word_at here) item start left phase (word_at here (accessed (access shape (R.Enqueue item start left phase)))) place quiet refl no_head no_tail
@@ -402,7 +402,7 @@ module _ (shape : Shape) (thread : ℕ) (last : Event) (before there : World) (m
   claims (e ∷ es) = let ih = claims es in (between_more e es ih.0 ih.1, within_more e es ih.0 ih.1)
 
 -- a call that begins opens its first round
-begun_open : (call : Begin) (running : Running) → begun call ≡ Some running → (opens_round running ≡ true) × (round_of running ≡ turns_of call)
+pub begun_open : (call : Begin) (running : Running) → begun call ≡ Some running → (opens_round running ≡ true) × (round_of running ≡ turns_of call)
 begun_open (B.Enqueue item start turns) running is =
     let same : R.Enqueue item start turns E.LoadEnds ≡ running = Some-injective _ running is in
     (ap opens_round (sym same), ap round_of (sym same))

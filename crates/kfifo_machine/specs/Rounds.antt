@@ -1,5 +1,5 @@
 -- Rounds that were lost, and what a call that was answered Busy has behind it.
-use Rattle.std.specs.Prelude.{◌≡◌, ◌≢◌, ℕ, zero, suc, ◌+◌, ◌⊎◌, Bool, true, List, [], ◌∷◌, ◌++◌, Option, Some}
+use Rattle.std.specs.Prelude.{◌≡◌, ◌≢◌, ◌≤◌, ℕ, zero, suc, ◌+◌, ◌⊎◌, Bool, true, List, [], ◌∷◌, ◌++◌, Option, Some}
 use Rattle.kfifo_words.specs.declared.shape.Shape.{Shape}
 use Rattle.kfifo_model.specs.declared.calls.Answer.TheVariants.{Busy}
 use Rattle.kfifo_machine.specs.declared.place.Running.{Running}
@@ -75,3 +75,21 @@ turns_of B.Tick = 0
 abbrev pub BusyHasCause : Shape → ℕ → Type 0
 BusyHasCause shape threads = (thread : ℕ) (call : Begin) (old new : List Event) (whole : WholeRun shape threads thread call Busy old new) (here : World)
     → after shape threads old ≡ Some here → LosesAll shape thread (turns_of call) here (whole.between ++ whole.last ∷ [])
+
+-- after the thread's first event here and before its last, another thread wins an exchange
+pub record OtherWins (shape : Shape) (thread : ℕ) (here : World) (events : List Event) : Type 0 where
+  pub before : List Event
+  pub event : Event
+  pub after : List Event
+  pub world : World
+  pub split : events ≡ before ++ event ∷ after
+  pub reached : run shape (Some here) before ≡ Some world
+  pub begun_before : own thread before ≢ []
+  pub ends_after : own thread after ≢ []
+  pub other : event.thread ≢ thread
+  pub wins : WinsSome shape world event
+
+-- A call of n + 2 rounds or more is answered Busy only where another thread won an exchange between its first and its last event
+abbrev pub BusyIsDisturbed : Shape → ℕ → Type 0
+BusyIsDisturbed shape threads = (thread : ℕ) (call : Begin) (old new : List Event) (whole : WholeRun shape threads thread call Busy old new) (here : World)
+    → after shape threads old ≡ Some here → shape.n + 2 ≤ turns_of call → OtherWins shape thread here (whole.between ++ whole.last ∷ [])
