@@ -27,7 +27,7 @@ use Rattle.kfifo_machine.proofs.Sound.{IsSound, sound, going_place, place_is, st
 use Rattle.kfifo_machine.proofs.Versions.{ticked-other}
 use Rattle.kfifo_machine.proofs.Budget.{own_place, own_first, tick_leaves}
 use Rattle.kfifo_machine.proofs.Refusals.{own_step}
-use Rattle.kfifo_machine.proofs.Paths.{none_after, answered, begins_from, never_at_once}
+use Rattle.kfifo_machine.proofs.Paths.{none_after, answered, begins_from, begun_goes, never_at_once}
 use Rattle.kfifo_machine.proofs.Quiet.{words_by}
 use Rattle.kfifo_machine.proofs.Losses.{word-moved, begun_open}
 use Rattle.kfifo_machine.proofs.Alone.{Alone, NextAlone, SameBelow, alone_on, alone_same, begun_alone}
@@ -162,3 +162,79 @@ alone_run shape thread last before there mine ends (e ∷ es) here running sound
     by_next next_world safe goes_on runs others (Answers answer) at_next so =
         absurd (none_after shape next_world there thread es last safe at_next mine goes_on
           (run-append shape (Some next_world) es (last ∷ []) ∙ ap (λ (w : Option World). run shape w (last ∷ [])) runs ∙ ap world_of ends))
+
+own_cons : (thread : ℕ) (e : Event) (es : List Event) → e.thread ≡ thread → own thread (e ∷ es) ≡ e ∷ own thread es
+own_cons thread e es mine = ap (λ (b : Bool). cond b (e ∷ own thread es) (own thread es)) (eq-eqb e.thread thread mine)
+
+not_empty : (e : Event) (es xs : List Event) → xs ≡ e ∷ es → xs ≢ []
+not_empty e es xs is none = let h : e ∷ es ≡ [] = sym is ∙ none in cc
+
+-- from the first event of the call
+first_alone : (shape : Shape) (thread : ℕ) (call : Begin) (last : Event) (before there : World) → last.thread ≡ thread → step shape before last ≡ Ok (there, Ended A.Busy)
+    → (e : Event) (es : List Event) (here next : World) (outcome : Outcome) → IsSound shape here → IsSound shape next → e.thread ≡ thread → e.begin ≡ Some call → step shape here e ≡ Ok (next, outcome)
+    → AllGoOn (own thread (es ++ last ∷ [])) → run shape (Some next) es ≡ Some before → shape.n + 2 ≤ turns_of call → WinsLater shape thread next (es ++ last ∷ [])
+first_alone shape thread call last before there mine ends e es here next outcome sound safe own_is begins made on runs many =
+    elim (stepped shape here e next outcome made) [
+      inl s ↦
+        let is_begun : begun call ≡ Some s.running = begins_from shape (place_of here e.thread) call s.running (ap (going shape (place_of here e.thread)) (sym begins) ∙ s.goes) in
+        let opens = begun_open call s.running is_begun in
+        let enough : shape.n + 2 ≤ round_of s.running = (let rounds = opens.1 in omega arith) in
+        let place : IsPlace shape s.running = going_place shape (place_of here e.thread) e.begin s.running (λ r at. place_is shape here e.thread r sound at) s.goes in
+        let alone : Alone shape (word_at here) s.running = begun_alone shape (word_at here) s.running (sound-ends shape here sound) opens.0 enough in
+        let goes = begun_goes shape call s.running (found shape here s.running) is_begun (advance shape s.running (found shape here s.running)) refl in
+        let at_next : place_of next e.thread ≡ place_after (advance shape s.running (found shape here s.running)) =
+          ap (λ (w : World). place_of w e.thread) s.there_is ∙ own_place shape here e.thread s.running (made_within shape here e next outcome made) in
+        let so : NextAlone shape (word_at next) (Goes goes.0) = subst (NextAlone shape (word_at next)) goes.1 (own_alone shape here next e.thread s.running sound safe place s.there_is at_next alone) in
+        alone_run shape thread last before there mine ends es next goes.0 safe (ap (place_of next) (sym own_is) ∙ at_next ∙ ap place_after goes.1) so on runs
+    | inr t ↦
+        let idle : place_of next thread ≡ None = ap (place_of next) (sym own_is) ∙ ap (λ (w : World). place_of w e.thread) t.there_is ∙ tick_leaves shape here e.thread ∙ t.idle in
+        absurd (none_after shape next there thread es last safe idle mine on
+          (run-append shape (Some next) es (last ∷ []) ∙ ap (λ (w : Option World). run shape w (last ∷ [])) runs ∙ ap world_of ends))
+    ]
+
+disturbed_from : (shape : Shape) (here before there : World) (thread : ℕ) (call : Begin) (between others : List Event) (last : Event) → IsSound shape here → last.thread ≡ thread
+    → step shape before last ≡ Ok (there, Ended A.Busy) → own thread (between ++ last ∷ []) ≡ event thread (Some call) ∷ others → AllGoOn others → run shape (Some here) between ≡ Some before
+    → shape.n + 2 ≤ turns_of call → OtherWins shape thread here (between ++ last ∷ [])
+disturbed_from shape here before there thread call [] others last sound mine ends first on is many =
+    let same : here ≡ before = Some-injective here before is in
+    let made : step shape here last ≡ Ok (there, Ended A.Busy) = ap (λ (w : World). step shape w last) same ∙ ends in
+    let both : last ∷ [] ≡ event thread (Some call) ∷ others = sym (own_single thread last mine) ∙ first in
+    let begins : last.begin ≡ Some call = (let h : last ≡ event thread (Some call) = cc in ap (λ (x : Event). x.begin) h) in
+    absurd (never_at_once shape here last there A.Busy call made begins)
+disturbed_from shape here before there thread call (e ∷ es) others last sound mine ends first on is many =
+    let m = first_made shape here e before es is in
+    let later : IsSound shape m.0 = step_sound shape here e m.0 m.1.0 sound m.1.1.0 in
+    elim (own_first thread e (es ++ last ∷ [])) [
+      inl own_is ↦
+        let both : e ∷ own thread (es ++ last ∷ []) ≡ event thread (Some call) ∷ others = sym own_is.1 ∙ first in
+        let begins : e.begin ≡ Some call = (let h : e ≡ event thread (Some call) = cc in ap (λ (x : Event). x.begin) h) in
+        let rest : own thread (es ++ last ∷ []) ≡ others = cc in
+        let w : WinsLater shape thread m.0 (es ++ last ∷ []) = first_alone shape thread call last before there mine ends e es here m.0 m.1.0 sound later own_is.0 begins m.1.1.0 (subst AllGoOn (sym rest) on) m.1.1.1 many in
+        let all : WinsLater shape thread here (e ∷ (es ++ last ∷ [])) = later_more shape thread here m.0 m.1.0 e (es ++ last ∷ []) m.1.1.0 w in
+        record {
+          before = e ∷ w.before; event = w.event; after = w.after; world = w.world;
+          split = ap (λ (xs : List Event). e ∷ xs) w.split;
+          reached = ap (λ (o : Option World). run shape o w.before) (ap world_of m.1.1.0) ∙ w.reached;
+          begun_before = not_empty e (own thread w.before) (own thread (e ∷ w.before)) (own_cons thread e w.before own_is.0);
+          ends_after = w.ends_after; other = w.other; wins = w.wins;
+        }
+    | inr other ↦
+        let w : OtherWins shape thread m.0 (es ++ last ∷ []) = disturbed_from shape m.0 before there thread call es others last later mine ends (sym other.1 ∙ first) on m.1.1.1 many in
+        record {
+          before = e ∷ w.before; event = w.event; after = w.after; world = w.world;
+          split = ap (λ (xs : List Event). e ∷ xs) w.split;
+          reached = ap (λ (o : Option World). run shape o w.before) (ap world_of m.1.1.0) ∙ w.reached;
+          begun_before = λ none. w.begun_before (skipped w.before (own_first thread e w.before) other.0 none);
+          ends_after = w.ends_after; other = w.other; wins = w.wins;
+        }
+    ]
+  where
+    skipped : (xs : List Event) → ((e.thread ≡ thread) × (own thread (e ∷ xs) ≡ e ∷ own thread xs)) ⊎ ((thread ≢ e.thread) × (own thread (e ∷ xs) ≡ own thread xs)) → thread ≢ e.thread → own thread (e ∷ xs) ≡ [] → own thread xs ≡ []
+    skipped xs (inl k) apart none = absurd (apart (sym k.0))
+    skipped xs (inr k) apart none = sym k.1 ∙ none
+
+-- Busy after n + 2 rounds is another's doing
+pub busy_is_disturbed : (shape : Shape) (threads : ℕ) → BusyIsDisturbed shape threads
+busy_is_disturbed shape threads = λ thread call old new whole here is many.
+    let runs : run shape (Some here) whole.between ≡ Some whole.before = sym (run_on shape (Some (opening shape threads)) here old whole.between is) ∙ whole.reached in
+    disturbed_from shape here whole.before whole.world thread call whole.between whole.one_call.others whole.last (sound shape threads old here is) whole.last_own whole.ends whole.one_call.first whole.one_call.go_on runs many
