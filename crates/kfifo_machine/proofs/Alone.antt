@@ -1,13 +1,12 @@
 -- A call that nobody disturbs ends within n + 2 rounds.
-use Rattle.std.proofs.Common.{◌≡◌, ◌≢◌, ◌⊎◌, ℕ, zero, suc, ◌+◌, ◌*◌, ◌-◌, ◌%◌, ◌<◌, ◌≤◌, List, [], ◌∷◌, ◌++◌, length, get_or, set, Option, Some, None, Ok, Bool, true, false, refl, sym, ap, ◌∙◌, subst, inl, inr, arith, cond, eqb, eqb-true, eq-eqb}
-use Rattle.std.specs.Prelude.{◌==◌, not, nat_lt, nat_le}
+use Rattle.std.proofs.Common.{◌≡◌, ◌≢◌, ℕ, suc, ◌+◌, ◌*◌, ◌-◌, ◌%◌, ◌<◌, ◌≤◌, Bool, true, false, refl, sym, ap, ◌∙◌, subst, inl, inr, arith, cond, eqb-true}
+use Rattle.std.specs.Prelude.{◌==◌, not}
 use Rattle.std.proofs.Math.Nat.{mod-lt, mod-eq_of_lt, mul-le-mul_right}
-use Rattle.std.proofs.lemmas.Bool.{cases_eq, cases_lt, cases_Bool, eqb-false}
+use Rattle.std.proofs.lemmas.Bool.{cases_eq, eqb-false}
 use Rattle.std.proofs.lemmas.Bool.Decides.{nat_tests}
 use Rattle.kfifo_words.specs.declared.shape.Shape.{Shape}
-use Rattle.kfifo_words.specs.Words.{value_of, version_of, ends_word, head_of, tail_of}
+use Rattle.kfifo_words.specs.Words.{value_of, version_of, head_of, tail_of}
 use Rattle.kfifo_words.specs.Ring.{next_segment, distance, slot_at, clock_at}
-use Rattle.kfifo_model.specs.declared.calls.Answer.{Answer}
 use Rattle.kfifo_model.specs.declared.calls.Answer.TheVariants as A
 use Rattle.kfifo_machine.specs.declared.place.Found.TheVariants.{Slot, Nothing}
 use Rattle.kfifo_machine.specs.declared.place.EnqueuePhase.{EnqueuePhase}
@@ -16,12 +15,11 @@ use Rattle.kfifo_machine.specs.declared.place.DequeuePhase.{DequeuePhase}
 use Rattle.kfifo_machine.specs.declared.place.DequeuePhase.TheVariants as D
 use Rattle.kfifo_machine.specs.declared.place.Running.{Running}
 use Rattle.kfifo_machine.specs.declared.place.Running.TheVariants as R
-use Rattle.kfifo_machine.specs.declared.place.Access.{Access}
-use Rattle.kfifo_machine.specs.declared.place.Access.TheVariants.{Load, Exchange}
+use Rattle.kfifo_machine.specs.declared.place.Access.TheVariants.{Exchange}
 use Rattle.kfifo_machine.specs.declared.place.Next.{Next}
 use Rattle.kfifo_machine.specs.declared.place.Next.TheVariants.{Goes, Answers}
-use Rattle.kfifo_machine.specs.Program.{access, accessed, advance, scan_index, filled_with, head_moved, tail_moved, enqueue_again, dequeue_again}
-use Rattle.kfifo_machine.specs.Places.{IsSlotIndex, IsEnds, IsPlace}
+use Rattle.kfifo_machine.specs.Program.{access, accessed, advance, scan_index, head_moved, tail_moved, enqueue_again, dequeue_again}
+use Rattle.kfifo_machine.specs.Places.{IsEnds, IsPlace}
 use Rattle.kfifo_machine.specs.Causes.{round_of}
 use Rattle.kfifo_machine.proofs.Places.{scan_index-is_slot}
 use Rattle.kfifo_machine.proofs.Versions.{next_segment-below}
@@ -196,13 +194,13 @@ tail_alone shape w item start left ends e same room (Far far) =
     let now : shape.n + 1 < (left - 1) + ahead shape (tail_moved shape ends) = let x = k.0 in let y = k.1 in omega arith in
     let two : 1 < left = let y = k.1 in omega arith in
     again_alone shape (words_by (Exchange 0 ends (tail_moved shape ends)) w) item start left two
-      (subst (Room shape (words_by (Exchange 0 ends (tail_moved shape ends)) w) (left - 1)) (sym changed) (Early now))
+    (subst (Room shape (words_by (Exchange 0 ends (tail_moved shape ends)) w) (left - 1)) (sym changed) (Early now))
 tail_alone shape w item start left ends e same room (Near two apart empty) =
     let changed : words_by (Exchange 0 ends (tail_moved shape ends)) w 0 ≡ tail_moved shape ends = ends_change w ends (tail_moved shape ends) same in
     let empty_now : EmptyBelow shape (words_by (Exchange 0 ends (tail_moved shape ends)) w) (next_segment shape.n (tail_of ends)) shape.k = empty_stays shape w ends (tail_moved shape ends) (next_segment shape.n (tail_of ends)) shape.k empty in
     again_alone shape (words_by (Exchange 0 ends (tail_moved shape ends)) w) item start left two
-      (subst (Room shape (words_by (Exchange 0 ends (tail_moved shape ends)) w) (left - 1)) (sym changed)
-        (Ready (subst (λ (s : ℕ). EmptyBelow shape (words_by (Exchange 0 ends (tail_moved shape ends)) w) s shape.k) (sym (tail_moved-tail shape ends e)) empty_now)))
+    (subst (Room shape (words_by (Exchange 0 ends (tail_moved shape ends)) w) (left - 1)) (sym changed)
+    (Ready (subst (λ (s : ℕ). EmptyBelow shape (words_by (Exchange 0 ends (tail_moved shape ends)) w) s shape.k) (sym (tail_moved-tail shape ends e)) empty_now)))
 
 -- the head was moved on, off an empty segment
 head_alone : (shape : Shape) (w : ℕ → ℕ) (item start left ends : ℕ) → IsEnds shape ends → w 0 ≡ ends → 2 < left → next_segment shape.n (tail_of ends) ≡ head_of ends → EmptyBelow shape w (head_of ends) shape.k
@@ -212,10 +210,10 @@ head_alone shape w item start left ends e same more full empty =
     let next_is : next_segment shape.n (tail_of (head_moved shape ends)) ≡ head_of ends = ap (next_segment shape.n) (head_moved-tail shape ends e) ∙ full in
     let empty_now : EmptyBelow shape (words_by (Exchange 0 ends (head_moved shape ends)) w) (head_of ends) shape.k = empty_stays shape w ends (head_moved shape ends) (head_of ends) shape.k empty in
     again_alone shape (words_by (Exchange 0 ends (head_moved shape ends)) w) item start left (omega arith)
-      (subst (Room shape (words_by (Exchange 0 ends (head_moved shape ends)) w) (left - 1)) (sym changed)
-        (Freed (omega arith)
-          (λ meet. next-apart shape.n (head_of ends) shape.some_segments e.head (sym (sym next_is ∙ meet ∙ head_moved-head shape ends e)))
-          (subst (λ (s : ℕ). EmptyBelow shape (words_by (Exchange 0 ends (head_moved shape ends)) w) s shape.k) (sym next_is) empty_now)))
+    (subst (Room shape (words_by (Exchange 0 ends (head_moved shape ends)) w) (left - 1)) (sym changed)
+    (Freed (omega arith)
+    (λ meet. next-apart shape.n (head_of ends) shape.some_segments e.head (sym (sym next_is ∙ meet ∙ head_moved-head shape ends e)))
+    (subst (λ (s : ℕ). EmptyBelow shape (words_by (Exchange 0 ends (head_moved shape ends)) w) s shape.k) (sym next_is) empty_now)))
 
 -- an enqueue's step
 enqueue_alone : (shape : Shape) (w : ℕ → ℕ) (item start left : ℕ) (phase : EnqueuePhase) (word : ℕ) → IsPlace shape (R.Enqueue item start left phase) → EnqueueAlone shape w left phase
@@ -227,13 +225,15 @@ enqueue_alone shape w item start left (E.ScanTail ends offset) word place alone 
     moving filled (Early far) = Far far
     moving filled (Freed two apart empty) = Near two apart empty
     moving filled (Ready empty) = absurd (filled (ap value_of is ∙ scan-slot shape w (tail_of ends) start offset empty))
+
     by_probes : (b : Bool) → value_of word ≢ 0
         → NextAlone shape w (cond b (Goes (R.Enqueue item start left (E.Recheck ends Nothing))) (Goes (R.Enqueue item start left (E.ScanTail ends (offset + 1)))))
     by_probes true filled = (alone.0, moving filled alone.1)
     by_probes false filled = alone
+
     by_value : (b : Bool) → (value_of word == 0) ≡ b
         → NextAlone shape w (cond b (Goes (R.Enqueue item start left (E.Recheck ends (Slot (scan_index shape (tail_of ends) start offset) word))))
-            (cond (offset + 1 == shape.probes) (Goes (R.Enqueue item start left (E.Recheck ends Nothing))) (Goes (R.Enqueue item start left (E.ScanTail ends (offset + 1))))))
+        (cond (offset + 1 == shape.probes) (Goes (R.Enqueue item start left (E.Recheck ends Nothing))) (Goes (R.Enqueue item start left (E.ScanTail ends (offset + 1))))))
     by_value true empty = (alone.0, sym is)
     by_value false filled = by_probes (offset + 1 == shape.probes) (eqb-false (value_of word) 0 filled)
 enqueue_alone shape w item start left (E.Recheck ends Nothing) word place alone is = by_ends (word == ends) refl
@@ -241,35 +241,41 @@ enqueue_alone shape w item start left (E.Recheck ends Nothing) word place alone 
     many : next_segment shape.n (tail_of ends) ≡ head_of ends → Moving shape w left ends → 2 < left
     many full (Far far) = let d : distance shape.n (head_of ends) (tail_of ends) + 1 ≡ shape.n = distance-full shape.n (head_of ends) (tail_of ends) place.4.head place.4.tail full in omega arith
     many full (Near two apart empty) = absurd (apart full)
+
     by_last : (b : Bool) → next_segment shape.n (tail_of ends) ≢ head_of ends → NextAlone shape w (cond b (Answers A.Worn) (Goes (R.Enqueue item start left (E.MoveTail ends))))
     by_last true room = tt
     by_last false room = (alone.0, room, alone.1)
+
     by_ring : (b : Bool) → (next_segment shape.n (tail_of ends) == head_of ends) ≡ b
         → NextAlone shape w (cond b (Goes (R.Enqueue item start left (E.ScanHead ends 0))) (cond (version_of ends == shape.last) (Answers A.Worn) (Goes (R.Enqueue item start left (E.MoveTail ends)))))
     by_ring true full = let same : next_segment shape.n (tail_of ends) ≡ head_of ends = eqb-true (next_segment shape.n (tail_of ends)) (head_of ends) full in (alone.0, many same alone.1, same, λ j less. absurd (omega arith))
     by_ring false room = by_last (version_of ends == shape.last) (eqb-false (next_segment shape.n (tail_of ends)) (head_of ends) room)
+
     by_ends : (b : Bool) → (word == ends) ≡ b
         → NextAlone shape w (cond (not b) (enqueue_again item start left)
-            (cond (next_segment shape.n (tail_of ends) == head_of ends) (Goes (R.Enqueue item start left (E.ScanHead ends 0))) (cond (version_of ends == shape.last) (Answers A.Worn) (Goes (R.Enqueue item start left (E.MoveTail ends))))))
+        (cond (next_segment shape.n (tail_of ends) == head_of ends) (Goes (R.Enqueue item start left (E.ScanHead ends 0))) (cond (version_of ends == shape.last) (Answers A.Worn) (Goes (R.Enqueue item start left (E.MoveTail ends))))))
     by_ends true same = by_ring (next_segment shape.n (tail_of ends) == head_of ends) refl
     by_ends false other = absurd (eqb-false word ends other (is ∙ alone.0))
 enqueue_alone shape w item start left (E.ScanHead ends offset) word place alone is = by_value (value_of word == 0) refl
   where
     empty_more : value_of word ≡ 0 → EmptyBelow shape w (head_of ends) (offset + 1)
     empty_more empty j less = elim (cases_eq j offset) [
-        inl same ↦ ap (λ (x : ℕ). value_of (w (slot_at shape.k (head_of ends) x))) same ∙ ap (λ (x : ℕ). value_of (w x)) (sym (scan-first shape (head_of ends) offset place.4.1)) ∙ ap value_of (sym is) ∙ empty
+      | inl same ↦ ap (λ (x : ℕ). value_of (w (slot_at shape.k (head_of ends) x))) same ∙ ap (λ (x : ℕ). value_of (w x)) (sym (scan-first shape (head_of ends) offset place.4.1)) ∙ ap value_of (sym is) ∙ empty
       | inr ne ↦ alone.3 j (omega arith)
-      ]
+    ]
+
     by_last : (b : Bool) → EmptyBelow shape w (head_of ends) shape.k → NextAlone shape w (cond b (Answers A.Worn) (Goes (R.Enqueue item start left (E.MoveHead ends))))
     by_last true empty = tt
     by_last false empty = (alone.0, alone.1, alone.2, empty)
+
     by_end : (b : Bool) → (offset + 1 == shape.k) ≡ b → value_of word ≡ 0
         → NextAlone shape w (cond (not b) (Goes (R.Enqueue item start left (E.ScanHead ends (offset + 1)))) (cond (version_of ends == shape.last) (Answers A.Worn) (Goes (R.Enqueue item start left (E.MoveHead ends)))))
     by_end true all empty = by_last (version_of ends == shape.last) (subst (EmptyBelow shape w (head_of ends)) (eqb-true (offset + 1) shape.k all) (empty_more empty))
     by_end false some empty = (alone.0, alone.1, alone.2, empty_more empty)
+
     by_value : (b : Bool) → (value_of word == 0) ≡ b
         → NextAlone shape w (cond (not b) (Goes (R.Enqueue item start left (E.ConfirmFull ends)))
-            (cond (not (offset + 1 == shape.k)) (Goes (R.Enqueue item start left (E.ScanHead ends (offset + 1)))) (cond (version_of ends == shape.last) (Answers A.Worn) (Goes (R.Enqueue item start left (E.MoveHead ends))))))
+        (cond (not (offset + 1 == shape.k)) (Goes (R.Enqueue item start left (E.ScanHead ends (offset + 1)))) (cond (version_of ends == shape.last) (Answers A.Worn) (Goes (R.Enqueue item start left (E.MoveHead ends))))))
     by_value true empty = by_end (offset + 1 == shape.k) refl (eqb-true (value_of word) 0 empty)
     by_value false filled = alone.0
 enqueue_alone shape w item start left (E.MoveHead ends) word place alone is = head_alone shape w item start left ends place.4.0 alone.0 alone.1 alone.2 alone.3

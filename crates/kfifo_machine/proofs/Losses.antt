@@ -1,8 +1,7 @@
 -- A call that is answered Busy has lost each of its rounds.
-use Rattle.std.proofs.Common.{◌≡◌, ◌≢◌, ◌⊎◌, ℕ, zero, suc, ◌+◌, ◌*◌, ◌-◌, ◌<◌, ◌≤◌, List, [], ◌∷◌, ◌++◌, length, get_or, set, Option, Some, None, Ok, Bool, true, false, refl, sym, ap, ◌∙◌, subst, inl, inr, arith, cond, eqb, eqb-true, eq-eqb}
+use Rattle.std.proofs.Common.{◌≡◌, ◌≢◌, ◌⊎◌, ℕ, zero, suc, ◌+◌, ◌-◌, ◌<◌, List, [], ◌∷◌, ◌++◌, length, get_or, set, Option, Some, None, Ok, Bool, true, false, refl, sym, ap, ◌∙◌, subst, inl, inr, arith, cond, eqb, eqb-true, eq-eqb}
 use Rattle.std.specs.Prelude.{◌==◌}
 use Rattle.std.proofs.lemmas.Bool.{cases_eq, cases_Bool}
-use Rattle.std.proofs.lemmas.Bool.Decides.{nat_tests}
 use Rattle.std.proofs.lemmas.Grind.{get_or-set_at}
 use Rattle.std.proofs.lemmas.List.{get_or-set_other, append_assoc}
 use Rattle.kfifo_words.specs.declared.shape.Shape.{Shape}
@@ -13,7 +12,7 @@ use Rattle.kfifo_machine.specs.declared.event.Begin.{Begin}
 use Rattle.kfifo_machine.specs.declared.event.Begin.TheVariants as B
 use Rattle.kfifo_machine.specs.declared.event.Event.{Event}
 use Rattle.kfifo_machine.specs.declared.event.Outcome.{Outcome}
-use Rattle.kfifo_machine.specs.declared.event.Outcome.TheVariants.{Went, Ended}
+use Rattle.kfifo_machine.specs.declared.event.Outcome.TheVariants.{Ended}
 use Rattle.kfifo_machine.specs.declared.place.Running.{Running}
 use Rattle.kfifo_machine.specs.declared.place.Running.TheVariants as R
 use Rattle.kfifo_machine.specs.declared.place.EnqueuePhase.TheVariants as E
@@ -23,20 +22,20 @@ use Rattle.kfifo_machine.specs.declared.place.Access.TheVariants.{Load, Exchange
 use Rattle.kfifo_machine.specs.declared.place.Next.{Next}
 use Rattle.kfifo_machine.specs.declared.place.Next.TheVariants.{Goes, Answers}
 use Rattle.kfifo_machine.specs.Program.{access, accessed, advance}
-use Rattle.kfifo_machine.specs.Machine.{World, opening, word_at, place_of, place_after, outcome_of, words_after, moved, found, begun, may_begin, step, world_of, run, after}
-use Rattle.kfifo_machine.specs.Runs.{event, own, going, AllGoOn, BeginsOnce, WholeRun}
+use Rattle.kfifo_machine.specs.Machine.{World, opening, word_at, place_of, place_after, words_after, moved, found, begun, step, world_of, run}
+use Rattle.kfifo_machine.specs.Runs.{event, own, going, AllGoOn}
 use Rattle.kfifo_machine.specs.Places.{IsPlace}
-use Rattle.kfifo_machine.specs.Laws.{Wins, OneWord, moves_head, moves_tail}
+use Rattle.kfifo_machine.specs.Laws.{moves_head, moves_tail}
 use Rattle.kfifo_machine.specs.Causes.{Look, AllOfRound, looks, looks_from, round_of}
-use Rattle.kfifo_machine.specs.Rounds.{MovesOn, WinsSome, Disturbed, LostRound, LosesThen, LosesAll, turns_of, BusyHasCause}
+use Rattle.kfifo_machine.specs.Rounds.{WinsSome, Disturbed, LostRound, LosesAll, turns_of, BusyHasCause}
 use Rattle.kfifo_machine.proofs.Places.{in_table}
-use Rattle.kfifo_machine.proofs.Schedules.{Some-injective, run_before, run-append, run_on, first_made, made_within, stepped, StepsFrom, Ticks, other_place, own-append}
+use Rattle.kfifo_machine.proofs.Schedules.{Some-injective, run-append, run_on, first_made, made_within, stepped, other_place}
 use Rattle.kfifo_machine.proofs.Sound.{IsSound, sound, going_place, place_is, step_sound}
 use Rattle.kfifo_machine.proofs.Versions.{one_word}
 use Rattle.kfifo_machine.proofs.Budget.{own_place, own_first, tick_leaves}
 use Rattle.kfifo_machine.proofs.Refusals.{own_step}
 use Rattle.kfifo_machine.proofs.Causes.{all_of_round-append}
-use Rattle.kfifo_machine.proofs.Paths.{look_of, looks-own, looks-other, none_after, answered, begins_from, begun_goes, never_at_once}
+use Rattle.kfifo_machine.proofs.Paths.{looks-own, looks-other, none_after, answered, begins_from, never_at_once}
 use Rattle.kfifo_machine.proofs.Quiet.{opens_round, RoundNext, round_next, words_by, Quiet, watched, watched-below, still_quiet, NextQuiet, enqueue_quiet, dequeue_quiet}
 
 -- the words after a step
@@ -44,11 +43,11 @@ exchanged_by : (words : List ℕ) (index from to i : ℕ) → index < length wor
     → get_or (cond (eqb (get_or words index 0) from) (set words index to) words) i 0 ≡ cond (eqb (get_or words index 0) from) (cond (eqb i index) to (get_or words i 0)) (get_or words i 0)
 exchanged_by words index from to i h =
     elim (cases_Bool (eqb (get_or words index 0) from)) [
-      inl e ↦ elim (cases_eq i index) [
-          inl same ↦ rw e (get_or-set_at words index i to 0 same h ∙ sym (ap (λ (b : Bool). cond b to (get_or words i 0)) (eq-eqb i index same)))
+      | inl e ↦ elim (cases_eq i index) [
+        | inl same ↦ rw e (get_or-set_at words index i to 0 same h ∙ sym (ap (λ (b : Bool). cond b to (get_or words i 0)) (eq-eqb i index same)))
         | inr ne ↦ rw e (get_or-set_other words index i to 0 ne ∙ apart (eqb i index) refl ne)
-        ]
-    | inr e ↦ rw e refl
+      ]
+      | inr e ↦ rw e refl
     ]
   where
     apart : (b : Bool) → eqb i index ≡ b → (i ≡ index → ⊥) → ◌≡◌ {A = ℕ} (get_or words i 0) (cond b to (get_or words i 0))
@@ -83,9 +82,13 @@ quiet_after w v (Answers A.Worn) same quiet = tt
 -- Disturbances stay
 disturbed_more : (shape : Shape) (thread : ℕ) (start : World) (xs ys : List Event) → Disturbed shape thread start xs → Disturbed shape thread start (xs ++ ys)
 disturbed_more shape thread start xs ys d = record {
-  before = d.before; event = d.event; after = d.after ++ ys; world = d.world;
+  before = d.before;
+  event = d.event;
+  after = d.after ++ ys;
+  world = d.world;
   split = ap (λ (zs : List Event). zs ++ ys) d.split ∙ append_assoc d.before (d.event ∷ d.after) ys;
-  reached = d.reached; by = d.by;
+  reached = d.reached;
+  by = d.by;
 }
 
 -- how the round stands: disturbed already, or quiet
@@ -100,18 +103,18 @@ own_standing shape start here next past e outcome running sound made none at rea
     let place : IsPlace shape running = place_is shape here e.thread running sound at in
     let goes : going shape (place_of here e.thread) e.begin ≡ Some running = ap (going shape (place_of here e.thread)) none ∙ ap (λ (p : Option Running). going shape p None) at in
     elim (cases_Bool (moves_head running (found shape here running))) [
-      inl head ↦ inl (record { before = past; event = e; after = []; world = here; split = refl; reached = reached; by = inl (refl, record { running = running; stands = goes; moves = inl head }) })
-    | inr no_head ↦ elim (cases_Bool (moves_tail running (found shape here running))) [
-          inl tail ↦ inl (record { before = past; event = e; after = []; world = here; split = refl; reached = reached; by = inl (refl, record { running = running; stands = goes; moves = inr tail }) })
+      | inl head ↦ inl (record { before = past; event = e; after = []; world = here; split = refl; reached = reached; by = inl (refl, record { running = running; stands = goes; moves = inl head }) })
+      | inr no_head ↦ elim (cases_Bool (moves_tail running (found shape here running))) [
+        | inl tail ↦ inl (record { before = past; event = e; after = []; world = here; split = refl; reached = reached; by = inl (refl, record { running = running; stands = goes; moves = inr tail }) })
         | inr no_tail ↦ elim standing [
-              inl disturbed ↦ inl (disturbed_more shape e.thread start past (e ∷ []) disturbed)
-            | inr quiet ↦
-                let is_moved : next ≡ moved shape here e.thread running = (own_step shape here e next outcome running made at).0 in
-                inr (quiet_after (words_by (access shape running) (word_at here)) (word_at next) (advance shape running (found shape here running))
-                  (λ i. ap (λ (w : World). word_at w i) is_moved ∙ word-moved shape here e.thread running i sound place)
-                  (quiet_step shape here running place quiet no_head no_tail))
-            ]
+          | inl disturbed ↦ inl (disturbed_more shape e.thread start past (e ∷ []) disturbed)
+          | inr quiet ↦
+              let is_moved : next ≡ moved shape here e.thread running = (own_step shape here e next outcome running made at).0 in
+              inr (quiet_after (words_by (access shape running) (word_at here)) (word_at next) (advance shape running (found shape here running))
+              (λ i. ap (λ (w : World). word_at w i) is_moved ∙ word-moved shape here e.thread running i sound place)
+              (quiet_step shape here running place quiet no_head no_tail))
         ]
+      ]
     ]
 
 -- a word below the clock that an event changes was won
@@ -120,11 +123,11 @@ won_or_same : (shape : Shape) (here next : World) (e : Event) (outcome : Outcome
 won_or_same shape here next e outcome i sound made below =
     let one = one_word shape here e next outcome sound made in
     elim (cases_eq (word_at next i) (word_at here i)) [
-      inl same ↦ inl same
-    | inr ne ↦ elim (one.only_so i ne) [
-          inl w ↦ inr (record { index = i; to = word_at next i; wins = w })
+      | inl same ↦ inl same
+      | inr ne ↦ elim (one.only_so i ne) [
+        | inl w ↦ inr (record { index = i; to = word_at next i; wins = w })
         | inr t ↦ absurd (let c = t.clock in omega arith)
-        ]
+      ]
     ]
 
 -- an event of another thread
@@ -134,14 +137,14 @@ other_standing : (shape : Shape) (thread : ℕ) (start here next : World) (past 
 other_standing shape thread start here next past e outcome running sound made apart at reached (inl disturbed) = inl (disturbed_more shape thread start past (e ∷ []) disturbed)
 other_standing shape thread start here next past e outcome running sound made apart at reached (inr quiet) =
     let wins : WinsSome shape here e → Standing shape thread start (past ++ e ∷ []) next running =
-      λ w. inl (record { before = past; event = e; after = []; world = here; split = refl; reached = reached; by = inr ((λ same. apart (sym same)), w) }) in
+    λ w. inl (record { before = past; event = e; after = []; world = here; split = refl; reached = reached; by = inr ((λ same. apart (sym same)), w) }) in
     let place : IsPlace shape running = place_is shape here thread running sound at in
     elim (won_or_same shape here next e outcome 0 sound made (omega arith)) [
-      inr w ↦ wins w
-    | inl ends ↦ elim (won_or_same shape here next e outcome (watched running) sound made (watched-below shape running place)) [
-          inr w ↦ wins w
+      | inr w ↦ wins w
+      | inl ends ↦ elim (won_or_same shape here next e outcome (watched running) sound made (watched-below shape running place)) [
+        | inr w ↦ wins w
         | inl slot ↦ inr (still_quiet (word_at here) (word_at next) running ends slot quiet)
-        ]
+      ]
     ]
 
 -- the looks of two parts of a schedule
@@ -168,7 +171,8 @@ pub record RoundSoFar (shape : Shape) (thread round : ℕ) (start : World) (past
 so_far_more : (shape : Shape) (thread round : ℕ) (start here : World) (past : List Event) (e : Event) → run shape (Some start) past ≡ Some here → RoundSoFar shape thread round start past
     → AllOfRound round (looks shape thread (Some here) (e ∷ [])) → RoundSoFar shape thread round start (past ++ e ∷ [])
 so_far_more shape thread round start here past e reached r all = record {
-  first = r.first; later = r.later ++ e ∷ [];
+  first = r.first;
+  later = r.later ++ e ∷ [];
   begins = ap (λ (xs : List Event). xs ++ e ∷ []) r.begins;
   first_own = r.first_own;
   one_round = subst (AllOfRound round) (sym (looks-append shape thread start here past (e ∷ []) reached)) (all_of_round-append round _ _ r.one_round all);
@@ -188,7 +192,9 @@ remains_more : (shape : Shape) (thread round : ℕ) (start : World) (past events
 remains_more shape thread round start past events e r =
     let shift : (past ++ e ∷ []) ++ r.more ≡ past ++ (e ∷ r.more) = append_assoc past (e ∷ []) r.more in
     record {
-      more = e ∷ r.more; rest = r.rest; end = r.end;
+      more = e ∷ r.more;
+      rest = r.rest;
+      end = r.end;
       split = ap (λ (xs : List Event). e ∷ xs) r.split;
       reached = ap (run shape (Some start)) (sym shift) ∙ r.reached;
       round_lost = subst (LostRound shape thread round start) shift r.round_lost;
@@ -198,8 +204,16 @@ remains_more shape thread round start past events e r =
 lost_round : (shape : Shape) (thread round : ℕ) (start : World) (past : List Event) (e : Event) → RoundSoFar shape thread round start (past ++ e ∷ []) → e.thread ≡ thread → Disturbed shape thread start (past ++ e ∷ [])
     → LostRound shape thread round start (past ++ e ∷ [])
 lost_round shape thread round start past e r mine disturbed = record {
-  first = r.first; later = r.later; earlier = past; last = e; begins = r.begins; ends = refl;
-  first_own = r.first_own; last_own = mine; one_round = r.one_round; disturbed = disturbed;
+  first = r.first;
+  later = r.later;
+  earlier = past;
+  last = e;
+  begins = r.begins;
+  ends = refl;
+  first_own = r.first_own;
+  last_own = mine;
+  one_round = r.one_round;
+  disturbed = disturbed;
 }
 
 -- others' events before a round
@@ -207,11 +221,17 @@ loses_later : (shape : Shape) (thread round : ℕ) (here next : World) (outcome 
     → LosesAll shape thread round next events → LosesAll shape thread round here (e ∷ events)
 loses_later shape thread zero here next outcome e events some apart made loses = absurd (omega arith)
 loses_later shape thread (suc round) here next outcome e events some apart made l = record {
-  others = e ∷ l.others; lost = l.lost; rest = l.rest; start = l.start; end = l.end;
+  others = e ∷ l.others;
+  lost = l.lost;
+  rest = l.rest;
+  start = l.start;
+  end = l.end;
   split = ap (λ (xs : List Event). e ∷ xs) l.split;
   not_own = none_own (e.thread == thread) refl ∙ l.not_own;
   starts = ap (λ (w : Option World). run shape w l.others) (ap world_of made) ∙ l.starts;
-  round_lost = l.round_lost; reached = l.reached; then = l.then;
+  round_lost = l.round_lost;
+  reached = l.reached;
+  then = l.then;
 }
   where
     none_own : (b : Bool) → (e.thread == thread) ≡ b → cond b (e ∷ own thread l.others) (own thread l.others) ≡ own thread l.others
@@ -224,8 +244,16 @@ loses_now shape thread zero here events some r = absurd (omega arith)
 loses_now shape thread (suc round) here events some r =
     let less : (suc round) - 1 ≡ round = omega arith in
     record {
-      others = []; lost = r.more; rest = r.rest; start = here; end = r.end;
-      split = r.split; not_own = refl; starts = refl; round_lost = r.round_lost; reached = r.reached;
+      others = [];
+      lost = r.more;
+      rest = r.rest;
+      start = here;
+      end = r.end;
+      split = r.split;
+      not_own = refl;
+      starts = refl;
+      round_lost = r.round_lost;
+      reached = r.reached;
       then = subst (λ (m : ℕ). LosesAll shape thread m r.end r.rest) less r.others;
     }
 
@@ -281,13 +309,18 @@ module _ (shape : Shape) (thread : ℕ) (last : Event) (before there : World) (m
     where
       rounds : RoundNext (round_of running) (Goes running_next)
       rounds = subst (RoundNext (round_of running)) goes (round_next shape running (found shape here running) place)
+
       by_open : (b : Bool) → opens_round running_next ≡ b → Remains shape thread (round_of running) start past (e ∷ (es ++ last ∷ []))
       by_open true opens =
           let less : round_of running_next + 1 ≡ round_of running = subst (λ (b : Bool). cond b (round_of running_next + 1) (round_of running_next) ≡ round_of running) opens rounds in
           let less_one : round_of running_next ≡ round_of running - 1 = omega arith in
           let disturbed : Disturbed shape thread start (past ++ e ∷ []) = elim standing [ inl d ↦ d | inr q ↦ absurd (let h : true ≡ false = sym opens ∙ q.0 in cc) ] in
           record {
-            more = e ∷ []; rest = es ++ last ∷ []; end = next_world; split = refl; reached = reached;
+            more = e ∷ [];
+            rest = es ++ last ∷ [];
+            end = next_world;
+            split = refl;
+            reached = reached;
             round_lost = lost_round shape thread (round_of running) start past e so_far own_is disturbed;
             others = subst (λ (m : ℕ). LosesAll shape thread m next_world (es ++ last ∷ [])) less_one (between next_world running_next safe at opens on runs);
           }
@@ -295,8 +328,8 @@ module _ (shape : Shape) (thread : ℕ) (last : Event) (before there : World) (m
           let same : round_of running_next ≡ round_of running = subst (λ (b : Bool). cond b (round_of running_next + 1) (round_of running_next) ≡ round_of running) opens rounds in
           let stands : Standing shape thread start (past ++ e ∷ []) next_world running_next = elim standing [ inl d ↦ inl d | inr q ↦ inr q.1 ] in
           remains_more shape thread (round_of running) start past (es ++ last ∷ []) e
-            (subst (λ (m : ℕ). Remains shape thread m start (past ++ e ∷ []) (es ++ last ∷ [])) same
-              (within start next_world (past ++ e ∷ []) running_next safe reached at (subst (λ (m : ℕ). RoundSoFar shape thread m start (past ++ e ∷ [])) (sym same) so_far) stands on runs))
+          (subst (λ (m : ℕ). Remains shape thread m start (past ++ e ∷ []) (es ++ last ∷ [])) same
+          (within start next_world (past ++ e ∷ []) running_next safe reached at (subst (λ (m : ℕ). RoundSoFar shape thread m start (past ++ e ∷ [])) (sym same) so_far) stands on runs))
 
   -- the last event, in a round that has begun
   at_last : Within []
@@ -312,12 +345,15 @@ module _ (shape : Shape) (thread : ℕ) (last : Event) (before there : World) (m
       let one_left : round_of running ≡ 1 = subst (RoundNext (round_of running)) answers (round_next shape running (found shape here running) place) in
       let none_left : zero ≡ round_of running - 1 = omega arith in
       let stands : Disturbed shape last.thread start (past ++ last ∷ []) ⊎ NextQuiet (word_at there) (advance shape running (found shape here running)) =
-        own_standing shape start here there past last (Ended A.Busy) running sound made none place_at reached (subst (λ (t : ℕ). Standing shape t start past here running) (sym mine) standing) in
+      own_standing shape start here there past last (Ended A.Busy) running sound made none place_at reached (subst (λ (t : ℕ). Standing shape t start past here running) (sym mine) standing) in
       let disturbed : Disturbed shape thread start (past ++ last ∷ []) = subst (λ (t : ℕ). Disturbed shape t start (past ++ last ∷ [])) mine
-        (elim stands [ inl d ↦ d | inr q ↦ absurd (subst (NextQuiet (word_at there)) answers q) ]) in
+      (elim stands [ inl d ↦ d | inr q ↦ absurd (subst (NextQuiet (word_at there)) answers q) ]) in
       let r : RoundSoFar shape thread (round_of running) start (past ++ last ∷ []) = so_far_more shape thread (round_of running) start here past last reached so_far (own_single here there (Ended A.Busy) last running mine made goes) in
       record {
-        more = last ∷ []; rest = []; end = there; split = refl;
+        more = last ∷ [];
+        rest = [];
+        end = there;
+        split = refl;
         reached = run_on shape (Some start) here past (last ∷ []) reached ∙ ap world_of made;
         round_lost = lost_round shape thread (round_of running) start past last r mine disturbed;
         others = subst (λ (m : ℕ). LosesAll shape thread m there []) none_left refl;
@@ -330,24 +366,24 @@ module _ (shape : Shape) (thread : ℕ) (last : Event) (before there : World) (m
       let later : IsSound shape m.0 = step_sound shape here e m.0 m.1.0 sound m.1.1.0 in
       let reached_next : run shape (Some start) (past ++ e ∷ []) ≡ Some m.0 = run_on shape (Some start) here past (e ∷ []) reached ∙ ap world_of m.1.1.0 in
       elim (own_first thread e (es ++ last ∷ [])) [
-        inl own_is ↦
-          let both : (e.begin ≡ None) × AllGoOn (own thread (es ++ last ∷ [])) = subst AllGoOn own_is.1 on in
-          let place_at : place_of here e.thread ≡ Some running = ap (place_of here) own_is.0 ∙ at in
-          let goes : going shape (place_of here e.thread) e.begin ≡ Some running = ap (going shape (place_of here e.thread)) both.0 ∙ ap (λ (p : Option Running). going shape p None) place_at in
-          let stands = own_standing shape start here m.0 past e m.1.0 running sound m.1.1.0 both.0 place_at reached (subst (λ (t : ℕ). Standing shape t start past here running) (sym own_is.0) standing) in
-          let stands_so : Disturbed shape thread start (past ++ e ∷ []) ⊎ NextQuiet (word_at m.0) (advance shape running (found shape here running)) =
+        | inl own_is ↦
+            let both : (e.begin ≡ None) × AllGoOn (own thread (es ++ last ∷ [])) = subst AllGoOn own_is.1 on in
+            let place_at : place_of here e.thread ≡ Some running = ap (place_of here) own_is.0 ∙ at in
+            let goes : going shape (place_of here e.thread) e.begin ≡ Some running = ap (going shape (place_of here e.thread)) both.0 ∙ ap (λ (p : Option Running). going shape p None) place_at in
+            let stands = own_standing shape start here m.0 past e m.1.0 running sound m.1.1.0 both.0 place_at reached (subst (λ (t : ℕ). Standing shape t start past here running) (sym own_is.0) standing) in
+            let stands_so : Disturbed shape thread start (past ++ e ∷ []) ⊎ NextQuiet (word_at m.0) (advance shape running (found shape here running)) =
             subst (λ (t : ℕ). Disturbed shape t start (past ++ e ∷ []) ⊎ NextQuiet (word_at m.0) (advance shape running (found shape here running))) own_is.0 stands in
-          let at_next : place_of m.0 thread ≡ place_after (advance shape running (found shape here running)) =
+            let at_next : place_of m.0 thread ≡ place_after (advance shape running (found shape here running)) =
             ap (place_of m.0) (sym own_is.0) ∙ ap (λ (w : World). place_of w e.thread) (own_step shape here e m.0 m.1.0 running m.1.1.0 place_at).0 ∙ own_place shape here e.thread running (made_within shape here e m.0 m.1.0 m.1.1.0) in
-          after_own es between within start here m.0 past e running later (place_is shape here thread running sound at) reached_next own_is.0
+            after_own es between within start here m.0 past e running later (place_is shape here thread running sound at) reached_next own_is.0
             (so_far_more shape thread (round_of running) start here past e reached so_far (own_single here m.0 m.1.0 e running own_is.0 m.1.1.0 goes))
             (advance shape running (found shape here running)) refl at_next stands_so both.1 m.1.1.1
-      | inr other ↦
-          remains_more shape thread (round_of running) start past (es ++ last ∷ []) e
+        | inr other ↦
+            remains_more shape thread (round_of running) start past (es ++ last ∷ []) e
             (within start m.0 (past ++ e ∷ []) running later reached_next (other_place shape here e m.0 m.1.0 thread other.0 m.1.1.0 ∙ at)
-              (so_far_more shape thread (round_of running) start here past e reached so_far (other_single here m.0 m.1.0 e (round_of running) other.0 m.1.1.0))
-              (other_standing shape thread start here m.0 past e m.1.0 running sound m.1.1.0 other.0 at reached standing)
-              (subst AllGoOn other.1 on) m.1.1.1)
+            (so_far_more shape thread (round_of running) start here past e reached so_far (other_single here m.0 m.1.0 e (round_of running) other.0 m.1.1.0))
+            (other_standing shape thread start here m.0 past e m.1.0 running sound m.1.1.0 other.0 at reached standing)
+            (subst AllGoOn other.1 on) m.1.1.1)
       ]
 
   -- a round that begins with an own step from here
@@ -359,14 +395,14 @@ module _ (shape : Shape) (thread : ℕ) (last : Event) (before there : World) (m
       let n = open_next shape running k.0 (found shape here running) opens k.1 in
       let no_moves = open_moves running (found shape here running) opens in
       let quiet : NextQuiet (word_at next_world) (advance shape running (found shape here running)) =
-        quiet_after (words_by (access shape running) (word_at here)) (word_at next_world) (advance shape running (found shape here running))
-          (λ i. ap (λ (w : World). word_at w i) is_moved ∙ word-moved shape here e.thread running i sound place)
-          (quiet_step shape here running place (open_quiet (word_at here) running opens) no_moves.0 no_moves.1) in
+      quiet_after (words_by (access shape running) (word_at here)) (word_at next_world) (advance shape running (found shape here running))
+      (λ i. ap (λ (w : World). word_at w i) is_moved ∙ word-moved shape here e.thread running i sound place)
+      (quiet_step shape here running place (open_quiet (word_at here) running opens) no_moves.0 no_moves.1) in
       let at_next : place_of next_world thread ≡ place_after (advance shape running (found shape here running)) =
-        ap (place_of next_world) (sym own_is) ∙ ap (λ (w : World). place_of w e.thread) is_moved ∙ own_place shape here e.thread running (made_within shape here e next_world outcome made) in
+      ap (place_of next_world) (sym own_is) ∙ ap (λ (w : World). place_of w e.thread) is_moved ∙ own_place shape here e.thread running (made_within shape here e next_world outcome made) in
       let r : RoundSoFar shape thread (round_of running) here (e ∷ []) = record { first = e; later = []; begins = refl; first_own = own_is; one_round = own_single here next_world outcome e running own_is made goes } in
       loses_now shape thread (round_of running) here (e ∷ (es ++ last ∷ [])) (round-some shape running place)
-        (after_own es between within here here next_world [] e running safe place (ap world_of made) own_is r (advance shape running (found shape here running)) refl at_next (inr quiet) on runs)
+      (after_own es between within here here next_world [] e running safe place (ap world_of made) own_is r (advance shape running (found shape here running)) refl at_next (inr quiet) on runs)
     where
       open_moves : (running : Running) (word : ℕ) → opens_round running ≡ true → (moves_head running word ≡ false) × (moves_tail running word ≡ false)
       open_moves running word opens = grind arith
@@ -377,13 +413,13 @@ module _ (shape : Shape) (thread : ℕ) (last : Event) (before there : World) (m
       let later : IsSound shape m.0 = step_sound shape here e m.0 m.1.0 sound m.1.1.0 in
       let place : IsPlace shape running = place_is shape here thread running sound at in
       elim (own_first thread e (es ++ last ∷ [])) [
-        inl own_is ↦
-          let both : (e.begin ≡ None) × AllGoOn (own thread (es ++ last ∷ [])) = subst AllGoOn own_is.1 on in
-          let place_at : place_of here e.thread ≡ Some running = ap (place_of here) own_is.0 ∙ at in
-          let goes : going shape (place_of here e.thread) e.begin ≡ Some running = ap (going shape (place_of here e.thread)) both.0 ∙ ap (λ (p : Option Running). going shape p None) place_at in
-          opens_now e es between within here m.0 m.1.0 running later place m.1.1.0 own_is.0 goes (own_step shape here e m.0 m.1.0 running m.1.1.0 place_at).0 opens both.1 m.1.1.1 sound
-      | inr other ↦
-          loses_later shape thread (round_of running) here m.0 m.1.0 e (es ++ last ∷ []) (round-some shape running place) other.0 m.1.1.0
+        | inl own_is ↦
+            let both : (e.begin ≡ None) × AllGoOn (own thread (es ++ last ∷ [])) = subst AllGoOn own_is.1 on in
+            let place_at : place_of here e.thread ≡ Some running = ap (place_of here) own_is.0 ∙ at in
+            let goes : going shape (place_of here e.thread) e.begin ≡ Some running = ap (going shape (place_of here e.thread)) both.0 ∙ ap (λ (p : Option Running). going shape p None) place_at in
+            opens_now e es between within here m.0 m.1.0 running later place m.1.1.0 own_is.0 goes (own_step shape here e m.0 m.1.0 running m.1.1.0 place_at).0 opens both.1 m.1.1.1 sound
+        | inr other ↦
+            loses_later shape thread (round_of running) here m.0 m.1.0 e (es ++ last ∷ []) (round-some shape running place) other.0 m.1.1.0
             (between m.0 running later (other_place shape here e m.0 m.1.0 thread other.0 m.1.1.0 ∙ at) opens (subst AllGoOn other.1 on) m.1.1.1)
       ]
 
@@ -417,18 +453,19 @@ first_own_step : (shape : Shape) (thread : ℕ) (call : Begin) (last : Event) (b
     → AllGoOn (own thread (es ++ last ∷ [])) → run shape (Some next) es ≡ Some before → (0 < turns_of call) × LosesAll shape thread (turns_of call) here (e ∷ (es ++ last ∷ []))
 first_own_step shape thread call last before there mine ends e es here next outcome sound safe own_is begins made on runs =
     elim (stepped shape here e next outcome made) [
-      inl s ↦
-        let is_begun : begun call ≡ Some s.running = begins_from shape (place_of here e.thread) call s.running (ap (going shape (place_of here e.thread)) (sym begins) ∙ s.goes) in
-        let opens = begun_open call s.running is_begun in
-        let place : IsPlace shape s.running = going_place shape (place_of here e.thread) e.begin s.running (λ r at. place_is shape here e.thread r sound at) s.goes in
-        let some : 0 < round_of s.running = round-some shape s.running place in
-        let both = claims shape thread last before there mine ends es in
-        (let same = opens.1 in omega arith,
-         subst (λ (m : ℕ). LosesAll shape thread m here (e ∷ (es ++ last ∷ []))) opens.1
-           (opens_now shape thread last before there mine ends e es both.0 both.1 here next outcome s.running safe place made own_is s.goes s.there_is opens.0 on runs sound))
-    | inr t ↦
-        let idle : place_of next thread ≡ None = ap (place_of next) (sym own_is) ∙ ap (λ (w : World). place_of w e.thread) t.there_is ∙ tick_leaves shape here e.thread ∙ t.idle in
-        absurd (none_after shape next there thread es last safe idle mine on
+      | inl s ↦
+          let is_begun : begun call ≡ Some s.running = begins_from shape (place_of here e.thread) call s.running (ap (going shape (place_of here e.thread)) (sym begins) ∙ s.goes) in
+          let opens = begun_open call s.running is_begun in
+          let place : IsPlace shape s.running = going_place shape (place_of here e.thread) e.begin s.running (λ r at. place_is shape here e.thread r sound at) s.goes in
+          let some : 0 < round_of s.running = round-some shape s.running place in
+          let both = claims shape thread last before there mine ends es in (
+            let same = opens.1 in omega arith,
+            subst (λ (m : ℕ). LosesAll shape thread m here (e ∷ (es ++ last ∷ []))) opens.1
+                (opens_now shape thread last before there mine ends e es both.0 both.1 here next outcome s.running safe place made own_is s.goes s.there_is opens.0 on runs sound),
+          )
+      | inr t ↦
+          let idle : place_of next thread ≡ None = ap (place_of next) (sym own_is) ∙ ap (λ (w : World). place_of w e.thread) t.there_is ∙ tick_leaves shape here e.thread ∙ t.idle in
+          absurd (none_after shape next there thread es last safe idle mine on
           (run-append shape (Some next) es (last ∷ []) ∙ ap (λ (w : Option World). run shape w (last ∷ [])) runs ∙ ap world_of ends))
     ]
 
@@ -446,14 +483,14 @@ loses_from shape here before there thread call (e ∷ es) others last sound mine
     let m = first_made shape here e before es is in
     let later : IsSound shape m.0 = step_sound shape here e m.0 m.1.0 sound m.1.1.0 in
     elim (own_first thread e (es ++ last ∷ [])) [
-      inl own_is ↦
-        let both : e ∷ own thread (es ++ last ∷ []) ≡ event thread (Some call) ∷ others = sym own_is.1 ∙ first in
-        let begins : e.begin ≡ Some call = (let h : e ≡ event thread (Some call) = cc in ap (λ (x : Event). x.begin) h) in
-        let rest : own thread (es ++ last ∷ []) ≡ others = cc in
-        first_own_step shape thread call last before there mine ends e es here m.0 m.1.0 sound later own_is.0 begins m.1.1.0 (subst AllGoOn (sym rest) on) m.1.1.1
-    | inr other ↦
-        let next = loses_from shape m.0 before there thread call es others last later mine ends (sym other.1 ∙ first) on m.1.1.1 in
-        (next.0, loses_later shape thread (turns_of call) here m.0 m.1.0 e (es ++ last ∷ []) next.0 other.0 m.1.1.0 next.1)
+      | inl own_is ↦
+          let both : e ∷ own thread (es ++ last ∷ []) ≡ event thread (Some call) ∷ others = sym own_is.1 ∙ first in
+          let begins : e.begin ≡ Some call = (let h : e ≡ event thread (Some call) = cc in ap (λ (x : Event). x.begin) h) in
+          let rest : own thread (es ++ last ∷ []) ≡ others = cc in
+          first_own_step shape thread call last before there mine ends e es here m.0 m.1.0 sound later own_is.0 begins m.1.1.0 (subst AllGoOn (sym rest) on) m.1.1.1
+      | inr other ↦
+          let next = loses_from shape m.0 before there thread call es others last later mine ends (sym other.1 ∙ first) on m.1.1.1 in
+          (next.0, loses_later shape thread (turns_of call) here m.0 m.1.0 e (es ++ last ∷ []) next.0 other.0 m.1.1.0 next.1)
     ]
 
 -- Busy has its cause

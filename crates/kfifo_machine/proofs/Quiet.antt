@@ -1,12 +1,8 @@
 -- A round that nobody disturbs is not lost.
-use Rattle.std.proofs.Common.{◌≡◌, ◌≢◌, ◌⊎◌, ℕ, ◌+◌, ◌*◌, ◌-◌, ◌<◌, ◌≤◌, List, [], ◌∷◌, ◌++◌, length, get_or, set, Option, Some, None, Bool, true, false, refl, sym, ap, ◌∙◌, subst, inl, inr, arith, cond, eqb}
-use Rattle.std.specs.Prelude.{◌==◌}
-use Rattle.std.proofs.lemmas.Bool.{cases_eq, cases_Bool}
+use Rattle.std.proofs.Common.{◌≡◌, ℕ, ◌+◌, ◌<◌, Bool, true, false, arith, cond, eqb}
 use Rattle.std.proofs.lemmas.Bool.Decides.{nat_tests}
 use Rattle.kfifo_words.specs.declared.shape.Shape.{Shape}
-use Rattle.kfifo_words.specs.Words.{value_of, version_of, head_of, tail_of}
-use Rattle.kfifo_words.specs.Ring.{next_segment, distance, clock_at}
-use Rattle.kfifo_model.specs.declared.calls.Answer.{Answer}
+use Rattle.kfifo_words.specs.Ring.{clock_at}
 use Rattle.kfifo_model.specs.declared.calls.Answer.TheVariants as A
 use Rattle.kfifo_machine.specs.declared.place.Found.TheVariants.{Slot, Nothing}
 use Rattle.kfifo_machine.specs.declared.place.EnqueuePhase.{EnqueuePhase}
@@ -19,8 +15,8 @@ use Rattle.kfifo_machine.specs.declared.place.Access.{Access}
 use Rattle.kfifo_machine.specs.declared.place.Access.TheVariants.{Load, Exchange}
 use Rattle.kfifo_machine.specs.declared.place.Next.{Next}
 use Rattle.kfifo_machine.specs.declared.place.Next.TheVariants.{Goes, Answers}
-use Rattle.kfifo_machine.specs.Program.{access, accessed, advance, scan_index, filled_with}
-use Rattle.kfifo_machine.specs.Places.{IsSlotIndex, IsEnds, IsPlace}
+use Rattle.kfifo_machine.specs.Program.{access, accessed, advance}
+use Rattle.kfifo_machine.specs.Places.{IsPlace}
 use Rattle.kfifo_machine.specs.Laws.{moves_head, moves_tail}
 use Rattle.kfifo_machine.specs.Causes.{round_of}
 use Rattle.kfifo_machine.proofs.Places.{scan_index-is_slot}

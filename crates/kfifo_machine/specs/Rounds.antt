@@ -1,5 +1,5 @@
 -- Rounds that were lost, and what a call that was answered Busy has behind it.
-use Rattle.std.specs.Prelude.{◌≡◌, ◌≢◌, ◌≤◌, ℕ, zero, suc, ◌+◌, ◌⊎◌, Bool, true, List, [], ◌∷◌, ◌++◌, Option, Some}
+use Rattle.std.specs.Prelude.{◌≡◌, ◌≢◌, ◌≤◌, ℕ, zero, suc, ◌+◌, ◌⊎◌, true, List, [], ◌∷◌, ◌++◌, Some}
 use Rattle.kfifo_words.specs.declared.shape.Shape.{Shape}
 use Rattle.kfifo_model.specs.declared.calls.Answer.TheVariants.{Busy}
 use Rattle.kfifo_machine.specs.declared.place.Running.{Running}
