@@ -10,3 +10,9 @@ pub mod Laws
 pub mod Calls
 pub mod Paths
 pub mod Causes
+pub mod Wear
+pub mod Quiet
+pub mod Losses
+pub mod Ahead
+pub mod Alone
+pub mod Undisturbed

@@ -79,11 +79,11 @@ pub record EndsOk (shape : Shape) (ends a b : ℕ) : Type 0 where
   pub ordered : a ≤ b
   pub no_wrap : b < a + shape.n
 
-head-ends_word : (head tail version : ℕ) → head < 4096 → tail < 4096 → head_of (ends_word head tail version) ≡ head
+pub head-ends_word : (head tail version : ℕ) → head < 4096 → tail < 4096 → head_of (ends_word head tail version) ≡ head
 unfolding head_of ends_word
 head-ends_word head tail version h t = omega arith
 
-tail-ends_word : (head tail version : ℕ) → head < 4096 → tail < 4096 → tail_of (ends_word head tail version) ≡ tail
+pub tail-ends_word : (head tail version : ℕ) → head < 4096 → tail < 4096 → tail_of (ends_word head tail version) ≡ tail
 unfolding tail_of ends_word
 tail-ends_word head tail version h t = omega arith
 

@@ -91,7 +91,7 @@ ticked-clock shape here sound =
     let within : clock_at shape.k shape.n < length here.words = omega (arith, sound.size) in
     get_or-set_at here.words (clock_at shape.k shape.n) (clock_at shape.k shape.n) (get_or here.words (clock_at shape.k shape.n) 0 + 1) 0 refl within
 
-ticked-other : (shape : Shape) (here : World) (i : ℕ) → i ≢ clock_at shape.k shape.n → word_at (ticked shape here) i ≡ word_at here i
+pub ticked-other : (shape : Shape) (here : World) (i : ℕ) → i ≢ clock_at shape.k shape.n → word_at (ticked shape here) i ≡ word_at here i
 unfolding ticked word_at
 ticked-other shape here i ne = get_or-set_other here.words (clock_at shape.k shape.n) i (get_or here.words (clock_at shape.k shape.n) 0 + 1) 0 ne
 

@@ -1,8 +1,8 @@
 -- Why a call was refused: what it saw in the table, step by step.
-use Rattle.std.specs.Prelude.{◌≡◌, ◌≢◌, ℕ, ◌+◌, ◌%◌, ◌<◌, ◌⊎◌, ◌==◌, List, [], ◌∷◌, ◌++◌, length, Option, Some, None, if◌then◌else◌}
+use Rattle.std.specs.Prelude.{◌≡◌, ◌≢◌, ℕ, ◌+◌, ◌<◌, ◌⊎◌, ◌==◌, List, [], ◌∷◌, ◌++◌, length, Option, Some, None, if◌then◌else◌}
 use Rattle.kfifo_words.specs.declared.shape.Shape.{Shape}
 use Rattle.kfifo_words.specs.Words.{value_of, version_of, head_of, tail_of}
-use Rattle.kfifo_words.specs.Ring.{next_segment, slot_at}
+use Rattle.kfifo_words.specs.Ring.{next_segment}
 use Rattle.kfifo_model.specs.declared.calls.Answer.{Answer}
 use Rattle.kfifo_model.specs.declared.calls.Answer.TheVariants.{Full, Worn}
 use Rattle.kfifo_machine.specs.declared.place.Running.{Running}
@@ -12,7 +12,7 @@ use Rattle.kfifo_machine.specs.declared.event.Begin.{Begin}
 use Rattle.kfifo_machine.specs.declared.event.Begin.TheVariants as B
 use Rattle.kfifo_machine.specs.declared.event.Event.{Event}
 use Rattle.kfifo_machine.specs.Program.{access, scan_index}
-use Rattle.kfifo_machine.specs.Machine.{World, place_of, found, opening, step, world_of, after}
+use Rattle.kfifo_machine.specs.Machine.{World, place_of, found, step, world_of, after}
 use Rattle.kfifo_machine.specs.Runs.{going, WholeRun}
 
 -- a step of a call: the place from which it was made, and the word that it found

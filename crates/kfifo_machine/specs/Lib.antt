@@ -6,3 +6,4 @@ pub mod Faults
 pub mod Laws
 pub mod Calls
 pub mod Causes
+pub mod Rounds

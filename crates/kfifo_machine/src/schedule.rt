@@ -1,6 +1,8 @@
 //! Whole schedules.
 ghost use Rattle.std.specs.Prelude.{◌≡◌, ℕ, ◌<◌, ◌⊎◌, ◌↔◌, Some, IfOk, IfErr, Err};
 ghost use Rattle.kfifo_machine.specs.Machine.{after, IsFirstRefused};
+ghost use Rattle.kfifo_machine.specs.Causes.{FullHasCause, WornHasCause};
+ghost use Rattle.kfifo_machine.specs.Rounds.{BusyHasCause, BusyIsDisturbed};
 ghost use Rattle.kfifo_machine.specs.Laws.{NoWrap, FewEvents, LeavesNone, VersionsRise, NoneReturns, OthersLeave};
 
 use crate::fault::RunFault;
@@ -46,6 +48,10 @@ pub fn run(alloc: Global, shape: Shape, threads: u32, events: &[Event]) -> Resul
     ensures versions_rise { VersionsRise shape threads }
     ensures none_returns { NoneReturns shape threads }
     ensures others_leave { OthersLeave shape threads }
+    ensures full_has_cause { FullHasCause shape threads }
+    ensures worn_has_cause { WornHasCause shape threads }
+    ensures busy_has_cause { BusyHasCause shape threads }
+    ensures busy_is_disturbed { BusyIsDisturbed shape threads }
 {
     run_events(alloc, shape, threads, events)
 }

@@ -275,56 +275,24 @@ fn takes_after_the_head_left(rt: HostRuntime) -> Result<(), Fail> {
 fn refuses_steps(rt: HostRuntime) -> Result<(), Fail> {
     let state = &mut open(&rt, rt.alloc(), 2, 2, LAST, 2)?;
     let bad = [
-        (
-            Begin::Enqueue {
-                item: 5,
-                start: 2,
-                turns: 1,
-            },
-            NotEnabled::BadCall,
-        ),
-        (
-            Begin::Enqueue {
-                item: 5,
-                start: 0,
-                turns: 0,
-            },
-            NotEnabled::BadCall,
-        ),
-        (
-            Begin::Enqueue {
-                item: 0,
-                start: 0,
-                turns: 1,
-            },
-            NotEnabled::BadCall,
-        ),
-        (
-            Begin::Enqueue {
-                item: 16_777_216,
-                start: 0,
-                turns: 1,
-            },
-            NotEnabled::BadCall,
-        ),
-        (Begin::Dequeue { start: 2, turns: 1 }, NotEnabled::BadCall),
-        (Begin::Dequeue { start: 0, turns: 0 }, NotEnabled::BadCall),
+        enqueue(0, 5, 2, 1, 1, None),
+        enqueue(0, 5, 0, 0, 1, None),
+        enqueue(0, 0, 0, 1, 1, None),
+        enqueue(0, 16_777_216, 0, 1, 1, None),
+        dequeue(0, 2, 1, 1, None),
+        dequeue(0, 0, 0, 1, None),
     ];
-    let call = Begin::Enqueue {
-        item: 5,
-        start: 0,
-        turns: 1,
-    };
+    for row in &bad {
+        assert_eq!(rt; step(state, row.first), Err(NotEnabled::BadCall));
+    }
+    let call = enqueue(0, 5, 0, 1, 1, None).first;
     assert_eq!(rt;
-        step(state, event(2, Some(call))),
+        step(state, enqueue(2, 5, 0, 1, 1, None).first),
         Err(NotEnabled::NoSuchThread)
     );
     assert_eq!(rt; step(state, event(0, None)), Err(NotEnabled::Idle));
-    for (begin, fault) in &bad {
-        assert_eq!(rt; step(state, event(0, Some(*begin))), Err(*fault));
-    }
-    assert_eq!(rt; step(state, event(0, Some(call))), Ok(Outcome::Went));
-    assert_eq!(rt; step(state, event(0, Some(call))), Err(NotEnabled::InCall));
+    assert_eq!(rt; step(state, call), Ok(Outcome::Went));
+    assert_eq!(rt; step(state, call), Err(NotEnabled::InCall));
     assert_eq!(rt;
         step(state, event(0, Some(Begin::Tick))),
         Err(NotEnabled::InCall)
@@ -332,6 +300,11 @@ fn refuses_steps(rt: HostRuntime) -> Result<(), Fail> {
     check_table(&rt, state, (0, 0, 0), &[(0, 0), (0, 0), (0, 0), (0, 0)]);
     play(&rt, state, &[goes_on(0, 6, Some(Answer::Done))]);
     check_table(&rt, state, (0, 0, 1), &[(5, 1), (0, 0), (0, 0), (0, 0)]);
+    Ok(())
+}
+
+#[test]
+fn numbers_faults(rt: HostRuntime) {
     let faults = [
         NotEnabled::NoSuchThread,
         NotEnabled::Idle,
@@ -342,7 +315,6 @@ fn refuses_steps(rt: HostRuntime) -> Result<(), Fail> {
     for (i, fault) in faults.iter().enumerate() {
         assert_eq!(rt; *fault as usize, i + 1);
     }
-    Ok(())
 }
 
 #[test]

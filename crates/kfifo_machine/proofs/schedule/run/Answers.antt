@@ -3,6 +3,10 @@ use Rattle.kfifo_machine.proofs.NoWrap.{no_wrap}
 use Rattle.kfifo_machine.proofs.Budget.{few_events}
 use Rattle.kfifo_machine.proofs.Refusals.{leaves_none}
 use Rattle.kfifo_machine.proofs.Laws.{versions_rise, none_returns, others_leave}
+use Rattle.kfifo_machine.proofs.Causes.{full_has_cause}
+use Rattle.kfifo_machine.proofs.Wear.{worn_has_cause}
+use Rattle.kfifo_machine.proofs.Losses.{busy_has_cause}
+use Rattle.kfifo_machine.proofs.Undisturbed.{busy_is_disturbed}
 use Rattle.kfifo_machine.proofs.schedule.run.Goals as goal
 
 pub returns-clause-no_wrap : goal.returns-clause-no_wrap
@@ -22,3 +26,15 @@ returns-clause-none_returns c = none_returns c.args.shape c.args.threads
 
 pub returns-clause-others_leave : goal.returns-clause-others_leave
 returns-clause-others_leave c = others_leave c.args.shape c.args.threads
+
+pub returns-clause-full_has_cause : goal.returns-clause-full_has_cause
+returns-clause-full_has_cause c = full_has_cause c.args.shape c.args.threads
+
+pub returns-clause-worn_has_cause : goal.returns-clause-worn_has_cause
+returns-clause-worn_has_cause c = worn_has_cause c.args.shape c.args.threads
+
+pub returns-clause-busy_has_cause : goal.returns-clause-busy_has_cause
+returns-clause-busy_has_cause c = busy_has_cause c.args.shape c.args.threads
+
+pub returns-clause-busy_is_disturbed : goal.returns-clause-busy_is_disturbed
+returns-clause-busy_is_disturbed c = busy_is_disturbed c.args.shape c.args.threads
