@@ -2,7 +2,8 @@
 use Rattle.std.specs.Prelude.{◌≡◌, ℕ, ◌+◌, List, [], Option, Some, map, max, option_map, unwrap_or, codes}
 use denote.Ref.{Bor}
 use Rattle.clap.specs.declared.parser.matches.Found.{Found}
-use Rattle.clap.specs.Words.{matched_of, one_text, raw_values}
+use Rattle.clap.specs.declared.parser.matches.ArgMatches.{ArgMatches}
+use Rattle.clap.specs.Words.{matched_of, one_text, raw_values, rows_of, subcommand_name_of, subcommand_rows_of}
 use Rattle.kfifo_words.specs.declared.shape.Shape.{Shape}
 use Rattle.kfifo_words.specs.declared.fault.ShapeFault.{ShapeFault}
 use Rattle.kfifo_words.specs.Sizes.{fault_of}
@@ -70,3 +71,10 @@ IsRefusal found (AtShape fault) = IsShapeFault found fault
 IsRefusal found (Word number) = IsWordFault found number
 IsRefusal found Memory = Unit {0}
 IsRefusal found Output = ⊥
+
+-- the answer of the command that the command line names, over what it gives that command
+pub record IsNamedAnswer (matches : ArgMatches) (text : List ℕ) : Type 0 where
+  pub found : Found
+  pub name : subcommand_name_of matches ≡ Some (codes "run")
+  pub gives : option_map (λ p. p.1) (subcommand_rows_of matches) ≡ Some (rows_of found)
+  pub answer : IsAnswer found text
