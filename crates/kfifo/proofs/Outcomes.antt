@@ -3,12 +3,10 @@ use Rattle.std.proofs.Common.{◌≡◌, ℕ, ◌+◌, List, [], Option, Some, N
 use Rattle.std.specs.Option.{option_map}
 use Rattle.clap.specs.declared.parser.matches.Found.{Found}
 use Rattle.kfifo_words.specs.declared.shape.Shape.{Shape}
-use Rattle.kfifo_machine.specs.declared.event.Begin.{Begin}
 use Rattle.kfifo.specs.declared.fault.Fault.{Fault}
 use Rattle.kfifo.specs.declared.fault.Fault.TheVariants.{Word, Memory}
-use Rattle.kfifo.specs.Answers.{AreTurns, AreWords, IsAnswer, IsRefusal, IsShape}
-use Rattle.kfifo.specs.Reports.{IsReport}
-use Rattle.kfifo.specs.Words.{IsFirstUnread, WritesCalls}
+use Rattle.kfifo.specs.Answers.{AreWords, IsRefusal, IsShape}
+use Rattle.kfifo.specs.Words.{IsFirstUnread}
 
 -- the texts of an argument, or none
 pub words_are : (o : Option (Bor (List (Bor (List ℕ))))) (d : Bor (List (Bor (List ℕ)))) (found : Option (List (List ℕ))) → d.now ≡ []

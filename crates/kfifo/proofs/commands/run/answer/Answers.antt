@@ -1,5 +1,5 @@
-use Rattle.std.proofs.Common.{rules, refl, ap, ◌∙◌, map, subst, sym, ◌≡◌}
-use Rattle.kfifo.specs.Answers.{AreWords, IsAnswer, IsRefusal}
+use Rattle.std.proofs.Common.{rules, refl}
+use Rattle.kfifo.specs.Answers.{AreWords, IsRefusal}
 use Rattle.kfifo.proofs.Outcomes.{ok_to, word_refused, words_are}
 use Rattle.kfifo.proofs.Scripts.{all_called}
 use Rattle.kfifo.proofs.commands.run.answer.Goals as goal
