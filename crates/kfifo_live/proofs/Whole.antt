@@ -20,7 +20,7 @@ use Rattle.kfifo_machine.proofs.Schedules.{after-snoc, own-append, steps_on}
 use Rattle.kfifo_machine.proofs.Sound.{sound, going_place, place_is}
 use Rattle.kfifo_live.specs.declared.view.View.{View}
 use Rattle.kfifo_live.specs.Schedule.{world_after, thread_of, seen_of, with_seen}
-use Rattle.kfifo_live.specs.Step.{At, Idle, Steps, IsOwnRun, Leads, Ready, Rests, Stepped, Went}
+use Rattle.kfifo_live.specs.Step.{At, Idle, Steps, IsOwnRun, Leads, Ready, Rests, Stepped, Went, Onward}
 use Rattle.kfifo_live.proofs.Keeps.{own_same}
 
 AllGoOn-append : (xs ys : List Event) → AllGoOn xs → AllGoOn ys → AllGoOn (xs ++ ys)
@@ -222,4 +222,34 @@ first_ready table shape begin running seat v r is = record {
   size = r.size;
   shape_is = r.shape_is;
   at = at_first begin running v r.idle (ap (λ (s : Shape). going s None (Some begin)) r.shape_is ∙ is);
+}
+
+-- where a seat stands, it has come from itself
+pub onward_here : {S : Type 0} (table : TableId) (shape : Shape) (next : Next) (running : Running) (seat : TableId) (me : Me S View)
+    → Ready table shape None running seat me.0 → next ≡ Goes running → Onward table shape next seat me seat me
+onward_here table shape next running seat me ready is = record {
+  ready = λ r same. subst (λ (x : Running). Ready table shape None x seat me.0) (Goes-injective running r (sym is ∙ same)) ready;
+  so_far = λ later seat'' me'' went. went;
+}
+  where
+    Goes-injective : (x y : Running) → Goes x ≡ Goes y → x ≡ y
+    Goes-injective x y e = cc
+
+-- and a step leads on
+pub onward_step : {S : Type 0} (table : TableId) (shape : Shape) (next : Next) (running place : Running) (a b c : TableId) (me me' me'' : Me S View) (word : ℕ) (later : Next)
+    → Onward table shape next a me b me' → next ≡ Goes running → place ≡ running → Stepped shape None place b me' word c me'' → advance shape running word ≡ later
+    → ((r : Running) × (later ≡ Goes r)) → Onward table shape later a me c me''
+onward_step {S} table shape next running place a b c me me' me'' word later on is same stepped leads goes_on =
+    let ready = on.ready running is in
+    let went = leads_to table shape None running place b c me' me'' word later same ready stepped leads in
+    record {
+      ready = λ r goes. ready_next table shape None running r b c me' me'' ready (subst (λ (n : Next). Went None b me' n c me'') goes went);
+      so_far = λ n d e more. on.so_far n d e (went_on None goes_on.0 b c d me' me'' e n (subst (λ (x : Next). Went None b me' x c me'') goes_on.1 went) more);
+    }
+
+-- from one place to the next, and from there
+pub onward_on : {S : Type 0} (table : TableId) (shape : Shape) (next later : Next) (a b c : TableId) (me me' me'' : Me S View) → Onward table shape next a me b me' → Onward table shape later b me' c me'' → Onward table shape later a me c me''
+onward_on table shape next later a b c me me' me'' x y = record {
+  ready = y.ready;
+  so_far = λ n d e went. x.so_far n d e (y.so_far n d e went);
 }

@@ -1,5 +1,5 @@
 -- What one atomic step adds to what a seat has seen, and where that leads its thread in a call.
-use Rattle.std.specs.Prelude.{◌≡◌, ℕ, ◌+◌, ◌*◌, ◌<◌, List, [], ◌∷◌, ◌++◌, length, get_or, Option, Some, None, Ok}
+use Rattle.std.specs.Prelude.{◌≡◌, ℕ, ◌+◌, ◌*◌, ◌^◌, ◌<◌, ◌≤◌, ◌==◌, if◌then◌else◌, List, [], ◌∷◌, ◌++◌, length, get_or, Option, Some, None, Ok}
 use Rattle.atomic_table.specs.Table.{Me}
 use Rattle.atomic_table.specs.Seated.{TableId}
 use Rattle.kfifo_words.specs.declared.shape.Shape.{Shape}
@@ -9,6 +9,12 @@ use Rattle.kfifo_machine.specs.declared.event.Event.{Event}
 use Rattle.kfifo_machine.specs.declared.place.Running.{Running}
 use Rattle.kfifo_machine.specs.declared.place.Next.{Next}
 use Rattle.kfifo_machine.specs.declared.place.Next.TheVariants.{Goes, Answers}
+use Rattle.kfifo_machine.specs.declared.place.Running.TheVariants as R
+use Rattle.kfifo_machine.specs.declared.place.EnqueuePhase.TheVariants as E
+use Rattle.kfifo_machine.specs.declared.place.DequeuePhase.TheVariants as D
+use Rattle.kfifo_machine.specs.declared.place.Found.{Found}
+use Rattle.kfifo_machine.specs.declared.place.Found.TheVariants.{Slot, Nothing}
+use Rattle.kfifo_machine.specs.Program.{scan_index}
 use Rattle.kfifo_machine.specs.Machine.{World, found, place_of, place_after, outcome_of, step}
 use Rattle.kfifo_machine.specs.Runs.{event, own, going, AllGoOn, BeginsOnce}
 use Rattle.kfifo_machine.specs.Places.{IsFoundBy}
@@ -103,3 +109,35 @@ pub record Went {S : Type 0} (begin : Option Begin) (seat : TableId) (me : Me S 
 abbrev pub next_of : Running → Option Answer → Next
 next_of again None = Goes again
 next_of again (Some answer) = Answers answer
+
+-- a seat whose thread has come to this place from where it was: whatever goes on from here goes on from there
+pub record Onward {S : Type 0} (table : TableId) (shape : Shape) (next : Next) (seat : TableId) (me : Me S View) (seat' : TableId) (me' : Me S View) : Type 0 where
+  pub ready : (running : Running) → next ≡ Goes running → Ready table shape None running seat' me'.0
+  pub so_far : (later : Next) (seat'' : TableId) (me'' : Me S View) → Went None seat' me' later seat'' me'' → Went None seat me later seat'' me''
+
+-- `count` slots of a segment that stand side by side from `index` on, where a scan from `start` comes after `offset` others
+pub record SlotsInARow (shape : Shape) (segment start offset index count limit : ℕ) : Type 0 where
+  pub above : 0 < index
+  pub more : offset < limit
+  pub within : offset + count ≤ limit
+  pub below : index + count < 2 ^ 32
+  pub each : (i : ℕ) → i < count → scan_index shape segment start (offset + i) ≡ index + i
+
+-- where a scan stands that has seen so many slots in vain: at the next slot, or at the second look at the ends word
+abbrev pub tail_seen : ℕ → ℕ → ℕ → ℕ → ℕ → ℕ → Next
+tail_seen item start left ends limit seen =
+    if seen == limit then Goes (R.Enqueue item start left (E.Recheck ends Nothing)) else Goes (R.Enqueue item start left (E.ScanTail ends seen))
+
+abbrev pub head_seen : ℕ → ℕ → ℕ → ℕ → ℕ → Next
+head_seen start left ends limit seen =
+    if seen == limit then Goes (R.Dequeue start left (D.Recheck ends Nothing)) else Goes (R.Dequeue start left (D.ScanHead ends seen))
+
+-- where the scan of an enqueue leads
+abbrev pub tail_scanned : ℕ → ℕ → ℕ → ℕ → ℕ → ℕ → Found → Next
+tail_scanned item start left ends limit seen (Slot index word) = Goes (R.Enqueue item start left (E.Recheck ends (Slot index word)))
+tail_scanned item start left ends limit seen Nothing = tail_seen item start left ends limit seen
+
+-- where the scan of a dequeue leads
+abbrev pub head_scanned : ℕ → ℕ → ℕ → ℕ → ℕ → Found → Next
+head_scanned start left ends limit seen (Slot index word) = Goes (R.Dequeue start left (D.Recheck ends (Slot index word)))
+head_scanned start left ends limit seen Nothing = head_seen start left ends limit seen

@@ -1,12 +1,13 @@
 //! The dequeue of the running queue, step by step.
 ghost use Rattle.std.specs.Prelude.{◌≡◌, ◌<◌, ◌≤◌, ◌+◌, ◌-◌, ◌^◌, None, Some};
-ghost use Rattle.kfifo_words.specs.Words.{version_of};
+ghost use Rattle.kfifo_words.specs.Words.{version_of, head_of};
+ghost use Rattle.kfifo_words.specs.Ring.{slot_at};
 ghost use Rattle.kfifo_machine.specs.Program.{dequeue_again};
 ghost use Rattle.kfifo_machine.specs.Places.{IsEnds};
-ghost use Rattle.kfifo_live.specs.Step.{Ready, Rests, Went, next_of};
+ghost use Rattle.kfifo_live.specs.Step.{Ready, Rests, Went, Onward, next_of, SlotsInARow, head_scanned};
 
 use crate::law::Law;
-use crate::scan::next_slot;
+use crate::scan::Row;
 use crate::touch::{exchange, load};
 use crate::view::{Opening, View};
 use atomic_table::{Seat, Shared};
@@ -48,7 +49,77 @@ impl Demand {
     }
 }
 
+/// Looks for a filled slot among slots in a row, which may be none.
+#[inline]
+fn scan_row(
+    shared: &Shared<(), View, Opening, Law>,
+    seat: &mut Seat<(), View>,
+    shape: &Shape,
+    demand: Demand,
+    ends: Ends,
+    row: Row,
+) -> Found
+    requires row { SlotsInARow shape.now (head_of ends) demand.start row.offset row.index row.count shape.now.k }
+    requires ready { Ready shared.now.table_id shape.now None (Running.Dequeue demand.start demand.left (DequeuePhase.ScanHead ends row.offset)) seat.old.table_id seat.old.me.0 }
+    ensures { Onward shared.now.table_id shape.now (head_scanned demand.start demand.left ends shape.now.k (row.offset + row.count) result) seat.old.table_id seat.old.me seat.new.table_id seat.new.me }
+{
+    let end = row.index + row.count as usize;
+    let mut at = row.index;
+    let mut seen = row.offset;
+    'slots: while at != end {
+        let place = demand.at(DequeuePhase::ScanHead { ends, offset: seen });
+        let word = load::<Brand>(shared, seat, shape, None, place, at);
+        if word.value() != 0 {
+            return Found::Slot { index: at, word };
+        }
+        at += 1;
+        seen += 1;
+    }
+    Found::Nothing
+}
+
+/// Looks for a filled slot in the head's segment, the first look having been in vain.
+#[inline]
+fn scan_rest(
+    shared: &Shared<(), View, Opening, Law>,
+    seat: &mut Seat<(), View>,
+    shape: &Shape,
+    demand: Demand,
+    ends: Ends,
+    first: usize,
+) -> Found
+    requires start { demand.start < shape.now.k }
+    requires ends { IsEnds shape.now ends }
+    requires first { first ≡ slot_at shape.now.k (head_of ends) 0 }
+    requires more { 1 < shape.now.k }
+    requires ready { Ready shared.now.table_id shape.now None (Running.Dequeue demand.start demand.left (DequeuePhase.ScanHead ends 1)) seat.old.table_id seat.old.me.0 }
+    ensures { Onward shared.now.table_id shape.now (Next.Goes (Running.Dequeue demand.start demand.left (DequeuePhase.Recheck ends result))) seat.old.table_id seat.old.me seat.new.table_id seat.new.me }
+{
+    let start = demand.start;
+    let upper = shape.k() - start - 1;
+    let row = Row {
+        offset: 1,
+        index: first + start as usize + 1,
+        count: upper,
+    };
+    match scan_row(shared, seat, shape, demand, ends, row) {
+        Found::Slot { index, word } => Found::Slot { index, word },
+        Found::Nothing => {
+            if start == 0 {
+                return Found::Nothing;
+            }
+            let row = Row {
+                offset: upper + 1,
+                index: first,
+                count: start,
+            };
+            scan_row(shared, seat, shape, demand, ends, row)
+        }
+    }
+}
+
 /// Looks for a filled slot in the head's segment.
+#[inline]
 fn scan_head(
     shared: &Shared<(), View, Opening, Law>,
     seat: &mut Seat<(), View>,
@@ -59,24 +130,19 @@ fn scan_head(
     requires start { demand.start < shape.now.k }
     requires ends { IsEnds shape.now ends }
     requires ready { Ready shared.now.table_id shape.now None (Running.Dequeue demand.start demand.left (DequeuePhase.ScanHead ends 0)) seat.old.table_id seat.old.me.0 }
-    ensures { Went None seat.old.table_id seat.old.me (Next.Goes (Running.Dequeue demand.start demand.left (DequeuePhase.Recheck ends result))) seat.new.table_id seat.new.me }
+    ensures { Onward shared.now.table_id shape.now (Next.Goes (Running.Dequeue demand.start demand.left (DequeuePhase.Recheck ends result))) seat.old.table_id seat.old.me seat.new.table_id seat.new.me }
 {
     let first = shape.slot_index(ends.head(), 0);
-    let mut slot = demand.start;
-    let mut offset = 0;
-    'slots: loop {
-        let index = first + slot as usize;
-        let place = demand.at(DequeuePhase::ScanHead { ends, offset });
-        let word = load::<Brand>(shared, seat, shape, None, place, index);
-        if word.value() != 0 {
-            return Found::Slot { index, word };
-        }
-        if offset + 1 == shape.k() {
-            return Found::Nothing;
-        }
-        offset += 1;
-        slot = next_slot(shape, slot);
+    let index = first + demand.start as usize;
+    let place = demand.at(DequeuePhase::ScanHead { ends, offset: 0 });
+    let word = load::<Brand>(shared, seat, shape, None, place, index);
+    if word.value() != 0 {
+        return Found::Slot { index, word };
     }
+    if shape.k() == 1 {
+        return Found::Nothing;
+    }
+    scan_rest(shared, seat, shape, demand, ends, first)
 }
 
 /// Takes the item out of a filled slot.
@@ -99,11 +165,10 @@ fn take(
         filled,
     });
     let emptied = Word::pack(0, filled.version() + 1);
-    if exchange::<Brand>(shared, seat, shape, place, index, filled, emptied) == filled {
-        Some(Answer::Got(filled.value()))
-    } else {
-        demand.lost()
+    if exchange::<Brand>(shared, seat, shape, place, index, filled, emptied) != filled {
+        return demand.lost();
     }
+    Some(Answer::Got(filled.value()))
 }
 
 /// Goes on from a filled slot of the head's segment, if head and tail stand as before.

@@ -1,12 +1,13 @@
 //! The enqueue of the running queue, step by step.
 ghost use Rattle.std.specs.Prelude.{◌≡◌, ◌<◌, ◌≤◌, ◌+◌, ◌-◌, ◌^◌, ◌==◌, None, Some, if◌then◌else◌};
-ghost use Rattle.kfifo_words.specs.Words.{version_of};
+ghost use Rattle.kfifo_words.specs.Words.{version_of, tail_of};
+ghost use Rattle.kfifo_words.specs.Ring.{slot_at};
 ghost use Rattle.kfifo_machine.specs.Program.{enqueue_again};
 ghost use Rattle.kfifo_machine.specs.Places.{IsEnds, IsSlotIndex};
-ghost use Rattle.kfifo_live.specs.Step.{Ready, Rests, Went, next_of};
+ghost use Rattle.kfifo_live.specs.Step.{Ready, Rests, Went, Onward, next_of, SlotsInARow, tail_scanned};
 
 use crate::law::Law;
-use crate::scan::next_slot;
+use crate::scan::Row;
 use crate::touch::{exchange, load};
 use crate::view::{Opening, View};
 use atomic_table::{Seat, Shared};
@@ -50,7 +51,78 @@ impl Offer {
     }
 }
 
+/// Looks for an empty slot among slots in a row, which may be none.
+#[inline]
+fn scan_row(
+    shared: &Shared<(), View, Opening, Law>,
+    seat: &mut Seat<(), View>,
+    shape: &Shape,
+    offer: Offer,
+    ends: Ends,
+    row: Row,
+) -> Found
+    requires row { SlotsInARow shape.now (tail_of ends) offer.start row.offset row.index row.count shape.now.probes }
+    requires ready { Ready shared.now.table_id shape.now None (Running.Enqueue offer.item offer.start offer.left (EnqueuePhase.ScanTail ends row.offset)) seat.old.table_id seat.old.me.0 }
+    ensures { Onward shared.now.table_id shape.now (tail_scanned offer.item offer.start offer.left ends shape.now.probes (row.offset + row.count) result) seat.old.table_id seat.old.me seat.new.table_id seat.new.me }
+{
+    let end = row.index + row.count as usize;
+    let mut at = row.index;
+    let mut seen = row.offset;
+    'slots: while at != end {
+        let place = offer.at(EnqueuePhase::ScanTail { ends, offset: seen });
+        let word = load::<Brand>(shared, seat, shape, None, place, at);
+        if word.value() == 0 {
+            return Found::Slot { index: at, word };
+        }
+        at += 1;
+        seen += 1;
+    }
+    Found::Nothing
+}
+
+/// Looks for an empty slot in the tail's segment, the first look having been in vain.
+#[inline]
+fn scan_rest(
+    shared: &Shared<(), View, Opening, Law>,
+    seat: &mut Seat<(), View>,
+    shape: &Shape,
+    offer: Offer,
+    ends: Ends,
+    first: usize,
+) -> Found
+    requires start { offer.start < shape.now.k }
+    requires ends { IsEnds shape.now ends }
+    requires first { first ≡ slot_at shape.now.k (tail_of ends) 0 }
+    requires more { 1 < shape.now.probes }
+    requires ready { Ready shared.now.table_id shape.now None (Running.Enqueue offer.item offer.start offer.left (EnqueuePhase.ScanTail ends 1)) seat.old.table_id seat.old.me.0 }
+    ensures { Onward shared.now.table_id shape.now (Next.Goes (Running.Enqueue offer.item offer.start offer.left (EnqueuePhase.Recheck ends result))) seat.old.table_id seat.old.me seat.new.table_id seat.new.me }
+{
+    let start = offer.start;
+    let rest = shape.probes() - 1;
+    let upper = rest.min(shape.k() - start - 1);
+    let row = Row {
+        offset: 1,
+        index: first + start as usize + 1,
+        count: upper,
+    };
+    match scan_row(shared, seat, shape, offer, ends, row) {
+        Found::Slot { index, word } => Found::Slot { index, word },
+        Found::Nothing => {
+            if upper == rest {
+                return Found::Nothing;
+            }
+            let row = Row {
+                offset: upper + 1,
+                index: first,
+                count: rest - upper,
+            };
+            scan_row(shared, seat, shape, offer, ends, row)
+        }
+    }
+}
+
 /// Looks for an empty slot in the tail's segment.
+#[inline]
 fn scan_tail(
     shared: &Shared<(), View, Opening, Law>,
     seat: &mut Seat<(), View>,
@@ -61,24 +133,19 @@ fn scan_tail(
     requires start { offer.start < shape.now.k }
     requires ends { IsEnds shape.now ends }
     requires ready { Ready shared.now.table_id shape.now None (Running.Enqueue offer.item offer.start offer.left (EnqueuePhase.ScanTail ends 0)) seat.old.table_id seat.old.me.0 }
-    ensures { Went None seat.old.table_id seat.old.me (Next.Goes (Running.Enqueue offer.item offer.start offer.left (EnqueuePhase.Recheck ends result))) seat.new.table_id seat.new.me }
+    ensures { Onward shared.now.table_id shape.now (Next.Goes (Running.Enqueue offer.item offer.start offer.left (EnqueuePhase.Recheck ends result))) seat.old.table_id seat.old.me seat.new.table_id seat.new.me }
 {
     let first = shape.slot_index(ends.tail(), 0);
-    let mut slot = offer.start;
-    let mut offset = 0;
-    'slots: loop {
-        let index = first + slot as usize;
-        let place = offer.at(EnqueuePhase::ScanTail { ends, offset });
-        let word = load::<Brand>(shared, seat, shape, None, place, index);
-        if word.value() == 0 {
-            return Found::Slot { index, word };
-        }
-        if offset + 1 == shape.probes() {
-            return Found::Nothing;
-        }
-        offset += 1;
-        slot = next_slot(shape, slot);
+    let index = first + offer.start as usize;
+    let place = offer.at(EnqueuePhase::ScanTail { ends, offset: 0 });
+    let word = load::<Brand>(shared, seat, shape, None, place, index);
+    if word.value() == 0 {
+        return Found::Slot { index, word };
     }
+    if shape.probes() == 1 {
+        return Found::Nothing;
+    }
+    scan_rest(shared, seat, shape, offer, ends, first)
 }
 
 /// Takes the item out again.
@@ -142,7 +209,8 @@ fn settle(
     let segment = ends.tail();
     let head = now.head();
     if segment != head {
-        if shape.dist(head, segment) <= shape.dist(head, now.tail()) {
+        let tail = now.tail();
+        if segment == tail || shape.dist(head, segment) <= shape.dist(head, tail) {
             return Some(Answer::Done);
         }
         return undo(shared, seat, shape, offer, index, filled, false);

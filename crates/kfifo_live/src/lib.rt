@@ -10,6 +10,8 @@ mod opening;
 mod queue;
 mod scan;
 mod seats;
+#[cfg(test)]
+mod tests;
 mod touch;
 mod view;
 

@@ -1,14 +1,12 @@
 //! The order in which a scan looks at the slots of a segment.
-ghost use Rattle.std.specs.Prelude.{◌≡◌, ◌<◌, ◌+◌, ◌%◌};
 
-use kfifo_words::Shape;
-
-/// The slot after this one, cyclically.
-#[inline]
-pub(crate) fn next_slot(shape: &Shape, slot: u32) -> u32
-    requires { slot < shape.now.k }
-    ensures value { result ≡ (slot + 1) % shape.now.k }
-    ensures below { result < shape.now.k }
-{
-    if slot + 1 == shape.k() { 0 } else { slot + 1 }
+/// Slots of a segment that stand side by side in the table.
+#[derive(Clone, Copy)]
+pub(crate) struct Row {
+    /// How many slots the scan has seen before them.
+    pub(crate) offset: u32,
+    /// The index of the first one's word.
+    pub(crate) index: usize,
+    /// How many they are, at least 1.
+    pub(crate) count: u32,
 }

@@ -1,3 +1,12 @@
 pub mod Places
 pub mod Schedules
 pub mod Sound
+pub mod Versions
+pub mod Ring
+pub mod NoWrap
+pub mod Budget
+pub mod Refusals
+pub mod Laws
+pub mod Calls
+pub mod Paths
+pub mod Causes

@@ -96,7 +96,7 @@ length-after (Load index) words = refl
 length-after (Exchange index from to) words = cond_both (eqb (get_or words index 0) from) (set words index to) words (λ ws. length ws ≡ length words) (λ _. length-set words index to) (λ _. refl)
 
 -- a word after an access
-get_or-after : (a : Access) (words : List ℕ) (i : ℕ) → accessed a < length words → (get_or (words_after a words) i 0 ≡ get_or words i 0) ⊎ ((i ≡ accessed a) × ((from : ℕ) × ((to : ℕ) × ((a ≡ Exchange (accessed a) from to) × (get_or words i 0 ≡ from) × (get_or (words_after a words) i 0 ≡ to)))))
+pub get_or-after : (a : Access) (words : List ℕ) (i : ℕ) → accessed a < length words → (get_or (words_after a words) i 0 ≡ get_or words i 0) ⊎ ((i ≡ accessed a) × ((from : ℕ) × ((to : ℕ) × ((a ≡ Exchange (accessed a) from to) × (get_or words i 0 ≡ from) × (get_or (words_after a words) i 0 ≡ to)))))
 get_or-after (Load index) words i h = inl refl
 get_or-after (Exchange index from to) words i h =
     elim (cases_Bool (eqb (get_or words index 0) from)) [

@@ -57,7 +57,7 @@ run_before shape world there xs ys is =
 pub own-append : (thread : ℕ) (xs ys : List Event) → own thread (xs ++ ys) ≡ own thread xs ++ own thread ys
 own-append thread xs ys = filter-append (λ (e : Event). e.thread == thread) xs ys
 
-take-next : (events : List Event) (place : ℕ) (d : Event) → place < length events → take (place + 1) events ≡ take place events ++ get_or events place d ∷ []
+pub take-next : (events : List Event) (place : ℕ) (d : Event) → place < length events → take (place + 1) events ≡ take place events ++ get_or events place d ∷ []
 take-next events place d within = rw add-one (take-suc events place d within)
 
 -- where the events up to a place are a schedule, and the next one is made, those up to the next place are one

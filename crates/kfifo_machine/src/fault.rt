@@ -45,3 +45,13 @@ impl From<StartFault> for RunFault {
         }
     }
 }
+
+impl From<AllocError> for RunFault {
+    ghost use Rattle.kfifo_machine.specs.declared.fault.RunFault.TheVariants.{Memory};
+
+    ghost from_gives = { λ _ fault. fault ≡ Memory };
+
+    fn from(_: AllocError) -> RunFault {
+        RunFault::Memory
+    }
+}

@@ -4,13 +4,17 @@
 
 mod event;
 mod fault;
+mod log;
 mod place;
 mod schedule;
 mod state;
 mod steps;
+#[cfg(test)]
+mod tests;
 
 pub use event::{Begin, Event, NotEnabled, Outcome};
 pub use fault::{RunFault, StartFault};
+pub use log::history;
 pub use place::{Access, DequeuePhase, EnqueuePhase, Found, Next, Running};
 pub use schedule::run;
 pub use state::{MAX_THREADS, State, start, step};

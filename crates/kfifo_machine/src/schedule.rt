@@ -1,17 +1,20 @@
 //! Whole schedules.
 ghost use Rattle.std.specs.Prelude.{◌≡◌, ℕ, ◌<◌, ◌⊎◌, ◌↔◌, Some, IfOk, IfErr, Err};
 ghost use Rattle.kfifo_machine.specs.Machine.{after, IsFirstRefused};
+ghost use Rattle.kfifo_machine.specs.Laws.{NoWrap, FewEvents, LeavesNone, VersionsRise, NoneReturns, OthersLeave};
 
 use crate::fault::RunFault;
 use crate::{Event, State, start, step};
 use kfifo_words::Shape;
 use std::alloc::Global;
 
-/// The state after these events, from the opening.
-///
-/// Refused, in this order: ThreadsOutOfRange where the number of threads is not 1 to 64; Memory where
-/// a growth was refused; NotASchedule with the place of the first event that is not enabled.
-pub fn run(alloc: Global, shape: Shape, threads: u32, events: &[Event]) -> Result<State, RunFault>
+/// The state after these events, from the opening, or why there is none.
+fn run_events(
+    alloc: Global,
+    shape: Shape,
+    threads: u32,
+    events: &[Event],
+) -> Result<State, RunFault>
     ensures state { IfOk result (λ s. (s.shape ≡ shape) × (after shape threads events.now ≡ Some s.world)) }
     ensures threads { (result ≡ Err RunFault.ThreadsOutOfRange) ↔ ((threads ≡ 0) ⊎ (64 < threads)) }
     ensures refused { (place : ℕ) → result ≡ Err (RunFault.NotASchedule place) → IsFirstRefused shape threads events.now place }
@@ -24,4 +27,25 @@ pub fn run(alloc: Global, shape: Shape, threads: u32, events: &[Event]) -> Resul
         }
     }
     Ok(state)
+}
+
+/// The state after these events, from the opening.
+///
+/// Refused, in this order: ThreadsOutOfRange where the number of threads is not 1 to 64; Memory where
+/// a growth was refused; NotASchedule with the place of the first event that is not enabled.
+///
+/// The clauses from `no_wrap` on speak of every schedule of this shape and number of threads, whatever
+/// is answered.
+pub fn run(alloc: Global, shape: Shape, threads: u32, events: &[Event]) -> Result<State, RunFault>
+    ensures state { IfOk result (λ s. (s.shape ≡ shape) × (after shape threads events.now ≡ Some s.world)) }
+    ensures threads { (result ≡ Err RunFault.ThreadsOutOfRange) ↔ ((threads ≡ 0) ⊎ (64 < threads)) }
+    ensures refused { (place : ℕ) → result ≡ Err (RunFault.NotASchedule place) → IsFirstRefused shape threads events.now place }
+    ensures no_wrap { NoWrap shape threads }
+    ensures few_events { FewEvents shape threads }
+    ensures leaves_none { LeavesNone shape threads }
+    ensures versions_rise { VersionsRise shape threads }
+    ensures none_returns { NoneReturns shape threads }
+    ensures others_leave { OthersLeave shape threads }
+{
+    run_events(alloc, shape, threads, events)
 }

@@ -3,7 +3,8 @@ ghost use Rattle.std.specs.Prelude.{◌≡◌, ℕ, ◌+◌, ◌*◌, ◌^◌, �
 ghost use Rattle.kfifo_words.specs.Ring.{clock_at};
 ghost use Rattle.kfifo_machine.specs.Program.{access, accessed, advance};
 ghost use Rattle.kfifo_machine.specs.Machine.{opening, word_at, words_after, moved, found, outcome_of};
-ghost use Rattle.kfifo_machine.specs.Places.{IsPlace};
+ghost use Rattle.kfifo_machine.specs.Places.{IsPlace, IsState};
+ghost use Rattle.kfifo_machine.specs.Laws.{OthersStay, NoneFalls, OneWord};
 
 use crate::fault::StartFault;
 use crate::place::idle_places;
@@ -40,6 +41,7 @@ impl Model for State {
 pub fn start(alloc: Global, shape: Shape, threads: u32) -> Result<State, StartFault>
     ensures opening { IfOk result (λ s. (s.shape ≡ shape) × (s.world ≡ opening shape threads)) }
     ensures threads { (result ≡ Err StartFault.ThreadsOutOfRange) ↔ ((threads ≡ 0) ⊎ (64 < threads)) }
+    ensures few { IfOk result (λ _. (0 < threads) × (threads ≤ 64)) }
 {
     if threads == 0 || threads > MAX_THREADS {
         return Err(StartFault::ThreadsOutOfRange);
@@ -115,7 +117,8 @@ fn make_step(state: &mut State, thread: usize, running: Running) -> Outcome
 
 /// Makes one event, or says why it cannot be made and leaves the state as it was.
 #[tactic(auto, unfolding(crate::specs::Machine::step, crate::specs::Machine::place_of, crate::specs::Machine::found, crate::specs::Machine::word_at, crate::specs::Machine::ticked))]
-pub fn step(state: &mut State, event: Event) -> Result<Outcome, NotEnabled>
+fn make_event(state: &mut State, event: Event) -> Result<Outcome, NotEnabled>
+    ensures sound { IsState state.old.shape state.old.world.words state.old.world.places }
     ensures shape { state.new.shape ≡ state.old.shape }
     ensures made { IfOk result (λ outcome. Rattle.kfifo_machine.specs.Machine.step state.old.shape state.old.world event ≡ Ok (state.new.world, outcome)) }
     ensures refused { IfErr result (λ fault. Rattle.kfifo_machine.specs.Machine.step state.old.shape state.old.world event ≡ Err fault) }
@@ -165,4 +168,20 @@ pub fn step(state: &mut State, event: Event) -> Result<Outcome, NotEnabled>
         (Some(running), None) => Ok(make_step(state, thread, running)),
         (Some(_), Some(_)) => Err(NotEnabled::InCall),
     }
+}
+
+/// Makes one event, or says why it cannot be made and leaves the state as it was.
+///
+/// Each other thread stays at its place. One word changes at most, by a won exchange or a tick, and
+/// no word and no version falls.
+pub fn step(state: &mut State, event: Event) -> Result<Outcome, NotEnabled>
+    ensures shape { state.new.shape ≡ state.old.shape }
+    ensures made { IfOk result (λ outcome. Rattle.kfifo_machine.specs.Machine.step state.old.shape state.old.world event ≡ Ok (state.new.world, outcome)) }
+    ensures refused { IfErr result (λ fault. Rattle.kfifo_machine.specs.Machine.step state.old.shape state.old.world event ≡ Err fault) }
+    ensures unchanged { OnErr result (state.new ≡ state.old) }
+    ensures others_stay { OthersStay event.thread state.old.world state.new.world }
+    ensures none_falls { NoneFalls state.old.world state.new.world }
+    ensures one_word { IfOk result (λ _. OneWord state.old.shape state.old.world state.new.world event) }
+{
+    make_event(state, event)
 }

@@ -1,6 +1,18 @@
-//! The k-relaxed queue as its callers see it: calls, their answers, and histories.
+//! The k-relaxed queue as its callers see it: calls and their answers, histories, orders, and how far an order
+//! goes from a plain queue's.
 #![tactic(auto)]
 
 mod calls;
+mod history;
+mod measures;
+mod orders;
+mod progress;
+mod reading;
+mod search;
 
 pub use calls::{Answer, Call, End, Op};
+pub use history::{History, RecordFault};
+pub use measures::{OvertakenFault, RankFault, overtaken, ranks};
+pub use orders::{Verdict, check_order};
+pub use reading::{MOST_CALLS, read_history};
+pub use search::{SearchFault, has_order};

@@ -4,6 +4,8 @@
 mod ends;
 mod fault;
 mod shape;
+#[cfg(test)]
+mod tests;
 mod word;
 
 pub use ends::Ends;

@@ -95,7 +95,11 @@ impl Shape {
         ensures value { result ≡ next_segment self.now.n segment }
         ensures below { result < self.now.n }
     {
-        if segment + 1 == self.n { 0 } else { segment + 1 }
+        if segment + 1 == self.n {
+            0
+        } else {
+            segment + 1
+        }
     }
 
     /// How many steps forward round the ring lead from one segment to another, 0 to n - 1.
@@ -106,7 +110,11 @@ impl Shape {
         ensures value { result ≡ distance self.now.n from to }
         ensures below { result < self.now.n }
     {
-        if from <= to { to - from } else { to + self.n - from }
+        if from <= to {
+            to - from
+        } else {
+            to + self.n - from
+        }
     }
 
     /// The index of a slot's word in the table.

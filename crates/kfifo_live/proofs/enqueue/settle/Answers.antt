@@ -9,8 +9,8 @@ use Rattle.kfifo_machine.specs.Program.{advance}
 use Rattle.kfifo_live.proofs.Whole.{leads_to, ready_next, went_on}
 use Rattle.kfifo_live.proofs.enqueue.settle.Goals as goal
 
-pub returns-then-dist : goal.returns-then-dist
-returns-then-dist c =
+pub returns-then-segment-tail : goal.returns-then-segment-tail
+returns-then-segment-tail c =
     let e1 : advance c.args.shape.now (R.Enqueue c.args.offer.item c.args.offer.start c.args.offer.left (E.ReloadEnds c.args.ends c.args.index c.args.filled)) c.load.result ≡ Answers A.Done = grind (arith, nat_tests) in
     leads_to _ _ _ _ _ _ _ _ _ _ _ c.at-place.ensures c.requires.ready c.load.ensures e1
 

@@ -1,20 +1,24 @@
--- The schedule so far was run, and its next event is made or refused.
-use Rattle.std.proofs.Common.{◌≡◌, ℕ, ◌∙◌, subst}
-use Rattle.kfifo_machine.specs.Machine.{IsFirstRefused}
-use Rattle.kfifo_machine.proofs.Schedules.{goes_on, stops}
+-- The laws hold of every schedule.
+use Rattle.kfifo_machine.proofs.NoWrap.{no_wrap}
+use Rattle.kfifo_machine.proofs.Budget.{few_events}
+use Rattle.kfifo_machine.proofs.Refusals.{leaves_none}
+use Rattle.kfifo_machine.proofs.Laws.{versions_rise, none_returns, others_leave}
 use Rattle.kfifo_machine.proofs.schedule.run.Goals as goal
 
-pub loop-place-preserved : goal.loop-place-preserved
-loop-place-preserved c = record {
-  shape = c.step.ensures.shape ∙ c.loop-place.invariant.shape;
-  reached = goes_on c.args.shape c.args.threads c.args.events.now c.loop-place.place _ c.loop-place.state.shape c.loop-place.state.world c.step.new.state.world _
-      c.loop-place-test.true c.loop-place.invariant.shape c.loop-place.invariant.reached c.in-Ok.ensures.made;
-}
+pub returns-clause-no_wrap : goal.returns-clause-no_wrap
+returns-clause-no_wrap c = no_wrap c.args.shape c.args.threads
 
-pub returns-in-Err-clause-refused : goal.returns-in-Err-clause-refused
-returns-in-Err-clause-refused c place e =
-    let same : c.loop-place.place ≡ place = cc in
-    let P : ℕ → Type 0 = λ p. IsFirstRefused c.args.shape c.args.threads c.args.events.now p in
-    subst P same
-    (stops c.args.shape c.args.threads c.args.events.now c.loop-place.place _ c.loop-place.state.shape c.loop-place.state.world _
-    c.loop-place-test.true c.loop-place.invariant.shape c.loop-place.invariant.reached c.in-Err.ensures.refused)
+pub returns-clause-few_events : goal.returns-clause-few_events
+returns-clause-few_events c = few_events c.args.shape c.args.threads
+
+pub returns-clause-leaves_none : goal.returns-clause-leaves_none
+returns-clause-leaves_none c = leaves_none c.args.shape c.args.threads
+
+pub returns-clause-versions_rise : goal.returns-clause-versions_rise
+returns-clause-versions_rise c = versions_rise c.args.shape c.args.threads
+
+pub returns-clause-none_returns : goal.returns-clause-none_returns
+returns-clause-none_returns c = none_returns c.args.shape c.args.threads
+
+pub returns-clause-others_leave : goal.returns-clause-others_leave
+returns-clause-others_leave c = others_leave c.args.shape c.args.threads

@@ -11,10 +11,10 @@ earlier k s t i j lt in_segment = let m : suc s * k ≤ t * k = mul-le-mul_right
 same_slot : (k s t i j : ℕ) → i < k → j < k → 1 + s * k + i ≡ 1 + t * k + j → (s ≡ t) × (i ≡ j)
 same_slot k s t i j i_in j_in same =
     elim (cases_order s t) [
-      inl e ↦ (e, grind arith)
-    | inr apart ↦ elim apart [
-        inl lt ↦ let m = earlier k s t i j lt i_in in absurd (omega arith)
-      | inr gt ↦ let m = earlier k t s j i gt j_in in absurd (omega arith)
+      | inl e ↦ (e, grind arith)
+      | inr apart ↦ elim apart [
+        | inl lt ↦ let m = earlier k s t i j lt i_in in absurd (omega arith)
+        | inr gt ↦ let m = earlier k t s j i gt j_in in absurd (omega arith)
       ]
     ]
 

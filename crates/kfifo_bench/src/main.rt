@@ -1,0 +1,123 @@
+//! Makes many calls of a running queue by one thread, so that their instructions can be counted.
+//!
+//! The arguments are k, 1 to 64; `half` or `empty`; and the number of turns. The ring has 1,024 slots.
+//! With `half` it is filled half, and each turn makes an enqueue and a dequeue; with `empty` each turn
+//! makes a dequeue of an empty queue. It prints how many calls had the answer that is wanted.
+#![tactic(auto)]
+
+ghost use Rattle.std.specs.Prelude.{◌≡◌, ◌<◌, ◌≤◌, ◌*◌};
+ghost use Rattle.kfifo_live.specs.Pass.{IsOf, IsSame};
+
+use kfifo_live::{Pass, Queue};
+use kfifo_model::Answer;
+use kfifo_words::Shape;
+use std::io;
+
+/// More rounds than a call that nobody disturbs can need.
+const TURNS: u16 = 65_535;
+
+/// Starts of scans, one after the other: a linear congruential generator, spread over k.
+#[derive(Drop)]
+struct Starts {
+    state: u32,
+    k: u32,
+}
+
+impl Starts {
+    /// The next start, below k.
+    fn next(&mut self) -> u32
+        requires { 1 ≤ self.old.k }
+        ensures below { result < self.old.k }
+        ensures same { self.new.k ≡ self.old.k }
+    {
+        self.state = self
+            .state
+            .wrapping_mul(1_664_525)
+            .wrapping_add(1_013_904_223);
+        ((u64::from(self.state) * u64::from(self.k)) >> 32) as u32
+    }
+}
+
+/// Puts 512 items.
+fn fill(queue: &Queue, pass: &mut Pass, starts: &mut Starts)
+    requires of { IsOf queue.now pass.old }
+    requires k { starts.old.k ≡ queue.now.opened.shape.k }
+    ensures same { IsSame pass.old pass.new }
+    ensures k { starts.new.k ≡ starts.old.k }
+{
+    for item in 1..513u32 {
+        pass.enqueue(queue, item, starts.next(), TURNS);
+    }
+}
+
+/// Puts and takes an item in turn, and counts the calls that did so.
+fn put_and_take(queue: &Queue, pass: &mut Pass, starts: &mut Starts, calls: u32) -> u64
+    requires of { IsOf queue.now pass.old }
+    requires k { starts.old.k ≡ queue.now.opened.shape.k }
+    ensures { result ≤ 2 * calls }
+{
+    let mut wanted: u64 = 0;
+    for item in 0..calls {
+        if let Answer::Done = pass.enqueue(queue, (item & 65_535) + 1, starts.next(), TURNS) {
+            wanted += 1;
+        }
+        if let Answer::Got(_) = pass.dequeue(queue, starts.next(), TURNS) {
+            wanted += 1;
+        }
+    }
+    wanted
+}
+
+/// Takes from an empty queue, and counts the calls that found it empty.
+fn take_none(queue: &Queue, pass: &mut Pass, starts: &mut Starts, calls: u32) -> u64
+    requires of { IsOf queue.now pass.old }
+    requires k { starts.old.k ≡ queue.now.opened.shape.k }
+    ensures { result ≤ calls }
+{
+    let mut wanted: u64 = 0;
+    for call in 0..calls {
+        if let Answer::Empty = pass.dequeue(queue, starts.next(), TURNS) {
+            wanted += 1;
+        }
+    }
+    wanted
+}
+
+/// The number that an argument is, or else this one.
+fn number(word: Option<String>, other: u32) -> u32 {
+    match word {
+        Some(text) => text.parse().unwrap_or(other),
+        None => other,
+    }
+}
+
+fn main(rt: HostRuntime) -> io::Result<()> {
+    let mut args = std::env::args(&rt)?;
+    args.next();
+    let k = number(args.next(), 4);
+    let is_empty = match args.next() {
+        Some(text) => text.as_str() == "empty",
+        None => false,
+    };
+    let calls = number(args.next(), 1000);
+    if k == 0 {
+        return println!(rt; "no such k");
+    }
+    let Ok(shape) = Shape::new(k, 1024 / k, 1_099_511_627_775) else {
+        return println!(rt; "no such k");
+    };
+    let Ok((queue, mut passes)) = Queue::open(rt.alloc(), shape, 1) else {
+        return println!(rt; "no memory");
+    };
+    let Some(mut pass) = passes.pop() else {
+        unreachable!()
+    };
+    let mut starts = Starts { state: 12_345, k };
+    let wanted = if is_empty {
+        take_none(&queue, &mut pass, &mut starts, calls)
+    } else {
+        fill(&queue, &mut pass, &mut starts);
+        put_and_take(&queue, &mut pass, &mut starts, calls)
+    };
+    println!(rt; "{wanted}")
+}

@@ -1,0 +1,11 @@
+pub mod Lists
+pub mod Places
+pub mod Greedy
+pub mod Checking
+pub mod Ranges
+pub mod Measuring
+pub mod Watching
+pub mod Forgetting
+pub mod Resting
+pub mod Adding
+pub mod RecordLemmas

@@ -1,0 +1,13 @@
+pub mod Lists
+pub mod Relaxed
+pub mod Histories
+pub mod Overtaking
+pub mod Ranks
+pub mod Verdicts
+pub mod Progress
+pub mod Validity
+pub mod FaultNumbers
+pub mod Measures
+pub mod Reach
+pub mod Searching
+pub mod Records

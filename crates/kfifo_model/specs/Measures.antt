@@ -1,0 +1,43 @@
+-- What the calls that measure answer.
+use Rattle.std.specs.Prelude.{ℕ, ◌≡◌, ◌<◌, ◌⊎◌, List, Option, Some, None}
+use Rattle.kfifo_model.specs.declared.calls.Op.{Op}
+use Rattle.kfifo_model.specs.declared.calls.Op.TheVariants.{Enqueue, Dequeue}
+use Rattle.kfifo_model.specs.declared.calls.Answer.TheVariants.{Done}
+use Rattle.kfifo_model.specs.declared.calls.End.{End}
+use Rattle.kfifo_model.specs.declared.calls.Call.{Call}
+use Rattle.kfifo_model.specs.declared.measures.RankFault.{RankFault}
+use Rattle.kfifo_model.specs.declared.measures.RankFault.TheVariants.{NotLegal, Memory}
+use Rattle.kfifo_model.specs.declared.measures.OvertakenFault.{OvertakenFault}
+use Rattle.kfifo_model.specs.declared.measures.OvertakenFault.TheVariants.{NotAnEnqueue, RepeatedItem}
+use Rattle.kfifo_model.specs.Relaxed.{Effect, Adds, Takes}
+use Rattle.kfifo_model.specs.Histories.{call, does, IsLegal}
+use Rattle.kfifo_model.specs.Overtaking.{numbers_of, AddsAreDistinct, TakesAreDistinct}
+
+abbrev pub IsRankFault : ℕ → List Call → List ℕ → RankFault → Type 0
+IsRankFault k h order NotLegal = IsLegal k h order → ⊥
+IsRankFault k h order Memory = Unit {0}
+
+abbrev pub EndsDone : Op → Option End → Type 0
+EndsDone (Enqueue x) (Some end) = end.answer ≡ Done
+EndsDone (Enqueue x) None = ⊥
+EndsDone Dequeue end = ⊥
+
+-- a finished enqueue with answer Done
+abbrev pub IsDoneEnqueue : List Call → ℕ → Type 0
+IsDoneEnqueue h c = EndsDone (call h c).op (call h c).end
+
+-- no two enqueues, Done or unfinished, carry one item, and no two dequeues got one
+abbrev pub HasDistinctItems : List Call → Type 0
+HasDistinctItems h = AddsAreDistinct (does h) (numbers_of h) × TakesAreDistinct (does h) (numbers_of h)
+
+-- both add one item, or both take one
+abbrev pub SharesItem : Effect → Effect → Type 0
+SharesItem a b = ((x : ℕ) × (a ≡ Adds x) × (b ≡ Adds x)) ⊎ ((x : ℕ) × (a ≡ Takes x) × (b ≡ Takes x))
+
+-- an earlier call than n adds or takes the same item
+abbrev pub RepeatsEarlier : List Call → ℕ → Type 0
+RepeatsEarlier h n = (j : ℕ) × (j < n) × SharesItem (does h n) (does h j)
+
+abbrev pub IsOvertakenFault : List Call → ℕ → OvertakenFault → Type 0
+IsOvertakenFault h c NotAnEnqueue = IsDoneEnqueue h c → ⊥
+IsOvertakenFault h c RepeatedItem = IsDoneEnqueue h c × (HasDistinctItems h → ⊥)

@@ -1,0 +1,23 @@
+-- The ranks of an order.
+use Rattle.std.specs.Prelude.{ℕ, List, [], ◌∷◌, ◌++◌, Option, Some, None, map}
+use Rattle.kfifo_model.specs.declared.calls.Call.{Call}
+use Rattle.kfifo_model.specs.Lists.{place}
+use Rattle.kfifo_model.specs.Relaxed.{Effect, Adds, Takes, Finds_none, Refused, Wrong, next}
+use Rattle.kfifo_model.specs.Histories.{does}
+
+-- a Got's rank: the least place of its item
+abbrev pub rank : List ℕ → Effect → List ℕ
+rank items (Takes x) = place items x ∷ []
+rank items (Adds x) = []
+rank items Finds_none = []
+rank items Refused = []
+rank items Wrong = []
+
+-- the ranks of the Gots in turn, each in the list that those before it leave
+abbrev pub ranks_at : ℕ → Option (List ℕ) → List Effect → List ℕ
+ranks_at k None es = []
+ranks_at k (Some items) [] = []
+ranks_at k (Some items) (e ∷ es) = rank items e ++ ranks_at k (next k items e) es
+
+abbrev pub ranks_of : ℕ → List Call → List ℕ → List ℕ
+ranks_of k h order = ranks_at k (Some []) (map (does h) order)

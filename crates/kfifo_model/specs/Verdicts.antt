@@ -1,0 +1,25 @@
+-- What the checker answers.
+use Rattle.std.specs.Prelude.{ℕ, ◌≡◌, ◌+◌, ◌<◌, List, [], ◌∷◌, Some, None, map, take, length}
+use Rattle.kfifo_model.specs.declared.calls.Call.{Call}
+use Rattle.kfifo_model.specs.declared.orders.Verdict.{Verdict}
+use Rattle.kfifo_model.specs.declared.orders.Verdict.TheVariants.{Legal, Repeats, NotACall, LeavesOut, BreaksBefore, NotARun}
+use Rattle.kfifo_model.specs.declared.orders.Tried.{Tried}
+use Rattle.kfifo_model.specs.declared.orders.Tried.TheVariants.{NotLegal, Went, Took}
+use Rattle.kfifo_model.specs.Relaxed.{Effect, IsRun, next}
+use Rattle.kfifo_model.specs.Ranks.{rank}
+use Rattle.kfifo_model.specs.Histories.{does, HasNoRepeats, HasOnlyCalls, HasEachFinished, KeepsBefore, IsOrder, IsLegal}
+
+-- the verdict is Legal for a legal order, else the first fault
+abbrev pub IsVerdict : ℕ → List Call → List ℕ → Verdict → Type 0
+IsVerdict k h order Legal = IsLegal k h order
+IsVerdict k h order Repeats = HasNoRepeats order → ⊥
+IsVerdict k h order NotACall = HasNoRepeats order × (HasOnlyCalls h order → ⊥)
+IsVerdict k h order LeavesOut = HasNoRepeats order × HasOnlyCalls h order × (HasEachFinished h order → ⊥)
+IsVerdict k h order BreaksBefore = HasNoRepeats order × HasOnlyCalls h order × HasEachFinished h order × (KeepsBefore h order → ⊥)
+IsVerdict k h order (NotARun p) = IsOrder h order × (p < length order) × IsRun k [] (map (does h) (take p order)) × (IsRun k [] (map (does h) (take (p + 1) order)) → ⊥)
+
+-- what became of a call's effect that was tried in the list before
+abbrev pub IsTried : ℕ → List ℕ → List ℕ → Effect → Tried → Type 0
+IsTried k before after e NotLegal = next k before e ≡ None
+IsTried k before after e Went = (next k before e ≡ Some after) × (rank before e ≡ [])
+IsTried k before after e (Took p) = (next k before e ≡ Some after) × (rank before e ≡ p ∷ [])

@@ -1,0 +1,236 @@
+//! The checker of orders.
+ghost use Rattle.std.specs.Prelude.{ℕ, ◌≡◌, ◌+◌, ◌<◌, ◌≤◌, ◌↔◌, List, [], map, take, length, IsTrue, IfOk, MatchOption, Some, None};
+ghost use Rattle.std.specs.BTreeSet.{contains};
+ghost use Rattle.std.specs.Ordering.{nat_cmp};
+ghost use Rattle.kfifo_model.specs.Lists.{IsIn, place};
+ghost use Rattle.kfifo_model.specs.Relaxed.{IsRun, next, Takes};
+ghost use Rattle.kfifo_model.specs.Histories.{does, effect_of, HasNoRepeats, HasOnlyCalls, HasEachFinished, KeepsBefore};
+ghost use Rattle.kfifo_model.specs.Verdicts.{IsVerdict, IsTried};
+
+use crate::calls::{Answer, Call, Op};
+use crate::history::History;
+use std::alloc::{AllocError, Global};
+use std::collections::{BTreeSet, VecDeque};
+
+/// What the checker says of an order: the first of the faults that it has, or that it is legal.
+#[derive(Clone, Copy, Debug, PartialEq, Eq)]
+pub enum Verdict {
+    /// The order is one of the history and a run of the k-relaxed queue.
+    Legal,
+    /// 1: a number stands twice.
+    Repeats,
+    /// 2: a number is that of no call, or of an unfinished dequeue.
+    NotACall,
+    /// 3: a finished call is missing.
+    LeavesOut,
+    /// 4: a call stands before one that precedes it.
+    BreaksBefore,
+    /// 5: the first place whose answer is not legal in the list there.
+    NotARun(usize),
+}
+
+/// What became of a call that was tried in a list of items.
+#[derive(Clone, Copy, Debug, PartialEq, Eq)]
+pub enum Tried {
+    /// Its answer is not legal there.
+    NotLegal,
+    /// It went, and took no item.
+    Went,
+    /// It took the item at this place.
+    Took(usize),
+}
+
+/// The numbers of an order, or none where one stands twice.
+fn distinct_numbers(alloc: Global, order: &[usize]) -> Result<Option<BTreeSet<usize>>, AllocError>
+    ensures { IfOk result (λ r. MatchOption r (HasNoRepeats order.now → ⊥)
+        (λ s. HasNoRepeats order.now × ((c : ℕ) → IsTrue (contains nat_cmp s c) ↔ IsIn c order.now))) }
+{
+    let mut seen = BTreeSet::new(alloc);
+    for n in order {
+        if !seen.insert(*n)? {
+            return Ok(None);
+        }
+    }
+    Ok(Some(seen))
+}
+
+/// Whether each number is that of a finished call or of an unfinished enqueue.
+fn has_only_calls(calls: &[Call], order: &[usize]) -> bool
+    ensures { IsTrue result ↔ HasOnlyCalls calls.now order.now }
+{
+    for n in order {
+        if *n >= calls.len() {
+            return false;
+        }
+        let call = &calls[*n];
+        if call.end.is_none() && call.op == Op::Dequeue {
+            return false;
+        }
+    }
+    true
+}
+
+/// Whether each finished call is among the numbers.
+fn has_each_finished(calls: &[Call], numbers: &BTreeSet<usize>) -> bool
+    ensures { (order : List ℕ) → ((c : ℕ) → IsTrue (contains nat_cmp numbers.now c) ↔ IsIn c order)
+        → (IsTrue result ↔ HasEachFinished calls.now order) }
+{
+    for (n, call) in calls.iter().enumerate() {
+        if call.end.is_some() && !numbers.contains(&n) {
+            return false;
+        }
+    }
+    true
+}
+
+/// Whether no call stands before one that precedes it: none ends below the greatest first step so far.
+fn keeps_before(calls: &[Call], order: &[usize]) -> bool
+    requires { HasOnlyCalls calls.now order.now }
+    ensures { IsTrue result ↔ KeepsBefore calls.now order.now }
+{
+    let mut latest = 0;
+    for n in order {
+        let call = &calls[*n];
+        if let Some(end) = &call.end {
+            if end.last < latest {
+                return false;
+            }
+        }
+        if call.first > latest {
+            latest = call.first;
+        }
+    }
+    true
+}
+
+/// The place of the first such item, where it is below k.
+fn place_below(items: &VecDeque<u32>, k: usize, item: u32) -> Option<usize>
+    ensures { MatchOption result (next k items.now.items (Takes item) ≡ None)
+        (λ p. (p ≡ place items.now.items item) × (p < k) × (p < length items.now.items)) }
+{
+    for i in 0..k.min(items.len()) {
+        if items[i] == item {
+            return Some(i);
+        }
+    }
+    None
+}
+
+/// Takes the first such item out, if it is among the first k.
+fn take_out(items: &mut VecDeque<u32>, k: usize, item: u32) -> Tried
+    ensures { IsTried k items.old.items items.new.items (Takes item) result }
+{
+    match place_below(items, k, item) {
+        Some(place) => {
+            items.remove(place);
+            Tried::Took(place)
+        }
+        None => Tried::NotLegal,
+    }
+}
+
+/// Makes the call in the list of items, where its answer is legal there.
+fn try_call(
+    items: &mut VecDeque<u32>,
+    k: usize,
+    call: &Call,
+) -> Result<Tried, AllocError>
+    ensures { IfOk result (IsTried k items.old.items items.new.items (effect_of call.now)) }
+{
+    match (call.op, call.end) {
+        (Op::Enqueue(item), None) => {
+            items.push_back(item)?;
+            Ok(Tried::Went)
+        }
+        (Op::Dequeue, None) => Ok(Tried::NotLegal),
+        (Op::Enqueue(item), Some(end)) => match end.answer {
+            Answer::Done => {
+                items.push_back(item)?;
+                Ok(Tried::Went)
+            }
+            Answer::Full | Answer::Busy | Answer::Worn => Ok(Tried::Went),
+            Answer::Got(_) | Answer::Empty => Ok(Tried::NotLegal),
+        },
+        (Op::Dequeue, Some(end)) => match end.answer {
+            Answer::Got(item) => Ok(take_out(items, k, item)),
+            Answer::Empty if items.is_empty() => Ok(Tried::Went),
+            Answer::Busy | Answer::Worn => Ok(Tried::Went),
+            Answer::Done | Answer::Full | Answer::Empty => Ok(Tried::NotLegal),
+        },
+    }
+}
+
+/// Makes the call with this number, where its answer is legal in the list of items.
+pub(crate) fn try_number(
+    items: &mut VecDeque<u32>,
+    k: usize,
+    calls: &[Call],
+    n: usize,
+) -> Result<Tried, AllocError>
+    requires { n < length calls.now }
+    ensures { IfOk result (IsTried k items.old.items items.new.items (does calls.now n)) }
+{
+    try_call(items, k, &calls[n])
+}
+
+/// The first place whose call is not legal in the list there.
+fn first_break(
+    alloc: Global,
+    calls: &[Call],
+    k: usize,
+    order: &[usize],
+) -> Result<Option<usize>, AllocError>
+    requires { HasOnlyCalls calls.now order.now }
+    ensures { IfOk result (λ r. MatchOption r (IsRun k [] (map (does calls.now) order.now))
+        (λ p. (p < length order.now) × IsRun k [] (map (does calls.now) (take p order.now)) × (IsRun k [] (map (does calls.now) (take (p + 1) order.now)) → ⊥))) }
+{
+    let mut items = VecDeque::new(alloc);
+    for (p, n) in order.iter().enumerate() {
+        let tried = try_number(&mut items, k, calls, *n)?;
+        if let Tried::NotLegal = tried {
+            return Ok(Some(p));
+        }
+    }
+    Ok(None)
+}
+
+/// Whether an order of the calls is legal, or the first fault.
+pub(crate) fn judge(
+    alloc: Global,
+    calls: &[Call],
+    k: usize,
+    order: &[usize],
+) -> Result<Verdict, AllocError>
+    ensures { IfOk result (IsVerdict k calls.now order.now) }
+{
+    let Some(numbers) = distinct_numbers(alloc, order)? else {
+        return Ok(Verdict::Repeats);
+    };
+    if !has_only_calls(calls, order) {
+        return Ok(Verdict::NotACall);
+    }
+    if !has_each_finished(calls, &numbers) {
+        return Ok(Verdict::LeavesOut);
+    }
+    if !keeps_before(calls, order) {
+        return Ok(Verdict::BreaksBefore);
+    }
+    match first_break(alloc, calls, k, order)? {
+        Some(place) => Ok(Verdict::NotARun(place)),
+        None => Ok(Verdict::Legal),
+    }
+}
+
+/// Judges an order of a history's calls, given by their numbers, for a queue that may give any of its k oldest
+/// items. The time is near linear in the lengths of both, times k, which is 1 to 64.
+pub fn check_order(
+    alloc: Global,
+    history: &History,
+    k: u32,
+    order: &[usize],
+) -> Result<Verdict, AllocError>
+    requires { (1 ≤ k) × (k ≤ 64) }
+    ensures { IfOk result (IsVerdict k history.now order.now) }
+{
+    judge(alloc, history.calls(), k as usize, order)
+}
