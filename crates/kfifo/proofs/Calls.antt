@@ -1,9 +1,9 @@
 -- Where a word is cut: at its first colon, and nowhere else.
-use Rattle.std.proofs.Common.{◌≡◌, ◌≢◌, ℕ, ◌+◌, ◌<◌, ◌≤◌, zero, suc, List, [], ◌∷◌, ◌++◌, length, get_or, EachIndex, inl, inr, arith, refl, sym, ◌∙◌, ◌⊎◌, subst}
+use Rattle.std.proofs.Common.{◌≡◌, ◌≢◌, ℕ, ◌<◌, ◌≤◌, zero, suc, List, [], ◌∷◌, ◌++◌, get_or, EachIndex, inl, inr, arith, refl, sym, ◌∙◌, ◌⊎◌, subst}
 use Rattle.std.proofs.lemmas.Str.Parse.{not_in_digits}
 use Rattle.kfifo_machine.specs.declared.event.Begin.{Begin}
 use Rattle.kfifo_machine.specs.declared.event.Begin.TheVariants.{Enqueue, Dequeue, Tick}
-use Rattle.kfifo.specs.Words.{Cuts, IsDigits, WritesNumber, WritesStart, WritesEnqueue, WritesDequeue, WritesCall}
+use Rattle.kfifo.specs.Words.{Cuts, WritesNumber, WritesStart, WritesEnqueue, WritesDequeue, WritesCall}
 use Rattle.kfifo.proofs.Numbers.{own}
 
 -- no byte is a colon

@@ -1,5 +1,5 @@
 -- Scripts on a queue with one pass.
-use Rattle.std.proofs.Common.{◌≡◌, ◌≢◌, ℕ, zero, suc, ◌+◌, ◌<◌, ◌≤◌, List, [], ◌∷◌, ◌++◌, length, Some, arith, refl, sym, ◌∙◌, ap, subst, append_assoc, append-nil, add-one, get_or, take}
+use Rattle.std.proofs.Common.{◌≡◌, ◌≢◌, ℕ, ◌+◌, ◌<◌, List, [], ◌∷◌, ◌++◌, length, Some, arith, refl, sym, ◌∙◌, ap, subst, append_assoc, append-nil, add-one, get_or, take}
 use Rattle.std.proofs.Math.Seq.{take-suc}
 use Rattle.kfifo_words.specs.Ring.{slot_at}
 use Rattle.kfifo.specs.Lines.{slot_line}
@@ -11,7 +11,7 @@ use Rattle.kfifo_machine.specs.Machine.{World, after, run, opening, word_at}
 use Rattle.kfifo_machine.specs.Runs.{Begins, WholeRun, own}
 use Rattle.kfifo_machine.proofs.Schedules.{Some-injective, run_before, first_made, made_within, own_none}
 use Rattle.kfifo_machine.proofs.Sound.{sound_threads}
-use Rattle.kfifo_live.specs.Pass.{OpenQueue, Known, IsOf, IsSame, Finds}
+use Rattle.kfifo_live.specs.Pass.{OpenQueue, Known, IsSame, Finds}
 use Rattle.kfifo.specs.Reports.{IsAlone, RunInTurn, call_line, slot_lines, segment_lines}
 
 -- a machine with one thread has no events of others

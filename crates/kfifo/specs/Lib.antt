@@ -1,3 +1,5 @@
+pub mod Answers
 pub mod Lines
+pub mod Options
 pub mod Reports
 pub mod Words

@@ -1,6 +1,8 @@
 //! Options that several commands share.
-ghost use Rattle.std.specs.Prelude.{◌≡◌, ◌≤◌, Some, MatchResult, unwrap_or};
+ghost use Rattle.std.specs.Prelude.{◌≡◌, ◌≤◌, ℕ, Some, MatchResult, unwrap_or, max, codes};
+ghost use Rattle.clap.specs.Words.{found_of, one_text};
 ghost use Rattle.kfifo_words.specs.Sizes.{fault_of};
+ghost use Rattle.kfifo.specs.Options.{GivesOr};
 
 use clap::{Arg, ArgAction, ArgMatches, Command, value_parser};
 use kfifo_words::{Shape, ShapeFault};
@@ -38,11 +40,15 @@ pub struct Sizes {
 }
 
 impl Sizes {
+    ghost use Rattle.kfifo.specs.Options.{GivesSizes};
+
     /// The sizes that the options give.
-    pub fn of(matches: &ArgMatches<'_>) -> Sizes {
+    pub fn of(matches: &ArgMatches<'_>) -> Sizes
+        ensures { GivesSizes (found_of matches.now) (codes "k") (codes "segments") (codes "last") (codes "probes") result }
+    {
         Sizes {
-            k: matches.get_one(K).unwrap_or(DEFAULT_K),
-            segments: matches.get_one(SEGMENTS).unwrap_or(DEFAULT_SEGMENTS),
+            k: count_of(matches, K, DEFAULT_K),
+            segments: count_of(matches, SEGMENTS, DEFAULT_SEGMENTS),
             last: matches.get_one(LAST).unwrap_or(DEFAULT_LAST),
             probes: matches.get_one(PROBES),
         }
@@ -57,6 +63,13 @@ impl Sizes {
         let probes = self.probes.unwrap_or(self.k);
         Shape::with_probes(self.k, self.segments, self.last, probes)
     }
+}
+
+/// The number that an option gives, or its default.
+fn count_of(matches: &ArgMatches<'_>, name: &str, default: u32) -> u32
+    ensures { GivesOr 32 (one_text (found_of matches.now) name.now) default result }
+{
+    matches.get_one(name).unwrap_or(default)
 }
 
 /// Adds the options `--k`, `--segments`, `--last` and `--probes`.
@@ -95,7 +108,8 @@ pub fn with_turns<'a>(alloc: Global, command: Command<'a>) -> Result<Command<'a>
 
 /// The rounds of a call, at least 1: the option admits no less.
 pub fn turns_of(matches: &ArgMatches<'_>) -> u16
-    ensures { 1 ≤ result }
+    ensures some { 1 ≤ result }
+    ensures given { (turns : ℕ) × GivesOr 16 (one_text (found_of matches.now) (codes "turns")) 2 turns × (result ≡ max turns 1) }
 {
     matches.get_one(TURNS).unwrap_or(DEFAULT_TURNS).max(1)
 }

@@ -1,6 +1,7 @@
 //! The whole program over any reader and writers.
-ghost use Rattle.std.specs.Prelude.{◌≡◌, ◌≢◌, ◌≤◌, ◌⊎◌, IfSome, IfOk, IfErr, OnOk};
+ghost use Rattle.std.specs.Prelude.{◌≡◌, ◌≢◌, ℕ, ◌≤◌, ◌⊎◌, List, IfSome, IfOk, IfErr, OnOk};
 ghost use Rattle.std.specs.Io.KnownBytes.{Appends, Keeps};
+ghost use Rattle.kfifo.specs.Answers.{IsNamedAnswer};
 
 use crate::commands::run;
 use crate::fault::Fault;
@@ -100,14 +101,16 @@ fn answer<W: Write>(
     matches: &ArgMatches<'_>,
     output: &mut W,
 ) -> Result<Status, Fault>
+    ensures answered { result ≡ Ok Status.Answered → (text : List ℕ) × IsNamedAnswer matches.now text
+        × Appends (W.contents output.old) (W.contents output.new) text }
     ensures failed { IfErr result (λ fault. fault ≢ Fault.Output → Keeps (W.contents output.old) (W.contents output.new)) }
     ensures misused { IfOk result (λ status. status ≢ Status.Answered → (status ≡ Status.Misused) × Keeps (W.contents output.old) (W.contents output.new)) }
 {
-    match matches.subcommand() {
-        Some((run::NAME, options)) => print(run::answer(alloc, options)?.as_str(), output)?,
-        _ => return Ok(Status::Misused),
+    if let Some(options) = matches.subcommand_matches(run::NAME) {
+        print(run::answer(alloc, options)?.as_str(), output)?;
+        return Ok(Status::Answered);
     }
-    Ok(Status::Answered)
+    Ok(Status::Misused)
 }
 
 /// Writes an answer, and sees that it leaves the writer.

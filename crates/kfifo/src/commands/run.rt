@@ -5,6 +5,8 @@ ghost use Rattle.kfifo_machine.specs.Machine.{World, after, word_at};
 ghost use Rattle.kfifo_machine.specs.Runs.{WholeRun};
 ghost use Rattle.kfifo_live.specs.Schedule.{opening};
 ghost use Rattle.kfifo_live.specs.Pass.{IsOf, IsSame};
+ghost use Rattle.clap.specs.Words.{found_of};
+ghost use Rattle.kfifo.specs.Answers.{IsAnswer, IsRefusal, IsShape};
 ghost use Rattle.kfifo.specs.Words.{IsCall};
 ghost use Rattle.kfifo.specs.Reports.{IsAlone, IsReport, RunInTurn, call_line, slot_lines, world_lines};
 
@@ -56,13 +58,24 @@ pub fn command<'a>(alloc: Global) -> Result<Command<'a>, AllocError> {
 
 /// The answers of the calls, and then the words of the table, a line for each.
 pub fn answer(alloc: Global, matches: &ArgMatches<'_>) -> Result<String, Fault>
-    ensures { IfErr result (λ fault. fault ≢ Fault.Output) }
+    ensures ok { IfOk result (λ text. IsAnswer (found_of matches.now) (string_bytes text)) }
+    ensures err { IfErr result (λ fault. IsRefusal (found_of matches.now) fault) }
+    ensures silent { IfErr result (λ fault. fault ≢ Fault.Output) }
 {
-    let shape = Sizes::of(matches).shape().map_err(Fault::Shape)?;
-    let texts = matches.get_strs(WORDS).unwrap_or(&[]);
+    let shape = shape_of(matches)?;
     let turns = options::turns_of(matches);
+    let texts = matches.get_strs(WORDS).unwrap_or(&[]);
     let calls = words::read_calls(alloc, texts, shape.k(), turns)?;
     report_of(alloc, shape, calls.as_slice())
+}
+
+/// The shape that the options give.
+fn shape_of(matches: &ArgMatches<'_>) -> Result<Shape, Fault>
+    ensures ok { IfOk result (λ shape. IsShape (found_of matches.now) shape) }
+    ensures err { IfErr result (λ fault. IsRefusal (found_of matches.now) fault) }
+    ensures silent { IfErr result (λ fault. fault ≢ Fault.Output) }
+{
+    Sizes::of(matches).shape().map_err(Fault::Shape)
 }
 
 /// What is printed of these calls, made one after the other on a new queue.

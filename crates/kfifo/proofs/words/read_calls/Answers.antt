@@ -1,4 +1,4 @@
-use Rattle.std.proofs.Common.{◌≡◌, ◌<◌, ◌+◌, arith, inr, refl}
+use Rattle.std.proofs.Common.{arith, inr, refl}
 use Rattle.std.proofs.lemmas.List.{length_push}
 use Rattle.kfifo_machine.specs.declared.event.Begin.TheVariants.{Tick}
 use Rattle.kfifo.proofs.Scripts.{first_unread, written_more}

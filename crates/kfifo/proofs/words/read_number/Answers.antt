@@ -1,5 +1,4 @@
-use Rattle.std.proofs.Common.{◌≤◌, arith, rules, MatchOption}
-use Rattle.kfifo.specs.Words.{WritesNumber}
+use Rattle.std.proofs.Common.{arith, rules}
 use Rattle.kfifo.proofs.Numbers.{parsed}
 use Rattle.kfifo.proofs.words.read_number.Goals as goal
 use Rattle.kfifo.proofs.words.read_number.Goals.{then-text-gt10-via-then-text-gt10, then-text-gt10-via-else-text-gt10+then-not-is_digits}

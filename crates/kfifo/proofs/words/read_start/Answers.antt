@@ -1,4 +1,4 @@
-use Rattle.std.proofs.Common.{◌≡◌, [], ◌∷◌, arith, refl, sym, inl, inr, append-nil}
+use Rattle.std.proofs.Common.{[], ◌∷◌, arith, refl, sym, inl, inr, append-nil}
 use Rattle.std.proofs.lemmas.Str.Pattern.{split_parts}
 use Rattle.kfifo.proofs.Calls.{no_start}
 use Rattle.kfifo.proofs.words.read_start.Goals as goal

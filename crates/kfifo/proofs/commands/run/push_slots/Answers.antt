@@ -1,6 +1,6 @@
 use Rattle.std.proofs.Common.{◌≡◌, ◌∙◌}
 use Rattle.kfifo_words.specs.Ring.{slot_at}
-use Rattle.kfifo_machine.specs.Machine.{World, word_at}
+use Rattle.kfifo_machine.specs.Machine.{word_at}
 use Rattle.kfifo.proofs.Reports.{one_world, slot_more}
 use Rattle.kfifo.proofs.commands.run.push_slots.Goals as goal
 
