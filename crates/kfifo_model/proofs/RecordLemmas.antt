@@ -148,12 +148,12 @@ read_more ds h c n len r i j lt =
     elim (cases_lt j n) [
       | inl below ↦ (let lj : j < length h = omega arith in subst P (sym (before_last h c j lj)) (r j lj))
       | inr le ↦ (
-        let e = length-append h (c ∷ []) in
-        let same : j ≡ n = omega arith in
-        let Q : ℕ → Type 0 = λ w. IsRead (at ds w) (Ok (call (h ++ c ∷ []) w)) in
-        let S : Call → Type 0 = λ w. IsRead (at ds n) (Ok w) in
-        subst Q (sym same) (subst S (sym (the_last h c n len)) i)
-      )
+          let e = length-append h (c ∷ []) in
+          let same : j ≡ n = omega arith in
+          let Q : ℕ → Type 0 = λ w. IsRead (at ds w) (Ok (call (h ++ c ∷ []) w)) in
+          let S : Call → Type 0 = λ w. IsRead (at ds n) (Ok w) in
+          subst Q (sym same) (subst S (sym (the_last h c n len)) i)
+          )
     ]
 
 -- a member, as the data that it is

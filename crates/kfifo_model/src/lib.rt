@@ -16,3 +16,6 @@ pub use measures::{OvertakenFault, RankFault, overtaken, ranks};
 pub use orders::{Verdict, check_order};
 pub use reading::{MOST_CALLS, read_history};
 pub use search::{SearchFault, has_order};
+
+#[cfg(test)]
+mod tests;

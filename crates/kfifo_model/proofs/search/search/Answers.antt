@@ -17,7 +17,6 @@ levels-preserved c =
     at_next c.args.k c.args.calls.now c.levels.counter c.levels.level.items c.in-Some.next.items c.in_ok-level.level.items c.levels.invariant
     (level_along c.args.k c.args.calls.now c.levels.level.items c.deref.result.now c.in-Some.next.items c.deref.ensures.value n) c.in_ok-level.ensures
 
-
 pub returns-in-None : goal.returns-in-None
 returns-in-None c =
     let any = rw c.in-None.is at c.in_ok-next_level.ensures in
