@@ -1,0 +1,5 @@
+pub mod Streams
+pub mod ReadCounts
+pub mod Inputs
+pub mod Check
+pub mod TextFaults
