@@ -3,3 +3,4 @@ pub mod ReadCounts
 pub mod Inputs
 pub mod Check
 pub mod TextFaults
+pub mod Measure
