@@ -117,12 +117,12 @@ pub fn check_stream<R: Source, W: Sink>(
     // A status: the answer to what was read is written.
     ensures answered { let o = option_map (λ s. s.now) order.entry in
         IfOk result (λ status. (bytes : List ℕ) × (text : List ℕ) × IfSome (R.remaining source.old) (λ given. given ≡ bytes)
-            × IsChecked k o bytes text status × Appends (W.contents sink.old) (W.contents sink.new) text) }
+        × IsChecked k o bytes text status × Appends (W.contents sink.old) (W.contents sink.new) text) }
     // A fault of writing: a beginning of the answer is.
     ensures cut { let o = option_map (λ s. s.now) order.entry in
         result ≡ Err StreamFault.Output → (bytes : List ℕ) × (text : List ℕ) × (status : ℕ)
-            × IfSome (R.remaining source.old) (λ given. given ≡ bytes)
-            × IsChecked k o bytes text status × AppendsPart (W.contents sink.old) (W.contents sink.new) text }
+        × IfSome (R.remaining source.old) (λ given. given ≡ bytes)
+        × IsChecked k o bytes text status × AppendsPart (W.contents sink.old) (W.contents sink.new) text }
     // Another fault: nothing is.
     ensures nothing { IfErr result (λ f. f ≢ StreamFault.Output → Keeps (W.contents sink.old) (W.contents sink.new)) }
     // The causes.
@@ -131,7 +131,7 @@ pub fn check_stream<R: Source, W: Sink>(
         ⊎ ((R.failed source.new ≡ R.failed source.old) × IfSome (R.remaining source.old) (λ given. 16777216 < length given)) }
     ensures faults { let o = option_map (λ s. s.now) order.entry in
         IfErr result (λ f. f ≢ StreamFault.Input → f ≢ StreamFault.Output → f ≢ StreamFault.Memory →
-            (bytes : List ℕ) × IfSome (R.remaining source.old) (λ given. given ≡ bytes) × IsCheckFault o bytes f) }
+        (bytes : List ℕ) × IfSome (R.remaining source.old) (λ given. given ≡ bytes) × IsCheckFault o bytes f) }
     // No call failed but the one that was answered.
     ensures source_calls { (result ≢ Err StreamFault.Input) → R.failed source.new ≡ R.failed source.old }
     ensures sink_calls { (result ≢ Err StreamFault.Output) → W.failed sink.new ≡ W.failed sink.old }

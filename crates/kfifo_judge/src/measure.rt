@@ -41,7 +41,7 @@ fn all_lines(alloc: Global, found: &[Overtaken]) -> Result<String, AllocError>
 /// The text that answers a history.
 fn answer(alloc: Global, history: &History) -> Result<String, StreamFault>
     ensures { MatchResult result (λ s. (string_bytes s ≡ measure_text (measured history.now (length history.now)))
-            × ((n : ℕ) → IsDoneEnqueue history.now n → HasDistinctItems history.now)) (IsUnmeasured history.now) }
+        × ((n : ℕ) → IsDoneEnqueue history.now n → HasDistinctItems history.now)) (IsUnmeasured history.now) }
 {
     match measure(alloc, history) {
         Ok(found) => match all_lines(alloc, &found) {
