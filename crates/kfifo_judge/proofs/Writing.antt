@@ -1,5 +1,5 @@
 -- What calls of a sink add up to.
-use Rattle.std.proofs.Common.{ℕ, zero, suc, [], ◌∷◌, ◌≡◌, ◌+◌, ◌-◌, ◌≤◌, List, [], ◌++◌, length, take, drop, refl, sym, ◌∙◌, ap, subst, arith, Option, Some, None, append_assoc, length-drop}
+use Rattle.std.proofs.Common.{ℕ, zero, suc, [], ◌∷◌, ◌≡◌, ◌+◌, ◌-◌, ◌≤◌, List, [], ◌++◌, length, take, drop, refl, sym, ◌∙◌, ap, arith, Option, Some, None, append_assoc, length-drop}
 use Rattle.std.proofs.lemmas.List.{take-append-drop, take_all, drop-take}
 use Rattle.std.specs.Io.KnownBytes.{Appends, Keeps}
 use Rattle.kfifo_judge.specs.Streams.{AppendsPart, CountsWrite}

@@ -1,5 +1,5 @@
 -- Items by their calls, and the overtakings that an index gives.
-use Rattle.std.proofs.Common.{ℕ, zero, suc, ◌≡◌, ◌≢◌, ◌+◌, ◌<◌, ◌≤◌, ◌⊎◌, ◌&&◌, ◌||◌, Bool, true, false, cond, not, eqb, ltb, List, [], ◌∷◌, ◌++◌, length, get_or, refl, sym, ◌∙◌, ap, subst, inl, inr, arith, Option, Some, None}
+use Rattle.std.proofs.Common.{ℕ, zero, suc, ◌≡◌, ◌≢◌, ◌+◌, ◌<◌, ◌⊎◌, ◌&&◌, ◌||◌, Bool, true, false, cond, not, eqb, ltb, List, [], ◌∷◌, ◌++◌, length, refl, sym, ◌∙◌, ap, subst, inl, inr, arith, Option, Some, None}
 use Rattle.std.specs.Option.{MatchOption, option_map, option_to_list, is_some}
 use Rattle.std.proofs.lemmas.Bool.{cases_lt, cases_eq, ne_eqb, false≢true}
 use Rattle.std.proofs.lemmas.Bool.{and_parts, eqb-true, eq-eqb, false_from_ne_true}
@@ -16,7 +16,7 @@ use Rattle.kfifo_model.specs.declared.calls.Call.{Call}
 use Rattle.kfifo_model.specs.declared.index.Kind.{Kind}
 use Rattle.kfifo_model.specs.declared.index.Kind.TheVariants.{Puts, Gots}
 use Rattle.kfifo_model.specs.Relaxed.{Effect, Adds, Takes, Finds_none, Refused, Wrong, effect}
-use Rattle.kfifo_model.specs.Histories.{call, no_call, does, effect_of, effect_at}
+use Rattle.kfifo_model.specs.Histories.{call, does, effect_at}
 use Rattle.kfifo_model.specs.Index.{kind_effect, HasTwo, IsIndex, last_of, rival_of, rivals_below, rival_at, ends_before, is_beaten, done_item_of, done_item, measure_of, measured}
 use Rattle.kfifo_model.specs.Measures.{HasDistinctItems, EndsDone, IsDoneEnqueue}
 use Rattle.kfifo_model.specs.Lists.{IsIn}
@@ -69,14 +69,14 @@ pub index_more : (h : List Call) (kind : Kind) (n x f : ℕ) (g k : ℕ → Opti
 index_more h kind n x f g k i new e first here others = record {
   finds = λ q. elim (cases_eq q x) [
     | inl s ↦ (
-      let P : Option ℕ → Type 0 = λ o. Finds h kind (n + 1) x o in
-      let Q : ℕ → Type 0 = λ w. Finds h kind (n + 1) w (k w) in
-      subst Q (sym s) (subst P (sym here) (n, omega arith, e, first))
-    )
+        let P : Option ℕ → Type 0 = λ o. Finds h kind (n + 1) x o in
+        let Q : ℕ → Type 0 = λ w. Finds h kind (n + 1) w (k w) in
+        subst Q (sym s) (subst P (sym here) (n, omega arith, e, first))
+        )
     | inr ne ↦ (
-      let P : Option ℕ → Type 0 = λ o. Finds h kind (n + 1) q o in
-      subst P (sym (others q ne)) (finds_skip h kind n q (g q) (i.finds q) (λ d. ne (one_effect kind q x (sym d ∙ e))))
-    )
+        let P : Option ℕ → Type 0 = λ o. Finds h kind (n + 1) q o in
+        subst P (sym (others q ne)) (finds_skip h kind n q (g q) (i.finds q) (λ d. ne (one_effect kind q x (sym d ∙ e))))
+        )
   ];
   once = once_more h kind n i.once (λ q j lt a b. let s = one_effect kind q x (sym b ∙ e) in let P : ℕ → Type 0 = λ w. does h j ≡ kind_effect kind w in found_none h kind n x (g x) new (i.finds x) j lt (subst P s a));
 }
@@ -133,9 +133,9 @@ one_some : (t : ℕ → Bool) (n j : ℕ) → j < n → ((i : ℕ) → i < n →
 one_some t n j lt f true e = some_below t n j lt e ∙ sym e
 one_some t n j lt f false e =
     false_from_ne_true (some t (range_with_len 0 n)) (λ s. let p = some_at t (range_with_len 0 n) s in
-        let r = in_range 0 n p.0 p.1 in
-        let q : p.0 < n = (let a = r.1 in omega arith) in
-        false≢true (sym e ∙ (ap t (sym (f p.0 q p.2)) ∙ p.2))) ∙ sym e
+    let r = in_range 0 n p.0 p.1 in
+    let q : p.0 < n = (let a = r.1 in omega arith) in
+    false≢true (sym e ∙ (ap t (sym (f p.0 q p.2)) ∙ p.2))) ∙ sym e
 
 adds_is : (x : ℕ) (e : Effect) → adds x e ≡ true → e ≡ Adds x
 adds_is x (Adds y) q = ap Adds (sym (eqb-true x y q))

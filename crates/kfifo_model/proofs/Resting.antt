@@ -1,7 +1,7 @@
 -- Beginnings of orders, by what is done, and what goes on from them.
-use Rattle.std.proofs.Common.{ℕ, zero, suc, ◌≡◌, ◌≢◌, ◌+◌, ◌<◌, ◌≤◌, ◌⊎◌, Bool, true, false, cond, List, [], ◌∷◌, ◌++◌, length, map, get_or, set, replicate, refl, sym, ◌∙◌, ap, subst, inl, inr, arith, Option, Some, None}
-use Rattle.std.proofs.lemmas.Bool.{cases_lt, cases_eq, false≢true}
-use Rattle.std.proofs.lemmas.List.{map-append, append-nil, get_or_past, get_or_append_left}
+use Rattle.std.proofs.Common.{ℕ, zero, suc, ◌≡◌, ◌+◌, ◌<◌, ◌⊎◌, Bool, true, false, cond, List, [], ◌∷◌, ◌++◌, length, map, get_or, set, replicate, refl, sym, ◌∙◌, ap, subst, inl, inr, arith, Option, Some, None}
+use Rattle.std.proofs.lemmas.Bool.{cases_lt, false≢true}
+use Rattle.std.proofs.lemmas.List.{map-append, get_or_past, get_or_append_left}
 use Rattle.std.proofs.Math.Seq.{get_or-append_seam}
 use Rattle.std.proofs.lemmas.List.Sums.{sum_by-cons}
 use Rattle.std.proofs.Math.ListN.{length-set}
@@ -11,13 +11,13 @@ use Rattle.kfifo_model.specs.declared.calls.Answer.{Answer}
 use Rattle.kfifo_model.specs.declared.calls.Answer.TheVariants.{Done, Full, Got, Empty, Busy, Worn}
 use Rattle.kfifo_model.specs.declared.calls.Call.{Call}
 use Rattle.kfifo_model.specs.declared.calls.End.{End}
-use Rattle.kfifo_model.specs.Lists.{IsIn, Each, EachPair}
-use Rattle.kfifo_model.specs.Relaxed.{Effect, Adds, Takes, Finds_none, Refused, Wrong, IsRun, next, effect}
-use Rattle.kfifo_model.specs.Histories.{call, no_call, does, effect_of, effect_at, CanStand, HasEnd, IsFinished, EndsBelow, Precedes, IsOrder, IsLegal}
+use Rattle.kfifo_model.specs.Lists.{IsIn, Each}
+use Rattle.kfifo_model.specs.Relaxed.{Effect, Adds, Takes, Wrong, IsRun, next, effect}
+use Rattle.kfifo_model.specs.Histories.{call, no_call, does, effect_of, effect_at, CanStand, HasEnd, EndsBelow, Precedes}
 use Rattle.kfifo_model.specs.Validity.{IsHistory, EndsFrom, AnswerInRange, EndInRange}
 use Rattle.kfifo_model.specs.Reach.{Reach, reach}
-use Rattle.kfifo_model.specs.Searching.{HasOrder, IsDone, IsComplete, IsReady, IsFree, IsRest, GoesOn, Extends, IsNoNext, IsWanted, IsComing, IsIdle, IsAsGood, AreAsGood, done_count, IsFurther, LeadsTo}
-use Rattle.kfifo_model.proofs.Lists.{in_append, in_left, in_right, each_at, each_from, pairs_back, pairs_across, pairs_less, in_less, in_more, parted, Differ}
+use Rattle.kfifo_model.specs.Searching.{HasOrder, IsDone, IsComplete, IsFree, IsRest, GoesOn, Extends, IsNoNext, IsWanted, IsComing, IsIdle, IsAsGood, AreAsGood, done_count, LeadsTo}
+use Rattle.kfifo_model.proofs.Lists.{in_append, in_right, each_at, each_from, pairs_back, pairs_across, pairs_less, in_less, in_more, parted, Differ}
 use Rattle.kfifo_model.proofs.Greedy.{run_on, run_back, no_run}
 use Rattle.kfifo_model.proofs.Checking.{in_bounds}
 use Rattle.kfifo_model.proofs.Forgetting.{Has, Both, both_from_places, both_flip, as_good_runs, without_idle, idle_first, taken_from}

@@ -1,5 +1,5 @@
 -- The calls so far, as the progress of a record keeps them.
-use Rattle.std.proofs.Common.{ℕ, suc, ◌≡◌, ◌≢◌, ◌+◌, ◌<◌, ◌≤◌, ◌↔◌, List, [], ◌∷◌, ◌++◌, length, get_or, set, sym, ◌∙◌, ap, subst, inl, inr, arith, refl, Option, Some, None, get_or-set_other, get_or-set_same, length-append}
+use Rattle.std.proofs.Common.{ℕ, ◌≡◌, ◌≢◌, ◌+◌, ◌<◌, ◌≤◌, ◌↔◌, List, [], ◌∷◌, ◌++◌, length, get_or, set, sym, ◌∙◌, ap, subst, inl, inr, arith, refl, Option, Some, None, get_or-set_other, get_or-set_same, length-append}
 use Rattle.std.proofs.lemmas.Bool.{cases_lt, cases_eq}
 use Rattle.std.proofs.lemmas.List.{get_or_default, get_or_append_left}
 use Rattle.std.proofs.Math.ListN.{length-set}
@@ -9,7 +9,7 @@ use Rattle.kfifo_model.specs.declared.calls.Call.{Call}
 use Rattle.kfifo_model.specs.declared.calls.End.{End}
 use Rattle.kfifo_model.specs.declared.progress.Progress.{Progress}
 use Rattle.kfifo_model.specs.declared.progress.ThreadState.{ThreadState}
-use Rattle.kfifo_model.specs.declared.progress.ThreadState.TheVariants.{Fresh, Ended, InCall}
+use Rattle.kfifo_model.specs.declared.progress.ThreadState.TheVariants.{Fresh}
 use Rattle.kfifo_model.specs.Histories.{call, no_call, EndsBelow}
 use Rattle.kfifo_model.specs.Validity.{IsHistory, IsGoodBelow, IsFault, IsGood, IsInRange, Answers, EndsFrom, Rises, IsApart}
 use Rattle.kfifo_model.specs.Progress.{LetsBegin, RisesFrom, state_after}

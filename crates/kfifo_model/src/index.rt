@@ -72,8 +72,7 @@ fn index_of(
     ensures { IfOk result (λ o. MatchOption o (HasTwo calls.now kind) (λ m. IsIndex calls.now kind (length calls.now) (λ x. get nat_cmp m x))) }
 {
     let mut firsts = BTreeMap::new(alloc);
-    for (n, call) in calls.iter().enumerate() {
-        let _number = n;
+    for call in calls {
         if let Some(item) = item_of(kind, call) {
             if firsts.insert(item, call.first)?.is_some() {
                 return Ok(None);
@@ -112,8 +111,7 @@ fn rivals(
     ensures { IfOk result (λ v. v.items ≡ rivals_below calls.now (λ x. get nat_cmp puts.now x) (length calls.now)) }
 {
     let mut found = Vec::new(alloc);
-    for (n, call) in calls.iter().enumerate() {
-        let _number = n;
+    for call in calls {
         if let Some(rival) = rival_in(call, puts) {
             found.push(rival)?;
         }
@@ -136,7 +134,10 @@ fn beats(last: u64, got: Option<u64>, rival: &Rival) -> bool
 fn count_beats(rivals: &[Rival], last: u64, got: Option<u64>) -> usize
     ensures { result ≡ count_by (λ r. is_beaten last got r) rivals.now }
 {
-    rivals.iter().filter(|rival| beats(last, got, rival)).count()
+    rivals
+        .iter()
+        .filter(|rival| beats(last, got, rival))
+        .count()
 }
 
 /// The item of a finished enqueue with answer Done.
@@ -161,7 +162,7 @@ fn measure_call(
 ) -> Option<Overtaken>
     ensures { MatchOption result (done_item call.now.op call.now.end ≡ None)
         (λ o. (o.call ≡ n) × (done_item call.now.op call.now.end ≡ Some o.item)
-            × (o.count ≡ count_by (λ r. is_beaten (last_of call.now.end) (get nat_cmp gots.now o.item) r) rivals.now)) }
+        × (o.count ≡ count_by (λ r. is_beaten (last_of call.now.end) (get nat_cmp gots.now o.item) r) rivals.now)) }
 {
     let Some(item) = item_done(call) else {
         return None;

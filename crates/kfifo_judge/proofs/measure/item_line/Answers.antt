@@ -1,7 +1,4 @@
-use Rattle.std.proofs.Common.{◌≡◌, ◌++◌, ◌∷◌, [], List, codes, rules, append_assoc}
-use Rattle.std.specs.Fmt.{decimal}
-use Rattle.std.proofs.lemmas.Result.{IfOk-equal}
-use Rattle.std.specs.Result.{IfOk}
+use Rattle.std.proofs.Common.{rules, append_assoc}
 use Rattle.kfifo_judge.proofs.measure.item_line.Goals as goal
 
 pub returns : goal.returns

@@ -3,5 +3,5 @@ use Rattle.std.specs.Ordering.{nat_cmp}
 use Rattle.kfifo_model.specs.Index.{IsIndex}
 use Rattle.kfifo_model.proofs.index.index_of.Given as goal
 
-abbrev pub invariant-loop-n : goal.invariant-loop-n
-invariant-loop-n l = IsIndex l.calls l.kind l.n (λ x. get nat_cmp l.firsts x)
+abbrev pub invariant-loop-call : goal.invariant-loop-call
+invariant-loop-call l = IsIndex l.calls l.kind l.call-index (λ x. get nat_cmp l.firsts x)

@@ -1,5 +1,5 @@
-use Rattle.std.proofs.Common.{sym, ◌∙◌, ap, subst, List, ℕ, Bool, true, set}
-use Rattle.kfifo_model.specs.Reach.{Reach, reach}
+use Rattle.std.proofs.Common.{sym, ◌∙◌, subst, List, Bool}
+use Rattle.kfifo_model.specs.Reach.{reach}
 use Rattle.kfifo_model.specs.Searching.{LeadsTo, AreAsGood}
 use Rattle.kfifo_model.proofs.Resting.{leads_to, no_next}
 use Rattle.kfifo_model.proofs.search.after.Goals as goal

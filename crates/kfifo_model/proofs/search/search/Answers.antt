@@ -1,6 +1,6 @@
 use Rattle.std.proofs.Common.{refl, arith, ◌+◌}
 use Rattle.std.proofs.lemmas.Bool.{false≢true}
-use Rattle.kfifo_model.proofs.Adding.{at_start, at_next, at_end, found_at, level_along, sized_along}
+use Rattle.kfifo_model.proofs.Adding.{at_start, at_next, at_end, found_at, level_along}
 use Rattle.kfifo_model.proofs.search.search.Goals as goal
 
 pub levels-init : goal.levels-init
