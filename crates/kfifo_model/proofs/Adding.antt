@@ -1,5 +1,5 @@
 -- Lists of beginnings that grow.
-use Rattle.std.proofs.Common.{ℕ, zero, suc, false, ◌≡◌, ◌+◌, ◌<◌, ◌≤◌, ◌⊎◌, ◌↔◌, List, [], ◌∷◌, ◌++◌, length, get_or, refl, sym, ◌∙◌, ap, subst, inl, inr, arith, append_assoc, length-append}
+use Rattle.std.proofs.Common.{ℕ, zero, suc, false, ◌≡◌, ◌+◌, ◌<◌, ◌≤◌, ◌⊎◌, ◌↔◌, List, [], ◌∷◌, ◌++◌, length, get_or, sym, ◌∙◌, ap, subst, inl, inr, arith, append_assoc, length-append}
 use Rattle.std.specs.List.{All, Any, Contains}
 use Rattle.std.proofs.lemmas.List.Sums.{count_by-le-length}
 use Rattle.std.specs.Result.{OnOk}
@@ -12,9 +12,8 @@ use Rattle.std.proofs.lemmas.List.Sorted.{Contains-permutation, IsPermutation-sy
 use Rattle.std.specs.List.Sorted.{IsPermutation}
 use Rattle.kfifo_model.specs.declared.calls.Call.{Call}
 use Rattle.kfifo_model.specs.Reach.{Reach}
-use Rattle.kfifo_model.specs.Validity.{IsHistory}
 use Rattle.kfifo_model.proofs.Resting.{opening, opening_sound, opening_complete, none_counted}
-use Rattle.kfifo_model.specs.Searching.{HasOrder, Extends, IsNoNext, GoesOn, IsFurther, LeadsTo, IsAdded, IsLevel, IsNextLevel, done_count}
+use Rattle.kfifo_model.specs.Searching.{HasOrder, Extends, IsNoNext, IsFurther, LeadsTo, IsAdded, IsLevel, IsNextLevel, done_count}
 
 pub on_ok_map : {T E : Type 0} (r : Result T E) (P Q : Type 0) → (P → Q) → OnOk r P → OnOk r Q
 on_ok_map (Ok x) P Q f h = f h
@@ -107,12 +106,12 @@ led_more k h level next after i r lt is led a =
           elim (cases_lt j i) [
             | inl below ↦ led.complete (all_left (λ t. Extends k h t → ⊥) next a.added n) j d below
             | inr le ↦ (
-              let same : j ≡ i = omega arith in
-              let Q : Reach → Type 0 = λ t. Extends k h t → ⊥ in
-              let W : ℕ → Type 0 = λ w. Extends k h (get_or level w d) → ⊥ in
-              let to : get_or level i d ≡ r = get_or_default level i d r lt ∙ sym is in
-              subst W (sym same) (subst Q (sym to) (a.complete (all_right Q next a.added n)))
-            )
+                let same : j ≡ i = omega arith in
+                let Q : Reach → Type 0 = λ t. Extends k h t → ⊥ in
+                let W : ℕ → Type 0 = λ w. Extends k h (get_or level w d) → ⊥ in
+                let to : get_or level i d ≡ r = get_or_default level i d r lt ∙ sym is in
+                subst W (sym same) (subst Q (sym to) (a.complete (all_right Q next a.added n)))
+                )
           ];
     })
 
@@ -213,9 +212,9 @@ at_next k h count level next kept at n m = record {
 pub at_end : (k : ℕ) (h : List Call) (count : ℕ) (level : List Reach) → IsAt k h count level → length h < count → HasOrder k h → ⊥
 at_end k h count level at lt o =
     at.complete (λ j d lj g. let s = at.sized j d lj in
-        let p : length (get_or level j d).done ≡ length h = s.0 in
-        let q : done_count (get_or level j d).done ≡ count = s.1 in
-        absurd (omega (arith, count_by-le-length (λ b. b) (get_or level j d).done))) o
+    let p : length (get_or level j d).done ≡ length h = s.0 in
+    let q : done_count (get_or level j d).done ≡ count = s.1 in
+    absurd (omega (arith, count_by-le-length (λ b. b) (get_or level j d).done))) o
 
 pub found_at : (k : ℕ) (h : List Call) (count : ℕ) (level others : List Reach) → others ≡ level → IsAt k h count level → Any (Extends k h) others → HasOrder k h
 found_at k h count level others e at a =

@@ -93,8 +93,8 @@ pub not_below : (k : ℕ) (items : List ℕ) (x : ℕ) → ((j : ℕ) → j < k 
 not_below k items x f =
     cond-false (ltb (place items x) k && ltb (place items x) (length items)) (Some (remove items (place items x))) None
     (false_from_ne_true _ (λ e. let p = and_parts (ltb (place items x) k) (ltb (place items x) (length items)) e in
-        let lt = ltb-true (place items x) (length items) p.1 in
-        f (place items x) (ltb-true (place items x) k p.0) lt (get_or_from_slice_get items (place items x) x 0 (place_in items x lt))))
+    let lt = ltb-true (place items x) (length items) p.1 in
+    f (place items x) (ltb-true (place items x) k p.0) lt (get_or_from_slice_get items (place items x) x 0 (place_in items x lt))))
 
 -- a call that was tried and is not illegal went
 pub tried_went : (k : ℕ) (before after : List ℕ) (e : Effect) (t : Tried) → IsTried k before after e t → t ≢ NotLegal → next k before e ≡ Some after

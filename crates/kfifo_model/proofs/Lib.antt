@@ -9,3 +9,4 @@ pub mod Forgetting
 pub mod Resting
 pub mod Adding
 pub mod RecordLemmas
+pub mod Indexing

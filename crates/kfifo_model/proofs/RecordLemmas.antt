@@ -1,20 +1,18 @@
 -- What is read of a record's objects.
-use Rattle.std.proofs.Common.{ℕ, zero, suc, ◌≡◌, ◌≢◌, ◌+◌, ◌<◌, ◌≤◌, ◌^◌, ◌&&◌, Bool, true, false, cond, not, ltb, List, [], ◌∷◌, ◌++◌, length, map, get_or, refl, sym, ◌∙◌, ap, subst, inl, inr, arith, Option, Some, None, String, string_bytes}
+use Rattle.std.proofs.Common.{ℕ, ◌≡◌, ◌≢◌, ◌<◌, ◌≤◌, ◌^◌, ◌&&◌, Bool, true, false, cond, ltb, List, [], ◌∷◌, ◌++◌, length, map, get_or, refl, sym, ◌∙◌, ap, subst, inl, inr, arith, Option, Some, None, String, string_bytes}
 use Rattle.std.specs.Result.{IfOk}
 use Rattle.std.specs.declared.result.Result.{Result}
 use Rattle.std.specs.declared.result.Result.TheVariants.{Ok, Err}
 use Rattle.std.specs.declared.alloc.Global.{Global}
 use Rattle.std.specs.List.{list_all}
-use Rattle.std.proofs.lemmas.Bool.{cases_lt, and_parts, ltb-true, false≢true, cases_Bool, cond-true, cond-false}
-use Rattle.serde_json.specs.Data.{Data, null, boolean, number, string, array, object, Items, no_items, item, Members}
+use Rattle.std.proofs.lemmas.Bool.{cases_lt, and_parts, ltb-true, false≢true}
+use Rattle.serde_json.specs.Data.{Data, null, boolean, number, string, array, object, Members}
 use Rattle.serde_json.specs.Find.{as_object, as_array}
 use Rattle.serde_json.specs.View.{view, items_of, items_view, members_of}
 use Rattle.serde_json.specs.declared.value.Value.{Value}
-use Rattle.kfifo_model.specs.declared.calls.Op.{Op}
 use Rattle.kfifo_model.specs.declared.calls.Op.TheVariants as ops
 use Rattle.kfifo_model.specs.declared.calls.Answer.{Answer}
 use Rattle.kfifo_model.specs.declared.calls.Answer.TheVariants as answers
-use Rattle.kfifo_model.specs.declared.calls.End.{End}
 use Rattle.kfifo_model.specs.declared.calls.Call.{Call}
 use Rattle.kfifo_model.specs.declared.reading.OpWord.{OpWord}
 use Rattle.kfifo_model.specs.declared.reading.OpWord.TheVariants.{Enq, Deq}
@@ -32,8 +30,8 @@ use Rattle.kfifo_model.specs.declared.history.RecordFault.{RecordFault}
 use Rattle.kfifo_model.specs.declared.history.RecordFault.TheVariants as faults
 use Rattle.kfifo_model.proofs.Watching.{before_last, the_last}
 use Rattle.kfifo_model.specs.Relaxed.{Wrong, effect}
-use Rattle.kfifo_model.specs.Validity.{IsHistory, IsItem, IsInRange, OpInRange, EndInRange, AnswerInRange, Answers}
-use Rattle.kfifo_model.specs.Records.{IsReadFault, IsMemberFault, is_key, are_keys, has_known_keys, members, at, AreRead, IsRead, IsReadTo, item_fits, is_got, is_item_number, is_in_range, answer_of, op_of, ending_of, with_ending, call_of, list_of}
+use Rattle.kfifo_model.specs.Validity.{IsHistory, IsItem, IsInRange, OpInRange, AnswerInRange, Answers}
+use Rattle.kfifo_model.specs.Records.{IsReadFault, IsMemberFault, is_key, are_keys, has_known_keys, members, at, AreRead, IsRead, IsReadTo, item_fits, is_item_number, is_in_range, answer_of, op_of, ending_of, with_ending, call_of, list_of}
 
 pub keys_known : (es : List (String Global × Value)) → list_all (λ k. is_key (string_bytes k)) (map (λ e. e.0) es) ≡ are_keys (members_of (map (λ m. (m.0, view m.1)) es))
 keys_known [] = refl
@@ -148,12 +146,12 @@ read_more ds h c n len r i j lt =
     elim (cases_lt j n) [
       | inl below ↦ (let lj : j < length h = omega arith in subst P (sym (before_last h c j lj)) (r j lj))
       | inr le ↦ (
-        let e = length-append h (c ∷ []) in
-        let same : j ≡ n = omega arith in
-        let Q : ℕ → Type 0 = λ w. IsRead (at ds w) (Ok (call (h ++ c ∷ []) w)) in
-        let S : Call → Type 0 = λ w. IsRead (at ds n) (Ok w) in
-        subst Q (sym same) (subst S (sym (the_last h c n len)) i)
-      )
+          let e = length-append h (c ∷ []) in
+          let same : j ≡ n = omega arith in
+          let Q : ℕ → Type 0 = λ w. IsRead (at ds w) (Ok (call (h ++ c ∷ []) w)) in
+          let S : Call → Type 0 = λ w. IsRead (at ds n) (Ok w) in
+          subst Q (sym same) (subst S (sym (the_last h c n len)) i)
+          )
     ]
 
 -- a member, as the data that it is

@@ -1,7 +1,7 @@
 -- Beginnings of orders, by what is done, and what goes on from them.
-use Rattle.std.proofs.Common.{ℕ, zero, suc, ◌≡◌, ◌≢◌, ◌+◌, ◌<◌, ◌≤◌, ◌⊎◌, Bool, true, false, cond, List, [], ◌∷◌, ◌++◌, length, map, get_or, set, replicate, refl, sym, ◌∙◌, ap, subst, inl, inr, arith, Option, Some, None}
-use Rattle.std.proofs.lemmas.Bool.{cases_lt, cases_eq, false≢true}
-use Rattle.std.proofs.lemmas.List.{map-append, append-nil, get_or_past, get_or_append_left}
+use Rattle.std.proofs.Common.{ℕ, zero, suc, ◌≡◌, ◌+◌, ◌<◌, ◌⊎◌, Bool, true, false, cond, List, [], ◌∷◌, ◌++◌, length, map, get_or, set, replicate, refl, sym, ◌∙◌, ap, subst, inl, inr, arith, Option, Some, None}
+use Rattle.std.proofs.lemmas.Bool.{cases_lt, false≢true}
+use Rattle.std.proofs.lemmas.List.{map-append, get_or_past, get_or_append_left}
 use Rattle.std.proofs.Math.Seq.{get_or-append_seam}
 use Rattle.std.proofs.lemmas.List.Sums.{sum_by-cons}
 use Rattle.std.proofs.Math.ListN.{length-set}
@@ -11,13 +11,13 @@ use Rattle.kfifo_model.specs.declared.calls.Answer.{Answer}
 use Rattle.kfifo_model.specs.declared.calls.Answer.TheVariants.{Done, Full, Got, Empty, Busy, Worn}
 use Rattle.kfifo_model.specs.declared.calls.Call.{Call}
 use Rattle.kfifo_model.specs.declared.calls.End.{End}
-use Rattle.kfifo_model.specs.Lists.{IsIn, Each, EachPair}
-use Rattle.kfifo_model.specs.Relaxed.{Effect, Adds, Takes, Finds_none, Refused, Wrong, IsRun, next, effect}
-use Rattle.kfifo_model.specs.Histories.{call, no_call, does, effect_of, effect_at, CanStand, HasEnd, IsFinished, EndsBelow, Precedes, IsOrder, IsLegal}
+use Rattle.kfifo_model.specs.Lists.{IsIn, Each}
+use Rattle.kfifo_model.specs.Relaxed.{Effect, Adds, Takes, Wrong, IsRun, next, effect}
+use Rattle.kfifo_model.specs.Histories.{call, no_call, does, effect_of, effect_at, CanStand, HasEnd, EndsBelow, Precedes}
 use Rattle.kfifo_model.specs.Validity.{IsHistory, EndsFrom, AnswerInRange, EndInRange}
 use Rattle.kfifo_model.specs.Reach.{Reach, reach}
-use Rattle.kfifo_model.specs.Searching.{HasOrder, IsDone, IsComplete, IsReady, IsFree, IsRest, GoesOn, Extends, IsNoNext, IsWanted, IsComing, IsIdle, IsAsGood, AreAsGood, done_count, IsFurther, LeadsTo}
-use Rattle.kfifo_model.proofs.Lists.{in_append, in_left, in_right, each_at, each_from, pairs_back, pairs_across, pairs_less, in_less, in_more, parted, Differ}
+use Rattle.kfifo_model.specs.Searching.{HasOrder, IsDone, IsComplete, IsFree, IsRest, GoesOn, Extends, IsNoNext, IsWanted, IsComing, IsIdle, IsAsGood, AreAsGood, done_count, LeadsTo}
+use Rattle.kfifo_model.proofs.Lists.{in_append, in_right, each_at, each_from, pairs_back, pairs_across, pairs_less, in_less, in_more, parted, Differ}
 use Rattle.kfifo_model.proofs.Greedy.{run_on, run_back, no_run}
 use Rattle.kfifo_model.proofs.Checking.{in_bounds}
 use Rattle.kfifo_model.proofs.Forgetting.{Has, Both, both_from_places, both_flip, as_good_runs, without_idle, idle_first, taken_from}
@@ -153,11 +153,14 @@ leads_to k h done items after others n sized free e good =
     let pair = both h (set done n true) after others good in
     record {
       further = (length-set done n true, one_more_done done n lt free.fresh);
-      sound = λ g. (n ∷ g.0, record {
-        is_rest = rest_cons h done n g.0 lt free g.1.is_rest;
-        is_run = run_back k items after (does h n) (map (does h) g.0) e
-            (as_good_runs k (IsWanted h (set done n true)) (map (does h) g.0) others after (λ x i. takes_wanted h (set done n true) x g.0 g.1.is_rest.fresh i) (both_flip (IsWanted h (set done n true)) after others pair) g.1.is_run);
-      });
+      sound = λ g. (
+        n ∷ g.0,
+        record {
+          is_rest = rest_cons h done n g.0 lt free g.1.is_rest;
+          is_run = run_back k items after (does h n) (map (does h) g.0) e
+              (as_good_runs k (IsWanted h (set done n true)) (map (does h) g.0) others after (λ x i. takes_wanted h (set done n true) x g.0 g.1.is_rest.fresh i) (both_flip (IsWanted h (set done n true)) after others pair) g.1.is_run);
+        },
+      );
       complete = λ rest g.
           let tail = rest_tail h done n rest lt g.is_rest in (
             rest,
@@ -191,10 +194,13 @@ moved_rest h done n a b free r =
     let S : ℕ → Type 0 = λ c. CanStand (call h c).end (call h c).op in
     let R : ℕ → ℕ → Type 0 = λ c d. Precedes h d c → ⊥ in
     record {
-      distinct = (each_from (Differ n) (a ++ b) (λ x i. elim (in_append x a b i) [
-        | inl j ↦ (λ e. pairs_across Differ a (n ∷ b) r.distinct x n j (inl refl) (sym e))
-        | inr j ↦ each_at (Differ n) x b (pairs_back Differ a (n ∷ b) r.distinct).0 j
-      ]), pairs_less Differ n a b r.distinct);
+      distinct = (
+        each_from (Differ n) (a ++ b) (λ x i. elim (in_append x a b i) [
+          | inl j ↦ (λ e. pairs_across Differ a (n ∷ b) r.distinct x n j (inl refl) (sym e))
+          | inr j ↦ each_at (Differ n) x b (pairs_back Differ a (n ∷ b) r.distinct).0 j
+        ]),
+        pairs_less Differ n a b r.distinct,
+      );
       calls = (free.stands, each_from S (a ++ b) (λ x i. each_at S x (a ++ n ∷ b) r.calls (in_less x n a b i)));
       fresh = λ x i. r.fresh x (moved_in x n a b i);
       complete = λ x f. elim (r.complete x f) [ inl d ↦ inl d | inr i ↦ inr (moved_out x n a b i) ];
@@ -212,14 +218,14 @@ idle_goes k h r n free idle never g =
     elim (g.1.is_rest.complete n (idle_end r.items (call h n).op (call h n).end idle)) [
       | inl d ↦ free.fresh d
       | inr i ↦ (
-        let p = parted n g.0 i in
-        let R : List ℕ → Type 0 = λ t. IsRest h r.done t in
-        let Q : List ℕ → Type 0 = λ t. IsRun k r.items (map (does h) t) in
-        never (p.front ++ p.back) (record {
-          is_rest = moved_rest h r.done n p.front p.back free (subst R p.is g.1.is_rest);
-          is_run = moved_run k h r.items n p.front p.back idle (subst Q p.is g.1.is_run);
-        })
-      )
+          let p = parted n g.0 i in
+          let R : List ℕ → Type 0 = λ t. IsRest h r.done t in
+          let Q : List ℕ → Type 0 = λ t. IsRun k r.items (map (does h) t) in
+          never (p.front ++ p.back) (record {
+            is_rest = moved_rest h r.done n p.front p.back free (subst R p.is g.1.is_rest);
+            is_run = moved_run k h r.items n p.front p.back idle (subst Q p.is g.1.is_run);
+          })
+          )
     ]
 
 -- ---- an item that can no longer come
@@ -247,10 +253,13 @@ cannot_finish k h r x w gone never g =
 -- ---- ends
 
 pub complete_extends : (k : ℕ) (h : List Call) (r : Reach) → IsComplete h r.done → Extends k h r
-complete_extends k h r c = ([], record {
-  is_rest = record { distinct = tt; calls = tt; fresh = λ n i d. i; complete = λ n f. inl (c n f); before = tt };
-  is_run = tt;
-})
+complete_extends k h r c = (
+  [],
+  record {
+    is_rest = record { distinct = tt; calls = tt; fresh = λ n i d. i; complete = λ n f. inl (c n f); before = tt };
+    is_run = tt;
+  },
+)
 
 none_by : (k : ℕ) (h : List Call) (r : Reach) (rest : List ℕ) → IsHistory h → (IsComplete h r.done → ⊥) → ((n : ℕ) → n < length h → IsNoNext k h r n) → GoesOn k h r rest → ⊥
 none_by k h r [] v open_ f g = open_ (λ n e. elim (g.is_rest.complete n e) [ inl d ↦ d | inr i ↦ absurd i ])
@@ -327,18 +336,18 @@ pub as_good_more : (h : List Call) (done : List Bool) (items kept : List ℕ) (i
 as_good_more h done items kept i y len good here j lt =
     elim (cases_lt j i) [
       | inl below ↦ (
-        let inside : j < length kept = omega arith in
-        let G : ℕ → Type 0 = λ w. IsAsGood h done (get_or items j 0) w in
-        subst G (sym (get_or_append_left kept (y ∷ []) 0 j inside)) (good j below)
-      )
+          let inside : j < length kept = omega arith in
+          let G : ℕ → Type 0 = λ w. IsAsGood h done (get_or items j 0) w in
+          subst G (sym (get_or_append_left kept (y ∷ []) 0 j inside)) (good j below)
+          )
       | inr le ↦ (
-        let same : j ≡ length kept = omega arith in
-        let at : get_or (kept ++ y ∷ []) j 0 ≡ y = ap (λ w. get_or (kept ++ y ∷ []) w 0) same ∙ get_or-append_seam kept y [] 0 in
-        let to : i ≡ j = omega arith in
-        let G : ℕ → Type 0 = λ w. IsAsGood h done (get_or items j 0) w in
-        let F : ℕ → Type 0 = λ w. IsAsGood h done (get_or items w 0) y in
-        subst G (sym at) (subst F to here)
-      )
+          let same : j ≡ length kept = omega arith in
+          let at : get_or (kept ++ y ∷ []) j 0 ≡ y = ap (λ w. get_or (kept ++ y ∷ []) w 0) same ∙ get_or-append_seam kept y [] 0 in
+          let to : i ≡ j = omega arith in
+          let G : ℕ → Type 0 = λ w. IsAsGood h done (get_or items j 0) w in
+          let F : ℕ → Type 0 = λ w. IsAsGood h done (get_or items w 0) y in
+          subst G (sym at) (subst F to here)
+          )
     ]
 
 pub worthless : (h : List Call) (done : List Bool) (x : ℕ) → IsHistory h → (IsWanted h done x → ⊥) → IsAsGood h done x 0

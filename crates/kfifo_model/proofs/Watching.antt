@@ -1,5 +1,5 @@
 -- The calls so far, as the progress of a record keeps them.
-use Rattle.std.proofs.Common.{ℕ, suc, ◌≡◌, ◌≢◌, ◌+◌, ◌<◌, ◌≤◌, ◌↔◌, List, [], ◌∷◌, ◌++◌, length, get_or, set, sym, ◌∙◌, ap, subst, inl, inr, arith, refl, Option, Some, None, get_or-set_other, get_or-set_same, length-append}
+use Rattle.std.proofs.Common.{ℕ, ◌≡◌, ◌≢◌, ◌+◌, ◌<◌, ◌≤◌, ◌↔◌, List, [], ◌∷◌, ◌++◌, length, get_or, set, sym, ◌∙◌, ap, subst, inl, inr, arith, refl, Option, Some, None, get_or-set_other, get_or-set_same, length-append}
 use Rattle.std.proofs.lemmas.Bool.{cases_lt, cases_eq}
 use Rattle.std.proofs.lemmas.List.{get_or_default, get_or_append_left}
 use Rattle.std.proofs.Math.ListN.{length-set}
@@ -9,7 +9,7 @@ use Rattle.kfifo_model.specs.declared.calls.Call.{Call}
 use Rattle.kfifo_model.specs.declared.calls.End.{End}
 use Rattle.kfifo_model.specs.declared.progress.Progress.{Progress}
 use Rattle.kfifo_model.specs.declared.progress.ThreadState.{ThreadState}
-use Rattle.kfifo_model.specs.declared.progress.ThreadState.TheVariants.{Fresh, Ended, InCall}
+use Rattle.kfifo_model.specs.declared.progress.ThreadState.TheVariants.{Fresh}
 use Rattle.kfifo_model.specs.Histories.{call, no_call, EndsBelow}
 use Rattle.kfifo_model.specs.Validity.{IsHistory, IsGoodBelow, IsFault, IsGood, IsInRange, Answers, EndsFrom, Rises, IsApart}
 use Rattle.kfifo_model.specs.Progress.{LetsBegin, RisesFrom, state_after}
@@ -58,27 +58,27 @@ more_progress h n p q was good latest threads =
           let at : get_or q.threads t d ≡ get_or (set p.threads c.thread (state_after c.end)) t d = ap (λ (l : List ThreadState). get_or l t d) threads in
           elim (cases_eq t c.thread) [
             | inl e ↦ (
-              let here : c.thread < length p.threads = (let z = was.sized in omega arith) in
-              let now : get_or q.threads t d ≡ state_after c.end = at ∙ (ap (λ w. get_or (set p.threads c.thread (state_after c.end)) w d) e ∙ rw get_or-set_same refl) in (
-                λ l j lj th. (
-                  let ends = (lets_after c.end s).0 (subst P now l) in
-                  elim (cases_lt j n) [
-                    | inl below ↦ ends_through (call h j).end c.end c.first s (good.apart j below (th ∙ e)) good.ends ends
-                    | inr le ↦ (let same : j ≡ n = omega arith in let R : ℕ → Type 0 = λ w. EndsBelow (call h w).end s in subst R (sym same) ends)
-                  ]
-                ),
-                λ f. subst P (sym now) ((lets_after c.end s).1 (f n (omega arith) (sym e))),
-              )
-            )
+                let here : c.thread < length p.threads = (let z = was.sized in omega arith) in
+                let now : get_or q.threads t d ≡ state_after c.end = at ∙ (ap (λ w. get_or (set p.threads c.thread (state_after c.end)) w d) e ∙ rw get_or-set_same refl) in (
+                  λ l j lj th. (
+                      let ends = (lets_after c.end s).0 (subst P now l) in
+                      elim (cases_lt j n) [
+                        | inl below ↦ ends_through (call h j).end c.end c.first s (good.apart j below (th ∙ e)) good.ends ends
+                        | inr le ↦ (let same : j ≡ n = omega arith in let R : ℕ → Type 0 = λ w. EndsBelow (call h w).end s in subst R (sym same) ends)
+                      ]
+                      ),
+                  λ f. subst P (sym now) ((lets_after c.end s).1 (f n (omega arith) (sym e))),
+                )
+                )
             | inr ne ↦ (
-              let now : get_or q.threads t d ≡ get_or p.threads t d = at ∙ (let m : t ≢ c.thread = ne in rw get_or-set_other refl) in (
-                λ l j lj th. elim (cases_lt j n) [
-                  | inl below ↦ (was.threads t s d lt).0 (subst P now l) j below th
-                  | inr le ↦ (let same : j ≡ n = omega arith in absurd (ne (sym th ∙ ap (λ w. (call h w).thread) same)))
-                ],
-                λ f. subst P (sym now) ((was.threads t s d lt).1 (λ j lj th. f j (omega arith) th)),
-              )
-            )
+                let now : get_or q.threads t d ≡ get_or p.threads t d = at ∙ (let m : t ≢ c.thread = ne in rw get_or-set_other refl) in (
+                  λ l j lj th. elim (cases_lt j n) [
+                    | inl below ↦ (was.threads t s d lt).0 (subst P now l) j below th
+                    | inr le ↦ (let same : j ≡ n = omega arith in absurd (ne (sym th ∙ ap (λ w. (call h w).thread) same)))
+                  ],
+                  λ f. subst P (sym now) ((was.threads t s d lt).1 (λ j lj th. f j (omega arith) th)),
+                )
+                )
           ];
     }
 

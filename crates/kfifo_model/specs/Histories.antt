@@ -1,4 +1,6 @@
--- Histories, and the orders of their calls.
+-- Histories, and the orders of their calls: linearizability, as Herlihy and Wing defined it ("Linearizability: a
+-- correctness condition for concurrent objects", TOPLAS 1990). A history is a list of calls with their first and last
+-- steps; an order is one list of its finished calls and some unfinished enqueues, which keeps what precedes what.
 use Rattle.std.specs.Prelude.{ℕ, ◌≢◌, ◌<◌, List, [], Option, Some, None, map, slice_index_or}
 use Rattle.kfifo_model.specs.declared.calls.Op.{Op}
 use Rattle.kfifo_model.specs.declared.calls.Op.TheVariants.{Enqueue, Dequeue}
@@ -40,7 +42,7 @@ abbrev pub EndsBelow : Option End → ℕ → Type 0
 EndsBelow (Some end) step = end.last < step
 EndsBelow None step = ⊥
 
--- c returned before d was called
+-- c returned before d was called (Herlihy and Wing's order of a history's operations)
 abbrev pub Precedes : List Call → ℕ → ℕ → Type 0
 Precedes h c d = EndsBelow (call h c).end (call h d).first
 
@@ -65,14 +67,14 @@ HasEachFinished h order = (c : ℕ) → IsFinished h c → IsIn c order
 abbrev pub KeepsBefore : List Call → List ℕ → Type 0
 KeepsBefore h order = EachPair (λ c d. Precedes h d c → ⊥) order
 
--- An order of a history.
+-- An order of a history: a linearization, but for the answers.
 pub record IsOrder (h : List Call) (order : List ℕ) : Type 0 where
   pub distinct : HasNoRepeats order
   pub calls : HasOnlyCalls h order
   pub complete : HasEachFinished h order
   pub before : KeepsBefore h order
 
--- An order that is a run.
+-- A legal order: one in which the calls are a run of the k-relaxed queue.
 pub record IsLegal (k : ℕ) (h : List Call) (order : List ℕ) : Type 0 where
   pub is_order : IsOrder h order
   pub is_run : IsRun k [] (map (does h) order)

@@ -11,3 +11,4 @@ pub mod Measures
 pub mod Reach
 pub mod Searching
 pub mod Records
+pub mod Index

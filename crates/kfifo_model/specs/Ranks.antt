@@ -1,4 +1,4 @@
--- The ranks of an order.
+-- The ranks of an order: how many older items a dequeue passes over.
 use Rattle.std.specs.Prelude.{ℕ, List, [], ◌∷◌, ◌++◌, Option, Some, None, map}
 use Rattle.kfifo_model.specs.declared.calls.Call.{Call}
 use Rattle.kfifo_model.specs.Lists.{place}

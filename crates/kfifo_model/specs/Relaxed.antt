@@ -1,4 +1,6 @@
--- The k-relaxed queue: a list of items, the oldest first.
+-- The k-relaxed queue: a list of items, the oldest first, empty at first. A dequeue may give any of the k oldest: the
+-- out-of-order relaxation of Henzinger, Kirsch, Payer, Sezgin and Sokolova, "Quantitative relaxation of concurrent data
+-- structures", POPL 2013. With k = 1 it is a plain queue.
 use Rattle.std.specs.Prelude.{ℕ, ◌≡◌, ◌<◌, ◌&&◌, cond, ltb, length, List, [], ◌∷◌, ◌++◌, Option, Some, None, slice_get}
 use Rattle.std.specs.List.{remove}
 use Rattle.kfifo_model.specs.Lists.{place}
@@ -15,6 +17,7 @@ pub data Effect : Type 0 where
   Refused : Effect
   Wrong : Effect
 
+-- an answer of the other operation is wrong
 abbrev pub effect : Op → Answer → Effect
 effect (Enqueue x) Done = Adds x
 effect (Enqueue x) Full = Refused
@@ -29,7 +32,7 @@ effect Dequeue Worn = Refused
 effect Dequeue Done = Wrong
 effect Dequeue Full = Wrong
 
--- the effect is legal in the list of items, and leaves the list after
+-- the effect is legal in the list of items, and leaves the list after. Of equal items among the first k any may go
 abbrev pub Leaves : ℕ → List ℕ → Effect → List ℕ → Type 0
 Leaves k items (Adds x) after = after ≡ items ++ x ∷ []
 Leaves k items (Takes x) after = (i : ℕ) × (i < k) × (slice_get items i ≡ Some x) × (after ≡ remove items i)

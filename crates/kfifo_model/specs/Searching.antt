@@ -1,5 +1,5 @@
 -- The search for a legal order: beginnings of orders, by the calls that are done and the items that they left.
-use Rattle.std.specs.Prelude.{ℕ, ◌≡◌, ◌+◌, ◌<◌, ◌≤◌, ◌⊎◌, Bool, true, false, List, [], ◌∷◌, ◌++◌, Option, Some, None, map, length, count_by, slice_index_or, All}
+use Rattle.std.specs.Prelude.{ℕ, ◌≡◌, ◌+◌, ◌<◌, ◌≤◌, ◌⊎◌, Bool, true, false, List, [], ◌∷◌, ◌++◌, map, length, count_by, slice_index_or, All}
 use Rattle.kfifo_model.specs.declared.calls.Call.{Call}
 use Rattle.kfifo_model.specs.declared.search.SearchFault.{SearchFault}
 use Rattle.kfifo_model.specs.declared.search.SearchFault.TheVariants.{TooLong, Memory}
@@ -15,6 +15,10 @@ HasOrder k h = (order : List ℕ) × IsLegal k h order
 abbrev pub IsSearchFault : List Call → SearchFault → Type 0
 IsSearchFault h TooLong = 12 < length h
 IsSearchFault h Memory = length h ≤ 12
+
+abbrev pub search_fault_number : SearchFault → ℕ
+search_fault_number TooLong = 1
+search_fault_number Memory = 2
 
 abbrev pub IsDone : List Bool → ℕ → Type 0
 IsDone done n = slice_index_or done n false ≡ true

@@ -4,6 +4,7 @@
 
 mod calls;
 mod history;
+mod index;
 mod measures;
 mod orders;
 mod progress;
@@ -12,7 +13,11 @@ mod search;
 
 pub use calls::{Answer, Call, End, Op};
 pub use history::{History, RecordFault};
+pub use index::{MeasureFault, Overtaken, measure};
 pub use measures::{OvertakenFault, RankFault, overtaken, ranks};
 pub use orders::{Verdict, check_order};
 pub use reading::{MOST_CALLS, read_history};
 pub use search::{SearchFault, has_order};
+
+#[cfg(test)]
+mod tests;

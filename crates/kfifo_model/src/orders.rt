@@ -130,11 +130,7 @@ fn take_out(items: &mut VecDeque<u32>, k: usize, item: u32) -> Tried
 }
 
 /// Makes the call in the list of items, where its answer is legal there.
-fn try_call(
-    items: &mut VecDeque<u32>,
-    k: usize,
-    call: &Call,
-) -> Result<Tried, AllocError>
+fn try_call(items: &mut VecDeque<u32>, k: usize, call: &Call) -> Result<Tried, AllocError>
     ensures { IfOk result (IsTried k items.old.items items.new.items (effect_of call.now)) }
 {
     match (call.op, call.end) {

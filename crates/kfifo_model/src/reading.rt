@@ -274,14 +274,10 @@ fn end_of_ending(op: OpWord, ending: Option<Ending>, item: Option<u32>) -> Optio
     match ending {
         None => Some(None),
         Some(ending) => match answer_of_word(op, ending.answer, item) {
-            Some(answer) => Some(
-                Some(
-                    End {
-                        last: ending.last,
-                        answer,
-                    },
-                ),
-            ),
+            Some(answer) => Some(Some(End {
+                last: ending.last,
+                answer,
+            })),
             None => None,
         },
     }

@@ -11,7 +11,7 @@ ghost use Rattle.std.specs.Option.{option_map};
 ghost use Rattle.kfifo_model.specs.Histories.{effect_of, does, CanStand, EndsBelow};
 ghost use Rattle.kfifo_model.specs.Validity.{IsHistory};
 ghost use Rattle.kfifo_model.specs.Reach.{Reach, reach};
-ghost use Rattle.kfifo_model.specs.Searching.{HasOrder, IsSearchFault, IsDone, IsComplete, IsReady, IsFree, Extends, IsNoNext, IsWanted, IsComing, IsIdle, IsAsGood, AreAsGood, done_count, IsFurther, LeadsTo, IsAdded, IsNextLevel};
+ghost use Rattle.kfifo_model.specs.Searching.{HasOrder, IsSearchFault, search_fault_number, IsDone, IsComplete, IsReady, IsFree, Extends, IsNoNext, IsWanted, IsComing, IsIdle, IsAsGood, AreAsGood, done_count, IsFurther, LeadsTo, IsAdded, IsNextLevel};
 
 use crate::calls::{Answer, Call, Op};
 use crate::history::History;
@@ -32,6 +32,18 @@ pub enum SearchFault {
     TooLong,
     /// 2: a growth was refused.
     Memory,
+}
+
+impl SearchFault {
+    /// The fault's number, 1 or 2.
+    pub fn number(self) -> u32
+        ensures { result ≡ search_fault_number self }
+    {
+        match self {
+            SearchFault::TooLong => 1,
+            SearchFault::Memory => 2,
+        }
+    }
 }
 
 /// What the calls of a beginning of an order came to: which calls are done, and the items that they left.

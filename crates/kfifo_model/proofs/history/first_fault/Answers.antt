@@ -1,4 +1,4 @@
-use Rattle.std.proofs.Common.{refl, sym}
+use Rattle.std.proofs.Common.{refl}
 use Rattle.std.proofs.lemmas.Bool.{false≢true}
 use Rattle.kfifo_model.proofs.Watching.{good_at, ranged_at, answers_at, ends_at, rises_at, not_apart, more_calls, good_more}
 use Rattle.kfifo_model.proofs.history.first_fault.Goals as goal

@@ -1,7 +1,7 @@
-use Rattle.std.proofs.Common.{◌+◌, ◌++◌, ◌∷◌, [], map, drop, get_or, sym, ◌∙◌, ap}
+use Rattle.std.proofs.Common.{◌+◌, ◌++◌, map, drop, get_or, sym, ◌∙◌, ap}
 use Rattle.std.proofs.lemmas.List.{append-nil}
 use Rattle.kfifo_model.specs.Histories.{does}
-use Rattle.kfifo_model.specs.Ranks.{rank, ranks_of}
+use Rattle.kfifo_model.specs.Ranks.{ranks_of}
 use Rattle.kfifo_model.proofs.Measuring.{runs_at, ranks_next, took_rank, no_rank, went_on}
 use Rattle.kfifo_model.proofs.measures.ranks_along.Goals as goal
 use Rattle.kfifo_model.proofs.measures.ranks_along.Goals.{in-Took+in_ok-push, in_default}

@@ -1,4 +1,4 @@
-use Rattle.std.proofs.Common.{get_or, ap}
+use Rattle.std.proofs.Common.{get_or}
 use Rattle.std.proofs.lemmas.List.{take_all}
 use Rattle.kfifo_model.proofs.Checking.{goes_on, breaks_at, runs_whole, tried_went}
 use Rattle.kfifo_model.specs.Histories.{does}

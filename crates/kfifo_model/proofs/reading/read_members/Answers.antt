@@ -1,4 +1,4 @@
-use Rattle.std.proofs.Common.{◌≡◌, ◌+◌, ◌∷◌, [], ◌++◌, List, length, map, refl, sym, ◌∙◌, ap, subst, arith, length-append}
+use Rattle.std.proofs.Common.{◌≡◌, ◌+◌, [], List, length, map, refl, sym, ◌∙◌, subst, arith, length-append}
 use Rattle.std.specs.declared.result.Result.TheVariants.{Ok, Err}
 use Rattle.std.proofs.lemmas.Bool.{false≢true}
 use Rattle.std.proofs.lemmas.List.{length-map}
@@ -21,8 +21,7 @@ loop-n-init c =
 
 pub returns-in-Err-NotACall : goal.returns-in-Err-NotACall
 returns-in-Err-NotACall c =
-    let P : Flaw → Type 0 = λ w. IsRead (view c.index-members-n.result) (Err w) in
-    (
+    let P : Flaw → Type 0 = λ w. IsRead (view c.index-members-n.result) (Err w) in (
       c.loop-n.calls.items,
       read_to c.args.members.now c.loop-n.calls.items c.loop-n.n c.loop-n-test.true c.loop-n.invariant.sized c.loop-n.invariant.read c.loop-n.invariant.valid,
       read_at c.args.members.now c.index-members-n.result c.loop-n.n (Err NotACall) c.loop-n-test.true c.index-members-n.is (subst P c.in-Err-NotACall.field-0-is c.in-Err-NotACall.ensures.read),
@@ -30,8 +29,7 @@ returns-in-Err-NotACall c =
 
 pub returns-in-Err-NumberOutOfRange : goal.returns-in-Err-NumberOutOfRange
 returns-in-Err-NumberOutOfRange c =
-    let P : Flaw → Type 0 = λ w. IsRead (view c.index-members-n.result) (Err w) in
-    (
+    let P : Flaw → Type 0 = λ w. IsRead (view c.index-members-n.result) (Err w) in (
       c.loop-n.calls.items,
       read_to c.args.members.now c.loop-n.calls.items c.loop-n.n c.loop-n-test.true c.loop-n.invariant.sized c.loop-n.invariant.read c.loop-n.invariant.valid,
       read_at c.args.members.now c.index-members-n.result c.loop-n.n (Err NumberOutOfRange) c.loop-n-test.true c.index-members-n.is (subst P c.in-Err-NumberOutOfRange.field-0-is c.in-Err-NumberOutOfRange.ensures.read),
@@ -39,8 +37,7 @@ returns-in-Err-NumberOutOfRange c =
 
 pub returns-in-Err-WrongAnswer : goal.returns-in-Err-WrongAnswer
 returns-in-Err-WrongAnswer c =
-    let P : Flaw → Type 0 = λ w. IsRead (view c.index-members-n.result) (Err w) in
-    (
+    let P : Flaw → Type 0 = λ w. IsRead (view c.index-members-n.result) (Err w) in (
       c.loop-n.calls.items,
       read_to c.args.members.now c.loop-n.calls.items c.loop-n.n c.loop-n-test.true c.loop-n.invariant.sized c.loop-n.invariant.read c.loop-n.invariant.valid,
       read_at c.args.members.now c.index-members-n.result c.loop-n.n (Err WrongAnswer) c.loop-n-test.true c.index-members-n.is (subst P c.in-Err-WrongAnswer.field-0-is c.in-Err-WrongAnswer.ensures.read),

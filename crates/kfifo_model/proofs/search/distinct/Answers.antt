@@ -1,5 +1,4 @@
-use Rattle.std.proofs.Common.{ℕ, ◌≡◌, ◌++◌, ◌∷◌, [], List, true, sym, ◌∙◌, ap, subst, refl, arith, length}
-use Rattle.std.specs.Option.{option_to_list}
+use Rattle.std.proofs.Common.{List, subst, refl, arith}
 use Rattle.std.specs.List.{Contains}
 use Rattle.kfifo_model.specs.Reach.{Reach}
 use Rattle.kfifo_model.proofs.Adding.{members_init, members_pushed, members_same, members_end}

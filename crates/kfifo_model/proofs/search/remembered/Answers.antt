@@ -1,7 +1,7 @@
-use Rattle.std.proofs.Common.{ℕ, List, ◌<◌, ◌≡◌, ◌+◌, length, get_or, refl, sym, ◌∙◌, ap, subst, inl, arith, length-append}
+use Rattle.std.proofs.Common.{ℕ, List, ◌<◌, ◌≡◌, ◌+◌, length, get_or, sym, ◌∙◌, subst, inl, arith, length-append}
 use Rattle.std.proofs.lemmas.Bool.{false≢true}
 use Rattle.std.proofs.lemmas.List.{get_or_default}
-use Rattle.kfifo_model.specs.Searching.{IsAsGood, IsWanted}
+use Rattle.kfifo_model.specs.Searching.{IsAsGood}
 use Rattle.kfifo_model.proofs.Resting.{as_good_more, worthless}
 use Rattle.kfifo_model.proofs.search.remembered.Goals as goal
 use Rattle.kfifo_model.proofs.search.remembered.Goals.{then-is_wanted, else-is_wanted}

@@ -1,6 +1,6 @@
 use Rattle.std.proofs.Common.{refl, arith, ◌+◌}
 use Rattle.std.proofs.lemmas.Bool.{false≢true}
-use Rattle.kfifo_model.proofs.Adding.{at_start, at_next, at_end, found_at, level_along, sized_along}
+use Rattle.kfifo_model.proofs.Adding.{at_start, at_next, at_end, found_at, level_along}
 use Rattle.kfifo_model.proofs.search.search.Goals as goal
 
 pub levels-init : goal.levels-init
@@ -16,7 +16,6 @@ levels-preserved c =
     let n = rw c.in-Some.is at c.in_ok-next.ensures in
     at_next c.args.k c.args.calls.now c.levels.counter c.levels.level.items c.in-Some.next.items c.in_ok-level.level.items c.levels.invariant
     (level_along c.args.k c.args.calls.now c.levels.level.items c.deref.result.now c.in-Some.next.items c.deref.ensures.value n) c.in_ok-level.ensures
-
 
 pub returns-in-None : goal.returns-in-None
 returns-in-None c =

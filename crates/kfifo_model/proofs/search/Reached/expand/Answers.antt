@@ -1,4 +1,4 @@
-use Rattle.std.proofs.Common.{ap, sym, ◌∙◌, subst}
+use Rattle.std.proofs.Common.{ap, ◌∙◌, subst}
 use Rattle.std.specs.Result.{OnOk}
 use Rattle.kfifo_model.specs.Reach.{Reach, reach}
 use Rattle.kfifo_model.specs.Searching.{IsAdded, Extends}

@@ -1,0 +1,61 @@
+-- What `check` writes, and the statuses that it ends with.
+use Rattle.std.specs.Prelude.{ℕ, ◌≡◌, ◌<◌, ◌⊎◌, List, [], ◌∷◌, ◌++◌, Option, Some, None, length, codes}
+use Rattle.std.specs.Fmt.{decimal}
+use Rattle.kfifo_model.specs.declared.calls.Call.{Call}
+use Rattle.kfifo_model.specs.declared.orders.Verdict.{Verdict}
+use Rattle.kfifo_model.specs.declared.orders.Verdict.TheVariants.{Legal, Repeats, NotACall, LeavesOut, BreaksBefore, NotARun}
+use Rattle.kfifo_model.specs.declared.search.SearchFault.TheVariants as searches
+use Rattle.kfifo_model.specs.Verdicts.{IsVerdict}
+use Rattle.kfifo_model.specs.Searching.{HasOrder}
+use Rattle.kfifo_judge.specs.declared.record.StreamFault.{StreamFault}
+use Rattle.kfifo_judge.specs.declared.record.StreamFault.TheVariants as faults
+use Rattle.kfifo_judge.specs.Inputs.{IsRecordText}
+use Rattle.kfifo_judge.specs.TextFaults.{IsTextFault}
+
+-- a line ends with a line feed
+abbrev pub line : List ℕ → List ℕ
+line text = text ++ 10 ∷ []
+
+abbrev pub verdict_text : Verdict → List ℕ
+verdict_text Legal = line (codes "legal")
+verdict_text Repeats = line (codes "fault 1 repeats")
+verdict_text NotACall = line (codes "fault 2 not a call")
+verdict_text LeavesOut = line (codes "fault 3 leaves out")
+verdict_text BreaksBefore = line (codes "fault 4 breaks before")
+verdict_text (NotARun place) = line (codes "fault 5 not a run at " ++ decimal place)
+
+-- 3 where an order is not legal
+abbrev pub verdict_status : Verdict → ℕ
+verdict_status Legal = 0
+verdict_status Repeats = 3
+verdict_status NotACall = 3
+verdict_status LeavesOut = 3
+verdict_status BreaksBefore = 3
+verdict_status (NotARun place) = 3
+
+-- The text and the status that answer a history: whether some order is legal, or what is to be said of the given one.
+abbrev pub IsCheckAnswer : ℕ → Option (List ℕ) → List Call → List ℕ → ℕ → Type 0
+IsCheckAnswer k None h text status =
+    (HasOrder k h × (text ≡ line (codes "order")) × (status ≡ 0)) ⊎ ((HasOrder k h → ⊥) × (text ≡ line (codes "no order")) × (status ≡ 3))
+IsCheckAnswer k (Some order) h text status = (v : Verdict) × IsVerdict k h order v × (text ≡ verdict_text v) × (status ≡ verdict_status v)
+
+-- The text and the status answer the record that the bytes are.
+pub record IsChecked (k : ℕ) (order : Option (List ℕ)) (bytes text : List ℕ) (status : ℕ) : Type 0 where
+  pub calls : List Call
+  pub recorded : IsRecordText bytes calls
+  pub answer : IsCheckAnswer k order calls text status
+
+-- why a history has no answer
+abbrev pub IsUnanswered : Option (List ℕ) → List Call → StreamFault → Type 0
+IsUnanswered order h (faults.Search searches.TooLong) = (order ≡ None) × (12 < length h)
+IsUnanswered order h (faults.Search searches.Memory) = order ≡ None
+IsUnanswered order h faults.Memory = Unit {0}
+IsUnanswered order h faults.NotJson = ⊥
+IsUnanswered order h (faults.Record f) = ⊥
+IsUnanswered order h faults.RepeatedItem = ⊥
+IsUnanswered order h faults.Input = ⊥
+IsUnanswered order h faults.Output = ⊥
+
+-- the fault of an input that was read whole: the text records no history, or the history has no answer
+abbrev pub IsCheckFault : Option (List ℕ) → List ℕ → StreamFault → Type 0
+IsCheckFault order bytes f = IsTextFault bytes f ⊎ ((h : List Call) × IsRecordText bytes h × IsUnanswered order h f)

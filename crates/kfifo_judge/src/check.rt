@@ -1,0 +1,156 @@
+//! The answer of the command `check`.
+ghost use Rattle.std.specs.Prelude.{ℕ, ◌≡◌, ◌≢◌, ◌≤◌, ◌<◌, ◌⊎◌, ◌++◌, List, Option, Some, None, length, string_bytes, Ok, Err, IfOk, IfErr, IfSome, MatchResult, MatchBool};
+ghost use Rattle.std.specs.Option.{option_map};
+ghost use Rattle.std.specs.Io.KnownBytes.{Appends, Keeps};
+ghost use Rattle.kfifo_model.specs.declared.calls.Call.{Call};
+ghost use Rattle.kfifo_judge.specs.Inputs.{IsRecordText};
+ghost use Rattle.kfifo_judge.specs.Streams.{CountsOne, AppendsPart};
+ghost use Rattle.kfifo_judge.specs.Check.{line, verdict_text, verdict_status, IsCheckAnswer, IsChecked, IsUnanswered, IsCheckFault};
+
+use crate::record::{StreamFault, read_record};
+use crate::streams::{ReadFault, Sink, Source, read_all, write_all};
+use kfifo_model::{History, Verdict, check_order, has_order};
+use std::alloc::{AllocError, Global};
+
+/// A line's text.
+fn line_of(alloc: Global, text: &str) -> Result<String, AllocError>
+    ensures { IfOk result (λ s. string_bytes s ≡ line text.now) }
+{
+    let mut line = String::from_str(alloc, text)?;
+    line.push('\n')?;
+    Ok(line)
+}
+
+/// What is said of an order.
+fn verdict_line(alloc: Global, verdict: Verdict) -> Result<String, AllocError>
+    ensures { IfOk result (λ s. string_bytes s ≡ verdict_text verdict) }
+{
+    match verdict {
+        Verdict::Legal => line_of(alloc, "legal"),
+        Verdict::Repeats => line_of(alloc, "fault 1 repeats"),
+        Verdict::NotACall => line_of(alloc, "fault 2 not a call"),
+        Verdict::LeavesOut => line_of(alloc, "fault 3 leaves out"),
+        Verdict::BreaksBefore => line_of(alloc, "fault 4 breaks before"),
+        Verdict::NotARun(place) => format!(in alloc; "fault 5 not a run at {place}\n"),
+    }
+}
+
+/// The status after what is said of an order.
+fn status_of(verdict: Verdict) -> u8
+    ensures { result ≡ verdict_status verdict }
+{
+    match verdict {
+        Verdict::Legal => 0,
+        _ => 3,
+    }
+}
+
+/// The text and the status that answer a history.
+fn answer(
+    alloc: Global,
+    history: &History,
+    k: u32,
+    order: Option<&[usize]>,
+) -> Result<(String, u8), StreamFault>
+    requires { (1 ≤ k) × (k ≤ 64) }
+    ensures { let o = option_map (λ s. s.now) order.entry in
+        MatchResult result (λ a. IsCheckAnswer k o history.now (string_bytes a.0) a.1) (IsUnanswered o history.now) }
+{
+    let line = match order {
+        Some(order) => match check_order(alloc, history, k, order) {
+            Ok(verdict) => match verdict_line(alloc, verdict) {
+                Ok(line) => Ok((line, status_of(verdict))),
+                Err(_) => Err(StreamFault::Memory),
+            },
+            Err(_) => Err(StreamFault::Memory),
+        },
+        None => match has_order(alloc, history, k) {
+            Ok(true) => with_status(line_of(alloc, "order"), 0),
+            Ok(false) => with_status(line_of(alloc, "no order"), 3),
+            Err(fault) => Err(StreamFault::Search(fault)),
+        },
+    };
+    line
+}
+
+/// A line with a status, where there was memory for it.
+fn with_status(line: Result<String, AllocError>, status: u8) -> Result<(String, u8), StreamFault>
+    ensures { MatchResult result (λ a. (line ≡ Ok a.0) × (a.1 ≡ status)) (λ f. f ≡ StreamFault.Memory) }
+{
+    match line {
+        Ok(line) => Ok((line, status)),
+        Err(_) => Err(StreamFault::Memory),
+    }
+}
+
+/// The text and the status that answer a record's text.
+fn answer_text(
+    alloc: Global,
+    bytes: &[u8],
+    k: u32,
+    order: Option<&[usize]>,
+) -> Result<(String, u8), StreamFault>
+    requires { (1 ≤ k) × (k ≤ 64) }
+    ensures { let o = option_map (λ s. s.now) order.entry in
+        MatchResult result (λ a. IsChecked k o bytes.now (string_bytes a.0) a.1) (IsCheckFault o bytes.now) }
+{
+    match read_record(alloc, bytes) {
+        Ok(history) => match answer(alloc, &history, k, order) {
+            Ok(answered) => Ok(answered),
+            Err(fault) => Err(fault),
+        },
+        Err(fault) => Err(fault),
+    }
+}
+
+/// Reads a record from the source and writes to the sink whether a legal order of it exists, or, where an order is
+/// given, what is to be said of that. The answer is the exit status: 0, or 3 where there is no order or the order is
+/// not legal. A failed call of the source or the sink is not made again. k is 1 to 64.
+pub fn check_stream<R: Source, W: Sink>(
+    alloc: Global,
+    source: &mut R,
+    sink: &mut W,
+    k: u32,
+    order: Option<&[usize]>,
+) -> Result<u8, StreamFault>
+    requires { (1 ≤ k) × (k ≤ 64) }
+    // A status: the answer to what was read is written.
+    ensures answered { let o = option_map (λ s. s.now) order.entry in
+        IfOk result (λ status. (bytes : List ℕ) × (text : List ℕ) × IfSome (R.remaining source.old) (λ given. given ≡ bytes)
+        × IsChecked k o bytes text status × Appends (W.contents sink.old) (W.contents sink.new) text) }
+    // A fault of writing: a beginning of the answer is.
+    ensures cut { let o = option_map (λ s. s.now) order.entry in
+        result ≡ Err StreamFault.Output → (bytes : List ℕ) × (text : List ℕ) × (status : ℕ)
+        × IfSome (R.remaining source.old) (λ given. given ≡ bytes)
+        × IsChecked k o bytes text status × AppendsPart (W.contents sink.old) (W.contents sink.new) text }
+    // Another fault: nothing is.
+    ensures nothing { IfErr result (λ f. f ≢ StreamFault.Output → Keeps (W.contents sink.old) (W.contents sink.new)) }
+    // The causes.
+    ensures input { result ≡ Err StreamFault.Input →
+        CountsOne (R.failed source.old) (R.failed source.new)
+        ⊎ ((R.failed source.new ≡ R.failed source.old) × IfSome (R.remaining source.old) (λ given. 16777216 < length given)) }
+    ensures faults { let o = option_map (λ s. s.now) order.entry in
+        IfErr result (λ f. f ≢ StreamFault.Input → f ≢ StreamFault.Output → f ≢ StreamFault.Memory →
+        (bytes : List ℕ) × IfSome (R.remaining source.old) (λ given. given ≡ bytes) × IsCheckFault o bytes f) }
+    // No call failed but the one that was answered.
+    ensures source_calls { (result ≢ Err StreamFault.Input) → R.failed source.new ≡ R.failed source.old }
+    ensures sink_calls { (result ≢ Err StreamFault.Output) → W.failed sink.new ≡ W.failed sink.old }
+    ensures sink_failed { result ≡ Err StreamFault.Output → CountsOne (W.failed sink.old) (W.failed sink.new) }
+{
+    let bytes = match read_all(alloc, source) {
+        Ok(bytes) => bytes,
+        Err(ReadFault::Memory) => return Err(StreamFault::Memory),
+        Err(ReadFault::Failed) => return Err(StreamFault::Input),
+        Err(ReadFault::TooLong) => return Err(StreamFault::Input),
+    };
+    match answer_text(alloc, &bytes, k, order) {
+        Ok((text, status)) => {
+            if write_all(sink, text.as_bytes()) {
+                Ok(status)
+            } else {
+                Err(StreamFault::Output)
+            }
+        }
+        Err(fault) => Err(fault),
+    }
+}

@@ -1,0 +1,32 @@
+use Rattle.std.proofs.Common.{◌≡◌, ◌+◌, List, sym, ◌∙◌, ap, subst, Some, None}
+use Rattle.std.specs.List.{count_by}
+use Rattle.std.specs.BTreeMap.{get}
+use Rattle.std.specs.Ordering.{nat_cmp}
+use Rattle.kfifo_model.specs.declared.calls.Call.{Call}
+use Rattle.kfifo_model.specs.declared.index.Overtaken.{Overtaken}
+use Rattle.kfifo_model.specs.Index.{measured, done_item, last_of, is_beaten}
+use Rattle.kfifo_model.proofs.Checking.{read}
+use Rattle.kfifo_model.proofs.Indexing.{measured_some, measured_none}
+use Rattle.kfifo_model.proofs.index.measure_calls.Goals as goal
+use Rattle.kfifo_model.proofs.index.measure_calls.Goals.{in-Some+in_ok-push, in_default}
+
+pub loop-n-preserved : goal.loop-n-preserved
+loop-n-preserved c =
+    let h = c.args.calls.now in
+    let n = c.loop-n.n in
+    let same = read h n _ c.loop-n-test.true in
+    let P : List Overtaken → Type 0 = λ t. t ≡ measured h (n + 1) in
+    elim c.match-measure_call.branch [
+      | in-Some+in_ok-push w ↦ (
+          let o = w.in-Some.overtaken in
+          let Q : Call → Type 0 = λ t. (done_item t.op t.end ≡ Some o.item) × (o.count ≡ count_by (λ r. is_beaten (last_of t.end) (get nat_cmp c.args.gots.now o.item) r) c.deref.result.now) in
+          let q = subst Q same (w.in-Some.ensures.1, w.in-Some.ensures.2) in
+          subst P (ap (λ v. v.items) (sym w.found-is))
+          (measured_some h (λ x. get nat_cmp c.args.puts.now x) (λ x. get nat_cmp c.args.gots.now x) c.requires.puts c.requires.gots n c.deref.result.now c.loop-n.found.items w.push.new.self.items o
+          (c.deref.ensures.value ∙ c.in_ok-rivals.ensures) c.loop-n.invariant w.in-Some.ensures.0 q.0 q.1 w.in_ok-push.ensures.items)
+          )
+      | in_default w ↦ (
+          let Q : Call → Type 0 = λ t. done_item t.op t.end ≡ None in
+          subst P (ap (λ v. v.items) (sym w.found-is)) (measured_none h n c.loop-n.found.items c.loop-n.invariant (subst Q same w.in_default.ensures))
+          )
+    ]

@@ -1,0 +1,246 @@
+//! All certain overtakings of a history, by an index of its items.
+ghost use Rattle.std.specs.Prelude.{ℕ, ◌≡◌, ◌<◌, ◌+◌, ◌↔◌, Bool, true, false, Option, Some, None, List, [], ◌∷◌, length, IsTrue, IsSome, IfOk, MatchOption, MatchResult, MatchBool, count_by};
+ghost use Rattle.std.specs.List.{filter_map, range_with_len};
+ghost use Rattle.std.specs.Ordering.{nat_cmp};
+ghost use Rattle.std.specs.BTreeMap.{get};
+ghost use Rattle.kfifo_model.specs.Histories.{call, does, effect_of};
+ghost use Rattle.kfifo_model.specs.Relaxed.{Adds, Takes};
+ghost use Rattle.kfifo_model.specs.Overtaking.{certainly_overtaken, numbers_of};
+ghost use Rattle.kfifo_model.specs.Measures.{IsDoneEnqueue, HasDistinctItems};
+ghost use Rattle.kfifo_model.specs.Index.{kind_effect, IsIndex, HasTwo, rival_of, rivals_below, last_of, is_beaten, done_item, measured, IsMeasureFault};
+
+use crate::calls::{Answer, Call, Op};
+use crate::history::History;
+use crate::measures::{added, taken};
+use std::alloc::{AllocError, Global};
+use std::collections::BTreeMap;
+
+/// How often the item of one enqueue is certainly overtaken.
+#[derive(Clone, Copy, Debug, PartialEq, Eq)]
+pub struct Overtaken {
+    /// The number of the enqueue.
+    pub call: usize,
+    /// Its item.
+    pub item: u32,
+    /// How often the item is overtaken.
+    pub count: usize,
+}
+
+/// Why nothing was counted.
+#[derive(Clone, Copy, Debug, PartialEq, Eq)]
+pub enum MeasureFault {
+    /// Two enqueues, each Done or unfinished, carry one item, or two dequeues got one.
+    RepeatedItem,
+    /// A growth was refused.
+    Memory,
+}
+
+/// A call that got an item which a call put.
+#[derive(Clone, Copy, Debug, PartialEq, Eq)]
+pub struct Rival {
+    /// The first step of the call that put the item.
+    pub put_first: u64,
+    /// The last step of the call that got it.
+    pub got_last: u64,
+}
+
+/// Which calls an index lists.
+#[derive(Clone, Copy, Debug, PartialEq, Eq)]
+pub enum Kind {
+    /// Those that put an item.
+    Puts,
+    /// Those that got one.
+    Gots,
+}
+
+/// The item of a call of this kind.
+fn item_of(kind: Kind, call: &Call) -> Option<u32>
+    ensures { MatchOption result ((x : ℕ) → effect_of call.now ≡ kind_effect kind x → ⊥) (λ x. effect_of call.now ≡ kind_effect kind x) }
+{
+    match kind {
+        Kind::Puts => added(call),
+        Kind::Gots => taken(call),
+    }
+}
+
+/// The first step of each item's call of this kind, or none where an item has two.
+fn index_of(
+    alloc: Global,
+    calls: &[Call],
+    kind: Kind,
+) -> Result<Option<BTreeMap<u32, u64>>, AllocError>
+    ensures { IfOk result (λ o. MatchOption o (HasTwo calls.now kind) (λ m. IsIndex calls.now kind (length calls.now) (λ x. get nat_cmp m x))) }
+{
+    let mut firsts = BTreeMap::new(alloc);
+    for call in calls {
+        if let Some(item) = item_of(kind, call) {
+            if firsts.insert(item, call.first)?.is_some() {
+                return Ok(None);
+            }
+        }
+    }
+    Ok(Some(firsts))
+}
+
+/// What a call got that an indexed call put.
+fn rival_in(call: &Call, puts: &BTreeMap<u32, u64>) -> Option<Rival>
+    ensures { result ≡ rival_of (λ x. get nat_cmp puts.now x) (effect_of call.now) (last_of call.now.end) }
+{
+    let Some(item) = taken(call) else {
+        return None;
+    };
+    let Some(first) = puts.get(&item) else {
+        return None;
+    };
+    let got_last = match call.end {
+        Some(end) => end.last,
+        None => 0,
+    };
+    Some(Rival {
+        put_first: *first,
+        got_last,
+    })
+}
+
+/// What each call got that an indexed call put, by rising number.
+fn rivals(
+    alloc: Global,
+    calls: &[Call],
+    puts: &BTreeMap<u32, u64>,
+) -> Result<Vec<Rival>, AllocError>
+    ensures { IfOk result (λ v. v.items ≡ rivals_below calls.now (λ x. get nat_cmp puts.now x) (length calls.now)) }
+{
+    let mut found = Vec::new(alloc);
+    for call in calls {
+        if let Some(rival) = rival_in(call, puts) {
+            found.push(rival)?;
+        }
+    }
+    Ok(found)
+}
+
+/// Whether a rival overtakes an item that was put by a call that ended at a step, and got by one that began at another.
+fn beats(last: u64, got: Option<u64>, rival: &Rival) -> bool
+    ensures { result ≡ is_beaten last got rival.now }
+{
+    last < rival.put_first
+        && match got {
+            Some(first) => rival.got_last < first,
+            None => true,
+        }
+}
+
+/// How many rivals overtake it.
+fn count_beats(rivals: &[Rival], last: u64, got: Option<u64>) -> usize
+    ensures { result ≡ count_by (λ r. is_beaten last got r) rivals.now }
+{
+    rivals
+        .iter()
+        .filter(|rival| beats(last, got, rival))
+        .count()
+}
+
+/// The item of a finished enqueue with answer Done.
+fn item_done(call: &Call) -> Option<u32>
+    ensures { result ≡ done_item call.now.op call.now.end }
+{
+    match (call.op, call.end) {
+        (Op::Enqueue(x), Some(end)) => match end.answer {
+            Answer::Done => Some(x),
+            _ => None,
+        },
+        _ => None,
+    }
+}
+
+/// How often the item of one call is overtaken, where it is a finished enqueue with answer Done.
+fn measure_call(
+    n: usize,
+    call: &Call,
+    rivals: &[Rival],
+    gots: &BTreeMap<u32, u64>,
+) -> Option<Overtaken>
+    ensures { MatchOption result (done_item call.now.op call.now.end ≡ None)
+        (λ o. (o.call ≡ n) × (done_item call.now.op call.now.end ≡ Some o.item)
+        × (o.count ≡ count_by (λ r. is_beaten (last_of call.now.end) (get nat_cmp gots.now o.item) r) rivals.now)) }
+{
+    let Some(item) = item_done(call) else {
+        return None;
+    };
+    let last = match call.end {
+        Some(end) => end.last,
+        None => 0,
+    };
+    let got = gots.get(&item).copied();
+    Some(Overtaken {
+        call: n,
+        item,
+        count: count_beats(rivals, last, got),
+    })
+}
+
+/// How often the item of each finished enqueue with answer Done is overtaken, by rising number.
+fn measure_calls(
+    alloc: Global,
+    calls: &[Call],
+    puts: &BTreeMap<u32, u64>,
+    gots: &BTreeMap<u32, u64>,
+) -> Result<Vec<Overtaken>, AllocError>
+    requires puts { IsIndex calls.now Kind.Puts (length calls.now) (λ x. get nat_cmp puts.now x) }
+    requires gots { IsIndex calls.now Kind.Gots (length calls.now) (λ x. get nat_cmp gots.now x) }
+    ensures { IfOk result (λ v. v.items ≡ measured calls.now (length calls.now)) }
+{
+    let rivals = rivals(alloc, calls, puts)?;
+    let mut found = Vec::new(alloc);
+    for (n, call) in calls.iter().enumerate() {
+        if let Some(overtaken) = measure_call(n, call, &rivals, gots) {
+            found.push(overtaken)?;
+        }
+    }
+    Ok(found)
+}
+
+/// Whether some call is a finished enqueue with answer Done.
+fn has_done(calls: &[Call]) -> bool
+    ensures { MatchBool result ((n : ℕ) × IsDoneEnqueue calls.now n) ((n : ℕ) → IsDoneEnqueue calls.now n → ⊥) }
+{
+    for call in calls {
+        if item_done(call).is_some() {
+            return true;
+        }
+    }
+    false
+}
+
+/// The certain overtakings of each item that a finished enqueue put with answer Done, by rising call number. Each
+/// pair of such an enqueue and a dequeue costs one comparison at most.
+pub fn measure(alloc: Global, history: &History) -> Result<Vec<Overtaken>, MeasureFault>
+    ensures { MatchResult result (λ v. (v.items ≡ measured history.now (length history.now)) × ((n : ℕ) → IsDoneEnqueue history.now n → HasDistinctItems history.now))
+        (IsMeasureFault history.now) }
+{
+    measure_among(alloc, history.calls())
+}
+
+/// The same for the calls of a history.
+fn measure_among(alloc: Global, calls: &[Call]) -> Result<Vec<Overtaken>, MeasureFault>
+    ensures { MatchResult result (λ v. (v.items ≡ measured calls.now (length calls.now)) × ((n : ℕ) → IsDoneEnqueue calls.now n → HasDistinctItems calls.now))
+        (IsMeasureFault calls.now) }
+{
+    if !has_done(calls) {
+        return Ok(Vec::new(alloc));
+    }
+    let puts = match index_of(alloc, calls, Kind::Puts) {
+        Ok(Some(puts)) => puts,
+        Ok(None) => return Err(MeasureFault::RepeatedItem),
+        Err(_) => return Err(MeasureFault::Memory),
+    };
+    let gots = match index_of(alloc, calls, Kind::Gots) {
+        Ok(Some(gots)) => gots,
+        Ok(None) => return Err(MeasureFault::RepeatedItem),
+        Err(_) => return Err(MeasureFault::Memory),
+    };
+    match measure_calls(alloc, calls, &puts, &gots) {
+        Ok(found) => Ok(found),
+        Err(_) => Err(MeasureFault::Memory),
+    }
+}
