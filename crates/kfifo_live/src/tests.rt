@@ -10,6 +10,8 @@ use std::alloc::Global;
 use std::process::Abort;
 use std::test::Fail;
 
+mod threads;
+
 const LAST: u64 = 1_099_511_627_775;
 
 fn enqueue(item: u32, start: u32, turns: u16) -> Begin {

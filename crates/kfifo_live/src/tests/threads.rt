@@ -1,0 +1,278 @@
+//! Passes of several threads, and what closing gives back.
+ghost use Rattle.std.specs.Prelude.{◌≡◌, ◌<◌, ◌≤◌, ◌+◌, ◌*◌, ◌^◌, IfOk};
+ghost use Rattle.kfifo_live.specs.Pass.{AllOf, IsOf, IsSame};
+
+use super::{LAST, call, dequeue, draw, enqueue};
+use crate::{CloseFault, Pass, Queue, close, meet};
+use kfifo_machine::Begin;
+use kfifo_model::{Answer, Call, End, History, Op, has_order};
+use kfifo_words::Shape;
+use std::alloc::{AllocError, Global};
+use std::process::Abort;
+use std::sync::atomic::{AtomicU64, Ordering};
+use std::test::Fail;
+use std::thread::{Threads, join};
+
+/// So many calls a thread makes before it gives up.
+const TRIES: u32 = 16_777_216;
+
+/// Makes the same call until it is done or has got an item.
+fn insist(queue: &Queue, pass: &mut Pass, begin: Begin) -> Option<Answer>
+    requires { IsOf queue.now pass.old }
+    ensures { IsSame pass.old pass.new }
+{
+    for _try in 0..TRIES {
+        let answer = call(queue, pass, begin);
+        if let Some(Answer::Done | Answer::Got(_)) = answer {
+            return answer;
+        }
+    }
+    None
+}
+
+#[test]
+fn hands_over_between_threads(rt: HostRuntime) -> Result<(), Fail> {
+    let shape = Shape::new(1, 2, LAST)?;
+    let (there, mut passes) = Queue::open(rt.alloc(), shape, 2)?;
+    let (Some(mut there_of_b), Some(mut there_of_a)) = (passes.pop(), passes.pop()) else {
+        unreachable!()
+    };
+    let (back, mut passes) = Queue::open(rt.alloc(), shape, 2)?;
+    let (Some(mut back_of_b), Some(mut back_of_a)) = (passes.pop(), passes.pop()) else {
+        unreachable!()
+    };
+    let (there, back) = (&there, &back);
+    let (a, b) = join(
+        &rt,
+        move || -> (Option<Answer>, Option<Answer>)
+            requires { IsOf there.now there_of_a × IsOf back.now back_of_a }
+        {
+            let put = insist(there, &mut there_of_a, enqueue(1, 0, 4));
+            (put, insist(back, &mut back_of_a, dequeue(0, 4)))
+        },
+        move || -> (Option<Answer>, Option<Answer>)
+            requires { IsOf there.now there_of_b × IsOf back.now back_of_b }
+        {
+            let got = insist(there, &mut there_of_b, dequeue(0, 4));
+            (got, insist(back, &mut back_of_b, enqueue(2, 0, 4)))
+        },
+    );
+    assert_eq!(rt; a, (Some(Answer::Done), Some(Answer::Got(2))));
+    assert_eq!(rt; b, (Some(Answer::Got(1)), Some(Answer::Done)));
+    Ok(())
+}
+
+#[test]
+fn gives_back_what_is_left(rt: HostRuntime) -> Result<(), Fail> {
+    let (queue, mut passes) = Queue::open(rt.alloc(), Shape::new(2, 2, LAST)?, 2)?;
+    let (Some(mut second), Some(mut first)) = (passes.pop(), passes.pop()) else {
+        unreachable!()
+    };
+    for item in [1, 2, 3, 4] {
+        assert_eq!(rt;
+            call(&queue, &mut first, enqueue(item, 0, 2)),
+            Some(Answer::Done)
+        );
+    }
+    for item in [1, 2, 3] {
+        assert_eq!(rt;
+            call(&queue, &mut second, dequeue(0, 2)),
+            Some(Answer::Got(item))
+        );
+    }
+    assert_eq!(rt;
+        call(&queue, &mut first, enqueue(5, 0, 2)),
+        Some(Answer::Done)
+    );
+    meet(&queue, &mut first, &mut second);
+    let items = close(rt.alloc(), queue, vec![in rt.alloc(); second, first]?)?;
+    assert_eq!(rt; items.as_slice(), [4, 5].as_slice());
+    Ok(())
+}
+
+#[test]
+fn closes_only_with_each_pass(rt: HostRuntime) -> Result<(), Fail> {
+    let shape = Shape::new(2, 2, LAST)?;
+    let (queue, mut passes) = Queue::open(rt.alloc(), shape, 3)?;
+    let (Some(last), Some(_), Some(first)) = (passes.pop(), passes.pop(), passes.pop()) else {
+        unreachable!()
+    };
+    let Err(fault) = close(rt.alloc(), queue, vec![in rt.alloc(); last, first]?) else {
+        panic!(rt; "closed without the second pass");
+    };
+    assert_eq!(rt; fault, CloseFault::MissingPass);
+    let (queue, _) = Queue::open(rt.alloc(), shape, 3)?;
+    let Err(fault) = close(rt.alloc(), queue, Vec::new(rt.alloc())) else {
+        panic!(rt; "closed with no pass");
+    };
+    assert_eq!(rt; fault, CloseFault::MissingPass);
+    let (queue, passes) = Queue::open(rt.alloc(), shape, 3)?;
+    assert!(rt; close(rt.alloc(), queue, passes)?.is_empty());
+    Ok(())
+}
+
+/// Makes drawn calls, and notes when each began and ended by a clock that all threads share.
+fn work(
+    alloc: Global,
+    queue: &Queue,
+    mut pass: Pass,
+    clock: &AtomicU64,
+    calls: u32,
+) -> Result<(Pass, Vec<Call>), AllocError>
+    requires { IsOf queue.now pass }
+    ensures { IfOk result (λ r. IsOf queue.now r.0) }
+{
+    let thread = pass.thread();
+    let k = queue.shape().k();
+    let mut seed = thread.wrapping_mul(7_919).wrapping_add(calls);
+    let mut made = Vec::new(alloc);
+    for number in 0..calls {
+        let start = draw(&mut seed, 64) % k;
+        let turns = if draw(&mut seed, 4) == 0 { 1 } else { 100 };
+        let (op, begin) = if draw(&mut seed, 9) < 5 {
+            let item = (thread << 20) + number + 1;
+            (Op::Enqueue(item), enqueue(item, start, turns))
+        } else {
+            (Op::Dequeue, dequeue(start, turns))
+        };
+        let first = clock.fetch_add(1, Ordering::SeqCst);
+        let answer = call(queue, &mut pass, begin);
+        let last = clock.fetch_add(1, Ordering::SeqCst);
+        made.push(Call {
+            thread,
+            op,
+            first,
+            end: answer.map(|answer| End { last, answer }),
+        })?;
+    }
+    Ok((pass, made))
+}
+
+/// What two threads made at the same time.
+fn pair<R: Threads + Sync>(
+    rt: &R,
+    alloc: Global,
+    queue: &Queue,
+    clock: &AtomicU64,
+    calls: u32,
+    one: Pass,
+    other: Pass,
+) -> Result<(Pass, Pass, Vec<Call>), AllocError>
+    requires { IsOf queue.now one × IsOf queue.now other }
+    ensures { IfOk result (λ r. IsOf queue.now r.0 × IsOf queue.now r.1) }
+{
+    let (one, other) = join(
+        rt,
+        move || -> Result<(Pass, Vec<Call>), AllocError>
+            requires { IsOf queue.now one }
+            ensures { IfOk result (λ r. IsOf queue.entry.now r.0) }
+        { work(alloc, queue, one, clock, calls) },
+        move || -> Result<(Pass, Vec<Call>), AllocError>
+            requires { IsOf queue.now other }
+            ensures { IfOk result (λ r. IsOf queue.entry.now r.0) }
+        { work(alloc, queue, other, clock, calls) },
+    );
+    let (one, mut made) = one?;
+    let (other, more) = other?;
+    made.extend_from_slice(more.as_slice())?;
+    Ok((one, other, made))
+}
+
+/// What four threads made at the same time, in the order in which the calls began, and what was left.
+fn race<R: Threads + Sync>(
+    rt: &R,
+    alloc: Global,
+    shape: Shape,
+    calls: u32,
+) -> Result<(Vec<Call>, Vec<u32>), Fail> {
+    let (queue, mut passes) = Queue::open(alloc, shape, 4)?;
+    let clock = AtomicU64::new(0);
+    let (Some(d), Some(c), Some(b), Some(a)) = (
+        passes.pop(),
+        passes.pop(),
+        passes.pop(),
+        passes.pop(),
+    ) else {
+        unreachable!()
+    };
+    let (queue_lent, clock_lent) = (&queue, &clock);
+    let (front, back) = join(
+        rt,
+        move || -> Result<(Pass, Pass, Vec<Call>), AllocError>
+            requires { IsOf queue_lent.now a × IsOf queue_lent.now b }
+            ensures { IfOk result (λ r. IsOf queue_lent.entry.now r.0 × IsOf queue_lent.entry.now r.1) }
+        { pair(rt, alloc, queue_lent, clock_lent, calls, a, b) },
+        move || -> Result<(Pass, Pass, Vec<Call>), AllocError>
+            requires { IsOf queue_lent.now c × IsOf queue_lent.now d }
+            ensures { IfOk result (λ r. IsOf queue_lent.entry.now r.0 × IsOf queue_lent.entry.now r.1) }
+        { pair(rt, alloc, queue_lent, clock_lent, calls, c, d) },
+    );
+    let (a, b, mut made) = front?;
+    let (c, d, more) = back?;
+    made.extend_from_slice(more.as_slice())?;
+    made.sort_unstable_by_key(|call| call.first);
+    let left = close(alloc, queue, vec![in alloc; d, b, a, c]?)?;
+    Ok((made, left))
+}
+
+/// The items that were put, in rising order.
+fn items_put(alloc: Global, made: &[Call]) -> Result<Vec<u32>, AllocError> {
+    let mut items = Vec::new(alloc);
+    for call in made {
+        if let Op::Enqueue(item) = call.op
+            && let Some(end) = call.end
+            && end.answer == Answer::Done
+        {
+            items.push(item)?;
+        }
+    }
+    items.sort_unstable();
+    Ok(items)
+}
+
+/// The items that were taken and those that were left, in rising order.
+fn items_out(alloc: Global, made: &[Call], left: &[u32]) -> Result<Vec<u32>, AllocError> {
+    let mut items = Vec::new(alloc);
+    for call in made {
+        if let Some(end) = call.end
+            && let Answer::Got(item) = end.answer
+        {
+            items.push(item)?;
+        }
+    }
+    items.extend_from_slice(left)?;
+    items.sort_unstable();
+    Ok(items)
+}
+
+#[test]
+fn loses_nothing_and_doubles_nothing(rt: HostRuntime) -> Result<(), Fail> {
+    for (k, n, probes) in [
+        (1u32, 2u32, 1u32),
+        (2, 3, 2),
+        (3, 2, 1),
+        (4, 4, 2),
+        (8, 5, 8),
+    ] {
+        let shape = Shape::with_probes(k, n, LAST, probes)?;
+        let (made, left) = race(&rt, rt.alloc(), shape, 5_000)?;
+        let put = items_put(rt.alloc(), made.as_slice())?;
+        let out = items_out(rt.alloc(), made.as_slice(), left.as_slice())?;
+        assert!(rt; put.len() > 500, "{shape:?}");
+        assert!(rt; put == out, "{shape:?}");
+    }
+    Ok(())
+}
+
+#[test]
+fn short_races_have_legal_orders(rt: HostRuntime) -> Result<(), Fail> {
+    for (k, n) in [(1u32, 2u32), (2, 2), (3, 4)] {
+        let shape = Shape::new(k, n, LAST)?;
+        for round in 0..100 {
+            let (made, _) = race(&rt, rt.alloc(), shape, 3)?;
+            let history = History::new(made)?;
+            assert!(rt; has_order(rt.alloc(), &history, k)?, "{shape:?} {round}");
+        }
+    }
+    Ok(())
+}
