@@ -362,10 +362,10 @@ fn read_members(alloc: Global, members: &[Value]) -> Result<Vec<Call>, RecordFau
 
 /// The history that a record says, or its first fault: 1 and 2 before all others, then those of the calls in turn,
 /// each call's from 3 to 8; 9 where a growth was refused.
-pub fn read_history(alloc: Global, record: &Value) -> Result<History, RecordFault>
-    ensures { MatchResult result (λ h. IsRecordOf (view record.now) h × IsHistory h) (IsReadFault (view record.now)) }
+pub fn read_history(alloc: Global, json: &Value) -> Result<History, RecordFault>
+    ensures { MatchResult result (λ h. IsRecordOf (view json.now) h × IsHistory h) (IsReadFault (view json.now)) }
 {
-    let Some(members) = record.as_array() else {
+    let Some(members) = json.as_array() else {
         return Err(RecordFault::NotAList);
     };
     if members.len() > MOST_CALLS {
