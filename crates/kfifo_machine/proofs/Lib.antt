@@ -16,3 +16,4 @@ pub mod Losses
 pub mod Ahead
 pub mod Alone
 pub mod Undisturbed
+pub mod Filled
