@@ -17,3 +17,4 @@ pub mod Ahead
 pub mod Alone
 pub mod Undisturbed
 pub mod Filled
+pub mod Between
