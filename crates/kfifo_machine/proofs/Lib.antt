@@ -18,3 +18,4 @@ pub mod Alone
 pub mod Undisturbed
 pub mod Filled
 pub mod Between
+pub mod Counting
