@@ -27,7 +27,7 @@ all_items shape w = filled_from w 1 (shape.n * shape.k)
 abbrev pub Between : Shape → (ℕ → ℕ) → ℕ → ℕ → Type 0
 Between shape w h t = (s : ℕ) → s < shape.n → 0 < distance shape.n h s → distance shape.n h s < distance shape.n h t → shape.probes ≤ items_of shape w s
 
-distance-injective : (n h s t : ℕ) → h < n → s < n → t < n → distance n h s ≡ distance n h t → s ≡ t
+pub distance-injective : (n h s t : ℕ) → h < n → s < n → t < n → distance n h s ≡ distance n h t → s ≡ t
 distance-injective n h s t h_in s_in t_in same =
     let a = distance-value n h s h_in s_in in
     let b = distance-value n h t h_in t_in in

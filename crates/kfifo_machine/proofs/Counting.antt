@@ -22,10 +22,10 @@ use Rattle.kfifo_machine.specs.Program.{access, accessed, advance, scan_index, f
 use Rattle.kfifo_machine.specs.Places.{IsEnds, IsPlace}
 use Rattle.kfifo_machine.proofs.Quiet.{words_by}
 use Rattle.kfifo_machine.proofs.NoWrap.{head-ends_word, tail-ends_word}
-use Rattle.kfifo_machine.proofs.Ahead.{next-apart, distance-below, distance-full}
+use Rattle.kfifo_machine.proofs.Ahead.{next-apart, distance-value, distance-below, distance-full}
 use Rattle.kfifo_machine.proofs.Alone.{slots_stay, ends_change, tail_moved-tail, tail_moved-head, head_moved-tail, head_moved-head}
 use Rattle.kfifo_machine.proofs.Filled.{holds, holds-filled, holds-empty, filled_from, filled-but_one}
-use Rattle.kfifo_machine.proofs.Between.{items_of, all_items, Between, between-tail_on, between-head_on, between-same, items-same, all-same, InSegment, scan-in, all-change, items-change, items-other, probed_items}
+use Rattle.kfifo_machine.proofs.Between.{items_of, all_items, Between, between-tail_on, between-head_on, between-same, items-same, all-same, distance-injective, InSegment, scan-in, all-change, items-change, items-other, probed_items}
 
 abbrev pub Probed : Shape → (ℕ → ℕ) → ℕ → ℕ → ℕ → Type 0
 Probed shape w ends start offset = (j : ℕ) → j < offset → value_of (w (scan_index shape (tail_of ends) start j)) ≢ 0
@@ -142,3 +142,93 @@ hold_after shape w done got held e same r =
     let h : head_of (v 0) ≡ head_of held = ap head_of at ∙ head-ends_word (head_of held) (tail_of held) (version_of held + 1) (omega arith) (omega arith) in
     let t : tail_of (v 0) ≡ tail_of held = ap tail_of at ∙ tail-ends_word (head_of held) (tail_of held) (version_of held + 1) (omega arith) (omega arith) in
     record { between = subst (λ x. Between shape v x (tail_of (v 0))) (sym h) (subst (λ x. Between shape v (head_of held) x) (sym t) new); items = (let c = r.items in let a = all-same shape w v slots in omega arith) }
+
+swap_other : (w : ℕ → ℕ) (index from to j : ℕ) → j ≢ index → words_by (Exchange index from to) w j ≡ w j
+swap_other w index from to j ne = grind (arith, nat_tests)
+
+swap_at : (w : ℕ → ℕ) (index from to : ℕ) → w index ≡ from → words_by (Exchange index from to) w index ≡ to
+swap_at w index from to same = grind (arith, nat_tests)
+
+value-filled_with : (item empty : ℕ) → 0 < item → item < 16777216 → value_of (filled_with item empty) ≢ 0
+unfolding value_of slot_word
+value-filled_with item empty some few none = absurd (omega arith)
+
+value-emptied : (filled : ℕ) → value_of (emptied filled) ≡ 0
+unfolding value_of slot_word
+value-emptied filled = omega arith
+
+not_ends : (shape : Shape) (s index : ℕ) → InSegment shape s index → 0 ≢ index
+not_ends shape s index at same = let low = at.low in absurd (omega arith)
+
+-- a won put
+put_after : (shape : Shape) (w : ℕ → ℕ) (done got item start left ends index empty : ℕ) → 0 < item → item < 16777216 → IsEnds shape (w 0) → IsEnds shape ends
+    → Keeps shape w (R.Enqueue item start left (E.Put ends index empty)) done got
+    → Keeps shape (words_by (Exchange index empty (filled_with item empty)) w) (R.Enqueue item start left (E.ReloadSlot ends index (filled_with item empty))) done got
+put_after shape w done got item start left ends index empty some few e f k =
+    let v : ℕ → ℕ = words_by (Exchange index empty (filled_with item empty)) w in
+    let same : (j : ℕ) → j ≢ index → v j ≡ w j = λ j ne. swap_other w index empty (filled_with item empty) j ne in
+    let at : v index ≡ filled_with item empty = swap_at w index empty (filled_with item empty) k.sees.1 in
+    let ends_at : v 0 ≡ w 0 = same 0 (not_ends shape (tail_of ends) index k.sees.3) in
+    let value : value_of (filled_with item empty) ≢ 0 = value-filled_with item empty some few in
+    let new : holds (v index) ≡ 1 = ap holds at ∙ holds-filled (filled_with item empty) value in
+    let old : holds (w index) ≡ 0 = ap holds k.sees.1 ∙ holds-empty empty k.sees.2 in
+    let all : all_items shape v + holds (w index) ≡ all_items shape w + holds (v index) = all-change shape w v (tail_of ends) index f.tail k.sees.3 same in
+    let grown : Between shape v (head_of (w 0)) (tail_of (w 0)) = between-same shape w v (head_of (w 0)) (tail_of (w 0)) (λ s s_in above. elim (cases_eq s (tail_of ends)) [
+        inl here ↦
+          let i : items_of shape v (tail_of ends) + holds (w index) ≡ items_of shape w (tail_of ends) + holds (v index) = items-change shape w v (tail_of ends) index f.tail k.sees.3 same in
+          let a : items_of shape v s ≡ items_of shape v (tail_of ends) = ap (items_of shape v) here in
+          let b : items_of shape w s ≡ items_of shape w (tail_of ends) = ap (items_of shape w) here in
+          omega arith
+      | inr ne ↦ let i = items-other shape w v (tail_of ends) index f.tail k.sees.3 same s ne in omega arith
+      ]) k.between in
+    record {
+      sees = (ends_at ∙ k.sees.0, at, value, k.sees.3);
+      between = subst (λ x. Between shape v (head_of x) (tail_of x)) (sym ends_at) grown;
+      items = (let c = k.items in omega arith);
+    }
+
+distance-same : (shape : Shape) (h : ℕ) → h < shape.n → distance shape.n h h ≡ 0
+distance-same shape h h_in = let d = distance-value shape.n h h h_in h_in in omega arith
+
+-- a slot of the head's segment, or of the one segment, is emptied
+emptied_after : (shape : Shape) (w : ℕ → ℕ) (done got index filled : ℕ) → IsEnds shape (w 0) → w index ≡ filled → value_of filled ≢ 0 → InSegment shape (head_of (w 0)) index
+    → Between shape w (head_of (w 0)) (tail_of (w 0)) → all_items shape w + got ≡ done + 1 → Rests shape (words_by (Exchange index filled (emptied filled)) w) done got
+emptied_after shape w done got index filled e found_so value in_head between items =
+    let v : ℕ → ℕ = words_by (Exchange index filled (emptied filled)) w in
+    let same : (j : ℕ) → j ≢ index → v j ≡ w j = λ j ne. swap_other w index filled (emptied filled) j ne in
+    let at : v index ≡ emptied filled = swap_at w index filled (emptied filled) found_so in
+    let ends_at : v 0 ≡ w 0 = same 0 (not_ends shape (head_of (w 0)) index in_head) in
+    let new : holds (v index) ≡ 0 = ap holds at ∙ holds-empty (emptied filled) (value-emptied filled) in
+    let old : holds (w index) ≡ 1 = ap holds found_so ∙ holds-filled filled value in
+    let all : all_items shape v + holds (w index) ≡ all_items shape w + holds (v index) = all-change shape w v (head_of (w 0)) index e.head in_head same in
+    let kept : Between shape v (head_of (w 0)) (tail_of (w 0)) = between-same shape w v (head_of (w 0)) (tail_of (w 0)) (λ s s_in above.
+      let ne : s ≢ head_of (w 0) = λ same_s. absurd (let d : distance shape.n (head_of (w 0)) s ≡ 0 = ap (distance shape.n (head_of (w 0))) same_s ∙ distance-same shape (head_of (w 0)) e.head in omega arith) in
+      let i = items-other shape w v (head_of (w 0)) index e.head in_head same s ne in omega arith) between in
+    record { between = subst (λ x. Between shape v (head_of x) (tail_of x)) (sym ends_at) kept; items = omega arith }
+
+-- a call that is nowhere near an item rests
+rest : (shape : Shape) (w : ℕ → ℕ) (running : Running) (done got : ℕ) → pending running ≡ 0 → Keeps shape w running done got → Rests shape w done got
+rest shape w running done got none k = record { between = k.between; items = (let c = k.items in omega arith) }
+
+-- at Full there are more items
+full_after : (shape : Shape) (w : ℕ → ℕ) (done got item start left ends : ℕ) → start < shape.k → IsEnds shape ends → Keeps shape w (R.Enqueue item start left (E.ConfirmFull ends)) done got
+    → got + (shape.n - 1) * shape.probes < done
+full_after shape w done got item start left ends start_in e k =
+    let full : next_segment shape.n (tail_of ends) ≡ head_of ends = k.sees.1 in
+    let far : distance shape.n (head_of ends) (tail_of ends) + 1 ≡ shape.n = distance-full shape.n (head_of ends) (tail_of ends) e.head e.tail full in
+    let tail_items : shape.probes ≤ items_of shape w (tail_of ends) = probed_items shape w (tail_of ends) start start_in k.sees.2 in
+    let between : Between shape w (head_of ends) (tail_of ends) = subst (λ x. Between shape w (head_of x) (tail_of x)) k.sees.0 k.between in
+    let many : (shape.n - 1) * shape.probes + 1 ≤ all_items shape w =
+      filled-but_one w shape.k shape.probes (head_of ends) shape.n e.head (λ s s_in ne. elim (cases_eq s (tail_of ends)) [
+          inl here ↦ subst (λ x. shape.probes ≤ items_of shape w x) (sym here) tail_items
+        | inr other ↦
+            let above : 0 < distance shape.n (head_of ends) s = positive s s_in ne in
+            let low : distance shape.n (head_of ends) s < shape.n = distance-below shape.n (head_of ends) s e.head s_in in
+            let apart : distance shape.n (head_of ends) s ≢ distance shape.n (head_of ends) (tail_of ends) = λ same. other (distance-injective shape.n (head_of ends) s (tail_of ends) e.head s_in e.tail same) in
+            between s s_in above (omega arith)
+        ]) k.sees.3 in
+    let c = k.items in
+    omega arith
+  where
+    positive : (s : ℕ) → s < shape.n → s ≢ head_of ends → 0 < distance shape.n (head_of ends) s
+    positive s s_in ne = let d = distance-value shape.n (head_of ends) s e.head s_in in omega arith
