@@ -88,14 +88,14 @@ After shape w done got (Answers (A.Got item)) = Rests shape w done (got + 1)
 After shape w done got (Answers A.Full) = Rests shape w done got × (got + (shape.n - 1) * shape.probes < done)
 After shape w done got (Answers other) = Rests shape w done got
 
-enqueue_again_after : (shape : Shape) (w : ℕ → ℕ) (done got item start left : ℕ) → Rests shape w done got → After shape w done got (enqueue_again item start left)
+pub enqueue_again_after : (shape : Shape) (w : ℕ → ℕ) (done got item start left : ℕ) → Rests shape w done got → After shape w done got (enqueue_again item start left)
 enqueue_again_after shape w done got item start left r = by_test (left == 1)
   where
     by_test : (b : Bool) → After shape w done got (cond b (Answers A.Busy) (Goes (R.Enqueue item start (left - 1) E.LoadEnds)))
     by_test true = r
     by_test false = record { sees = tt; between = r.between; items = (let e = r.items in omega arith) }
 
-dequeue_again_after : (shape : Shape) (w : ℕ → ℕ) (done got start left : ℕ) → Rests shape w done got → After shape w done got (dequeue_again start left)
+pub dequeue_again_after : (shape : Shape) (w : ℕ → ℕ) (done got start left : ℕ) → Rests shape w done got → After shape w done got (dequeue_again start left)
 dequeue_again_after shape w done got start left r = by_test (left == 1)
   where
     by_test : (b : Bool) → After shape w done got (cond b (Answers A.Busy) (Goes (R.Dequeue start (left - 1) D.LoadEnds)))
@@ -103,7 +103,7 @@ dequeue_again_after shape w done got start left r = by_test (left == 1)
     by_test false = record { sees = tt; between = r.between; items = (let e = r.items in omega arith) }
 
 -- the tail is moved on
-tail_on_after : (shape : Shape) (w : ℕ → ℕ) (done got ends : ℕ) → IsEnds shape ends → w 0 ≡ ends → next_segment shape.n (tail_of ends) ≢ head_of ends
+pub tail_on_after : (shape : Shape) (w : ℕ → ℕ) (done got ends : ℕ) → IsEnds shape ends → w 0 ≡ ends → next_segment shape.n (tail_of ends) ≢ head_of ends
     → (0 < distance shape.n (head_of ends) (tail_of ends) → shape.probes ≤ items_of shape w (tail_of ends)) → Rests shape w done got → Rests shape (words_by (Exchange 0 ends (tail_moved shape ends)) w) done got
 tail_on_after shape w done got ends e same room full r =
     let v : ℕ → ℕ = words_by (Exchange 0 ends (tail_moved shape ends)) w in
@@ -117,7 +117,7 @@ tail_on_after shape w done got ends e same room full r =
     record { between = subst (λ x. Between shape v x (tail_of (v 0))) (sym h) (subst (λ x. Between shape v (head_of ends) x) (sym t) new); items = (let c = r.items in let a = all-same shape w v slots in omega arith) }
 
 -- the head is moved on
-head_on_after : (shape : Shape) (w : ℕ → ℕ) (done got ends : ℕ) → IsEnds shape ends → w 0 ≡ ends → tail_of ends ≢ head_of ends → Rests shape w done got → Rests shape (words_by (Exchange 0 ends (head_moved shape ends)) w) done got
+pub head_on_after : (shape : Shape) (w : ℕ → ℕ) (done got ends : ℕ) → IsEnds shape ends → w 0 ≡ ends → tail_of ends ≢ head_of ends → Rests shape w done got → Rests shape (words_by (Exchange 0 ends (head_moved shape ends)) w) done got
 head_on_after shape w done got ends e same apart r =
     let v : ℕ → ℕ = words_by (Exchange 0 ends (head_moved shape ends)) w in
     let at : v 0 ≡ head_moved shape ends = ends_change w ends (head_moved shape ends) same in
@@ -130,7 +130,7 @@ head_on_after shape w done got ends e same apart r =
     record { between = subst (λ x. Between shape v x (tail_of (v 0))) (sym h) (subst (λ x. Between shape v (next_segment shape.n (head_of ends)) x) (sym t) new); items = (let c = r.items in let a = all-same shape w v slots in omega arith) }
 
 -- the head is held
-hold_after : (shape : Shape) (w : ℕ → ℕ) (done got held : ℕ) → IsEnds shape held → w 0 ≡ held → Rests shape w done got → Rests shape (words_by (Exchange 0 held (head_held held)) w) done got
+pub hold_after : (shape : Shape) (w : ℕ → ℕ) (done got held : ℕ) → IsEnds shape held → w 0 ≡ held → Rests shape w done got → Rests shape (words_by (Exchange 0 held (head_held held)) w) done got
 hold_after shape w done got held e same r =
     let v : ℕ → ℕ = words_by (Exchange 0 held (head_held held)) w in
     let at : v 0 ≡ head_held held = ends_change w held (head_held held) same in
@@ -161,7 +161,7 @@ not_ends : (shape : Shape) (s index : ℕ) → InSegment shape s index → 0 ≢
 not_ends shape s index at same = let low = at.low in absurd (omega arith)
 
 -- a won put
-put_after : (shape : Shape) (w : ℕ → ℕ) (done got item start left ends index empty : ℕ) → 0 < item → item < 16777216 → IsEnds shape (w 0) → IsEnds shape ends
+pub put_after : (shape : Shape) (w : ℕ → ℕ) (done got item start left ends index empty : ℕ) → 0 < item → item < 16777216 → IsEnds shape (w 0) → IsEnds shape ends
     → Keeps shape w (R.Enqueue item start left (E.Put ends index empty)) done got
     → Keeps shape (words_by (Exchange index empty (filled_with item empty)) w) (R.Enqueue item start left (E.ReloadSlot ends index (filled_with item empty))) done got
 put_after shape w done got item start left ends index empty some few e f k =
@@ -187,11 +187,11 @@ put_after shape w done got item start left ends index empty some few e f k =
       items = (let c = k.items in omega arith);
     }
 
-distance-same : (shape : Shape) (h : ℕ) → h < shape.n → distance shape.n h h ≡ 0
+pub distance-same : (shape : Shape) (h : ℕ) → h < shape.n → distance shape.n h h ≡ 0
 distance-same shape h h_in = let d = distance-value shape.n h h h_in h_in in omega arith
 
 -- a slot of the head's segment, or of the one segment, is emptied
-emptied_after : (shape : Shape) (w : ℕ → ℕ) (done got index filled : ℕ) → IsEnds shape (w 0) → w index ≡ filled → value_of filled ≢ 0 → InSegment shape (head_of (w 0)) index
+pub emptied_after : (shape : Shape) (w : ℕ → ℕ) (done got index filled : ℕ) → IsEnds shape (w 0) → w index ≡ filled → value_of filled ≢ 0 → InSegment shape (head_of (w 0)) index
     → Between shape w (head_of (w 0)) (tail_of (w 0)) → all_items shape w + got ≡ done + 1 → Rests shape (words_by (Exchange index filled (emptied filled)) w) done got
 emptied_after shape w done got index filled e found_so value in_head between items =
     let v : ℕ → ℕ = words_by (Exchange index filled (emptied filled)) w in
@@ -207,11 +207,11 @@ emptied_after shape w done got index filled e found_so value in_head between ite
     record { between = subst (λ x. Between shape v (head_of x) (tail_of x)) (sym ends_at) kept; items = omega arith }
 
 -- a call that is nowhere near an item rests
-rest : (shape : Shape) (w : ℕ → ℕ) (running : Running) (done got : ℕ) → pending running ≡ 0 → Keeps shape w running done got → Rests shape w done got
+pub rest : (shape : Shape) (w : ℕ → ℕ) (running : Running) (done got : ℕ) → pending running ≡ 0 → Keeps shape w running done got → Rests shape w done got
 rest shape w running done got none k = record { between = k.between; items = (let c = k.items in omega arith) }
 
 -- at Full there are more items
-full_after : (shape : Shape) (w : ℕ → ℕ) (done got item start left ends : ℕ) → start < shape.k → IsEnds shape ends → Keeps shape w (R.Enqueue item start left (E.ConfirmFull ends)) done got
+pub full_after : (shape : Shape) (w : ℕ → ℕ) (done got item start left ends : ℕ) → start < shape.k → IsEnds shape ends → Keeps shape w (R.Enqueue item start left (E.ConfirmFull ends)) done got
     → got + (shape.n - 1) * shape.probes < done
 full_after shape w done got item start left ends start_in e k =
     let full : next_segment shape.n (tail_of ends) ≡ head_of ends = k.sees.1 in

@@ -19,3 +19,4 @@ pub mod Undisturbed
 pub mod Filled
 pub mod Between
 pub mod Counting
+pub mod Lone
