@@ -20,3 +20,4 @@ pub mod Filled
 pub mod Between
 pub mod Counting
 pub mod Lone
+pub mod Floor
