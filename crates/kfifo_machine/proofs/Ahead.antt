@@ -5,7 +5,7 @@ use Rattle.std.proofs.lemmas.Bool.{cases_lt, cases_eq}
 use Rattle.std.proofs.lemmas.Bool.Decides.{nat_tests}
 use Rattle.kfifo_words.specs.Ring.{next_segment, distance}
 
-distance-value : (n h t : ℕ) → h < n → t < n → ((h ≤ t) × (distance n h t + h ≡ t)) ⊎ ((t < h) × (distance n h t + h ≡ t + n))
+pub distance-value : (n h t : ℕ) → h < n → t < n → ((h ≤ t) × (distance n h t + h ≡ t)) ⊎ ((t < h) × (distance n h t + h ≡ t + n))
 unfolding distance
 distance-value n h t h_in t_in =
     elim (cases_lt t h) [

@@ -134,14 +134,14 @@ scan-first shape segment offset less =
     ap (λ (x : ℕ). slot_at shape.k segment (x % shape.k)) z ∙ ap (slot_at shape.k segment) m
 
 -- the ends after the tail was moved on
-tail_moved-tail : (shape : Shape) (ends : ℕ) → IsEnds shape ends → tail_of (tail_moved shape ends) ≡ next_segment shape.n (tail_of ends)
+pub tail_moved-tail : (shape : Shape) (ends : ℕ) → IsEnds shape ends → tail_of (tail_moved shape ends) ≡ next_segment shape.n (tail_of ends)
 tail_moved-tail shape ends e =
     let head_in = e.head in
     let tail_in = e.tail in
     let on : next_segment shape.n (tail_of ends) < shape.n = next_segment-below shape.n (tail_of ends) e.tail in
     tail-ends_word (head_of ends) (next_segment shape.n (tail_of ends)) (version_of ends + 1) (omega arith) (omega arith)
 
-tail_moved-head : (shape : Shape) (ends : ℕ) → IsEnds shape ends → head_of (tail_moved shape ends) ≡ head_of ends
+pub tail_moved-head : (shape : Shape) (ends : ℕ) → IsEnds shape ends → head_of (tail_moved shape ends) ≡ head_of ends
 tail_moved-head shape ends e =
     let head_in = e.head in
     let tail_in = e.tail in
@@ -153,14 +153,14 @@ ahead-tail_moved shape ends e room =
     let k = distance-tail_on shape.n (head_of ends) (tail_of ends) e.head e.tail room in
     (ap (λ (x : ℕ). distance shape.n x (tail_of (tail_moved shape ends))) (tail_moved-head shape ends e) ∙ ap (distance shape.n (head_of ends)) (tail_moved-tail shape ends e) ∙ k.0, k.1)
 
-head_moved-tail : (shape : Shape) (ends : ℕ) → IsEnds shape ends → tail_of (head_moved shape ends) ≡ tail_of ends
+pub head_moved-tail : (shape : Shape) (ends : ℕ) → IsEnds shape ends → tail_of (head_moved shape ends) ≡ tail_of ends
 head_moved-tail shape ends e =
     let head_in = e.head in
     let tail_in = e.tail in
     let on : next_segment shape.n (head_of ends) < shape.n = next_segment-below shape.n (head_of ends) e.head in
     tail-ends_word (next_segment shape.n (head_of ends)) (tail_of ends) (version_of ends + 1) (omega arith) (omega arith)
 
-head_moved-head : (shape : Shape) (ends : ℕ) → IsEnds shape ends → head_of (head_moved shape ends) ≡ next_segment shape.n (head_of ends)
+pub head_moved-head : (shape : Shape) (ends : ℕ) → IsEnds shape ends → head_of (head_moved shape ends) ≡ next_segment shape.n (head_of ends)
 head_moved-head shape ends e =
     let head_in = e.head in
     let tail_in = e.tail in
@@ -168,10 +168,10 @@ head_moved-head shape ends e =
     head-ends_word (next_segment shape.n (head_of ends)) (tail_of ends) (version_of ends + 1) (omega arith) (omega arith)
 
 -- an exchange of the ends word leaves the slots
-slots_stay : (w : ℕ → ℕ) (from to i : ℕ) → 0 < i → words_by (Exchange 0 from to) w i ≡ w i
+pub slots_stay : (w : ℕ → ℕ) (from to i : ℕ) → 0 < i → words_by (Exchange 0 from to) w i ≡ w i
 slots_stay w from to i above = grind (arith, nat_tests)
 
-ends_change : (w : ℕ → ℕ) (from to : ℕ) → w 0 ≡ from → words_by (Exchange 0 from to) w 0 ≡ to
+pub ends_change : (w : ℕ → ℕ) (from to : ℕ) → w 0 ≡ from → words_by (Exchange 0 from to) w 0 ≡ to
 ends_change w from to same = grind (arith, nat_tests)
 
 empty_stays : (shape : Shape) (w : ℕ → ℕ) (from to segment m : ℕ) → EmptyBelow shape w segment m → EmptyBelow shape (words_by (Exchange 0 from to) w) segment m

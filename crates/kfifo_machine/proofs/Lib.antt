@@ -16,3 +16,8 @@ pub mod Losses
 pub mod Ahead
 pub mod Alone
 pub mod Undisturbed
+pub mod Filled
+pub mod Between
+pub mod Counting
+pub mod Lone
+pub mod Floor

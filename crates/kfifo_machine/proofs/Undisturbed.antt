@@ -89,11 +89,11 @@ own_ends thread es last mine none =
     never [] is = cc
     never (x ∷ xs) is = cc
 
-sound-ends : (shape : Shape) (here : World) → IsSound shape here → IsEnds shape (word_at here 0)
+pub sound-ends : (shape : Shape) (here : World) → IsSound shape here → IsEnds shape (word_at here 0)
 unfolding word_at
 sound-ends shape here sound = sound.ends
 
-found-is : (shape : Shape) (here : World) (running : Running) → found shape here running ≡ word_at here (accessed (access shape running))
+pub found-is : (shape : Shape) (here : World) (running : Running) → found shape here running ≡ word_at here (accessed (access shape running))
 unfolding found
 found-is shape here running = refl
 

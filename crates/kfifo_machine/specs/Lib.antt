@@ -7,3 +7,4 @@ pub mod Laws
 pub mod Calls
 pub mod Causes
 pub mod Rounds
+pub mod Floor

@@ -2,6 +2,7 @@
 ghost use Rattle.std.specs.Prelude.{◌≡◌, ℕ, ◌<◌, ◌⊎◌, ◌↔◌, length, get_or, None, IfOk, Err};
 ghost use Rattle.kfifo_model.specs.declared.calls.Answer.{Answer};
 ghost use Rattle.kfifo_machine.specs.Machine.{IsSchedule, IsFirstRefused};
+ghost use Rattle.kfifo_machine.specs.Floor.{Floor};
 ghost use Rattle.kfifo_machine.specs.Calls.{begins, ends, logged, blank, history_of};
 
 use crate::fault::RunFault;
@@ -94,11 +95,8 @@ impl Log {
     }
 }
 
-/// The calls of these events, by their first events, from the opening. The steps of a call are the
-/// places of its events, from 0.
-///
-/// Refused as by `run`.
-pub fn history(
+/// The history of these events, or why there is none.
+fn log_events(
     alloc: Global,
     shape: Shape,
     threads: u32,
@@ -120,4 +118,24 @@ pub fn history(
         Ok(history) => Ok(history),
         Err(_fault) => unreachable!(),
     }
+}
+
+/// The calls of these events, by their first events, from the opening. The steps of a call are the
+/// places of its events, from 0.
+///
+/// Refused as by `run`.
+///
+/// The clause `floor` speaks of every schedule of this shape and number of threads, whatever is answered.
+pub fn history(
+    alloc: Global,
+    shape: Shape,
+    threads: u32,
+    events: &[Event],
+) -> Result<History, RunFault>
+    ensures history { IfOk result (λ h. IsSchedule shape threads events.now × (h ≡ history_of shape threads events.now)) }
+    ensures threads { (result ≡ Err RunFault.ThreadsOutOfRange) ↔ ((threads ≡ 0) ⊎ (64 < threads)) }
+    ensures refused { (place : ℕ) → result ≡ Err (RunFault.NotASchedule place) → IsFirstRefused shape threads events.now place }
+    ensures floor { Floor shape threads }
+{
+    log_events(alloc, shape, threads, events)
 }

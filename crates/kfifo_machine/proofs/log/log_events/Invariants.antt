@@ -1,7 +1,7 @@
 use Rattle.std.proofs.Common.{◌≡◌, Some, take}
 use Rattle.kfifo_machine.specs.Machine.{after}
 use Rattle.kfifo_machine.specs.Calls.{log_of}
-use Rattle.kfifo_machine.proofs.log.history.Given as goal
+use Rattle.kfifo_machine.proofs.log.log_events.Given as goal
 
 abbrev pub invariant-loop-place : goal.invariant-loop-place
 invariant-loop-place l = record {
