@@ -62,28 +62,36 @@ fn hands_over_between_threads(rt: HostRuntime) -> Result<(), Fail> {
     Ok(())
 }
 
+/// A pass makes these calls, and gets the answers.
+fn check_answers(rt: &impl Abort, queue: &Queue, pass: &mut Pass, calls: &[(Begin, Answer)])
+    requires { IsOf queue.now pass.old }
+    ensures { IsSame pass.old pass.new }
+{
+    for (begin, answer) in calls {
+        assert_eq!(rt; call(queue, pass, *begin), Some(*answer), "{begin:?}");
+    }
+}
+
 #[test]
 fn gives_back_what_is_left(rt: HostRuntime) -> Result<(), Fail> {
     let (queue, mut passes) = Queue::open(rt.alloc(), Shape::new(2, 2, LAST)?, 2)?;
     let (Some(mut second), Some(mut first)) = (passes.pop(), passes.pop()) else {
         unreachable!()
     };
-    for item in [1, 2, 3, 4] {
-        assert_eq!(rt;
-            call(&queue, &mut first, enqueue(item, 0, 2)),
-            Some(Answer::Done)
-        );
-    }
-    for item in [1, 2, 3] {
-        assert_eq!(rt;
-            call(&queue, &mut second, dequeue(0, 2)),
-            Some(Answer::Got(item))
-        );
-    }
-    assert_eq!(rt;
-        call(&queue, &mut first, enqueue(5, 0, 2)),
-        Some(Answer::Done)
-    );
+    let puts = [
+        (enqueue(1, 0, 2), Answer::Done),
+        (enqueue(2, 0, 2), Answer::Done),
+        (enqueue(3, 0, 2), Answer::Done),
+        (enqueue(4, 0, 2), Answer::Done),
+    ];
+    check_answers(&rt, &queue, &mut first, &puts);
+    let takes = [
+        (dequeue(0, 2), Answer::Got(1)),
+        (dequeue(0, 2), Answer::Got(2)),
+        (dequeue(0, 2), Answer::Got(3)),
+    ];
+    check_answers(&rt, &queue, &mut second, &takes);
+    check_answers(&rt, &queue, &mut first, &[(enqueue(5, 0, 2), Answer::Done)]);
     meet(&queue, &mut first, &mut second);
     let items = close(rt.alloc(), queue, vec![in rt.alloc(); second, first]?)?;
     assert_eq!(rt; items.as_slice(), [4, 5].as_slice());
@@ -130,7 +138,7 @@ fn work(
         let start = draw(&mut seed, 64) % k;
         let turns = if draw(&mut seed, 4) == 0 { 1 } else { 100 };
         let (op, begin) = if draw(&mut seed, 9) < 5 {
-            let item = (thread << 20) + number + 1;
+            let item = ((thread << 20) | number) + 1;
             (Op::Enqueue(item), enqueue(item, start, turns))
         } else {
             (Op::Dequeue, dequeue(start, turns))

@@ -2,4 +2,4 @@ use Rattle.kfifo_live.specs.Pass.{IsSame}
 use Rattle.kfifo_live.proofs.tests.threads.work.Given as goal
 
 abbrev pub invariant-loop-number : goal.invariant-loop-number
-invariant-loop-number g l = IsSame l.fn.pass l.pass
+invariant-loop-number l = IsSame l.fn.pass l.pass
