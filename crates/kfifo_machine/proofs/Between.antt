@@ -1,19 +1,13 @@
 -- The segments between head and tail stay filled while calls come one at a time.
-use Rattle.std.proofs.Common.{◌≡◌, ◌≢◌, ◌⊎◌, ℕ, zero, suc, ◌+◌, ◌*◌, ◌-◌, ◌%◌, ◌<◌, ◌≤◌, Bool, true, false, refl, sym, ap, ◌∙◌, subst, inl, inr, arith, cond, eqb, eqb-true, eq-eqb}
-use Rattle.std.specs.Prelude.{◌==◌}
+use Rattle.std.proofs.Common.{◌≡◌, ◌≢◌, ◌⊎◌, ℕ, suc, ◌+◌, ◌*◌, ◌%◌, ◌<◌, ◌≤◌, refl, sym, ap, subst, inl, inr, arith}
 use Rattle.std.proofs.Math.Nat.{mod-lt, mul-le-mul_right}
-use Rattle.std.proofs.lemmas.Bool.{cases_lt, cases_eq, cases_order}
-use Rattle.std.proofs.lemmas.Bool.Decides.{nat_tests}
+use Rattle.std.proofs.lemmas.Bool.{cases_lt}
 use Rattle.kfifo_words.specs.declared.shape.Shape.{Shape}
-use Rattle.kfifo_words.specs.Words.{value_of, head_of, tail_of}
-use Rattle.kfifo_words.specs.Ring.{next_segment, distance, slot_at, clock_at}
-use Rattle.kfifo_machine.specs.declared.place.Access.TheVariants.{Load, Exchange}
-use Rattle.kfifo_machine.specs.Program.{scan_index, head_moved, tail_moved, head_held}
-use Rattle.kfifo_machine.specs.Places.{IsSlotIndex, IsEnds}
+use Rattle.kfifo_words.specs.Words.{value_of}
+use Rattle.kfifo_words.specs.Ring.{next_segment, distance}
+use Rattle.kfifo_machine.specs.Program.{scan_index}
 use Rattle.kfifo_machine.proofs.Versions.{next_segment-below}
-use Rattle.kfifo_machine.proofs.Quiet.{words_by}
-use Rattle.kfifo_machine.proofs.Ahead.{distance-value, distance-below, distance-tail_on, distance-full, distance-head_on, next-apart}
-use Rattle.kfifo_machine.proofs.Alone.{slots_stay, ends_change, tail_moved-tail, tail_moved-head, head_moved-tail, head_moved-head}
+use Rattle.kfifo_machine.proofs.Ahead.{distance-value, distance-below, distance-tail_on, distance-full, distance-head_on}
 use Rattle.kfifo_machine.proofs.Filled.{holds, filled_from, filled-same, filled-change, filled-cyclic}
 
 -- the items of a segment, and of all slots
@@ -40,11 +34,11 @@ between-tail_on shape w h t h_in t_in room full old s s_in above below =
     let k = distance-tail_on shape.n h t h_in t_in room in
     let more : distance shape.n h (next_segment shape.n t) ≡ distance shape.n h t + 1 = k.0 in
     elim (cases_lt (distance shape.n h s) (distance shape.n h t)) [
-      inl less ↦ old s s_in above less
-    | inr ge ↦
-        let same : s ≡ t = distance-injective shape.n h s t h_in s_in t_in (omega arith) in
-        let there : 0 < distance shape.n h t = (let e : distance shape.n h s ≡ distance shape.n h t = ap (distance shape.n h) same in omega arith) in
-        subst (λ x. shape.probes ≤ items_of shape w x) (sym same) (full there)
+      | inl less ↦ old s s_in above less
+      | inr ge ↦
+          let same : s ≡ t = distance-injective shape.n h s t h_in s_in t_in (omega arith) in
+          let there : 0 < distance shape.n h t = (let e : distance shape.n h s ≡ distance shape.n h t = ap (distance shape.n h) same in omega arith) in
+          subst (λ x. shape.probes ≤ items_of shape w x) (sym same) (full there)
     ]
 
 -- the head moves on
@@ -85,8 +79,8 @@ other_segment shape s r index at ne =
     let low = at.low in
     let high = at.high in
     elim (cases_lt s r) [
-      inl less ↦ let m : suc s * shape.k ≤ r * shape.k = mul-le-mul_right shape.k less in inr (omega arith)
-    | inr ge ↦ let m : suc r * shape.k ≤ s * shape.k = mul-le-mul_right shape.k (let l : r < s = omega arith in l) in inl (omega arith)
+      | inl less ↦ let m : suc s * shape.k ≤ r * shape.k = mul-le-mul_right shape.k less in inr (omega arith)
+      | inr ge ↦ let m : suc r * shape.k ≤ s * shape.k = mul-le-mul_right shape.k (let l : r < s = omega arith in l) in inl (omega arith)
     ]
 
 -- one slot changes

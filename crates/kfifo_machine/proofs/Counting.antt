@@ -1,12 +1,11 @@
 -- What a call sees while no other overlaps it, and how many items there are.
-use Rattle.std.proofs.Common.{◌≡◌, ◌≢◌, ◌⊎◌, ℕ, zero, suc, ◌+◌, ◌*◌, ◌-◌, ◌<◌, ◌≤◌, Bool, true, false, refl, sym, ap, ◌∙◌, subst, inl, inr, arith, cond, eqb, eqb-true}
-use Rattle.std.specs.Prelude.{◌==◌, not, nat_lt, nat_le}
-use Rattle.std.proofs.lemmas.Bool.{cases_eq, eqb-false}
+use Rattle.std.proofs.Common.{◌≡◌, ◌≢◌, ℕ, ◌+◌, ◌*◌, ◌-◌, ◌<◌, ◌≤◌, Bool, true, false, sym, ap, ◌∙◌, subst, inl, inr, arith, cond}
+use Rattle.std.specs.Prelude.{◌==◌}
+use Rattle.std.proofs.lemmas.Bool.{cases_eq}
 use Rattle.std.proofs.lemmas.Bool.Decides.{nat_tests}
 use Rattle.kfifo_words.specs.declared.shape.Shape.{Shape}
 use Rattle.kfifo_words.specs.Words.{slot_word, value_of, version_of, head_of, tail_of}
 use Rattle.kfifo_words.specs.Ring.{next_segment, distance}
-use Rattle.kfifo_model.specs.declared.calls.Answer.{Answer}
 use Rattle.kfifo_model.specs.declared.calls.Answer.TheVariants as A
 use Rattle.kfifo_machine.specs.declared.place.Found.TheVariants.{Slot, Nothing}
 use Rattle.kfifo_machine.specs.declared.place.EnqueuePhase.{EnqueuePhase}
@@ -15,17 +14,17 @@ use Rattle.kfifo_machine.specs.declared.place.DequeuePhase.{DequeuePhase}
 use Rattle.kfifo_machine.specs.declared.place.DequeuePhase.TheVariants as D
 use Rattle.kfifo_machine.specs.declared.place.Running.{Running}
 use Rattle.kfifo_machine.specs.declared.place.Running.TheVariants as R
-use Rattle.kfifo_machine.specs.declared.place.Access.TheVariants.{Load, Exchange}
+use Rattle.kfifo_machine.specs.declared.place.Access.TheVariants.{Exchange}
 use Rattle.kfifo_machine.specs.declared.place.Next.{Next}
 use Rattle.kfifo_machine.specs.declared.place.Next.TheVariants.{Goes, Answers}
-use Rattle.kfifo_machine.specs.Program.{access, accessed, advance, scan_index, filled_with, emptied, head_moved, tail_moved, head_held, enqueue_again, dequeue_again}
-use Rattle.kfifo_machine.specs.Places.{IsEnds, IsPlace}
+use Rattle.kfifo_machine.specs.Program.{scan_index, filled_with, emptied, head_moved, tail_moved, head_held, enqueue_again, dequeue_again}
+use Rattle.kfifo_machine.specs.Places.{IsEnds}
 use Rattle.kfifo_machine.proofs.Quiet.{words_by}
 use Rattle.kfifo_machine.proofs.NoWrap.{head-ends_word, tail-ends_word}
-use Rattle.kfifo_machine.proofs.Ahead.{next-apart, distance-value, distance-below, distance-full}
+use Rattle.kfifo_machine.proofs.Ahead.{distance-value, distance-below, distance-full}
 use Rattle.kfifo_machine.proofs.Alone.{slots_stay, ends_change, tail_moved-tail, tail_moved-head, head_moved-tail, head_moved-head}
-use Rattle.kfifo_machine.proofs.Filled.{holds, holds-filled, holds-empty, filled_from, filled-but_one}
-use Rattle.kfifo_machine.proofs.Between.{items_of, all_items, Between, between-tail_on, between-head_on, between-same, items-same, all-same, distance-injective, InSegment, scan-in, all-change, items-change, items-other, probed_items}
+use Rattle.kfifo_machine.proofs.Filled.{holds, holds-filled, holds-empty, filled-but_one}
+use Rattle.kfifo_machine.proofs.Between.{items_of, all_items, Between, between-tail_on, between-head_on, between-same, items-same, all-same, distance-injective, InSegment, all-change, items-change, items-other, probed_items}
 
 abbrev pub Probed : Shape → (ℕ → ℕ) → ℕ → ℕ → ℕ → Type 0
 Probed shape w ends start offset = (j : ℕ) → j < offset → value_of (w (scan_index shape (tail_of ends) start j)) ≢ 0
@@ -174,13 +173,13 @@ put_after shape w done got item start left ends index empty some few e f k =
     let old : holds (w index) ≡ 0 = ap holds k.sees.1 ∙ holds-empty empty k.sees.2 in
     let all : all_items shape v + holds (w index) ≡ all_items shape w + holds (v index) = all-change shape w v (tail_of ends) index f.tail k.sees.3 same in
     let grown : Between shape v (head_of (w 0)) (tail_of (w 0)) = between-same shape w v (head_of (w 0)) (tail_of (w 0)) (λ s s_in above. elim (cases_eq s (tail_of ends)) [
-        inl here ↦
+      | inl here ↦
           let i : items_of shape v (tail_of ends) + holds (w index) ≡ items_of shape w (tail_of ends) + holds (v index) = items-change shape w v (tail_of ends) index f.tail k.sees.3 same in
           let a : items_of shape v s ≡ items_of shape v (tail_of ends) = ap (items_of shape v) here in
           let b : items_of shape w s ≡ items_of shape w (tail_of ends) = ap (items_of shape w) here in
           omega arith
       | inr ne ↦ let i = items-other shape w v (tail_of ends) index f.tail k.sees.3 same s ne in omega arith
-      ]) k.between in
+    ]) k.between in
     record {
       sees = (ends_at ∙ k.sees.0, at, value, k.sees.3);
       between = subst (λ x. Between shape v (head_of x) (tail_of x)) (sym ends_at) grown;
@@ -202,8 +201,8 @@ emptied_after shape w done got index filled e found_so value in_head between ite
     let old : holds (w index) ≡ 1 = ap holds found_so ∙ holds-filled filled value in
     let all : all_items shape v + holds (w index) ≡ all_items shape w + holds (v index) = all-change shape w v (head_of (w 0)) index e.head in_head same in
     let kept : Between shape v (head_of (w 0)) (tail_of (w 0)) = between-same shape w v (head_of (w 0)) (tail_of (w 0)) (λ s s_in above.
-      let ne : s ≢ head_of (w 0) = λ same_s. absurd (let d : distance shape.n (head_of (w 0)) s ≡ 0 = ap (distance shape.n (head_of (w 0))) same_s ∙ distance-same shape (head_of (w 0)) e.head in omega arith) in
-      let i = items-other shape w v (head_of (w 0)) index e.head in_head same s ne in omega arith) between in
+    let ne : s ≢ head_of (w 0) = λ same_s. absurd (let d : distance shape.n (head_of (w 0)) s ≡ 0 = ap (distance shape.n (head_of (w 0))) same_s ∙ distance-same shape (head_of (w 0)) e.head in omega arith) in
+    let i = items-other shape w v (head_of (w 0)) index e.head in_head same s ne in omega arith) between in
     record { between = subst (λ x. Between shape v (head_of x) (tail_of x)) (sym ends_at) kept; items = omega arith }
 
 -- a call that is nowhere near an item rests
@@ -219,14 +218,14 @@ full_after shape w done got item start left ends start_in e k =
     let tail_items : shape.probes ≤ items_of shape w (tail_of ends) = probed_items shape w (tail_of ends) start start_in k.sees.2 in
     let between : Between shape w (head_of ends) (tail_of ends) = subst (λ x. Between shape w (head_of x) (tail_of x)) k.sees.0 k.between in
     let many : (shape.n - 1) * shape.probes + 1 ≤ all_items shape w =
-      filled-but_one w shape.k shape.probes (head_of ends) shape.n e.head (λ s s_in ne. elim (cases_eq s (tail_of ends)) [
-          inl here ↦ subst (λ x. shape.probes ≤ items_of shape w x) (sym here) tail_items
-        | inr other ↦
-            let above : 0 < distance shape.n (head_of ends) s = positive s s_in ne in
-            let low : distance shape.n (head_of ends) s < shape.n = distance-below shape.n (head_of ends) s e.head s_in in
-            let apart : distance shape.n (head_of ends) s ≢ distance shape.n (head_of ends) (tail_of ends) = λ same. other (distance-injective shape.n (head_of ends) s (tail_of ends) e.head s_in e.tail same) in
-            between s s_in above (omega arith)
-        ]) k.sees.3 in
+    filled-but_one w shape.k shape.probes (head_of ends) shape.n e.head (λ s s_in ne. elim (cases_eq s (tail_of ends)) [
+      | inl here ↦ subst (λ x. shape.probes ≤ items_of shape w x) (sym here) tail_items
+      | inr other ↦
+          let above : 0 < distance shape.n (head_of ends) s = positive s s_in ne in
+          let low : distance shape.n (head_of ends) s < shape.n = distance-below shape.n (head_of ends) s e.head s_in in
+          let apart : distance shape.n (head_of ends) s ≢ distance shape.n (head_of ends) (tail_of ends) = λ same. other (distance-injective shape.n (head_of ends) s (tail_of ends) e.head s_in e.tail same) in
+          between s s_in above (omega arith)
+    ]) k.sees.3 in
     let c = k.items in
     omega arith
   where

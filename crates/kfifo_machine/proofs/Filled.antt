@@ -1,8 +1,8 @@
 -- How many words hold an item.
-use Rattle.std.proofs.Common.{◌≡◌, ◌≢◌, ◌⊎◌, ℕ, zero, suc, ◌+◌, ◌*◌, ◌-◌, ◌%◌, ◌<◌, ◌≤◌, Bool, true, false, refl, sym, ap, ◌∙◌, subst, inl, inr, arith, cond, eqb}
+use Rattle.std.proofs.Common.{◌≡◌, ◌≢◌, ℕ, zero, suc, ◌+◌, ◌*◌, ◌-◌, ◌%◌, ◌<◌, ◌≤◌, refl, sym, ap, ◌∙◌, inl, inr, arith, cond}
 use Rattle.std.specs.Prelude.{◌==◌}
-use Rattle.std.proofs.Math.Nat.{mod-eq_of_lt, mod-eq-sub-mod, mul-le-mul_right}
-use Rattle.std.proofs.lemmas.Bool.{cases_lt, cases_eq, eqb-false}
+use Rattle.std.proofs.Math.Nat.{mod-eq_of_lt, mod-eq-sub-mod}
+use Rattle.std.proofs.lemmas.Bool.{cases_lt, cases_eq}
 use Rattle.std.proofs.lemmas.Bool.Decides.{nat_tests}
 use Rattle.kfifo_words.specs.Words.{value_of}
 
@@ -55,42 +55,43 @@ pub filled-change : (w v : ℕ → ℕ) (p i m : ℕ) → i ≤ p → p < i + m 
 filled-change w v p i zero low high same = absurd (omega arith)
 filled-change w v p i (suc m) low high same =
     elim (cases_eq i p) [
-      inl here ↦
-        let others : filled_from v (i + 1) m ≡ filled_from w (i + 1) m = filled-same w v (i + 1) m (λ j l h. same j (λ e. absurd (omega arith))) in
-        let a : holds (v i) ≡ holds (v p) = ap (λ x. holds (v x)) here in
-        let b : holds (w i) ≡ holds (w p) = ap (λ x. holds (w x)) here in
-        omega arith
-    | inr apart ↦
-        let others : filled_from v (i + 1) m + holds (w p) ≡ filled_from w (i + 1) m + holds (v p) = filled-change w v p (i + 1) m (omega arith) (omega arith) same in
-        let a : holds (v i) ≡ holds (w i) = ap holds (same i apart) in
-        omega arith
+      | inl here ↦
+          let others : filled_from v (i + 1) m ≡ filled_from w (i + 1) m = filled-same w v (i + 1) m (λ j l h. same j (λ e. absurd (omega arith))) in
+          let a : holds (v i) ≡ holds (v p) = ap (λ x. holds (v x)) here in
+          let b : holds (w i) ≡ holds (w p) = ap (λ x. holds (w x)) here in
+          omega arith
+      | inr apart ↦
+          let others : filled_from v (i + 1) m + holds (w p) ≡ filled_from w (i + 1) m + holds (v p) = filled-change w v p (i + 1) m (omega arith) (omega arith) same in
+          let a : holds (v i) ≡ holds (w i) = ap holds (same i apart) in
+          omega arith
     ]
 
 -- so many slots of a segment, cyclically from the start on
 pub filled-cyclic : (w : ℕ → ℕ) (base k start p : ℕ) → start < k → p ≤ k → ((j : ℕ) → j < p → value_of (w (base + (start + j) % k)) ≢ 0) → p ≤ filled_from w base k
 filled-cyclic w base k start p start_in few all =
     elim (cases_lt k (start + p)) [
-      inr fits ↦
-        let parts : filled_from w base (start + (p + (k - start - p))) ≡ filled_from w base start + filled_from w (base + start) (p + (k - start - p)) = filled-append w base start (p + (k - start - p)) in
-        let more : filled_from w (base + start) (p + (k - start - p)) ≡ filled_from w (base + start) p + filled_from w (base + start + p) (k - start - p) = filled-append w (base + start) p (k - start - p) in
-        let seen : filled_from w (base + start) p ≡ p = filled-all w (base + start) p (λ j low high. at j (j - base - start) (omega arith) (omega arith) (omega arith)) in
-        let whole : start + (p + (k - start - p)) ≡ k = omega arith in
-        let same : filled_from w base (start + (p + (k - start - p))) ≡ filled_from w base k = ap (filled_from w base) whole in
-        omega arith
-    | inl wraps ↦
-        let b : (start + p - k) + ((k - p) + (k - start)) ≡ k = omega arith in
-        let parts : filled_from w base ((start + p - k) + ((k - p) + (k - start))) ≡ filled_from w base (start + p - k) + filled_from w (base + (start + p - k)) ((k - p) + (k - start)) = filled-append w base (start + p - k) ((k - p) + (k - start)) in
-        let more : filled_from w (base + (start + p - k)) ((k - p) + (k - start)) ≡ filled_from w (base + (start + p - k)) (k - p) + filled_from w (base + (start + p - k) + (k - p)) (k - start) = filled-append w (base + (start + p - k)) (k - p) (k - start) in
-        let first : filled_from w base (start + p - k) ≡ start + p - k = filled-all w base (start + p - k) (λ j low high. round j (j - base + k - start) (omega arith) (omega arith) (omega arith) (omega arith)) in
-        let last : filled_from w (base + (start + p - k) + (k - p)) (k - start) ≡ k - start = filled-all w (base + (start + p - k) + (k - p)) (k - start) (λ j low high. at j (j - base - start) (omega arith) (omega arith) (omega arith)) in
-        let same : filled_from w base ((start + p - k) + ((k - p) + (k - start))) ≡ filled_from w base k = ap (filled_from w base) b in
-        omega arith
+      | inr fits ↦
+          let parts : filled_from w base (start + (p + (k - start - p))) ≡ filled_from w base start + filled_from w (base + start) (p + (k - start - p)) = filled-append w base start (p + (k - start - p)) in
+          let more : filled_from w (base + start) (p + (k - start - p)) ≡ filled_from w (base + start) p + filled_from w (base + start + p) (k - start - p) = filled-append w (base + start) p (k - start - p) in
+          let seen : filled_from w (base + start) p ≡ p = filled-all w (base + start) p (λ j low high. at j (j - base - start) (omega arith) (omega arith) (omega arith)) in
+          let whole : start + (p + (k - start - p)) ≡ k = omega arith in
+          let same : filled_from w base (start + (p + (k - start - p))) ≡ filled_from w base k = ap (filled_from w base) whole in
+          omega arith
+      | inl wraps ↦
+          let b : (start + p - k) + ((k - p) + (k - start)) ≡ k = omega arith in
+          let parts : filled_from w base ((start + p - k) + ((k - p) + (k - start))) ≡ filled_from w base (start + p - k) + filled_from w (base + (start + p - k)) ((k - p) + (k - start)) = filled-append w base (start + p - k) ((k - p) + (k - start)) in
+          let more : filled_from w (base + (start + p - k)) ((k - p) + (k - start)) ≡ filled_from w (base + (start + p - k)) (k - p) + filled_from w (base + (start + p - k) + (k - p)) (k - start) = filled-append w (base + (start + p - k)) (k - p) (k - start) in
+          let first : filled_from w base (start + p - k) ≡ start + p - k = filled-all w base (start + p - k) (λ j low high. round j (j - base + k - start) (omega arith) (omega arith) (omega arith) (omega arith)) in
+          let last : filled_from w (base + (start + p - k) + (k - p)) (k - start) ≡ k - start = filled-all w (base + (start + p - k) + (k - p)) (k - start) (λ j low high. at j (j - base - start) (omega arith) (omega arith) (omega arith)) in
+          let same : filled_from w base ((start + p - k) + ((k - p) + (k - start))) ≡ filled_from w base k = ap (filled_from w base) b in
+          omega arith
     ]
   where
     at : (j o : ℕ) → o < p → start + o < k → j ≡ base + (start + o) → value_of (w j) ≢ 0
     at j o less within is none =
         let m : (start + o) % k ≡ start + o = mod-eq_of_lt within in
         all o less (ap (λ x. value_of (w (base + x))) m ∙ ap (λ x. value_of (w x)) (sym is) ∙ none)
+
     round : (j o : ℕ) → o < p → k ≤ start + o → start + o < k + k → j ≡ base + (start + o - k) → value_of (w j) ≢ 0
     round j o less past within is none =
         let m : (start + o) % k ≡ (start + o - k) % k = mod-eq-sub-mod past in
@@ -118,13 +119,13 @@ filled-but_one w k p h (suc m) less all one =
     let same : filled_from w 1 (suc m * k) ≡ filled_from w 1 (m * k + k) = ap (filled_from w 1) size in
     let count : (suc m - 1) * p ≡ m * p = ap (λ x. x * p) (let e : suc m - 1 ≡ m = omega arith in e) in
     elim (cases_eq h m) [
-      inl last ↦
-        let old : m * p ≤ filled_from w 1 (m * k) = filled-segments w k p m (λ s low. all s (omega arith) (λ e. absurd (omega arith))) in
-        let there : filled_from w (1 + h * k) k ≡ filled_from w (1 + m * k) k = ap (λ x. filled_from w (1 + x * k) k) last in
-        omega arith
-    | inr earlier ↦
-        let old : (m - 1) * p + 1 ≤ filled_from w 1 (m * k) = filled-but_one w k p h m (omega arith) (λ s low ne. all s (omega arith) ne) one in
-        let new : p ≤ filled_from w (1 + m * k) k = all m (omega arith) (λ e. earlier (sym e)) in
-        let product : m * p ≡ (m - 1) * p + p = (let e : m ≡ (m - 1) + 1 = omega arith in omega (arith, ap (λ x. x * p) e)) in
-        omega arith
+      | inl last ↦
+          let old : m * p ≤ filled_from w 1 (m * k) = filled-segments w k p m (λ s low. all s (omega arith) (λ e. absurd (omega arith))) in
+          let there : filled_from w (1 + h * k) k ≡ filled_from w (1 + m * k) k = ap (λ x. filled_from w (1 + x * k) k) last in
+          omega arith
+      | inr earlier ↦
+          let old : (m - 1) * p + 1 ≤ filled_from w 1 (m * k) = filled-but_one w k p h m (omega arith) (λ s low ne. all s (omega arith) ne) one in
+          let new : p ≤ filled_from w (1 + m * k) k = all m (omega arith) (λ e. earlier (sym e)) in
+          let product : m * p ≡ (m - 1) * p + p = (let e : m ≡ (m - 1) + 1 = omega arith in omega (arith, ap (λ x. x * p) e)) in
+          omega arith
     ]

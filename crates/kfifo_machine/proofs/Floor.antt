@@ -1,8 +1,8 @@
 -- The floor of a queue whose calls do not overlap.
-use Rattle.std.proofs.Common.{◌≡◌, ◌≢◌, ◌⊎◌, ℕ, zero, suc, ◌+◌, ◌*◌, ◌-◌, ◌<◌, ◌≤◌, List, [], ◌∷◌, ◌++◌, length, get_or, replicate, Option, Some, None, Ok, Bool, true, false, refl, sym, ap, ◌∙◌, subst, inl, inr, arith, cond, eqb, eqb-true}
-use Rattle.std.specs.Prelude.{◌==◌, nat_lt}
+use Rattle.std.proofs.Common.{◌≡◌, ◌≢◌, ℕ, zero, suc, ◌+◌, ◌*◌, ◌-◌, ◌<◌, List, [], ◌∷◌, ◌++◌, get_or, replicate, Option, Some, None, Ok, Bool, true, false, refl, sym, ap, ◌∙◌, subst, inl, inr, arith, cond, eqb}
+use Rattle.std.specs.Prelude.{nat_lt}
 use Rattle.std.proofs.Math.Path.{fun_ext}
-use Rattle.std.proofs.lemmas.Bool.{cases_eq, cases_lt, cases_Bool}
+use Rattle.std.proofs.lemmas.Bool.{cases_eq, cases_Bool}
 use Rattle.std.proofs.lemmas.Bool.Decides.{nat_tests}
 use Rattle.kfifo_words.specs.declared.shape.Shape.{Shape}
 use Rattle.kfifo_words.specs.Words.{head_of, tail_of, value_of}
@@ -22,12 +22,12 @@ use Rattle.kfifo_machine.specs.declared.place.Access.TheVariants.{Load, Exchange
 use Rattle.kfifo_machine.specs.declared.place.Next.{Next}
 use Rattle.kfifo_machine.specs.declared.place.Next.TheVariants.{Goes, Answers}
 use Rattle.kfifo_machine.specs.Program.{access, accessed, advance}
-use Rattle.kfifo_machine.specs.Machine.{World, opening, word_at, place_of, place_after, outcome_of, moved, ticked, found, begun, may_begin, step, world_of, run, after}
+use Rattle.kfifo_machine.specs.Machine.{World, opening, word_at, place_of, place_after, outcome_of, moved, ticked, found, begun, may_begin, step, world_of, run}
 use Rattle.kfifo_machine.specs.Runs.{going}
 use Rattle.kfifo_machine.specs.Places.{IsEnds, IsPlace}
-use Rattle.kfifo_machine.specs.Floor.{NoOverlap, done_with, got_with, counts, answers, Floor}
+use Rattle.kfifo_machine.specs.Floor.{NoOverlap, done_with, got_with, answers, Floor}
 use Rattle.kfifo_machine.proofs.Places.{in_table}
-use Rattle.kfifo_machine.proofs.Schedules.{Some-injective, first_made, made_within, stepped, StepsFrom, Ticks, other_place}
+use Rattle.kfifo_machine.proofs.Schedules.{Some-injective, first_made, made_within, stepped, other_place}
 use Rattle.kfifo_machine.proofs.Sound.{IsSound, going_place, place_is, step_sound, opening_sound}
 use Rattle.kfifo_machine.proofs.Versions.{ticked-other, no_going_tick}
 use Rattle.kfifo_machine.proofs.Budget.{own_place, tick_leaves}
@@ -35,7 +35,7 @@ use Rattle.kfifo_machine.proofs.Calls.{may_begun}
 use Rattle.kfifo_machine.proofs.Quiet.{words_by}
 use Rattle.kfifo_machine.proofs.Losses.{word-moved}
 use Rattle.kfifo_machine.proofs.Undisturbed.{sound-ends, found-is}
-use Rattle.kfifo_machine.proofs.Counting.{Rests, Keeps, After, Sees, distance-same}
+use Rattle.kfifo_machine.proofs.Counting.{Rests, Keeps, After, distance-same}
 use Rattle.kfifo_machine.proofs.Filled.{holds, holds-empty, filled_from}
 use Rattle.kfifo_machine.proofs.Paths.{answered}
 use Rattle.kfifo_machine.proofs.Lone.{lone_step}
@@ -49,9 +49,9 @@ view-below shape here i below = grind (arith, nat_tests)
 
 view-ticked : (shape : Shape) (here : World) → view shape (ticked shape here) ≡ view shape here
 view-ticked shape here = fun_ext (λ i. elim (cases_Bool (nat_lt i (clock_at shape.k shape.n))) [
-    inl e ↦ rw e (ticked-other shape here i (λ same. absurd (apart i e same)))
+  | inl e ↦ rw e (ticked-other shape here i (λ same. absurd (apart i e same)))
   | inr e ↦ rw e refl
-  ])
+])
   where
     apart : (i : ℕ) → nat_lt i (clock_at shape.k shape.n) ≡ true → i ≡ clock_at shape.k shape.n → ⊥
     apart i e same = grind (arith, nat_tests)
@@ -65,8 +65,10 @@ by_view (Exchange index from to) w v clock i b e below same =
   where
     low : (j : ℕ) → j < clock → ◌≡◌ {A = ℕ} (cond (nat_lt j clock) (w j) 0) (w j)
     low j less = grind (arith, nat_tests)
+
     past : i ≡ index → nat_lt i clock ≡ false → ⊥
     past same_i e = grind (arith, nat_tests)
+
     go : (b : Bool) → nat_lt i clock ≡ b → v index ≡ w index → v i ≡ cond b (w i) 0
         → cond b (cond (eqb (w index) from) (cond (eqb i index) to (w i)) (w i)) 0 ≡ cond (eqb (v index) from) (cond (eqb i index) to (v i)) (v i)
     go true e at here = rw (at, here) refl
@@ -76,7 +78,7 @@ view-moved : (shape : Shape) (here : World) (thread : ℕ) (running : Running) �
 view-moved shape here thread running sound place =
     let below : accessed (access shape running) < clock_at shape.k shape.n = in_table shape running place in
     fun_ext (λ i. ap (λ x. cond (nat_lt i (clock_at shape.k shape.n)) x 0) (word-moved shape here thread running i sound place)
-      ∙ by_view (access shape running) (word_at here) (view shape here) (clock_at shape.k shape.n) i (nat_lt i (clock_at shape.k shape.n)) refl below (λ j. refl))
+    ∙ by_view (access shape running) (word_at here) (view shape here) (clock_at shape.k shape.n) i (nat_lt i (clock_at shape.k shape.n)) refl below (λ j. refl))
 
 -- one thread at most is in a call
 pub data Lone (shape : Shape) (here : World) (done got : ℕ) : Type 0 where
@@ -103,8 +105,8 @@ keeping : (shape : Shape) (here : World) (thread : ℕ) (begin : Option Begin) (
 keeping shape here thread begin running done got others goes (Idles idle r) = from_idle shape (view shape here) done got (place_of here thread) begin running (idle thread) goes r
 keeping shape here thread begin running done got others goes (Calls_one t old at rest k) =
     elim (cases_eq t thread) [
-      inl mine ↦ subst (λ x. Keeps shape (view shape here) x done got) (from_call shape (place_of here thread) begin old running (ap (place_of here) (sym mine) ∙ at) goes) k
-    | inr ne ↦ absurd (let h : None ≡ Some old = sym (others t ne) ∙ at in cc)
+      | inl mine ↦ subst (λ x. Keeps shape (view shape here) x done got) (from_call shape (place_of here thread) begin old running (ap (place_of here) (sym mine) ∙ at) goes) k
+      | inr ne ↦ absurd (let h : None ≡ Some old = sym (others t ne) ∙ at in cc)
     ]
 
 all_idle : (here : World) (thread : ℕ) → place_of here thread ≡ None → ((t : ℕ) → t ≢ thread → place_of here t ≡ None) → (t : ℕ) → place_of here t ≡ None
@@ -137,23 +139,25 @@ step_lone : (shape : Shape) (here next : World) (e : Event) (outcome : Outcome) 
     → (e.begin ≢ Some B.Tick → (t : ℕ) → t ≢ e.thread → place_of here t ≡ None) → Lone shape here done got → Lone shape next (done + done_with outcome) (got + got_with outcome)
 step_lone shape here next e outcome done got sound made alone lone =
     elim (stepped shape here e next outcome made) [
-      inl s ↦
-        let others : (t : ℕ) → t ≢ e.thread → place_of here t ≡ None = alone (λ tick. no_going_tick shape (place_of here e.thread) e.begin s.running tick s.goes) in
-        let n : Next = advance shape s.running (found shape here s.running) in
-        let at : place_of next e.thread ≡ place_after (advance shape s.running (found shape here s.running)) =
+      | inl s ↦
+          let others : (t : ℕ) → t ≢ e.thread → place_of here t ≡ None = alone (λ tick. no_going_tick shape (place_of here e.thread) e.begin s.running tick s.goes) in
+          let n : Next = advance shape s.running (found shape here s.running) in
+          let at : place_of next e.thread ≡ place_after (advance shape s.running (found shape here s.running)) =
           ap (λ (w : World). place_of w e.thread) s.there_is ∙ own_place shape here e.thread s.running (made_within shape here e next outcome made) in
-        subst (λ (o : Outcome). Lone shape next (done + done_with o) (got + got_with o)) (sym s.outcome_is)
+          subst (λ (o : Outcome). Lone shape next (done + done_with o) (got + got_with o)) (sym s.outcome_is)
           (after_lone shape next e.thread done got (advance shape s.running (found shape here s.running)) at (λ t ne. other_place shape here e next outcome t ne made ∙ others t ne)
-            (moved_lone shape here next e outcome s.running done got sound made s.there_is s.goes others lone))
-    | inr t ↦
-        subst (λ (o : Outcome). Lone shape next (done + done_with o) (got + got_with o)) (sym t.outcome_is)
+          (moved_lone shape here next e outcome s.running done got sound made s.there_is s.goes others lone))
+      | inr t ↦
+          subst (λ (o : Outcome). Lone shape next (done + done_with o) (got + got_with o)) (sym t.outcome_is)
           (subst (λ (w : World). Lone shape w (done + 0) (got + 0)) (sym t.there_is) (ticked_lone shape here done got lone))
     ]
   where
     kept_rests : (shape : Shape) (w : ℕ → ℕ) (done got : ℕ) → Rests shape w done got → Rests shape w (done + 0) (got + 0)
     kept_rests shape w done got r = record { between = r.between; items = (let c = r.items in omega arith) }
+
     kept : (shape : Shape) (w : ℕ → ℕ) (running : Running) (done got : ℕ) → Keeps shape w running done got → Keeps shape w running (done + 0) (got + 0)
     kept shape w running done got k = record { sees = k.sees; between = k.between; items = (let c = k.items in omega arith) }
+
     ticked_lone : (shape : Shape) (here : World) (done got : ℕ) → Lone shape here done got → Lone shape (ticked shape here) (done + 0) (got + 0)
     ticked_lone shape here done got (Idles idle r) = Idles (λ t. tick_leaves shape here t ∙ idle t) (subst (λ (w : ℕ → ℕ). Rests shape w (done + 0) (got + 0)) (sym (view-ticked shape here)) (kept_rests shape (view shape here) done got r))
     ticked_lone shape here done got (Calls_one t running at rest k) =
@@ -166,10 +170,11 @@ lone_counts shape v w a b c d lone world ea eb = rw (← world, ← ea, ← eb) 
 run_lone : (shape : Shape) (here there : World) (events : List Event) (last : Event) (done got : ℕ) → IsSound shape here → run shape (Some here) events ≡ Some there → NoOverlap shape (Some here) (events ++ last ∷ []) → Lone shape here done got
     → Lone shape there (done + answers shape done_with (Some here) events) (got + answers shape got_with (Some here) events) × (last.begin ≢ Some B.Tick → (t : ℕ) → t ≢ last.thread → place_of there t ≡ None) × IsSound shape there
 run_lone shape here there [] last done got sound is alone lone =
-    let same : here ≡ there = Some-injective here there is in
-    (lone_counts shape here there done got (done + 0) (got + 0) lone same (omega arith) (omega arith),
-     subst (λ (w : World). last.begin ≢ Some B.Tick → (t : ℕ) → t ≢ last.thread → place_of w t ≡ None) same alone.0,
-     subst (IsSound shape) same sound)
+    let same : here ≡ there = Some-injective here there is in (
+      lone_counts shape here there done got (done + 0) (got + 0) lone same (omega arith) (omega arith),
+      subst (λ (w : World). last.begin ≢ Some B.Tick → (t : ℕ) → t ≢ last.thread → place_of w t ≡ None) same alone.0,
+      subst (IsSound shape) same sound,
+    )
 run_lone shape here there (e ∷ es) last done got sound is alone lone =
     let m = first_made shape here e there es is in
     let next : Lone shape m.0 (done + done_with m.1.0) (got + got_with m.1.0) = step_lone shape here m.0 e m.1.0 done got sound m.1.1.0 alone.0 lone in
@@ -226,11 +231,11 @@ at_full : (shape : Shape) (here : World) (e : Event) (next : World) (done got : 
     → (e.begin ≢ Some B.Tick → (t : ℕ) → t ≢ e.thread → place_of here t ≡ None) → Lone shape here done got → got + (shape.n - 1) * shape.probes < done
 at_full shape here e next done got sound made alone lone =
     elim (stepped shape here e next (Ended A.Full) made) [
-      inl s ↦
-        let others : (t : ℕ) → t ≢ e.thread → place_of here t ≡ None = alone (λ tick. no_going_tick shape (place_of here e.thread) e.begin s.running tick s.goes) in
-        let full : advance shape s.running (found shape here s.running) ≡ Answers A.Full = answered (advance shape s.running (found shape here s.running)) A.Full s.outcome_is in
-        (subst (After shape (view shape next) done got) full (moved_lone shape here next e (Ended A.Full) s.running done got sound made s.there_is s.goes others lone)).1
-    | inr t ↦ absurd (let h : Ended A.Full ≡ Went = t.outcome_is in cc)
+      | inl s ↦
+          let others : (t : ℕ) → t ≢ e.thread → place_of here t ≡ None = alone (λ tick. no_going_tick shape (place_of here e.thread) e.begin s.running tick s.goes) in
+          let full : advance shape s.running (found shape here s.running) ≡ Answers A.Full = answered (advance shape s.running (found shape here s.running)) A.Full s.outcome_is in
+          (subst (After shape (view shape next) done got) full (moved_lone shape here next e (Ended A.Full) s.running done got sound made s.there_is s.goes others lone)).1
+      | inr t ↦ absurd (let h : Ended A.Full ≡ Went = t.outcome_is in cc)
     ]
 
 opening_lone : (shape : Shape) (threads : ℕ) → Lone shape (opening shape threads) 0 0
@@ -239,7 +244,7 @@ opening_lone shape threads =
     let sound_at : IsEnds shape (view shape (opening shape threads) 0) = subst (IsEnds shape) (sym (view-below shape (opening shape threads) 0 (omega arith))) (sound-ends shape (opening shape threads) (opening_sound shape threads)) in
     Idles (opening-place shape threads) (record {
       between = λ s s_in above below. absurd (let d : distance shape.n (head_of (view shape (opening shape threads) 0)) (tail_of (view shape (opening shape threads) 0)) ≡ 0 =
-        ap (λ x. distance shape.n (head_of x) (tail_of x)) zero_ends ∙ zero_distance shape in omega arith);
+          ap (λ x. distance shape.n (head_of x) (tail_of x)) zero_ends ∙ zero_distance shape in omega arith);
       items = (let z = none_filled (view shape (opening shape threads)) 1 (shape.n * shape.k) (opening_view shape threads) in omega arith);
     })
 
@@ -248,5 +253,5 @@ pub floor_holds : (shape : Shape) (threads : ℕ) → Floor shape threads
 floor_holds shape threads = λ events last here world is alone full.
     let k = run_lone shape (opening shape threads) here events last 0 0 (opening_sound shape threads) is alone (opening_lone shape threads) in
     let more : (0 + answers shape got_with (Some (opening shape threads)) events) + (shape.n - 1) * shape.probes < 0 + answers shape done_with (Some (opening shape threads)) events =
-      at_full shape here last world (0 + answers shape done_with (Some (opening shape threads)) events) (0 + answers shape got_with (Some (opening shape threads)) events) k.2 full k.1 k.0 in
+    at_full shape here last world (0 + answers shape done_with (Some (opening shape threads)) events) (0 + answers shape got_with (Some (opening shape threads)) events) k.2 full k.1 k.0 in
     omega arith
