@@ -138,7 +138,7 @@ fn work(
         let start = draw(&mut seed, 64) % k;
         let turns = if draw(&mut seed, 4) == 0 { 1 } else { 100 };
         let (op, begin) = if draw(&mut seed, 9) < 5 {
-            let item = ((thread << 20) | number) + 1;
+            let item = (thread << 20).wrapping_add(number).wrapping_add(1);
             (Op::Enqueue(item), enqueue(item, start, turns))
         } else {
             (Op::Dequeue, dequeue(start, turns))
