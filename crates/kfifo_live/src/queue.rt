@@ -1,6 +1,9 @@
 //! A running queue and its passes.
 ghost use Rattle.std.specs.Prelude.{◌≡◌, ◌<◌, ◌≤◌, ◌+◌, ◌*◌, ◌^◌};
 ghost use Rattle.kfifo_machine.specs.Runs.{WholeRun};
+ghost use Rattle.kfifo_machine.specs.Laws.{FewEvents, LeavesNone};
+ghost use Rattle.kfifo_machine.specs.Causes.{FullHasCause, WornHasCause};
+ghost use Rattle.kfifo_machine.specs.Rounds.{BusyHasCause, BusyIsDisturbed};
 ghost use Rattle.kfifo_machine.specs.declared.event.Begin.TheVariants.{Enqueue, Dequeue};
 ghost use Rattle.kfifo_live.specs.Schedule.{opening};
 ghost use Rattle.kfifo_live.specs.Pass.{OpenQueue, Known, queue_of, known_of, IsPass, IsOf, IsSame, Finds};
@@ -74,7 +77,9 @@ impl Pass {
     /// where each of `turns` rounds, at least 1, was lost, or Worn where a version would pass the
     /// greatest one. After Full, Busy and Worn the item is not in the queue and never comes out.
     /// What the pass has seen grows by events of others and by one whole run of the call, the last
-    /// event being its own. It never allocates, waits or locks.
+    /// event being its own; the laws of such runs stand beside it: how many events of its own a call
+    /// has at most, and what a call saw that was answered Full, Worn or Busy. Busy after n + 2 rounds
+    /// or more is another thread's doing. It never allocates, waits or locks.
     pub fn enqueue(&mut self, queue: &Queue, item: u32, start: u32, turns: u16) -> Answer
         requires of { IsOf queue.now self.old }
         requires item { (1 ≤ item) × (item < 2 ^ 24) }
@@ -82,6 +87,12 @@ impl Pass {
         requires turns { 1 ≤ turns }
         ensures same { IsSame self.old self.new }
         ensures run { WholeRun self.old.opened.shape self.old.opened.threads self.old.thread (Enqueue item start turns) result self.old.seen self.new.seen }
+        ensures few_events { FewEvents self.old.opened.shape self.old.opened.threads }
+        ensures leaves_none { LeavesNone self.old.opened.shape self.old.opened.threads }
+        ensures full_has_cause { FullHasCause self.old.opened.shape self.old.opened.threads }
+        ensures worn_has_cause { WornHasCause self.old.opened.shape self.old.opened.threads }
+        ensures busy_has_cause { BusyHasCause self.old.opened.shape self.old.opened.threads }
+        ensures busy_is_disturbed { BusyIsDisturbed self.old.opened.shape self.old.opened.threads }
     {
         enqueue::enqueue(
             &queue.table.shared,
@@ -98,13 +109,18 @@ impl Pass {
     /// Scans begin at slot `start`, below k. Answers Got with the item, Empty where the queue was
     /// empty, Busy where each of `turns` rounds, at least 1, was lost, or Worn where a version would
     /// pass the greatest one. What the pass has seen grows by events of others and by one whole run
-    /// of the call, the last event being its own. It never allocates, waits or locks.
+    /// of the call, the last event being its own; the laws of such runs stand beside it, as at
+    /// `enqueue`. It never allocates, waits or locks.
     pub fn dequeue(&mut self, queue: &Queue, start: u32, turns: u16) -> Answer
         requires of { IsOf queue.now self.old }
         requires start { start < queue.now.opened.shape.k }
         requires turns { 1 ≤ turns }
         ensures same { IsSame self.old self.new }
         ensures run { WholeRun self.old.opened.shape self.old.opened.threads self.old.thread (Dequeue start turns) result self.old.seen self.new.seen }
+        ensures few_events { FewEvents self.old.opened.shape self.old.opened.threads }
+        ensures worn_has_cause { WornHasCause self.old.opened.shape self.old.opened.threads }
+        ensures busy_has_cause { BusyHasCause self.old.opened.shape self.old.opened.threads }
+        ensures busy_is_disturbed { BusyIsDisturbed self.old.opened.shape self.old.opened.threads }
     {
         dequeue::dequeue(
             &queue.table.shared,
