@@ -89,7 +89,7 @@ in_history h m c f s =
       | inr le ↦ (let P : Call → Type 0 = λ w. CanStand w.end w.op in absurd (subst P (get_or_past h c no_call le) (f.can_stand c s)))
     ]
 
-pub is_by_point : (h : List Call) (m : Marks) (steps : ℕ) → StandsFit h m → ((c : ℕ) → m.stands c ≡ true → m.point c < steps) → IsByPoint m (by_point m steps h)
+pub is_by_point : (h : List Call) (m : Marks) (steps : ℕ) → StandsFit h m → ((c : ℕ) → m.stands c ≡ true → m.point c < steps) → IsByPoint m (by_point m.stands m.point steps h)
 is_by_point h m steps f below = record {
   sorted = steps_sorted m h 0 steps;
   only = λ c i. (in_steps m h 0 steps c i).0;

@@ -73,6 +73,6 @@ pub record StandsFit (h : List Call) (m : Marks) : Type 0 where
   pub point_from : (c : ℕ) → m.stands c ≡ true → (call h c).first ≤ m.point c
   pub point_to : (c : ℕ) → m.stands c ≡ true → IsNoLater (m.point c) (call h c).end
 
--- The calls of the first steps, step by step, those of one step by number.
-abbrev pub by_point : Marks → ℕ → List Call → List ℕ
-by_point m steps h = flat_map (λ p. filter (λ c. m.stands c && eqb (m.point c) p) (numbers_of h)) (range_with_len 0 steps)
+-- The calls that stand with their points among the first steps, step by step, those of one step by number.
+abbrev pub by_point : (ℕ → Bool) → (ℕ → ℕ) → ℕ → List Call → List ℕ
+by_point stands point steps h = flat_map (λ p. filter (λ c. stands c && eqb (point c) p) (numbers_of h)) (range_with_len 0 steps)

@@ -1,0 +1,5 @@
+use Rattle.kfifo_linear.proofs.Schedule.{points_hold, has_legal_order, few_overtake, few_certainly}
+use Rattle.kfifo_linear.proofs.every_schedule_has_a_legal_order.Goals as goal
+
+pub returns : goal.returns
+returns c = record { points = points_hold; legal = has_legal_order; overtaken = few_overtake; certainly = few_certainly }
