@@ -315,7 +315,10 @@ module _ (shape : Shape) (w : ℕ → ℕ) (l : Ledger) (t : ℕ) (r : Running) 
           | inr ge ↦ omega (arith, h.at_tail.past, ch.heads_new v ge z)
         ];
         started = first_stays c p h.started;
-        ended = ended_stays c p h.at_tail.past h.ended;
+        ended = λ e f. elim (old_last c) [
+          | inl k ↦ h.ended e (sym k ∙ f)
+          | inr k ↦ absurd (false≢true (sym (ap is_some (ap l.answer k.1 ∙ me.unanswered)) ∙ h.finished))
+        ];
         finished = answer_kept c h.finished;
         none_gone = λ d i u q e z. elim (standing_gone d i u q e) [
           | inl k ↦ h.none_gone d i u q k z
@@ -351,7 +354,7 @@ module _ (shape : Shape) (w : ℕ → ℕ) (l : Ledger) (t : ℕ) (r : Running) 
         started = first_stays (l.caller t) l.now me.started;
         ended = λ e g. elim (old_last (l.caller t)) [
           | inl k ↦ absurd (none-some e (sym me.unended ∙ sym k ∙ g))
-          | inr k ↦ let z : l.now ≡ e = same_Some l.now e (sym k.0 ∙ g) in omega arith
+          | inr k ↦ same_Some l.now e (sym k.0 ∙ g)
         ];
         finished = stands_answer st same;
         none_gone = λ d i u q e z.

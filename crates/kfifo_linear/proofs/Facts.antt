@@ -51,6 +51,8 @@ pub record Facts (shape : Shape) (l : Ledger) : Type 0 where
   -- an Empty has its place where head and tail are in one visit, and each item whose place is not later is of an earlier visit
   pub none_tail : (c v p : ℕ) → Stands l c (Finds_none v) p → AtTail l v p × HeadAt l v p
   pub none_before : (c v p d u i q : ℕ) → Stands l c (Finds_none v) p → Stands l d (Puts u i) q → q ≤ p → u < v
+  -- and that place is its last step
+  pub none_last : (c v p e : ℕ) → Stands l c (Finds_none v) p → l.last c ≡ Some e → p ≡ e
   -- each place is between its call's first and last step
   pub within : (c : ℕ) (s : Spot) → spot l c ≡ Some s → (l.first c ≤ s.point) × ((e : ℕ) → l.last c ≡ Some e → s.point ≤ e) × (s.point < l.now)
   -- no two dequeues get one item
@@ -159,7 +161,7 @@ module _ (shape : Shape) (w : ℕ → ℕ) (p : ℕ → Option Running) (l : Led
       rw (← (same_Some (record { role = Gets o v; point = q }) s e)) (g.started, g.ended, g.at_head.past)
   within_of c (Stood v q) s k e =
       let g : StoodOk shape l c v q = inv.calls.stood c v q k in
-      rw (← (same_Some (record { role = Finds_none v; point = q }) s e)) (g.started, g.ended, g.at_tail.past)
+      rw (← (same_Some (record { role = Finds_none v; point = q }) s e)) (g.started, (λ y z. omega (arith, g.ended y z)), g.at_tail.past)
 
   refused : (c : ℕ) (x : Answer) → RoleAnswers (λ o. item_of (l.begin o)) x Refused → l.standing c ≡ Outside → l.answer c ≡ Some x → (s : Spot) × (spot l c ≡ Some s) × RoleAnswers (λ o. item_of (l.begin o)) x s.role
   refused c x h k e =
@@ -231,6 +233,7 @@ module _ (shape : Shape) (w : ℕ → ℕ) (p : ℕ → Option Running) (l : Led
               | inl k ↦ s.none_gone d i u x k z
               | inr k ↦ absurd (omega (arith, s.none_settled i (slot_of d i k.0).is_slot k.1, k.3, z))
             ];
+        none_last = λ c v q x e f. (inv.calls.stood c v q (none_standing l c v q e)).ended x f;
         within = λ c s e. within_of c (l.standing c) s refl e;
         once = λ c d o v q u x e f. inv.calls.once c d o v q u x (gets_standing l c o v q e) (gets_standing l d o u x f);
         finished = λ c x e. finished_of c x (l.standing c) refl e (inv.calls.answered c x e);

@@ -180,7 +180,7 @@ pub record StoodOk (shape : Shape) (l : Ledger) (c v p : ℕ) : Type 0 where
   pub head_after : 0 < v → l.heads (v - 1) < p
   pub head_before : v < l.a → p ≤ l.heads v
   pub started : l.first c ≤ p
-  pub ended : (e : ℕ) → l.last c ≡ Some e → p ≤ e
+  pub ended : (e : ℕ) → l.last c ≡ Some e → p ≡ e
   pub finished : is_some (l.answer c) ≡ true
   pub none_gone : (d i u q : ℕ) → l.standing d ≡ Gone i u q → q ≤ p → u < v
   pub none_settled : (i : ℕ) → IsSlotIndex shape i → l.settled i ≡ true → p < l.point i

@@ -16,6 +16,7 @@ use Rattle.kfifo_linear.proofs.Ring.{ends_word-above, slot_word-above}
 use Rattle.kfifo_linear.proofs.Slots.{MovesHead, back, back-below, emptied-value, moves_head, scan_index-back}
 use Rattle.kfifo_linear.proofs.Threads.{goes_at}
 use Rattle.kfifo_linear.proofs.Whole.{inv_begin, inv_opening, inv_step, inv_table, inv_tick, ticked_word}
+use Rattle.kfifo_linear.specs.Headline.{TakesInTime}
 use Rattle.kfifo_linear.specs.Ledger.{Ledger, blank, called, found_in, ledger_of, noted, stepped}
 use Rattle.kfifo_machine.proofs.NoWrap.{EndsOk}
 use Rattle.kfifo_machine.proofs.Versions.{next_segment-below}
@@ -248,11 +249,9 @@ module _ (shape : Shape) where
       (record { size = opening_size shape threads; holds = both_opening threads })
       e).holds
 
-  -- where a take would be won, the last 2n visits of head and tail have both places
-  pub late_take : (threads : ℕ) (events : List Event) (final : World) → run shape (Some (opening shape threads)) events ≡ Some final → (t start left ends index filled : ℕ) → place_of final t ≡ Some (R.Dequeue start left (D.Take ends index filled)) → word_at final index ≡ filled
-      → ((ledger_of shape (Some (opening shape threads)) events blank).a ≤ (ledger_of shape (Some (opening shape threads)) events blank).head_seen t + shape.n)
-      × (suc (ledger_of shape (Some (opening shape threads)) events blank).b ≤ (ledger_of shape (Some (opening shape threads)) events blank).head_seen t + 2 * shape.n)
-  late_take threads events final e t start left ends index filled f g =
-      let k = both threads events final e in
-      let c = (k.late.chosen t (R.Dequeue start left (D.Take ends index filled)) f).near g in
+  -- where a take would be won, the last 2n visits of head and tail have both points
+  pub late_take : (threads : ℕ) → TakesInTime shape threads
+  late_take threads events here is t start left ends index filled at same =
+      let k = both threads events here is in
+      let c = (k.late.chosen t (R.Dequeue start left (D.Take ends index filled)) at).near same in
       (c, omega (arith, c, k.inv.base.ends.no_wrap))

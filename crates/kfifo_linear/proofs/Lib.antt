@@ -16,4 +16,5 @@ pub mod Agrees
 pub mod Numbers
 pub mod Acts
 pub mod Marks
+pub mod Laws
 pub mod Schedule

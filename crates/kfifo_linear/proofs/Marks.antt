@@ -9,7 +9,7 @@ use Rattle.kfifo_model.specs.declared.calls.Answer.{Answer}
 use Rattle.kfifo_model.specs.declared.calls.End.{End}
 use Rattle.kfifo_model.specs.Relaxed as M
 use Rattle.kfifo_model.specs.Relaxed.{Effect}
-use Rattle.kfifo_model.specs.Histories.{call, does}
+use Rattle.kfifo_model.specs.Histories.{call, does, HasEnd}
 use Rattle.kfifo_model.specs.Validity.{IsHistory}
 use Rattle.kfifo_machine.specs.declared.place.Running.{Running}
 use Rattle.kfifo_machine.specs.Calls.{Log}
@@ -249,6 +249,16 @@ module _ (shape : Shape) (w : ℕ → ℕ) (p : ℕ → Option Running) (log : L
             let q : point l c ≡ s.0.point = ap point_of s.1 in
             no_later (point l c) c (call log.calls c).end (λ e is. rw q ((facts.within c s.0 s.1).1 e.last (end_last (l.last c) (l.answer c) e (sym (h.each c less).end ∙ is))));
       }
+
+-- a call that found none has its point at its last step
+pub none_at_end : (shape : Shape) (w : ℕ → ℕ) (p : ℕ → Option Running) (log : Log) (l : Ledger) (place : ℕ) → Inv shape w p l → Facts shape l → Agrees log l place → IsHistory log.calls
+    → (c : ℕ) (end : End) → does log.calls c ≡ M.Finds_none → (call log.calls c).end ≡ Some end → point l c ≡ end.last
+none_at_end shape w p log l place inv facts h good c end is at =
+    let s = finished_stands shape w p log l place inv facts h good c (subst HasEnd (sym at) tt) in
+    let less = known shape w p log l place inv facts h good c s.0 s.1 in
+    let none = none_of shape w p log l place inv facts h good c (ap is_some s.1) is in
+    let last : l.last c ≡ Some end.last = end_last (l.last c) (l.answer c) end (sym (h.each c less).end ∙ at) in
+    ap point_of none.stands ∙ facts.none_last c none.visit none.point end.last none.stands last
 
 -- the points are steps of the schedule
 pub points_below : (shape : Shape) (l : Ledger) → Facts shape l → (c : ℕ) → stands l c ≡ true → point l c < l.now

@@ -16,12 +16,13 @@ use Rattle.kfifo_machine.proofs.Calls.{history_is}
 use Rattle.kfifo_linear.specs.Ledger.{blank}
 use Rattle.kfifo_linear.specs.Points.{IsByPoint}
 use Rattle.kfifo_linear.specs.Order.{ledger_after_all, marks_of, order_of}
-use Rattle.kfifo_linear.specs.Headline.{HasLegalOrder, FewOvertake, FewCertainlyOvertake, PointsHold}
+use Rattle.kfifo_linear.specs.Headline.{HasLegalOrder, FewOvertake, FewCertainlyOvertake, PointsHold, LawsHold}
+use Rattle.kfifo_linear.proofs.Laws.{laws_from}
 use Rattle.kfifo_linear.proofs.Base.{opening_size, get_or_replicate}
 use Rattle.kfifo_linear.proofs.Whole.{inv_opening, invariant}
 use Rattle.kfifo_linear.proofs.Facts.{facts_after}
 use Rattle.kfifo_linear.proofs.Agrees.{Agrees, InvAt, agree_all}
-use Rattle.kfifo_linear.proofs.Marks.{points_fit, stands_fit, points_below}
+use Rattle.kfifo_linear.proofs.Marks.{points_fit, stands_fit, points_below, none_at_end}
 use Rattle.kfifo_linear.proofs.Orders.{is_by_point, legal_by_point}
 use Rattle.kfifo_linear.proofs.Bounds.{overtaken_in_order, certainly_overtaken_below}
 
@@ -87,3 +88,9 @@ module _ (shape : Shape) (threads : ℕ) (few : threads ≤ 64) where
       let hold = points_hold events here is in
       let d = done_finished (call (history_of shape threads events) c).op (call (history_of shape threads events) c).end done in
       certainly_overtaken_below shape.k (history_of shape threads events) (marks_of shape (ledger_after_all shape threads events)) c d.1.0 hold.0 hold.1 distinct.0 d.0 d.1.1
+
+  pub laws_hold : LawsHold shape threads
+  laws_hold events here is =
+      let hold = points_hold events here is in
+      laws_from shape.k (history_of shape threads events) (marks_of shape (ledger_after_all shape threads events)) hold.0 hold.1
+      (none_at_end shape (word_at here) (place_of here) (log_of shape threads events) (ledger_after_all shape threads events) (length events) (invariant shape threads events here is) (facts_after shape threads events here is) (agreed shape threads events here is) (history_is shape threads events here few is))
