@@ -170,7 +170,7 @@ took_started l t n rd =
 
 module _ (shape : Shape) (w : ℕ → ℕ) (l : Ledger) (t : ℕ) (r : Running) (s : Sane shape r) (ok : EndsOk shape (w 0) l.a l.b) (me : ThreadOk shape w l t r) (times : Times l) (all : Slots shape w l) where
   -- whose item was taken before, or is now
-  standing_gone : (c i v p : ℕ) → (stepped shape w t r l).standing c ≡ Gone i v p → (l.standing c ≡ Gone i v p) ⊎ (Takes shape w l (stepped shape w t r l) t i × IsSlotIndex shape i × (c ≡ l.owner i) × (v ≡ l.head_seen t) × (p ≡ gone_point l i v))
+  pub standing_gone : (c i v p : ℕ) → (stepped shape w t r l).standing c ≡ Gone i v p → (l.standing c ≡ Gone i v p) ⊎ (Takes shape w l (stepped shape w t r l) t i × IsSlotIndex shape i × (c ≡ l.owner i) × (v ≡ l.head_seen t) × (p ≡ gone_point l i v))
   unfolding stepped
   standing_gone c i v p e = let f = me.fresh in let g = me.target in let rd = me.round in grind (arith, nat_tests, noted_tells)
 

@@ -1,11 +1,11 @@
 -- The laws of the calls in an order, from the facts about their points.
-use Rattle.std.proofs.Common.{◌≡◌, ℕ, ◌<◌, ◌≤◌, true, List, Option, Some, sym, ap, ◌∙◌, subst, inl, inr, arith}
+use Rattle.std.proofs.Common.{◌≡◌, ℕ, ◌≤◌, true, List, Some, sym, ap, ◌∙◌, subst, inl, inr, arith}
 use Rattle.std.proofs.lemmas.Bool.{cases_lt}
 use Rattle.kfifo_model.specs.declared.calls.Call.{Call}
 use Rattle.kfifo_model.specs.declared.calls.End.{End}
-use Rattle.kfifo_model.specs.Relaxed.{Adds, Takes, Finds_none}
+use Rattle.kfifo_model.specs.Relaxed.{Finds_none}
 use Rattle.kfifo_model.specs.Histories.{call, does, HasEnd}
-use Rattle.kfifo_linear.specs.Points.{Marks, PointsFit, StandsFit, IsAdd, IsTakeOf, IsNoLater}
+use Rattle.kfifo_linear.specs.Points.{Marks, PointsFit, StandsFit, IsNoLater}
 use Rattle.kfifo_linear.specs.Headline.{OrderLaws}
 
 module _ (k : ℕ) (h : List Call) (m : Marks) (f : PointsFit k (does h) m) (s : StandsFit h m) where

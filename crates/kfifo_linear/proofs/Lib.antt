@@ -16,5 +16,6 @@ pub mod Agrees
 pub mod Numbers
 pub mod Acts
 pub mod Marks
+pub mod Checked
 pub mod Laws
 pub mod Schedule

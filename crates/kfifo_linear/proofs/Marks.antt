@@ -92,7 +92,7 @@ module _ (shape : Shape) (w : ℕ → ℕ) (p : ℕ → Option Running) (log : L
   acts_of : (c : ℕ) (s : Spot) → spot l c ≡ Some s → (e : Effect) → does log.calls c ≡ e → Acts (λ o. item_of (l.begin o)) (item_of (l.begin c)) s.role e
   acts_of c s at e is = subst (Acts (λ o. item_of (l.begin o)) (item_of (l.begin c)) s.role) is (acts shape w p log l place inv facts h good c s at)
 
-  put_of : (c x : ℕ) → stands l c ≡ true → does log.calls c ≡ M.Adds x → Put l c
+  pub put_of : (c x : ℕ) → stands l c ≡ true → does log.calls c ≡ M.Adds x → Put l c
   put_of c x st is =
       let s = spot_is (spot l c) st in
       let r = adds_put (λ o. item_of (l.begin o)) (item_of (l.begin c)) s.0.role x (acts_of c s.0 s.1 (M.Adds x) is) in
@@ -140,7 +140,7 @@ module _ (shape : Shape) (w : ℕ → ℕ) (p : ℕ → Option Running) (log : L
   source_is : (g x : ℕ) (got : Get l g x) → (marks_of shape l).source g ≡ got.source
   source_is g x got = ap source_of (at_role g got.point (Gets got.source got.visit) got.stands)
 
-  visit_is : (c v i q : ℕ) → Stands l c (Puts v i) q → (marks_of shape l).visit c ≡ v
+  pub visit_is : (c v i q : ℕ) → Stands l c (Puts v i) q → (marks_of shape l).visit c ≡ v
   visit_is c v i q st = ap visit_of (at_role c q (Puts v i) st)
 
   slot_is : (c v i q : ℕ) → Stands l c (Puts v i) q → (marks_of shape l).slot c ≡ (i - 1) % shape.k

@@ -74,3 +74,12 @@ number_past steps (suc n) v p below lt =
             | inr ne ↦ rw e (number_past steps n v p (omega arith) lt)
           ]
     ]
+
+-- where only steps below v come before p, no more than v do
+pub number_within : (steps : ℕ → ℕ) (n v p : ℕ) → ((x : ℕ) → x < n → steps x < p → x < v) → number_at steps n p ≤ v
+number_within steps zero v p held = omega arith
+number_within steps (suc n) v p held =
+    elim (cases_Bool (ltb (steps n) p)) [
+      | inl e ↦ let last : n < v = held n (omega arith) (ltb-true (steps n) p e) in rw e (omega arith)
+      | inr e ↦ rw e (number_within steps n v p (λ x below lt. held x (omega arith) lt))
+    ]

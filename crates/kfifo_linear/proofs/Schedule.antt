@@ -16,13 +16,14 @@ use Rattle.kfifo_machine.proofs.Calls.{history_is}
 use Rattle.kfifo_linear.specs.Ledger.{blank}
 use Rattle.kfifo_linear.specs.Points.{IsByPoint}
 use Rattle.kfifo_linear.specs.Order.{ledger_after_all, marks_of, order_of}
-use Rattle.kfifo_linear.specs.Headline.{HasLegalOrder, FewOvertake, FewCertainlyOvertake, PointsHold, LawsHold}
+use Rattle.kfifo_linear.specs.Headline.{HasLegalOrder, FewOvertake, FewCertainlyOvertake, PointsHold, LawsHold, PutsInVisit}
 use Rattle.kfifo_linear.proofs.Laws.{laws_from}
+use Rattle.kfifo_linear.proofs.Checked.{checks, put_in_visit}
 use Rattle.kfifo_linear.proofs.Base.{opening_size, get_or_replicate}
 use Rattle.kfifo_linear.proofs.Whole.{inv_opening, invariant}
 use Rattle.kfifo_linear.proofs.Facts.{facts_after}
 use Rattle.kfifo_linear.proofs.Agrees.{Agrees, InvAt, agree_all}
-use Rattle.kfifo_linear.proofs.Marks.{points_fit, stands_fit, points_below, none_at_end}
+use Rattle.kfifo_linear.proofs.Marks.{points_fit, stands_fit, points_below, none_at_end, put_of, visit_is}
 use Rattle.kfifo_linear.proofs.Orders.{is_by_point, legal_by_point}
 use Rattle.kfifo_linear.proofs.Bounds.{overtaken_in_order, certainly_overtaken_below}
 
@@ -94,3 +95,18 @@ module _ (shape : Shape) (threads : ℕ) (few : threads ≤ 64) where
       let hold = points_hold events here is in
       laws_from shape.k (history_of shape threads events) (marks_of shape (ledger_after_all shape threads events)) hold.0 hold.1
       (none_at_end shape (word_at here) (place_of here) (log_of shape threads events) (ledger_after_all shape threads events) (length events) (invariant shape threads events here is) (facts_after shape threads events here is) (agreed shape threads events here is) (history_is shape threads events here few is))
+
+  pub puts_in_visit : PutsInVisit shape threads
+  puts_in_visit events here is c a =
+      let w = word_at here in
+      let p = place_of here in
+      let log = log_of shape threads events in
+      let l = ledger_after_all shape threads events in
+      let inv = invariant shape threads events here is in
+      let facts = facts_after shape threads events here is in
+      let same = agreed shape threads events here is in
+      let good = history_is shape threads events here few is in
+      let put = put_of shape w p log l (length events) inv facts same good c a.1 a.0 a.2 in
+      let visit = visit_is shape w p log l (length events) inv facts same good c put.visit put.index put.point put.stands in
+      let low = put_in_visit shape w p l c put.visit put.index put.point (checks shape threads events here is) put.stands in
+      rw visit low

@@ -110,7 +110,7 @@ tick_slot shape w l i is_slot h =
     }
 
 -- where a call stood before another began
-begun_standing : (l : Ledger) (t : ℕ) (b : Begin) (c : ℕ) (s : Standing) → (called t b l).standing c ≡ s → (s ≡ Outside → ⊥) → (l.standing c ≡ s) × (c ≡ l.calls → ⊥)
+pub begun_standing : (l : Ledger) (t : ℕ) (b : Begin) (c : ℕ) (s : Standing) → (called t b l).standing c ≡ s → (s ≡ Outside → ⊥) → (l.standing c ≡ s) × (c ≡ l.calls → ⊥)
 unfolding called
 begun_standing l t b c s e n = elim (cases_eq c l.calls) [
   | inl same ↦ absurd (n (sym e ∙ noted-same l.standing l.calls c Outside same))

@@ -1,5 +1,5 @@
 -- What holds of the order of every schedule of a shape and a number of threads.
-use Rattle.std.specs.Prelude.{◌≡◌, ℕ, ◌+◌, ◌*◌, ◌<◌, ◌≤◌, List, Option, Some, true}
+use Rattle.std.specs.Prelude.{◌≡◌, ℕ, ◌+◌, ◌*◌, ◌<◌, ◌≤◌, List, Some, true}
 use Rattle.kfifo_words.specs.declared.shape.Shape.{Shape}
 use Rattle.kfifo_model.specs.Lists.{IsIn}
 use Rattle.kfifo_model.specs.declared.calls.Call.{Call}
@@ -64,6 +64,12 @@ pub record OrderLaws (h : List Call) (m : Marks) : Type 0 where
 abbrev pub LawsHold : Shape → ℕ → Type 0
 LawsHold shape threads = (events : List Event) (here : World) → after shape threads events ≡ Some here
     → OrderLaws (history_of shape threads events) (marks_of shape (ledger_after_all shape threads events))
+
+-- At the second look at the ends before an item's put the tail has not left the item's visit
+abbrev pub PutsInVisit : Shape → ℕ → Type 0
+PutsInVisit shape threads = (events : List Event) (here : World) → after shape threads events ≡ Some here
+    → (c : ℕ) → IsAdd (does (history_of shape threads events)) (marks_of shape (ledger_after_all shape threads events)) c
+    → (marks_of shape (ledger_after_all shape threads events)).tail ((ledger_after_all shape threads events).sure c) ≤ (marks_of shape (ledger_after_all shape threads events)).visit c
 
 -- A take that is about to be won is of a visit from which the head has gone at most once round, and the tail at most twice: the
 -- steps of the last 2n visits of head and tail have both points

@@ -23,6 +23,8 @@ pub data Deed : Type 0 where
   Look : Deed
   -- the first load of a round, of this word
   Open : (ends : ℕ) → Deed
+  -- an enqueue's second look at the ends in a round
+  Check : Deed
   -- a won put, and a won undo
   Put_in : (index : ℕ) → Deed
   Put_back : (index : ℕ) → Deed
@@ -46,7 +48,7 @@ deed_if false deed = Look
 abbrev pub deed : Shape → Running → ℕ → Deed
 deed shape (R.Enqueue item start left E.LoadEnds) word = Open word
 deed shape (R.Enqueue item start left (E.ScanTail ends offset)) word = Look
-deed shape (R.Enqueue item start left (E.Recheck ends seen)) word = Look
+deed shape (R.Enqueue item start left (E.Recheck ends seen)) word = Check
 deed shape (R.Enqueue item start left (E.Put ends index empty)) word = deed_if (word == empty) (Put_in index)
 deed shape (R.Enqueue item start left (E.ReloadSlot ends index filled)) word = Look
 deed shape (R.Enqueue item start left (E.ReloadEnds ends index filled)) word =
@@ -110,6 +112,9 @@ pub record Ledger : Type 0 where
   pub caller : ℕ → ℕ
   pub head_seen : ℕ → ℕ
   pub tail_seen : ℕ → ℕ
+  -- of each thread: the step of its last second look at the ends; of each call: the step of the one before its last won put
+  pub checked : ℕ → ℕ
+  pub sure : ℕ → ℕ
 
 -- the place in the order of an enqueue whose item is settled in this visit
 unfoldable pub settle_point : Ledger → ℕ → ℕ
@@ -213,6 +218,14 @@ abbrev pub tail_seen_after : Deed → ℕ → Ledger → ℕ → ℕ
 tail_seen_after (Open ends) thread l t = noted l.tail_seen thread l.b t
 tail_seen_after other thread l t = l.tail_seen t
 
+abbrev pub checked_after : Deed → ℕ → Ledger → ℕ → ℕ
+checked_after Check thread l t = noted l.checked thread l.now t
+checked_after other thread l t = l.checked t
+
+abbrev pub sure_after : Deed → ℕ → Ledger → ℕ → ℕ
+sure_after (Put_in index) thread l c = noted l.sure (l.caller thread) (l.checked thread) c
+sure_after other thread l c = l.sure c
+
 -- the last steps of calls after a step
 abbrev pub last_after : Next → Ledger → ℕ → ℕ → Option ℕ
 last_after (Goes running) l call c = l.last c
@@ -247,6 +260,8 @@ did shape thread ends what next l =
       caller = l.caller;
       head_seen = head_seen_after what thread l;
       tail_seen = tail_seen_after what thread l;
+      checked = checked_after what thread l;
+      sure = sure_after what thread l;
     }
 
 -- the word that a step finds among these words
@@ -308,6 +323,8 @@ blank =
       caller = λ _. 0;
       head_seen = λ _. 0;
       tail_seen = λ _. 0;
+      checked = λ _. 0;
+      sure = λ _. 0;
     }
 
 -- the ledger after a whole schedule

@@ -10,7 +10,7 @@ ghost use Rattle.kfifo_model.specs.Relaxed.{Adds};
 ghost use Rattle.kfifo_model.specs.Histories.{does, IsFinished, IsLegal};
 ghost use Rattle.kfifo_model.specs.Overtaking.{numbers_of, overtaken_in, certainly_overtaken, AddsAreDistinct};
 ghost use Rattle.kfifo_linear.specs.Points.{Marks, PointsFit, StandsFit, by_point};
-ghost use Rattle.kfifo_linear.specs.Headline.{HasLegalOrder, FewOvertake, FewCertainlyOvertake, PointsHold, LawsHold, TakesInTime};
+ghost use Rattle.kfifo_linear.specs.Headline.{HasLegalOrder, FewOvertake, FewCertainlyOvertake, PointsHold, LawsHold, PutsInVisit, TakesInTime};
 
 /// Where the facts about points hold, the calls by rising point and number are a legal order.
 pub fn points_give_an_order()
@@ -47,5 +47,6 @@ pub fn every_schedule_has_a_legal_order()
     ensures overtaken { (shape : Shape) (threads : ℕ) → threads ≤ 64 → FewOvertake shape threads }
     ensures certainly { (shape : Shape) (threads : ℕ) → threads ≤ 64 → FewCertainlyOvertake shape threads }
     ensures laws { (shape : Shape) (threads : ℕ) → threads ≤ 64 → LawsHold shape threads }
+    ensures puts { (shape : Shape) (threads : ℕ) → threads ≤ 64 → PutsInVisit shape threads }
     ensures in_time { (shape : Shape) (threads : ℕ) → TakesInTime shape threads }
 {}
