@@ -17,5 +17,7 @@ pub mod Numbers
 pub mod Acts
 pub mod Marks
 pub mod Checked
+pub mod Counts
+pub mod Once
 pub mod Laws
 pub mod Schedule

@@ -16,8 +16,9 @@ use Rattle.kfifo_machine.proofs.Calls.{history_is}
 use Rattle.kfifo_linear.specs.Ledger.{blank}
 use Rattle.kfifo_linear.specs.Points.{IsByPoint}
 use Rattle.kfifo_linear.specs.Order.{ledger_after_all, marks_of, order_of}
-use Rattle.kfifo_linear.specs.Headline.{HasLegalOrder, FewOvertake, FewCertainlyOvertake, PointsHold, LawsHold, PutsInVisit}
+use Rattle.kfifo_linear.specs.Headline.{HasLegalOrder, FewOvertake, FewCertainlyOvertake, PointsHold, LawsHold, PutsInVisit, OneOrder}
 use Rattle.kfifo_linear.proofs.Laws.{laws_from}
+use Rattle.kfifo_linear.proofs.Once.{one_by_point}
 use Rattle.kfifo_linear.proofs.Checked.{checks, put_in_visit}
 use Rattle.kfifo_linear.proofs.Base.{opening_size, get_or_replicate}
 use Rattle.kfifo_linear.proofs.Whole.{inv_opening, invariant}
@@ -110,3 +111,6 @@ module _ (shape : Shape) (threads : ℕ) (few : threads ≤ 64) where
       let visit = visit_is shape w p log l (length events) inv facts same good c put.visit put.index put.point put.stands in
       let low = put_in_visit shape w p l c put.visit put.index put.point (checks shape threads events here is) put.stands in
       rw visit low
+
+  pub one_order : OneOrder shape threads
+  one_order events here is list sorted = one_by_point (marks_of shape (ledger_after_all shape threads events)) list (order_of shape threads events) sorted (by_points events here is)

@@ -13,7 +13,8 @@ use Rattle.kfifo_machine.specs.declared.place.DequeuePhase.TheVariants as D
 use Rattle.kfifo_machine.specs.declared.place.Running.TheVariants as R
 use Rattle.kfifo_machine.specs.Machine.{World, word_at, place_of, after}
 use Rattle.kfifo_machine.specs.Calls.{history_of}
-use Rattle.kfifo_linear.specs.Points.{Marks, PointsFit, StandsFit, IsAdd, IsTakeOf, IsNoLater}
+use Rattle.kfifo_machine.specs.Laws.{head_ons, tail_ons}
+use Rattle.kfifo_linear.specs.Points.{Marks, PointsFit, StandsFit, IsByPoint, IsAdd, IsTakeOf, IsNoLater}
 use Rattle.kfifo_linear.specs.Order.{ledger_after_all, marks_of, order_of}
 
 -- Every schedule has a legal order of its history: this one
@@ -78,3 +79,13 @@ TakesInTime shape threads = (events : List Event) (here : World) → after shape
     → (thread start left ends index filled : ℕ) → place_of here thread ≡ Some (R.Dequeue start left (D.Take ends index filled)) → word_at here index ≡ filled
     → ((ledger_after_all shape threads events).a ≤ (ledger_after_all shape threads events).head_seen thread + shape.n)
     × ((ledger_after_all shape threads events).b < (ledger_after_all shape threads events).head_seen thread + 2 * shape.n)
+
+-- The ledger's numbers of head and tail are those of the won head-ons and tail-ons
+abbrev pub NumbersAgree : Shape → ℕ → Type 0
+NumbersAgree shape threads = (events : List Event) (here : World) → after shape threads events ≡ Some here
+    → ((ledger_after_all shape threads events).a ≡ head_ons shape threads events) × ((ledger_after_all shape threads events).b ≡ tail_ons shape threads events)
+
+-- A list with the calls that stand, sorted by point and number, is the order
+abbrev pub OneOrder : Shape → ℕ → Type 0
+OneOrder shape threads = (events : List Event) (here : World) → after shape threads events ≡ Some here
+    → (list : List ℕ) → IsByPoint (marks_of shape (ledger_after_all shape threads events)) list → list ≡ order_of shape threads events

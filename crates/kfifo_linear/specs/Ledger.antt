@@ -154,6 +154,7 @@ abbrev pub b_after : Deed → Ledger → ℕ
 b_after Tail_on l = l.b + 1
 b_after other l = l.b
 
+-- the steps at which head and tail left their visits
 abbrev pub heads_after : Deed → Ledger → ℕ → ℕ
 heads_after Head_on l v = noted l.heads l.a l.now v
 heads_after other l v = l.heads v
@@ -162,6 +163,7 @@ abbrev pub tails_after : Deed → Ledger → ℕ → ℕ
 tails_after Tail_on l v = noted l.tails l.b l.now v
 tails_after other l v = l.tails v
 
+-- who put into a slot last, and where tail and head then were: the tail when the round began, the head at the put
 abbrev pub owner_after : Deed → ℕ → Ledger → ℕ → ℕ
 owner_after (Put_in index) thread l i = noted l.owner index (l.caller thread) i
 owner_after other thread l i = l.owner i
@@ -174,10 +176,12 @@ abbrev pub put_head_after : Deed → Ledger → ℕ → ℕ
 put_head_after (Put_in index) l i = noted l.put_head index l.a i
 put_head_after other l i = l.put_head i
 
+-- a slot from which an item was taken, has only items of later visits from there on
 abbrev pub low_after : Deed → ℕ → Ledger → ℕ → ℕ
 low_after (Take_out index) thread l i = noted l.low index (l.head_seen thread + 1) i
 low_after other thread l i = l.low i
 
+-- an item is settled by its own enqueue while it is in its slot, until it is taken or undone
 abbrev pub settled_after : Deed → ℕ → Ledger → ℕ → Bool
 settled_after (Put_in index) thread l i = noted l.settled index false i
 settled_after (Put_back index) thread l i = noted l.settled index false i
@@ -186,18 +190,21 @@ settled_after (Settle index segment) thread l i = if is_inside (l.standing (l.ca
 settled_after (Hold index) thread l i = if is_inside (l.standing (l.caller thread)) then noted l.settled index true i else l.settled i
 settled_after other thread l i = l.settled i
 
+-- the visit of a settled item
 abbrev pub visit_after : Shape → Deed → ℕ → ℕ → Ledger → ℕ → ℕ
 visit_after shape (Settle index segment) thread ends l i =
     if is_inside (l.standing (l.caller thread)) then noted l.visit index (settle_visit shape l (head_of ends) segment) i else l.visit i
 visit_after shape (Hold index) thread ends l i = if is_inside (l.standing (l.caller thread)) then noted l.visit index l.a i else l.visit i
 visit_after shape other thread ends l i = l.visit i
 
+-- the point of its enqueue
 abbrev pub point_after : Shape → Deed → ℕ → ℕ → Ledger → ℕ → ℕ
 point_after shape (Settle index segment) thread ends l i =
     if is_inside (l.standing (l.caller thread)) then noted l.point index (settle_point l (settle_visit shape l (head_of ends) segment)) i else l.point i
 point_after shape (Hold index) thread ends l i = if is_inside (l.standing (l.caller thread)) then noted l.point index (settle_point l l.a) i else l.point i
 point_after shape other thread ends l i = l.point i
 
+-- where calls stand: a take overrides what was settled
 abbrev pub standing_after : Deed → ℕ → Ledger → ℕ → Standing
 standing_after (Put_in index) thread l c = noted l.standing (l.caller thread) (Inside index) c
 standing_after (Put_back index) thread l c = noted l.standing (l.caller thread) Outside c
@@ -210,6 +217,7 @@ standing_after (Take_out index) thread l c =
 standing_after Stand thread l c = noted l.standing (l.caller thread) (Stood l.a l.now) c
 standing_after other thread l c = l.standing c
 
+-- the numbers of head and tail at the first look of a round
 abbrev pub head_seen_after : Deed → ℕ → Ledger → ℕ → ℕ
 head_seen_after (Open ends) thread l t = noted l.head_seen thread l.a t
 head_seen_after other thread l t = l.head_seen t
@@ -218,6 +226,7 @@ abbrev pub tail_seen_after : Deed → ℕ → Ledger → ℕ → ℕ
 tail_seen_after (Open ends) thread l t = noted l.tail_seen thread l.b t
 tail_seen_after other thread l t = l.tail_seen t
 
+-- the step of an enqueue's second look at the ends, and of the one before a put
 abbrev pub checked_after : Deed → ℕ → Ledger → ℕ → ℕ
 checked_after Check thread l t = noted l.checked thread l.now t
 checked_after other thread l t = l.checked t
@@ -231,6 +240,7 @@ abbrev pub last_after : Next → Ledger → ℕ → ℕ → Option ℕ
 last_after (Goes running) l call c = l.last c
 last_after (Answers answer) l call c = noted l.last call (Some l.now) c
 
+-- the answers of calls after a step
 abbrev pub answer_after : Next → Ledger → ℕ → ℕ → Option Answer
 answer_after (Goes running) l call c = l.answer c
 answer_after (Answers answer) l call c = noted l.answer call (Some answer) c
@@ -286,6 +296,7 @@ called thread what l =
       caller = noted l.caller thread l.calls;
     }
 
+-- the ledger after the event of a thread at this place, which begins this
 abbrev pub ledger_from : Shape → (ℕ → ℕ) → ℕ → Option Running → Option Begin → Ledger → Ledger
 ledger_from shape words thread None None l = l
 ledger_from shape words thread None (Some (B.Enqueue item start turns)) l =
@@ -295,6 +306,7 @@ ledger_from shape words thread None (Some (B.Dequeue start turns)) l =
 ledger_from shape words thread None (Some B.Tick) l = record l { now = l.now + 1 }
 ledger_from shape words thread (Some running) begin l = stepped shape words thread running l
 
+-- the ledger after an event
 unfoldable pub ledger_after : Shape → World → Event → Ledger → Ledger
 ledger_after shape world event l = ledger_from shape (word_at world) event.thread (place_of world event.thread) event.begin l
 

@@ -10,7 +10,7 @@ ghost use Rattle.kfifo_model.specs.Relaxed.{Adds};
 ghost use Rattle.kfifo_model.specs.Histories.{does, IsFinished, IsLegal};
 ghost use Rattle.kfifo_model.specs.Overtaking.{numbers_of, overtaken_in, certainly_overtaken, AddsAreDistinct};
 ghost use Rattle.kfifo_linear.specs.Points.{Marks, PointsFit, StandsFit, by_point};
-ghost use Rattle.kfifo_linear.specs.Headline.{HasLegalOrder, FewOvertake, FewCertainlyOvertake, PointsHold, LawsHold, PutsInVisit, TakesInTime};
+ghost use Rattle.kfifo_linear.specs.Headline.{HasLegalOrder, FewOvertake, FewCertainlyOvertake, PointsHold, LawsHold, PutsInVisit, NumbersAgree, OneOrder, TakesInTime};
 
 /// Where the facts about points hold, the calls by rising point and number are a legal order.
 pub fn points_give_an_order()
@@ -48,5 +48,7 @@ pub fn every_schedule_has_a_legal_order()
     ensures certainly { (shape : Shape) (threads : ℕ) → threads ≤ 64 → FewCertainlyOvertake shape threads }
     ensures laws { (shape : Shape) (threads : ℕ) → threads ≤ 64 → LawsHold shape threads }
     ensures puts { (shape : Shape) (threads : ℕ) → threads ≤ 64 → PutsInVisit shape threads }
+    ensures numbers { (shape : Shape) (threads : ℕ) → NumbersAgree shape threads }
+    ensures one { (shape : Shape) (threads : ℕ) → threads ≤ 64 → OneOrder shape threads }
     ensures in_time { (shape : Shape) (threads : ℕ) → TakesInTime shape threads }
 {}
