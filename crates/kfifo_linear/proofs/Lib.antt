@@ -21,3 +21,4 @@ pub mod Counts
 pub mod Once
 pub mod Laws
 pub mod Schedule
+pub mod Rows

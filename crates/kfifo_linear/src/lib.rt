@@ -10,6 +10,7 @@ ghost use Rattle.kfifo_model.specs.Relaxed.{Adds};
 ghost use Rattle.kfifo_model.specs.Histories.{does, IsFinished, IsLegal};
 ghost use Rattle.kfifo_model.specs.Overtaking.{numbers_of, overtaken_in, certainly_overtaken, AddsAreDistinct};
 ghost use Rattle.kfifo_linear.specs.Points.{Marks, PointsFit, StandsFit, by_point};
+ghost use Rattle.kfifo_linear.specs.Rows.{IsTwoByTwo, RowsHold};
 ghost use Rattle.kfifo_linear.specs.Headline.{HasLegalOrder, FewOvertake, FewCertainlyOvertake, PointsHold, LawsHold, PutsInVisit, NumbersAgree, OneOrder, TakesInTime};
 
 /// Where the facts about points hold, the calls by rising point and number are a legal order.
@@ -51,4 +52,11 @@ pub fn every_schedule_has_a_legal_order()
     ensures numbers { (shape : Shape) (threads : ℕ) → NumbersAgree shape threads }
     ensures one { (shape : Shape) (threads : ℕ) → threads ≤ 64 → OneOrder shape threads }
     ensures in_time { (shape : Shape) (threads : ℕ) → TakesInTime shape threads }
+{}
+
+/// The orders of three worked schedules of two segments of two slots: an item put behind the head
+/// and undone, an item put late that comes out first, and an item taken after the head has left its
+/// visit, this one cut at three places.
+pub fn worked_schedules_have_their_orders()
+    ensures { (shape : Shape) → IsTwoByTwo shape → RowsHold shape }
 {}
