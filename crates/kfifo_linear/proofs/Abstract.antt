@@ -1,6 +1,6 @@
 -- The machine over words and places as functions, and inductions over its schedules.
 use Rattle.std.proofs.Common.{◌==◌, ltb, ◌≡◌, ℕ, ◌+◌, ◌*◌, ◌<◌, ◌⊎◌, inl, inr, true, cond, eqb, refl, sym, ◌∙◌, ap, subst, arith, List, [], ◌∷◌, length, get_or, set, Option, Some, None, Result, Ok, Err}
-use Rattle.std.proofs.lemmas.Bool.{cases_Bool, cond_both, eqb-true, ltb-true, cases_eq}
+use Rattle.std.proofs.lemmas.Bool.{cases_Bool, cond_both, ltb-true, cases_eq}
 use Rattle.std.proofs.lemmas.Grind.{get_or-set_at}
 use Rattle.std.proofs.lemmas.Bool.Decides.{nat_tests}
 use Rattle.std.proofs.lemmas.List.{get_or-set_other, length-set}
@@ -183,19 +183,3 @@ module _ (shape : Shape) (Inv : (ℕ → ℕ) → (ℕ → Option Running) → L
         on_result (step shape world event)
         (λ next outcome s. rw s (after_all events next final (ledger_after shape world event l) (event_at world next outcome event l h s) (rw s at e)))
         (λ fault s. absurd (none-some final (sym (run-none shape events) ∙ (rw s at e))))
-
--- Locality: an event of one thread leaves the places of the others.
-pub locality : (shape : Shape) (world : World) (thread other : ℕ) (running : Running) → thread < length world.places → (other ≡ thread → ⊥) → place_of (moved shape world thread running) other ≡ place_of world other
-locality shape world thread other running h ne = ap (λ f. f other) (place_of-moved shape world thread running h) ∙ noted-other (place_of world) thread other (place_after (advance shape running (found_in shape (word_at world) running))) ne
-
--- One word: a word that an event changes is the one that it looked at, and stands as the exchange said.
-pub one_word : (a : Access) (w : ℕ → ℕ) (i : ℕ) → (words_by a w i ≡ w i) ⊎ ((i ≡ accessed a) × ((from : ℕ) × ((to : ℕ) × ((a ≡ Exchange (accessed a) from to) × (w i ≡ from) × (words_by a w i ≡ to)))))
-one_word (Load index) w i = inl refl
-one_word (Exchange index from to) w i =
-    elim (cases_Bool (eqb (w index) from)) [
-      | inl e ↦ elim (cases_eq i index) [
-        | inl same ↦ inr (same, (from, (to, (refl, ap w same ∙ eqb-true (w index) from e, rw e (noted-same w index i to same)))))
-        | inr ne ↦ inl (rw e (noted-other w index i to ne))
-      ]
-      | inr e ↦ inl (rw e refl)
-    ]

@@ -13,7 +13,7 @@ use Rattle.kfifo_linear.proofs.Ring.{head-ends_word, tail-ends_word, value-slot_
 use Rattle.kfifo_linear.specs.Ledger.{Ledger, blank, called, found_in, ledger_of, noted, stepped}
 use Rattle.kfifo_machine.proofs.Ring.{next-mod}
 use Rattle.kfifo_machine.specs.Machine.{World, begun, may_begin, opening, place_after, place_of, run, word_at}
-use Rattle.kfifo_machine.specs.Program.{access, accessed, advance, filled_with, head_held, head_moved, scan_index, tail_moved}
+use Rattle.kfifo_machine.specs.Program.{access, accessed, advance, filled_with, scan_index}
 use Rattle.kfifo_machine.specs.declared.event.Begin.{Begin}
 use Rattle.kfifo_machine.specs.declared.event.Event.{Event}
 use Rattle.kfifo_machine.specs.declared.place.DequeuePhase.{DequeuePhase}
@@ -86,38 +86,6 @@ module _ (shape : Shape) (ends a b : ℕ) (ok : EndsOk shape ends a b) where
   pub ends_in_ring : InRing shape ends
   ends_in_ring =
       record { head = head_below shape ends a b ok; tail = tail_below shape ends a b ok }
-
-  pub held_ends : EndsOk shape (head_held ends) a b
-  held_ends =
-      let r : InRing shape ends = ends_in_ring in
-      record {
-        head = head-ends_word (head_of ends) (tail_of ends) (version_of ends + 1) (omega (arith, shape.few_segments)) (omega (arith, shape.few_segments)) ∙ ok.head;
-        tail = tail-ends_word (head_of ends) (tail_of ends) (version_of ends + 1) (omega (arith, shape.few_segments)) (omega (arith, shape.few_segments)) ∙ ok.tail;
-        ordered = ok.ordered;
-        no_wrap = ok.no_wrap;
-      }
-
-  pub head_on_ends : a < b → EndsOk shape (head_moved shape ends) (a + 1) b
-  head_on_ends lt =
-      let r : InRing shape ends = ends_in_ring in
-      let m : next_segment shape.n (head_of ends) < shape.n = next_segment-below shape.n (head_of ends) r.head in
-      record {
-        head = head-ends_word (next_segment shape.n (head_of ends)) (tail_of ends) (version_of ends + 1) (omega (arith, shape.few_segments)) (omega (arith, shape.few_segments)) ∙ ap (next_segment shape.n) ok.head ∙ next-mod shape.n a shape.some_segments;
-        tail = tail-ends_word (next_segment shape.n (head_of ends)) (tail_of ends) (version_of ends + 1) (omega (arith, shape.few_segments)) (omega (arith, shape.few_segments)) ∙ ok.tail;
-        ordered = omega arith;
-        no_wrap = omega (arith, ok.no_wrap);
-      }
-
-  pub tail_on_ends : b + 1 < a + shape.n → EndsOk shape (tail_moved shape ends) a (b + 1)
-  tail_on_ends lt =
-      let r : InRing shape ends = ends_in_ring in
-      let m : next_segment shape.n (tail_of ends) < shape.n = next_segment-below shape.n (tail_of ends) r.tail in
-      record {
-        head = head-ends_word (head_of ends) (next_segment shape.n (tail_of ends)) (version_of ends + 1) (omega (arith, shape.few_segments)) (omega (arith, shape.few_segments)) ∙ ok.head;
-        tail = tail-ends_word (head_of ends) (next_segment shape.n (tail_of ends)) (version_of ends + 1) (omega (arith, shape.few_segments)) (omega (arith, shape.few_segments)) ∙ ap (next_segment shape.n) ok.tail ∙ next-mod shape.n b shape.some_segments;
-        ordered = omega (arith, ok.ordered);
-        no_wrap = omega arith;
-      }
 
 -- after a step
 pub ends_stay : (shape : Shape) → (words : ℕ → ℕ) (thread : ℕ) (running : Running) (l : Ledger) → EndsOk shape (words 0) l.a l.b → Sane shape running → EndsOk shape (words_by (access shape running) words 0) (stepped shape words thread running l).a (stepped shape words thread running l).b

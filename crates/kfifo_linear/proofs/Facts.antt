@@ -1,10 +1,10 @@
 -- What the order of calls is made of: of each call's role and place, after every schedule.
 use Rattle.std.proofs.Common.{◌≡◌, ℕ, ◌+◌, ◌-◌, ◌%◌, ◌<◌, ◌≤◌, ◌⊎◌, inl, inr, Bool, true, false, refl, sym, ◌∙◌, ap, arith, Option, Some, None, is_some}
-use Rattle.std.proofs.lemmas.Bool.{cases_eq, cases_lt, cases_Bool, false≢true}
+use Rattle.std.proofs.lemmas.Bool.{cases_Bool, false≢true}
 use Rattle.std.proofs.lemmas.Option.{none-some, same_Some}
 use Rattle.std.proofs.Common.{List}
 use Rattle.kfifo_linear.proofs.Claims.{segment_of}
-use Rattle.kfifo_linear.proofs.Invariant.{AtHead, AtTail, Fits, FullOk, GoneOk, InsideOk, Inv, SettledOk, StoodOk, Times, TookOk, gone_visit, is_gone}
+use Rattle.kfifo_linear.proofs.Invariant.{AtHead, AtTail, Fits, FullOk, GoneOk, InsideOk, Inv, SettledOk, StoodOk, TookOk, gone_visit, is_gone}
 use Rattle.kfifo_linear.proofs.Ring.{place_below}
 use Rattle.kfifo_linear.proofs.Whole.{invariant}
 use Rattle.kfifo_linear.specs.Ledger.{Gone, Inside, Ledger, Outside, Standing, Stood, Took, blank, item_of, ledger_of}
@@ -244,34 +244,3 @@ module _ (shape : Shape) (w : ℕ → ℕ) (p : ℕ → Option Running) (l : Led
 pub facts_after : (shape : Shape) → (threads : ℕ) (events : List Event) (final : World) → run shape (Some (opening shape threads)) events ≡ Some final → Facts shape (ledger_of shape (Some (opening shape threads)) events blank)
 facts_after shape threads events final e =
     facts shape (word_at final) (place_of final) (ledger_of shape (Some (opening shape threads)) events blank) (invariant shape threads events final e)
-
--- How places and visits go together, for the order of calls.
-module _ (l : Ledger) (times : Times l) where
-  -- of two places at the tail, the later has the later visit
-  pub tail_order : (u v q p : ℕ) → AtTail l u q → AtTail l v p → q ≤ p → u ≤ v
-  tail_order u v q p a b h = elim (cases_lt v u) [
-    | inr le ↦ le
-    | inl lt ↦
-        let before : p ≤ l.tails v = b.before (omega (arith, a.reached)) in
-        let after : l.tails (u - 1) < q = a.after (omega arith) in
-        elim (cases_eq v (u - 1)) [
-          | inl same ↦ absurd (omega (arith, ap l.tails same))
-          | inr ne ↦ absurd (omega (arith, times.tails_rise v (u - 1) (omega arith) (omega (arith, a.reached))))
-        ]
-  ]
-
-  pub head_order : (u v q p : ℕ) → AtHead l u q → AtHead l v p → q ≤ p → u ≤ v
-  head_order u v q p a b h = elim (cases_lt v u) [
-    | inr le ↦ le
-    | inl lt ↦
-        let before : p ≤ l.heads v = b.before (omega (arith, a.reached)) in
-        let after : l.heads (u - 1) < q = a.after (omega arith) in
-        elim (cases_eq v (u - 1)) [
-          | inl same ↦ absurd (omega (arith, ap l.heads same))
-          | inr ne ↦ absurd (omega (arith, times.heads_rise v (u - 1) (omega arith) (omega (arith, a.reached))))
-        ]
-  ]
-
-  -- a dequeue stands after the enqueue of its item
-  pub got_after : (v q p : ℕ) → AtTail l v q → AtHead l v p → q < p
-  got_after v q p a b = omega (arith, a.before b.tail_past, b.tail_before)

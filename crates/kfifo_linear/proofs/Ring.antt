@@ -47,10 +47,6 @@ pub value-slot_word : (value version : ℕ) → value < 16777216 → value_of (s
 unfolding value_of slot_word
 value-slot_word value version h = omega arith
 
-pub version-slot_word : (value version : ℕ) → value < 16777216 → version_of (slot_word value version) ≡ version
-unfolding version_of slot_word
-version-slot_word value version h = omega arith
-
 -- a word of the next version is above
 pub slot_word-above : (word value : ℕ) → value < 16777216 → word < slot_word value (version_of word + 1)
 unfolding version_of slot_word
