@@ -1,0 +1,462 @@
+-- A step keeps what the ledger says of calls.
+use Rattle.std.proofs.Common.{ltb, ◌≡◌, ◌≢◌, ℕ, ◌+◌, ◌-◌, ◌*◌, ◌%◌, ◌<◌, ◌≤◌, ◌⊎◌, inl, inr, true, false, refl, sym, ◌∙◌, ap, arith, Some, min}
+use Rattle.std.proofs.lemmas.Bool.{false≢true, ltb-true, ltb-false, cases_eq, cases_lt, cases_Bool}
+use Rattle.std.proofs.lemmas.Bool.Decides.{nat_tests}
+use Rattle.kfifo_machine.specs.declared.place.DequeuePhase.TheVariants as D
+use Rattle.kfifo_machine.specs.declared.place.Running.TheVariants as R
+use Rattle.std.proofs.lemmas.Option.{none-some, same_Some}
+use Rattle.std.proofs.Common.{is_some}
+use Rattle.kfifo_linear.proofs.Abstract.{noted_tells, words_by}
+use Rattle.kfifo_linear.proofs.Base.{DequeueSane, Sane, filled_with-value}
+use Rattle.kfifo_linear.proofs.Claims.{EndsChange, Round, at_load, ends_change, segment_of}
+use Rattle.kfifo_linear.proofs.Invariant.{AtHead, AtTail, Calls, Fits, FullOk, GoneOk, HasClear, HasOwn, InsideOk, SettledOk, SlotOk, StoodOk, ThreadOk, Times, TookOk, is_gone, is_putting}
+use Rattle.kfifo_linear.proofs.Slots.{at_head_stays, at_tail_stays, clear_slot, settled_old}
+use Rattle.kfifo_linear.proofs.Threads.{Slots}
+use Rattle.kfifo_linear.specs.Ledger.{Gone, Inside, Ledger, Outside, Standing, Stood, Took, found_in, gone_point, item_of, settle_point, stepped, took_point}
+use Rattle.kfifo_machine.proofs.NoWrap.{EndsOk, same_end}
+use Rattle.kfifo_machine.specs.Places.{IsSlotIndex}
+use Rattle.kfifo_machine.specs.Program.{access, advance}
+use Rattle.kfifo_machine.specs.declared.place.DequeuePhase.{DequeuePhase}
+use Rattle.kfifo_machine.specs.declared.place.EnqueuePhase.{EnqueuePhase}
+use Rattle.kfifo_machine.specs.declared.place.Found.TheVariants.{Nothing}
+use Rattle.kfifo_machine.specs.declared.place.Next.TheVariants.{Answers}
+use Rattle.kfifo_machine.specs.declared.place.Running.{Running}
+use Rattle.kfifo_model.specs.declared.calls.Answer.{Answer}
+use Rattle.kfifo_words.specs.Words.{head_of, tail_of, value_of}
+use Rattle.kfifo_words.specs.declared.shape.Shape.{Shape}
+
+-- a step that takes the item of slot i
+pub record Takes (shape : Shape) (w : ℕ → ℕ) (l l' : Ledger) (t i : ℕ) : Type 0 where
+  pub full : value_of (w i) ≢ 0
+  pub fresh : l.standing (l.caller t) ≡ Outside
+  pub inside : l.standing (l.owner i) ≡ Inside i
+  pub born : l.born i ≤ l.head_seen t
+  pub past : l.head_seen t < l.b
+  pub reached : l.head_seen t ≤ l.a
+  pub place : l.head_seen t % shape.n ≡ segment_of shape i
+  pub a_same : l'.a ≡ l.a
+  pub b_same : l'.b ≡ l.b
+  pub low : l'.low i ≡ l.head_seen t + 1
+  pub last : l'.last (l.caller t) ≡ Some l.now
+  pub answer : is_some (l'.answer (l.caller t)) ≡ true
+  pub gone : l'.standing (l.owner i) ≡ Gone i (l.head_seen t) (gone_point l i (l.head_seen t))
+  pub took : l'.standing (l.caller t) ≡ Took (l.owner i) (l.head_seen t) (took_point l (l.head_seen t))
+
+-- the place of an enqueue whose item is taken now
+gone_at_tail : (shape : Shape) (w w' : ℕ → ℕ) (l l' : Ledger) (t i : ℕ) → 0 < shape.n → EndsChange w w' l l' → l'.now ≡ l.now + 1 → Times l → Takes shape w l l' t i → SlotOk shape w l i → AtTail l' (l.head_seen t) (gone_point l i (l.head_seen t))
+unfolding gone_point
+gone_at_tail shape w w' l l' t i n c now times k here =
+    let v = l.head_seen t in
+    let tails_v : l.tails (l.head_seen t) < l.now = times.tails_past (l.head_seen t) k.past in
+    let kept : l'.tails (l.head_seen t) ≡ l.tails (l.head_seen t) = c.tails_kept (l.head_seen t) k.past in
+    let below : 0 < l.head_seen t → l'.tails (l.head_seen t - 1) ≡ l.tails (l.head_seen t - 1) = λ z. c.tails_kept (l.head_seen t - 1) (omega (arith, k.past)) in
+    let rise : 0 < l.head_seen t → l.tails (l.head_seen t - 1) < l.tails (l.head_seen t) = λ z. times.tails_rise (l.head_seen t - 1) (l.head_seen t) (omega arith) k.past in
+    let at : AtTail l' (l.head_seen t) (l.tails (l.head_seen t)) = record { reached = omega (arith, k.past, k.b_same); after = λ z. omega (arith, below z, rise z); before = λ z. omega (arith, kept); past = omega (arith, now) } in
+    elim (cases_Bool (l.settled i)) [
+      | inr e ↦ rw e at
+      | inl e ↦
+          let st : SettledOk shape l i = here.settled e in
+          elim (cases_lt (l.head_seen t) (l.visit i)) [
+            | inl lt ↦
+                let far : l.tails (l.head_seen t) < l.point i = elim (cases_eq (l.head_seen t) (l.visit i - 1)) [
+                  | inl q ↦ omega (arith, st.at_tail.after (omega arith), ap l.tails q)
+                  | inr q ↦ omega (arith, st.at_tail.after (omega arith), times.tails_rise (l.head_seen t) (l.visit i - 1) (omega arith) (omega (arith, st.at_tail.reached)))
+                ] in
+                let m : min (l.point i) (l.tails (l.head_seen t)) ≡ l.tails (l.head_seen t) = omega arith in
+                rw (e, m) at
+            | inr ge ↦
+                let q : l.visit i ≡ l.head_seen t = omega (arith, k.reached, st.from_head) in
+                let near : l.point i ≤ l.tails (l.visit i) = st.at_tail.before (omega (arith, q, k.past)) in
+                let m : min (l.point i) (l.tails (l.head_seen t)) ≡ l.point i = omega (arith, ap l.tails q) in
+                rw (e, m, ← q) (at_tail_stays w w' l l' (l.visit i) (l.point i) c now st.at_tail)
+          ]
+    ]
+
+-- the place of a dequeue that takes an item now
+took_at_head : (shape : Shape) (w w' : ℕ → ℕ) (l l' : Ledger) (t i : ℕ) → EndsChange w w' l l' → l'.now ≡ l.now + 1 → Times l → Takes shape w l l' t i → AtHead l' (l.head_seen t) (took_point l (l.head_seen t))
+unfolding took_point
+took_at_head shape w w' l l' t i c now times k =
+    let kept : l'.tails (l.head_seen t) ≡ l.tails (l.head_seen t) = c.tails_kept (l.head_seen t) k.past in
+    let tails_v : l.tails (l.head_seen t) < l.now = times.tails_past (l.head_seen t) k.past in
+    let below : 0 < l.head_seen t → l'.heads (l.head_seen t - 1) ≡ l.heads (l.head_seen t - 1) = λ z. c.heads_kept (l.head_seen t - 1) (omega (arith, k.reached)) in
+    let past : 0 < l.head_seen t → l.heads (l.head_seen t - 1) < l.now = λ z. times.heads_past (l.head_seen t - 1) (omega (arith, k.reached)) in
+    elim (cases_Bool (ltb (l.head_seen t) l.a)) [
+      | inl e ↦
+          let lt : l.head_seen t < l.a = ltb-true _ _ e in
+          let same : l'.heads (l.head_seen t) ≡ l.heads (l.head_seen t) = c.heads_kept (l.head_seen t) lt in
+          let rise : 0 < l.head_seen t → l.heads (l.head_seen t - 1) < l.heads (l.head_seen t) = λ z. times.heads_rise (l.head_seen t - 1) (l.head_seen t) (omega arith) lt in
+          rw e (record { reached = omega (arith, k.a_same); after = λ z. omega (arith, below z, rise z); before = λ z. omega (arith, same); past = omega (arith, now, times.heads_past (l.head_seen t) lt); tail_past = omega (arith, k.past, k.b_same); tail_before = omega (arith, kept, times.tail_first (l.head_seen t) lt) })
+      | inr e ↦
+          let ge : l.a ≤ l.head_seen t = ltb-false _ _ e in
+          rw e (record { reached = omega (arith, k.reached, k.a_same); after = λ z. omega (arith, below z, past z); before = λ z. absurd (omega (arith, k.a_same)); past = omega (arith, now); tail_past = omega (arith, k.past, k.b_same); tail_before = omega (arith, kept) })
+    ]
+
+-- a dequeue that finds the queue empty now
+abbrev pub Stands : (ℕ → ℕ) → Running → Type 0
+Stands w (R.Dequeue start left (D.Recheck ends Nothing)) = w 0 ≡ ends
+Stands w other = ⊥
+
+stands_clear : (shape : Shape) (w : ℕ → ℕ) (l : Ledger) (i : ℕ) (r : Running) → 0 < shape.k → 0 < i → Sane shape r → HasClear shape w l r → Stands w r → segment_of shape i ≡ head_of (w 0) → l.settled i ≡ false
+stands_clear shape w l i (R.Dequeue start left (D.Recheck ends Nothing)) k pos s c e g = clear_slot shape w l i ends start k pos s.0 c e g
+stands_clear shape w l i other k pos s c e g = absurd e
+
+-- nothing in the table is settled then
+none_settled_now : (shape : Shape) (w : ℕ → ℕ) (l : Ledger) (i : ℕ) (r : Running) → 0 < shape.k → IsSlotIndex shape i → EndsOk shape (w 0) l.a l.b → l.b ≡ l.a → Sane shape r → HasClear shape w l r → Stands w r → SlotOk shape w l i → l.settled i ≡ false
+none_settled_now shape w l i r k is_slot ok same s c st here =
+    elim (cases_Bool (l.settled i)) [
+      | inl e ↦
+          let h : SettledOk shape l i = here.settled e in
+          let v : l.visit i ≡ l.a = omega (arith, h.from_head, h.to_tail) in
+          stands_clear shape w l i r k is_slot.above s c st (sym h.place ∙ ap (λ x. x % shape.n) v ∙ sym ok.head)
+      | inr e ↦ e
+    ]
+
+above : (x p : ℕ) → x ≢ p → p ≤ x → p < x
+above x p ne le = elim (cases_eq x p) [ inl e ↦ absurd (ne e) | inr n ↦ omega arith ]
+
+settle_point_late : (l : Ledger) (v p x : ℕ) → Times l → AtTail l v p → ((y : ℕ) → y < l.b → l.tails y ≢ p) → v ≤ x → p < settle_point l x
+unfolding settle_point
+settle_point_late l v p x times at apart h =
+    elim (cases_Bool (ltb x l.b)) [
+      | inl e ↦
+          let lt : x < l.b = ltb-true _ _ e in
+          rw e (elim (cases_eq v x) [
+            | inl q ↦ above (l.tails x) p (apart x lt) (omega (arith, ap l.tails q, at.before (omega (arith, q))))
+            | inr q ↦ omega (arith, at.before (omega arith), times.tails_rise v x (omega arith) lt)
+          ])
+      | inr e ↦ rw e (omega (arith, at.past))
+    ]
+
+-- where an answer says that its call stands
+ended_fits_e : (shape : Shape) (w : ℕ → ℕ) (l : Ledger) (t item start left : ℕ) (phase : EnqueuePhase) → HasOwn shape w l t (R.Enqueue item start left phase) → (is_putting (R.Enqueue item start left phase) ≡ false → l.standing (l.caller t) ≡ Outside) → (x : Answer) → advance shape (R.Enqueue item start left phase) (found_in shape w (R.Enqueue item start left phase)) ≡ Answers x → Fits l.begin x ((stepped shape w t (R.Enqueue item start left phase) l).standing (l.caller t))
+unfolding stepped
+ended_fits_e shape w l t item start left phase own f x e = grind (arith, nat_tests, noted_tells)
+
+ended_fits_d : (shape : Shape) (w : ℕ → ℕ) (l : Ledger) (t start left : ℕ) (phase : DequeuePhase) → DequeueSane shape phase → (l.standing (l.caller t) ≡ Outside) → ((i : ℕ) → 0 < i → i < 1 + shape.n * shape.k → value_of (w i) ≢ 0 → item_of (l.begin (l.owner i)) ≡ value_of (w i)) → (x : Answer) → advance shape (R.Dequeue start left phase) (found_in shape w (R.Dequeue start left phase)) ≡ Answers x → Fits l.begin x ((stepped shape w t (R.Dequeue start left phase) l).standing (l.caller t))
+unfolding stepped
+ended_fits_d shape w l t start left phase s f items x e = grind (arith, nat_tests, noted_tells)
+
+ended_fits : (shape : Shape) (w : ℕ → ℕ) (l : Ledger) (t : ℕ) (r : Running) → Sane shape r → HasOwn shape w l t r → (is_putting r ≡ false → l.standing (l.caller t) ≡ Outside) → ((i : ℕ) → 0 < i → i < 1 + shape.n * shape.k → value_of (w i) ≢ 0 → item_of (l.begin (l.owner i)) ≡ value_of (w i)) → (x : Answer) → advance shape r (found_in shape w r) ≡ Answers x → Fits l.begin x ((stepped shape w t r l).standing (l.caller t))
+ended_fits shape w l t (R.Enqueue item start left phase) s own f items x e = ended_fits_e shape w l t item start left phase own f x e
+ended_fits shape w l t (R.Dequeue start left phase) s own f items x e = ended_fits_d shape w l t start left phase s.1 (f refl) items x e
+
+inside_gone : {s : Standing} (i : ℕ) → Inside i ≡ s → is_gone s ≡ true → ⊥
+inside_gone i e g = false≢true (ap is_gone e ∙ g)
+
+inside_outside : (i : ℕ) → Inside i ≡ Outside → ⊥
+inside_outside i e = cc
+
+gone_started : (shape : Shape) (w : ℕ → ℕ) (l : Ledger) (t : ℕ) (l' : Ledger) (i : ℕ) → Takes shape w l l' t i → SlotOk shape w l i → l.first (l.owner i) ≤ gone_point l i (l.head_seen t)
+unfolding gone_point
+gone_started shape w l t l' i k here =
+    let tails : l.first (l.owner i) ≤ l.tails (l.head_seen t) = (here.full k.full).after (l.head_seen t) k.born k.past in
+    elim (cases_Bool (l.settled i)) [ inl e ↦ rw e (omega (arith, (here.settled e).started)) | inr e ↦ rw e tails ]
+
+gone_ended : (shape : Shape) (w : ℕ → ℕ) (l : Ledger) (t i e : ℕ) → SlotOk shape w l i → value_of (w i) ≢ 0 → l.last (l.owner i) ≡ Some e → gone_point l i (l.head_seen t) ≤ e
+unfolding gone_point
+gone_ended shape w l t i e here full g =
+    elim (cases_Bool (l.settled i)) [
+      | inl s ↦ rw s (omega (arith, (here.settled s).ended e g))
+      | inr s ↦ absurd (none-some e (sym ((here.full full).unsettled s) ∙ g))
+    ]
+
+took_started : (l : Ledger) (t : ℕ) → l.first (l.caller t) ≤ l.now → Round l t → l.first (l.caller t) ≤ took_point l (l.head_seen t)
+unfolding took_point
+took_started l t n rd =
+    elim (cases_Bool (ltb (l.head_seen t) l.a)) [
+      | inl e ↦ rw e (rd.heads_after (l.head_seen t) (omega arith) (ltb-true _ _ e))
+      | inr e ↦ rw e n
+    ]
+
+module _ (shape : Shape) (w : ℕ → ℕ) (l : Ledger) (t : ℕ) (r : Running) (s : Sane shape r) (ok : EndsOk shape (w 0) l.a l.b) (me : ThreadOk shape w l t r) (times : Times l) (all : Slots shape w l) where
+  -- whose item was taken before, or is now
+  pub standing_gone : (c i v p : ℕ) → (stepped shape w t r l).standing c ≡ Gone i v p → (l.standing c ≡ Gone i v p) ⊎ (Takes shape w l (stepped shape w t r l) t i × IsSlotIndex shape i × (c ≡ l.owner i) × (v ≡ l.head_seen t) × (p ≡ gone_point l i v))
+  unfolding stepped
+  standing_gone c i v p e = let f = me.fresh in let g = me.target in let rd = me.round in grind (arith, nat_tests, noted_tells)
+
+  standing_took : (c o v p : ℕ) → (stepped shape w t r l).standing c ≡ Took o v p → (l.standing c ≡ Took o v p) ⊎ ((i : ℕ) × Takes shape w l (stepped shape w t r l) t i × (c ≡ l.caller t) × (o ≡ l.owner i) × (v ≡ l.head_seen t) × (p ≡ took_point l v) × (at_load r ≡ false))
+  unfolding stepped
+  standing_took c o v p e = let f = me.fresh in let g = me.target in let rd = me.round in grind (arith, nat_tests, noted_tells)
+
+  standing_stood : (c v p : ℕ) → (stepped shape w t r l).standing c ≡ Stood v p → (l.standing c ≡ Stood v p) ⊎ (Stands w r × (c ≡ l.caller t) × (v ≡ l.a) × (p ≡ l.now) × (l.b ≡ l.a) × ((stepped shape w t r l).a ≡ l.a) × ((stepped shape w t r l).b ≡ l.b))
+  unfolding stepped
+  standing_stood c v p e = let f = me.fresh in let same = same_end shape (w 0) l.a l.b ok in grind (arith, nat_tests, noted_tells)
+
+  standing_inside : (c i : ℕ) → (l.standing c ≡ Inside i → InsideOk shape w l c i) → (stepped shape w t r l).standing c ≡ Inside i → InsideOk shape (words_by (access shape r) w) (stepped shape w t r l) c i
+  unfolding stepped
+  standing_inside c i old e = let own = me.own in let f = me.fresh in grind (arith, nat_tests, noted_tells, filled_with-value)
+
+  low_rises : (i : ℕ) → IsSlotIndex shape i → l.low i ≤ l.born i ⊎ (value_of (w i) ≡ 0) → l.low i ≤ (stepped shape w t r l).low i
+  unfolding stepped
+  low_rises i is_slot lb = let g = me.target in grind (arith, nat_tests, noted_tells)
+
+  ch : EndsChange w (words_by (access shape r) w) l (stepped shape w t r l)
+  ch = ends_change shape w l t r s ok
+
+  next_now : (stepped shape w t r l).now ≡ l.now + 1
+  unfolding stepped
+  next_now = refl
+
+  old_last : (c : ℕ) → ((stepped shape w t r l).last c ≡ l.last c) ⊎ (((stepped shape w t r l).last c ≡ Some l.now) × (c ≡ l.caller t))
+  unfolding stepped
+  old_last c = grind (arith, nat_tests, noted_tells)
+
+  -- a place that was in time stays so
+  ended_stays : (c p : ℕ) → p < l.now → ((e : ℕ) → l.last c ≡ Some e → p ≤ e) → (e : ℕ) → (stepped shape w t r l).last c ≡ Some e → p ≤ e
+  ended_stays c p past h e f = elim (old_last c) [
+    | inl k ↦ h e (sym k ∙ f)
+    | inr k ↦ let z : l.now ≡ e = same_Some l.now e (sym k.0 ∙ f) in omega arith
+  ]
+
+  first_stays : (c p : ℕ) → l.first c ≤ p → (stepped shape w t r l).first c ≤ p
+  unfolding stepped
+  first_stays c p h = h
+
+  low_or_empty : (i : ℕ) → SlotOk shape w l i → l.low i ≤ l.born i ⊎ (value_of (w i) ≡ 0)
+  low_or_empty i here = elim (cases_eq (value_of (w i)) 0) [ inl e ↦ inr e | inr ne ↦ inl (here.full ne).low_born ]
+
+  gone_stays : (c i v p : ℕ) → GoneOk shape l c i v p → SlotOk shape w l i → GoneOk shape (stepped shape w t r l) c i v p
+  gone_stays c i v p h here =
+      record {
+        is_slot = h.is_slot;
+        place = h.place;
+        at_tail = at_tail_stays w (words_by (access shape r) w) l (stepped shape w t r l) v p ch next_now h.at_tail;
+        started = first_stays c p h.started;
+        ended = ended_stays c p h.at_tail.past h.ended;
+        under = omega (arith, h.under, low_rises i h.is_slot (low_or_empty i here));
+      }
+
+  gone_begins : (i : ℕ) → IsSlotIndex shape i → Takes shape w l (stepped shape w t r l) t i → SlotOk shape w l i → GoneOk shape (stepped shape w t r l) (l.owner i) i (l.head_seen t) (gone_point l i (l.head_seen t))
+  unfolding gone_point stepped
+  gone_begins i is_slot k here =
+      let f : FullOk shape l i = here.full k.full in
+      record {
+        is_slot = is_slot;
+        place = k.place;
+        at_tail = gone_at_tail shape w (words_by (access shape r) w) l (stepped shape w t r l) t i (omega (arith, shape.some_segments)) ch next_now times k here;
+        started = gone_started shape w l t (stepped shape w t r l) i k here;
+        ended = λ e g. elim (old_last (l.owner i)) [
+          | inl z ↦ gone_ended shape w l t i e here k.full (sym z ∙ g)
+          | inr z ↦ absurd (inside_outside i (sym k.inside ∙ ap l.standing z.1 ∙ k.fresh))
+        ];
+        under = omega (arith, k.low);
+      }
+
+  -- an item that was taken stays so
+  gone_kept : (c : ℕ) → is_gone (l.standing c) ≡ true → (stepped shape w t r l).standing c ≡ l.standing c
+  unfolding stepped
+  gone_kept c g = let own = me.own in let f = me.fresh in grind (arith, nat_tests, noted_tells)
+
+  answer_kept : (c : ℕ) → is_some (l.answer c) ≡ true → is_some ((stepped shape w t r l).answer c) ≡ true
+  unfolding stepped
+  answer_kept c h = grind (arith, nat_tests, noted_tells)
+
+  took_kept : (d o v q : ℕ) → l.standing d ≡ Took o v q → (stepped shape w t r l).standing d ≡ Took o v q
+  unfolding stepped
+  took_kept d o v q e = let own = me.own in let f = me.fresh in grind (arith, nat_tests, noted_tells)
+
+  took_stays : (c o v p : ℕ) → TookOk l c o v p → TookOk (stepped shape w t r l) c o v p
+  took_stays c o v p h =
+      record {
+        at_head = at_head_stays w (words_by (access shape r) w) l (stepped shape w t r l) v p ch next_now h.at_head;
+        started = first_stays c p h.started;
+        ended = ended_stays c p h.at_head.past h.ended;
+        gone = rw (gone_kept o h.gone) h.gone;
+        same_visit = rw (gone_kept o h.gone) h.same_visit;
+        finished = answer_kept c h.finished;
+      }
+
+  took_begins : (i : ℕ) → at_load r ≡ false → Takes shape w l (stepped shape w t r l) t i → TookOk (stepped shape w t r l) (l.caller t) (l.owner i) (l.head_seen t) (took_point l (l.head_seen t))
+  took_begins i ld k =
+      record {
+        at_head = took_at_head shape w (words_by (access shape r) w) l (stepped shape w t r l) t i ch next_now times k;
+        started = first_stays (l.caller t) (took_point l (l.head_seen t)) (took_started l t me.started (me.round ld));
+        ended = λ e g. let z : l.now ≡ e = same_Some l.now e (sym k.last ∙ g) in omega (arith, (took_at_head shape w (words_by (access shape r) w) l (stepped shape w t r l) t i ch next_now times k).past, next_now);
+        gone = rw k.gone refl;
+        same_visit = rw k.gone refl;
+        finished = k.answer;
+      }
+
+  -- a taken item's place is not before a place at which the tail was in an earlier or the same visit, where its own is not
+  taken_later : (i v p : ℕ) → Takes shape w l (stepped shape w t r l) t i → AtTail l v p → (l.settled i ≡ true → p < l.point i) → ((y : ℕ) → y < l.b → l.tails y ≢ p) → gone_point l i (l.head_seen t) ≤ p → l.head_seen t < v
+  unfolding gone_point
+  taken_later i v p k at late apart before =
+      elim (cases_lt (l.head_seen t) v) [
+        | inl lt ↦ lt
+        | inr ge ↦
+            let far : p < l.tails (l.head_seen t) = above (l.tails (l.head_seen t)) p (apart (l.head_seen t) k.past) (elim (cases_eq v (l.head_seen t)) [
+              | inl q ↦ omega (arith, ap l.tails q, at.before (omega (arith, q, k.past)))
+              | inr q ↦ omega (arith, at.before (omega (arith, k.past)), times.tails_rise v (l.head_seen t) (omega arith) k.past)
+            ]) in
+            elim (cases_Bool (l.settled i)) [
+              | inl e ↦ let b : min (l.point i) (l.tails (l.head_seen t)) ≤ p = (rw e at before) in absurd (omega (arith, late e))
+              | inr e ↦ let b : l.tails (l.head_seen t) ≤ p = (rw e at before) in absurd (omega arith)
+            ]
+      ]
+
+  -- an item that is settled now has a later place than one at which the head had not come further than its visit
+  settled_later : (i v p : ℕ) → v ≤ l.a → AtTail l v p → (l.settled i ≡ true → p < l.point i) → ((y : ℕ) → y < l.b → l.tails y ≢ p) → (here : SlotOk shape w l i) → IsSlotIndex shape i → SlotOk shape (words_by (access shape r) w) (stepped shape w t r l) i → (stepped shape w t r l).settled i ≡ true → p < (stepped shape w t r l).point i
+  settled_later i v p va at late apart here is_slot after e =
+      elim (settled_old shape w l t r s ok me times all i is_slot here e) [
+        | inl k ↦ omega (arith, late k.0, k.2)
+        | inr k ↦
+            let from : l.a ≤ (stepped shape w t r l).visit i = omega (arith, (after.settled e).from_head, ch.a_rise) in
+            rw k.1 (settle_point_late l v p ((stepped shape w t r l).visit i) times at apart (omega arith))
+      ]
+
+  stood_stays : (c v p : ℕ) → StoodOk shape l c v p → ((i : ℕ) → IsSlotIndex shape i → SlotOk shape w l i) → ((i : ℕ) → IsSlotIndex shape i → SlotOk shape (words_by (access shape r) w) (stepped shape w t r l) i) → StoodOk shape (stepped shape w t r l) c v p
+  stood_stays c v p h here after =
+      record {
+        at_tail = at_tail_stays w (words_by (access shape r) w) l (stepped shape w t r l) v p ch next_now h.at_tail;
+        head_reached = omega (arith, h.head_reached, ch.a_rise);
+        head_after = λ z. omega (arith, h.head_after z, ch.heads_kept (v - 1) (omega (arith, h.head_reached)));
+        head_before = λ z. elim (cases_lt v l.a) [
+          | inl lt ↦ omega (arith, h.head_before lt, ch.heads_kept v lt)
+          | inr ge ↦ omega (arith, h.at_tail.past, ch.heads_new v ge z)
+        ];
+        started = first_stays c p h.started;
+        ended = λ e f. elim (old_last c) [
+          | inl k ↦ h.ended e (sym k ∙ f)
+          | inr k ↦ absurd (false≢true (sym (ap is_some (ap l.answer k.1 ∙ me.unanswered)) ∙ h.finished))
+        ];
+        finished = answer_kept c h.finished;
+        none_gone = λ d i u q e z. elim (standing_gone d i u q e) [
+          | inl k ↦ h.none_gone d i u q k z
+          | inr k ↦
+              let b : gone_point l i (l.head_seen t) ≤ p = omega (arith, z, k.4, ap (gone_point l i) k.3) in
+              omega (arith, k.3, taken_later i v p k.0 h.at_tail (h.none_settled i k.1) h.no_tail b)
+        ];
+        none_settled = λ i is_slot e. settled_later i v p h.head_reached h.at_tail (h.none_settled i is_slot) h.no_tail (here i is_slot) is_slot (after i is_slot) e;
+        no_tail = λ x z y. elim (cases_lt x l.b) [
+          | inl lt ↦ h.no_tail x lt (sym (ch.tails_kept x lt) ∙ y)
+          | inr ge ↦ absurd (omega (arith, h.at_tail.past, ch.tails_new x ge z, y))
+        ];
+      }
+
+  -- nothing else happens then
+  stands_alone : Stands w r → (i : ℕ) → ((stepped shape w t r l).settled i ≡ l.settled i) × ((d u q : ℕ) → (stepped shape w t r l).standing d ≡ Gone i u q → l.standing d ≡ Gone i u q)
+  unfolding stepped
+  stands_alone st i = grind (arith, nat_tests, noted_tells)
+
+  stands_answer : Stands w r → l.b ≡ l.a → is_some ((stepped shape w t r l).answer (l.caller t)) ≡ true
+  unfolding stepped
+  stands_answer st same =
+      let h : tail_of (w 0) ≡ head_of (w 0) = ok.tail ∙ ap (λ x. x % shape.n) same ∙ sym ok.head in
+      grind (arith, nat_tests, noted_tells)
+
+  stood_begins : Stands w r → l.b ≡ l.a → (stepped shape w t r l).a ≡ l.a → (stepped shape w t r l).b ≡ l.b → ((i : ℕ) → IsSlotIndex shape i → SlotOk shape w l i) → ((c i v p : ℕ) → l.standing c ≡ Gone i v p → GoneOk shape l c i v p) → StoodOk shape (stepped shape w t r l) (l.caller t) l.a l.now
+  stood_begins st same a b here gone =
+      record {
+        at_tail = record { reached = omega arith; after = λ z. omega (arith, times.tails_past (l.a - 1) (omega arith), ch.tails_kept (l.a - 1) (omega arith)); before = λ z. absurd (omega arith); past = omega (arith, next_now) };
+        head_reached = omega arith;
+        head_after = λ z. omega (arith, times.heads_past (l.a - 1) (omega arith), ch.heads_kept (l.a - 1) (omega arith));
+        head_before = λ z. absurd (omega arith);
+        started = first_stays (l.caller t) l.now me.started;
+        ended = λ e g. elim (old_last (l.caller t)) [
+          | inl k ↦ absurd (none-some e (sym me.unended ∙ sym k ∙ g))
+          | inr k ↦ same_Some l.now e (sym k.0 ∙ g)
+        ];
+        finished = stands_answer st same;
+        none_gone = λ d i u q e z.
+            let k : GoneOk shape l d i u q = gone d i u q ((stands_alone st i).1 d u q e) in
+            omega (arith, k.under, (here i k.is_slot).low_b);
+        none_settled = λ i is_slot e. absurd (false≢true (sym (none_settled_now shape w l i r shape.some_slot is_slot ok same s me.clear st (here i is_slot)) ∙ sym ((stands_alone st i).0) ∙ e));
+        no_tail = λ x z y. let lt : x < l.b = omega arith in absurd (omega (arith, times.tails_past x lt, ch.tails_kept x lt, y));
+      }
+
+  next_begin : (stepped shape w t r l).begin ≡ l.begin
+  unfolding stepped
+  next_begin = refl
+
+  next_calls : (stepped shape w t r l).calls ≡ l.calls
+  unfolding stepped
+  next_calls = refl
+
+  standing_later : (c : ℕ) → l.standing c ≡ Outside → l.calls ≤ c → (stepped shape w t r l).standing c ≡ Outside
+  unfolding stepped
+  standing_later c o z = let k = me.known in let own = me.own in grind (arith, nat_tests, noted_tells)
+
+  taken_apart : (i v p : ℕ) (c : ℕ) → Takes shape w l (stepped shape w t r l) t i → SlotOk shape w l i → GoneOk shape l c i v p → v ≡ l.head_seen t → ⊥
+  taken_apart i v p c k here h e = omega (arith, h.under, (here.full k.full).low_born, k.born)
+
+  -- an answer says where its call stands
+  own_answered : ((i : ℕ) → 0 < i → i < 1 + shape.n * shape.k → value_of (w i) ≢ 0 → item_of (l.begin (l.owner i)) ≡ value_of (w i)) → (x : Answer) → advance shape r (found_in shape w r) ≡ Answers x → Fits l.begin x ((stepped shape w t r l).standing (l.caller t))
+  unfolding stepped
+  own_answered items x e = ended_fits shape w l t r s me.own me.fresh items x e
+
+  -- where the others' answers say
+  other_answered : (c : ℕ) (x : Answer) → (c ≡ l.caller t → ⊥) → Fits l.begin x (l.standing c) → Fits l.begin x ((stepped shape w t r l).standing c)
+  unfolding stepped
+  other_answered c x ne h = grind (arith, nat_tests, noted_tells)
+
+  answer_old : (c : ℕ) → ((stepped shape w t r l).answer c ≡ l.answer c) × ((stepped shape w t r l).last c ≡ l.last c) ⊎ ((c ≡ l.caller t) × ((x : Answer) × (advance shape r (found_in shape w r) ≡ Answers x) × ((stepped shape w t r l).answer c ≡ Some x) × ((stepped shape w t r l).last c ≡ Some l.now)))
+  unfolding stepped
+  answer_old c = grind (arith, nat_tests, noted_tells)
+
+  calls_answered : ((i : ℕ) → IsSlotIndex shape i → SlotOk shape w l i) → Calls shape w l → (c : ℕ) (x : Answer) → (stepped shape w t r l).answer c ≡ Some x → Fits (stepped shape w t r l).begin x ((stepped shape w t r l).standing c)
+  calls_answered here h c x e = elim (answer_old c) [
+    | inr k ↦
+        let y : k.1.0 ≡ x = same_Some k.1.0 x (sym k.1.2 ∙ e) in
+        rw (k.0, next_begin, ← y) (own_answered (λ i a b v. (here i (record { above = a; below = b })).item v) k.1.0 k.1.1)
+    | inl k ↦
+        let g : l.answer c ≡ Some x = sym k.0 ∙ e in
+        rw next_begin (other_answered c x (λ z. none-some x (sym me.unanswered ∙ ap l.answer (sym z) ∙ g)) (h.answered c x g))
+  ]
+
+  pub calls_stay : ((i : ℕ) → IsSlotIndex shape i → SlotOk shape w l i) → ((i : ℕ) → IsSlotIndex shape i → SlotOk shape (words_by (access shape r) w) (stepped shape w t r l) i) → Calls shape w l → Calls shape (words_by (access shape r) w) (stepped shape w t r l)
+  calls_stay here after h =
+      record {
+        later = λ c z. let y : l.calls ≤ c = omega (arith, z, next_calls) in standing_later c (h.later c y) y;
+        inside = λ c i e. standing_inside c i (h.inside c i) e;
+        gone = λ c i v p e. elim (standing_gone c i v p e) [
+          | inl k ↦ gone_stays c i v p (h.gone c i v p k) (here i (h.gone c i v p k).is_slot)
+          | inr k ↦ rw (k.2, k.4, k.3) (gone_begins i k.1 k.0 (here i k.1))
+        ];
+        took = λ c o v p e. elim (standing_took c o v p e) [
+          | inl k ↦ took_stays c o v p (h.took c o v p k)
+          | inr k ↦ rw (k.2, k.5, k.4, k.3) (took_begins k.0 k.6 k.1)
+        ];
+        stood = λ c v p e. elim (standing_stood c v p e) [
+          | inl k ↦ stood_stays c v p (h.stood c v p k) here after
+          | inr k ↦ rw (k.1, k.2, k.3) (stood_begins k.0 k.4 k.5 k.6 here h.gone)
+        ];
+        answered = λ c x e. calls_answered here h c x e;
+        ended = λ c e f. elim (answer_old c) [
+          | inl k ↦ rw k.0 (h.ended c e (sym k.1 ∙ f))
+          | inr k ↦ rw k.1.2 refl
+        ];
+        lasts = λ c e f. elim (old_last c) [
+          | inl k ↦ let g = h.lasts c e (sym k ∙ f) in (first_stays c e g.0, omega (arith, g.1, next_now))
+          | inr k ↦
+              let z : l.now ≡ e = same_Some l.now e (sym k.0 ∙ f) in
+              (rw k.1 (first_stays (l.caller t) e (omega (arith, me.started))), omega (arith, next_now))
+        ];
+        unended = λ c f. elim (answer_old c) [
+          | inl k ↦ k.0 ∙ h.unended c (sym k.1 ∙ f)
+          | inr k ↦ absurd (none-some l.now (sym f ∙ k.1.3))
+        ];
+        apart = λ c d i v p u q e f g. elim (standing_gone c i v p e) [
+          | inl k ↦ elim (standing_gone d i u q f) [
+            | inl m ↦ h.apart c d i v p u q k m g
+            | inr m ↦ absurd (taken_apart i v p c m.0 (here i m.1) (h.gone c i v p k) (g ∙ m.3))
+          ]
+          | inr k ↦ elim (standing_gone d i u q f) [
+            | inl m ↦ absurd (taken_apart i u q d k.0 (here i k.1) (h.gone d i u q m) (sym g ∙ k.3))
+            | inr m ↦ k.2 ∙ sym m.2
+          ]
+        ];
+        taker = λ c i v p e. elim (standing_gone c i v p e) [
+          | inl k ↦ let g = h.taker c i v p k in (g.0, (g.1.0, took_kept g.0 c v g.1.0 g.1.1))
+          | inr k ↦ (l.caller t, (took_point l (l.head_seen t), rw (k.2, k.3) k.0.took))
+        ];
+        once = λ c d o v p u q e f. elim (standing_took c o v p e) [
+          | inl k ↦ elim (standing_took d o u q f) [
+            | inl m ↦ h.once c d o v p u q k m
+            | inr m ↦ absurd (inside_gone m.0 (sym m.1.inside ∙ ap l.standing (sym m.3)) (h.took c o v p k).gone)
+          ]
+          | inr k ↦ elim (standing_took d o u q f) [
+            | inl m ↦ absurd (inside_gone k.0 (sym k.1.inside ∙ ap l.standing (sym k.3)) (h.took d o u q m).gone)
+            | inr m ↦ k.2 ∙ sym m.2
+          ]
+        ];
+      }

@@ -1,0 +1,62 @@
+//! The linearization order of every schedule of the machine: it is legal, and in it no item is
+//! overtaken k times.
+#![tactic(auto)]
+
+ghost use Rattle.std.specs.Prelude.{ℕ, ◌≡◌, ◌<◌, ◌≤◌, List, true};
+ghost use Rattle.kfifo_words.specs.declared.shape.Shape.{Shape};
+ghost use Rattle.kfifo_model.specs.declared.calls.Call.{Call};
+ghost use Rattle.kfifo_model.specs.Lists.{IsIn};
+ghost use Rattle.kfifo_model.specs.Relaxed.{Adds};
+ghost use Rattle.kfifo_model.specs.Histories.{does, IsFinished, IsLegal};
+ghost use Rattle.kfifo_model.specs.Overtaking.{numbers_of, overtaken_in, certainly_overtaken, AddsAreDistinct};
+ghost use Rattle.kfifo_linear.specs.Points.{Marks, PointsFit, StandsFit, by_point};
+ghost use Rattle.kfifo_linear.specs.Rows.{IsTwoByTwo, RowsHold};
+ghost use Rattle.kfifo_linear.specs.Headline.{HasLegalOrder, FewOvertake, FewCertainlyOvertake, PointsHold, LawsHold, PutsInVisit, NumbersAgree, OneOrder, TakesInTime};
+
+/// Where the facts about points hold, the calls by rising point and number are a legal order.
+pub fn points_give_an_order()
+    ensures { (k steps : ℕ) (h : List Call) (m : Marks) → PointsFit k (does h) m → StandsFit h m
+        → ((c : ℕ) → m.stands c ≡ true → m.point c < steps) → IsLegal k h (by_point m.stands m.point steps h) }
+{}
+
+/// In that order each item is overtaken fewer than k times, where the items enqueued in it are distinct.
+pub fn few_overtake_in_the_order()
+    ensures { (k steps : ℕ) (h : List Call) (m : Marks) → PointsFit k (does h) m → StandsFit h m
+        → ((c : ℕ) → m.stands c ≡ true → m.point c < steps) → AddsAreDistinct (does h) (by_point m.stands m.point steps h)
+        → (c x : ℕ) → IsIn c (by_point m.stands m.point steps h) → does h c ≡ Adds x → overtaken_in h (by_point m.stands m.point steps h) c < k }
+{}
+
+/// Of the overtakings of an item fewer than k are certain by the history, where its items are distinct.
+pub fn few_certainly_overtake()
+    ensures { (k : ℕ) (h : List Call) (m : Marks) → PointsFit k (does h) m → StandsFit h m → AddsAreDistinct (does h) (numbers_of h)
+        → (c x : ℕ) → IsFinished h c → does h c ≡ Adds x → certainly_overtaken h c < k }
+{}
+
+/// Laws of every schedule of every shape, with up to 64 threads.
+///
+/// The calls of a schedule by the rising points of its ledger, those of one point by rising number,
+/// are a legal order of its history: an order of all its finished calls and some unfinished
+/// enqueues that keeps every pair of which one returned before the other was called, and that is a
+/// run of the k-relaxed queue.
+///
+/// In that order each item is overtaken at most k - 1 times, where the items enqueued in it are
+/// distinct; and by the history alone at most k - 1 overtakings of the item of an enqueue answered
+/// Done are certain, where its items are distinct.
+pub fn every_schedule_has_a_legal_order()
+    ensures points { (shape : Shape) (threads : ℕ) → threads ≤ 64 → PointsHold shape threads }
+    ensures legal { (shape : Shape) (threads : ℕ) → threads ≤ 64 → HasLegalOrder shape threads }
+    ensures overtaken { (shape : Shape) (threads : ℕ) → threads ≤ 64 → FewOvertake shape threads }
+    ensures certainly { (shape : Shape) (threads : ℕ) → threads ≤ 64 → FewCertainlyOvertake shape threads }
+    ensures laws { (shape : Shape) (threads : ℕ) → threads ≤ 64 → LawsHold shape threads }
+    ensures puts { (shape : Shape) (threads : ℕ) → threads ≤ 64 → PutsInVisit shape threads }
+    ensures numbers { (shape : Shape) (threads : ℕ) → NumbersAgree shape threads }
+    ensures one { (shape : Shape) (threads : ℕ) → threads ≤ 64 → OneOrder shape threads }
+    ensures in_time { (shape : Shape) (threads : ℕ) → TakesInTime shape threads }
+{}
+
+/// The orders of three worked schedules of two segments of two slots: an item put behind the head
+/// and undone, an item put late that comes out first, and an item taken after the head has left its
+/// visit, this one cut at three places.
+pub fn worked_schedules_have_their_orders()
+    ensures { (shape : Shape) → IsTwoByTwo shape → RowsHold shape }
+{}
