@@ -1,5 +1,6 @@
 //! Opening a queue.
 ghost use Rattle.std.specs.Prelude.{◌≡◌, ◌<◌, ◌≤◌, ◌+◌, ◌⊎◌, ◌↔◌, [], IfOk, IsErrOf, length};
+ghost use Rattle.kfifo_linear.specs.Headline.{HasLegalOrder, FewOvertake, FewCertainlyOvertake};
 ghost use Rattle.kfifo_live.specs.Schedule.{opening, fresh, view_of};
 ghost use Rattle.kfifo_live.specs.Pass.{queue_of, new_passes};
 ghost use Rattle.kfifo_live.specs.declared.fault.OpenFault.TheVariants.{ThreadsOutOfRange};
@@ -39,9 +40,15 @@ impl Queue {
     ///
     /// ThreadsOutOfRange where the number of threads is not 1 to 64; Memory where a growth was
     /// refused. Nothing is kept after a refusal.
+    ///
+    /// Every schedule of such a queue, and so what any of its passes will have seen, has a legal
+    /// order of its calls; in it, where the items are distinct, none is overtaken k times.
     pub fn open(alloc: Global, shape: Shape, threads: u32) -> Result<(Queue, Vec<Pass>), OpenFault>
         ensures ok { IfOk result (λ r. (r.0.opened ≡ opening shape threads) × (r.1.items ≡ new_passes r.0 0 threads)) }
         ensures threads { IsErrOf result ThreadsOutOfRange ↔ ((threads ≡ 0) ⊎ (64 < threads)) }
+        ensures legal { IfOk result (λ r. HasLegalOrder shape threads) }
+        ensures few_overtake { IfOk result (λ r. FewOvertake shape threads) }
+        ensures few_certainly_overtake { IfOk result (λ r. FewCertainlyOvertake shape threads) }
     {
         if threads == 0 || threads > MAX_THREADS {
             return Err(OpenFault::ThreadsOutOfRange);
