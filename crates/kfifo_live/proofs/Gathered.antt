@@ -1,5 +1,5 @@
 -- The seats of all passes, put together.
-use Rattle.std.proofs.Common.{◌≡◌, ℕ, zero, suc, ◌+◌, List, [], ◌∷◌, ◌++◌, take, get_or, ◌<◌, sym, ap, ◌∙◌, subst, arith}
+use Rattle.std.proofs.Common.{◌≡◌, ℕ, zero, suc, ◌+◌, List, [], ◌∷◌, ◌++◌, Some, take, get_or, ◌<◌, sym, ap, ◌∙◌, subst, arith}
 use mathlib.Core.Option.{some, some-ne-none, some-injective}
 use lib.ListN.{get_elem?}
 use Rattle.atomic_table.specs.Table.{Me, State, Final, Seen}
@@ -13,7 +13,9 @@ use Rattle.kfifo_live.specs.declared.view.Part.{Part}
 use Rattle.kfifo_live.specs.declared.view.View.{View}
 use Rattle.kfifo_live.specs.Schedule.{world_after, seen_of, AllBegin, OneSchedule}
 use Rattle.kfifo_live.specs.Left.{items_left}
+use Rattle.kfifo_live.specs.Balance.{times, undos, takes}
 use Rattle.kfifo_live.specs.Pass.{OpenQueue, Known, IsPass, IsOf, AllSeen, AllOf, IsGathered, Closes}
+use Rattle.kfifo_live.proofs.Balance.{balance}
 
 pub all_of_last : (q : OpenQueue) (ps : List Known) (p : Known) → AllOf q (ps ++ p ∷ []) → AllOf q ps × IsOf q p
 all_of_last q [] p o = (tt, o.0)
@@ -41,12 +43,15 @@ closes q ps items table_words slots key id v w rest last opened ps_are gathered 
     let kept = f.1.0 in
     let parts = (kept.fit id w f.1.1).begin in
     let seen = gathered.all_seen kept.all parts in
+    let reached : world_after q.opened kept.all ≡ Some kept.world = ap (λ (o : Opening). world_after o kept.all) (sym opened) ∙ kept.runs in
+    let items_are : items ≡ items_left q.opened.shape kept.world.words = same ∙ ap (items_left q.opened.shape) (sym f.2 ∙ kept.words_are) in
     record {
       all = kept.all;
       world = kept.world;
-      reached = ap (λ (o : Opening). world_after o kept.all) (sym opened) ∙ kept.runs;
+      reached = reached;
       begin = subst (λ (xs : List Known). AllSeen xs kept.all) (sym ps_are) (all_seen_push rest last kept.all seen.1 (of_last kept.all seen.0));
-      items_are = same ∙ ap (items_left q.opened.shape) (sym f.2 ∙ kept.words_are);
+      items_are = items_are;
+      balance = λ item. balance q.opened kept.all kept.world item reached ∙ ap (λ xs. undos item q.opened kept.all + (takes item q.opened kept.all + times item xs)) (sym items_are);
     }
 
 -- the ends word of a closed table names segments

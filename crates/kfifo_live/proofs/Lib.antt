@@ -6,3 +6,5 @@ pub mod Scans
 pub mod Passes
 pub mod Gathered
 pub mod Leftovers
+pub mod Rotation
+pub mod Balance

@@ -1,5 +1,5 @@
 -- A queue and its passes, as callers see them.
-use Rattle.std.specs.Prelude.{◌<◌, ◌≡◌, ℕ, zero, suc, List, [], ◌∷◌, Some, ◌++◌, length, true, ◌==◌}
+use Rattle.std.specs.Prelude.{◌<◌, ◌≡◌, ℕ, zero, suc, List, [], ◌∷◌, Some, ◌+◌, ◌++◌, length, true, ◌==◌}
 use Rattle.std.specs.List.{list_any}
 use Rattle.atomic_table.specs.Table.{Me}
 use Rattle.atomic_table.specs.Seated.{TableId}
@@ -10,6 +10,7 @@ use Rattle.kfifo_live.specs.declared.view.Opening.{Opening}
 use Rattle.kfifo_live.specs.declared.view.View.{View}
 use Rattle.kfifo_live.specs.Schedule.{part, world_after, seen_of, AllBegin}
 use Rattle.kfifo_live.specs.Left.{items_left}
+use Rattle.kfifo_live.specs.Balance.{times, puts, undos, takes}
 use Rattle.kfifo_live.specs.Step.{Idle}
 
 -- an open queue: its table, and what it was opened with
@@ -81,10 +82,12 @@ pub record IsGathered (v : View) (ps : List Known) (w : View) : Type 0 where
   pub all_seen : (all : List Event) → AllBegin w.parts all → AllBegin v.parts all × AllSeen ps all
 
 -- What is left at the end: there is one schedule, a beginning of which each pass has seen with all its own events, and
--- the items are those of the filled slots after it
+-- the items are those of the filled slots after it. No item is lost and none comes twice: those put in that schedule are
+-- those undone, those taken and those left, each as often
 pub record Closes (q : OpenQueue) (ps : List Known) (items : List ℕ) : Type 0 where
   pub all : List Event
   pub world : World
   pub reached : world_after q.opened all ≡ Some world
   pub begin : AllSeen ps all
   pub items_are : items ≡ items_left q.opened.shape world.words
+  pub balance : (item : ℕ) → puts item q.opened all ≡ undos item q.opened all + (takes item q.opened all + times item items)

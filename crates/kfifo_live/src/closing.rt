@@ -99,7 +99,8 @@ fn gather_all(
 }
 
 /// The items that are left, if each pass of the opening is given back: segment by segment from the
-/// head's round the ring, within a segment by slot number.
+/// head's round the ring, within a segment by slot number. Each item is among them as often as it was
+/// put, less how often it was undone and taken.
 ///
 /// MissingPass where not each pass of the opening is there once, which is tested first; Memory where
 /// a growth was refused. The items are then lost to the caller.
