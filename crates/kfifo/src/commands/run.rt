@@ -14,7 +14,7 @@ use crate::fault::Fault;
 use crate::options::Sizes;
 use crate::{options, report, words};
 use clap::{Arg, ArgAction, ArgMatches, Command};
-use kfifo_live::{Pass, Queue};
+use kfifo_live::{Pass, Queue, close};
 use kfifo_machine::Begin;
 use kfifo_words::{Ends, Shape, Word};
 use std::alloc::{AllocError, Global};
@@ -88,6 +88,7 @@ fn report_of(alloc: Global, shape: Shape, calls: &[Begin]) -> Result<String, Fau
     let mut text = String::new(alloc);
     make_calls(&queue, &mut pass, calls, &mut text)?;
     push_words(&queue, &mut pass, &mut text)?;
+    close_queue(alloc, queue, pass)?;
     Ok(text)
 }
 
@@ -99,6 +100,16 @@ fn open(alloc: Global, shape: Shape) -> Result<(Queue, Pass), Fault>
     let (queue, mut passes) = Queue::open(alloc, shape, 1).map_err(|_| Fault::Memory)?;
     let pass = passes.pop().unwrap();
     Ok((queue, pass))
+}
+
+/// Closes the queue. Nobody wants the items that are left.
+fn close_queue(alloc: Global, queue: Queue, pass: Pass) -> Result<(), Fault>
+    requires { IsOf queue pass }
+    ensures { IfErr result (λ fault. fault ≡ Fault.Memory) }
+{
+    let passes = vec![in alloc; pass]?;
+    close(alloc, queue, passes).map_err(|_| Fault::Memory)?;
+    Ok(())
 }
 
 /// Makes the calls, and adds the line of each.
@@ -151,7 +162,8 @@ fn make_call(
 /// Adds the lines of the ends word and of each slot.
 fn push_words(queue: &Queue, pass: &mut Pass, text: &mut String) -> Result<(), AllocError>
     requires { IsAlone queue.now pass.old }
-    ensures { OnOk result ((world : World)
+    ensures same { pass.new ≡ pass.old }
+    ensures lines { OnOk result ((world : World)
         × (after queue.now.opened.shape 1 pass.old.seen ≡ Some world)
         × (string_bytes text.new ≡ string_bytes text.old ++ world_lines queue.now.opened.shape world)) }
 {
