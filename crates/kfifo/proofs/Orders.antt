@@ -31,7 +31,7 @@ pub read_more : (words : List (Bor (List ℕ))) (place : ℕ) (d : Bor (List ℕ
     → WriteNumbers (texts_of (take (place + 1) words)) (numbers ++ number ∷ [])
 read_more words place d numbers number inside before here =
     rw (add-one, take-suc words place d inside, map-append (λ (t : Bor (List ℕ)). t.now) (take place words) (get_or words place d ∷ []))
-        (numbers_more (texts_of (take place words)) numbers (get_or words place d).now number before here)
+    (numbers_more (texts_of (take place words)) numbers (get_or words place d).now number before here)
 
 -- a text writes no number, so that the texts write none
 pub text_unread : (words : List (Bor (List ℕ))) (place : ℕ) (d : Bor (List ℕ)) → place < length words
@@ -42,7 +42,7 @@ text_unread words place d inside unread numbers all =
     let parts : texts_of words ≡ texts_of (take place words) ++ (get_or words place d).now ∷ texts_of (drop (suc place) words) =
     ap texts_of (sym cut) ∙ map-append (λ (t : Bor (List ℕ)). t.now) (take place words) (get_or words place d ∷ drop (suc place) words) in
     part_unread (texts_of (take place words)) (get_or words place d).now (texts_of (drop (suc place) words)) unread numbers
-        (subst (λ t. WriteNumbers t numbers) parts all)
+    (subst (λ t. WriteNumbers t numbers) parts all)
 
 -- what is known of the numbers of the parts is known of the order
 pub order_told : {V : Type 0} (items : V → List ℕ) (text : List ℕ) (words : List (Bor (List ℕ))) (r : Result V Fault) → text ≢ codes "none" → texts_of words ≡ comma_parts text

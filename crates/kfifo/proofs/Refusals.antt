@@ -1,5 +1,5 @@
 -- Why the commands `check` and `measure` have no answer, and what their answers are.
-use Rattle.std.proofs.Common.{◌≡◌, ◌≢◌, ℕ, List, Option, Some, codes, refl, Result, Ok, Err, IfOk, IfErr, sym, subst, inl, inr, ◌⊎◌}
+use Rattle.std.proofs.Common.{◌≡◌, ◌≢◌, ℕ, List, Option, Some, codes, refl, Result, Ok, Err, IfErr, sym, subst, inl, inr, ◌⊎◌}
 use Rattle.clap.specs.declared.parser.matches.Found.{Found}
 use Rattle.clap.specs.Words.{first_value}
 use Rattle.kfifo_judge.specs.declared.record.StreamFault.{StreamFault}

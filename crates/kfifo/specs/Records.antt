@@ -1,5 +1,5 @@
 -- What the commands `check` and `measure` come to, as functions of what their command lines give and of their input.
-use Rattle.std.specs.Prelude.{◌≡◌, ℕ, List, Option, Some, None, IfSome, MatchOption, max, min, option_map, codes}
+use Rattle.std.specs.Prelude.{◌≡◌, ℕ, List, Option, Some, None, IfSome, max, min, option_map, codes}
 use Rattle.clap.specs.declared.parser.matches.Found.{Found}
 use Rattle.clap.specs.declared.parser.matches.ArgMatches.{ArgMatches}
 use Rattle.clap.specs.Words.{first_value, one_text, rows_of, subcommand_name_of, subcommand_rows_of}

@@ -1,11 +1,10 @@
 //! The command `check`: whether a record has a legal order, or whether a given order of it is legal.
-ghost use Rattle.std.specs.Prelude.{◌≡◌, ◌≢◌, ◌⊎◌, ◌≤◌, ℕ, List, Some, IfOk, IfErr, MatchResult, max, min, map, codes, option_map};
-ghost use Rattle.clap.specs.Words.{first_value, found_of};
+ghost use Rattle.std.specs.Prelude.{◌≡◌, ◌≢◌, ◌⊎◌, ◌≤◌, ℕ, List, IfOk, IfErr, option_map};
+ghost use Rattle.clap.specs.Words.{found_of};
 ghost use Rattle.kfifo_judge.specs.Check.{IsChecked, IsCheckFault};
 ghost use Rattle.kfifo_judge.specs.declared.record.StreamFault.{StreamFault};
 ghost use Rattle.kfifo.specs.Faults.{stream_fault};
-ghost use Rattle.kfifo.specs.Orders.{WriteNumbers, WritesOrder};
-ghost use Rattle.kfifo.specs.Records.{IsCheck, IsCheckRefusal, IsInput, IsOrder, IsOrderFault, IsWidth, status_number};
+ghost use Rattle.kfifo.specs.Records.{IsCheck, IsCheckRefusal, IsInput, IsWidth, status_number};
 
 use crate::fault::Fault;
 use crate::status::Status;

@@ -20,9 +20,11 @@ Example:
 
 /// How the command is written, and its help.
 pub fn command<'a>(alloc: Global) -> Result<Command<'a>, AllocError> {
-    Ok(Command::new(alloc, NAME)
-        .about("Reads a record of calls, and says how often each item was certainly overtaken")
-        .after_help(EXAMPLES))
+    Ok(
+        Command::new(alloc, NAME)
+            .about("Reads a record of calls, and says how often each item was certainly overtaken")
+            .after_help(EXAMPLES),
+    )
 }
 
 /// The lines that answer the record of the input.
