@@ -9,7 +9,7 @@ use Rattle.kfifo_words.specs.declared.fault.ShapeFault.{ShapeFault}
 use Rattle.kfifo_words.specs.Sizes.{fault_of}
 use Rattle.kfifo_machine.specs.declared.event.Begin.{Begin}
 use Rattle.kfifo.specs.declared.fault.Fault.{Fault}
-use Rattle.kfifo.specs.declared.fault.Fault.TheVariants.{Shape as AtShape, Word, Memory, Output}
+use Rattle.kfifo.specs.declared.fault.Fault.TheVariants.{Shape as AtShape, Word, Order, Input, NotJson, Record, Search, RepeatedItem, Memory, Output}
 use Rattle.kfifo.specs.declared.options.Sizes.{Sizes}
 use Rattle.kfifo.specs.Options.{GivesOr, GivesSizes}
 use Rattle.kfifo.specs.Reports.{IsReport}
@@ -69,6 +69,12 @@ pub record IsWordFault (found : Found) (number : ℕ) : Type 0 where
 abbrev pub IsRefusal : Found → Fault → Type 0
 IsRefusal found (AtShape fault) = IsShapeFault found fault
 IsRefusal found (Word number) = IsWordFault found number
+IsRefusal found Order = ⊥
+IsRefusal found Input = ⊥
+IsRefusal found NotJson = ⊥
+IsRefusal found (Record fault) = ⊥
+IsRefusal found (Search fault) = ⊥
+IsRefusal found RepeatedItem = ⊥
 IsRefusal found Memory = Unit {0}
 IsRefusal found Output = ⊥
 

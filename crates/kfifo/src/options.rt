@@ -66,7 +66,7 @@ impl Sizes {
 }
 
 /// The number that an option gives, or its default.
-fn count_of(matches: &ArgMatches<'_>, name: &str, default: u32) -> u32
+pub fn count_of(matches: &ArgMatches<'_>, name: &str, default: u32) -> u32
     ensures { GivesOr 32 (one_text (found_of matches.now) name.now) default result }
 {
     matches.get_one(name).unwrap_or(default)

@@ -9,4 +9,6 @@ pub enum Status {
     Failed = 1,
     /// The command line was at fault.
     Misused = 2,
+    /// A record has no order, or its order is not legal.
+    Unordered = 3,
 }

@@ -1,6 +1,7 @@
-//! Words of the command line: numbers, and the calls of a script.
-ghost use Rattle.std.specs.Prelude.{◌≡◌, ℕ, ◌+◌, ◌^◌, ◌<◌, ◌≤◌, ◌↔◌, ◌⊎◌, IsTrue, List, MatchOption, IfOk, IfErr};
+//! Words of the command line: numbers, the calls of a script, and orders.
+ghost use Rattle.std.specs.Prelude.{◌≡◌, ℕ, ◌+◌, ◌^◌, ◌<◌, ◌≤◌, ◌↔◌, ◌⊎◌, IsTrue, List, MatchOption, MatchResult, IfOk, IfErr, map};
 ghost use Rattle.kfifo.specs.Words.{Cuts, IsDigits, WritesNumber, WritesStart, WritesCall, WritesCalls, IsFirstUnread};
+ghost use Rattle.kfifo.specs.Orders.{WriteNumbers, WritesOrder};
 ghost use Rattle.kfifo_machine.specs.declared.event.Begin.{Begin};
 
 use crate::fault::Fault;
@@ -87,4 +88,31 @@ pub fn read_calls(alloc: Global, texts: &[&str], k: u32, turns: u16) -> Result<V
         }
     }
     Ok(calls)
+}
+
+/// The order that a text writes: numbers joined by commas, or `none` for the empty order.
+pub fn read_order(alloc: Global, text: &str) -> Result<Vec<usize>, Fault>
+    ensures { MatchResult result (λ order. WritesOrder text.now order.items)
+        (λ fault. (fault ≡ Fault.Memory) ⊎ ((fault ≡ Fault.Order) × ((order : List ℕ) → ¬ WritesOrder text.now order))) }
+{
+    if text == "none" {
+        return Ok(Vec::new(alloc));
+    }
+    let parts: Vec<&str> = text.split(',').collect(alloc)?;
+    read_numbers(alloc, parts.as_slice())
+}
+
+/// The numbers that the texts write, in their order.
+fn read_numbers(alloc: Global, texts: &[&str]) -> Result<Vec<usize>, Fault>
+    ensures { let parts = map (λ t. t.now) texts.now in MatchResult result (λ numbers. WriteNumbers parts numbers.items)
+        (λ fault. (fault ≡ Fault.Memory) ⊎ ((fault ≡ Fault.Order) × ((numbers : List ℕ) → ¬ WriteNumbers parts numbers))) }
+{
+    let mut numbers = Vec::with_capacity(alloc, texts.len())?;
+    for text in texts {
+        match read_number(text) {
+            Some(number) => numbers.push(number as usize)?,
+            None => return Err(Fault::Order),
+        }
+    }
+    Ok(numbers)
 }

@@ -2,6 +2,7 @@
 
 mod closed;
 mod memory;
+mod records;
 mod runs;
 mod steps;
 mod usage;
@@ -9,6 +10,7 @@ mod usage;
 use crate::program::program;
 use std::alloc::{AllocError, Global};
 use std::io;
+use std::io::Read;
 use std::thread::Threads;
 
 /// What a run of the program came to.
@@ -36,20 +38,17 @@ fn words(alloc: Global, texts: &[&str]) -> Result<Vec<String>, AllocError> {
     Ok(words)
 }
 
-/// Runs the program on these words and no input.
-fn run_words<R: Threads + AllocGlobal>(rt: &R, texts: &[&str]) -> Result<Told, AllocError> {
+/// Runs the program on these words and this input.
+fn run_from<R: Threads + AllocGlobal, I: Read>(
+    rt: &R,
+    texts: &[&str],
+    input: &mut I,
+) -> Result<Told, AllocError> {
     let alloc = rt.alloc();
     let words = words(alloc, texts)?;
     let mut output = Vec::new(alloc);
     let mut faults = Vec::new(alloc);
-    let status = program(
-        rt,
-        alloc,
-        words.as_slice(),
-        &mut io::empty(),
-        &mut output,
-        &mut faults,
-    );
+    let status = program(rt, alloc, words.as_slice(), input, &mut output, &mut faults);
     Ok(Told {
         status,
         output,
@@ -57,8 +56,19 @@ fn run_words<R: Threads + AllocGlobal>(rt: &R, texts: &[&str]) -> Result<Told, A
     })
 }
 
+/// Runs the program on these words and no input.
+fn run_words<R: Threads + AllocGlobal>(rt: &R, texts: &[&str]) -> Result<Told, AllocError> {
+    run_from(rt, texts, &mut io::empty())
+}
+
 /// Runs the program on a line of words with a space between each two.
 fn run_line<R: Threads + AllocGlobal>(rt: &R, line: &str) -> Result<Told, AllocError> {
+    run_on(rt, line, "")
+}
+
+/// Runs the program on a line of words, and a text as its input.
+fn run_on<R: Threads + AllocGlobal>(rt: &R, line: &str, text: &str) -> Result<Told, AllocError> {
     let texts: Vec<&str> = line.split(' ').collect(rt.alloc())?;
-    run_words(rt, texts.as_slice())
+    let mut input = text.as_bytes();
+    run_from(rt, texts.as_slice(), &mut input)
 }

@@ -52,13 +52,18 @@ fn status_of<R: Threads + AllocGlobal, W: Write, F: Write>(
 ) -> Result<u8, AllocError> {
     let alloc = rt.alloc();
     let words = words(alloc, texts)?;
-    let mut input = io::empty();
+    let mut input = "[]".as_bytes();
     Ok(program(rt, alloc, words.as_slice(), &mut input, output, faults))
 }
 
 #[test]
 fn ends_where_the_output_is_closed(rt: HostRuntime) -> Result<(), Fail> {
-    for texts in [["run", "e7", "d"].as_slice(), ["run", "--help"].as_slice()] {
+    for texts in [
+        ["run", "e7", "d"].as_slice(),
+        ["run", "--help"].as_slice(),
+        ["check"].as_slice(),
+        ["measure"].as_slice(),
+    ] {
         let mut whole = Vec::new(rt.alloc());
         let mut faults = Vec::new(rt.alloc());
         let status = status_of(&rt, texts, &mut whole, &mut faults)?;

@@ -47,6 +47,22 @@ fn helps(rt: HostRuntime) -> Result<(), Fail> {
             "help run",
             ["--last <VERSION>", "--probes <SLOTS>", "\n  d:<START> "],
         ),
+        (
+            "check --help",
+            [
+                "Usage: kfifo check [OPTIONS]\n",
+                "--k <PLACES>",
+                "--order <CALLS>",
+            ],
+        ),
+        (
+            "help measure",
+            [
+                "Usage: kfifo measure\n",
+                "\n  kfifo measure < record.json",
+                "certainly overtaken",
+            ],
+        ),
         // Help is asked for before a shape or a word is looked at.
         (
             "run --k 0 x --help",
@@ -81,6 +97,13 @@ fn tells_what_is_wrong_with_a_command_line(rt: HostRuntime) -> Result<(), Fail> 
         ("run --turns 65536 e7", "'--turns <ROUNDS>'"),
         ("run --k 1 --k 1 e7", "cannot be used multiple times"),
         ("run --picks 0 e7", "unexpected argument '--picks'"),
+        ("check --k 0", "invalid value '0' for '--k <PLACES>'"),
+        ("check --k 65", "invalid value '65' for '--k <PLACES>'"),
+        ("check --order", "a value is required for '--order <CALLS>'"),
+        ("check --segments 2", "unexpected argument '--segments'"),
+        ("check 0,1", "unexpected argument '0,1'"),
+        ("measure --k 2", "unexpected argument '--k'"),
+        ("measure record.json", "unexpected argument 'record.json'"),
         ("run -d", "unexpected argument '-d'"),
         ("run --k -1 e7", "unexpected argument '-1'"),
     ] {
