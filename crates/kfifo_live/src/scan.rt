@@ -7,6 +7,6 @@ pub(crate) struct Row {
     pub(crate) offset: u32,
     /// The index of the first one's word.
     pub(crate) index: usize,
-    /// How many they are, at least 1.
+    /// How many they are.
     pub(crate) count: u32,
 }
