@@ -119,6 +119,16 @@ fn closes_only_with_each_pass(rt: HostRuntime) -> Result<(), Fail> {
     Ok(())
 }
 
+/// Lets a thread begin when all four have come, or after many tries.
+fn wait_for_all(clock: &AtomicU64) {
+    clock.fetch_add(1, Ordering::SeqCst);
+    for _try in 0..TRIES {
+        if clock.load(Ordering::SeqCst) >= 4 {
+            return;
+        }
+    }
+}
+
 /// Makes drawn calls, and notes when each began and ended by a clock that all threads share.
 fn work(
     alloc: Global,
@@ -133,6 +143,7 @@ fn work(
     let thread = pass.thread();
     let k = queue.shape().k();
     let mut seed = thread.wrapping_mul(7_919).wrapping_add(calls);
+    wait_for_all(clock);
     let mut made = Vec::new(alloc);
     for number in 0..calls {
         let start = draw(&mut seed, 64) % k;
@@ -263,10 +274,10 @@ fn loses_nothing_and_doubles_nothing(rt: HostRuntime) -> Result<(), Fail> {
         (8, 5, 8),
     ] {
         let shape = Shape::with_probes(k, n, LAST, probes)?;
-        let (made, left) = race(&rt, rt.alloc(), shape, 5_000)?;
+        let (made, left) = race(&rt, rt.alloc(), shape, 50_000)?;
         let put = items_put(rt.alloc(), made.as_slice())?;
         let out = items_out(rt.alloc(), made.as_slice(), left.as_slice())?;
-        assert!(rt; put.len() > 500, "{shape:?}");
+        assert!(rt; put.len() > 10_000, "{shape:?}");
         assert!(rt; put == out, "{shape:?}");
     }
     Ok(())
