@@ -1,5 +1,5 @@
 -- The seats of all passes, put together.
-use Rattle.std.proofs.Common.{◌≡◌, ℕ, zero, suc, ◌+◌, List, [], ◌∷◌, ◌++◌, Some, take, get_or, ◌<◌, sym, ap, ◌∙◌, subst, arith}
+use Rattle.std.proofs.Common.{◌≡◌, ℕ, zero, suc, ◌+◌, List, [], ◌∷◌, ◌++◌, Some, take, get_or, ◌<◌, ◌≤◌, sym, ap, ◌∙◌, subst, arith}
 use mathlib.Core.Option.{some, some-ne-none, some-injective}
 use lib.ListN.{get_elem?}
 use Rattle.atomic_table.specs.Table.{Me, State, Final, Seen}
@@ -16,6 +16,7 @@ use Rattle.kfifo_live.specs.Left.{items_left}
 use Rattle.kfifo_live.specs.Balance.{times, undos, takes}
 use Rattle.kfifo_live.specs.Pass.{OpenQueue, Known, IsPass, IsOf, AllSeen, AllOf, IsGathered, Closes}
 use Rattle.kfifo_live.proofs.Balance.{balance}
+use Rattle.kfifo_live.proofs.Passes.{keeps_promise}
 
 pub all_of_last : (q : OpenQueue) (ps : List Known) (p : Known) → AllOf q (ps ++ p ∷ []) → AllOf q ps × IsOf q p
 all_of_last q [] p o = (tt, o.0)
@@ -38,8 +39,8 @@ pass_begins thread me p all is same_thread same_seen b =
 pub closes : (q : OpenQueue) (ps : List Known) (items table_words : List ℕ) (slots : List (Unit {0})) (key : Opening) (id : ℕ) (v w : View) (rest : List Known) (last : Known)
     → key ≡ q.opened → ps ≡ rest ++ last ∷ [] → IsGathered v rest w
     → ((all : List Event) → AllBegin v.parts all → Begins last.thread last.seen all)
-    → items ≡ items_left q.opened.shape table_words → Final (Seen (λ (s : State (Unit {0}) View). OneSchedule key s.words s.views) id w) table_words slots → Closes q ps items
-closes q ps items table_words slots key id v w rest last opened ps_are gathered of_last same f =
+    → q.opened.threads ≤ 64 → items ≡ items_left q.opened.shape table_words → Final (Seen (λ (s : State (Unit {0}) View). OneSchedule key s.words s.views) id w) table_words slots → Closes q ps items
+closes q ps items table_words slots key id v w rest last opened ps_are gathered of_last few same f =
     let kept = f.1.0 in
     let parts = (kept.fit id w f.1.1).begin in
     let seen = gathered.all_seen kept.all parts in
@@ -52,6 +53,7 @@ closes q ps items table_words slots key id v w rest last opened ps_are gathered 
       begin = subst (λ (xs : List Known). AllSeen xs kept.all) (sym ps_are) (all_seen_push rest last kept.all seen.1 (of_last kept.all seen.0));
       items_are = items_are;
       balance = λ item. balance q.opened kept.all kept.world item reached ∙ ap (λ xs. undos item q.opened kept.all + (takes item q.opened kept.all + times item xs)) (sym items_are);
+      promise = keeps_promise q.opened kept.all kept.world few reached;
     }
 
 -- the ends word of a closed table names segments

@@ -1,5 +1,5 @@
 -- The passes of an opening.
-use Rattle.std.proofs.Common.{◌≡◌, ℕ, zero, suc, ◌+◌, ◌-◌, ◌<◌, [], ◌∷◌, ◌++◌, Option, None, get_or, replicate, length, refl, sym, ap, ◌∙◌, subst, arith}
+use Rattle.std.proofs.Common.{◌≡◌, ℕ, zero, suc, ◌+◌, ◌-◌, ◌<◌, ◌≤◌, [], ◌∷◌, ◌++◌, Option, None, get_or, replicate, length, refl, sym, ap, ◌∙◌, subst, arith}
 use Rattle.std.proofs.lemmas.List.{length-replicate}
 use Rattle.atomic_table.specs.Table.{Me}
 use Rattle.kfifo_machine.specs.declared.place.Running.{Running}
@@ -36,10 +36,10 @@ inside : (o : Opening) (thread : ℕ) → thread < o.threads → thread < length
 unfolding opening
 inside o thread lt = let idle : Option Running = None in let n = length-replicate o.threads idle in omega (arith, lt, n)
 
-pub new_pass : (o : Opening) (thread : ℕ) (me : Me (Unit {0}) View) → thread < o.threads → me.0 ≡ view_of o (part thread [] ∷ []) → me.1 ≡ [] → IsPass thread me
-new_pass o thread me lt is held =
+pub new_pass : (o : Opening) (thread : ℕ) (me : Me (Unit {0}) View) → thread < o.threads → o.threads ≤ 64 → me.0 ≡ view_of o (part thread [] ∷ []) → me.1 ≡ [] → IsPass thread me
+new_pass o thread me lt few is held =
     let idle : Idle (view_of o (part thread [] ∷ [])) = record { here = opening o.shape o.threads; seated = refl; reached = refl; within = inside o thread lt; idle = idle_at o thread } in
-    record { alone = ap (λ v. v.parts) is ∙ ap (λ es. part thread es ∷ []) (sym (ap seen_of is)); held = held; idle = subst Idle (sym is) idle }
+    record { alone = ap (λ v. v.parts) is ∙ ap (λ es. part thread es ∷ []) (sym (ap seen_of is)); held = held; idle = subst Idle (sym is) idle; few = subst (λ (v : View). v.opened.threads ≤ 64) (sym is) few }
 
 -- the first part is cut off
 pub cut_first : (o : Opening) (first count : ℕ) (v left right : View) → first < count → v ≡ view_of o (fresh first (count - first)) → left ≡ first_part v → right ≡ other_parts v

@@ -1,5 +1,5 @@
 -- A pass that has seen more is still in no call.
-use Rattle.std.proofs.Common.{◌≡◌, ℕ, ◌<◌, List, [], ◌∷◌, ◌++◌, length, Some, None, refl, sym, ap, ◌∙◌, subst, arith, append_assoc}
+use Rattle.std.proofs.Common.{◌≡◌, ℕ, ◌<◌, ◌≤◌, List, [], ◌∷◌, ◌++◌, length, Some, None, refl, sym, ap, ◌∙◌, subst, arith, append_assoc}
 use Rattle.std.proofs.lemmas.List.{append-nil}
 use Rattle.atomic_table.specs.Table.{Me}
 use Rattle.atomic_table.specs.Seated.{TableId}
@@ -16,7 +16,9 @@ use Rattle.kfifo_live.specs.declared.view.View.{View}
 use Rattle.kfifo_live.specs.Schedule.{part, view_of, world_after, thread_in, thread_of, more_in, seen_of, with_seen, AllBegin, first_part, both_parts}
 use Rattle.kfifo_live.specs.Step.{Idle, Looks, Went}
 use Rattle.kfifo_live.specs.Pass.{StartsWith, IsPass, known_of, Finds}
+use Rattle.kfifo_live.specs.Promise.{KeepsPromise}
 use Rattle.kfifo_live.proofs.Whole.{idle_after}
+use Rattle.kfifo_linear.proofs.Schedule.{has_legal_order, few_overtake, few_certainly}
 
 -- a pass acts for its thread
 pub pass_thread : (thread : ℕ) (me : Me (Unit {0}) View) → IsPass thread me → thread_of me.0 ≡ thread
@@ -30,6 +32,10 @@ idle_on o thread seen all here end reached within idle b there =
     let still = still_threads o.shape here end b.rest onward in
     (omega (arith, within, still), same_place o.shape here end b.rest thread b.no_own onward ∙ idle)
 
+-- its opening has so many threads as before
+few_same : (v w : View) (parts : List Part) → w ≡ view_of v.opened parts → v.opened.threads ≤ 64 → w.opened.threads ≤ 64
+few_same v w parts is few = subst (λ (o : Opening). o.threads ≤ 64) (sym (ap (λ (x : View). x.opened) is)) few
+
 passes_on : (thread : ℕ) (old new : Me (Unit {0}) View) (all : List Event) (end : World) → IsPass thread old
     → new.0 ≡ view_of old.0.opened (part thread all ∷ []) → new.1 ≡ [] → Begins thread (seen_of old.0) all → world_after old.0.opened all ≡ Some end → IsPass thread new
 passes_on thread old new all end p is held b there =
@@ -38,7 +44,7 @@ passes_on thread old new all end p is held b there =
     let place = ap (λ t. place_of p.idle.here t) (sym same) ∙ p.idle.idle in
     let on = idle_on old.0.opened thread (seen_of old.0) all p.idle.here end p.idle.reached within place b there in
     let idle : Idle (view_of old.0.opened (part thread all ∷ [])) = record { here = end; seated = refl; reached = there; within = on.0; idle = on.1 } in
-    record { alone = ap (λ v. v.parts) is ∙ ap (λ es. part thread es ∷ []) (sym (ap seen_of is)); held = held; idle = subst Idle (sym is) idle }
+    record { alone = ap (λ v. v.parts) is ∙ ap (λ es. part thread es ∷ []) (sym (ap seen_of is)); held = held; idle = subst Idle (sym is) idle; few = few_same old.0 new.0 (part thread all ∷ []) is p.few }
 
 alone_with : (thread : ℕ) (old : Me (Unit {0}) View) (all : List Event) → IsPass thread old → with_seen old.0 all ≡ view_of old.0.opened (part thread all ∷ [])
 alone_with thread old all p = ap (λ (ps : List Part). view_of old.0.opened (part (thread_in ps) all ∷ more_in ps)) p.alone
@@ -74,6 +80,7 @@ called begin answer thread table table' old new p w =
       alone = ap (λ v. v.parts) is ∙ ap (λ es. part thread es ∷ []) (sym (ap seen_of is));
       held = w.same_slots ∙ p.held;
       idle = idle_after (Some begin) old.0 new.0 answer l;
+      few = few_same old.0 new.0 (part thread all ∷ []) is p.few;
     }
 
 -- after a look with another's parts beside its own, which it then gives back
@@ -117,3 +124,17 @@ exactly_own thread other seen mine before all b o on from =
     left_nil : (xs ys : List Event) → xs ++ ys ≡ [] → xs ≡ []
     left_nil [] ys e = refl
     left_nil (x ∷ xs) ys e = absurd (cc)
+
+-- every schedule of an opening for at most 64 threads keeps the promise
+pub keeps_promise : (o : Opening) (seen : List Event) (here : World) → o.threads ≤ 64 → world_after o seen ≡ Some here → KeepsPromise o seen
+keeps_promise o seen here few reached = record {
+  world = here;
+  reached = reached;
+  legal = has_legal_order o.shape o.threads few seen here reached;
+  few_overtake = few_overtake o.shape o.threads few seen here reached;
+  few_certainly_overtake = λ distinct c done. few_certainly o.shape o.threads few seen here reached c done distinct;
+}
+
+-- so does what a pass has seen
+pub promised : (thread : ℕ) (me : Me (Unit {0}) View) → IsPass thread me → KeepsPromise me.0.opened (seen_of me.0)
+promised thread me p = keeps_promise me.0.opened (seen_of me.0) p.idle.here p.few p.idle.reached

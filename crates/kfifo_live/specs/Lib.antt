@@ -1,5 +1,6 @@
 pub mod Schedule
 pub mod Step
 pub mod Left
+pub mod Promise
 pub mod Pass
 pub mod Balance

@@ -1,5 +1,5 @@
 -- A queue and its passes, as callers see them.
-use Rattle.std.specs.Prelude.{◌<◌, ◌≡◌, ℕ, zero, suc, List, [], ◌∷◌, Some, ◌+◌, ◌++◌, length, true, ◌==◌}
+use Rattle.std.specs.Prelude.{◌<◌, ◌≤◌, ◌≡◌, ℕ, zero, suc, List, [], ◌∷◌, Some, ◌+◌, ◌++◌, length, true, ◌==◌}
 use Rattle.std.specs.List.{list_any}
 use Rattle.atomic_table.specs.Table.{Me}
 use Rattle.atomic_table.specs.Seated.{TableId}
@@ -10,6 +10,7 @@ use Rattle.kfifo_live.specs.declared.view.Opening.{Opening}
 use Rattle.kfifo_live.specs.declared.view.View.{View}
 use Rattle.kfifo_live.specs.Schedule.{part, world_after, seen_of, AllBegin}
 use Rattle.kfifo_live.specs.Left.{items_left}
+use Rattle.kfifo_live.specs.Promise.{KeepsPromise}
 use Rattle.kfifo_live.specs.Balance.{times, puts, undos, takes}
 use Rattle.kfifo_live.specs.Step.{Idle}
 
@@ -31,11 +32,13 @@ queue_of table o = record { table = table; opened = o }
 abbrev pub known_of : TableId → ℕ → View → Known
 known_of table thread v = record { table = table; opened = v.opened; thread = thread; seen = seen_of v }
 
--- what is always so of a pass: it acts for its thread alone, which is in no call, and its seat holds no slot
+-- what is always so of a pass: it acts for its thread alone, which is in no call, its seat holds no slot, and its queue was
+-- opened for at most 64 threads
 pub record IsPass (thread : ℕ) (me : Me (Unit {0}) View) : Type 0 where
   pub alone : me.0.parts ≡ part thread (seen_of me.0) ∷ []
   pub held : me.1 ≡ []
   pub idle : Idle me.0
+  pub few : me.0.opened.threads ≤ 64
 
 -- the pass came from this opening
 abbrev pub IsOf : OpenQueue → Known → Type 0
@@ -83,7 +86,7 @@ pub record IsGathered (v : View) (ps : List Known) (w : View) : Type 0 where
 
 -- What is left at the end: there is one schedule, a beginning of which each pass has seen with all its own events, and
 -- the items are those of the filled slots after it. No item is lost and none comes twice: those put in that schedule are
--- those undone, those taken and those left, each as often
+-- those undone, those taken and those left, each as often. And that schedule keeps the promise
 pub record Closes (q : OpenQueue) (ps : List Known) (items : List ℕ) : Type 0 where
   pub all : List Event
   pub world : World
@@ -91,3 +94,4 @@ pub record Closes (q : OpenQueue) (ps : List Known) (items : List ℕ) : Type 0 
   pub begin : AllSeen ps all
   pub items_are : items ≡ items_left q.opened.shape world.words
   pub balance : (item : ℕ) → puts item q.opened all ≡ undos item q.opened all + (takes item q.opened all + times item items)
+  pub promise : KeepsPromise q.opened all

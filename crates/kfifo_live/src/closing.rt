@@ -100,7 +100,8 @@ fn gather_all(
 
 /// The items that are left, if each pass of the opening is given back: segment by segment from the
 /// head's round the ring, within a segment by slot number. Each item is among them as often as it was
-/// put, less how often it was undone and taken.
+/// put, less how often it was undone and taken. The one schedule of all calls of the queue keeps its
+/// promise: a legal order of them, in which no item is overtaken k times where items are distinct.
 ///
 /// MissingPass where not each pass of the opening is there once, which is tested first; Memory where
 /// a growth was refused. The items are then lost to the caller.

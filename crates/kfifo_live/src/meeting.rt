@@ -3,6 +3,7 @@ ghost use Rattle.std.specs.Prelude.{◌≡◌, List};
 ghost use Rattle.kfifo_machine.specs.declared.event.Event.{Event};
 ghost use Rattle.kfifo_machine.specs.Runs.{Begins, own};
 ghost use Rattle.kfifo_live.specs.Pass.{IsOf, IsSame, StartsWith};
+ghost use Rattle.kfifo_live.specs.Promise.{KeepsPromise};
 
 use crate::queue::{Pass, Queue};
 use crate::seats::{gather, give_all, give_rest, glance};
@@ -14,6 +15,9 @@ use std::marker::Brand;
 /// What is new to the second is no event of its own, and no event of the first that the first has not
 /// seen. So a schedule that the second had seen before, and that begins with what the first has seen,
 /// holds exactly the events that the first has seen of its own.
+///
+/// What each of them has seen keeps the promise of the queue: its calls stand in a legal order, in
+/// which no item is overtaken k times where items are distinct.
 pub fn meet(queue: &Queue, first: &mut Pass, second: &mut Pass)
     requires first { IsOf queue.now first.old }
     requires second { IsOf queue.now second.old }
@@ -22,6 +26,7 @@ pub fn meet(queue: &Queue, first: &mut Pass, second: &mut Pass)
     ensures all_of_first { Begins first.old.thread first.old.seen second.new.seen }
     ensures others { Begins second.old.thread second.old.seen second.new.seen }
     ensures exactly { (before : List Event) → StartsWith second.old.seen before → StartsWith before first.old.seen → own first.old.thread before ≡ own first.old.thread first.old.seen }
+    ensures promise { KeepsPromise first.new.opened first.new.seen × KeepsPromise second.new.opened second.new.seen }
 {
     let shared = &queue.table.shared;
     let whole = give_all(shared, &mut first.seat);

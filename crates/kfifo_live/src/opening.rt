@@ -23,6 +23,7 @@ fn deal(
     threads: u32,
 ) -> Result<Vec<Pass>, AllocError>
     requires table { (seat.table_id ≡ shared.now.table_id) × (0 < shared.now.table_id.words) }
+    requires few { threads ≤ 64 }
     requires seat { (seat.me.1 ≡ []) × (seat.me.0 ≡ view_of seat.me.0.opened (fresh 0 threads)) × (seat.me.0.opened.threads ≡ threads) }
     ensures { IfOk result (λ ps. ps.items ≡ new_passes (queue_of seat.table_id seat.me.0.opened) 0 threads) }
 {

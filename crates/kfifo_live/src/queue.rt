@@ -6,6 +6,7 @@ ghost use Rattle.kfifo_machine.specs.Causes.{FullHasCause, WornHasCause};
 ghost use Rattle.kfifo_machine.specs.Rounds.{BusyHasCause, BusyIsDisturbed};
 ghost use Rattle.kfifo_machine.specs.declared.event.Begin.TheVariants.{Enqueue, Dequeue};
 ghost use Rattle.kfifo_live.specs.Schedule.{opening};
+ghost use Rattle.kfifo_live.specs.Promise.{KeepsPromise};
 ghost use Rattle.kfifo_live.specs.Pass.{OpenQueue, Known, queue_of, known_of, IsPass, IsOf, IsSame, Finds};
 
 use crate::law::Law;
@@ -39,7 +40,10 @@ impl Model for Queue {
 /// What a thread makes its calls with. It may go to another thread between two calls.
 ///
 /// Clauses see it as the schedule that it has seen: a schedule of the machine that holds all events
-/// which this pass made up to now.
+/// which this pass made up to now. Each call that adds to it says that it keeps the queue's promise:
+/// the calls in it stand in a legal order, one that has all finished calls, keeps each return before
+/// a call and is a run of the k-relaxed queue; in it, where the items are distinct, none is
+/// overtaken k times.
 #[derive(Drop)]
 pub struct Pass {
     pub(crate) thread: u32,
@@ -80,6 +84,9 @@ impl Pass {
     /// event being its own; the laws of such runs stand beside it: how many events of its own a call
     /// has at most, and what a call saw that was answered Full, Worn or Busy. Busy after n + 2 rounds
     /// or more is another thread's doing. It never allocates, waits or locks.
+    ///
+    /// What the pass has then seen keeps the promise: a legal order of its calls, this one among
+    /// them, in which no item is overtaken k times where items are distinct.
     pub fn enqueue(&mut self, queue: &Queue, item: u32, start: u32, turns: u16) -> Answer
         requires of { IsOf queue.now self.old }
         requires item { (1 ≤ item) × (item < 2 ^ 24) }
@@ -87,6 +94,7 @@ impl Pass {
         requires turns { 1 ≤ turns }
         ensures same { IsSame self.old self.new }
         ensures run { WholeRun self.old.opened.shape self.old.opened.threads self.old.thread (Enqueue item start turns) result self.old.seen self.new.seen }
+        ensures promise { KeepsPromise self.new.opened self.new.seen }
         ensures few_events { FewEvents self.old.opened.shape self.old.opened.threads }
         ensures leaves_none { LeavesNone self.old.opened.shape self.old.opened.threads }
         ensures full_has_cause { FullHasCause self.old.opened.shape self.old.opened.threads }
@@ -111,12 +119,16 @@ impl Pass {
     /// pass the greatest one. What the pass has seen grows by events of others and by one whole run
     /// of the call, the last event being its own; the laws of such runs stand beside it, as at
     /// `enqueue`. It never allocates, waits or locks.
+    ///
+    /// What the pass has then seen keeps the promise: a legal order of its calls, this one among
+    /// them, in which no item is overtaken k times where items are distinct.
     pub fn dequeue(&mut self, queue: &Queue, start: u32, turns: u16) -> Answer
         requires of { IsOf queue.now self.old }
         requires start { start < queue.now.opened.shape.k }
         requires turns { 1 ≤ turns }
         ensures same { IsSame self.old self.new }
         ensures run { WholeRun self.old.opened.shape self.old.opened.threads self.old.thread (Dequeue start turns) result self.old.seen self.new.seen }
+        ensures promise { KeepsPromise self.new.opened self.new.seen }
         ensures few_events { FewEvents self.old.opened.shape self.old.opened.threads }
         ensures worn_has_cause { WornHasCause self.old.opened.shape self.old.opened.threads }
         ensures busy_has_cause { BusyHasCause self.old.opened.shape self.old.opened.threads }
@@ -133,12 +145,13 @@ impl Pass {
 
     /// One load of the word with this index: 0 is the ends word, then come the slots, segment by
     /// segment, and last the clock. The load is no event. The pass has then seen a schedule, in which
-    /// events of others alone are new to it, that leaves this word.
+    /// events of others alone are new to it, that leaves this word, and that keeps the promise.
     pub fn word(&mut self, queue: &Queue, index: usize) -> u64
         requires of { IsOf queue.now self.old }
         requires index { index < 2 + queue.now.opened.shape.n * queue.now.opened.shape.k }
         ensures same { IsSame self.old self.new }
         ensures finds { Finds self.old self.new index result }
+        ensures promise { KeepsPromise self.new.opened self.new.seen }
     {
         glance(&queue.table.shared, &mut self.seat, index)
     }

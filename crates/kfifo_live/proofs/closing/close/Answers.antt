@@ -1,4 +1,4 @@
-use Rattle.std.proofs.Common.{◌<◌, List, ap, sym, ◌∙◌, subst, arith}
+use Rattle.std.proofs.Common.{◌<◌, ◌≤◌, List, ap, sym, ◌∙◌, subst, arith}
 use Rattle.kfifo_live.specs.Pass.{OpenQueue, Known, queue_of, AllOf}
 use Rattle.core.specs.Mem.Slots.{slots_items}
 use Rattle.kfifo_live.specs.Left.{items_left}
@@ -29,11 +29,14 @@ close_with-closed-requires c =
 
 pub returns-clause-ok : goal.returns-clause-ok
 returns-clause-ok c =
+    let of = all_of_last _ _ _ (subst (AllOf c.args.queue) c.in-Some.ensures.items c.requires) in
+    let few = subst (λ (o : Opening). o.threads ≤ 64) (ap (λ (k : Known). k.opened) c.last.view_is ∙ of.1.1) c.last.invariant.few in
     closes c.args.queue _ _ _ _ _ _ c.last.inside.seat.me.0 _ c.pop.new.self.items c.in-Some.last
     (c.queue.invariant.0 ∙ ap (λ (q : OpenQueue). q.opened) c.queue.view_is)
     c.in-Some.ensures.items
     c.gather_all-seat.ensures.all
     (λ all b. pass_begins _ c.last.inside.seat.me c.in-Some.last all c.last.invariant (sym (ap (λ (k : Known). k.thread) c.last.view_is)) (sym (ap (λ (k : Known). k.seen) c.last.view_is)) b)
+    few
     (c.in_ok-items.ensures ∙ ap (items_left c.queue.inside.shape) (c.as_slice-2.ensures.value ∙ c.in_ok-words.ensures) ∙ ap (λ (q : OpenQueue). items_left q.opened.shape (slots_items c.close_with-closed.result.words)) c.queue.view_is)
     c.close_with-closed.ensures.values.2
 

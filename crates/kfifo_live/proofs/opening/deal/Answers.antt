@@ -1,4 +1,4 @@
-use Rattle.std.proofs.Common.{◌≡◌, ◌<◌, ◌+◌, ◌++◌, [], ◌∷◌, sym, ◌∙◌, arith}
+use Rattle.std.proofs.Common.{◌≡◌, ◌<◌, ◌≤◌, ◌+◌, ◌++◌, [], ◌∷◌, sym, ◌∙◌, arith}
 use Rattle.kfifo_live.specs.Pass.{queue_of, known_of}
 use Rattle.kfifo_live.proofs.Opens.{new_passes-snoc, new_pass, cut_first}
 use Rattle.kfifo_live.proofs.opening.deal.Goals as goal
@@ -9,7 +9,8 @@ invariant_of-push c =
     let g = c.give_rest-rest.ensures in
     let cut = cut_first _ _ _ _ _ _ c.loop-thread-test.true i.view g.kept g.given.1 in
     let below : c.loop-thread.thread < c.args.seat.me.0.opened.threads = omega (arith, c.requires.seat.2, c.loop-thread-test.true) in
-    new_pass _ _ _ below cut.0 (g.same.1 ∙ i.held)
+    let few : c.args.seat.me.0.opened.threads ≤ 64 = omega (arith, c.requires.seat.2, c.requires.few) in
+    new_pass _ _ _ below few cut.0 (g.same.1 ∙ i.held)
 
 pub loop-thread-preserved : goal.loop-thread-preserved
 loop-thread-preserved c =

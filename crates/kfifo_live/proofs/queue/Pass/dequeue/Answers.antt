@@ -1,5 +1,5 @@
 -- After the call the pass is in no call, and what is new to it is one whole run.
-use Rattle.kfifo_live.proofs.Passes.{called}
+use Rattle.kfifo_live.proofs.Passes.{called, promised}
 use Rattle.kfifo_machine.proofs.Budget.{few_events}
 use Rattle.kfifo_machine.proofs.Wear.{worn_has_cause}
 use Rattle.kfifo_machine.proofs.Losses.{busy_has_cause}
@@ -8,6 +8,9 @@ use Rattle.kfifo_live.proofs.queue.Pass.dequeue.Goals as goal
 
 pub invariant_of-self : goal.invariant_of-self
 invariant_of-self c = called _ _ _ _ _ c.self.inside.seat.me c.dequeue.new.seat.me c.self.invariant c.dequeue.ensures
+
+pub returns-clause-promise : goal.returns-clause-promise
+returns-clause-promise c = promised _ c.dequeue.new.seat.me (called _ _ _ _ _ c.self.inside.seat.me c.dequeue.new.seat.me c.self.invariant c.dequeue.ensures)
 
 pub returns-clause-few_events : goal.returns-clause-few_events
 returns-clause-few_events c = few_events c.args.self.now.opened.shape c.args.self.now.opened.threads
