@@ -21,6 +21,21 @@ row_at {shape} {segment} {start} {offset} {index} {count} {limit} row at seen is
     let back : index + (at - index) ≡ at = omega arith in
     ap (scan_index shape segment start) place ∙ row.each (at - index) (omega arith) ∙ back
 
+-- some slots of a row are a row
+pub part_of_row : {shape : Shape} {segment start offset index count limit : ℕ} → SlotsInARow shape segment start offset index count limit
+    → (at seen some : ℕ) → at + offset ≡ index + seen → index ≤ at → at + some ≤ index + count → 0 < some → SlotsInARow shape segment start seen at some limit
+part_of_row {shape} {segment} {start} {offset} {index} {count} {limit} row at seen some is from inside any =
+    let within = row.within in
+    let below = row.below in
+    let above = row.above in
+    record {
+      above = omega arith;
+      more = omega arith;
+      within = omega arith;
+      below = omega arith;
+      each = λ i less. row_at row (at + i) (seen + i) (omega arith) (omega arith) (omega arith);
+    }
+
 -- the index of the slot, which is counted from the segment's first one
 pub index_is : (shape : Shape) (segment start offset first slot : ℕ) → first ≡ slot_at shape.k segment 0 → slot ≡ (start + offset) % shape.k
     → scan_index shape segment start offset ≡ first + slot

@@ -1,46 +1,24 @@
 -- The first look decides, or leads on to the others.
-use Rattle.std.proofs.Common.{◌≡◌, refl, arith, ap, ◌∙◌}
-use Rattle.std.proofs.lemmas.Bool.Decides.{nat_tests}
+use Rattle.std.proofs.Common.{◌≡◌, arith, ap, ◌∙◌}
 use Rattle.kfifo_words.specs.Words.{head_of}
 use Rattle.kfifo_words.specs.Ring.{slot_at}
-use Rattle.kfifo_machine.specs.declared.place.Running.TheVariants as R
-use Rattle.kfifo_machine.specs.declared.place.DequeuePhase.TheVariants as D
-use Rattle.kfifo_machine.specs.declared.place.Found.TheVariants.{Slot, Nothing}
-use Rattle.kfifo_machine.specs.declared.place.Next.TheVariants.{Goes}
-use Rattle.kfifo_machine.specs.Program.{advance, scan_index}
-use Rattle.kfifo_live.proofs.Scans.{index_is, at_start}
-use Rattle.kfifo_live.proofs.Whole.{onward_here, onward_on, onward_step}
+use Rattle.kfifo_machine.specs.declared.place.Found.TheVariants.{Nothing}
+use Rattle.kfifo_live.proofs.Scans.{index_is, at_start, head_more, head_over}
+use Rattle.kfifo_live.proofs.Whole.{onward_on}
 use Rattle.kfifo_live.proofs.dequeue.scan_head.Goals as goal
 
-pub load-word-requires-clause-access : goal.load-word-requires-clause-access
-load-word-requires-clause-access c =
+pub look-requires-clause-index : goal.look-requires-clause-index
+look-requires-clause-index c =
     let first : c.slot_index-first.result ≡ slot_at c.args.shape.now.k (head_of c.args.ends) 0 = c.slot_index-first.ensures.value ∙ ap (λ s. slot_at c.args.shape.now.k s 0) c.head.ensures.value in
-    let index = index_is c.args.shape.now (head_of c.args.ends) c.args.demand.start 0 c.slot_index-first.result c.args.demand.start first (at_start c.args.shape.now.k c.args.demand.start c.requires.start) in
-    rw (c.at-place.ensures, index) refl
-
-pub returns-then-value-ne0 : goal.returns-then-value-ne0
-returns-then-value-ne0 c =
-    let first : c.slot_index-first.result ≡ slot_at c.args.shape.now.k (head_of c.args.ends) 0 = c.slot_index-first.ensures.value ∙ ap (λ s. slot_at c.args.shape.now.k s 0) c.head.ensures.value in
-    let index = index_is c.args.shape.now (head_of c.args.ends) c.args.demand.start 0 c.slot_index-first.result c.args.demand.start first (at_start c.args.shape.now.k c.args.demand.start c.requires.start) in
-    let e : advance c.args.shape.now (R.Dequeue c.args.demand.start c.args.demand.left (D.ScanHead c.args.ends 0)) c.load-word.result ≡ Goes (R.Dequeue c.args.demand.start c.args.demand.left (D.Recheck c.args.ends (Slot (scan_index c.args.shape.now (head_of c.args.ends) c.args.demand.start 0) c.load-word.result))) = grind (arith, nat_tests) in
-    let here = onward_here _ _ _ _ _ _ c.requires.ready refl in
-    onward_step _ _ _ _ _ _ _ _ _ _ _ _ _ here refl c.at-place.ensures c.load-word.ensures (rw (← index) e) (_, refl)
+    index_is c.args.shape.now (head_of c.args.ends) c.args.demand.start 0 c.slot_index-first.result c.args.demand.start first (at_start c.args.shape.now.k c.args.demand.start c.requires.start)
 
 pub returns-then-k-eq1 : goal.returns-then-k-eq1
 returns-then-k-eq1 c =
-    let e : advance c.args.shape.now (R.Dequeue c.args.demand.start c.args.demand.left (D.ScanHead c.args.ends 0)) c.load-word.result ≡ Goes (R.Dequeue c.args.demand.start c.args.demand.left (D.Recheck c.args.ends Nothing)) = grind (arith, nat_tests) in
-    let here = onward_here _ _ _ _ _ _ c.requires.ready refl in
-    onward_step _ _ _ _ _ _ _ _ _ _ _ _ _ here refl c.at-place.ensures c.load-word.ensures e (_, refl)
+    let over = head_over c.args.demand.start c.args.demand.left c.args.ends c.args.shape.now.k 1 Nothing (omega arith) in
+    rw over at c.in_default.ensures
 
 pub scan_rest-requires-clause-ready : goal.scan_rest-requires-clause-ready
-scan_rest-requires-clause-ready c =
-    let e : advance c.args.shape.now (R.Dequeue c.args.demand.start c.args.demand.left (D.ScanHead c.args.ends 0)) c.load-word.result ≡ Goes (R.Dequeue c.args.demand.start c.args.demand.left (D.ScanHead c.args.ends 1)) = grind (arith, nat_tests) in
-    let here = onward_here _ _ _ _ _ _ c.requires.ready refl in
-    let on = onward_step _ _ _ _ _ _ _ _ _ _ _ _ _ here refl c.at-place.ensures c.load-word.ensures e (_, refl) in
-    on.ready _ refl
+scan_rest-requires-clause-ready c = c.in_default.ensures.ready _ (head_more c.args.demand.start c.args.demand.left c.args.ends c.args.shape.now.k 1 (omega arith))
 
 pub returns : goal.returns
-returns c =
-    let e : advance c.args.shape.now (R.Dequeue c.args.demand.start c.args.demand.left (D.ScanHead c.args.ends 0)) c.load-word.result ≡ Goes (R.Dequeue c.args.demand.start c.args.demand.left (D.ScanHead c.args.ends 1)) = grind (arith, nat_tests) in
-    let here = onward_here _ _ _ _ _ _ c.requires.ready refl in
-    onward_on _ _ _ _ _ _ _ _ _ _ (onward_step _ _ _ _ _ _ _ _ _ _ _ _ _ here refl c.at-place.ensures c.load-word.ensures e (_, refl)) c.scan_rest.ensures
+returns c = onward_on _ _ _ _ _ _ _ _ _ _ c.in_default.ensures c.scan_rest.ensures

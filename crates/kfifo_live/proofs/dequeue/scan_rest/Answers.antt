@@ -14,13 +14,13 @@ scan_row-requires-clause-row c =
     upper_row c.args.shape.now (head_of c.args.ends) c.args.demand.start 1 c.args.first (c.k.result - c.args.demand.start - 1) c.args.shape.now.k c.requires.first c.requires.ends.head
     (omega arith) (omega arith) (omega arith)
 
-pub scan_row-requires-in-Nothing-clause-row : goal.scan_row-requires-in-Nothing-clause-row
-scan_row-requires-in-Nothing-clause-row c =
+pub scan_row_by_two-requires-clause-row : goal.scan_row_by_two-requires-clause-row
+scan_row_by_two-requires-clause-row c =
     lower_row c.args.shape.now (head_of c.args.ends) c.args.demand.start ((c.k.result - c.args.demand.start - 1) + 1) c.args.first c.args.demand.start c.args.shape.now.k c.requires.first c.requires.ends.head
     (omega arith) (omega arith) (omega arith) (omega arith) c.requires.start
 
-pub scan_row-requires-in-Nothing-clause-ready : goal.scan_row-requires-in-Nothing-clause-ready
-scan_row-requires-in-Nothing-clause-ready c =
+pub scan_row_by_two-requires-clause-ready : goal.scan_row_by_two-requires-clause-ready
+scan_row_by_two-requires-clause-ready c =
     let turned : 1 + (c.k.result - c.args.demand.start - 1) ≡ (c.k.result - c.args.demand.start - 1) + 1 = omega arith in
     let is = head_more c.args.demand.start c.args.demand.left c.args.ends c.args.shape.now.k (1 + (c.k.result - c.args.demand.start - 1)) (omega arith) ∙ ap (λ (n : ℕ). Goes (R.Dequeue c.args.demand.start c.args.demand.left (D.ScanHead c.args.ends n))) turned in
     c.in-Nothing.ensures.ready _ is
@@ -32,5 +32,5 @@ returns-then-start-eq0 c =
 
 pub returns-else-start-eq0 : goal.returns-else-start-eq0
 returns-else-start-eq0 c =
-    let over = head_over c.args.demand.start c.args.demand.left c.args.ends c.args.shape.now.k ((c.k.result - c.args.demand.start - 1) + 1 + c.args.demand.start) c.scan_row-in-Nothing.result (omega arith) in
-    onward_on _ _ _ _ _ _ _ _ _ _ c.in-Nothing.ensures (rw over at c.scan_row-in-Nothing.ensures)
+    let over = head_over c.args.demand.start c.args.demand.left c.args.ends c.args.shape.now.k ((c.k.result - c.args.demand.start - 1) + 1 + c.args.demand.start) c.scan_row_by_two.result (omega arith) in
+    onward_on _ _ _ _ _ _ _ _ _ _ c.in-Nothing.ensures (rw over at c.scan_row_by_two.ensures)

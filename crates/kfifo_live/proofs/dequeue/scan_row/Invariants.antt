@@ -2,9 +2,6 @@ use Rattle.std.proofs.Common.{◌≡◌, ◌+◌, ◌-◌, ◌≤◌}
 use Rattle.kfifo_live.specs.Step.{Onward, head_seen}
 use Rattle.kfifo_live.proofs.dequeue.scan_row.Given as goal
 
-abbrev pub ghosts-load : goal.ghosts-load
-ghosts-load a = record { begin = a.begin; place = a.running }
-
 -- where the scan stands, and what it has seen in vain
 abbrev pub invariant-slots : goal.invariant-slots
 invariant-slots l = record {
