@@ -2,6 +2,12 @@
 //! overtaken k times.
 #![tactic(auto)]
 
+mod deed;
+mod linearizer;
+mod notes;
+
+pub use linearizer::Linearizer;
+
 ghost use Rattle.std.specs.Prelude.{ℕ, ◌≡◌, ◌<◌, ◌≤◌, List, true};
 ghost use Rattle.kfifo_words.specs.declared.shape.Shape.{Shape};
 ghost use Rattle.kfifo_model.specs.declared.calls.Call.{Call};

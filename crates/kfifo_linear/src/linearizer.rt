@@ -1,0 +1,87 @@
+//! Following a schedule event by event.
+ghost use Rattle.std.specs.Prelude.{◌≡◌, ℕ, ◌+◌, ◌-◌, ◌^◌, ◌<◌, ◌⊎◌, ◌↔◌, List, [], ◌∷◌, ◌++◌, length, true, IfOk, IfErr, OnErr, Ok, Err};
+ghost use Rattle.kfifo_machine.specs.Machine;
+ghost use Rattle.kfifo_machine.specs.Machine.{place_of};
+ghost use Rattle.kfifo_machine.specs.declared.event.Event.{Event};
+ghost use Rattle.kfifo_linear.specs.Notes.{begins_call, deed_at};
+ghost use Rattle.kfifo_linear.specs.Following.{Follows};
+
+use crate::deed::Deed;
+use crate::notes::Notes;
+use kfifo_machine::{Event, NotEnabled, Outcome, StartFault, State, start, step};
+use kfifo_words::{Ends, Shape, Word};
+use std::alloc::Global;
+use std::marker::Model;
+
+/// Follows a schedule event by event, and names the linearization order of what it has followed.
+///
+/// It has room for a fixed number of calls, and keeps of the schedule what the order needs: of head
+/// and tail the steps of their latest 2n visits, of each slot what stands in it, and of each call
+/// where it stands. No event takes memory.
+#[derive(Drop)]
+pub struct Linearizer {
+    state: State,
+    notes: Notes,
+}
+
+impl Model for Linearizer {
+    ghost use Rattle.kfifo_linear.specs.Following.{Follower, IsFollowing, follower};
+
+    ghost Value = { Follower };
+
+    ghost view = { λ l. follower l.state.shape l.state.world l.notes };
+
+    ghost invariant = { λ l. IsFollowing (follower l.state.shape l.state.world l.notes) };
+}
+
+impl Linearizer {
+    /// A linearizer of this many threads, with room for this many calls, that has followed no event.
+    ///
+    /// ThreadsOutOfRange where the number of threads is not 1 to 64; Memory where a growth was
+    /// refused.
+    pub fn open(
+        alloc: Global,
+        shape: Shape,
+        threads: u32,
+        calls: usize,
+    ) -> Result<Linearizer, StartFault>
+        ensures follows { IfOk result (λ l. (l.shape ≡ shape) × Follows threads calls [] l) }
+        ensures threads { (result ≡ Err StartFault.ThreadsOutOfRange) ↔ ((threads ≡ 0) ⊎ (64 < threads)) }
+    {
+        let state = start(alloc, shape, threads)?;
+        let notes = Notes::new(alloc, &shape, threads as usize, calls)?;
+        Ok(Linearizer { state, notes })
+    }
+
+    /// What the next step of a thread will do; nothing, where it is in no call.
+    fn next_deed(&self, thread: u32) -> Deed
+        ensures { result ≡ deed_at self.now.shape self.now.world (place_of self.now.world thread) }
+    {
+        match self.state.place(thread) {
+            None => Deed::Look,
+            Some(running) => {
+                let shape = self.state.shape();
+                let word = self.state.word(running.access(&shape).index());
+                Deed::of(&shape, running, Word::of_bits(word))
+            }
+        }
+    }
+
+    /// Follows one event more, or says why it is not enabled and stays as it was.
+    pub fn feed(&mut self, event: Event) -> Result<Outcome, NotEnabled>
+        requires steps { self.old.notes.step < 2 ^ 64 - 1 }
+        requires room { begins_call event.begin ≡ true → self.old.notes.begun < length self.old.notes.calls }
+        ensures shape { self.new.shape ≡ self.old.shape }
+        ensures made { IfOk result (λ outcome. Machine.step self.old.shape self.old.world event ≡ Ok (self.new.world, outcome)) }
+        ensures refused { IfErr result (λ fault. Machine.step self.old.shape self.old.world event ≡ Err fault) }
+        ensures unchanged { OnErr result (self.new ≡ self.old) }
+        ensures follows { IfOk result (λ _. (threads room : ℕ) (events : List Event) → Follows threads room events self.old → Follows threads room (events ++ event ∷ []) self.new) }
+    {
+        let shape = self.state.shape();
+        let ends = Ends::of_bits(self.state.word(0));
+        let deed = self.next_deed(event.thread);
+        let outcome = step(&mut self.state, event)?;
+        self.notes.note(&shape, event, ends, deed, outcome);
+        Ok(outcome)
+    }
+}
