@@ -23,4 +23,5 @@ pub mod Laws
 pub mod Schedule
 pub mod Telling
 pub mod Linearizing
+pub mod Sorting
 pub mod Rows

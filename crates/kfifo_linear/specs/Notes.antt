@@ -1,5 +1,5 @@
 -- What is kept of the ledger of a schedule in lists of fixed sizes, and how each event changes it. It is enough to name the order.
-use Rattle.std.specs.Prelude.{◌≡◌, ℕ, ◌+◌, ◌*◌, ◌%◌, ◌<◌, ◌≤◌, Bool, true, false, nat_lt, min, if◌then◌else◌, List, length, get_or, set, replicate, Option, Some, None}
+use Rattle.std.specs.Prelude.{◌≡◌, ℕ, zero, suc, ◌+◌, ◌*◌, ◌%◌, ◌<◌, ◌≤◌, Bool, true, false, nat_lt, min, if◌then◌else◌, List, [], ◌∷◌, ◌++◌, length, get_or, set, replicate, filter, Option, Some, None}
 use Rattle.kfifo_words.specs.declared.shape.Shape.{Shape}
 use Rattle.kfifo_words.specs.Ring.{distance}
 use Rattle.kfifo_words.specs.Words.{head_of}
@@ -188,3 +188,28 @@ begins_call None = false
 begins_call (Some (B.Enqueue item start turns)) = true
 begins_call (Some (B.Dequeue start turns)) = true
 begins_call (Some B.Tick) = false
+
+-- the point of a call that stands in the order
+abbrev pub point_if : Filling → Option ℕ
+point_if filling = if filling.settled then Some filling.point else None
+
+abbrev pub point_from : Notes → Whereabouts → Option ℕ
+point_from n Nowhere = None
+point_from n (InSlot index) = point_if (slot n index)
+point_from n (At point) = Some point
+
+abbrev pub point_at : Notes → ℕ → Option ℕ
+point_at n call = point_from n (whereabouts n call)
+
+-- of the calls below a number those that stand, each behind its point
+abbrev pub with_point : Option ℕ → ℕ → List (ℕ × ℕ)
+with_point None call = []
+with_point (Some point) call = (point, call) ∷ []
+
+abbrev pub points_below : Notes → ℕ → List (ℕ × ℕ)
+points_below n zero = []
+points_below n (suc call) = points_below n call ++ with_point (point_at n call) call
+
+-- how many calls these events begin
+abbrev pub calls_begun : List Event → ℕ
+calls_begun events = length (filter (λ e. begins_call e.begin) events)

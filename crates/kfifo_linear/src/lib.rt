@@ -3,9 +3,11 @@
 #![tactic(auto)]
 
 mod deed;
+mod linearization;
 mod linearizer;
 mod notes;
 
+pub use linearization::{LinearFault, linearize};
 pub use linearizer::Linearizer;
 
 ghost use Rattle.std.specs.Prelude.{ℕ, ◌≡◌, ◌<◌, ◌≤◌, List, true};

@@ -1,16 +1,17 @@
 //! Following a schedule event by event.
-ghost use Rattle.std.specs.Prelude.{◌≡◌, ℕ, ◌+◌, ◌-◌, ◌^◌, ◌<◌, ◌⊎◌, ◌↔◌, List, [], ◌∷◌, ◌++◌, length, true, IfOk, IfErr, OnErr, Ok, Err};
+ghost use Rattle.std.specs.Prelude.{◌≡◌, ℕ, ◌+◌, ◌-◌, ◌^◌, ◌<◌, ◌≤◌, ◌⊎◌, ◌↔◌, List, [], ◌∷◌, ◌++◌, length, map, true, IfOk, IfErr, OnErr, Ok, Err};
 ghost use Rattle.kfifo_machine.specs.Machine;
 ghost use Rattle.kfifo_machine.specs.Machine.{place_of};
 ghost use Rattle.kfifo_machine.specs.declared.event.Event.{Event};
 ghost use Rattle.kfifo_linear.specs.Notes.{begins_call, deed_at};
 ghost use Rattle.kfifo_linear.specs.Following.{Follows};
+ghost use Rattle.kfifo_linear.specs.Order.{order_of};
 
 use crate::deed::Deed;
 use crate::notes::Notes;
 use kfifo_machine::{Event, NotEnabled, Outcome, StartFault, State, start, step};
 use kfifo_words::{Ends, Shape, Word};
-use std::alloc::Global;
+use std::alloc::{AllocError, Global};
 use std::marker::Model;
 
 /// Follows a schedule event by event, and names the linearization order of what it has followed.
@@ -32,6 +33,13 @@ impl Model for Linearizer {
     ghost view = { λ l. follower l.state.shape l.state.world l.notes };
 
     ghost invariant = { λ l. IsFollowing (follower l.state.shape l.state.world l.notes) };
+}
+
+/// The calls behind these points.
+fn calls_of(alloc: Global, points: &[(u64, usize)]) -> Result<Vec<usize>, AllocError>
+    ensures { IfOk result (λ calls. calls.items ≡ map (λ p. p.1) points.now) }
+{
+    points.iter().map(|(_point, call)| *call).collect(alloc)
 }
 
 impl Linearizer {
@@ -83,5 +91,16 @@ impl Linearizer {
         let outcome = step(&mut self.state, event)?;
         self.notes.note(&shape, event, ends, deed, outcome);
         Ok(outcome)
+    }
+
+    /// The linearization order of the events that it has followed, as numbers of calls by their first
+    /// events. Memory where a growth was refused.
+    pub fn order(&self, alloc: Global) -> Result<Vec<usize>, AllocError>
+        ensures { IfOk result (λ order. (threads room : ℕ) (events : List Event) → Follows threads room events self.now → threads ≤ 64
+            → order.items ≡ order_of self.now.shape threads events) }
+    {
+        let mut points = self.notes.points(alloc)?;
+        points.sort_unstable();
+        calls_of(alloc, points.as_slice())
     }
 }

@@ -1,7 +1,7 @@
 //! What is kept of a schedule to name the order of its calls: lists of fixed sizes, made once.
 ghost use Rattle.std.specs.Prelude.{◌≡◌, ℕ, ◌+◌, ◌-◌, ◌*◌, ◌^◌, ◌<◌, ◌≤◌, None, false, true, length, replicate, IfOk, IsTrue, ◌↔◌};
 ghost use Rattle.kfifo_machine.specs.Places.{IsEnds};
-ghost use Rattle.kfifo_linear.specs.Notes.{Notes, HasRoom, caller, own_call, slot, whereabouts, left_at, leaves, opens, puts_in, puts_back, settle_point, settles, took_point, gone_point, takes_out, marked, ended, stepped, called, later, no_filling, no_caller, no_notes, begins_call, noted_event};
+ghost use Rattle.kfifo_linear.specs.Notes.{Notes, HasRoom, caller, own_call, slot, whereabouts, left_at, leaves, opens, puts_in, puts_back, settle_point, settles, took_point, gone_point, takes_out, marked, ended, stepped, called, later, no_filling, no_caller, no_notes, begins_call, noted_event, point_at, points_below};
 ghost use Rattle.kfifo_linear.specs.declared.notes.Whereabouts.TheVariants.{Nowhere};
 
 use crate::deed::Deed;
@@ -321,5 +321,33 @@ impl Notes {
                 self.step(shape, thread, ends, Deed::Open, outcome);
             }
         }
+    }
+
+    /// The point of a call that stands in the order.
+    fn point(&self, call: usize) -> Option<u64>
+        requires { call < length self.now.calls }
+        ensures { result ≡ point_at self.now call }
+    {
+        match self.calls[call] {
+            Whereabouts::Nowhere => None,
+            Whereabouts::InSlot(index) => {
+                let slot = self.slots.get(index)?;
+                if slot.settled { Some(slot.point) } else { None }
+            }
+            Whereabouts::At(point) => Some(point),
+        }
+    }
+
+    /// The calls that stand in the order by rising number, each behind its point.
+    pub fn points(&self, alloc: Global) -> Result<Vec<(u64, usize)>, AllocError>
+        ensures { IfOk result (λ v. v.items ≡ points_below self.now (length self.now.calls)) }
+    {
+        let mut points = Vec::with_capacity(alloc, self.begun)?;
+        for call in 0..self.calls.len() {
+            if let Some(point) = self.point(call) {
+                points.push((point, call))?;
+            }
+        }
+        Ok(points)
     }
 }

@@ -1,0 +1,87 @@
+//! The linearization order of a whole schedule.
+ghost use Rattle.std.specs.Prelude.{◌≡◌, ℕ, ◌+◌, ◌<◌, ◌≤◌, ◌⊎◌, ◌↔◌, IfOk, IfErr, Err};
+ghost use Rattle.kfifo_machine.specs.Machine.{IsSchedule};
+ghost use Rattle.kfifo_linear.specs.Notes.{begins_call, calls_begun};
+ghost use Rattle.kfifo_linear.specs.Order.{order_of};
+
+use crate::linearizer::Linearizer;
+use kfifo_machine::{Begin, Event, MAX_THREADS, StartFault};
+use kfifo_words::Shape;
+use std::alloc::{AllocError, Global};
+
+/// Why there is no order.
+#[derive(Clone, Copy, PartialEq, Eq, Debug)]
+pub enum LinearFault {
+    /// The number of threads is not 1 to 64, or an event is not enabled.
+    NotASchedule = 1,
+    /// A growth was refused.
+    Memory = 2,
+}
+
+impl From<AllocError> for LinearFault {
+    ghost use Rattle.kfifo_linear.specs.declared.linearization.LinearFault.TheVariants.{Memory};
+
+    ghost from_gives = { λ _ fault. fault ≡ Memory };
+
+    fn from(_: AllocError) -> LinearFault {
+        LinearFault::Memory
+    }
+}
+
+impl From<StartFault> for LinearFault {
+    ghost use Rattle.kfifo_linear.specs.Faults.{linear_fault_of};
+
+    ghost from_gives = { λ start fault. fault ≡ linear_fault_of start };
+
+    fn from(fault: StartFault) -> LinearFault {
+        match fault {
+            StartFault::ThreadsOutOfRange => LinearFault::NotASchedule,
+            StartFault::Memory => LinearFault::Memory,
+        }
+    }
+}
+
+/// Whether the event begins a call.
+fn begins(event: &Event) -> bool
+    ensures { result ≡ begins_call event.now.begin }
+{
+    match event.begin {
+        Some(Begin::Enqueue { .. } | Begin::Dequeue { .. }) => true,
+        Some(Begin::Tick) | None => false,
+    }
+}
+
+/// The number of calls that these events begin.
+fn count_calls(events: &[Event]) -> usize
+    ensures { result ≡ calls_begun events.now }
+{
+    let mut count = 0;
+    for event in events {
+        if begins(event) {
+            count += 1;
+        }
+    }
+    count
+}
+
+/// The linearization order of the schedule of these events, as numbers of calls by their first events.
+///
+/// Refused: NotASchedule where the number of threads is not 1 to 64 or an event is not enabled; Memory
+/// where a growth was refused.
+pub fn linearize(
+    alloc: Global,
+    shape: Shape,
+    threads: u32,
+    events: &[Event],
+) -> Result<Vec<usize>, LinearFault>
+    ensures order { IfOk result (λ order. (0 < threads) × (threads ≤ 64) × IsSchedule shape threads events.now × (order.items ≡ order_of shape threads events.now)) }
+    ensures refused { result ≡ Err LinearFault.NotASchedule → ((threads ≡ 0) ⊎ (64 < threads)) ⊎ (IsSchedule shape threads events.now → ⊥) }
+{
+    let mut linearizer = Linearizer::open(alloc, shape, threads, count_calls(events))?;
+    for event in events {
+        if linearizer.feed(*event).is_err() {
+            return Err(LinearFault::NotASchedule);
+        }
+    }
+    Ok(linearizer.order(alloc)?)
+}
