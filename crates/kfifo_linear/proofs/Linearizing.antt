@@ -1,14 +1,17 @@
 -- A linearizer that has followed a schedule has followed it with one event more.
-use Rattle.std.proofs.Common.{◌≡◌, ◌≢◌, ℕ, ◌+◌, ◌*◌, ◌%◌, ◌<◌, ◌≤◌, inl, inr, ◌==◌, Bool, true, false, cond, refl, sym, ◌∙◌, ap, subst, arith, List, [], ◌∷◌, ◌++◌, length, Option, Some, None, Ok}
-use Rattle.std.proofs.lemmas.Bool.{eqb-true}
+use Rattle.std.proofs.Common.{◌≡◌, ◌≢◌, ℕ, ◌+◌, ◌*◌, ◌%◌, ◌<◌, ◌≤◌, inl, inr, ◌==◌, Bool, true, false, cond, refl, sym, ◌∙◌, ap, subst, arith, List, [], ◌∷◌, ◌++◌, length, filter, length-append, Option, Some, None, Ok, Err, IsTrue, is_some, get_or, take, drop, take-append-drop, suc}
+use Rattle.std.proofs.lemmas.Bool.{cases_Bool, eqb-true, false≢true}
 use Rattle.std.proofs.lemmas.Bool.Decides.{nat_tests}
 use Rattle.std.proofs.lemmas.List.{length-replicate, length-set}
+use Rattle.std.proofs.lemmas.List.Elements.{filter-append}
+use Rattle.std.proofs.Math.Seq.{drop-cons}
 use Rattle.std.proofs.lemmas.Option.{none-some}
 use Rattle.kfifo_words.specs.Words.{tail_of, value_of}
 use Rattle.kfifo_words.specs.declared.shape.Shape.{Shape}
 use Rattle.kfifo_machine.specs.declared.event.Begin.{Begin}
 use Rattle.kfifo_machine.specs.declared.event.Begin.TheVariants as B
 use Rattle.kfifo_machine.specs.declared.event.Event.{Event}
+use Rattle.kfifo_machine.specs.declared.event.NotEnabled.{NotEnabled}
 use Rattle.kfifo_machine.specs.declared.event.Outcome.{Outcome}
 use Rattle.kfifo_machine.specs.declared.event.Outcome.TheVariants.{Went}
 use Rattle.kfifo_machine.specs.declared.place.Next.TheVariants.{Goes}
@@ -17,24 +20,24 @@ use Rattle.kfifo_machine.specs.declared.place.EnqueuePhase.TheVariants as E
 use Rattle.kfifo_machine.specs.declared.place.Found.TheVariants.{Nothing, Slot}
 use Rattle.kfifo_machine.specs.declared.place.Running.{Running}
 use Rattle.kfifo_machine.specs.declared.place.Running.TheVariants as R
-use Rattle.kfifo_machine.specs.Machine.{World, after, found, may_begin, opening, outcome_of, place_of, run, step, word_at, world_of}
+use Rattle.kfifo_machine.specs.Machine.{IsSchedule, World, after, found, may_begin, opening, outcome_of, place_of, run, step, word_at, world_of}
 use Rattle.kfifo_machine.specs.Calls.{log_of}
 use Rattle.kfifo_machine.specs.Places.{IsEnds, IsFoundBy, IsSlotIndex}
 use Rattle.kfifo_machine.specs.Program.{access, accessed, advance}
 use Rattle.kfifo_machine.specs.Runs.{going}
 use Rattle.kfifo_machine.proofs.NoWrap.{EndsOk}
-use Rattle.kfifo_machine.proofs.Schedules.{Some-injective, after-snoc, made_within, stepped}
+use Rattle.kfifo_machine.proofs.Schedules.{Some-injective, after-snoc, made_within, run_on, stepped, take-next}
 use Rattle.kfifo_machine.proofs.Sound.{sound_ends, sound_threads}
 use Rattle.kfifo_linear.specs.declared.deed.Deed.{Deed}
 use Rattle.kfifo_linear.specs.declared.deed.Deed.TheVariants.{Check, HeadOn, Hold, Look, Open, PutBack, PutIn, Settle, Stand, TailOn, TakeOut}
 use Rattle.kfifo_linear.specs.Ledger as ledger
 use Rattle.kfifo_linear.specs.Ledger.{Ledger, blank, called, deed, deed_if, found_in, ledger_after, ledger_from, ledger_of, noted, Outside}
-use Rattle.kfifo_linear.specs.Notes.{HasRoom, Notes, begins_call, deed_at, fed, marked, no_caller, no_filling, no_notes, noted_event, own_call, slot}
+use Rattle.kfifo_linear.specs.Notes.{HasRoom, Notes, begins_call, calls_begun, deed_at, fed, marked, no_caller, no_filling, no_notes, noted_event, own_call, slot}
 use Rattle.kfifo_linear.specs.declared.notes.Whereabouts.TheVariants.{Nowhere}
 use Rattle.kfifo_linear.specs.Notes as note
 use Rattle.kfifo_linear.specs.Following.{Follower, Follows, IsFollowing, Sizes, Tells, follower}
 use Rattle.kfifo_linear.specs.Order.{ledger_after_all}
-use Rattle.kfifo_linear.proofs.Abstract.{noted-same}
+use Rattle.kfifo_linear.proofs.Abstract.{noted-same, run-none}
 use Rattle.kfifo_linear.proofs.Base.{InRing, get_or_replicate, Sane, ends_in_ring}
 use Rattle.kfifo_linear.proofs.Invariant.{FullOk, Inv, ThreadOk}
 use Rattle.kfifo_linear.proofs.Late.{Both, both}
@@ -204,6 +207,21 @@ ledger_more shape None here (d ∷ events) e l is = absurd (none-some here is)
 ledger_more shape (Some world) here [] e l is = ap (λ w. ledger_after shape w e l) (Some-injective world here is)
 ledger_more shape (Some world) here (d ∷ events) e l is = ledger_more shape (world_of (step shape world d)) here events e (ledger_after shape world d l) is
 
+-- one event more, and one call more where it begins one
+steps_more : (shape : Shape) (n : Notes) (t ends : ℕ) (begin : Option Begin) (what : Deed) (outcome : Outcome) → (noted_event shape t begin ends what outcome n).step ≡ n.step + 1
+steps_more shape n t ends begin what outcome = grind arith
+
+begun_more : (shape : Shape) (n : Notes) (t ends : ℕ) (begin : Option Begin) (what : Deed) (outcome : Outcome) → (noted_event shape t begin ends what outcome n).begun ≡ n.begun + cond (begins_call begin) 1 0
+begun_more shape n t ends begin what outcome = grind arith
+
+length-filter_one : {X : Type 0} (test : X → Bool) (x : X) → length (filter test (x ∷ [])) ≡ cond (test x) 1 0
+length-filter_one test x = elim (cases_Bool (test x)) [ inl e ↦ rw e refl | inr e ↦ rw e refl ]
+
+pub calls_more : (events : List Event) (e : Event) → calls_begun (events ++ e ∷ []) ≡ calls_begun events + cond (begins_call e.begin) 1 0
+calls_more events e =
+    let test : Event → Bool = λ x. begins_call x.begin in
+    ap length (filter-append test events (e ∷ [])) ∙ length-append (filter test events) (filter test (e ∷ [])) ∙ ap (λ k. calls_begun events + k) (length-filter_one test e)
+
 -- The linearizer has then followed the schedule with this event
 pub follows_on : (shape : Shape) (threads room : ℕ) (events : List Event) (world next : World) (outcome : Outcome) (e : Event) (n : Notes) → Follows threads room events (follower shape world n) → step shape world e ≡ Ok (next, outcome)
     → (begins_call e.begin ≡ true → n.begun < room) → Follows threads room (events ++ e ∷ []) (follower shape next (fed shape world e outcome n))
@@ -215,6 +233,8 @@ follows_on shape threads room events world next outcome e n h made less =
     let within : e.thread < threads = omega (arith, made_within shape world e next outcome made, sound_threads shape threads events world h.reached) in
     record {
       reached = after-snoc shape threads events world e h.reached ∙ ap world_of made;
+      steps = steps_more shape n e.thread (word_at world 0) e.begin (deed_at shape world (place_of world e.thread)) outcome ∙ ap (λ k. k + 1) h.steps ∙ sym (length-append events (e ∷ []));
+      begun = begun_more shape n e.thread (word_at world 0) e.begin (deed_at shape world (place_of world e.thread)) outcome ∙ ap (λ k. k + cond (begins_call e.begin) 1 0) h.begun ∙ sym (calls_more events e);
       tells = rw more (tells_event shape world next outcome e l n threads room ok h.tells h.sizes (omega (arith, h.tells.begun, h.sizes.begun)) (ok.inv.calls.later l.calls (omega arith)) (same.none l.calls (omega arith)).0 within less made);
       sizes = sizes_event shape threads room n e.thread (word_at world 0) e.begin (deed_at shape world (place_of world e.thread)) outcome h.sizes less;
     }
@@ -237,6 +257,8 @@ pub follows_none : (shape : Shape) (threads room : ℕ) → Follows threads room
 unfolding blank
 follows_none shape threads room = record {
   reached = refl;
+  steps = refl;
+  begun = refl;
   tells = record {
     step = refl; head = refl; tail = refl; begun = refl;
     heads = λ visit below near. absurd (omega arith);
@@ -299,3 +321,26 @@ pub feeds : (f : Follower) (shape : Shape) (next : World) (notes : Notes) (outco
     → (begins_call e.begin ≡ true → f.notes.begun < length f.notes.calls) → Follows threads room (events ++ e ∷ []) (follower shape next notes)
 feeds f shape next notes outcome e threads room events h same made is less =
     rw (same, is) (follows_on f.shape threads room events f.world next outcome e f.notes h made (λ b. omega (arith, less b, h.sizes.calls)))
+
+-- while a call is begun, not all calls were begun before
+pub room_left : (events : List Event) (place : ℕ) (d : Event) → place < length events → begins_call (get_or events place d).begin ≡ true → calls_begun (take place events) < calls_begun events
+room_left events place d within begins =
+    let test : Event → Bool = λ x. begins_call x.begin in
+    let next : calls_begun (take (place + 1) events) ≡ calls_begun (take place events) + 1 =
+        ap calls_begun (take-next events place d within) ∙ calls_more (take place events) (get_or events place d) ∙ ap (λ b. calls_begun (take place events) + cond b 1 0) begins in
+    let all : calls_begun events ≡ calls_begun (take (place + 1) events) + length (filter test (drop (place + 1) events)) =
+        ap calls_begun (sym (take-append-drop (place + 1) events)) ∙ ap length (filter-append test (take (place + 1) events) (drop (place + 1) events)) ∙ length-append (filter test (take (place + 1) events)) (filter test (drop (place + 1) events)) in
+    omega arith
+
+-- events of which one is not enabled are no schedule
+pub no_schedule : (shape : Shape) (threads : ℕ) (events : List Event) (place : ℕ) (d : Event) (here : World) (fault : NotEnabled) → place < length events → after shape threads (take place events) ≡ Some here → step shape here (get_or events place d) ≡ Err fault
+    → IsSchedule shape threads events → ⊥
+no_schedule shape threads events place d here fault within is refused schedule =
+    let parted : events ≡ take place events ++ (get_or events place d ∷ drop (suc place) events) = sym (take-append-drop place events) ∙ ap (λ t. take place events ++ t) (drop-cons events place d within) in
+    let none : after shape threads events ≡ None =
+        ap (after shape threads) parted ∙ run_on shape (Some (opening shape threads)) here (take place events) (get_or events place d ∷ drop (suc place) events) is
+        ∙ ap (λ o. run shape (world_of o) (drop (suc place) events)) refused ∙ run-none shape (drop (suc place) events) in
+    false≢true (subst (λ (o : Option World). IsTrue (is_some o)) none schedule)
+
+pub is_schedule : (shape : Shape) (threads : ℕ) (events : List Event) (here : World) → after shape threads events ≡ Some here → IsSchedule shape threads events
+is_schedule shape threads events here is = subst (λ (o : Option World). IsTrue (is_some o)) (sym is) refl

@@ -6,7 +6,7 @@ use Rattle.kfifo_machine.specs.Machine.{World, after}
 use Rattle.kfifo_linear.specs.declared.notes.Whereabouts.{Whereabouts}
 use Rattle.kfifo_linear.specs.declared.notes.Whereabouts.TheVariants.{At, InSlot, Nowhere}
 use Rattle.kfifo_linear.specs.Ledger.{Gone, Inside, Ledger, Outside, Standing, Stood, Took}
-use Rattle.kfifo_linear.specs.Notes.{Notes, left_at, own_call, caller, slot, whereabouts}
+use Rattle.kfifo_linear.specs.Notes.{Notes, calls_begun, left_at, own_call, caller, slot, whereabouts}
 use Rattle.kfifo_linear.specs.Order.{ledger_after_all}
 
 -- a linearizer: its shape, the world to which it has followed a schedule, and its notes
@@ -59,6 +59,8 @@ pub record Sizes (shape : Shape) (threads room : ℕ) (n : Notes) : Type 0 where
 -- The linearizer with room for so many calls has followed this schedule
 pub record Follows (threads room : ℕ) (events : List Event) (f : Follower) : Type 0 where
   pub reached : after f.shape threads events ≡ Some f.world
+  pub steps : f.notes.step ≡ length events
+  pub begun : f.notes.begun ≡ calls_begun events
   pub tells : Tells (ledger_after_all f.shape threads events) f.notes
   pub sizes : Sizes f.shape threads room f.notes
 

@@ -3,6 +3,7 @@ ghost use Rattle.std.specs.Prelude.{◌≡◌, ℕ, ◌+◌, ◌<◌, ◌≤◌,
 ghost use Rattle.kfifo_machine.specs.Machine.{IsSchedule};
 ghost use Rattle.kfifo_linear.specs.Notes.{begins_call, calls_begun};
 ghost use Rattle.kfifo_linear.specs.Order.{order_of};
+ghost use Rattle.kfifo_linear.specs.Headline.{HasLegalOrder, FewOvertake, FewCertainlyOvertake, LawsHold, PutsInVisit};
 
 use crate::linearizer::Linearizer;
 use kfifo_machine::{Begin, Event, MAX_THREADS, StartFault};
@@ -55,20 +56,11 @@ fn begins(event: &Event) -> bool
 fn count_calls(events: &[Event]) -> usize
     ensures { result ≡ calls_begun events.now }
 {
-    let mut count = 0;
-    for event in events {
-        if begins(event) {
-            count += 1;
-        }
-    }
-    count
+    events.iter().filter(|event| begins(event)).count()
 }
 
-/// The linearization order of the schedule of these events, as numbers of calls by their first events.
-///
-/// Refused: NotASchedule where the number of threads is not 1 to 64 or an event is not enabled; Memory
-/// where a growth was refused.
-pub fn linearize(
+/// The order of these events, or why there is none.
+fn follow(
     alloc: Global,
     shape: Shape,
     threads: u32,
@@ -79,9 +71,38 @@ pub fn linearize(
 {
     let mut linearizer = Linearizer::open(alloc, shape, threads, count_calls(events))?;
     for event in events {
-        if linearizer.feed(*event).is_err() {
-            return Err(LinearFault::NotASchedule);
+        match linearizer.feed(*event) {
+            Ok(_outcome) => {}
+            Err(_fault) => return Err(LinearFault::NotASchedule),
         }
     }
     Ok(linearizer.order(alloc)?)
+}
+
+/// The linearization order of the schedule of these events, as numbers of calls by their first events.
+///
+/// Refused: NotASchedule where the number of threads is not 1 to 64 or an event is not enabled; Memory
+/// where a growth was refused.
+///
+/// The clauses from `legal` on speak of every schedule of this shape and number of threads, whatever is
+/// answered. The order of a schedule is a legal order of its history: it has all finished calls and
+/// some unfinished enqueues, keeps every pair of which one returned before the other was called, and
+/// is a run of the k-relaxed queue. In it, where its enqueues carry distinct items, each item is
+/// overtaken at most k - 1 times in its whole life; and by the history, where its items are distinct,
+/// at most k - 1 overtakings of the item of an enqueue answered Done are certain.
+pub fn linearize(
+    alloc: Global,
+    shape: Shape,
+    threads: u32,
+    events: &[Event],
+) -> Result<Vec<usize>, LinearFault>
+    ensures order { IfOk result (λ order. (0 < threads) × (threads ≤ 64) × IsSchedule shape threads events.now × (order.items ≡ order_of shape threads events.now)) }
+    ensures refused { result ≡ Err LinearFault.NotASchedule → ((threads ≡ 0) ⊎ (64 < threads)) ⊎ (IsSchedule shape threads events.now → ⊥) }
+    ensures legal { threads ≤ 64 → HasLegalOrder shape threads }
+    ensures overtaken { threads ≤ 64 → FewOvertake shape threads }
+    ensures certainly { threads ≤ 64 → FewCertainlyOvertake shape threads }
+    ensures laws { threads ≤ 64 → LawsHold shape threads }
+    ensures puts { threads ≤ 64 → PutsInVisit shape threads }
+{
+    follow(alloc, shape, threads, events)
 }

@@ -55,6 +55,7 @@ impl Linearizer {
     ) -> Result<Linearizer, StartFault>
         ensures follows { IfOk result (λ l. (l.shape ≡ shape) × Follows threads calls [] l) }
         ensures threads { (result ≡ Err StartFault.ThreadsOutOfRange) ↔ ((threads ≡ 0) ⊎ (64 < threads)) }
+        ensures few { IfOk result (λ _. (0 < threads) × (threads ≤ 64)) }
     {
         let state = start(alloc, shape, threads)?;
         let notes = Notes::new(alloc, &shape, threads as usize, calls)?;
