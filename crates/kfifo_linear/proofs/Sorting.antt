@@ -3,6 +3,7 @@ use Rattle.std.proofs.Common.{◌≡◌, ℕ, zero, suc, ◌+◌, ◌-◌, ◌<�
 use Rattle.std.proofs.lemmas.Bool.{cases_eq, cases_lt, eq-eqb, ne_eqb, false≢true}
 use Rattle.std.proofs.lemmas.Bool.Decides.{nat_tests}
 use Rattle.std.proofs.lemmas.List.{get_or-map, get_or_default, get_or_past, length-map}
+use Rattle.std.proofs.lemmas.Grind.{same_number_lists}
 use Rattle.std.proofs.lemmas.List.Elements.{All-append, All-cons, All-contains, All-nil}
 use Rattle.std.proofs.lemmas.List.Sorted.{All-permutation, Contains-permutation, IsPermutation-map, length_permutation}
 use Rattle.std.proofs.lemmas.Map.Keys.{IsDistinct-IsPermutation, IsDistinct-from_apart, apart_from_distinct}
@@ -235,8 +236,23 @@ module _ (shape : Shape) (l : Ledger) (n : Notes) (h : Tells l n) (sorted : List
         ];
   }
 
+  -- and each stands behind its point
+  pub points_are : map (λ (x : ℕ × ℕ). x.0) sorted ≡ map (point l) (numbers sorted)
+  points_are =
+      let firsts : List ℕ = map (λ (x : ℕ × ℕ). x.0) sorted in
+      let long : length firsts ≡ length sorted = length-map sorted (λ (x : ℕ × ℕ). x.0) in
+      let many : length (numbers sorted) ≡ length sorted = length-map sorted (λ (x : ℕ × ℕ). x.1) in
+      let all : length (map (point l) (numbers sorted)) ≡ length (numbers sorted) = length-map (numbers sorted) (point l) in
+      same_number_lists firsts (map (point l) (numbers sorted)) (omega arith) (λ k less.
+      let within : k < length sorted = omega arith in
+      get_or-map (λ (x : ℕ × ℕ). x.0) sorted k (0, 0) 0 within ∙ sym (standing_at k within).1 ∙ sym (get_or-map (point l) (numbers sorted) k 0 0 (omega arith)))
+
 -- of a linearizer that has followed a schedule, the calls by their sorted points are the order
 pub order_is : (f : Follower) (threads room : ℕ) (events : List Event) (sorted : List (ℕ × ℕ)) → Follows threads room events f → threads ≤ 64 → IsPermutation (points_below f.notes (length f.notes.calls)) sorted → IsSortedBy lower sorted
     → numbers sorted ≡ order_of f.shape threads events
 order_is f threads room events sorted h few moved up =
     one_order f.shape threads few events f.world h.reached (numbers sorted) (sorted_by_point f.shape (ledger_after_all f.shape threads events) f.notes h.tells sorted moved up)
+
+pub points_follow : (f : Follower) (threads room : ℕ) (events : List Event) (sorted : List (ℕ × ℕ)) → Follows threads room events f → IsPermutation (points_below f.notes (length f.notes.calls)) sorted → IsSortedBy lower sorted
+    → map (λ (x : ℕ × ℕ). x.0) sorted ≡ map (point (ledger_after_all f.shape threads events)) (numbers sorted)
+points_follow f threads room events sorted h moved up = points_are f.shape (ledger_after_all f.shape threads events) f.notes h.tells sorted moved up

@@ -5,7 +5,7 @@ ghost use Rattle.kfifo_machine.specs.Machine.{place_of};
 ghost use Rattle.kfifo_machine.specs.declared.event.Event.{Event};
 ghost use Rattle.kfifo_linear.specs.Notes.{begins_call, deed_at};
 ghost use Rattle.kfifo_linear.specs.Following.{Follows};
-ghost use Rattle.kfifo_linear.specs.Order.{order_of};
+ghost use Rattle.kfifo_linear.specs.Order.{ledger_after_all, order_of, point};
 
 use crate::deed::Deed;
 use crate::notes::Notes;
@@ -36,10 +36,17 @@ impl Model for Linearizer {
 }
 
 /// The calls behind these points.
-fn calls_of(alloc: Global, points: &[(u64, usize)]) -> Result<Vec<usize>, AllocError>
-    ensures { IfOk result (λ calls. calls.items ≡ map (λ p. p.1) points.now) }
+fn calls_of(alloc: Global, placed: &[(u64, usize)]) -> Result<Vec<usize>, AllocError>
+    ensures { IfOk result (λ calls. calls.items ≡ map (λ p. p.1) placed.now) }
 {
-    points.iter().map(|(_point, call)| *call).collect(alloc)
+    placed.iter().map(|(_point, call)| *call).collect(alloc)
+}
+
+/// The points before these calls.
+fn points_of(alloc: Global, placed: &[(u64, usize)]) -> Result<Vec<u64>, AllocError>
+    ensures { IfOk result (λ points. points.items ≡ map (λ p. p.0) placed.now) }
+{
+    placed.iter().map(|(point, _call)| *point).collect(alloc)
 }
 
 impl Linearizer {
@@ -94,14 +101,35 @@ impl Linearizer {
         Ok(outcome)
     }
 
+    /// The calls that stand, each behind its point, by rising point and number.
+    fn sorted(&self, alloc: Global) -> Result<Vec<(u64, usize)>, AllocError>
+        ensures calls { IfOk result (λ placed. (threads room : ℕ) (events : List Event) → Follows threads room events self.now → threads ≤ 64
+            → map (λ p. p.1) placed.items ≡ order_of self.now.shape threads events) }
+        ensures points { IfOk result (λ placed. (threads room : ℕ) (events : List Event) → Follows threads room events self.now
+            → map (λ p. p.0) placed.items ≡ map (point (ledger_after_all self.now.shape threads events)) (map (λ p. p.1) placed.items)) }
+    {
+        let mut points = self.notes.points(alloc)?;
+        points.sort_unstable();
+        Ok(points)
+    }
+
     /// The linearization order of the events that it has followed, as numbers of calls by their first
     /// events. Memory where a growth was refused.
     pub fn order(&self, alloc: Global) -> Result<Vec<usize>, AllocError>
         ensures { IfOk result (λ order. (threads room : ℕ) (events : List Event) → Follows threads room events self.now → threads ≤ 64
             → order.items ≡ order_of self.now.shape threads events) }
     {
-        let mut points = self.notes.points(alloc)?;
-        points.sort_unstable();
-        calls_of(alloc, points.as_slice())
+        let placed = self.sorted(alloc)?;
+        calls_of(alloc, placed.as_slice())
+    }
+
+    /// The points of the calls in that order, each a step of the schedule. Memory where a growth was
+    /// refused.
+    pub fn points(&self, alloc: Global) -> Result<Vec<u64>, AllocError>
+        ensures { IfOk result (λ points. (threads room : ℕ) (events : List Event) → Follows threads room events self.now → threads ≤ 64
+            → points.items ≡ map (point (ledger_after_all self.now.shape threads events)) (order_of self.now.shape threads events)) }
+    {
+        let placed = self.sorted(alloc)?;
+        points_of(alloc, placed.as_slice())
     }
 }
