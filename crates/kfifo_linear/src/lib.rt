@@ -7,7 +7,7 @@ mod linearization;
 mod linearizer;
 mod notes;
 
-pub use linearization::{LinearFault, linearize};
+pub use linearization::{LinearFault, linearization_points, linearize};
 pub use linearizer::Linearizer;
 
 ghost use Rattle.std.specs.Prelude.{ℕ, ◌≡◌, ◌<◌, ◌≤◌, List, true};

@@ -1,8 +1,9 @@
 //! The linearization order of a whole schedule.
-ghost use Rattle.std.specs.Prelude.{◌≡◌, ℕ, ◌+◌, ◌<◌, ◌≤◌, ◌⊎◌, ◌↔◌, IfOk, IfErr, Err};
+ghost use Rattle.std.specs.Prelude.{◌≡◌, ℕ, ◌+◌, ◌<◌, ◌≤◌, ◌⊎◌, ◌↔◌, map, IfOk, IfErr, Err};
 ghost use Rattle.kfifo_machine.specs.Machine.{IsSchedule};
 ghost use Rattle.kfifo_linear.specs.Notes.{begins_call, calls_begun};
-ghost use Rattle.kfifo_linear.specs.Order.{order_of};
+ghost use Rattle.kfifo_linear.specs.Order.{ledger_after_all, order_of, point};
+ghost use Rattle.kfifo_linear.specs.Following.{Follows};
 ghost use Rattle.kfifo_linear.specs.Headline.{HasLegalOrder, FewOvertake, FewCertainlyOvertake, LawsHold, PutsInVisit};
 
 use crate::linearizer::Linearizer;
@@ -59,14 +60,14 @@ fn count_calls(events: &[Event]) -> usize
     events.iter().filter(|event| begins(event)).count()
 }
 
-/// The order of these events, or why there is none.
-fn follow(
+/// A linearizer that has followed these events, or why there is none.
+fn followed(
     alloc: Global,
     shape: Shape,
     threads: u32,
     events: &[Event],
-) -> Result<Vec<usize>, LinearFault>
-    ensures order { IfOk result (λ order. (0 < threads) × (threads ≤ 64) × IsSchedule shape threads events.now × (order.items ≡ order_of shape threads events.now)) }
+) -> Result<Linearizer, LinearFault>
+    ensures followed { IfOk result (λ l. (l.shape ≡ shape) × (0 < threads) × (threads ≤ 64) × Follows threads (calls_begun events.now) events.now l) }
     ensures refused { result ≡ Err LinearFault.NotASchedule → ((threads ≡ 0) ⊎ (64 < threads)) ⊎ (IsSchedule shape threads events.now → ⊥) }
 {
     let mut linearizer = Linearizer::open(alloc, shape, threads, count_calls(events))?;
@@ -76,6 +77,20 @@ fn follow(
             Err(_fault) => return Err(LinearFault::NotASchedule),
         }
     }
+    Ok(linearizer)
+}
+
+/// The order of these events, or why there is none.
+fn order_events(
+    alloc: Global,
+    shape: Shape,
+    threads: u32,
+    events: &[Event],
+) -> Result<Vec<usize>, LinearFault>
+    ensures order { IfOk result (λ order. (0 < threads) × (threads ≤ 64) × IsSchedule shape threads events.now × (order.items ≡ order_of shape threads events.now)) }
+    ensures refused { result ≡ Err LinearFault.NotASchedule → ((threads ≡ 0) ⊎ (64 < threads)) ⊎ (IsSchedule shape threads events.now → ⊥) }
+{
+    let linearizer = followed(alloc, shape, threads, events)?;
     Ok(linearizer.order(alloc)?)
 }
 
@@ -104,5 +119,23 @@ pub fn linearize(
     ensures laws { threads ≤ 64 → LawsHold shape threads }
     ensures puts { threads ≤ 64 → PutsInVisit shape threads }
 {
-    follow(alloc, shape, threads, events)
+    order_events(alloc, shape, threads, events)
+}
+
+/// The points of the calls in the linearization order, in turn: each is a step of the schedule, between
+/// the first and the last of its call.
+///
+/// Refused as by `linearize`.
+pub fn linearization_points(
+    alloc: Global,
+    shape: Shape,
+    threads: u32,
+    events: &[Event],
+) -> Result<Vec<u64>, LinearFault>
+    ensures points { IfOk result (λ points. (0 < threads) × (threads ≤ 64) × IsSchedule shape threads events.now
+        × (points.items ≡ map (point (ledger_after_all shape threads events.now)) (order_of shape threads events.now))) }
+    ensures refused { result ≡ Err LinearFault.NotASchedule → ((threads ≡ 0) ⊎ (64 < threads)) ⊎ (IsSchedule shape threads events.now → ⊥) }
+{
+    let linearizer = followed(alloc, shape, threads, events)?;
+    Ok(linearizer.points(alloc)?)
 }

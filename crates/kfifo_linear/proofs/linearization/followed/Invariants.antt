@@ -1,7 +1,7 @@
 use Rattle.std.proofs.Common.{◌≡◌, take}
 use Rattle.kfifo_linear.specs.Notes.{calls_begun}
 use Rattle.kfifo_linear.specs.Following.{Follows}
-use Rattle.kfifo_linear.proofs.linearization.follow.Given as goal
+use Rattle.kfifo_linear.proofs.linearization.followed.Given as goal
 
 abbrev pub invariant-loop-event : goal.invariant-loop-event
 invariant-loop-event l = record {

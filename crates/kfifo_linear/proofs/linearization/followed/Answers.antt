@@ -5,9 +5,8 @@ use Rattle.kfifo_machine.specs.Machine.{IsSchedule}
 use Rattle.kfifo_machine.proofs.Schedules.{take-next}
 use Rattle.kfifo_linear.specs.Notes.{calls_begun}
 use Rattle.kfifo_linear.specs.Following.{Follows}
-use Rattle.kfifo_linear.specs.Order.{order_of}
-use Rattle.kfifo_linear.proofs.Linearizing.{is_schedule, no_schedule, room_left}
-use Rattle.kfifo_linear.proofs.linearization.follow.Goals as goal
+use Rattle.kfifo_linear.proofs.Linearizing.{no_schedule, room_left}
+use Rattle.kfifo_linear.proofs.linearization.followed.Goals as goal
 
 pub feed-requires-clause-room : goal.feed-requires-clause-room
 feed-requires-clause-room c begins =
@@ -27,13 +26,11 @@ loop-event-preserved c = record {
       (c.in-Ok.ensures.follows c.args.threads (calls_begun c.args.events.now) (take c.loop-event.event-index c.args.events.now) c.loop-event.invariant.follows);
 }
 
-pub returns-clause-order : goal.returns-clause-order
-returns-clause-order c =
-    let all : take c.loop-event.event-index c.args.events.now ≡ c.args.events.now = take_all c.loop-event.event-index c.args.events.now (omega (arith, c.loop-event-test.false)) in
-    let at : Follows c.args.threads (calls_begun c.args.events.now) c.args.events.now c.loop-event.linearizer =
-    subst (λ es. Follows c.args.threads (calls_begun c.args.events.now) es c.loop-event.linearizer) all c.loop-event.invariant.follows in (
+pub returns-clause-followed : goal.returns-clause-followed
+returns-clause-followed c =
+    let all : take c.loop-event.event-index c.args.events.now ≡ c.args.events.now = take_all c.loop-event.event-index c.args.events.now (omega (arith, c.loop-event-test.false)) in (
+      c.loop-event.invariant.shape,
       c.in_ok-linearizer.ensures.few.0,
       c.in_ok-linearizer.ensures.few.1,
-      subst (λ s. IsSchedule s c.args.threads c.args.events.now) c.loop-event.invariant.shape (is_schedule c.loop-event.linearizer.shape c.args.threads c.args.events.now c.loop-event.linearizer.world at.reached),
-      c.in_ok-order.ensures c.args.threads (calls_begun c.args.events.now) c.args.events.now at c.in_ok-linearizer.ensures.few.1 ∙ ap (λ s. order_of s c.args.threads c.args.events.now) c.loop-event.invariant.shape,
+      subst (λ es. Follows c.args.threads (calls_begun c.args.events.now) es c.loop-event.linearizer) all c.loop-event.invariant.follows,
     )
