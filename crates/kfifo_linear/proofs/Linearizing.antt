@@ -1,7 +1,6 @@
 -- A linearizer that has followed a schedule has followed it with one event more.
-use Rattle.std.proofs.Common.{◌≡◌, ◌≢◌, ℕ, ◌+◌, ◌*◌, ◌%◌, ◌<◌, ◌≤◌, inl, inr, ◌==◌, Bool, true, false, cond, refl, sym, ◌∙◌, ap, subst, arith, List, [], ◌∷◌, ◌++◌, length, filter, length-append, Option, Some, None, Ok, Err, IsTrue, is_some, get_or, take, drop, take-append-drop, suc}
+use Rattle.std.proofs.Common.{◌≡◌, ℕ, ◌+◌, ◌*◌, ◌<◌, ◌≤◌, inl, inr, ◌==◌, Bool, true, false, cond, refl, sym, ◌∙◌, ap, subst, arith, List, [], ◌∷◌, ◌++◌, length, filter, length-append, Option, Some, None, Ok, Err, IsTrue, is_some, get_or, take, drop, take-append-drop, suc}
 use Rattle.std.proofs.lemmas.Bool.{cases_Bool, eqb-true, false≢true}
-use Rattle.std.proofs.lemmas.Bool.Decides.{nat_tests}
 use Rattle.std.proofs.lemmas.List.{length-replicate, length-set}
 use Rattle.std.proofs.lemmas.List.Elements.{filter-append}
 use Rattle.std.proofs.Math.Seq.{drop-cons}
@@ -25,7 +24,6 @@ use Rattle.kfifo_machine.specs.Calls.{log_of}
 use Rattle.kfifo_machine.specs.Places.{IsEnds, IsFoundBy, IsSlotIndex}
 use Rattle.kfifo_machine.specs.Program.{access, accessed, advance}
 use Rattle.kfifo_machine.specs.Runs.{going}
-use Rattle.kfifo_machine.proofs.NoWrap.{EndsOk}
 use Rattle.kfifo_machine.proofs.Schedules.{Some-injective, after-snoc, made_within, run_on, stepped, take-next}
 use Rattle.kfifo_machine.proofs.Sound.{sound_ends, sound_threads}
 use Rattle.kfifo_linear.specs.declared.deed.Deed.{Deed}
@@ -38,8 +36,8 @@ use Rattle.kfifo_linear.specs.Notes as note
 use Rattle.kfifo_linear.specs.Following.{Follower, Follows, IsFollowing, Sizes, Tells, follower}
 use Rattle.kfifo_linear.specs.Order.{ledger_after_all}
 use Rattle.kfifo_linear.proofs.Abstract.{noted-same, run-none}
-use Rattle.kfifo_linear.proofs.Base.{InRing, get_or_replicate, Sane, ends_in_ring}
-use Rattle.kfifo_linear.proofs.Invariant.{FullOk, Inv, ThreadOk}
+use Rattle.kfifo_linear.proofs.Base.{get_or_replicate}
+use Rattle.kfifo_linear.proofs.Invariant.{FullOk, ThreadOk}
 use Rattle.kfifo_linear.proofs.Late.{Both, both}
 use Rattle.kfifo_linear.proofs.Agrees.{Agrees}
 use Rattle.kfifo_linear.proofs.Schedule.{agreed}
@@ -260,7 +258,10 @@ follows_none shape threads room = record {
   steps = refl;
   begun = refl;
   tells = record {
-    step = refl; head = refl; tail = refl; begun = refl;
+    step = refl;
+    head = refl;
+    tail = refl;
+    begun = refl;
     heads = λ visit below near. absurd (omega arith);
     tails = λ visit below near. absurd (omega arith);
     owner = λ i. ap (λ s. s.owner) (get_or_replicate (1 + shape.n * shape.k) i no_filling);
@@ -327,9 +328,9 @@ pub room_left : (events : List Event) (place : ℕ) (d : Event) → place < leng
 room_left events place d within begins =
     let test : Event → Bool = λ x. begins_call x.begin in
     let next : calls_begun (take (place + 1) events) ≡ calls_begun (take place events) + 1 =
-        ap calls_begun (take-next events place d within) ∙ calls_more (take place events) (get_or events place d) ∙ ap (λ b. calls_begun (take place events) + cond b 1 0) begins in
+    ap calls_begun (take-next events place d within) ∙ calls_more (take place events) (get_or events place d) ∙ ap (λ b. calls_begun (take place events) + cond b 1 0) begins in
     let all : calls_begun events ≡ calls_begun (take (place + 1) events) + length (filter test (drop (place + 1) events)) =
-        ap calls_begun (sym (take-append-drop (place + 1) events)) ∙ ap length (filter-append test (take (place + 1) events) (drop (place + 1) events)) ∙ length-append (filter test (take (place + 1) events)) (filter test (drop (place + 1) events)) in
+    ap calls_begun (sym (take-append-drop (place + 1) events)) ∙ ap length (filter-append test (take (place + 1) events) (drop (place + 1) events)) ∙ length-append (filter test (take (place + 1) events)) (filter test (drop (place + 1) events)) in
     omega arith
 
 -- events of which one is not enabled are no schedule
@@ -338,8 +339,8 @@ pub no_schedule : (shape : Shape) (threads : ℕ) (events : List Event) (place :
 no_schedule shape threads events place d here fault within is refused schedule =
     let parted : events ≡ take place events ++ (get_or events place d ∷ drop (suc place) events) = sym (take-append-drop place events) ∙ ap (λ t. take place events ++ t) (drop-cons events place d within) in
     let none : after shape threads events ≡ None =
-        ap (after shape threads) parted ∙ run_on shape (Some (opening shape threads)) here (take place events) (get_or events place d ∷ drop (suc place) events) is
-        ∙ ap (λ o. run shape (world_of o) (drop (suc place) events)) refused ∙ run-none shape (drop (suc place) events) in
+    ap (after shape threads) parted ∙ run_on shape (Some (opening shape threads)) here (take place events) (get_or events place d ∷ drop (suc place) events) is
+    ∙ ap (λ o. run shape (world_of o) (drop (suc place) events)) refused ∙ run-none shape (drop (suc place) events) in
     false≢true (subst (λ (o : Option World). IsTrue (is_some o)) none schedule)
 
 pub is_schedule : (shape : Shape) (threads : ℕ) (events : List Event) (here : World) → after shape threads events ≡ Some here → IsSchedule shape threads events

@@ -1,11 +1,10 @@
 -- The calls that stand, sorted by point and number, are the order.
 use Rattle.std.proofs.Common.{◌≡◌, ℕ, zero, suc, ◌+◌, ◌-◌, ◌<◌, ◌≤◌, ◌⊎◌, inl, inr, Bool, true, false, cond, eqb, refl, sym, ◌∙◌, ap, subst, arith, List, [], ◌∷◌, ◌++◌, length, get_or, append-nil, map, Option, Some, None, is_some}
 use Rattle.std.proofs.lemmas.Bool.{cases_eq, cases_lt, eq-eqb, ne_eqb, false≢true}
-use Rattle.std.proofs.lemmas.Bool.Decides.{nat_tests}
 use Rattle.std.proofs.lemmas.List.{get_or-map, get_or_default, get_or_past, length-map}
 use Rattle.std.proofs.lemmas.Grind.{same_number_lists}
-use Rattle.std.proofs.lemmas.List.Elements.{All-append, All-cons, All-contains, All-nil}
-use Rattle.std.proofs.lemmas.List.Sorted.{All-permutation, Contains-permutation, IsPermutation-map, length_permutation}
+use Rattle.std.proofs.lemmas.List.Elements.{All-append, All-cons, All-nil}
+use Rattle.std.proofs.lemmas.List.Sorted.{All-permutation, Contains-permutation, IsPermutation-map}
 use Rattle.std.proofs.lemmas.Map.Keys.{IsDistinct-IsPermutation, IsDistinct-from_apart, apart_from_distinct}
 use Rattle.std.proofs.lemmas.Option.{none-some, same_Some}
 use Rattle.std.specs.List.{All, Contains, IsDistinct}
@@ -18,14 +17,13 @@ use Rattle.kfifo_model.specs.Lists.{IsIn, EachPair}
 use Rattle.kfifo_model.proofs.Lists.{in_append, in_left, in_right, pairs_push}
 use Rattle.kfifo_model.proofs.Places.{in_from_place, in_place, pairs_from_places, pairs_place}
 use Rattle.kfifo_machine.specs.declared.event.Event.{Event}
-use Rattle.kfifo_machine.specs.Machine.{World}
 use Rattle.kfifo_linear.specs.Ledger.{Gone, Inside, Ledger, Outside, Standing, Stood, Took}
 use Rattle.kfifo_linear.specs.Roles.{Spot, refused_at, spot, spot_if, spot_of}
-use Rattle.kfifo_linear.specs.Notes.{Notes, point_at, point_from, points_below, slot, whereabouts, with_point}
+use Rattle.kfifo_linear.specs.Notes.{Notes, point_at, point_from, points_below, slot, with_point}
 use Rattle.kfifo_linear.specs.declared.notes.Whereabouts.TheVariants.{Nowhere}
 use Rattle.kfifo_linear.specs.Following.{Follower, Follows, Tells, brief}
 use Rattle.kfifo_linear.proofs.Schedule.{one_order}
-use Rattle.kfifo_linear.specs.Points.{IsByPoint, IsEarlier, Marks}
+use Rattle.kfifo_linear.specs.Points.{IsByPoint, IsEarlier}
 use Rattle.kfifo_linear.specs.Order.{ledger_after_all, marks_of, order_of, point, point_of, stands}
 
 -- numbers that a list has, by place and by recursion
@@ -61,10 +59,13 @@ not_lower a b e =
             let same : b.0 ≡ a.0 = omega (arith, ge, le) in
             let equal : Equal ≡ nat_cmp b.0 a.0 = nat_cmp_is b.0 a.0 Equal same in
             let second : is_lt (nat_cmp b.1 a.1) ≡ false = ap (λ o. is_lt (ordering_then o (nat_cmp b.1 a.1))) equal ∙ e in
-            inr (sym same, elim (cases_lt b.1 a.1) [
-              | inl lt ↦ absurd (false≢true (sym second ∙ ap is_lt (sym (nat_cmp_is b.1 a.1 Less lt))))
-              | inr up ↦ up
-            ])
+            inr (
+              sym same,
+              elim (cases_lt b.1 a.1) [
+                | inl lt ↦ absurd (false≢true (sym second ∙ ap is_lt (sym (nat_cmp_is b.1 a.1 Less lt))))
+                | inr up ↦ up
+              ],
+            )
       ]
     ]
 
@@ -215,10 +216,13 @@ module _ (shape : Shape) (l : Ledger) (n : Notes) (h : Tells l n) (sorted : List
       let lex : Lex (get_or sorted i (0, 0)) (get_or sorted j (0, 0)) = subst (λ k. Lex (get_or sorted i (0, 0)) (get_or sorted k (0, 0))) z (rises sorted (0, 0) up i (j - i) (omega arith)) in
       elim lex [
         | inl low ↦ (omega (arith, a.1, b.1, low), λ e. absurd (omega (arith, a.1, b.1, low, e)))
-        | inr same ↦ (omega (arith, a.1, b.1, same.0), λ e. elim (cases_lt (get_or (numbers sorted) i 0) (get_or (numbers sorted) j 0)) [
-          | inl lower_number ↦ lower_number
-          | inr ge ↦ absurd (apart_in (numbers sorted) i j differ lt less (omega (arith, na, nb, same.1, ge)))
-        ])
+        | inr same ↦ (
+          omega (arith, a.1, b.1, same.0),
+          λ e. elim (cases_lt (get_or (numbers sorted) i 0) (get_or (numbers sorted) j 0)) [
+            | inl lower_number ↦ lower_number
+            | inr ge ↦ absurd (apart_in (numbers sorted) i j differ lt less (omega (arith, na, nb, same.1, ge)))
+          ],
+        )
       ]
 
   pub sorted_by_point : IsByPoint (marks_of shape l) (numbers sorted)

@@ -1,14 +1,13 @@
 -- Each event keeps that the notes tell the ledger.
-use Rattle.std.proofs.Common.{◌≡◌, ◌≢◌, ℕ, ◌+◌, ◌-◌, ◌*◌, ◌%◌, ◌<◌, ◌≤◌, ◌⊎◌, inl, inr, Bool, true, false, cond, ltb, refl, sym, ◌∙◌, ap, subst, arith, List, length, get_or, set, Option, Some, None}
+use Rattle.std.proofs.Common.{◌≡◌, ◌≢◌, ℕ, ◌+◌, ◌%◌, ◌<◌, ◌≤◌, inl, inr, true, false, cond, ltb, refl, sym, ◌∙◌, ap, arith, List, length, get_or, set, Option, Some, None}
 use Rattle.std.proofs.Math.Nat.{mod-lt}
 use Rattle.std.proofs.lemmas.Bool.{cases_eq, cases_lt, cond-false, le-ltb}
-use Rattle.std.proofs.lemmas.Bool.Decides.{nat_tests}
 use Rattle.std.proofs.lemmas.Grind.{get_or-set_at}
 use Rattle.std.proofs.lemmas.List.{get_or-set_other, length-set}
 use Rattle.kfifo_words.specs.Ring.{distance}
 use Rattle.kfifo_words.specs.Words.{head_of}
 use Rattle.kfifo_words.specs.declared.shape.Shape.{Shape}
-use Rattle.kfifo_machine.specs.declared.event.Outcome.TheVariants.{Ended, Went}
+use Rattle.kfifo_machine.specs.declared.event.Outcome.TheVariants.{Ended}
 use Rattle.kfifo_machine.specs.Machine.{outcome_of}
 use Rattle.kfifo_machine.specs.declared.event.Begin.{Begin}
 use Rattle.kfifo_machine.specs.declared.place.DequeuePhase.TheVariants as D
@@ -26,7 +25,7 @@ use Rattle.kfifo_linear.specs.Notes.{Notes, ended, later, left_at, leaves, marke
 use Rattle.kfifo_linear.specs.Notes as note
 use Rattle.kfifo_linear.specs.Following.{Tells, TellVisits, brief}
 use Rattle.kfifo_machine.proofs.Ring.{same_place}
-use Rattle.kfifo_linear.proofs.Abstract.{noted-same, noted-other, noted_tells}
+use Rattle.kfifo_linear.proofs.Abstract.{noted-same, noted-other}
 
 -- of a list in which one place was written, what is told of each place
 pub set_new : {X Y : Type 0} (tell : X → Y) (notes : ℕ → Y) (xs : List X) (i j : ℕ) (x d : X) (y : Y) → i < length xs → tell x ≡ y → ((k : ℕ) → tell (get_or xs k d) ≡ notes k) → tell (get_or (set xs i x) j d) ≡ noted notes i y j
@@ -78,10 +77,18 @@ module _ (shape : Shape) (l : Ledger) (n : Notes) (t ends : ℕ) (r : Running) (
 
   tells_open : Told Open
   tells_open = record {
-    step = ap (λ x. x + 1) h.step; head = h.head; tail = h.tail; heads = h.heads; tails = h.tails; owner = h.owner; settled = h.settled; point = h.point;
+    step = ap (λ x. x + 1) h.step;
+    head = h.head;
+    tail = h.tail;
+    heads = h.heads;
+    tails = h.tails;
+    owner = h.owner;
+    settled = h.settled;
+    point = h.point;
     own = λ u. set_kept (λ c. c.call) l.caller n.callers t u _ _ thread refl h.own;
     head_seen = λ u. set_new (λ c. c.head_seen) l.head_seen n.callers t u _ _ l.a thread h.head h.head_seen;
-    begun = h.begun; calls = h.calls;
+    begun = h.begun;
+    calls = h.calls;
   }
 
   -- a call goes to a standing of which this is told
@@ -94,7 +101,14 @@ module _ (shape : Shape) (l : Ledger) (n : Notes) (t ends : ℕ) (r : Running) (
 
   tells_put_in : (index : ℕ) → index < length n.slots → Told (PutIn index)
   tells_put_in index less = record {
-    step = ap (λ x. x + 1) h.step; head = h.head; tail = h.tail; heads = h.heads; tails = h.tails; own = h.own; head_seen = h.head_seen; begun = h.begun;
+    step = ap (λ x. x + 1) h.step;
+    head = h.head;
+    tail = h.tail;
+    heads = h.heads;
+    tails = h.tails;
+    own = h.own;
+    head_seen = h.head_seen;
+    begun = h.begun;
     owner = λ i. set_new (λ s. s.owner) l.owner n.slots index i _ _ (l.caller t) less (h.own t) h.owner;
     settled = λ i. set_new (λ s. s.settled) l.settled n.slots index i _ _ false less refl h.settled;
     point = λ i. set_kept (λ s. s.point) l.point n.slots index i _ _ less refl h.point;
@@ -103,7 +117,14 @@ module _ (shape : Shape) (l : Ledger) (n : Notes) (t ends : ℕ) (r : Running) (
 
   tells_put_back : (index : ℕ) → index < length n.slots → Told (PutBack index)
   tells_put_back index less = record {
-    step = ap (λ x. x + 1) h.step; head = h.head; tail = h.tail; heads = h.heads; tails = h.tails; own = h.own; head_seen = h.head_seen; begun = h.begun;
+    step = ap (λ x. x + 1) h.step;
+    head = h.head;
+    tail = h.tail;
+    heads = h.heads;
+    tails = h.tails;
+    own = h.own;
+    head_seen = h.head_seen;
+    begun = h.begun;
     owner = λ i. set_kept (λ s. s.owner) l.owner n.slots index i _ _ less refl h.owner;
     settled = λ i. set_new (λ s. s.settled) l.settled n.slots index i _ _ false less refl h.settled;
     point = λ i. set_kept (λ s. s.point) l.point n.slots index i _ _ less refl h.point;
@@ -112,8 +133,17 @@ module _ (shape : Shape) (l : Ledger) (n : Notes) (t ends : ℕ) (r : Running) (
 
   tells_stand : Told Stand
   tells_stand = record {
-    step = ap (λ x. x + 1) h.step; head = h.head; tail = h.tail; heads = h.heads; tails = h.tails; own = h.own; head_seen = h.head_seen; begun = h.begun;
-    owner = h.owner; settled = h.settled; point = h.point;
+    step = ap (λ x. x + 1) h.step;
+    head = h.head;
+    tail = h.tail;
+    heads = h.heads;
+    tails = h.tails;
+    own = h.own;
+    head_seen = h.head_seen;
+    begun = h.begun;
+    owner = h.owner;
+    settled = h.settled;
+    point = h.point;
     calls = λ c. rw (h.own t) (placed (l.caller t) (At n.step) (Stood l.a l.now) known (ap At h.step) c);
   }
 
@@ -220,14 +250,32 @@ module _ (shape : Shape) (l : Ledger) (n : Notes) (t ends : ℕ) (r : Running) (
 
   tells_head_on : Told HeadOn
   tells_head_on = record {
-    step = ap (λ x. x + 1) h.step; tail = h.tail; tails = h.tails; own = h.own; head_seen = h.head_seen; begun = h.begun; owner = h.owner; settled = h.settled; point = h.point; calls = h.calls;
+    step = ap (λ x. x + 1) h.step;
+    tail = h.tail;
+    tails = h.tails;
+    own = h.own;
+    head_seen = h.head_seen;
+    begun = h.begun;
+    owner = h.owner;
+    settled = h.settled;
+    point = h.point;
+    calls = h.calls;
     head = ap (λ x. x + 1) h.head;
     heads = rw h.head (left_more l.heads l.a n.heads n.step l.now some_heads h.step h.heads);
   }
 
   tells_tail_on : Told TailOn
   tells_tail_on = record {
-    step = ap (λ x. x + 1) h.step; head = h.head; heads = h.heads; own = h.own; head_seen = h.head_seen; begun = h.begun; owner = h.owner; settled = h.settled; point = h.point; calls = h.calls;
+    step = ap (λ x. x + 1) h.step;
+    head = h.head;
+    heads = h.heads;
+    own = h.own;
+    head_seen = h.head_seen;
+    begun = h.begun;
+    owner = h.owner;
+    settled = h.settled;
+    point = h.point;
+    calls = h.calls;
     tail = ap (λ x. x + 1) h.tail;
     tails = rw h.tail (left_more l.tails l.b n.tails n.step l.now some_tails h.step h.tails);
   }
@@ -264,7 +312,14 @@ module _ (shape : Shape) (l : Ledger) (n : Notes) (t ends : ℕ) (r : Running) (
   tells_take_out index less below under near_tail near_head =
       let seen : (caller n t).head_seen ≡ l.head_seen t = h.head_seen t in
       record {
-        step = ap (λ x. x + 1) h.step; head = h.head; tail = h.tail; heads = h.heads; tails = h.tails; own = h.own; head_seen = h.head_seen; begun = h.begun;
+        step = ap (λ x. x + 1) h.step;
+        head = h.head;
+        tail = h.tail;
+        heads = h.heads;
+        tails = h.tails;
+        own = h.own;
+        head_seen = h.head_seen;
+        begun = h.begun;
         owner = λ i. set_kept (λ s. s.owner) l.owner n.slots index i _ _ less refl h.owner;
         settled = λ i. set_new (λ s. s.settled) l.settled n.slots index i _ _ false less refl h.settled;
         point = λ i. set_kept (λ s. s.point) l.point n.slots index i _ _ less refl h.point;
@@ -308,7 +363,17 @@ module _ (shape : Shape) (l : Ledger) (n : Notes) (t ends : ℕ) (h : Tells l n)
       let size : length (marked shape t ends what n).calls ≡ length n.calls = length-marked_calls shape n t ends what in
       let less : own_call (marked shape t ends what n) t < length (marked shape t ends what n).calls = omega arith in
       record {
-        step = g.step; head = g.head; tail = g.tail; heads = g.heads; tails = g.tails; owner = g.owner; settled = g.settled; point = g.point; own = g.own; head_seen = g.head_seen; begun = g.begun;
+        step = g.step;
+        head = g.head;
+        tail = g.tail;
+        heads = g.heads;
+        tails = g.tails;
+        owner = g.owner;
+        settled = g.settled;
+        point = g.point;
+        own = g.own;
+        head_seen = g.head_seen;
+        begun = g.begun;
         calls = λ c. elim (cases_eq c (l.caller t)) [
           | inl e ↦
               get_or-set_at (marked shape t ends what n).calls (own_call (marked shape t ends what n) t) c _ Nowhere (e ∙ sym own) less
@@ -332,7 +397,14 @@ module _ (shape : Shape) (l : Ledger) (n : Notes) (t ends : ℕ) (h : Tells l n)
 pub told_call : (l : Ledger) (n : Notes) (t : ℕ) (b : Begin) → Tells l n → t < length n.callers → l.standing l.calls ≡ Outside → l.last l.calls ≡ None → Tells (called t b l) (note.called t n)
 unfolding called
 told_call l n t b h thread outside unended = record {
-  step = h.step; head = h.head; tail = h.tail; heads = h.heads; tails = h.tails; owner = h.owner; settled = h.settled; point = h.point;
+  step = h.step;
+  head = h.head;
+  tail = h.tail;
+  heads = h.heads;
+  tails = h.tails;
+  owner = h.owner;
+  settled = h.settled;
+  point = h.point;
   own = λ u. set_new (λ c. c.call) l.caller n.callers t u _ _ l.calls thread h.begun h.own;
   head_seen = λ u. set_kept (λ c. c.head_seen) l.head_seen n.callers t u _ _ thread refl h.head_seen;
   begun = ap (λ x. x + 1) h.begun;
@@ -349,5 +421,16 @@ told_call l n t b h thread outside unended = record {
 -- a tick
 pub told_tick : (l : Ledger) (n : Notes) → Tells l n → Tells (record l { now = l.now + 1 }) (later n)
 told_tick l n h = record {
-  step = ap (λ x. x + 1) h.step; head = h.head; tail = h.tail; heads = h.heads; tails = h.tails; owner = h.owner; settled = h.settled; point = h.point; own = h.own; head_seen = h.head_seen; begun = h.begun; calls = h.calls;
+  step = ap (λ x. x + 1) h.step;
+  head = h.head;
+  tail = h.tail;
+  heads = h.heads;
+  tails = h.tails;
+  owner = h.owner;
+  settled = h.settled;
+  point = h.point;
+  own = h.own;
+  head_seen = h.head_seen;
+  begun = h.begun;
+  calls = h.calls;
 }

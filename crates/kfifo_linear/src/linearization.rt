@@ -68,6 +68,7 @@ fn followed(
     events: &[Event],
 ) -> Result<Linearizer, LinearFault>
     ensures followed { IfOk result (λ l. (l.shape ≡ shape) × (0 < threads) × (threads ≤ 64) × Follows threads (calls_begun events.now) events.now l) }
+    ensures threads { (threads ≡ 0) ⊎ (64 < threads) → result ≡ Err LinearFault.NotASchedule }
     ensures refused { result ≡ Err LinearFault.NotASchedule → ((threads ≡ 0) ⊎ (64 < threads)) ⊎ (IsSchedule shape threads events.now → ⊥) }
 {
     let mut linearizer = Linearizer::open(alloc, shape, threads, count_calls(events))?;
@@ -88,6 +89,7 @@ fn order_events(
     events: &[Event],
 ) -> Result<Vec<usize>, LinearFault>
     ensures order { IfOk result (λ order. (0 < threads) × (threads ≤ 64) × IsSchedule shape threads events.now × (order.items ≡ order_of shape threads events.now)) }
+    ensures threads { (threads ≡ 0) ⊎ (64 < threads) → result ≡ Err LinearFault.NotASchedule }
     ensures refused { result ≡ Err LinearFault.NotASchedule → ((threads ≡ 0) ⊎ (64 < threads)) ⊎ (IsSchedule shape threads events.now → ⊥) }
 {
     let linearizer = followed(alloc, shape, threads, events)?;
@@ -112,6 +114,7 @@ pub fn linearize(
     events: &[Event],
 ) -> Result<Vec<usize>, LinearFault>
     ensures order { IfOk result (λ order. (0 < threads) × (threads ≤ 64) × IsSchedule shape threads events.now × (order.items ≡ order_of shape threads events.now)) }
+    ensures threads { (threads ≡ 0) ⊎ (64 < threads) → result ≡ Err LinearFault.NotASchedule }
     ensures refused { result ≡ Err LinearFault.NotASchedule → ((threads ≡ 0) ⊎ (64 < threads)) ⊎ (IsSchedule shape threads events.now → ⊥) }
     ensures legal { threads ≤ 64 → HasLegalOrder shape threads }
     ensures overtaken { threads ≤ 64 → FewOvertake shape threads }
@@ -134,6 +137,7 @@ pub fn linearization_points(
 ) -> Result<Vec<u64>, LinearFault>
     ensures points { IfOk result (λ points. (0 < threads) × (threads ≤ 64) × IsSchedule shape threads events.now
         × (points.items ≡ map (point (ledger_after_all shape threads events.now)) (order_of shape threads events.now))) }
+    ensures threads { (threads ≡ 0) ⊎ (64 < threads) → result ≡ Err LinearFault.NotASchedule }
     ensures refused { result ≡ Err LinearFault.NotASchedule → ((threads ≡ 0) ⊎ (64 < threads)) ⊎ (IsSchedule shape threads events.now → ⊥) }
 {
     let linearizer = followed(alloc, shape, threads, events)?;

@@ -199,7 +199,11 @@ impl Notes {
     {
         let left = self.tail.left_at(visit);
         let slot = self.slots[index];
-        if slot.settled { slot.point.min(left) } else { left }
+        if slot.settled {
+            slot.point.min(left)
+        } else {
+            left
+        }
     }
 
     /// The point of the dequeue that takes an item in this visit.

@@ -1,5 +1,5 @@
 -- The linearizer has followed the events so far, and the next one is enabled or ends it.
-use Rattle.std.proofs.Common.{◌≡◌, ℕ, ◌<◌, ◌∷◌, ◌++◌, [], get_or, length, take, inr, true, sym, ap, ◌∙◌, subst, arith}
+use Rattle.std.proofs.Common.{◌≡◌, ◌<◌, take, inr, sym, ◌∙◌, subst, arith}
 use Rattle.std.proofs.lemmas.List.{take_all}
 use Rattle.kfifo_machine.specs.Machine.{IsSchedule}
 use Rattle.kfifo_machine.proofs.Schedules.{take-next}

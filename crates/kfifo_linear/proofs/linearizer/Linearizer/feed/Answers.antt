@@ -1,5 +1,5 @@
 -- The linearizer has then followed the schedule with this event.
-use Rattle.std.proofs.Common.{◌≡◌, ℕ, List, ◌∷◌, ◌++◌, [], true, subst, sym, ap, ◌∙◌, arith, ◌<◌, length}
+use Rattle.std.proofs.Common.{◌≡◌, ℕ, List, ◌∷◌, ◌++◌, [], true, subst, sym, ap, ◌∙◌, ◌<◌, length}
 use Rattle.kfifo_machine.specs.declared.event.Event.{Event}
 use Rattle.kfifo_machine.specs.Machine.{place_of, word_at}
 use Rattle.kfifo_linear.specs.Notes.{begins_call, deed_at, fed, noted_event}

@@ -1,5 +1,5 @@
 -- The word that a thread's step will find is one of the table, and at its last look at the ends that of the ends.
-use Rattle.std.proofs.Common.{◌≡◌, Some, sym, ap, ◌∙◌, arith}
+use Rattle.std.proofs.Common.{◌≡◌, ap, ◌∙◌, arith}
 use Rattle.kfifo_machine.specs.Machine.{place_of, word_at}
 use Rattle.kfifo_machine.specs.Program.{access, accessed}
 use Rattle.kfifo_machine.proofs.Places.{in_table}

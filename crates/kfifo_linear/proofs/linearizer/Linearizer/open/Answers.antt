@@ -1,8 +1,5 @@
 -- A new linearizer has followed no event.
-use Rattle.std.proofs.Common.{◌≡◌, [], refl, sym, ap, ◌∙◌}
-use Rattle.kfifo_machine.specs.Machine.{opening}
-use Rattle.kfifo_linear.specs.Notes.{no_notes}
-use Rattle.kfifo_linear.specs.Following.{Follows, IsFollowing, follower}
+use Rattle.std.proofs.Common.{[]}
 use Rattle.kfifo_linear.proofs.Linearizing.{follows_none}
 use Rattle.kfifo_linear.proofs.linearizer.Linearizer.open.Goals as goal
 

@@ -1,7 +1,6 @@
 -- The sorted points are those of the calls in order.
-use Rattle.std.proofs.Common.{◌≡◌, ℕ, List, length, map, sym, ap, ◌∙◌, subst}
+use Rattle.std.proofs.Common.{length, map, sym, ap, ◌∙◌, subst}
 use Rattle.std.specs.List.Sorted.{IsPermutation}
-use Rattle.kfifo_machine.specs.declared.event.Event.{Event}
 use Rattle.kfifo_linear.specs.Notes.{points_below}
 use Rattle.kfifo_linear.specs.Following.{Follower, Follows, follower}
 use Rattle.kfifo_linear.specs.Order.{ledger_after_all, order_of, point}
