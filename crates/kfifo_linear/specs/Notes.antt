@@ -18,6 +18,7 @@ use Rattle.kfifo_linear.specs.declared.notes.Filling.{Filling}
 use Rattle.kfifo_linear.specs.declared.notes.Whereabouts.{Whereabouts}
 use Rattle.kfifo_linear.specs.declared.notes.Whereabouts.TheVariants.{At, InSlot, Nowhere}
 
+-- the notes of a linearizer
 pub record Notes : Type 0 where
   -- the number of events, which is the step of the next one
   pub step : ℕ
@@ -26,9 +27,10 @@ pub record Notes : Type 0 where
   pub tail : ℕ
   pub heads : List ℕ
   pub tails : List ℕ
-  -- what is noted of each slot by its index, of each thread, and of each call by its number
+  -- what is noted of each slot by its index, and of each thread
   pub slots : List Filling
   pub callers : List Caller
+  -- how many calls have begun, and where each stands
   pub begun : ℕ
   pub calls : List Whereabouts
 
@@ -164,7 +166,7 @@ noted_event shape thread (Some (B.Enqueue item start turns)) ends deed outcome n
 noted_event shape thread (Some (B.Dequeue start turns)) ends deed outcome n = stepped shape thread ends Open outcome (called thread n)
 noted_event shape thread (Some B.Tick) ends deed outcome n = later n
 
--- the slots and calls of a deed are noted
+-- there is room for the slot and the call of a deed
 abbrev pub HasRoom : Shape → Notes → Deed → Type 0
 HasRoom shape n (PutIn index) = index < length n.slots
 HasRoom shape n (PutBack index) = index < length n.slots
@@ -182,14 +184,14 @@ deed_at shape world (Some running) = deed shape running (found shape world runni
 abbrev pub fed : Shape → World → Event → Outcome → Notes → Notes
 fed shape world event outcome n = noted_event shape event.thread event.begin (word_at world 0) (deed_at shape world (place_of world event.thread)) outcome n
 
--- a call begins, and no tick is made
+-- an event that begins this begins a call: a tick is none
 abbrev pub begins_call : Option Begin → Bool
 begins_call None = false
 begins_call (Some (B.Enqueue item start turns)) = true
 begins_call (Some (B.Dequeue start turns)) = true
 begins_call (Some B.Tick) = false
 
--- the point of a call that stands in the order
+-- the point that is noted of a slot, of a call by where it stands, and of a call; none where it does not stand in the order
 abbrev pub point_if : Filling → Option ℕ
 point_if filling = if filling.settled then Some filling.point else None
 

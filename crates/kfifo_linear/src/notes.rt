@@ -1,8 +1,7 @@
 //! What is kept of a schedule to name the order of its calls: lists of fixed sizes, made once.
-ghost use Rattle.std.specs.Prelude.{◌≡◌, ℕ, ◌+◌, ◌-◌, ◌*◌, ◌^◌, ◌<◌, ◌≤◌, None, false, true, length, replicate, IfOk, IsTrue, ◌↔◌};
+ghost use Rattle.std.specs.Prelude.{◌≡◌, ◌+◌, ◌-◌, ◌*◌, ◌^◌, ◌<◌, None, true, length, replicate, IfOk};
 ghost use Rattle.kfifo_machine.specs.Places.{IsEnds};
-ghost use Rattle.kfifo_linear.specs.Notes.{Notes, HasRoom, caller, own_call, slot, whereabouts, left_at, leaves, opens, puts_in, puts_back, settle_point, settles, took_point, gone_point, takes_out, marked, ended, stepped, called, later, no_filling, no_caller, no_notes, begins_call, noted_event, point_at, points_below};
-ghost use Rattle.kfifo_linear.specs.declared.notes.Whereabouts.TheVariants.{Nowhere};
+ghost use Rattle.kfifo_linear.specs.Notes.{Notes, HasRoom, own_call, slot, left_at, leaves, opens, puts_in, puts_back, settle_point, settles, took_point, gone_point, takes_out, marked, ended, stepped, called, later, no_notes, begins_call, noted_event, point_at, points_below};
 
 use crate::deed::Deed;
 use kfifo_machine::{Begin, Event, Outcome};
