@@ -1,5 +1,5 @@
 //! The linearization order of a whole schedule.
-ghost use Rattle.std.specs.Prelude.{◌≡◌, ℕ, ◌+◌, ◌<◌, ◌≤◌, ◌⊎◌, ◌↔◌, map, IfOk, IfErr, Err};
+ghost use Rattle.std.specs.Prelude.{◌≡◌, ◌<◌, ◌≤◌, ◌⊎◌, map, IfOk, Err};
 ghost use Rattle.kfifo_machine.specs.Machine.{IsSchedule};
 ghost use Rattle.kfifo_linear.specs.Notes.{begins_call, calls_begun};
 ghost use Rattle.kfifo_linear.specs.Order.{ledger_after_all, order_of, point};
