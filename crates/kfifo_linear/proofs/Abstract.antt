@@ -88,7 +88,7 @@ ok_world {a = a} {b = b} {o = o} {p = p} e = let q : ◌≡◌ {A = World × Out
 err_ok : {f : NotEnabled} {v : World × Outcome} → ◌≡◌ {A = Result (World × Outcome) NotEnabled} (Err f) (Ok v) → ⊥
 err_ok e = cc
 
-run-none : (shape : Shape) (events : List Event) → run shape None events ≡ None
+pub run-none : (shape : Shape) (events : List Event) → run shape None events ≡ None
 run-none shape [] = refl
 run-none shape (event ∷ events) = refl
 

@@ -21,4 +21,7 @@ pub mod Counts
 pub mod Once
 pub mod Laws
 pub mod Schedule
+pub mod Telling
+pub mod Linearizing
+pub mod Sorting
 pub mod Rows

@@ -6,8 +6,12 @@ use Rattle.kfifo_machine.specs.declared.place.Running.TheVariants as R
 use Rattle.kfifo_machine.specs.declared.event.Begin.TheVariants as B
 use Rattle.kfifo_machine.specs.Machine.{World, place_of, step, word_at, world_of}
 use Rattle.kfifo_machine.specs.Program.{access, accessed, advance}
+use Rattle.kfifo_linear.specs.declared.deed.Deed.{Deed}
+use Rattle.kfifo_linear.specs.declared.deed.Deed.TheVariants.{Check, HeadOn, Hold, Look, Open, PutBack, PutIn, Settle, Stand, TailOn, TakeOut}
 use Rattle.kfifo_machine.specs.declared.event.Begin.{Begin}
 use Rattle.kfifo_machine.specs.declared.event.Event.{Event}
+use Rattle.kfifo_machine.specs.declared.place.DequeuePhase.{DequeuePhase}
+use Rattle.kfifo_machine.specs.declared.place.EnqueuePhase.{EnqueuePhase}
 use Rattle.kfifo_machine.specs.declared.place.Found.TheVariants.{Nothing, Slot}
 use Rattle.kfifo_machine.specs.declared.place.Next.{Next}
 use Rattle.kfifo_machine.specs.declared.place.Next.TheVariants.{Answers, Goes}
@@ -17,55 +21,45 @@ use Rattle.kfifo_words.specs.Ring.{distance}
 use Rattle.kfifo_words.specs.Words.{head_of, tail_of}
 use Rattle.kfifo_words.specs.declared.shape.Shape.{Shape}
 
--- what a step did, where it matters to the order
-pub data Deed : Type 0 where
-  -- nothing of these
-  Look : Deed
-  -- the first load of a round, of this word
-  Open : (ends : ℕ) → Deed
-  -- an enqueue's second look at the ends in a round
-  Check : Deed
-  -- a won put, and a won undo
-  Put_in : (index : ℕ) → Deed
-  Put_back : (index : ℕ) → Deed
-  -- an enqueue's item is in the window that these ends name, so the enqueue is Done
-  Settle : (index ends : ℕ) → Deed
-  -- the same by a won head-hold
-  Hold : (index : ℕ) → Deed
-  -- a won take, head-on and tail-on
-  Take_out : (index : ℕ) → Deed
-  Head_on : Deed
-  Tail_on : Deed
-  -- a dequeue found the queue empty
-  Stand : Deed
-
 -- the deed, where the test says that it was one
 abbrev pub deed_if : Bool → Deed → Deed
 deed_if true deed = deed
 deed_if false deed = Look
 
--- what a step did that found this word
+-- what an enqueue's last look at the ends did, its item being in a slot of this segment: it is between head and tail, or not
+abbrev pub settles : Shape → ℕ → ℕ → ℕ → Deed
+settles shape segment index word =
+    deed_if (not (segment == head_of word) && nat_le (distance shape.n (head_of word) segment) (distance shape.n (head_of word) (tail_of word))) (Settle index segment)
+
+-- what a step of an enqueue did that found this word
+abbrev pub enqueue_deed : Shape → EnqueuePhase → ℕ → Deed
+enqueue_deed shape E.LoadEnds word = Open
+enqueue_deed shape (E.ScanTail ends offset) word = Look
+enqueue_deed shape (E.Recheck ends seen) word = Check
+enqueue_deed shape (E.Put ends index empty) word = deed_if (word == empty) (PutIn index)
+enqueue_deed shape (E.ReloadSlot ends index filled) word = Look
+enqueue_deed shape (E.ReloadEnds ends index filled) word = settles shape (tail_of ends) index word
+enqueue_deed shape (E.HoldHead index filled held) word = deed_if (word == held) (Hold index)
+enqueue_deed shape (E.Undo index filled worn) word = deed_if (word == filled) (PutBack index)
+enqueue_deed shape (E.ScanHead ends offset) word = Look
+enqueue_deed shape (E.ConfirmFull ends) word = Look
+enqueue_deed shape (E.MoveHead ends) word = deed_if (word == ends) HeadOn
+enqueue_deed shape (E.MoveTail ends) word = deed_if (word == ends) TailOn
+
+-- the same of a dequeue
+abbrev pub dequeue_deed : DequeuePhase → ℕ → Deed
+dequeue_deed D.LoadEnds word = Open
+dequeue_deed (D.ScanHead ends offset) word = Look
+dequeue_deed (D.Recheck ends (Slot index seen)) word = Look
+dequeue_deed (D.Recheck ends Nothing) word = deed_if ((word == ends) && (tail_of ends == head_of ends)) Stand
+dequeue_deed (D.MoveTail ends index filled) word = deed_if (word == ends) TailOn
+dequeue_deed (D.Take ends index filled) word = deed_if (word == filled) (TakeOut index)
+dequeue_deed (D.MoveHead ends) word = deed_if (word == ends) HeadOn
+
+-- what a step from this place did
 abbrev pub deed : Shape → Running → ℕ → Deed
-deed shape (R.Enqueue item start left E.LoadEnds) word = Open word
-deed shape (R.Enqueue item start left (E.ScanTail ends offset)) word = Look
-deed shape (R.Enqueue item start left (E.Recheck ends seen)) word = Check
-deed shape (R.Enqueue item start left (E.Put ends index empty)) word = deed_if (word == empty) (Put_in index)
-deed shape (R.Enqueue item start left (E.ReloadSlot ends index filled)) word = Look
-deed shape (R.Enqueue item start left (E.ReloadEnds ends index filled)) word =
-    deed_if (not (tail_of ends == head_of word) && nat_le (distance shape.n (head_of word) (tail_of ends)) (distance shape.n (head_of word) (tail_of word))) (Settle index (tail_of ends))
-deed shape (R.Enqueue item start left (E.HoldHead index filled held)) word = deed_if (word == held) (Hold index)
-deed shape (R.Enqueue item start left (E.Undo index filled worn)) word = deed_if (word == filled) (Put_back index)
-deed shape (R.Enqueue item start left (E.ScanHead ends offset)) word = Look
-deed shape (R.Enqueue item start left (E.ConfirmFull ends)) word = Look
-deed shape (R.Enqueue item start left (E.MoveHead ends)) word = deed_if (word == ends) Head_on
-deed shape (R.Enqueue item start left (E.MoveTail ends)) word = deed_if (word == ends) Tail_on
-deed shape (R.Dequeue start left D.LoadEnds) word = Open word
-deed shape (R.Dequeue start left (D.ScanHead ends offset)) word = Look
-deed shape (R.Dequeue start left (D.Recheck ends (Slot index seen))) word = Look
-deed shape (R.Dequeue start left (D.Recheck ends Nothing)) word = deed_if ((word == ends) && (tail_of ends == head_of ends)) Stand
-deed shape (R.Dequeue start left (D.MoveTail ends index filled)) word = deed_if (word == ends) Tail_on
-deed shape (R.Dequeue start left (D.Take ends index filled)) word = deed_if (word == filled) (Take_out index)
-deed shape (R.Dequeue start left (D.MoveHead ends)) word = deed_if (word == ends) Head_on
+deed shape (R.Enqueue item start left phase) word = enqueue_deed shape phase word
+deed shape (R.Dequeue start left phase) word = dequeue_deed phase word
 
 -- where a call stands in the order
 pub data Standing : Type 0 where
@@ -147,45 +141,45 @@ item_of B.Tick = 0
 
 -- Each thing that is noted, after a deed of a thread that found these ends, where `now` is not yet raised.
 abbrev pub a_after : Deed → Ledger → ℕ
-a_after Head_on l = l.a + 1
+a_after HeadOn l = l.a + 1
 a_after other l = l.a
 
 abbrev pub b_after : Deed → Ledger → ℕ
-b_after Tail_on l = l.b + 1
+b_after TailOn l = l.b + 1
 b_after other l = l.b
 
 -- the steps at which head and tail left their visits
 abbrev pub heads_after : Deed → Ledger → ℕ → ℕ
-heads_after Head_on l v = noted l.heads l.a l.now v
+heads_after HeadOn l v = noted l.heads l.a l.now v
 heads_after other l v = l.heads v
 
 abbrev pub tails_after : Deed → Ledger → ℕ → ℕ
-tails_after Tail_on l v = noted l.tails l.b l.now v
+tails_after TailOn l v = noted l.tails l.b l.now v
 tails_after other l v = l.tails v
 
 -- who put into a slot last, and where tail and head then were: the tail when the round began, the head at the put
 abbrev pub owner_after : Deed → ℕ → Ledger → ℕ → ℕ
-owner_after (Put_in index) thread l i = noted l.owner index (l.caller thread) i
+owner_after (PutIn index) thread l i = noted l.owner index (l.caller thread) i
 owner_after other thread l i = l.owner i
 
 abbrev pub born_after : Deed → ℕ → Ledger → ℕ → ℕ
-born_after (Put_in index) thread l i = noted l.born index (l.tail_seen thread) i
+born_after (PutIn index) thread l i = noted l.born index (l.tail_seen thread) i
 born_after other thread l i = l.born i
 
 abbrev pub put_head_after : Deed → Ledger → ℕ → ℕ
-put_head_after (Put_in index) l i = noted l.put_head index l.a i
+put_head_after (PutIn index) l i = noted l.put_head index l.a i
 put_head_after other l i = l.put_head i
 
 -- a slot from which an item was taken, has only items of later visits from there on
 abbrev pub low_after : Deed → ℕ → Ledger → ℕ → ℕ
-low_after (Take_out index) thread l i = noted l.low index (l.head_seen thread + 1) i
+low_after (TakeOut index) thread l i = noted l.low index (l.head_seen thread + 1) i
 low_after other thread l i = l.low i
 
 -- an item is settled by its own enqueue while it is in its slot, until it is taken or undone
 abbrev pub settled_after : Deed → ℕ → Ledger → ℕ → Bool
-settled_after (Put_in index) thread l i = noted l.settled index false i
-settled_after (Put_back index) thread l i = noted l.settled index false i
-settled_after (Take_out index) thread l i = noted l.settled index false i
+settled_after (PutIn index) thread l i = noted l.settled index false i
+settled_after (PutBack index) thread l i = noted l.settled index false i
+settled_after (TakeOut index) thread l i = noted l.settled index false i
 settled_after (Settle index segment) thread l i = if is_inside (l.standing (l.caller thread)) then noted l.settled index true i else l.settled i
 settled_after (Hold index) thread l i = if is_inside (l.standing (l.caller thread)) then noted l.settled index true i else l.settled i
 settled_after other thread l i = l.settled i
@@ -206,9 +200,9 @@ point_after shape other thread ends l i = l.point i
 
 -- where calls stand: a take overrides what was settled
 abbrev pub standing_after : Deed → ℕ → Ledger → ℕ → Standing
-standing_after (Put_in index) thread l c = noted l.standing (l.caller thread) (Inside index) c
-standing_after (Put_back index) thread l c = noted l.standing (l.caller thread) Outside c
-standing_after (Take_out index) thread l c =
+standing_after (PutIn index) thread l c = noted l.standing (l.caller thread) (Inside index) c
+standing_after (PutBack index) thread l c = noted l.standing (l.caller thread) Outside c
+standing_after (TakeOut index) thread l c =
     noted
     (noted l.standing (l.owner index) (Gone index (l.head_seen thread) (gone_point l index (l.head_seen thread))))
     (l.caller thread)
@@ -219,11 +213,11 @@ standing_after other thread l c = l.standing c
 
 -- the numbers of head and tail at the first look of a round
 abbrev pub head_seen_after : Deed → ℕ → Ledger → ℕ → ℕ
-head_seen_after (Open ends) thread l t = noted l.head_seen thread l.a t
+head_seen_after Open thread l t = noted l.head_seen thread l.a t
 head_seen_after other thread l t = l.head_seen t
 
 abbrev pub tail_seen_after : Deed → ℕ → Ledger → ℕ → ℕ
-tail_seen_after (Open ends) thread l t = noted l.tail_seen thread l.b t
+tail_seen_after Open thread l t = noted l.tail_seen thread l.b t
 tail_seen_after other thread l t = l.tail_seen t
 
 -- the step of an enqueue's second look at the ends, and of the one before a put
@@ -232,7 +226,7 @@ checked_after Check thread l t = noted l.checked thread l.now t
 checked_after other thread l t = l.checked t
 
 abbrev pub sure_after : Deed → ℕ → Ledger → ℕ → ℕ
-sure_after (Put_in index) thread l c = noted l.sure (l.caller thread) (l.checked thread) c
+sure_after (PutIn index) thread l c = noted l.sure (l.caller thread) (l.checked thread) c
 sure_after other thread l c = l.sure c
 
 -- the last steps of calls after a step

@@ -2,6 +2,13 @@
 //! overtaken k times.
 #![tactic(auto)]
 
+mod deed;
+mod linearization;
+mod linearizer;
+mod notes;
+#[cfg(test)]
+mod tests;
+
 ghost use Rattle.std.specs.Prelude.{ℕ, ◌≡◌, ◌<◌, ◌≤◌, List, true};
 ghost use Rattle.kfifo_words.specs.declared.shape.Shape.{Shape};
 ghost use Rattle.kfifo_model.specs.declared.calls.Call.{Call};
@@ -12,6 +19,9 @@ ghost use Rattle.kfifo_model.specs.Overtaking.{numbers_of, overtaken_in, certain
 ghost use Rattle.kfifo_linear.specs.Points.{Marks, PointsFit, StandsFit, by_point};
 ghost use Rattle.kfifo_linear.specs.Rows.{IsTwoByTwo, RowsHold};
 ghost use Rattle.kfifo_linear.specs.Headline.{HasLegalOrder, FewOvertake, FewCertainlyOvertake, PointsHold, LawsHold, PutsInVisit, NumbersAgree, OneOrder, TakesInTime};
+
+pub use linearization::{LinearFault, linearization_points, linearize};
+pub use linearizer::Linearizer;
 
 /// Where the facts about points hold, the calls by rising point and number are a legal order.
 pub fn points_give_an_order()

@@ -2,6 +2,7 @@
 
 ghost use Rattle.std.specs.Prelude.{◌≡◌, IfOk, None, map};
 ghost use Rattle.std.specs.List.{range_with_len};
+ghost use Rattle.kfifo_machine.specs.Program.{accessed};
 
 use kfifo_model::Answer;
 use kfifo_words::{Ends, Word};
@@ -138,6 +139,17 @@ pub enum Access {
     Load { index: usize },
     /// A compare-and-exchange: the word becomes `to` where it is `from`.
     Exchange { index: usize, from: Word, to: Word },
+}
+
+impl Access {
+    /// The index of the word.
+    pub fn index(&self) -> usize
+        ensures { result ≡ accessed self.now }
+    {
+        match *self {
+            Access::Load { index } | Access::Exchange { index, .. } => index,
+        }
+    }
 }
 
 /// What a thread does after a step.

@@ -1,8 +1,8 @@
 //! The whole state of a machine, and one event.
-ghost use Rattle.std.specs.Prelude.{◌≡◌, ℕ, ◌+◌, ◌*◌, ◌^◌, ◌<◌, ◌≤◌, ◌⊎◌, ◌↔◌, length, get_or, set, Some, None, IfOk, IfErr, OnErr, Ok, Err, IsErrOf};
+ghost use Rattle.std.specs.Prelude.{◌≡◌, ℕ, ◌+◌, ◌*◌, ◌^◌, ◌<◌, ◌≤◌, ◌⊎◌, ◌↔◌, length, get_or, set, Some, None, IfSome, IfOk, IfErr, OnErr, Ok, Err, IsErrOf};
 ghost use Rattle.kfifo_words.specs.Ring.{clock_at};
 ghost use Rattle.kfifo_machine.specs.Program.{access, accessed, advance};
-ghost use Rattle.kfifo_machine.specs.Machine.{opening, word_at, words_after, moved, found, outcome_of};
+ghost use Rattle.kfifo_machine.specs.Machine.{opening, place_of, word_at, words_after, moved, found, outcome_of};
 ghost use Rattle.kfifo_machine.specs.Places.{IsPlace, IsState};
 ghost use Rattle.kfifo_machine.specs.Laws.{OthersStay, NoneFalls, OneWord};
 
@@ -62,6 +62,15 @@ impl State {
         ensures { result ≡ self.now.shape }
     {
         self.shape
+    }
+
+    /// The place of a thread in its call; none where it is in no call, or no thread has this number.
+    #[tactic(auto, unfolding(crate::specs::Machine::place_of))]
+    pub fn place(&self, thread: u32) -> Option<Running>
+        ensures place { result ≡ place_of self.now.world thread }
+        ensures sound { IfSome result (IsPlace self.now.shape) }
+    {
+        self.places.get(thread as usize).copied().flatten()
     }
 
     /// The bits of the word with this index: 0 is the ends word, then come the slots, segment by

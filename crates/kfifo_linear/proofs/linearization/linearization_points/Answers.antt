@@ -1,0 +1,16 @@
+-- The linearizer has followed the whole schedule.
+use Rattle.std.proofs.Common.{map, ap, ◌∙◌, subst}
+use Rattle.kfifo_machine.specs.Machine.{IsSchedule}
+use Rattle.kfifo_linear.specs.Notes.{calls_begun}
+use Rattle.kfifo_linear.specs.Order.{ledger_after_all, order_of, point}
+use Rattle.kfifo_linear.proofs.Linearizing.{is_schedule}
+use Rattle.kfifo_linear.proofs.linearization.linearization_points.Goals as goal
+
+pub returns-clause-points : goal.returns-clause-points
+returns-clause-points c =
+    let known = c.in_ok-linearizer.ensures.followed in (
+      known.1,
+      known.2,
+      subst (λ s. IsSchedule s c.args.threads c.args.events.now) known.0 (is_schedule c.in_ok-linearizer.linearizer.shape c.args.threads c.args.events.now c.in_ok-linearizer.linearizer.world known.3.reached),
+      c.in_ok-points.ensures c.args.threads (calls_begun c.args.events.now) c.args.events.now known.3 known.2 ∙ ap (λ s. map (point (ledger_after_all s c.args.threads c.args.events.now)) (order_of s c.args.threads c.args.events.now)) known.0,
+    )

@@ -1,0 +1,145 @@
+//! The linearization order of a whole schedule.
+ghost use Rattle.std.specs.Prelude.{◌≡◌, ◌<◌, ◌≤◌, ◌⊎◌, map, IfOk, Err};
+ghost use Rattle.kfifo_machine.specs.Machine.{IsSchedule};
+ghost use Rattle.kfifo_linear.specs.Notes.{begins_call, calls_begun};
+ghost use Rattle.kfifo_linear.specs.Order.{ledger_after_all, order_of, point};
+ghost use Rattle.kfifo_linear.specs.Following.{Follows};
+ghost use Rattle.kfifo_linear.specs.Headline.{HasLegalOrder, FewOvertake, FewCertainlyOvertake, LawsHold, PutsInVisit};
+
+use crate::linearizer::Linearizer;
+use kfifo_machine::{Begin, Event, MAX_THREADS, StartFault};
+use kfifo_words::Shape;
+use std::alloc::{AllocError, Global};
+
+/// Why there is no order.
+#[derive(Clone, Copy, PartialEq, Eq, Debug)]
+pub enum LinearFault {
+    /// The number of threads is not 1 to 64, or an event is not enabled.
+    NotASchedule = 1,
+    /// A growth was refused.
+    Memory = 2,
+}
+
+impl From<AllocError> for LinearFault {
+    ghost use Rattle.kfifo_linear.specs.declared.linearization.LinearFault.TheVariants.{Memory};
+
+    ghost from_gives = { λ _ fault. fault ≡ Memory };
+
+    fn from(_: AllocError) -> LinearFault {
+        LinearFault::Memory
+    }
+}
+
+impl From<StartFault> for LinearFault {
+    ghost use Rattle.kfifo_linear.specs.Faults.{linear_fault_of};
+
+    ghost from_gives = { λ start fault. fault ≡ linear_fault_of start };
+
+    fn from(fault: StartFault) -> LinearFault {
+        match fault {
+            StartFault::ThreadsOutOfRange => LinearFault::NotASchedule,
+            StartFault::Memory => LinearFault::Memory,
+        }
+    }
+}
+
+/// Whether the event begins a call.
+fn begins(event: &Event) -> bool
+    ensures { result ≡ begins_call event.now.begin }
+{
+    match event.begin {
+        Some(Begin::Enqueue { .. } | Begin::Dequeue { .. }) => true,
+        Some(Begin::Tick) | None => false,
+    }
+}
+
+/// The number of calls that these events begin.
+fn count_calls(events: &[Event]) -> usize
+    ensures { result ≡ calls_begun events.now }
+{
+    events.iter().filter(|event| begins(event)).count()
+}
+
+/// A linearizer that has followed these events, or why there is none.
+fn followed(
+    alloc: Global,
+    shape: Shape,
+    threads: u32,
+    events: &[Event],
+) -> Result<Linearizer, LinearFault>
+    ensures followed { IfOk result (λ l. (l.shape ≡ shape) × (0 < threads) × (threads ≤ 64) × Follows threads (calls_begun events.now) events.now l) }
+    ensures threads { (threads ≡ 0) ⊎ (64 < threads) → result ≡ Err LinearFault.NotASchedule }
+    ensures refused { result ≡ Err LinearFault.NotASchedule → ((threads ≡ 0) ⊎ (64 < threads)) ⊎ (IsSchedule shape threads events.now → ⊥) }
+{
+    let mut linearizer = Linearizer::open(alloc, shape, threads, count_calls(events))?;
+    for event in events {
+        match linearizer.feed(*event) {
+            Ok(_outcome) => {}
+            Err(_fault) => return Err(LinearFault::NotASchedule),
+        }
+    }
+    Ok(linearizer)
+}
+
+/// The order of these events, or why there is none.
+fn order_events(
+    alloc: Global,
+    shape: Shape,
+    threads: u32,
+    events: &[Event],
+) -> Result<Vec<usize>, LinearFault>
+    ensures order { IfOk result (λ order. (0 < threads) × (threads ≤ 64) × IsSchedule shape threads events.now × (order.items ≡ order_of shape threads events.now)) }
+    ensures threads { (threads ≡ 0) ⊎ (64 < threads) → result ≡ Err LinearFault.NotASchedule }
+    ensures refused { result ≡ Err LinearFault.NotASchedule → ((threads ≡ 0) ⊎ (64 < threads)) ⊎ (IsSchedule shape threads events.now → ⊥) }
+{
+    let linearizer = followed(alloc, shape, threads, events)?;
+    Ok(linearizer.order(alloc)?)
+}
+
+/// The linearization order of the schedule of these events, as numbers of calls by their first events.
+///
+/// Refused: NotASchedule where the number of threads is not 1 to 64 or an event is not enabled; Memory
+/// where a growth was refused.
+///
+/// The clauses from `legal` on speak of every schedule of this shape and number of threads, whatever is
+/// answered. The order of a schedule is a legal order of its history: it has all finished calls and
+/// some unfinished enqueues, keeps every pair of which one returned before the other was called, and
+/// is a run of the k-relaxed queue. In it, where its enqueues carry distinct items, each item is
+/// overtaken at most k - 1 times in its whole life; and by the history, where its items are distinct,
+/// at most k - 1 overtakings of the item of an enqueue answered Done are certain.
+pub fn linearize(
+    alloc: Global,
+    shape: Shape,
+    threads: u32,
+    events: &[Event],
+) -> Result<Vec<usize>, LinearFault>
+    ensures order { IfOk result (λ order. (0 < threads) × (threads ≤ 64) × IsSchedule shape threads events.now × (order.items ≡ order_of shape threads events.now)) }
+    ensures threads { (threads ≡ 0) ⊎ (64 < threads) → result ≡ Err LinearFault.NotASchedule }
+    ensures refused { result ≡ Err LinearFault.NotASchedule → ((threads ≡ 0) ⊎ (64 < threads)) ⊎ (IsSchedule shape threads events.now → ⊥) }
+    ensures legal { threads ≤ 64 → HasLegalOrder shape threads }
+    ensures overtaken { threads ≤ 64 → FewOvertake shape threads }
+    ensures certainly { threads ≤ 64 → FewCertainlyOvertake shape threads }
+    ensures laws { threads ≤ 64 → LawsHold shape threads }
+    ensures puts { threads ≤ 64 → PutsInVisit shape threads }
+{
+    order_events(alloc, shape, threads, events)
+}
+
+/// The points of the calls in the linearization order, in turn: each is a step of the schedule, between
+/// the first and the last of its call.
+///
+/// Refused as by `linearize`.
+pub fn linearization_points(
+    alloc: Global,
+    shape: Shape,
+    threads: u32,
+    events: &[Event],
+) -> Result<Vec<u64>, LinearFault>
+    ensures points { IfOk result (λ points. (0 < threads) × (threads ≤ 64) × IsSchedule shape threads events.now
+        × (points.items ≡ map (point (ledger_after_all shape threads events.now)) (order_of shape threads events.now))) }
+    ensures threads { (threads ≡ 0) ⊎ (64 < threads) → result ≡ Err LinearFault.NotASchedule }
+    ensures refused { result ≡ Err LinearFault.NotASchedule → ((threads ≡ 0) ⊎ (64 < threads)) ⊎ (IsSchedule shape threads events.now → ⊥) }
+{
+    let linearizer = followed(alloc, shape, threads, events)?;
+    Ok(linearizer.points(alloc)?)
+}
