@@ -2,7 +2,8 @@
 ghost use Rattle.std.specs.Prelude.{◌≡◌, ℕ, ◌+◌, ◌*◌, ◌^◌, ◌<◌, ◌≤◌, ◌⊎◌, ◌↔◌, length, get_or, set, Some, None, IfSome, IfOk, IfErr, OnErr, Ok, Err, IsErrOf};
 ghost use Rattle.kfifo_words.specs.Ring.{clock_at};
 ghost use Rattle.kfifo_machine.specs.Program.{access, accessed, advance};
-ghost use Rattle.kfifo_machine.specs.Machine.{opening, place_of, word_at, words_after, moved, found, outcome_of};
+ghost use Rattle.kfifo_machine.specs.Machine.{opening, place_of, word_at, words_after, moved, found, outcome_of, step_from};
+ghost use Rattle.kfifo_machine.specs.Runs.{going};
 ghost use Rattle.kfifo_machine.specs.Places.{IsPlace, IsState};
 ghost use Rattle.kfifo_machine.specs.Laws.{OthersStay, NoneFalls, OneWord};
 
@@ -124,8 +125,54 @@ fn make_step(state: &mut State, thread: usize, running: Running) -> Outcome
     }
 }
 
+/// The place from which a call makes its first step; none, where it may not begin: its start is not
+/// below k, it has no turns, or its item is out of range. A tick has none.
+fn first_place(shape: &Shape, begin: Begin) -> Option<Running>
+    ensures { result ≡ going shape.now None (Some begin) }
+{
+    match begin {
+        Begin::Enqueue { item, start, turns } => {
+            let may = start < shape.k() && 0 < turns && 0 < item && item < 16_777_216;
+            let phase = EnqueuePhase::LoadEnds;
+            may.then_some(Running::Enqueue {
+                item,
+                start,
+                left: turns,
+                phase,
+            })
+        }
+        Begin::Dequeue { start, turns } => {
+            let may = start < shape.k() && 0 < turns;
+            let phase = DequeuePhase::LoadEnds;
+            may.then_some(Running::Dequeue {
+                start,
+                left: turns,
+                phase,
+            })
+        }
+        Begin::Tick => None,
+    }
+}
+
+/// Adds 1 to the clock, or refuses where it is spent.
+#[tactic(auto, unfolding(crate::specs::Machine::word_at, crate::specs::Machine::ticked))]
+fn tick(state: &mut State) -> Result<Outcome, NotEnabled>
+    ensures shape { state.new.shape ≡ state.old.shape }
+    ensures made { IfOk result (λ outcome. step_from state.old.shape state.old.world 0 None (Some Begin.Tick) ≡ Ok (state.new.world, outcome)) }
+    ensures refused { IfErr result (λ fault. step_from state.old.shape state.old.world 0 None (Some Begin.Tick) ≡ Err fault) }
+    ensures unchanged { OnErr result (state.new ≡ state.old) }
+{
+    let clock = state.shape.clock_index();
+    let time = state.words[clock].bits();
+    if time == u64::MAX {
+        return Err(NotEnabled::ClockSpent);
+    }
+    state.words[clock] = Word::of_bits(time + 1);
+    Ok(Outcome::Went)
+}
+
 /// Makes one event, or says why it cannot be made and leaves the state as it was.
-#[tactic(auto, unfolding(crate::specs::Machine::step, crate::specs::Machine::place_of, crate::specs::Machine::found, crate::specs::Machine::word_at, crate::specs::Machine::ticked))]
+#[tactic(auto, unfolding(crate::specs::Machine::step, crate::specs::Machine::place_of, crate::specs::Machine::found, crate::specs::Machine::word_at))]
 fn make_event(state: &mut State, event: Event) -> Result<Outcome, NotEnabled>
     ensures sound { IsState state.old.shape state.old.world.words state.old.world.places }
     ensures shape { state.new.shape ≡ state.old.shape }
@@ -139,41 +186,11 @@ fn make_event(state: &mut State, event: Event) -> Result<Outcome, NotEnabled>
     }
     match (state.places[thread], event.begin) {
         (None, None) => Err(NotEnabled::Idle),
-        (None, Some(Begin::Enqueue { item, start, turns })) => {
-            if start < state.shape.k() && 0 < turns && 0 < item && item < 16_777_216 {
-                let running = Running::Enqueue {
-                    item,
-                    start,
-                    left: turns,
-                    phase: EnqueuePhase::LoadEnds,
-                };
-                Ok(make_step(state, thread, running))
-            } else {
-                Err(NotEnabled::BadCall)
-            }
-        }
-        (None, Some(Begin::Dequeue { start, turns })) => {
-            if start < state.shape.k() && 0 < turns {
-                let running = Running::Dequeue {
-                    start,
-                    left: turns,
-                    phase: DequeuePhase::LoadEnds,
-                };
-                Ok(make_step(state, thread, running))
-            } else {
-                Err(NotEnabled::BadCall)
-            }
-        }
-        (None, Some(Begin::Tick)) => {
-            let clock = state.shape.clock_index();
-            let time = state.words[clock].bits();
-            if time == u64::MAX {
-                Err(NotEnabled::ClockSpent)
-            } else {
-                state.words[clock] = Word::of_bits(time + 1);
-                Ok(Outcome::Went)
-            }
-        }
+        (None, Some(Begin::Tick)) => tick(state),
+        (None, Some(begin)) => match first_place(&state.shape, begin) {
+            Some(running) => Ok(make_step(state, thread, running)),
+            None => Err(NotEnabled::BadCall),
+        },
         (Some(running), None) => Ok(make_step(state, thread, running)),
         (Some(_), Some(_)) => Err(NotEnabled::InCall),
     }

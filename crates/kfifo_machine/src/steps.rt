@@ -281,6 +281,74 @@ impl EnqueueRound {
         }
     }
 
+    /// After an exchange that puts the item into an empty slot.
+    fn put(self, shape: &Shape, ends: Ends, index: usize, empty: Word, word: Word) -> Next
+        requires item { self.item < 2 ^ 24 }
+        requires left { 0 < self.left }
+        requires version { version_of empty + 2 ≤ shape.now.last }
+        ensures { result ≡ enqueue_advance shape.now self.item self.start self.left (EnqueuePhase.Put ends index empty) word }
+    {
+        if word == empty {
+            let filled = Word::pack(self.item, empty.version() + 1);
+            self.goes(EnqueuePhase::ReloadSlot {
+                ends,
+                index,
+                filled,
+            })
+        } else {
+            self.again()
+        }
+    }
+
+    /// After the slot was loaded again, the item having been put into it.
+    fn slot_reloaded(
+        self,
+        shape: &Shape,
+        ends: Ends,
+        index: usize,
+        filled: Word,
+        word: Word,
+    ) -> Next
+        ensures { result ≡ enqueue_advance shape.now self.item self.start self.left (EnqueuePhase.ReloadSlot ends index filled) word }
+    {
+        if word == filled {
+            self.goes(EnqueuePhase::ReloadEnds {
+                ends,
+                index,
+                filled,
+            })
+        } else {
+            Next::Answers(Answer::Done)
+        }
+    }
+
+    /// After an exchange that raises the version of the ends word.
+    fn head_held(self, shape: &Shape, index: usize, filled: Word, held: Ends, now: Ends) -> Next
+        ensures { result ≡ enqueue_advance shape.now self.item self.start self.left (EnqueuePhase.HoldHead index filled held) now }
+    {
+        if now == held {
+            Next::Answers(Answer::Done)
+        } else {
+            self.goes(EnqueuePhase::Undo {
+                index,
+                filled,
+                worn: false,
+            })
+        }
+    }
+
+    /// After the ends word was loaded again, a slot of the head's segment being filled.
+    fn full_confirmed(self, shape: &Shape, ends: Ends, now: Ends) -> Next
+        requires left { 0 < self.left }
+        ensures { result ≡ enqueue_advance shape.now self.item self.start self.left (EnqueuePhase.ConfirmFull ends) now }
+    {
+        if now == ends {
+            Next::Answers(Answer::Full)
+        } else {
+            self.again()
+        }
+    }
+
     /// What an enqueue does with the word that its step found.
     fn next(self, shape: &Shape, phase: EnqueuePhase, word: Word) -> Next
         requires item { self.item < 2 ^ 24 }
@@ -290,79 +358,39 @@ impl EnqueueRound {
         requires word { IsFound shape.now phase word }
         ensures { result ≡ enqueue_advance shape.now self.item self.start self.left phase word }
     {
+        use EnqueuePhase as Phase;
+        let now = Ends::from(word);
         match phase {
-            EnqueuePhase::LoadEnds => self.goes(EnqueuePhase::ScanTail {
-                ends: word.into(),
+            Phase::LoadEnds => self.goes(Phase::ScanTail {
+                ends: now,
                 offset: 0,
             }),
-            EnqueuePhase::ScanTail { ends, offset } => self.tail_scanned(shape, ends, offset, word),
-            EnqueuePhase::Recheck { ends, found } => self.rechecked(
-                shape,
-                ends,
-                found,
-                word.into(),
-            ),
-            EnqueuePhase::Put { ends, index, empty } => {
-                if word == empty {
-                    let filled = Word::pack(self.item, empty.version() + 1);
-                    self.goes(EnqueuePhase::ReloadSlot {
-                        ends,
-                        index,
-                        filled,
-                    })
-                } else {
-                    self.again()
-                }
-            }
-            EnqueuePhase::ReloadSlot {
+            Phase::ScanTail { ends, offset } => self.tail_scanned(shape, ends, offset, word),
+            Phase::Recheck { ends, found } => self.rechecked(shape, ends, found, now),
+            Phase::Put { ends, index, empty } => self.put(shape, ends, index, empty, word),
+            Phase::ReloadSlot {
                 ends,
                 index,
                 filled,
-            } => {
-                if word == filled {
-                    self.goes(EnqueuePhase::ReloadEnds {
-                        ends,
-                        index,
-                        filled,
-                    })
-                } else {
-                    Next::Answers(Answer::Done)
-                }
-            }
-            EnqueuePhase::ReloadEnds {
+            } => self.slot_reloaded(shape, ends, index, filled, word),
+            Phase::ReloadEnds {
                 ends,
                 index,
                 filled,
-            } => self.placed(shape, ends, index, filled, word.into()),
-            EnqueuePhase::HoldHead {
+            } => self.placed(shape, ends, index, filled, now),
+            Phase::HoldHead {
                 index,
                 filled,
                 held,
-            } => {
-                if Ends::from(word) == held {
-                    Next::Answers(Answer::Done)
-                } else {
-                    self.goes(EnqueuePhase::Undo {
-                        index,
-                        filled,
-                        worn: false,
-                    })
-                }
-            }
-            EnqueuePhase::Undo {
+            } => self.head_held(shape, index, filled, held, now),
+            Phase::Undo {
                 index,
                 filled,
                 worn,
             } => self.undone(filled, worn, index, word, shape),
-            EnqueuePhase::ScanHead { ends, offset } => self.head_scanned(shape, ends, offset, word),
-            EnqueuePhase::ConfirmFull { ends } => {
-                if Ends::from(word) == ends {
-                    Next::Answers(Answer::Full)
-                } else {
-                    self.again()
-                }
-            }
-            EnqueuePhase::MoveHead { .. } | EnqueuePhase::MoveTail { .. } => self.again(),
+            Phase::ScanHead { ends, offset } => self.head_scanned(shape, ends, offset, word),
+            Phase::ConfirmFull { ends } => self.full_confirmed(shape, ends, now),
+            Phase::MoveHead { .. } | Phase::MoveTail { .. } => self.again(),
         }
     }
 }
