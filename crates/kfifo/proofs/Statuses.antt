@@ -1,5 +1,5 @@
 -- The statuses by their numbers, and the fault that has no line.
-use Rattle.std.proofs.Common.{◌≡◌, ◌≢◌, ◌⊎◌, ℕ, arith, inl, inr, refl}
+use Rattle.std.proofs.Common.{◌≡◌, ◌≢◌, ◌⊎◌, arith, inl, inr, refl}
 use Rattle.kfifo.specs.Records.{status_number}
 use Rattle.kfifo.specs.declared.fault.Fault.{Fault}
 use Rattle.kfifo.specs.declared.fault.Fault.TheVariants as faults

@@ -1,6 +1,5 @@
-use Rattle.std.proofs.Common.{codes, refl, rules, ◌∙◌, ◌≡◌}
+use Rattle.std.proofs.Common.{codes, refl, ◌∙◌, ◌≡◌}
 use Rattle.std.proofs.lemmas.Result.{IfOk-weaker}
-use Rattle.clap.specs.Words.{rule_of}
 use Rattle.kfifo.specs.CommandLine.{small_numbers, versions}
 use Rattle.kfifo.proofs.Rules.{adds, default_rule, help_rule, number_rule, text_rule}
 use Rattle.kfifo.proofs.options.with_sizes.Goals as goal

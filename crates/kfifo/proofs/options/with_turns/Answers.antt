@@ -1,8 +1,6 @@
-use Rattle.std.proofs.Common.{codes, refl, rules, ◌∙◌, ◌≡◌, pos}
+use Rattle.std.proofs.Common.{codes, refl, ◌∙◌, ◌≡◌}
 use Rattle.std.proofs.lemmas.Result.{IfOk-weaker}
-use Rattle.clap.specs.Words.{Rule, rule_of}
-use Rattle.clap.specs.declared.builder.value_parser.ValueParser.TheVariants.{Signed}
-use Rattle.kfifo.specs.CommandLine.{default_option, small_numbers}
+use Rattle.kfifo.specs.CommandLine.{small_numbers}
 use Rattle.kfifo.proofs.Rules.{adds, default_rule, help_rule, number_rule, text_rule}
 use Rattle.kfifo.proofs.options.with_turns.Goals as goal
 

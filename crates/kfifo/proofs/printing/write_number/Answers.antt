@@ -1,7 +1,5 @@
-use Rattle.std.proofs.Common.{rules, ap, ◌∙◌, sym}
-use Rattle.kfifo.specs.Faults.{number_text}
+use Rattle.std.proofs.Common.{rules}
 use Rattle.kfifo.proofs.Writings.{called, first_of_two, it_broke, it_wrote, second_of_two}
-use Rattle.std.specs.Prelude.{◌++◌, ◌≡◌}
 use Rattle.kfifo.proofs.printing.write_number.Goals as goal
 
 pub returns-then-not-write_all : goal.returns-then-not-write_all

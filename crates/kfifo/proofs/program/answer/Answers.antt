@@ -1,8 +1,7 @@
-use Rattle.std.proofs.Common.{codes, inl, inr, refl, rules, ◌≢◌, ◌≡◌}
+use Rattle.std.proofs.Common.{codes, inl, inr, refl, rules}
 use Rattle.clap.specs.Words.{found_of, subcommand_rows_of}
-use Rattle.kfifo.specs.Endings.{Answers, IsRefused}
+use Rattle.kfifo.specs.Endings.{IsRefused}
 use Rattle.kfifo.specs.Records.{status_number}
-use Rattle.kfifo.specs.declared.fault.Fault.TheVariants.{Output}
 use Rattle.kfifo.proofs.Parsing.{any_err, named_as}
 use Rattle.kfifo.proofs.program.answer.Goals as goal
 

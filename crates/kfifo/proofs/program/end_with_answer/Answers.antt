@@ -1,4 +1,4 @@
-use Rattle.std.proofs.Common.{inl, inr, refl, rules}
+use Rattle.std.proofs.Common.{inl, inr, refl}
 use Rattle.kfifo.proofs.Statuses.{is_output, no_misuse}
 use Rattle.kfifo.proofs.program.end_with_answer.Goals as goal
 

@@ -1,4 +1,4 @@
-use Rattle.std.proofs.Common.{ap, codes, refl, rules, ◌∙◌, ◌≡◌}
+use Rattle.std.proofs.Common.{codes, refl, ◌∙◌, ◌≡◌}
 use Rattle.std.proofs.lemmas.Result.{IfOk-weaker}
 use Rattle.kfifo.specs.CommandLine.{small_numbers}
 use Rattle.kfifo.proofs.Rules.{adds, bare_command, default_rule, help_rule, number_rule, text_rule}

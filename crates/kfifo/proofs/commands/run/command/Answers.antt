@@ -1,4 +1,4 @@
-use Rattle.std.proofs.Common.{ap, codes, ◌∙◌, ◌≡◌}
+use Rattle.std.proofs.Common.{ap, codes, ◌∙◌}
 use Rattle.std.proofs.lemmas.Result.{IfOk-weaker}
 use Rattle.kfifo.specs.CommandLine.{with_sizes, with_turns}
 use Rattle.kfifo.proofs.Rules.{adds, bare_command, help_rule, script_rule}
