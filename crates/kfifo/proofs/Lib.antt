@@ -5,3 +5,8 @@ pub mod Outcomes
 pub mod Refusals
 pub mod Reports
 pub mod Scripts
+pub mod Writings
+pub mod Rules
+pub mod Parsing
+pub mod Statuses
+pub mod Printed

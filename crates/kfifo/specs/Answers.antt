@@ -1,9 +1,8 @@
 -- What the command `run` comes to, as a function of what its command line gives.
-use Rattle.std.specs.Prelude.{◌≡◌, ℕ, ◌+◌, List, [], Some, map, max, option_map, unwrap_or, codes}
+use Rattle.std.specs.Prelude.{◌≡◌, ℕ, ◌+◌, List, [], Option, Some, map, max, option_map, unwrap_or, codes}
 use denote.Ref.{Bor}
 use Rattle.clap.specs.declared.parser.matches.Found.{Found}
-use Rattle.clap.specs.declared.parser.matches.ArgMatches.{ArgMatches}
-use Rattle.clap.specs.Words.{matched_of, one_text, raw_values, rows_of, subcommand_name_of, subcommand_rows_of}
+use Rattle.clap.specs.Words.{Row, Text, matched_of, one_text, raw_values}
 use Rattle.kfifo_words.specs.declared.shape.Shape.{Shape}
 use Rattle.kfifo_words.specs.declared.fault.ShapeFault.{ShapeFault}
 use Rattle.kfifo_words.specs.Sizes.{fault_of}
@@ -11,6 +10,7 @@ use Rattle.kfifo_machine.specs.declared.event.Begin.{Begin}
 use Rattle.kfifo.specs.declared.fault.Fault.{Fault}
 use Rattle.kfifo.specs.declared.fault.Fault.TheVariants.{Shape as AtShape, Word, Order, Input, NotJson, Record, Search, RepeatedItem, Memory, Output}
 use Rattle.kfifo.specs.declared.options.Sizes.{Sizes}
+use Rattle.kfifo.specs.CommandLine.{Names}
 use Rattle.kfifo.specs.Options.{GivesOr, GivesSizes}
 use Rattle.kfifo.specs.Reports.{IsReport}
 use Rattle.kfifo.specs.Words.{IsFirstUnread, WritesCalls}
@@ -78,9 +78,14 @@ IsRefusal found RepeatedItem = ⊥
 IsRefusal found Memory = Unit {0}
 IsRefusal found Output = ⊥
 
--- the answer of the command that the command line names, over what it gives that command
-pub record IsNamedAnswer (matches : ArgMatches) (text : List ℕ) : Type 0 where
+-- the text of `run`, where that is the command that was named
+pub record IsNamedAnswer (command : Option (Text × List Row)) (text : List ℕ) : Type 0 where
   pub found : Found
-  pub name : subcommand_name_of matches ≡ Some (codes "run")
-  pub gives : option_map (λ p. p.1) (subcommand_rows_of matches) ≡ Some (rows_of found)
+  pub names : Names command (codes "run") found
   pub answer : IsAnswer found text
+
+-- why `run` has no answer, where that is the command that was named
+pub record IsNamedRefusal (command : Option (Text × List Row)) (fault : Fault) : Type 0 where
+  pub found : Found
+  pub names : Names command (codes "run") found
+  pub refusal : IsRefusal found fault

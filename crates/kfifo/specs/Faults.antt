@@ -1,11 +1,15 @@
--- The faults of records and of their streams, as the program tells them.
-use Rattle.std.specs.Prelude.{ℕ, List, ◌++◌, Option, Some, None, codes, decimal}
+-- The faults of commands, and how the program tells them.
+use Rattle.std.specs.Prelude.{ℕ, List, [], ◌++◌, Option, Some, None, codes, decimal}
+use Rattle.kfifo_words.specs.declared.fault.ShapeFault.{ShapeFault}
+use Rattle.kfifo_words.specs.declared.fault.ShapeFault.TheVariants.{KOutOfRange, SegmentsOutOfRange, LastOutOfRange, ProbesOutOfRange}
 use Rattle.kfifo_model.specs.declared.history.RecordFault.{RecordFault}
 use Rattle.kfifo_model.specs.FaultNumbers.{fault_number, fault_call}
+use Rattle.kfifo_model.specs.Searching.{search_fault_number}
 use Rattle.kfifo_judge.specs.declared.record.StreamFault.{StreamFault}
 use Rattle.kfifo_judge.specs.declared.record.StreamFault.TheVariants as streams
 use Rattle.kfifo.specs.declared.fault.Fault.{Fault}
 use Rattle.kfifo.specs.declared.fault.Fault.TheVariants as faults
+use Rattle.kfifo.specs.Lines.{line}
 
 -- a number, with that of a call behind it where there is one
 abbrev pub at_call : ℕ → Option ℕ → List ℕ
@@ -25,3 +29,36 @@ stream_fault (streams.Search fault) = faults.Search fault
 stream_fault streams.RepeatedItem = faults.RepeatedItem
 stream_fault streams.Memory = faults.Memory
 stream_fault streams.Output = faults.Memory
+
+-- the number of a fault of the sizes
+abbrev pub shape_fault_number : ShapeFault → ℕ
+shape_fault_number KOutOfRange = 1
+shape_fault_number SegmentsOutOfRange = 2
+shape_fault_number LastOutOfRange = 3
+shape_fault_number ProbesOutOfRange = 4
+
+-- what is said of a fault
+abbrev pub fault_text : Fault → List ℕ
+fault_text (faults.Shape fault) = codes "shape fault " ++ decimal (shape_fault_number fault)
+fault_text (faults.Word number) = codes "word fault at " ++ decimal number
+fault_text faults.Order = codes "order fault"
+fault_text faults.Input = codes "input"
+fault_text faults.NotJson = codes "not json"
+fault_text (faults.Record fault) = codes "record fault " ++ record_fault_text fault
+fault_text (faults.Search fault) = codes "search fault " ++ decimal (search_fault_number fault)
+fault_text faults.RepeatedItem = codes "measure fault 2"
+fault_text faults.Memory = codes "memory"
+fault_text faults.Output = codes "output"
+
+-- the line of a fault
+abbrev pub fault_line : Fault → List ℕ
+fault_line fault = line (codes "kfifo: " ++ fault_text fault)
+
+-- a number behind a text, or nothing where there is none
+abbrev pub number_text : List ℕ → Option ℕ → List ℕ
+number_text before None = []
+number_text before (Some number) = before ++ decimal number
+
+-- words, with a number behind them and the number of a call behind that, where there are such
+abbrev pub numbered : List ℕ → Option ℕ → Option ℕ → List ℕ
+numbered words number call = (words ++ number_text [] number) ++ number_text (codes " at call ") call

@@ -1,8 +1,7 @@
 -- What the commands `check` and `measure` come to, as functions of what their command lines give and of their input.
-use Rattle.std.specs.Prelude.{◌≡◌, ℕ, List, Option, Some, None, IfSome, max, min, option_map, codes}
+use Rattle.std.specs.Prelude.{◌≡◌, ℕ, List, Option, Some, None, IfSome, max, min, codes}
 use Rattle.clap.specs.declared.parser.matches.Found.{Found}
-use Rattle.clap.specs.declared.parser.matches.ArgMatches.{ArgMatches}
-use Rattle.clap.specs.Words.{first_value, one_text, rows_of, subcommand_name_of, subcommand_rows_of}
+use Rattle.clap.specs.Words.{Row, Text, first_value, one_text}
 use Rattle.kfifo_judge.specs.declared.record.StreamFault.{StreamFault}
 use Rattle.kfifo_judge.specs.declared.record.StreamFault.TheVariants as streams
 use Rattle.kfifo_judge.specs.Check.{IsChecked, IsCheckFault}
@@ -11,6 +10,7 @@ use Rattle.kfifo.specs.declared.fault.Fault.{Fault}
 use Rattle.kfifo.specs.declared.fault.Fault.TheVariants.{Shape, Word, Order, Input, NotJson, Record, Search, RepeatedItem, Memory, Output}
 use Rattle.kfifo.specs.declared.status.Status.{Status}
 use Rattle.kfifo.specs.declared.status.Status.TheVariants.{Answered, Failed, Misused, Unordered}
+use Rattle.kfifo.specs.CommandLine.{Names}
 use Rattle.kfifo.specs.Options.{GivesOr}
 use Rattle.kfifo.specs.Orders.{WritesOrder}
 
@@ -100,14 +100,26 @@ IsMeasureRefusal input RepeatedItem = IsUnmeasuredInput input streams.RepeatedIt
 IsMeasureRefusal input Memory = Unit {0}
 IsMeasureRefusal input Output = ⊥
 
--- the answer where the command line names `check`, over what it gives that command
-pub record IsNamedCheck (matches : ArgMatches) (input : Option (List ℕ)) (text : List ℕ) (status : ℕ) : Type 0 where
+-- the text and the status of `check`, where that is the command that was named
+pub record IsNamedCheck (command : Option (Text × List Row)) (input : Option (List ℕ)) (text : List ℕ) (status : ℕ) : Type 0 where
   pub found : Found
-  pub name : subcommand_name_of matches ≡ Some (codes "check")
-  pub gives : option_map (λ p. p.1) (subcommand_rows_of matches) ≡ Some (rows_of found)
+  pub names : Names command (codes "check") found
   pub answer : IsCheck found input text status
 
--- the answer where the command line names `measure`
-pub record IsNamedMeasure (matches : ArgMatches) (input : Option (List ℕ)) (text : List ℕ) : Type 0 where
-  pub name : subcommand_name_of matches ≡ Some (codes "measure")
+-- why `check` has no answer, where that is the command that was named
+pub record IsNamedCheckRefusal (command : Option (Text × List Row)) (input : Option (List ℕ)) (fault : Fault) : Type 0 where
+  pub found : Found
+  pub names : Names command (codes "check") found
+  pub refusal : IsCheckRefusal found input fault
+
+-- the text of `measure`, where that is the command that was named
+pub record IsNamedMeasure (command : Option (Text × List Row)) (input : Option (List ℕ)) (text : List ℕ) : Type 0 where
+  pub found : Found
+  pub names : Names command (codes "measure") found
   pub answer : IsMeasure input text
+
+-- why `measure` has no answer, where that is the command that was named
+pub record IsNamedMeasureRefusal (command : Option (Text × List Row)) (input : Option (List ℕ)) (fault : Fault) : Type 0 where
+  pub found : Found
+  pub names : Names command (codes "measure") found
+  pub refusal : IsMeasureRefusal input fault

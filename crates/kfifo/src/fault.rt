@@ -1,50 +1,122 @@
 //! What ends a command without its answer.
-ghost use Rattle.std.specs.Prelude.{◌≡◌, Some};
+ghost use Rattle.std.specs.Prelude.{◌≡◌, ◌++◌, MatchBool, decimal};
 ghost use Rattle.kfifo.specs.declared.fault.Fault.TheVariants.{Memory};
-ghost use Rattle.kfifo.specs.Faults.{record_fault_text, stream_fault};
+ghost use Rattle.kfifo.specs.Faults.{fault_line, fault_text, numbered, stream_fault};
+ghost use Rattle.kfifo.specs.Printing.{Writes, Breaks};
 
-use kfifo_judge::StreamFault;
+use crate::printing::write_number;
+use kfifo_judge::{Sink, StreamFault, write_all};
 use kfifo_model::{RecordFault, SearchFault};
 use kfifo_words::ShapeFault;
 use std::alloc::{AllocError, AllocFailed};
-use std::fmt;
-use std::io::Write;
-use thiserror::Error;
 
-/// Why a command ended without its answer. Its `Display` is the line of the fault, without the
-/// program's name in front.
-#[derive(Clone, Copy, PartialEq, Eq, Debug, Error)]
+/// Why a command ended without its answer.
+#[derive(Clone, Copy, PartialEq, Eq, Debug)]
 pub enum Fault {
     /// The sizes make no shape.
-    #[error("shape fault {}", *.0 as u8)]
     Shape(ShapeFault),
     /// The word with this number, counted from 1, is unreadable or out of range.
-    #[error("word fault at {0}")]
     Word(usize),
     /// The value of `--order` is unreadable.
-    #[error("order fault")]
     Order,
     /// Reading failed, or over 16,777,216 bytes came.
-    #[error("input")]
     Input,
     /// The input is no JSON text, or is not UTF-8.
-    #[error("not json")]
     NotJson,
     /// The input is no record.
-    #[error("record fault {}", RecordLine(*.0))]
     Record(RecordFault),
     /// No search for an order was made.
-    #[error("search fault {}", .0.number())]
     Search(SearchFault),
     /// An item is repeated, so that overtakings are not counted.
-    #[error("measure fault 2")]
     RepeatedItem,
     /// A growth was refused.
-    #[error("memory")]
     Memory,
     /// Writing an answer failed. No line is printed for it.
-    #[error("output")]
     Output,
+}
+
+impl Fault {
+    /// Writes the line of the fault, or answers false where a call failed.
+    pub fn tell<F: Sink>(self, faults: &mut F) -> bool
+        ensures { MatchBool result (Writes F.contents F.failed faults.old (fault_line self) faults.new)
+            (Breaks F.contents F.failed faults.old (fault_line self) faults.new) }
+    {
+        if !write_all(faults, b"kfifo: ") {
+            return false;
+        }
+        if !self.line().tell(faults) {
+            return false;
+        }
+        write_all(faults, b"\n")
+    }
+
+    /// What the line of the fault says.
+    fn line(self) -> Line
+        ensures { numbered result.words.now result.number result.call ≡ fault_text self }
+    {
+        match self {
+            Fault::Shape(fault) => Line::numbered("shape fault ", fault as usize),
+            Fault::Word(number) => Line::numbered("word fault at ", number),
+            Fault::Order => Line::plain("order fault"),
+            Fault::Input => Line::plain("input"),
+            Fault::NotJson => Line::plain("not json"),
+            Fault::Record(fault) => Line {
+                words: "record fault ",
+                number: Some(fault.number() as usize),
+                call: fault.call(),
+            },
+            Fault::Search(fault) => Line::numbered("search fault ", fault.number() as usize),
+            Fault::RepeatedItem => Line::plain("measure fault 2"),
+            Fault::Memory => Line::plain("memory"),
+            Fault::Output => Line::plain("output"),
+        }
+    }
+}
+
+/// The line of a fault: words, a number behind them, and the number of a call behind that.
+#[derive(Clone, Copy)]
+struct Line {
+    words: &'static str,
+    number: Option<usize>,
+    call: Option<usize>,
+}
+
+impl Line {
+    /// Writes the line without its ends, or answers false where a call failed.
+    fn tell<F: Sink>(self, faults: &mut F) -> bool
+        ensures { let text = numbered self.words.now self.number self.call in MatchBool result
+            (Writes F.contents F.failed faults.old text faults.new) (Breaks F.contents F.failed faults.old text faults.new) }
+    {
+        if !write_all(faults, self.words.as_bytes()) {
+            return false;
+        }
+        if !write_number("", self.number, faults) {
+            return false;
+        }
+        write_number(" at call ", self.call, faults)
+    }
+
+    /// Words alone.
+    fn plain(words: &'static str) -> Line
+        ensures { numbered result.words.now result.number result.call ≡ words.now }
+    {
+        Line {
+            words,
+            number: None,
+            call: None,
+        }
+    }
+
+    /// Words and a number.
+    fn numbered(words: &'static str, number: usize) -> Line
+        ensures { numbered result.words.now result.number result.call ≡ words.now ++ decimal number }
+    {
+        Line {
+            words,
+            number: Some(number),
+            call: None,
+        }
+    }
 }
 
 impl From<AllocError> for Fault {
@@ -75,22 +147,6 @@ impl From<StreamFault> for Fault {
             StreamFault::Search(fault) => Fault::Search(fault),
             StreamFault::RepeatedItem => Fault::RepeatedItem,
             StreamFault::Memory | StreamFault::Output => Fault::Memory,
-        }
-    }
-}
-
-/// The number of a record's fault, with that of the call where it is the fault of one.
-#[derive(Clone, Copy)]
-struct RecordLine(RecordFault);
-
-impl fmt::Display for RecordLine {
-    ghost output = { λ line. Some (record_fault_text line.0) };
-
-    fn fmt<W: fmt::Write>(&self, f: &mut fmt::Formatter<W>) -> fmt::Result {
-        let number = self.0.number();
-        match self.0.call() {
-            Some(call) => write!(f, "{number} at call {call}"),
-            None => write!(f, "{number}"),
         }
     }
 }

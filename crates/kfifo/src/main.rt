@@ -1,9 +1,14 @@
 //! The program `kfifo`: a bounded-size lock-free k-FIFO queue at the command line.
 #![tactic(auto)]
 
+ghost use Rattle.std.specs.Prelude.{◌≡◌, ◌⊎◌};
+ghost use Rattle.kfifo.specs.Faults.{fault_line};
+ghost use Rattle.kfifo.specs.Printing.{Tells};
+
 mod commands;
 mod fault;
 mod options;
+mod printing;
 mod program;
 mod report;
 mod status;
@@ -11,16 +16,20 @@ mod words;
 
 use crate::program::{end_with_fault, program};
 use fault::Fault;
+use kfifo_judge::{Sink, write_all};
+use printing::Printer;
 use status::Status;
 use std::env;
-use std::io::{self, ErrorKind, Write};
+use std::io::{self, ErrorKind};
 use std::process::ExitCode;
 use std::rt::Env;
 
+const NO_TEXT: &str = "error: invalid UTF-8 was detected in one or more arguments\n";
+
 fn main(rt: HostRuntime) -> ExitCode {
     let mut input = rt.stdin();
-    let mut output = rt.stdout();
-    let mut faults = rt.stderr();
+    let mut output = Printer::new(rt.stdout());
+    let mut faults = Printer::new(rt.stderr());
     let status = match arguments(&rt) {
         Ok(words) => program(
             &rt,
@@ -45,13 +54,13 @@ fn arguments<R: Env + AllocGlobal>(rt: &R) -> io::Result<Vec<String>> {
 }
 
 /// Ends the program where the arguments could not be read: one is not UTF-8, or memory is short.
-fn end_without_words<F: Write>(error: &io::Error, faults: &mut F) -> u8 {
+fn end_without_words<F: Sink>(error: &io::Error, faults: &mut F) -> u8
+    ensures { ((result ≡ 1) × Tells F.contents F.failed faults.old (fault_line Fault.Memory) faults.new)
+        ⊎ ((result ≡ 2) × Tells F.contents F.failed faults.old NO_TEXT.now faults.new) }
+{
     if error.kind() == ErrorKind::OutOfMemory {
-        return end_with_fault(Fault::Memory, faults) as u8;
+        return end_with_fault(Fault::Memory, faults).number();
     }
-    let _ = writeln!(
-        faults,
-        "error: invalid UTF-8 was detected in one or more arguments"
-    );
-    Status::Misused as u8
+    write_all(faults, NO_TEXT.as_bytes());
+    Status::Misused.number()
 }

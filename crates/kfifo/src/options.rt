@@ -1,7 +1,9 @@
 //! Options that several commands share.
-ghost use Rattle.std.specs.Prelude.{◌≡◌, ◌≤◌, ℕ, Some, MatchResult, unwrap_or, max, codes};
-ghost use Rattle.clap.specs.Words.{found_of, one_text};
+ghost use Rattle.std.specs.Prelude.{◌≡◌, ◌≤◌, ℕ, Some, false, IfOk, MatchResult, unwrap_or, max, codes};
+ghost use Rattle.clap.specs.Words.{app_of, found_of, one_text, rule_of};
+ghost use Rattle.clap.specs.declared.builder.command.Command.TheViews.{out-Command as fields_of};
 ghost use Rattle.kfifo_words.specs.Sizes.{fault_of};
+ghost use Rattle.kfifo.specs.CommandLine as line;
 ghost use Rattle.kfifo.specs.Options.{GivesOr};
 
 use clap::{Arg, ArgAction, ArgMatches, Command, value_parser};
@@ -73,7 +75,9 @@ pub fn count_of(matches: &ArgMatches<'_>, name: &str, default: u32) -> u32
 }
 
 /// Adds the options `--k`, `--segments`, `--last` and `--probes`.
-pub fn with_sizes<'a>(alloc: Global, command: Command<'a>) -> Result<Command<'a>, AllocError> {
+pub fn with_sizes<'a>(alloc: Global, command: Command<'a>) -> Result<Command<'a>, AllocError>
+    ensures { IfOk result (λ c. (app_of c ≡ line.with_sizes (app_of command.entry)) × ((fields_of c).has_globals ≡ (fields_of command.entry).has_globals)) }
+{
     let k = option(alloc, K)
         .value_name("SLOTS")
         .value_parser(value_parser!(u32))
@@ -97,7 +101,9 @@ pub fn with_sizes<'a>(alloc: Global, command: Command<'a>) -> Result<Command<'a>
 }
 
 /// Adds the option `--turns`.
-pub fn with_turns<'a>(alloc: Global, command: Command<'a>) -> Result<Command<'a>, AllocError> {
+pub fn with_turns<'a>(alloc: Global, command: Command<'a>) -> Result<Command<'a>, AllocError>
+    ensures { IfOk result (λ c. (app_of c ≡ line.with_turns (app_of command.entry)) × ((fields_of c).has_globals ≡ (fields_of command.entry).has_globals)) }
+{
     let turns = option(alloc, TURNS)
         .value_name("ROUNDS")
         .value_parser(value_parser!(u16).range(1..))
@@ -114,6 +120,10 @@ pub fn turns_of(matches: &ArgMatches<'_>) -> u16
     matches.get_one(TURNS).unwrap_or(DEFAULT_TURNS).max(1)
 }
 
-fn option<'a>(alloc: Global, name: &'a str) -> Arg<'a> {
+/// The option `--name`, which takes a value.
+pub fn option<'a>(alloc: Global, name: &'a str) -> Arg<'a>
+    ensures rule { rule_of result ≡ line.option name.entry.now }
+    ensures own { result.global ≡ false }
+{
     Arg::new(alloc, name).long(name).action(ArgAction::Set)
 }

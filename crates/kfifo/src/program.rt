@@ -1,17 +1,23 @@
-//! The whole program over any reader and writers.
-ghost use Rattle.std.specs.Prelude.{◌≡◌, ◌≢◌, ℕ, ◌≤◌, ◌⊎◌, List, IfSome, IfOk, IfErr, OnOk};
-ghost use Rattle.std.specs.Io.KnownBytes.{Appends, Keeps};
-ghost use Rattle.kfifo.specs.Answers.{IsNamedAnswer};
-ghost use Rattle.kfifo.specs.Records.{IsNamedCheck, IsNamedMeasure};
+//! The whole program over any reader and sinks.
+ghost use Rattle.std.specs.Prelude.{◌≡◌, ◌≢◌, ℕ, ◌≤◌, ◌⊎◌, List, IfSome, IfOk, IfErr, map, string_bytes};
+ghost use Rattle.clap.specs.Kinds.{FailsBy};
+ghost use Rattle.clap.specs.Words.{subcommand_rows_of};
+ghost use Rattle.kfifo.specs.CommandLine.{IsCommand, NamesNone, kfifo, kinds, named};
+ghost use Rattle.kfifo.specs.Endings.{Answers, AreAtFault, IsFault, IsPrinted, IsRefused, Shows};
+ghost use Rattle.kfifo.specs.Faults.{fault_line};
+ghost use Rattle.kfifo.specs.Printing.{Breaks, Tells, Writes};
+ghost use Rattle.kfifo.specs.Records.{status_number};
 
 use crate::commands::{check, measure, run};
 use crate::fault::Fault;
+use crate::printing::{Outlet, print};
 use crate::status::Status;
 use clap::error::ErrorKind;
 use clap::{ArgMatches, Command, Error};
+use kfifo_judge::{Sink, write_all};
 use std::alloc::{AllocError, Global};
 use std::fmt::Display;
-use std::io::{Read, Write};
+use std::io::Read;
 use std::thread::Threads;
 
 const EXAMPLES: &str = "\
@@ -24,7 +30,7 @@ Examples:
 /// Does all that the program does with `words`, the arguments after the program's name, and gives the
 /// exit status: 0 for an answer, 1 for a fault of the data, of a size, of memory, of reading or of
 /// writing, 2 for a fault of the command line, and 3 where `check` finds no order or one that is not legal.
-pub fn program<T: Threads, R: Read, W: Write, F: Write>(
+pub fn program<T: Threads, R: Read, W: Outlet, F: Sink>(
     _threads: &T,
     alloc: Global,
     words: &[String],
@@ -33,61 +39,101 @@ pub fn program<T: Threads, R: Read, W: Write, F: Write>(
     faults: &mut F,
 ) -> u8
     ensures status { result ≤ 3 }
-    ensures answered { result ≡ 0 → Keeps (F.contents faults.old) (F.contents faults.new) }
-    ensures failed { result ≡ 1 → (Keeps (W.contents output.old) (W.contents output.new))
-        ⊎ (Keeps (F.contents faults.old) (F.contents faults.new)) }
-    ensures misused { result ≡ 2 → Keeps (W.contents output.old) (W.contents output.new) }
-    ensures unordered { result ≡ 3 → Keeps (F.contents faults.old) (F.contents faults.new) }
+    ensures printed { let texts = map (λ w. string_bytes w) words.now in (result ≡ 0) ⊎ (result ≡ 3) → (faults.new ≡ faults.old)
+        × ((text : List ℕ) × IsPrinted texts (R.remaining input.old) text result × Writes W.contents W.failed output.old text output.new) }
+    ensures failed { let texts = map (λ w. string_bytes w) words.now in result ≡ 1 →
+        ((faults.new ≡ faults.old) × ((text : List ℕ) × (status : ℕ) × IsPrinted texts (R.remaining input.old) text status × Breaks W.contents W.failed output.old text output.new))
+        ⊎ ((output.new ≡ output.old) × ((fault : Fault) × IsFault texts (R.remaining input.old) fault × Tells F.contents F.failed faults.old (fault_line fault) faults.new)) }
+    ensures misused { let texts = map (λ w. string_bytes w) words.now in result ≡ 2 → (output.new ≡ output.old)
+        × ((AreAtFault texts × ((text : List ℕ) × Tells F.contents F.failed faults.old text faults.new))
+        ⊎ (NamesNone (named texts) × (faults.new ≡ faults.old))) }
 {
-    let status = match parse(alloc, words) {
-        Ok(matches) => match answer(alloc, &matches, input, output) {
-            Ok(status) => status,
-            Err(fault) => end_with_fault(fault, faults),
-        },
-        Err(error) => end_with_text(&error, output, faults),
-    };
-    status as u8
+    match parse(alloc, words) {
+        Ok(matches) => end_with_answer(alloc, &matches, input, output, faults).number(),
+        Err(error) => end_with_text(alloc, error.kind(), &error, output, faults).number(),
+    }
+}
+
+/// Does the command that the command line names, and writes its answer or the line of its fault.
+fn end_with_answer<R: Read, W: Outlet, F: Sink>(
+    alloc: Global,
+    matches: &ArgMatches<'_>,
+    input: &mut R,
+    output: &mut W,
+    faults: &mut F,
+) -> Status
+    ensures printed { (result ≡ Status.Answered) ⊎ (result ≡ Status.Unordered) → (faults.new ≡ faults.old)
+        × ((text : List ℕ) × Answers (subcommand_rows_of matches.now) (R.remaining input.old) text (status_number result) × Writes W.contents W.failed output.old text output.new) }
+    ensures failed { result ≡ Status.Failed →
+        ((faults.new ≡ faults.old) × ((text : List ℕ) × (status : ℕ) × Answers (subcommand_rows_of matches.now) (R.remaining input.old) text status × Breaks W.contents W.failed output.old text output.new))
+        ⊎ ((output.new ≡ output.old) × ((fault : Fault) × IsRefused (subcommand_rows_of matches.now) (R.remaining input.old) fault × Tells F.contents F.failed faults.old (fault_line fault) faults.new)) }
+    ensures misused { result ≡ Status.Misused → (output.new ≡ output.old) × NamesNone (subcommand_rows_of matches.now) × (faults.new ≡ faults.old) }
+{
+    match answer(alloc, matches, input, output) {
+        Ok(status) => status,
+        Err(fault) => end_with_fault(fault, faults),
+    }
 }
 
 /// Writes the line of a fault. Where that fails the status stays.
-pub fn end_with_fault<F: Write>(fault: Fault, faults: &mut F) -> Status
+pub fn end_with_fault<F: Sink>(fault: Fault, faults: &mut F) -> Status
     ensures status { result ≡ Status.Failed }
-    ensures silent { fault ≡ Fault.Output → Keeps (F.contents faults.old) (F.contents faults.new) }
+    ensures told { fault ≢ Fault.Output → Tells F.contents F.failed faults.old (fault_line fault) faults.new }
+    ensures silent { fault ≡ Fault.Output → faults.new ≡ faults.old }
 {
     if fault != Fault::Output {
-        let _ = writeln!(faults, "kfifo: {fault}");
+        fault.tell(faults);
     }
     Status::Failed
 }
 
 /// Writes what a command line came to that names no command to be done: help, or what is wrong with it.
-fn end_with_text<W: Write, F: Write>(error: &Error, output: &mut W, faults: &mut F) -> Status
-    ensures answered { result ≡ Status.Answered → Keeps (F.contents faults.old) (F.contents faults.new) }
-    ensures failed { result ≡ Status.Failed → (Keeps (W.contents output.old) (W.contents output.new))
-        ⊎ (Keeps (F.contents faults.old) (F.contents faults.new)) }
-    ensures misused { result ≡ Status.Misused → Keeps (W.contents output.old) (W.contents output.new) }
+fn end_with_text<D: Display + Drop, W: Outlet, F: Sink>(
+    alloc: Global,
+    kind: ErrorKind,
+    text: D,
+    output: &mut W,
+    faults: &mut F,
+) -> Status
+    ensures answered { result ≡ Status.Answered → Shows kind × (faults.new ≡ faults.old)
+        × ((bytes : List ℕ) × IfSome (D.output text) (λ known. bytes ≡ known) × Writes W.contents W.failed output.old bytes output.new) }
+    ensures failed { result ≡ Status.Failed →
+        (Shows kind × (faults.new ≡ faults.old) × ((bytes : List ℕ) × IfSome (D.output text) (λ known. bytes ≡ known) × Breaks W.contents W.failed output.old bytes output.new))
+        ⊎ ((output.new ≡ output.old) × Tells F.contents F.failed faults.old (fault_line Fault.Memory) faults.new) }
+    ensures misused { result ≡ Status.Misused → (¬ (Shows kind)) × (kind ≢ ErrorKind.OutOfMemory) × (output.new ≡ output.old)
+        × ((bytes : List ℕ) × IfSome (D.output text) (λ known. bytes ≡ known) × Tells F.contents F.failed faults.old bytes faults.new) }
     ensures ordered { result ≢ Status.Unordered }
 {
-    if error.kind() == ErrorKind::OutOfMemory {
+    let Ok(text) = text.to_string(alloc) else {
         return end_with_fault(Fault::Memory, faults);
-    }
-    if error.use_stderr() {
-        let _ = write!(faults, "{error}");
-        return Status::Misused;
-    }
-    match print(error, output) {
-        Ok(()) => Status::Answered,
-        Err(fault) => end_with_fault(fault, faults),
+    };
+    match kind {
+        ErrorKind::OutOfMemory => end_with_fault(Fault::Memory, faults),
+        ErrorKind::DisplayHelp | ErrorKind::DisplayVersion => {
+            match print(text.as_bytes(), output) {
+                Ok(()) => Status::Answered,
+                Err(_) => Status::Failed,
+            }
+        }
+        _ => {
+            write_all(faults, text.as_bytes());
+            Status::Misused
+        }
     }
 }
 
 /// What the command line names.
-fn parse<'a>(alloc: Global, words: &'a [String]) -> Result<ArgMatches<'a>, Error> {
+fn parse<'a>(alloc: Global, words: &'a [String]) -> Result<ArgMatches<'a>, Error>
+    ensures named { IfOk result (λ m. subcommand_rows_of m ≡ named (map (λ w. string_bytes w) words.entry.now)) }
+    ensures kinds { FailsBy (kinds (map (λ w. string_bytes w) words.entry.now)) result }
+{
     command(alloc)?.try_get_matches_from(words)
 }
 
 /// How the command line is written, and its help.
-fn command<'a>(alloc: Global) -> Result<Command<'a>, AllocError> {
+fn command<'a>(alloc: Global) -> Result<Command<'a>, AllocError>
+    ensures { IfOk result (IsCommand kfifo) }
+{
     Command::new(alloc, "kfifo")
         .bin_name("kfifo")?
         .no_binary_name(true)
@@ -103,53 +149,36 @@ fn command<'a>(alloc: Global) -> Result<Command<'a>, AllocError> {
 }
 
 /// Does the command that the command line names.
-fn answer<R: Read, W: Write>(
+fn answer<R: Read, W: Outlet>(
     alloc: Global,
     matches: &ArgMatches<'_>,
     input: &mut R,
     output: &mut W,
 ) -> Result<Status, Fault>
-    ensures answered { result ≡ Ok Status.Answered → (text : List ℕ)
-        × (IsNamedAnswer matches.now text ⊎ (IsNamedCheck matches.now (R.remaining input.old) text 0 ⊎ IsNamedMeasure matches.now (R.remaining input.old) text))
-        × Appends (W.contents output.old) (W.contents output.new) text }
-    ensures unordered { result ≡ Ok Status.Unordered → (text : List ℕ) × IsNamedCheck matches.now (R.remaining input.old) text 3
-        × Appends (W.contents output.old) (W.contents output.new) text }
-    ensures failed { IfErr result (λ fault. fault ≢ Fault.Output → Keeps (W.contents output.old) (W.contents output.new)) }
-    ensures misused { IfOk result (λ status. status ≢ Status.Answered → status ≢ Status.Unordered
-        → (status ≡ Status.Misused) × Keeps (W.contents output.old) (W.contents output.new)) }
+    ensures statuses { IfOk result (λ status. status ≢ Status.Failed) }
+    ensures printed { IfOk result (λ status. status ≢ Status.Misused → (text : List ℕ)
+        × Answers (subcommand_rows_of matches.now) (R.remaining input.old) text (status_number status) × Writes W.contents W.failed output.old text output.new) }
+    ensures misused { IfOk result (λ status. status ≡ Status.Misused → NamesNone (subcommand_rows_of matches.now) × (output.new ≡ output.old)) }
+    ensures broken { IfErr result (λ fault. fault ≡ Fault.Output → (text : List ℕ) × (status : ℕ)
+        × Answers (subcommand_rows_of matches.now) (R.remaining input.old) text status × Breaks W.contents W.failed output.old text output.new) }
+    ensures refused { IfErr result (λ fault. fault ≢ Fault.Output → IsRefused (subcommand_rows_of matches.now) (R.remaining input.old) fault × (output.new ≡ output.old)) }
 {
     if let Some(options) = matches.subcommand_matches(run::NAME) {
-        print(run::answer(alloc, options)?.as_str(), output)?;
+        let text = run::answer(alloc, options)?;
+        print(text.as_bytes(), output)?;
         return Ok(Status::Answered);
     }
     if let Some(options) = matches.subcommand_matches(check::NAME) {
         let (text, status) = check::answer(alloc, options, input)?;
-        print_bytes(text.as_slice(), output)?;
+        print(text.as_slice(), output)?;
         return Ok(status);
     }
     if let Some(_) = matches.subcommand_matches(measure::NAME) {
-        print_bytes(measure::answer(alloc, input)?.as_slice(), output)?;
+        let text = measure::answer(alloc, input)?;
+        print(text.as_slice(), output)?;
         return Ok(Status::Answered);
     }
     Ok(Status::Misused)
-}
-
-/// Writes the bytes of an answer, and sees that they leave the writer.
-fn print_bytes<W: Write>(text: &[u8], output: &mut W) -> Result<(), Fault>
-    ensures ok { OnOk result (Appends (W.contents output.old) (W.contents output.new) text.now) }
-    ensures err { IfErr result (λ fault. fault ≡ Fault.Output) }
-{
-    output.write_all(text).map_err(|_| Fault::Output)?;
-    output.flush().map_err(|_| Fault::Output)
-}
-
-/// Writes an answer, and sees that it leaves the writer.
-fn print<W: Write, D: Display + Drop>(text: D, output: &mut W) -> Result<(), Fault>
-    ensures ok { OnOk result (IfSome (D.output text) (Appends (W.contents output.old) (W.contents output.new))) }
-    ensures err { IfErr result (λ fault. fault ≡ Fault.Output) }
-{
-    write!(output, "{text}").map_err(|_| Fault::Output)?;
-    output.flush().map_err(|_| Fault::Output)
 }
 
 #[cfg(test)]

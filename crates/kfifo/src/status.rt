@@ -1,4 +1,6 @@
 //! How the program ends.
+ghost use Rattle.std.specs.Prelude.{◌≡◌};
+ghost use Rattle.kfifo.specs.Records.{status_number};
 
 /// The exit status.
 #[derive(Clone, Copy, PartialEq, Eq, Debug)]
@@ -11,4 +13,13 @@ pub enum Status {
     Misused = 2,
     /// A record has no order, or its order is not legal.
     Unordered = 3,
+}
+
+impl Status {
+    /// The status as the number that the system is given.
+    pub fn number(self) -> u8
+        ensures { result ≡ status_number self }
+    {
+        self as u8
+    }
 }

@@ -3,13 +3,14 @@ ghost use Rattle.std.specs.Prelude.{◌≡◌, ◌≢◌, ◌⊎◌, ◌≤◌, 
 ghost use Rattle.clap.specs.Words.{found_of};
 ghost use Rattle.kfifo_judge.specs.Check.{IsChecked, IsCheckFault};
 ghost use Rattle.kfifo_judge.specs.declared.record.StreamFault.{StreamFault};
+ghost use Rattle.kfifo.specs.CommandLine.{IsCommand, check_command};
 ghost use Rattle.kfifo.specs.Faults.{stream_fault};
 ghost use Rattle.kfifo.specs.Records.{IsCheck, IsCheckRefusal, IsInput, IsWidth, status_number};
 
 use crate::fault::Fault;
 use crate::status::Status;
 use crate::{options, words};
-use clap::{Arg, ArgAction, ArgMatches, Command, value_parser};
+use clap::{ArgMatches, Command, value_parser};
 use kfifo_judge::{FromStd, check_stream};
 use std::alloc::{AllocError, Global};
 use std::io::Read;
@@ -37,19 +38,17 @@ Examples:
   kfifo check --k 1 --order 0,2,1 < record.json  judge this order for a plain queue";
 
 /// How the command is written, and its help.
-pub fn command<'a>(alloc: Global) -> Result<Command<'a>, AllocError> {
-    let k = Arg::new(alloc, K)
-        .long(K)
-        .action(ArgAction::Set)
+pub fn command<'a>(alloc: Global) -> Result<Command<'a>, AllocError>
+    ensures { IfOk result (IsCommand check_command) }
+{
+    let k = options::option(alloc, K)
         .value_name("PLACES")
         .value_parser(value_parser!(u32).range(1..=64))
         .default_value("2")
         .help("A dequeue takes one of the k oldest items, 1 to 64");
-    let order = Arg::new(alloc, ORDER)
-        .long(ORDER)
-        .action(ArgAction::Set)
-        .value_name("CALLS")
-        .help("The order to judge: call numbers joined by commas, or none for the empty order");
+    let order = options::option(alloc, ORDER).value_name("CALLS").help(
+        "The order to judge: call numbers joined by commas, or none for the empty order",
+    );
     Command::new(alloc, NAME)
         .about("Reads a record of calls, and says whether an order of them is legal")
         .after_help(EXAMPLES)

@@ -1,5 +1,6 @@
 //! The command `measure`: how often each item of a record was certainly overtaken.
 ghost use Rattle.std.specs.Prelude.{◌≡◌, ◌≢◌, IfOk, IfErr};
+ghost use Rattle.kfifo.specs.CommandLine.{IsCommand, measure_command};
 ghost use Rattle.kfifo.specs.Records.{IsMeasure, IsMeasureRefusal};
 
 use crate::fault::Fault;
@@ -19,7 +20,9 @@ Example:
   kfifo measure < record.json";
 
 /// How the command is written, and its help.
-pub fn command<'a>(alloc: Global) -> Result<Command<'a>, AllocError> {
+pub fn command<'a>(alloc: Global) -> Result<Command<'a>, AllocError>
+    ensures { IfOk result (IsCommand measure_command) }
+{
     Ok(
         Command::new(alloc, NAME)
             .about("Reads a record of calls, and says how often each item was certainly overtaken")

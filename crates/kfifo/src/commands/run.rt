@@ -6,6 +6,7 @@ ghost use Rattle.kfifo_machine.specs.Runs.{WholeRun};
 ghost use Rattle.kfifo_live.specs.Schedule.{opening};
 ghost use Rattle.kfifo_live.specs.Pass.{IsOf, IsSame};
 ghost use Rattle.clap.specs.Words.{found_of};
+ghost use Rattle.kfifo.specs.CommandLine.{IsCommand, run_command};
 ghost use Rattle.kfifo.specs.Answers.{IsAnswer, IsRefusal, IsShape};
 ghost use Rattle.kfifo.specs.Words.{IsCall};
 ghost use Rattle.kfifo.specs.Reports.{IsAlone, IsReport, RunInTurn, call_line, slot_lines, world_lines};
@@ -42,7 +43,9 @@ Examples:
   kfifo run --k 4 e1:2 e2:2 d:2        look from slot 2 on";
 
 /// How the command is written, and its help.
-pub fn command<'a>(alloc: Global) -> Result<Command<'a>, AllocError> {
+pub fn command<'a>(alloc: Global) -> Result<Command<'a>, AllocError>
+    ensures { IfOk result (IsCommand run_command) }
+{
     let script = Arg::new(alloc, WORDS)
         .value_name("WORD")
         .action(ArgAction::Append)

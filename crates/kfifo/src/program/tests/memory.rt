@@ -2,12 +2,19 @@
 //! with none they see the whole answer.
 
 use super::words;
+use crate::printing::Printer;
 use crate::program::program;
 use std::io;
 use std::io::Cursor;
 
+/// An empty page.
+fn page() -> Printer<Cursor<[u8; 4096]>> {
+    Printer::new(Cursor::new([0u8; 4096]))
+}
+
 /// What was written to a page holds this text. A page takes no memory.
-fn holds(page: &Cursor<[u8; 4096]>, text: &str) -> bool {
+fn holds(page: &Printer<Cursor<[u8; 4096]>>, text: &str) -> bool {
+    let page = &page.writer;
     page.get_ref().get(..page.position() as usize) == Some(text.as_bytes())
 }
 
@@ -16,7 +23,7 @@ fn answers_or_is_refused_memory(rt: HostRuntime) {
     let Ok(words) = words(rt.alloc(), ["run", "--k", "1", "e7", "d"].as_slice()) else {
         return;
     };
-    let (mut output, mut faults) = (Cursor::new([0u8; 4096]), Cursor::new([0u8; 4096]));
+    let (mut output, mut faults) = (page(), page());
     let mut input = io::empty();
     let status = program(
         &rt,
@@ -38,7 +45,7 @@ fn finds_a_fault_or_is_refused_memory(rt: HostRuntime) {
     let Ok(words) = words(rt.alloc(), ["run", "e7", "x"].as_slice()) else {
         return;
     };
-    let (mut output, mut faults) = (Cursor::new([0u8; 4096]), Cursor::new([0u8; 4096]));
+    let (mut output, mut faults) = (page(), page());
     let mut input = io::empty();
     let status = program(
         &rt,
@@ -57,7 +64,7 @@ fn refuses_a_command_line_or_is_refused_memory(rt: HostRuntime) {
     let Ok(words) = words(rt.alloc(), ["run", "--turns", "0", "d"].as_slice()) else {
         return;
     };
-    let (mut output, mut faults) = (Cursor::new([0u8; 4096]), Cursor::new([0u8; 4096]));
+    let (mut output, mut faults) = (page(), page());
     let mut input = io::empty();
     let status = program(
         &rt,

@@ -1,0 +1,106 @@
+-- How the command line is written: its commands, and the options of each.
+use Rattle.std.specs.Prelude.{◌≡◌, ℕ, pos, true, false, List, [], ◌∷◌, Option, Some, codes}
+use Rattle.clap.specs.Lexer.{usize_max}
+use Rattle.clap.specs.Faults.{fault_of}
+use Rattle.clap.specs.Kinds.{Kinds}
+use Rattle.clap.specs.Words.{App, Row, Rule, Text, app_of, new_app, new_rule, with_rule, with_subcommand, rows_of, subcommand_of}
+use Rattle.clap.specs.declared.builder.action.ArgAction.TheVariants.{Set, Append}
+use Rattle.clap.specs.declared.builder.command.Command.{Command}
+use Rattle.clap.specs.declared.builder.command.Command.TheViews.{out-Command as fields_of}
+use Rattle.clap.specs.declared.builder.value_parser.ValueParser.{ValueParser}
+use Rattle.clap.specs.declared.builder.value_parser.ValueParser.TheVariants.{Signed, Unsigned}
+use Rattle.clap.specs.declared.parser.matches.Found.{Found}
+
+-- the option `--name`, which takes a value
+abbrev pub option : Text → Rule
+option name = record (new_rule name) { long = Some name; action = Some Set }
+
+-- the same, where help has a word for the value
+abbrev pub text_option : Text → Rule
+text_option name = record (option name) { value_names = 1 }
+
+-- the same, of a number that this parser admits
+abbrev pub number_option : Text → ValueParser → Rule
+number_option name numbers = record (text_option name) { parser = Some numbers }
+
+-- the same, with a default
+abbrev pub default_option : Text → ValueParser → Text → Rule
+default_option name numbers default = record (number_option name numbers) { defaults = default ∷ [] }
+
+-- numbers from least to most, of at most 32 bits
+abbrev pub small_numbers : ℕ → ℕ → ValueParser
+small_numbers least most = Signed (pos least) (pos most)
+
+-- numbers up to the greatest version
+abbrev pub versions : ValueParser
+versions = Unsigned 0 1099511627775
+
+-- the options of sizes
+abbrev pub with_sizes : App → App
+with_sizes app = with_rule (with_rule (with_rule (with_rule app
+    (default_option (codes "k") (small_numbers 0 4294967295) (codes "2")))
+    (default_option (codes "segments") (small_numbers 0 4294967295) (codes "2")))
+    (default_option (codes "last") versions (codes "1099511627775")))
+    (number_option (codes "probes") (small_numbers 0 4294967295))
+
+-- the option of the rounds of a call
+abbrev pub with_turns : App → App
+with_turns app = with_rule app (default_option (codes "turns") (small_numbers 1 65535) (codes "2"))
+
+-- the words of a script, at least one
+abbrev pub script : Rule
+script = record (new_rule (codes "words")) {
+  value_names = 1;
+  action = Some Append;
+  range = Some (record { start_inclusive = 1; end_inclusive = usize_max });
+  required = true;
+}
+
+-- the command `run`
+abbrev pub run_command : App
+run_command = with_rule (with_turns (with_sizes (new_app (codes "run")))) script
+
+-- the command `check`
+abbrev pub check_command : App
+check_command = with_rule (with_rule (new_app (codes "check"))
+    (default_option (codes "k") (small_numbers 1 64) (codes "2")))
+    (text_option (codes "order"))
+
+-- the command `measure`
+abbrev pub measure_command : App
+measure_command = new_app (codes "measure")
+
+-- the program before its commands: its words begin with the first argument, and one has to be a command
+abbrev pub bare_program : App
+bare_program = record {
+  top = record (new_app (codes "kfifo")).top {
+    no_binary_name = true;
+    subcommand_required = true;
+    arg_required_else_help = true;
+  };
+  subs = [];
+}
+
+-- the program with its commands
+abbrev pub kfifo : App
+kfifo = with_subcommand (with_subcommand (with_subcommand bare_program run_command.top) check_command.top) measure_command.top
+
+-- the command that was named is this one, and its options have these entries
+abbrev pub Names : Option (Text × List Row) → Text → Found → Type 0
+Names command name found = command ≡ Some (name, rows_of found)
+
+-- none of the commands was named
+abbrev pub NamesNone : Option (Text × List Row) → Type 0
+NamesNone command = (found : Found) → ¬ (Names command (codes "run") found) × ¬ (Names command (codes "check") found) × ¬ (Names command (codes "measure") found)
+
+-- a parse reads this of the command, and no argument of it is global
+abbrev pub IsCommand : App → Command → Type 0
+IsCommand app command = (app_of command ≡ app) × ((fields_of command).has_globals ≡ false)
+
+-- the command that the words name, with what they and the defaults give its options
+unfoldable pub named : List Text → Option (Text × List Row)
+named words = subcommand_of kfifo words
+
+-- the kinds of the first fault of the words, or of what they ask for in place of a command; none where they name a command
+unfoldable pub kinds : List Text → Kinds
+kinds words = fault_of kfifo words
