@@ -1,5 +1,5 @@
 //! What ends a command without its answer.
-ghost use Rattle.std.specs.Prelude.{◌≡◌, ◌++◌, MatchBool, decimal};
+ghost use Rattle.std.specs.Prelude.{◌≡◌, ◌++◌, MatchBool, Some, decimal};
 ghost use Rattle.kfifo.specs.declared.fault.Fault.TheVariants.{Memory};
 ghost use Rattle.kfifo.specs.Faults.{fault_line, fault_text, numbered, stream_fault};
 ghost use Rattle.kfifo.specs.Printing.{Writes, Breaks};
@@ -9,9 +9,12 @@ use kfifo_judge::{Sink, StreamFault, write_all};
 use kfifo_model::{RecordFault, SearchFault};
 use kfifo_words::ShapeFault;
 use std::alloc::{AllocError, AllocFailed};
+use std::fmt;
+use thiserror::Error;
 
-/// Why a command ended without its answer.
-#[derive(Clone, Copy, PartialEq, Eq, Debug)]
+/// Why a command ended without its answer. Its `Display` is what the line of the fault says.
+#[derive(Clone, Copy, PartialEq, Eq, Debug, Error)]
+#[error("{}", self.line())]
 pub enum Fault {
     /// The sizes make no shape.
     Shape(ShapeFault),
@@ -119,6 +122,21 @@ impl Line {
     }
 }
 
+impl fmt::Display for Line {
+    ghost output = { λ line. Some (numbered line.words.now line.number line.call) };
+
+    fn fmt<W: fmt::Write>(&self, f: &mut fmt::Formatter<W>) -> fmt::Result {
+        f.write_str(self.words)?;
+        if let Some(number) = self.number {
+            write!(f, "{number}")?;
+        }
+        match self.call {
+            Some(call) => write!(f, " at call {call}"),
+            None => Ok(()),
+        }
+    }
+}
+
 impl From<AllocError> for Fault {
     ghost from_gives = { λ _ fault. fault ≡ Memory };
 
@@ -150,3 +168,6 @@ impl From<StreamFault> for Fault {
         }
     }
 }
+
+#[cfg(test)]
+mod tests;

@@ -1,0 +1,31 @@
+//! The lines of faults.
+
+use crate::fault::Fault;
+use crate::printing::Printer;
+use kfifo_model::{RecordFault, SearchFault};
+use kfifo_words::ShapeFault;
+use std::test::Fail;
+
+/// What a fault shows stands in its line.
+#[test]
+fn a_fault_shows_its_line(rt: HostRuntime) -> Result<(), Fail> {
+    for (fault, shown) in [
+        (Fault::Shape(ShapeFault::LastOutOfRange), "shape fault 3"),
+        (Fault::Word(12), "word fault at 12"),
+        (Fault::NotJson, "not json"),
+        (
+            Fault::Record(RecordFault::WrongAnswer(7)),
+            "record fault 5 at call 7",
+        ),
+        (Fault::Search(SearchFault::TooLong), "search fault 1"),
+        (Fault::Memory, "memory"),
+    ] {
+        let text = format!(in rt.alloc(); "{fault}")?;
+        assert_eq!(&rt; text.as_str(), shown);
+        let line = format!(in rt.alloc(); "kfifo: {fault}\n")?;
+        let mut faults = Printer::new(Vec::new(rt.alloc()));
+        assert!(&rt; fault.tell(&mut faults));
+        assert_eq!(&rt; faults.writer.as_slice(), line.as_bytes());
+    }
+    Ok(())
+}
