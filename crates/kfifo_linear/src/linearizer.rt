@@ -84,6 +84,9 @@ impl Linearizer {
     }
 
     /// Follows one event more, or says why it is not enabled and stays as it was.
+    ///
+    /// There has to be room left for the call that the event begins, where it begins one, and fewer
+    /// than 2^64 - 1 events were followed. It takes no memory.
     pub fn feed(&mut self, event: Event) -> Result<Outcome, NotEnabled>
         requires steps { self.old.notes.step < 2 ^ 64 - 1 }
         requires room { begins_call event.begin ≡ true → self.old.notes.begun < length self.old.notes.calls }
