@@ -5,8 +5,10 @@
 //! makes a dequeue of an empty queue. It prints how many calls had the answer that is wanted.
 #![tactic(auto)]
 
-ghost use Rattle.std.specs.Prelude.{◌≡◌, ◌<◌, ◌≤◌, ◌*◌};
+ghost use Rattle.std.specs.Prelude.{◌≡◌, ◌<◌, ◌≤◌, ◌+◌, ◌*◌};
 ghost use Rattle.kfifo_live.specs.Pass.{IsOf, IsSame};
+ghost use Rattle.kfifo_bench.specs.Calls;
+ghost use Rattle.kfifo_bench.specs.Calls.{calls, next_state, spread};
 
 use kfifo_live::{Pass, Queue};
 use kfifo_model::Answer;
@@ -28,6 +30,8 @@ impl Starts {
     fn next(&mut self) -> u32
         requires { 1 ≤ self.old.k }
         ensures below { result < self.old.k }
+        ensures state { self.new.state ≡ next_state self.old.state }
+        ensures start { result ≡ spread self.old.k self.new.state }
         ensures same { self.new.k ≡ self.old.k }
     {
         self.state = self
@@ -43,6 +47,7 @@ fn fill(queue: &Queue, pass: &mut Pass, starts: &mut Starts)
     requires of { IsOf queue.now pass.old }
     requires k { starts.old.k ≡ queue.now.opened.shape.k }
     ensures same { IsSame pass.old pass.new }
+    ensures calls { calls pass.old.thread pass.new.seen ≡ calls pass.old.thread pass.old.seen + 512 }
     ensures k { starts.new.k ≡ starts.old.k }
 {
     for item in 1..513u32 {
@@ -54,7 +59,8 @@ fn fill(queue: &Queue, pass: &mut Pass, starts: &mut Starts)
 fn put_and_take(queue: &Queue, pass: &mut Pass, starts: &mut Starts, calls: u32) -> u64
     requires of { IsOf queue.now pass.old }
     requires k { starts.old.k ≡ queue.now.opened.shape.k }
-    ensures { result ≤ 2 * calls }
+    ensures wanted { result ≤ 2 * calls }
+    ensures calls { Calls.calls pass.old.thread pass.new.seen ≡ Calls.calls pass.old.thread pass.old.seen + 2 * calls }
 {
     let mut wanted: u64 = 0;
     for item in 0..calls {
@@ -72,7 +78,8 @@ fn put_and_take(queue: &Queue, pass: &mut Pass, starts: &mut Starts, calls: u32)
 fn take_none(queue: &Queue, pass: &mut Pass, starts: &mut Starts, calls: u32) -> u64
     requires of { IsOf queue.now pass.old }
     requires k { starts.old.k ≡ queue.now.opened.shape.k }
-    ensures { result ≤ calls }
+    ensures wanted { result ≤ calls }
+    ensures calls { Calls.calls pass.old.thread pass.new.seen ≡ Calls.calls pass.old.thread pass.old.seen + calls }
 {
     let mut wanted: u64 = 0;
     for call in 0..calls {

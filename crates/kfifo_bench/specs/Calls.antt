@@ -1,0 +1,15 @@
+-- How many calls a pass made.
+use Rattle.std.specs.Prelude.{ℕ, ◌+◌, ◌*◌, ◌/◌, ◌%◌, List, length, filter, is_some}
+use Rattle.kfifo_machine.specs.declared.event.Event.{Event}
+use Rattle.kfifo_machine.specs.Runs.{own}
+
+-- the calls that a thread began in a schedule
+abbrev pub calls : ℕ → List Event → ℕ
+calls thread events = length (filter (λ e. is_some e.begin) (own thread events))
+
+-- the state of a linear congruential generator after another, and the number below k that it gives
+abbrev pub next_state : ℕ → ℕ
+next_state state = (state * 1664525 + 1013904223) % 4294967296
+
+abbrev pub spread : ℕ → ℕ → ℕ
+spread k state = (state * k) / 4294967296
