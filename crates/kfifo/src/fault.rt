@@ -4,12 +4,13 @@ ghost use Rattle.kfifo.specs.declared.fault.Fault.TheVariants.{Memory};
 ghost use Rattle.kfifo.specs.Faults.{fault_line, fault_text, numbered, stream_fault};
 ghost use Rattle.kfifo.specs.Printing.{Writes, Breaks};
 
-use crate::printing::write_number;
-use kfifo_judge::{Sink, StreamFault, write_all};
+use crate::printing::Printer;
+use kfifo_judge::StreamFault;
 use kfifo_model::{RecordFault, SearchFault};
 use kfifo_words::ShapeFault;
 use std::alloc::{AllocError, AllocFailed};
 use std::fmt;
+use std::io::Write;
 use thiserror::Error;
 
 /// Why a command ended without its answer. Its `Display` is what the line of the fault says.
@@ -40,17 +41,17 @@ pub enum Fault {
 
 impl Fault {
     /// Writes the line of the fault, or answers false where a call failed.
-    pub fn tell<F: Sink>(self, faults: &mut F) -> bool
-        ensures { MatchBool result (Writes F.contents F.failed faults.old (fault_line self) faults.new)
-            (Breaks F.contents F.failed faults.old (fault_line self) faults.new) }
+    pub fn tell<F: Write>(self, faults: &mut Printer<'_, F>) -> bool
+        ensures { MatchBool result (Writes F.contents faults.old (fault_line self) faults.new)
+            (Breaks F.contents faults.old (fault_line self) faults.new) }
     {
-        if !write_all(faults, b"kfifo: ") {
+        if !faults.write(b"kfifo: ") {
             return false;
         }
         if !self.line().tell(faults) {
             return false;
         }
-        write_all(faults, b"\n")
+        faults.write(b"\n")
     }
 
     /// What the line of the fault says.
@@ -86,17 +87,17 @@ struct Line {
 
 impl Line {
     /// Writes the line without its ends, or answers false where a call failed.
-    fn tell<F: Sink>(self, faults: &mut F) -> bool
+    fn tell<F: Write>(self, faults: &mut Printer<'_, F>) -> bool
         ensures { let text = numbered self.words.now self.number self.call in MatchBool result
-            (Writes F.contents F.failed faults.old text faults.new) (Breaks F.contents F.failed faults.old text faults.new) }
+            (Writes F.contents faults.old text faults.new) (Breaks F.contents faults.old text faults.new) }
     {
-        if !write_all(faults, self.words.as_bytes()) {
+        if !faults.write(self.words.as_bytes()) {
             return false;
         }
-        if !write_number("", self.number, faults) {
+        if !faults.write_number("", self.number) {
             return false;
         }
-        write_number(" at call ", self.call, faults)
+        faults.write_number(" at call ", self.call)
     }
 
     /// Words alone.

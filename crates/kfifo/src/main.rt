@@ -16,11 +16,10 @@ mod words;
 
 use crate::program::{end_with_fault, program};
 use fault::Fault;
-use kfifo_judge::{Sink, write_all};
 use printing::Printer;
 use status::Status;
 use std::env;
-use std::io::{self, ErrorKind};
+use std::io::{self, ErrorKind, Write};
 use std::process::ExitCode;
 use std::rt::Env;
 
@@ -28,8 +27,8 @@ const NO_TEXT: &str = "error: invalid UTF-8 was detected in one or more argument
 
 fn main(rt: HostRuntime) -> ExitCode {
     let mut input = rt.stdin();
-    let mut output = Printer::new(rt.stdout());
-    let mut faults = Printer::new(rt.stderr());
+    let mut output = rt.stdout();
+    let mut faults = rt.stderr();
     let status = match arguments(&rt) {
         Ok(words) => program(
             &rt,
@@ -39,7 +38,7 @@ fn main(rt: HostRuntime) -> ExitCode {
             &mut output,
             &mut faults,
         ),
-        Err(error) => end_without_words(&error, &mut faults),
+        Err(error) => end_without_words(&error, &mut Printer::new(&mut faults)),
     };
     ExitCode::from(status)
 }
@@ -54,13 +53,13 @@ fn arguments<R: Env + AllocGlobal>(rt: &R) -> io::Result<Vec<String>> {
 }
 
 /// Ends the program where the arguments could not be read: one is not UTF-8, or memory is short.
-fn end_without_words<F: Sink>(error: &io::Error, faults: &mut F) -> u8
-    ensures { ((result ≡ 1) × Tells F.contents F.failed faults.old (fault_line Fault.Memory) faults.new)
-        ⊎ ((result ≡ 2) × Tells F.contents F.failed faults.old NO_TEXT.now faults.new) }
+fn end_without_words<F: Write>(error: &io::Error, faults: &mut Printer<'_, F>) -> u8
+    ensures { ((result ≡ 1) × Tells F.contents faults.old (fault_line Fault.Memory) faults.new)
+        ⊎ ((result ≡ 2) × Tells F.contents faults.old NO_TEXT.now faults.new) }
 {
     if error.kind() == ErrorKind::OutOfMemory {
         return end_with_fault(Fault::Memory, faults).number();
     }
-    write_all(faults, NO_TEXT.as_bytes());
+    faults.write(NO_TEXT.as_bytes());
     Status::Misused.number()
 }

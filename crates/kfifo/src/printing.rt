@@ -1,5 +1,5 @@
-//! Where the program writes.
-ghost use Rattle.std.specs.Prelude.{◌≡◌, IfErr, MatchBool, OnOk, OnErr};
+//! How the program writes, and what is counted as a failure there.
+ghost use Rattle.std.specs.Prelude.{◌≡◌, IfErr, MatchBool, OnErr, OnOk, false};
 ghost use Rattle.std.specs.Io.KnownBytes.{Keeps};
 ghost use Rattle.kfifo_judge.specs.Streams.{CountsOne};
 ghost use Rattle.kfifo.specs.Faults.{number_text};
@@ -7,103 +7,91 @@ ghost use Rattle.kfifo.specs.Printing.{Writes, Breaks};
 
 use crate::fault::Fault;
 use itoa::Buffer;
-use kfifo_judge::{Sink, write_all};
-use std::io;
 use std::io::{ErrorKind, Write};
 
-/// A sink that can be asked to pass on what it took.
-pub trait Outlet: Sink {
-    /// Passes on what was written, or answers false where that fails.
-    fn pass_on(&mut self) -> bool
-        ensures bytes { Keeps (Self.contents self.old) (Self.contents self.new) }
-        ensures failures { MatchBool result (Self.failed self.new ≡ Self.failed self.old) (CountsOne (Self.failed self.old) (Self.failed self.new)) };
-}
-
-/// A writer of std, with a count of its calls that failed.
+/// A writer of std that was lent, with a count of its calls that failed: those that answered an error
+/// other than an interruption, or took no byte though there were some.
 #[derive(Drop)]
-pub struct Printer<W> {
-    /// The writer.
-    pub writer: W,
+pub struct Printer<'a, W> {
+    writer: &'a mut W,
     failed: u64,
 }
 
-impl<W> Printer<W> {
+impl<'a, W: Write> Printer<'a, W> {
     /// No call has failed yet.
-    pub fn new(writer: W) -> Printer<W>
-        ensures writer { result.writer ≡ writer }
+    pub fn new(writer: &'a mut W) -> Printer<'a, W>
+        ensures same { result.writer.ghost_name ≡ writer.entry.ghost_name }
+        ensures held { result.writer.now ≡ writer.old }
         ensures failed { result.failed ≡ 0 }
     {
         Printer { writer, failed: 0 }
     }
-}
 
-impl<W: Write> Sink for Printer<W> {
-    ghost contents = { λ printer. W.contents printer.writer };
-
-    ghost failed = { λ printer. printer.failed };
-
-    /// An interrupted call took nothing, and is made again.
-    fn write(&mut self, piece: &[u8]) -> io::Result<usize> {
+    /// Writes the whole text, or answers false after a call that failed, which is not made again. An
+    /// interrupted call took nothing, and is made again.
+    pub fn write(&mut self, text: &[u8]) -> bool
+        ensures { MatchBool result (Writes W.contents self.old text.now self.new) (Breaks W.contents self.old text.now self.new) }
+    {
+        let mut written = 0;
         for _ in 0..u64::MAX {
-            match self.writer.write(piece) {
-                Ok(count) => {
-                    if count == 0 && !piece.is_empty() {
-                        self.failed = self.failed.saturating_add(1);
-                    }
-                    return Ok(count);
-                }
+            if written == text.len() {
+                return true;
+            }
+            match self.writer.write(&text[written..]) {
+                Ok(0) => return self.fail(),
+                Ok(count) => written += count,
                 Err(error) => {
                     if error.kind() != ErrorKind::Interrupted {
-                        self.failed = self.failed.saturating_add(1);
-                        return Err(error);
+                        return self.fail();
                     }
                 }
             }
         }
-        self.failed = self.failed.saturating_add(1);
-        Err(io::Error::from(ErrorKind::Interrupted))
+        self.fail()
     }
-}
 
-impl<W: Write> Outlet for Printer<W> {
-    fn pass_on(&mut self) -> bool {
+    /// Writes a number behind a text, or nothing where there is none. Answers false where a call failed.
+    pub fn write_number(&mut self, before: &str, number: Option<usize>) -> bool
+        ensures { MatchBool result (Writes W.contents self.old (number_text before.now number) self.new)
+            (Breaks W.contents self.old (number_text before.now number) self.new) }
+    {
+        let Some(number) = number else {
+            return true;
+        };
+        let mut digits = Buffer::new();
+        let text = digits.format(number);
+        if !self.write(before.as_bytes()) {
+            return false;
+        }
+        self.write(text.as_bytes())
+    }
+
+    /// Writes the text of an answer, and sees that it leaves the writer.
+    pub fn print(&mut self, text: &[u8]) -> Result<(), Fault>
+        ensures ok { OnOk result (Writes W.contents self.old text.now self.new) }
+        ensures err { OnErr result (Breaks W.contents self.old text.now self.new) }
+        ensures fault { IfErr result (λ fault. fault ≡ Fault.Output) }
+    {
+        if !self.write(text) {
+            return Err(Fault::Output);
+        }
         match self.writer.flush() {
-            Ok(()) => true,
+            Ok(()) => Ok(()),
             Err(_) => {
-                self.failed = self.failed.saturating_add(1);
-                false
+                self.fail();
+                Err(Fault::Output)
             }
         }
     }
-}
 
-/// Writes the text of an answer, and sees that it leaves the sink.
-pub fn print<W: Outlet>(text: &[u8], output: &mut W) -> Result<(), Fault>
-    ensures ok { OnOk result (Writes W.contents W.failed output.old text.now output.new) }
-    ensures err { OnErr result (Breaks W.contents W.failed output.old text.now output.new) }
-    ensures fault { IfErr result (λ fault. fault ≡ Fault.Output) }
-{
-    if !write_all(output, text) {
-        return Err(Fault::Output);
+    /// Counts a call that failed.
+    fn fail(&mut self) -> bool
+        ensures answer { result ≡ false }
+        ensures counted { CountsOne self.old.failed self.new.failed }
+        ensures held { self.new.writer.now ≡ self.old.writer.now }
+        ensures same { self.new.writer.ghost_name ≡ self.old.writer.ghost_name }
+    {
+        self.failed = self.failed.saturating_add(1);
+        false
     }
-    if !output.pass_on() {
-        return Err(Fault::Output);
-    }
-    Ok(())
-}
-
-/// Writes a number behind a text, or nothing where there is none. Answers false where a call failed.
-pub fn write_number<W: Sink>(before: &str, number: Option<usize>, sink: &mut W) -> bool
-    ensures { MatchBool result (Writes W.contents W.failed sink.old (number_text before.now number) sink.new)
-        (Breaks W.contents W.failed sink.old (number_text before.now number) sink.new) }
-{
-    let Some(number) = number else {
-        return true;
-    };
-    let mut digits = Buffer::new();
-    let text = digits.format(number);
-    if !write_all(sink, before.as_bytes()) {
-        return false;
-    }
-    write_all(sink, text.as_bytes())
 }

@@ -138,55 +138,61 @@ fn measures(rt: HostRuntime) -> Result<(), Fail> {
     Ok(())
 }
 
+/// Hostile records, and the fault of each.
+const HOSTILE: [(&str, StreamFault); 10] = [
+    ("", StreamFault::NotJson),
+    ("{}", StreamFault::Record(RecordFault::NotAList)),
+    ("[7]", StreamFault::Record(RecordFault::NotACall(0))),
+    (
+        r#"[{"thread":64,"op":"deq","first":0}]"#,
+        StreamFault::Record(RecordFault::NumberOutOfRange(0)),
+    ),
+    (
+        r#"[{"thread":0,"op":"deq","first":0,"last":1,"answer":"done"}]"#,
+        StreamFault::Record(RecordFault::WrongAnswer(0)),
+    ),
+    (
+        r#"[{"thread":0,"op":"deq","first":0,"last":1,"answer":"got"}]"#,
+        StreamFault::Record(RecordFault::NotACall(0)),
+    ),
+    (
+        r#"[{"thread":0,"op":"deq","first":5,"last":4,"answer":"empty"}]"#,
+        StreamFault::Record(RecordFault::EndsEarly(0)),
+    ),
+    (
+        r#"[{"thread":0,"op":"enq","item":1,"first":18446744073709551616}]"#,
+        StreamFault::Record(RecordFault::NotACall(0)),
+    ),
+    (
+        r#"[{"thread":0,"op":"deq","first":3},{"thread":1,"op":"deq","first":3}]"#,
+        StreamFault::Record(RecordFault::OutOfOrder(1)),
+    ),
+    (
+        r#"[{"thread":0,"op":"deq","first":0},{"thread":0,"op":"deq","first":1}]"#,
+        StreamFault::Record(RecordFault::Overlap(1)),
+    ),
+];
+
+/// Both streams refuse the text for this fault and write nothing, and a failed first read is the fault before any other.
+fn is_refused(alloc: Global, text: &str, fault: StreamFault) -> bool {
+    let mut sink = sink_with(alloc, 0, 0);
+    let checked = check_stream(alloc, &mut source_of(text, 0), &mut sink, 2, None);
+    let measured = measure_stream(alloc, &mut source_of(text, 0), &mut sink);
+    let mut source = source_of(text, 1);
+    let unread = check_stream(alloc, &mut source, &mut sink, 2, None);
+    checked == Err(fault)
+        && measured == Err(fault)
+        && unread == Err(StreamFault::Input)
+        && source.inner.calls == 1
+        && sink.inner.calls == 0
+}
+
 #[test]
 fn hostile_records(rt: HostRuntime) -> Result<(), Fail> {
     let cut = EARLY_EMPTY.strip_suffix("]").ok_or("no bracket")?;
-    let cases = [
-        ("", StreamFault::NotJson),
-        (cut, StreamFault::NotJson),
-        ("{}", StreamFault::Record(RecordFault::NotAList)),
-        ("[7]", StreamFault::Record(RecordFault::NotACall(0))),
-        (
-            r#"[{"thread":64,"op":"deq","first":0}]"#,
-            StreamFault::Record(RecordFault::NumberOutOfRange(0)),
-        ),
-        (
-            r#"[{"thread":0,"op":"deq","first":0,"last":1,"answer":"done"}]"#,
-            StreamFault::Record(RecordFault::WrongAnswer(0)),
-        ),
-        (
-            r#"[{"thread":0,"op":"deq","first":0,"last":1,"answer":"got"}]"#,
-            StreamFault::Record(RecordFault::NotACall(0)),
-        ),
-        (
-            r#"[{"thread":0,"op":"deq","first":5,"last":4,"answer":"empty"}]"#,
-            StreamFault::Record(RecordFault::EndsEarly(0)),
-        ),
-        (
-            r#"[{"thread":0,"op":"enq","item":1,"first":18446744073709551616}]"#,
-            StreamFault::Record(RecordFault::NotACall(0)),
-        ),
-        (
-            r#"[{"thread":0,"op":"deq","first":3},{"thread":1,"op":"deq","first":3}]"#,
-            StreamFault::Record(RecordFault::OutOfOrder(1)),
-        ),
-        (
-            r#"[{"thread":0,"op":"deq","first":0},{"thread":0,"op":"deq","first":1}]"#,
-            StreamFault::Record(RecordFault::Overlap(1)),
-        ),
-    ];
-    for (text, fault) in cases {
-        let mut sink = sink_with(rt.alloc(), 0, 0);
-        let found = check_stream(rt.alloc(), &mut source_of(text, 0), &mut sink, 2, None);
-        assert_eq!(rt; found, Err(fault), "{text}");
-        assert_eq!(rt; sink.inner.calls, 0);
-        let found = measure_stream(rt.alloc(), &mut source_of(text, 0), &mut sink);
-        assert_eq!(rt; found, Err(fault), "{text}");
-        assert_eq!(rt; sink.inner.calls, 0);
-        let mut source = source_of(text, 1);
-        let found = check_stream(rt.alloc(), &mut source, &mut sink, 2, None);
-        assert_eq!(rt; found, Err(StreamFault::Input), "{text}");
-        assert_eq!(rt; source.inner.calls, 1);
+    assert!(rt; is_refused(rt.alloc(), cut, StreamFault::NotJson), "{cut}");
+    for (text, fault) in HOSTILE {
+        assert!(rt; is_refused(rt.alloc(), text, fault), "{text}");
     }
     Ok(())
 }

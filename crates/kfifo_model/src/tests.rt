@@ -234,74 +234,76 @@ fn fault_of(
     }
 }
 
+/// Records, and the fault of each.
+const FAULTS_OF_RECORDS: [(&str, RecordFault); 18] = [
+    ("{}", RecordFault::NotAList),
+    ("[7]", RecordFault::NotACall(0)),
+    (r#"[{"thread":0,"op":"deq"}]"#, RecordFault::NotACall(0)),
+    (
+        r#"[{"thread":0,"op":"deq","first":0,"more":1}]"#,
+        RecordFault::NotACall(0),
+    ),
+    (
+        r#"[{"thread":0,"op":"put","first":0}]"#,
+        RecordFault::NotACall(0),
+    ),
+    (
+        r#"[{"thread":0,"op":"deq","first":0,"last":1}]"#,
+        RecordFault::NotACall(0),
+    ),
+    (
+        r#"[{"thread":0,"op":"deq","first":0,"item":1}]"#,
+        RecordFault::NotACall(0),
+    ),
+    (
+        r#"[{"thread":0,"op":"enq","first":0}]"#,
+        RecordFault::NotACall(0),
+    ),
+    (
+        r#"[{"thread":0,"op":"deq","first":0,"last":1,"answer":"got"}]"#,
+        RecordFault::NotACall(0),
+    ),
+    (
+        r#"[{"thread":0,"op":"enq","item":1,"first":18446744073709551616}]"#,
+        RecordFault::NotACall(0),
+    ),
+    (
+        r#"[{"thread":64,"op":"deq","first":0}]"#,
+        RecordFault::NumberOutOfRange(0),
+    ),
+    (
+        r#"[{"thread":0,"op":"enq","item":0,"first":0}]"#,
+        RecordFault::NumberOutOfRange(0),
+    ),
+    (
+        r#"[{"thread":0,"op":"deq","first":0,"last":1,"answer":"done"}]"#,
+        RecordFault::WrongAnswer(0),
+    ),
+    (
+        r#"[{"thread":0,"op":"deq","first":0,"last":1,"answer":"gone"}]"#,
+        RecordFault::WrongAnswer(0),
+    ),
+    (
+        r#"[{"thread":0,"op":"deq","first":5,"last":4,"answer":"empty"}]"#,
+        RecordFault::EndsEarly(0),
+    ),
+    (
+        r#"[{"thread":0,"op":"deq","first":3},{"thread":1,"op":"deq","first":3}]"#,
+        RecordFault::OutOfOrder(1),
+    ),
+    (
+        r#"[{"thread":0,"op":"deq","first":0},{"thread":0,"op":"deq","first":1}]"#,
+        RecordFault::Overlap(1),
+    ),
+    (
+        r#"[{"thread":0,"op":"deq","first":5,"last":4,"answer":"empty"},7]"#,
+        RecordFault::EndsEarly(0),
+    ),
+];
+
 #[test]
 fn faults_of_records(rt: HostRuntime) -> Result<(), Fail> {
-    let cases = [
-        ("{}", RecordFault::NotAList),
-        ("[7]", RecordFault::NotACall(0)),
-        (r#"[{"thread":0,"op":"deq"}]"#, RecordFault::NotACall(0)),
-        (
-            r#"[{"thread":0,"op":"deq","first":0,"more":1}]"#,
-            RecordFault::NotACall(0),
-        ),
-        (
-            r#"[{"thread":0,"op":"put","first":0}]"#,
-            RecordFault::NotACall(0),
-        ),
-        (
-            r#"[{"thread":0,"op":"deq","first":0,"last":1}]"#,
-            RecordFault::NotACall(0),
-        ),
-        (
-            r#"[{"thread":0,"op":"deq","first":0,"item":1}]"#,
-            RecordFault::NotACall(0),
-        ),
-        (
-            r#"[{"thread":0,"op":"enq","first":0}]"#,
-            RecordFault::NotACall(0),
-        ),
-        (
-            r#"[{"thread":0,"op":"deq","first":0,"last":1,"answer":"got"}]"#,
-            RecordFault::NotACall(0),
-        ),
-        (
-            r#"[{"thread":0,"op":"enq","item":1,"first":18446744073709551616}]"#,
-            RecordFault::NotACall(0),
-        ),
-        (
-            r#"[{"thread":64,"op":"deq","first":0}]"#,
-            RecordFault::NumberOutOfRange(0),
-        ),
-        (
-            r#"[{"thread":0,"op":"enq","item":0,"first":0}]"#,
-            RecordFault::NumberOutOfRange(0),
-        ),
-        (
-            r#"[{"thread":0,"op":"deq","first":0,"last":1,"answer":"done"}]"#,
-            RecordFault::WrongAnswer(0),
-        ),
-        (
-            r#"[{"thread":0,"op":"deq","first":0,"last":1,"answer":"gone"}]"#,
-            RecordFault::WrongAnswer(0),
-        ),
-        (
-            r#"[{"thread":0,"op":"deq","first":5,"last":4,"answer":"empty"}]"#,
-            RecordFault::EndsEarly(0),
-        ),
-        (
-            r#"[{"thread":0,"op":"deq","first":3},{"thread":1,"op":"deq","first":3}]"#,
-            RecordFault::OutOfOrder(1),
-        ),
-        (
-            r#"[{"thread":0,"op":"deq","first":0},{"thread":0,"op":"deq","first":1}]"#,
-            RecordFault::Overlap(1),
-        ),
-        (
-            r#"[{"thread":0,"op":"deq","first":5,"last":4,"answer":"empty"},7]"#,
-            RecordFault::EndsEarly(0),
-        ),
-    ];
-    for (text, fault) in cases {
+    for (text, fault) in FAULTS_OF_RECORDS {
         assert_eq!(rt; fault_of(&rt, text)?, Some(fault), "{text}");
     }
     assert_eq!(rt;

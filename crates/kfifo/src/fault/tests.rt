@@ -23,9 +23,9 @@ fn a_fault_shows_its_line(rt: HostRuntime) -> Result<(), Fail> {
         let text = format!(in rt.alloc(); "{fault}")?;
         assert_eq!(&rt; text.as_str(), shown);
         let line = format!(in rt.alloc(); "kfifo: {fault}\n")?;
-        let mut faults = Printer::new(Vec::new(rt.alloc()));
-        assert!(&rt; fault.tell(&mut faults));
-        assert_eq!(&rt; faults.writer.as_slice(), line.as_bytes());
+        let mut told = Vec::new(rt.alloc());
+        assert!(&rt; fault.tell(&mut Printer::new(&mut told)));
+        assert_eq!(&rt; told.as_slice(), line.as_bytes());
     }
     Ok(())
 }

@@ -7,7 +7,6 @@ mod runs;
 mod steps;
 mod usage;
 
-use crate::printing::Printer;
 use crate::program::program;
 use std::alloc::{AllocError, Global};
 use std::io;
@@ -47,13 +46,13 @@ fn run_from<R: Threads + AllocGlobal, I: Read>(
 ) -> Result<Told, AllocError> {
     let alloc = rt.alloc();
     let words = words(alloc, texts)?;
-    let mut output = Printer::new(Vec::new(alloc));
-    let mut faults = Printer::new(Vec::new(alloc));
+    let mut output = Vec::new(alloc);
+    let mut faults = Vec::new(alloc);
     let status = program(rt, alloc, words.as_slice(), input, &mut output, &mut faults);
     Ok(Told {
         status,
-        output: output.writer,
-        faults: faults.writer,
+        output,
+        faults,
     })
 }
 

@@ -1,9 +1,7 @@
 //! Writers that fail.
 
 use super::words;
-use crate::printing::{Outlet, Printer};
 use crate::program::program;
-use kfifo_judge::Sink;
 use std::alloc::AllocError;
 use std::io;
 use std::io::{ErrorKind, Write};
@@ -46,7 +44,7 @@ impl Write for Stuck {
 }
 
 /// The status of a run with these writers.
-fn status_of<R: Threads + AllocGlobal, W: Outlet, F: Sink>(
+fn status_of<R: Threads + AllocGlobal, W: Write, F: Write>(
     rt: &R,
     texts: &[&str],
     output: &mut W,
@@ -66,24 +64,22 @@ fn ends_where_the_output_is_closed(rt: HostRuntime) -> Result<(), Fail> {
         ["check"].as_slice(),
         ["measure"].as_slice(),
     ] {
-        let mut whole = Printer::new(Vec::new(rt.alloc()));
-        let mut faults = Printer::new(Vec::new(rt.alloc()));
+        let mut whole = Vec::new(rt.alloc());
+        let mut faults = Vec::new(rt.alloc());
         let status = status_of(&rt, texts, &mut whole, &mut faults)?;
-        assert!(rt; status == 0 && !whole.writer.is_empty());
-        for room in 0..whole.writer.len() {
-            let mut output = Printer::new(Closing { room });
+        assert!(rt; status == 0 && !whole.is_empty());
+        for room in 0..whole.len() {
+            let mut output = Closing { room };
             let status = status_of(&rt, texts, &mut output, &mut faults)?;
             assert!(rt;
-                status == 1 && faults.writer.is_empty(),
+                status == 1 && faults.is_empty(),
                 "after {room} bytes"
             );
         }
-        let mut output = Printer::new(Closing {
-            room: whole.writer.len(),
-        });
+        let mut output = Closing { room: whole.len() };
         assert!(rt; status_of(&rt, texts, &mut output, &mut faults)? == 0);
-        assert!(rt; status_of(&rt, texts, &mut Printer::new(Stuck), &mut faults)? == 1);
-        assert!(rt; faults.writer.is_empty());
+        assert!(rt; status_of(&rt, texts, &mut Stuck, &mut faults)? == 1);
+        assert!(rt; faults.is_empty());
     }
     Ok(())
 }
@@ -97,11 +93,11 @@ fn keeps_its_status_where_a_fault_cannot_be_written(rt: HostRuntime) -> Result<(
         (["walk"].as_slice(), 2),
     ] {
         for room in 0..9 {
-            let mut output = Printer::new(Vec::new(rt.alloc()));
-            let mut faults = Printer::new(Closing { room });
+            let mut output = Vec::new(rt.alloc());
+            let mut faults = Closing { room };
             let status = status_of(&rt, texts, &mut output, &mut faults)?;
             assert!(rt;
-                status == wanted && output.writer.is_empty(),
+                status == wanted && output.is_empty(),
                 "after {room} bytes"
             );
         }

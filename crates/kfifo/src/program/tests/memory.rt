@@ -2,19 +2,17 @@
 //! with none they see the whole answer.
 
 use super::words;
-use crate::printing::Printer;
 use crate::program::program;
 use std::io;
 use std::io::Cursor;
 
 /// An empty page.
-fn page() -> Printer<Cursor<[u8; 4096]>> {
-    Printer::new(Cursor::new([0u8; 4096]))
+fn page() -> Cursor<[u8; 4096]> {
+    Cursor::new([0u8; 4096])
 }
 
 /// What was written to a page holds this text. A page takes no memory.
-fn holds(page: &Printer<Cursor<[u8; 4096]>>, text: &str) -> bool {
-    let page = &page.writer;
+fn holds(page: &Cursor<[u8; 4096]>, text: &str) -> bool {
     page.get_ref().get(..page.position() as usize) == Some(text.as_bytes())
 }
 

@@ -30,44 +30,47 @@ impl Read for Broken {
     }
 }
 
+/// A command line, the record that it reads, the status, and what it prints.
+const CHECKS: [(&str, &str, u8, &str); 14] = [
+    ("check", EARLY_EMPTY, 3, "no order\n"),
+    ("check --k 64", EARLY_EMPTY, 3, "no order\n"),
+    (
+        "check --order 0,1",
+        EARLY_EMPTY,
+        3,
+        "fault 5 not a run at 1\n",
+    ),
+    ("check --order 0,0", EARLY_EMPTY, 3, "fault 1 repeats\n"),
+    ("check --order 0,2", EARLY_EMPTY, 3, "fault 2 not a call\n"),
+    (
+        "check --order 0,9999999999",
+        EARLY_EMPTY,
+        3,
+        "fault 2 not a call\n",
+    ),
+    ("check --order none", EARLY_EMPTY, 3, "fault 3 leaves out\n"),
+    (
+        "check --order 1,00",
+        EARLY_EMPTY,
+        3,
+        "fault 4 breaks before\n",
+    ),
+    ("check --k 1", RELAXED, 3, "no order\n"),
+    ("check", RELAXED, 0, "order\n"),
+    ("check --order 0,1,2,3,4,5,6,7", RELAXED, 0, "legal\n"),
+    (
+        "check --k 1 --order 0,1,2,3,4,5,6,7",
+        RELAXED,
+        3,
+        "fault 5 not a run at 4\n",
+    ),
+    ("check", "[]", 0, "order\n"),
+    ("check --order none", "[]", 0, "legal\n"),
+];
+
 #[test]
 fn checks(rt: HostRuntime) -> Result<(), Fail> {
-    for (line, record, status, output) in [
-        ("check", EARLY_EMPTY, 3, "no order\n"),
-        ("check --k 64", EARLY_EMPTY, 3, "no order\n"),
-        (
-            "check --order 0,1",
-            EARLY_EMPTY,
-            3,
-            "fault 5 not a run at 1\n",
-        ),
-        ("check --order 0,0", EARLY_EMPTY, 3, "fault 1 repeats\n"),
-        ("check --order 0,2", EARLY_EMPTY, 3, "fault 2 not a call\n"),
-        (
-            "check --order 0,9999999999",
-            EARLY_EMPTY,
-            3,
-            "fault 2 not a call\n",
-        ),
-        ("check --order none", EARLY_EMPTY, 3, "fault 3 leaves out\n"),
-        (
-            "check --order 1,00",
-            EARLY_EMPTY,
-            3,
-            "fault 4 breaks before\n",
-        ),
-        ("check --k 1", RELAXED, 3, "no order\n"),
-        ("check", RELAXED, 0, "order\n"),
-        ("check --order 0,1,2,3,4,5,6,7", RELAXED, 0, "legal\n"),
-        (
-            "check --k 1 --order 0,1,2,3,4,5,6,7",
-            RELAXED,
-            3,
-            "fault 5 not a run at 4\n",
-        ),
-        ("check", "[]", 0, "order\n"),
-        ("check --order none", "[]", 0, "legal\n"),
-    ] {
+    for (line, record, status, output) in CHECKS {
         let told = run_on(&rt, line, record)?;
         assert!(rt; told.is(status, output, ""), "{line}");
     }
@@ -86,44 +89,47 @@ fn measures(rt: HostRuntime) -> Result<(), Fail> {
     Ok(())
 }
 
+/// Records, and the line that tells the fault of each.
+const FAULTS_OF_RECORDS: [(&str, &str); 10] = [
+    ("", "kfifo: not json\n"),
+    ("{}", "kfifo: record fault 1\n"),
+    ("[7]", "kfifo: record fault 3 at call 0\n"),
+    (
+        r#"[{"thread":64,"op":"deq","first":0}]"#,
+        "kfifo: record fault 4 at call 0\n",
+    ),
+    (
+        r#"[{"thread":0,"op":"deq","first":0,"last":1,"answer":"done"}]"#,
+        "kfifo: record fault 5 at call 0\n",
+    ),
+    (
+        r#"[{"thread":0,"op":"deq","first":0,"last":1,"answer":"got"}]"#,
+        "kfifo: record fault 3 at call 0\n",
+    ),
+    (
+        r#"[{"thread":0,"op":"deq","first":5,"last":4,"answer":"empty"}]"#,
+        "kfifo: record fault 6 at call 0\n",
+    ),
+    (
+        r#"[{"thread":0,"op":"enq","item":1,"first":18446744073709551616}]"#,
+        "kfifo: record fault 3 at call 0\n",
+    ),
+    (
+        r#"[{"thread":0,"op":"deq","first":3},{"thread":1,"op":"deq","first":3}]"#,
+        "kfifo: record fault 7 at call 1\n",
+    ),
+    (
+        r#"[{"thread":0,"op":"deq","first":0},{"thread":0,"op":"deq","first":1}]"#,
+        "kfifo: record fault 8 at call 1\n",
+    ),
+];
+
 #[test]
 fn names_the_fault_of_a_record(rt: HostRuntime) -> Result<(), Fail> {
     let cut = EARLY_EMPTY.strip_suffix("]").ok_or("no bracket")?;
-    for (record, faults) in [
-        ("", "kfifo: not json\n"),
-        (cut, "kfifo: not json\n"),
-        ("{}", "kfifo: record fault 1\n"),
-        ("[7]", "kfifo: record fault 3 at call 0\n"),
-        (
-            r#"[{"thread":64,"op":"deq","first":0}]"#,
-            "kfifo: record fault 4 at call 0\n",
-        ),
-        (
-            r#"[{"thread":0,"op":"deq","first":0,"last":1,"answer":"done"}]"#,
-            "kfifo: record fault 5 at call 0\n",
-        ),
-        (
-            r#"[{"thread":0,"op":"deq","first":0,"last":1,"answer":"got"}]"#,
-            "kfifo: record fault 3 at call 0\n",
-        ),
-        (
-            r#"[{"thread":0,"op":"deq","first":5,"last":4,"answer":"empty"}]"#,
-            "kfifo: record fault 6 at call 0\n",
-        ),
-        (
-            r#"[{"thread":0,"op":"enq","item":1,"first":18446744073709551616}]"#,
-            "kfifo: record fault 3 at call 0\n",
-        ),
-        (
-            r#"[{"thread":0,"op":"deq","first":3},{"thread":1,"op":"deq","first":3}]"#,
-            "kfifo: record fault 7 at call 1\n",
-        ),
-        (
-            r#"[{"thread":0,"op":"deq","first":0},{"thread":0,"op":"deq","first":1}]"#,
-            "kfifo: record fault 8 at call 1\n",
-        ),
-    ] {
-        for line in ["check", "check --order 0", "measure"] {
+    for line in ["check", "check --order 0", "measure"] {
+        assert!(rt; run_on(&rt, line, cut)?.is(1, "", "kfifo: not json\n"), "{line}");
+        for (record, faults) in FAULTS_OF_RECORDS {
             assert!(rt;
                 run_on(&rt, line, record)?.is(1, "", faults),
                 "{line}: {record}"

@@ -4,71 +4,74 @@ use super::{run_line, run_words};
 use std::str::from_utf8;
 use std::test::Fail;
 
+/// A command line that asks for help, and what stands in it.
+const HELP: [(&str, [&str; 3]); 9] = [
+    (
+        "--help",
+        [
+            "Usage: kfifo <COMMAND>\n",
+            "\n  run ",
+            "\n  kfifo run e7 e8 d ",
+        ],
+    ),
+    (
+        "-h",
+        [
+            "Usage: kfifo <COMMAND>\n",
+            "\n  run ",
+            "\n  kfifo help run ",
+        ],
+    ),
+    (
+        "help",
+        ["Usage: kfifo <COMMAND>\n", "\nCommands:\n", "\nExamples:\n"],
+    ),
+    (
+        "run --help",
+        [
+            "Usage: kfifo run [OPTIONS] <WORD>...\n",
+            "--k <SLOTS>",
+            "[default: 1099511627775]\n",
+        ],
+    ),
+    (
+        "run -h",
+        [
+            "--segments <NUMBER>",
+            "--turns <ROUNDS>",
+            "\n  kfifo run e7 e8 d ",
+        ],
+    ),
+    (
+        "help run",
+        ["--last <VERSION>", "--probes <SLOTS>", "\n  d:<START> "],
+    ),
+    (
+        "check --help",
+        [
+            "Usage: kfifo check [OPTIONS]\n",
+            "--k <PLACES>",
+            "--order <CALLS>",
+        ],
+    ),
+    (
+        "help measure",
+        [
+            "Usage: kfifo measure\n",
+            "\n  kfifo measure < record.json",
+            "certainly overtaken",
+        ],
+    ),
+    // Help is asked for before a shape or a word is looked at.
+    (
+        "run --k 0 x --help",
+        ["Usage: kfifo run ", "\nArguments:\n", "\nOptions:\n"],
+    ),
+];
+
 #[test]
 fn helps(rt: HostRuntime) -> Result<(), Fail> {
-    for (line, parts) in [
-        (
-            "--help",
-            [
-                "Usage: kfifo <COMMAND>\n",
-                "\n  run ",
-                "\n  kfifo run e7 e8 d ",
-            ],
-        ),
-        (
-            "-h",
-            [
-                "Usage: kfifo <COMMAND>\n",
-                "\n  run ",
-                "\n  kfifo help run ",
-            ],
-        ),
-        (
-            "help",
-            ["Usage: kfifo <COMMAND>\n", "\nCommands:\n", "\nExamples:\n"],
-        ),
-        (
-            "run --help",
-            [
-                "Usage: kfifo run [OPTIONS] <WORD>...\n",
-                "--k <SLOTS>",
-                "[default: 1099511627775]\n",
-            ],
-        ),
-        (
-            "run -h",
-            [
-                "--segments <NUMBER>",
-                "--turns <ROUNDS>",
-                "\n  kfifo run e7 e8 d ",
-            ],
-        ),
-        (
-            "help run",
-            ["--last <VERSION>", "--probes <SLOTS>", "\n  d:<START> "],
-        ),
-        (
-            "check --help",
-            [
-                "Usage: kfifo check [OPTIONS]\n",
-                "--k <PLACES>",
-                "--order <CALLS>",
-            ],
-        ),
-        (
-            "help measure",
-            [
-                "Usage: kfifo measure\n",
-                "\n  kfifo measure < record.json",
-                "certainly overtaken",
-            ],
-        ),
-        // Help is asked for before a shape or a word is looked at.
-        (
-            "run --k 0 x --help",
-            ["Usage: kfifo run ", "\nArguments:\n", "\nOptions:\n"],
-        ),
-    ] {
+    for (line, parts) in HELP {
         let told = run_line(&rt, line)?;
         let text = from_utf8(told.output.as_slice())?;
         assert!(rt; told.status == 0 && told.faults.is_empty(), "{line}");
@@ -79,34 +82,37 @@ fn helps(rt: HostRuntime) -> Result<(), Fail> {
     Ok(())
 }
 
+/// A command line at fault, and what its fault says.
+const MISUSES: [(&str, &str); 21] = [
+    ("run", "<WORD>..."),
+    ("walk", "unrecognized subcommand 'walk'"),
+    ("run --k", "a value is required for '--k <SLOTS>'"),
+    ("run --k x e7", "invalid value 'x' for '--k <SLOTS>'"),
+    (
+        "run --k 4294967296 e7",
+        "invalid value '4294967296' for '--k <SLOTS>'",
+    ),
+    ("run --segments 4294967296 e7", "'--segments <NUMBER>'"),
+    ("run --last 1099511627776 e7", "'--last <VERSION>'"),
+    ("run --probes 4294967296 e7", "'--probes <SLOTS>'"),
+    ("run --turns 0 e7", "'--turns <ROUNDS>'"),
+    ("run --turns 65536 e7", "'--turns <ROUNDS>'"),
+    ("run --k 1 --k 1 e7", "cannot be used multiple times"),
+    ("run --picks 0 e7", "unexpected argument '--picks'"),
+    ("check --k 0", "invalid value '0' for '--k <PLACES>'"),
+    ("check --k 65", "invalid value '65' for '--k <PLACES>'"),
+    ("check --order", "a value is required for '--order <CALLS>'"),
+    ("check --segments 2", "unexpected argument '--segments'"),
+    ("check 0,1", "unexpected argument '0,1'"),
+    ("measure --k 2", "unexpected argument '--k'"),
+    ("measure record.json", "unexpected argument 'record.json'"),
+    ("run -d", "unexpected argument '-d'"),
+    ("run --k -1 e7", "unexpected argument '-1'"),
+];
+
 #[test]
 fn tells_what_is_wrong_with_a_command_line(rt: HostRuntime) -> Result<(), Fail> {
-    for (line, part) in [
-        ("run", "<WORD>..."),
-        ("walk", "unrecognized subcommand 'walk'"),
-        ("run --k", "a value is required for '--k <SLOTS>'"),
-        ("run --k x e7", "invalid value 'x' for '--k <SLOTS>'"),
-        (
-            "run --k 4294967296 e7",
-            "invalid value '4294967296' for '--k <SLOTS>'",
-        ),
-        ("run --segments 4294967296 e7", "'--segments <NUMBER>'"),
-        ("run --last 1099511627776 e7", "'--last <VERSION>'"),
-        ("run --probes 4294967296 e7", "'--probes <SLOTS>'"),
-        ("run --turns 0 e7", "'--turns <ROUNDS>'"),
-        ("run --turns 65536 e7", "'--turns <ROUNDS>'"),
-        ("run --k 1 --k 1 e7", "cannot be used multiple times"),
-        ("run --picks 0 e7", "unexpected argument '--picks'"),
-        ("check --k 0", "invalid value '0' for '--k <PLACES>'"),
-        ("check --k 65", "invalid value '65' for '--k <PLACES>'"),
-        ("check --order", "a value is required for '--order <CALLS>'"),
-        ("check --segments 2", "unexpected argument '--segments'"),
-        ("check 0,1", "unexpected argument '0,1'"),
-        ("measure --k 2", "unexpected argument '--k'"),
-        ("measure record.json", "unexpected argument 'record.json'"),
-        ("run -d", "unexpected argument '-d'"),
-        ("run --k -1 e7", "unexpected argument '-1'"),
-    ] {
+    for (line, part) in MISUSES {
         let told = run_line(&rt, line)?;
         let text = from_utf8(told.faults.as_slice())?;
         assert!(rt; told.status == 2 && told.output.is_empty(), "{line}");

@@ -6,7 +6,7 @@ use Rattle.kfifo.specs.declared.fault.Fault.TheVariants.{Memory}
 use Rattle.kfifo.proofs.Parsing.{at_fault, help_asked}
 use Rattle.kfifo.proofs.Printed.{answer_of, fault_as}
 use Rattle.kfifo.proofs.Statuses.{failed_at, misused_at, printed_at}
-use Rattle.kfifo.proofs.program.program.Goals as goal
+use Rattle.kfifo.proofs.program.perform.Goals as goal
 
 pub returns-in-Ok-clause-printed : goal.returns-in-Ok-clause-printed
 returns-in-Ok-clause-printed g c = λ h.
