@@ -1,5 +1,5 @@
 -- Texts that are written one after the other.
-use Rattle.std.proofs.Common.{◌≡◌, ◌∙◌, ◌++◌, ◌+◌, ◌<◌, [], ℕ, Bool, IsTrue, true, false, List, Option, MatchBool, refl, sym, ap, subst, append_assoc, append-nil, inl, inr}
+use Rattle.std.proofs.Common.{◌≡◌, ◌∙◌, ◌++◌, ◌+◌, ◌<◌, [], ℕ, Bool, true, false, List, Option, MatchBool, refl, sym, ap, subst, append_assoc, append-nil, inl, inr}
 use Rattle.std.proofs.KnownBytes.{Appends-trans, Appends-nil}
 use Rattle.kfifo_judge.specs.Streams.{AppendsPart, CountsOne, countable}
 use Rattle.kfifo.specs.Printing.{Stays, Writes, Breaks, Tells}

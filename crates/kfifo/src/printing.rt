@@ -1,6 +1,5 @@
 //! How the program writes, and what is counted as a failure there.
 ghost use Rattle.std.specs.Prelude.{◌≡◌, IfErr, MatchBool, OnErr, OnOk, false};
-ghost use Rattle.std.specs.Io.KnownBytes.{Keeps};
 ghost use Rattle.kfifo_judge.specs.Streams.{CountsOne};
 ghost use Rattle.kfifo.specs.Faults.{number_text};
 ghost use Rattle.kfifo.specs.Printing.{Writes, Breaks};

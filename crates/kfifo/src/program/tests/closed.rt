@@ -2,7 +2,7 @@
 
 use super::words;
 use crate::program::program;
-use std::alloc::AllocError;
+use std::alloc::{AllocError, Global};
 use std::io;
 use std::io::{ErrorKind, Write};
 use std::test::Fail;
@@ -43,6 +43,51 @@ impl Write for Stuck {
     }
 }
 
+/// Is interrupted at each second call, and takes a byte at each other one.
+#[derive(Drop)]
+struct Interrupted {
+    taken: Vec<u8>,
+    calls: u64,
+}
+
+impl Write for Interrupted {
+    fn write(&mut self, buf: &[u8]) -> io::Result<usize> {
+        self.calls = self.calls.wrapping_add(1);
+        if self.calls % 2 == 1 {
+            return Err(io::Error::from(ErrorKind::Interrupted));
+        }
+        let taken = buf.len().min(1);
+        self.taken.extend_from_slice(&buf[..taken])?;
+        Ok(taken)
+    }
+
+    fn flush(&mut self) -> io::Result<()> {
+        Ok(())
+    }
+}
+
+/// A writer that was not called yet.
+fn never_called(alloc: Global) -> Interrupted {
+    Interrupted {
+        taken: Vec::new(alloc),
+        calls: 0,
+    }
+}
+
+/// Takes no byte, and does not say why.
+#[derive(Drop)]
+struct Stopped;
+
+impl Write for Stopped {
+    fn write(&mut self, _buf: &[u8]) -> io::Result<usize> {
+        Ok(0)
+    }
+
+    fn flush(&mut self) -> io::Result<()> {
+        Ok(())
+    }
+}
+
 /// The status of a run with these writers.
 fn status_of<R: Threads + AllocGlobal, W: Write, F: Write>(
     rt: &R,
@@ -71,15 +116,31 @@ fn ends_where_the_output_is_closed(rt: HostRuntime) -> Result<(), Fail> {
         for room in 0..whole.len() {
             let mut output = Closing { room };
             let status = status_of(&rt, texts, &mut output, &mut faults)?;
-            assert!(rt;
-                status == 1 && faults.is_empty(),
-                "after {room} bytes"
-            );
+            assert!(rt; status == 1 && faults.is_empty(), "after {room} bytes");
         }
         let mut output = Closing { room: whole.len() };
         assert!(rt; status_of(&rt, texts, &mut output, &mut faults)? == 0);
         assert!(rt; status_of(&rt, texts, &mut Stuck, &mut faults)? == 1);
+        assert!(rt; status_of(&rt, texts, &mut Stopped, &mut faults)? == 1);
         assert!(rt; faults.is_empty());
+    }
+    Ok(())
+}
+
+#[test]
+fn goes_on_after_an_interruption(rt: HostRuntime) -> Result<(), Fail> {
+    for (texts, wanted) in [
+        (["run", "e7", "d"].as_slice(), 0),
+        (["run", "x"].as_slice(), 1),
+    ] {
+        let mut output = Vec::new(rt.alloc());
+        let mut faults = Vec::new(rt.alloc());
+        assert!(rt; status_of(&rt, texts, &mut output, &mut faults)? == wanted);
+        let mut slow_output = never_called(rt.alloc());
+        let mut slow_faults = never_called(rt.alloc());
+        assert!(rt; status_of(&rt, texts, &mut slow_output, &mut slow_faults)? == wanted);
+        assert_eq!(rt; slow_output.taken.as_slice(), output.as_slice());
+        assert_eq!(rt; slow_faults.taken.as_slice(), faults.as_slice());
     }
     Ok(())
 }
@@ -96,10 +157,7 @@ fn keeps_its_status_where_a_fault_cannot_be_written(rt: HostRuntime) -> Result<(
             let mut output = Vec::new(rt.alloc());
             let mut faults = Closing { room };
             let status = status_of(&rt, texts, &mut output, &mut faults)?;
-            assert!(rt;
-                status == wanted && output.is_empty(),
-                "after {room} bytes"
-            );
+            assert!(rt; status == wanted && output.is_empty(), "after {room} bytes");
         }
     }
     Ok(())

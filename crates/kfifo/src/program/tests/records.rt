@@ -128,7 +128,10 @@ const FAULTS_OF_RECORDS: [(&str, &str); 10] = [
 fn names_the_fault_of_a_record(rt: HostRuntime) -> Result<(), Fail> {
     let cut = EARLY_EMPTY.strip_suffix("]").ok_or("no bracket")?;
     for line in ["check", "check --order 0", "measure"] {
-        assert!(rt; run_on(&rt, line, cut)?.is(1, "", "kfifo: not json\n"), "{line}");
+        assert!(rt;
+            run_on(&rt, line, cut)?.is(1, "", "kfifo: not json\n"),
+            "{line}"
+        );
         for (record, faults) in FAULTS_OF_RECORDS {
             assert!(rt;
                 run_on(&rt, line, record)?.is(1, "", faults),

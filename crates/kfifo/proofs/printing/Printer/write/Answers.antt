@@ -18,17 +18,17 @@ returns-then-ne g c = failed_behind g.W.Write.contents c.fail-then-ne.result c.a
 pub loop-preserved : goal.loop-preserved
 loop-preserved g c = elim c.match-write.branch [
   | in-Ok w ↦ rw w.written-is record {
-      inside = inside_more c.args.text.now c.loop.written w.in-Ok.count c.loop.invariant.inside w.in-Ok.ensures.bound;
-      wrote = wrote_more _ _ _ c.args.text.now c.loop.written w.in-Ok.count c.loop.invariant.wrote w.in-Ok.ensures.bytes;
-      failed = c.loop.invariant.failed;
-      same = c.loop.invariant.same;
-    }
+    inside = inside_more c.args.text.now c.loop.written w.in-Ok.count c.loop.invariant.inside w.in-Ok.ensures.bound;
+    wrote = wrote_more _ _ _ c.args.text.now c.loop.written w.in-Ok.count c.loop.invariant.wrote w.in-Ok.ensures.bytes;
+    failed = c.loop.invariant.failed;
+    same = c.loop.invariant.same;
+  }
   | in-Err+else-ne w ↦ rw w.written-is record {
-      inside = c.loop.invariant.inside;
-      wrote = appends_kept _ _ _ _ c.loop.invariant.wrote w.in-Err.ensures.bytes;
-      failed = c.loop.invariant.failed;
-      same = c.loop.invariant.same;
-    }
+    inside = c.loop.invariant.inside;
+    wrote = appends_kept _ _ _ _ c.loop.invariant.wrote w.in-Err.ensures.bytes;
+    failed = c.loop.invariant.failed;
+    same = c.loop.invariant.same;
+  }
 ]
 
 pub returns : goal.returns
