@@ -1,7 +1,6 @@
 -- What the command `run` comes to.
 use Rattle.std.proofs.Common.{◌≡◌, ℕ, ◌+◌, List, [], Option, Some, None, Result, Ok, Err, IfOk, map, sym, subst, refl, ap, ◌∙◌, inl, inr, ◌⊎◌, unwrap_or, Bor}
 use Rattle.std.specs.Option.{option_map}
-use Rattle.std.specs.Io.KnownBytes.{Keeps}
 use Rattle.clap.specs.declared.parser.matches.Found.{Found}
 use Rattle.kfifo_words.specs.declared.shape.Shape.{Shape}
 use Rattle.kfifo.specs.declared.fault.Fault.{Fault}
@@ -34,8 +33,3 @@ word_refused found shape k turns words fault shaped worded same (inr w) = subst 
   number_is = refl;
   unread = subst (λ n. IsFirstUnread n turns words w.0) same w.2;
 }
-
--- what nobody wrote to is as it was
-pub keeps_self : (o : Option (List ℕ)) → Keeps o o
-keeps_self None = tt
-keeps_self (Some bytes) = refl

@@ -71,7 +71,3 @@ pub checked : (found : Found) (input : Option (List ℕ)) (printed text : List �
     → IsCheck found input text (status_number status) → IsCheck found input printed (status_number other)
 checked found input printed text status other same is answer = subst (λ t. IsCheck found input t (status_number other)) (sym same)
     (subst (λ s. IsCheck found input text (status_number s)) is answer)
-
--- two statuses that a result gives are one
-pub same_status : (s t : Status) → (let r : Result Status Fault = Ok s in r) ≡ Ok t → s ≡ t
-same_status s t e = cc

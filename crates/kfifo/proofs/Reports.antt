@@ -12,7 +12,7 @@ use Rattle.kfifo_machine.specs.Runs.{Begins, WholeRun, own}
 use Rattle.kfifo_machine.proofs.Schedules.{Some-injective, run_before, first_made, made_within, own_none}
 use Rattle.kfifo_machine.proofs.Sound.{sound_threads}
 use Rattle.kfifo_live.specs.Pass.{OpenQueue, Known, IsSame, Finds}
-use Rattle.kfifo.specs.Reports.{IsAlone, RunInTurn, call_line, slot_lines, segment_lines}
+use Rattle.kfifo.specs.Reports.{IsAlone, RunInTurn, call_line, slot_lines}
 
 -- a machine with one thread has no events of others
 no_others : (shape : Shape) (seen rest : List Event) (here there : World) → after shape 1 seen ≡ Some here → own 0 rest ≡ [] → run shape (Some here) rest ≡ Some there → rest ≡ []
@@ -46,10 +46,6 @@ run_on shape (c ∷ calls) (a ∷ answers) old mid new text call answer r w = (
   run_on shape calls answers r.0 mid new r.1 call answer r.3 w,
   ap (λ t. t ++ call_line call answer) r.4 ∙ append_assoc (call_line c a) r.1 (call_line call answer),
 )
-
--- the pass stays the only one
-pub stays_alone : (queue : OpenQueue) (p q : Known) → IsAlone queue p → IsSame p q → IsAlone queue q
-stays_alone queue p q a s = record { of = (s.0 ∙ a.of.0, s.1 ∙ a.of.1); one = a.one; first = s.2 ∙ a.first }
 
 -- a pass that saw nothing new is as it was
 same_pass : (p q : Known) → IsSame p q → q.seen ≡ p.seen → q ≡ p
@@ -86,12 +82,6 @@ pub slot_more : (k : ℕ) (world : World) (segment slot word : ℕ) (old loop ne
     → new ≡ loop ++ slot_line segment slot word → word ≡ word_at world (slot_at k segment slot) → new ≡ old ++ slot_lines k world segment (slot + 1)
 slot_more k world segment slot word old loop new e h is =
     rw add-one (behind old loop new _ _ e (subst (λ w. new ≡ loop ++ slot_line segment slot w) is h))
-
--- one more segment
-pub segment_more : (k : ℕ) (world : World) (segment : ℕ) (front old loop new : List ℕ) → loop ≡ old ++ (front ++ segment_lines k world segment)
-    → new ≡ loop ++ slot_lines k world segment k → new ≡ old ++ (front ++ segment_lines k world (segment + 1))
-segment_more k world segment front old loop new e h =
-    rw add-one (behind old loop new _ _ e h ∙ ap (λ t. old ++ t) (append_assoc front (segment_lines k world segment) (slot_lines k world segment k)))
 
 -- a schedule leaves one world
 pub one_world : (shape : Shape) (p q : Known) (v w : World) → q ≡ p → after shape 1 q.seen ≡ Some v → after shape 1 p.seen ≡ Some w → v ≡ w

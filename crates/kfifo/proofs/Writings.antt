@@ -1,14 +1,11 @@
 -- Texts that are written one after the other.
-use Rattle.std.proofs.Common.{◌≡◌, ◌∙◌, ◌++◌, ◌+◌, ◌<◌, [], ℕ, Bool, true, false, List, Option, MatchBool, refl, sym, ap, subst, append_assoc, append-nil, inl, inr}
-use Rattle.std.proofs.KnownBytes.{Appends-trans, Appends-nil}
+use Rattle.std.proofs.Common.{◌≡◌, ◌∙◌, ◌++◌, ◌+◌, ◌<◌, [], ℕ, Bool, true, false, List, Option, MatchBool, sym, ap, subst, append_assoc, append-nil}
+use Rattle.std.proofs.KnownBytes.{Appends-trans}
 use Rattle.kfifo_judge.specs.Streams.{AppendsPart, CountsOne, countable}
-use Rattle.kfifo.specs.Printing.{Stays, Writes, Breaks, Tells}
+use Rattle.kfifo.specs.Printing.{Stays, Writes, Breaks}
 use Rattle.kfifo.specs.declared.printing.Printer.{Printer}
 
 module _ {W : Type 0} (contents : W → Option (List ℕ)) where
-  pub writes_none : (a : Printer W) → Writes contents a [] a
-  writes_none a = (Appends-nil (contents a.writer.now), refl, refl)
-
   pub writes_more : (a b c : Printer W) (xs ys : List ℕ) → Writes contents a xs b → Writes contents b ys c → Writes contents a (xs ++ ys) c
   writes_more a b c xs ys p q = (Appends-trans _ _ _ xs ys p.0 q.0, q.1 ∙ p.1, q.2 ∙ p.2)
 
@@ -40,15 +37,6 @@ module _ {W : Type 0} (contents : W → Option (List ℕ)) where
       → MatchBool told (Writes contents a ((x ++ y) ++ z) d) (Breaks contents a ((x ++ y) ++ z) d)
   third true a b c d x y z p q r = writes_more a c d (x ++ y) z (writes_more a b c x y p q) r
   third false a b c d x y z p q r = third_breaks a c d (x ++ y) z (writes_more a b c x y p q) r
-
-  -- a text that is the same
-  pub told_as : (told : Bool) (a b : Printer W) (x y : List ℕ) → x ≡ y → MatchBool told (Writes contents a x b) (Breaks contents a x b)
-      → MatchBool told (Writes contents a y b) (Breaks contents a y b)
-  told_as told a b x y e h = subst (λ t. MatchBool told (Writes contents a t b) (Breaks contents a t b)) e h
-
-  pub tells : (told : Bool) (a b : Printer W) (x : List ℕ) → MatchBool told (Writes contents a x b) (Breaks contents a x b) → Tells contents a x b
-  tells true a b x h = inl h
-  tells false a b x h = inr h
 
   pub it_wrote : (told : Bool) (a b : Printer W) (x : List ℕ) → told ≡ true → MatchBool told (Writes contents a x b) (Breaks contents a x b) → Writes contents a x b
   it_wrote true a b x e h = h

@@ -9,7 +9,7 @@ use itoa::Buffer;
 use std::io::{ErrorKind, Write};
 
 /// A writer of std that was lent, with a count of its calls that failed: those that answered an error
-/// other than an interruption, or took no byte though there were some.
+/// other than an interruption, or took no byte though there were some. A flush counts as a call.
 #[derive(Drop)]
 pub struct Printer<'a, W> {
     writer: &'a mut W,

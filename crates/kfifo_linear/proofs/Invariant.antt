@@ -69,9 +69,6 @@ HasTarget shape w l t other = Unit {0}
 abbrev pub Clear : Shape → (ℕ → ℕ) → Ledger → ℕ → ℕ → ℕ → Type 0
 Clear shape w l ends start offset = w 0 ≡ ends → (o : ℕ) → o < offset → l.settled (scan_index shape (head_of ends) start o) ≡ false
 
-abbrev pub AllClear : Shape → (ℕ → ℕ) → Ledger → ℕ → Type 0
-AllClear shape w l ends = (start : ℕ) × (start < shape.k) × Clear shape w l ends start shape.k
-
 abbrev pub HasClear : Shape → (ℕ → ℕ) → Ledger → Running → Type 0
 HasClear shape w l (R.Enqueue item start left (E.ScanHead ends offset)) = Clear shape w l ends 0 offset
 HasClear shape w l (R.Enqueue item start left (E.MoveHead ends)) = Clear shape w l ends 0 shape.k

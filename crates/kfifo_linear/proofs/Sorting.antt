@@ -168,9 +168,6 @@ stands_point (Some s) e = refl
 
 -- ---- the sorted calls
 
-abbrev SameNumber : ℕ × ℕ → ℕ × ℕ → Bool
-SameNumber x y = eqb x.1 y.1
-
 eqb-flips : (x y : ℕ) → eqb x y ≡ eqb y x
 eqb-flips x y = elim (cases_eq x y) [
   | inl e ↦ eq-eqb x y e ∙ sym (eq-eqb y x (sym e))

@@ -69,9 +69,6 @@ module _ (shape : Shape) (l : Ledger) (n : Notes) (t ends : ℕ) (r : Running) (
   abbrev Told : Deed → Type 0
   Told what = Tells (did shape t ends what (Goes r) l) (later (marked shape t ends what n))
 
-  own_known : own_call n t < length n.calls
-  own_known = omega (arith, h.own t)
-
   tells_nothing : Told Look
   tells_nothing = record { step = ap (λ x. x + 1) h.step; head = h.head; tail = h.tail; heads = h.heads; tails = h.tails; owner = h.owner; settled = h.settled; point = h.point; own = h.own; head_seen = h.head_seen; begun = h.begun; calls = h.calls }
 

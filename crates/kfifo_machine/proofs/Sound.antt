@@ -77,19 +77,10 @@ opening_sound shape threads = opens shape (2 + shape.n * shape.k) threads refl
 pub sound : (shape : Shape) (threads : ℕ) (events : List Event) (here : World) → after shape threads events ≡ Some here → IsState shape here.words here.places
 sound shape threads events here is = run_sound shape (opening shape threads) here events (opening_sound shape threads) is
 
--- each thread that is in a call stands at a place
-pub sound_place : (shape : Shape) (threads : ℕ) (events : List Event) (here : World) (thread : ℕ) (running : Running)
-    → after shape threads events ≡ Some here → place_of here thread ≡ Some running → IsPlace shape running
-sound_place shape threads events here thread running is at = place_is shape here thread running (sound shape threads events here is) at
-
 -- word 0 names segments, with a version within bounds
 pub sound_ends : (shape : Shape) (threads : ℕ) (events : List Event) (here : World) → after shape threads events ≡ Some here → IsEnds shape (word_at here 0)
 unfolding word_at
 sound_ends shape threads events here is = (sound shape threads events here is).ends
-
--- the number of words
-pub sound_size : (shape : Shape) (threads : ℕ) (events : List Event) (here : World) → after shape threads events ≡ Some here → length here.words ≡ 2 + shape.n * shape.k
-sound_size shape threads events here is = (sound shape threads events here is).size
 
 -- the number of threads
 pub sound_threads : (shape : Shape) (threads : ℕ) (events : List Event) (here : World) → after shape threads events ≡ Some here → length here.places ≡ threads

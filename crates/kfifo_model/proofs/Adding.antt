@@ -13,7 +13,7 @@ use Rattle.std.specs.List.Sorted.{IsPermutation}
 use Rattle.kfifo_model.specs.declared.calls.Call.{Call}
 use Rattle.kfifo_model.specs.Reach.{Reach}
 use Rattle.kfifo_model.proofs.Resting.{opening, opening_sound, opening_complete, none_counted}
-use Rattle.kfifo_model.specs.Searching.{HasOrder, Extends, IsNoNext, IsFurther, LeadsTo, IsAdded, IsLevel, IsNextLevel, done_count}
+use Rattle.kfifo_model.specs.Searching.{HasOrder, Extends, IsNoNext, IsFurther, IsAdded, IsLevel, IsNextLevel, done_count}
 
 pub on_ok_map : {T E : Type 0} (r : Result T E) (P Q : Type 0) → (P → Q) → OnOk r P → OnOk r Q
 on_ok_map (Ok x) P Q f h = f h
@@ -35,15 +35,6 @@ added_none k h r before Said s = record {
   further = All-nil (IsFurther r);
   sound = All-nil (λ t. Extends k h t → Extends k h r);
   complete = λ a. s;
-}
-
-pub added_one : (k : ℕ) (h : List Call) (r : Reach) (before after : List Reach) (n : ℕ) (t : Reach) → LeadsTo k h r n t → after ≡ before ++ t ∷ [] → IsAdded k h r before after (IsNoNext k h r n)
-added_one k h r before after n t leads e = record {
-  added = t ∷ [];
-  is = e;
-  further = all_one (IsFurther r) t leads.further;
-  sound = all_one (λ s. Extends k h s → Extends k h r) t leads.sound;
-  complete = λ a rest g. a 0 t (omega arith) (leads.complete rest g);
 }
 
 pub added_as : (k : ℕ) (h : List Call) (r : Reach) (before after : List Reach) (P Q : Type 0) → (P → Q) → IsAdded k h r before after P → IsAdded k h r before after Q
@@ -225,6 +216,3 @@ found_at k h count level others e at a =
 
 pub level_along : (k : ℕ) (h : List Call) (level others next : List Reach) → others ≡ level → IsNextLevel k h others next → IsNextLevel k h level next
 level_along k h level others next e n = let P : List Reach → Type 0 = λ t. IsNextLevel k h t next in subst P e n
-
-pub sized_along : (h : List Call) (count : ℕ) (level others : List Reach) → others ≡ level → IsLevel h count level → All (λ r. length r.done ≡ length h) others
-sized_along h count level others e l = let P : List Reach → Type 0 = λ t. All (λ r. length r.done ≡ length h) t in subst P (sym e) (λ j d lt. (l j d lt).0)

@@ -49,12 +49,6 @@ once_more h kind n f g x i j li lj a b =
       | inr d ↦ elim (at_below n j lj) [ inl q ↦ absurd (g x j q b (ap (does h) (sym d) ∙ a)) | inr e ↦ d ∙ sym e ]
     ]
 
-pub index_none : (h : List Call) (kind : Kind) (g : ℕ → Option ℕ) → ((x : ℕ) → g x ≡ None) → IsIndex h kind 0 g
-index_none h kind g none = record {
-  finds = λ x. let P : Option ℕ → Type 0 = λ o. Finds h kind 0 x o in subst P (sym (none x)) (λ j lt e. absurd (omega arith));
-  once = λ x i j li lj a b. absurd (omega arith);
-}
-
 pub index_skip : (h : List Call) (kind : Kind) (n : ℕ) (g : ℕ → Option ℕ) → IsIndex h kind n g → ((x : ℕ) → does h n ≡ kind_effect kind x → ⊥) → IsIndex h kind (n + 1) g
 index_skip h kind n g i f = record {
   finds = λ x. finds_skip h kind n x (g x) (i.finds x) (f x);
@@ -80,13 +74,6 @@ index_more h kind n x f g k i new e first here others = record {
   ];
   once = once_more h kind n i.once (λ q j lt a b. let s = one_effect kind q x (sym b ∙ e) in let P : ℕ → Type 0 = λ w. does h j ≡ kind_effect kind w in found_none h kind n x (g x) new (i.finds x) j lt (subst P s a));
 }
-
-some_first : (h : List Call) (kind : Kind) (n x t : ℕ) (o : Option ℕ) → o ≡ Some t → Finds h kind n x o → (j : ℕ) × (j < n) × (does h j ≡ kind_effect kind x)
-some_first h kind n x t None e f = absurd (cc)
-some_first h kind n x t (Some s) e f = (f.0, f.1, f.2)
-
-pub has_two : (h : List Call) (kind : Kind) (n x t : ℕ) (g : ℕ → Option ℕ) → n < length h → IsIndex h kind n g → g x ≡ Some t → does h n ≡ kind_effect kind x → HasTwo h kind
-has_two h kind n x t g lt i e d = let p = some_first h kind n x t (g x) e (i.finds x) in (x, p.0, n, p.1, lt, p.2, d)
 
 not_equal : (a b : Bool) → b ≡ false → is_eq (cond a Less (cond b Equal Greater)) ≡ false
 not_equal true b e = refl

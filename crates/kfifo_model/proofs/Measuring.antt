@@ -1,5 +1,5 @@
 -- The facts that the measures' loops end with.
-use Rattle.std.proofs.Common.{ℕ, suc, ◌≡◌, ◌≢◌, ◌+◌, ◌<◌, ◌≤◌, Bool, true, false, List, [], ◌∷◌, ◌++◌, length, map, take, drop, get_or, refl, sym, ◌∙◌, ap, subst, inl, inr, arith, Option, Some, None, append_assoc, length-append}
+use Rattle.std.proofs.Common.{ℕ, suc, ◌≡◌, ◌≢◌, ◌+◌, ◌<◌, Bool, true, false, List, [], ◌∷◌, ◌++◌, length, map, take, drop, get_or, refl, sym, ◌∙◌, ap, subst, inl, inr, arith, Option, Some, None, append_assoc, length-append}
 use Rattle.std.specs.List.{filter, range_with_len}
 use Rattle.std.proofs.lemmas.Bool.{cases_lt, cases_order, cond-true, cond-false}
 use Rattle.std.proofs.lemmas.List.{drop_more, map-append, take-append-drop}
@@ -10,8 +10,8 @@ use Rattle.kfifo_model.specs.declared.calls.Op.{Op}
 use Rattle.kfifo_model.specs.declared.calls.Op.TheVariants.{Enqueue, Dequeue}
 use Rattle.kfifo_model.specs.declared.orders.Verdict.{Verdict}
 use Rattle.kfifo_model.specs.declared.orders.Verdict.TheVariants.{Legal, Repeats, NotACall, LeavesOut, BreaksBefore, NotARun}
-use Rattle.kfifo_model.specs.Lists.{IsIn, place}
-use Rattle.kfifo_model.specs.Relaxed.{Effect, Adds, Takes, Finds_none, Refused, Wrong, IsRun, next, effect}
+use Rattle.kfifo_model.specs.Lists.{IsIn}
+use Rattle.kfifo_model.specs.Relaxed.{Effect, Adds, IsRun, next, effect}
 use Rattle.kfifo_model.specs.Histories.{does, effect_at, IsLegal}
 use Rattle.kfifo_model.specs.Overtaking.{numbers_of}
 use Rattle.kfifo_model.specs.Verdicts.{IsVerdict, IsTried}
@@ -20,22 +20,8 @@ use Rattle.kfifo_model.specs.declared.orders.Tried.TheVariants as Tries
 use Rattle.kfifo_model.specs.declared.orders.Tried.TheVariants.{Went, Took}
 use Rattle.kfifo_model.specs.Ranks.{rank, ranks_at}
 use Rattle.kfifo_model.specs.Measures.{SharesItem, RepeatsEarlier, HasDistinctItems, EndsDone}
-use Rattle.kfifo_model.proofs.Greedy.{run_on, no_run, place_least}
+use Rattle.kfifo_model.proofs.Greedy.{run_on, no_run}
 use Rattle.kfifo_model.proofs.Ranges.{in_range, into_range, range_push}
-
--- a rank in a run is below k
-pub rank_small : (k : ℕ) (items : List ℕ) (e : Effect) (r : ℕ) (es : List Effect) → r ∷ [] ≡ rank items e → IsRun k items (e ∷ es) → r < k
-rank_small k items (Takes x) r es q run =
-    let s = run.1 in
-    let p = place_least items x s.0 s.2 in
-    let lt : s.0 < k = s.1 in
-    let le : place items x ≤ s.0 = p.0 in
-    let same : r ≡ place items x = cc in
-    omega arith
-rank_small k items (Adds x) r es q run = absurd (cc)
-rank_small k items Finds_none r es q run = absurd (cc)
-rank_small k items Refused r es q run = absurd (cc)
-rank_small k items Wrong r es q run = absurd (cc)
 
 -- the ranks so far, and those of what is left
 pub record Ranked (k : ℕ) (h : List Call) (order found items : List ℕ) (i : ℕ) (total : List ℕ) : Type 0 where

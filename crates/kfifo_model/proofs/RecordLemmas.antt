@@ -136,9 +136,6 @@ known_object (object ns) ms q = let e : ns ≡ ms = cc in ap are_keys e
 pub members_array : (d : Data) (ds : List Data) → Some (items_of ds) ≡ as_array d → members d ≡ Some ds
 members_array d ds q = ap (option_map list_of) (sym q) ∙ ap (λ t. Some t) (list_of-items_of ds)
 
-pub members_none : (d : Data) → as_array d ≡ None → members d ≡ None
-members_none d q = ap (option_map list_of) q
-
 -- one more call
 pub read_more : (ds : List Data) (h : List Call) (c : Call) (n : ℕ) → length h ≡ n → AreRead ds h → IsRead (at ds n) (Ok c) → AreRead ds (h ++ c ∷ [])
 read_more ds h c n len r i j lt =

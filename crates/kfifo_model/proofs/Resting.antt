@@ -252,15 +252,6 @@ cannot_finish k h r x w gone never g =
 
 -- ---- ends
 
-pub complete_extends : (k : ℕ) (h : List Call) (r : Reach) → IsComplete h r.done → Extends k h r
-complete_extends k h r c = (
-  [],
-  record {
-    is_rest = record { distinct = tt; calls = tt; fresh = λ n i d. i; complete = λ n f. inl (c n f); before = tt };
-    is_run = tt;
-  },
-)
-
 none_by : (k : ℕ) (h : List Call) (r : Reach) (rest : List ℕ) → IsHistory h → (IsComplete h r.done → ⊥) → ((n : ℕ) → n < length h → IsNoNext k h r n) → GoesOn k h r rest → ⊥
 none_by k h r [] v open_ f g = open_ (λ n e. elim (g.is_rest.complete n e) [ inl d ↦ d | inr i ↦ absurd i ])
 none_by k h r (n ∷ rest) v open_ f g = f n (rest_free h r.done n rest v g.is_rest).inside rest g
