@@ -6,11 +6,10 @@ ghost use Rattle.kfifo_live.specs.Pass.{queue_of, new_passes};
 ghost use Rattle.kfifo_live.specs.declared.fault.OpenFault.TheVariants.{ThreadsOutOfRange};
 
 use crate::fault::OpenFault;
-use crate::law::Law;
 use crate::queue::{Pass, Queue};
 use crate::seats::give_rest;
-use crate::view::{Opening, View};
-use atomic_table::{Seat, Shared, Table};
+use crate::view::{Opening, ThreadSeat, Words};
+use atomic_table::Table;
 use kfifo_machine::MAX_THREADS;
 use kfifo_words::Shape;
 use std::alloc::{AllocError, Global};
@@ -18,8 +17,8 @@ use std::alloc::{AllocError, Global};
 /// A pass for each thread, which has seen nothing.
 fn deal(
     alloc: Global,
-    shared: &Shared<(), View, Opening, Law>,
-    mut seat: Seat<(), View>,
+    shared: &Words,
+    mut seat: ThreadSeat,
     threads: u32,
 ) -> Result<Vec<Pass>, AllocError>
     requires table { (seat.table_id ≡ shared.now.table_id) × (0 < shared.now.table_id.words) }

@@ -9,14 +9,14 @@ use Rattle.kfifo_live.proofs.meeting.meet.Goals as goal
 
 pub invariant_of-second : goal.invariant_of-second
 invariant_of-second c =
-    met _ _ _ c.second.inside.seat.me c.give_rest.new.seat.me c.give_all-whole.result.me.0 c.gather.new.seat.me.0 c.glance.new.seat.me.0 c.second.invariant
-    (c.give_rest.ensures.same.1 ∙ c.glance.ensures.same.1 ∙ c.gather.ensures.same.1)
-    c.gather.ensures.both c.glance.ensures.looks c.give_rest.ensures.kept
+    met _ _ _ c.second.inside.seat.me c.give_rest.new.seat.me c.give_all-whole.result.me.0 c.gather.new.seat.me.0 c.observe.new.seat.me.0 c.second.invariant
+    (c.give_rest.ensures.same.1 ∙ c.observe.ensures.same.1 ∙ c.gather.ensures.same.1)
+    c.gather.ensures.both c.observe.ensures.looks c.give_rest.ensures.kept
 
 pub returns-clause-exactly : goal.returns-clause-exactly
 returns-clause-exactly c before =
-    let begins = both_begin c.give_all-whole.result.me.0 c.gather.new.seat.me.0 c.first.inside.thread c.second.inside.thread c.first.inside.seat.me c.second.inside.seat.me _ _ c.glance.new.seat.me.0
-    c.first.invariant c.second.invariant c.give_all-whole.ensures.given.1 c.gather.ensures.both c.glance.ensures.looks in
+    let begins = both_begin c.give_all-whole.result.me.0 c.gather.new.seat.me.0 c.first.inside.thread c.second.inside.thread c.first.inside.seat.me c.second.inside.seat.me _ _ c.observe.new.seat.me.0
+    c.first.invariant c.second.invariant c.give_all-whole.ensures.given.1 c.gather.ensures.both c.observe.ensures.looks in
     let P : Known × Known → Type 0 = λ x. StartsWith x.1.seen before → StartsWith before x.0.seen → own x.0.thread before ≡ own x.0.thread x.0.seen in
     subst P (λ i. (c.first.view_is i, c.second.view_is i)) (exactly_own c.first.inside.thread c.second.inside.thread _ _ before _ begins.0 begins.1)
 
