@@ -29,8 +29,8 @@ added-made call answer old new run =
 pub takes_few_steps : (call : Begin) (answer : Answer) (old new : Known) → Makes call answer old new → TakesFewSteps call old new
 takes_few_steps call answer old new run =
     let here : world_after old.opened (old.seen ++ (run.between ++ run.last ∷ [])) ≡ Some run.world =
-        ap (world_after old.opened) (sym (append_assoc old.seen run.between (run.last ∷ [])))
-        ∙ after-snoc old.opened.shape old.opened.threads (old.seen ++ run.between) run.before run.last run.reached ∙ ap world_of run.ends in
+    ap (world_after old.opened) (sym (append_assoc old.seen run.between (run.last ∷ [])))
+    ∙ after-snoc old.opened.shape old.opened.threads (old.seen ++ run.between) run.before run.last run.reached ∙ ap world_of run.ends in
     let few = few_events old.opened.shape old.opened.threads old.thread call old.seen (run.between ++ run.last ∷ []) run.world here run.one_call in
     subst (λ (es : List Event). length (own old.thread es) ≤ most_events old.opened.shape call) (sym (added-made call answer old new run)) few
 

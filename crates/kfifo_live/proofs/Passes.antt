@@ -91,7 +91,7 @@ made call answer thread old new now p is runs =
     let run = whole call old.me.0 new.me.0 answer runs.leads in
     let o = old.me.0.opened in
     let of_thread : WholeRun o.shape o.threads thread call answer (seen_of old.me.0) (seen_of new.me.0) =
-        subst (λ (t : ℕ). WholeRun o.shape o.threads t call answer (seen_of old.me.0) (seen_of new.me.0)) (pass_thread thread old.me p) run in
+    subst (λ (t : ℕ). WholeRun o.shape o.threads t call answer (seen_of old.me.0) (seen_of new.me.0)) (pass_thread thread old.me p) run in
     subst (λ (k : Known). Makes call answer k (known_of new.table_id thread new.me.0)) is of_thread
 
 -- after a look with another's parts beside its own, which it then gives back

@@ -1,5 +1,5 @@
 -- The slots of a segment that a scan looks at, in the two rows in which they stand side by side.
-use Rattle.std.proofs.Common.{◌≡◌, ◌≢◌, ℕ, ◌+◌, ◌-◌, ◌*◌, ◌%◌, ◌^◌, ◌<◌, ◌≤◌, ap, ◌∙◌, sym, refl, arith, Bool, true, false, cond, eq-eqb, ne_eqb}
+use Rattle.std.proofs.Common.{◌≡◌, ◌≢◌, ℕ, ◌+◌, ◌-◌, ◌*◌, ◌%◌, ◌^◌, ◌<◌, ◌≤◌, ap, subst, ◌∙◌, sym, refl, arith, Bool, true, false, cond, eq-eqb, ne_eqb}
 use Rattle.std.specs.Prelude.{◌==◌}
 use Rattle.std.proofs.lemmas.Bool.Decides.{nat_tests}
 use Rattle.std.proofs.Math.Nat.{mod-eq_of_lt, add-mod_left, mul-le-mul_right}
@@ -9,7 +9,12 @@ use Rattle.kfifo_machine.specs.Program.{advance, scan_index}
 use Rattle.kfifo_machine.specs.declared.place.Found.{Found}
 use Rattle.kfifo_machine.specs.declared.place.Found.TheVariants.{Slot, Nothing}
 use Rattle.kfifo_machine.specs.declared.place.Next.TheVariants.{Goes}
+use Rattle.atomic_table.specs.declared.shared.Seat.{Seat}
+use Rattle.kfifo_live.specs.declared.ring.Ring.{Ring}
+use Rattle.kfifo_live.specs.declared.view.View.{View}
+use Rattle.kfifo_live.specs.Step.{Stands, Onward}
 use Rattle.kfifo_live.specs.Scans.{Scan, Row, after_row}
+use Rattle.kfifo_live.proofs.Whole.{onward_here}
 
 -- the indexes of a segment's slots are far below 2^32
 pub below_all : (shape : Shape) (segment : ℕ) → segment < shape.n → slot_at shape.k segment 0 + shape.k < 2 ^ 32
@@ -18,25 +23,32 @@ below_all shape segment inside =
     let k = shape.few_slots in
     omega arith
 
--- the slots from the start on, as far as the end of the segment
-pub upper_each : (shape : Shape) (segment start origin first count : ℕ) → origin ≡ slot_at shape.k segment 0 → first ≡ origin + start → start + count ≤ shape.k
-    → (i : ℕ) → i < count → scan_index shape segment start (0 + i) ≡ first + i
+-- the slot at which a scan begins
+pub starts_at : (shape : Shape) (segment start origin index : ℕ) → origin ≡ slot_at shape.k segment 0 → index ≡ origin + start → start < shape.k → scan_index shape segment start 0 ≡ index
+unfolding scan_index
+starts_at shape segment start origin index at is within =
+    let here : (start + 0) % shape.k ≡ start = ap (λ n. n % shape.k) (let e : start + 0 ≡ start = omega arith in e) ∙ mod-eq_of_lt within in
+    omega (arith, at, is, here)
+
+-- the slots behind it, as far as the end of the segment
+pub upper_each : (shape : Shape) (segment start origin first count : ℕ) → origin ≡ slot_at shape.k segment 0 → first ≡ (origin + start) + 1 → start + 1 + count ≤ shape.k
+    → (i : ℕ) → i < count → scan_index shape segment start (1 + i) ≡ first + i
 unfolding scan_index
 upper_each shape segment start origin first count at is fits i less =
-    let here : (start + (0 + i)) % shape.k ≡ start + i = ap (λ n. n % shape.k) (let e : start + (0 + i) ≡ start + i = omega arith in e) ∙ mod-eq_of_lt (omega arith) in
+    let here : (start + (1 + i)) % shape.k ≡ start + (1 + i) = mod-eq_of_lt (omega arith) in
     omega (arith, at, is, here)
 
 abbrev pub upper_row : {shape : Shape} {stops : ℕ → Bool} {segment start limit : ℕ} → Scan shape stops segment start limit
-    → (origin first count : ℕ) → origin ≡ slot_at shape.k segment 0 → first ≡ origin + start → segment < shape.n → start + count ≤ shape.k → 0 < count → count ≤ limit → Row shape stops first count
+    → (origin first count : ℕ) → origin ≡ slot_at shape.k segment 0 → first ≡ (origin + start) + 1 → segment < shape.n → start + 1 + count ≤ shape.k → 0 < count → 1 + count ≤ limit → Row shape stops first count
 upper_row {shape} {stops} {segment} {start} {limit} scan origin first count at is inside fits some within = record {
   segment = segment;
   start = start;
   limit = limit;
   scan = scan;
-  offset = 0;
+  offset = 1;
   some = some;
   below = (let b = below_all shape segment inside in omega (arith, at, is, b));
-  within = omega arith;
+  within = within;
   each = upper_each shape segment start origin first count at is fits;
 }
 
@@ -100,3 +112,10 @@ row_ends {shape} {stops} {first} {count} row all Nothing = ap (λ b. cond b (row
 -- and else the scan goes on behind it
 pub row_left : {shape : Shape} {stops : ℕ → Bool} {first count : ℕ} → (row : Row shape stops first count) → row.offset + count < row.limit → after_row row Nothing ≡ Goes (row.scan.looking (row.offset + count))
 row_left {shape} {stops} {first} {count} row less = ap (λ b. cond b (row.scan.leads Nothing) (Goes (row.scan.looking (row.offset + count)))) (ne_eqb (row.offset + count) row.limit (λ same. omega arith))
+
+-- before the first slot of a row the scan stands at it
+pub onward_first : {S : Type 0} {ring : Ring} {stops : ℕ → Bool} {seat : Seat S View} {first count : ℕ} → (row : Row ring.shape.now stops first count) → Stands ring seat (row.scan.looking row.offset)
+    → Onward ring seat (row.scan.looking (row.offset + (first - first))) seat
+onward_first {S} {ring} {stops} {seat} {first} row stands =
+    let e : row.offset ≡ row.offset + (first - first) = omega arith in
+    onward_here (subst (λ (n : ℕ). Stands ring seat (row.scan.looking n)) e stands)

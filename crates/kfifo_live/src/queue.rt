@@ -85,6 +85,7 @@ impl Pass {
     ///
     /// What the pass has then seen keeps the promise: a legal order of its calls, this one among
     /// them, in which no item is overtaken k times where items are distinct.
+    #[inline(always)]
     pub fn enqueue(&mut self, queue: &Queue, item: u32, start: u32, turns: u16) -> Answer
         requires of { IsOf queue.now self.old }
         requires item { (1 ≤ item) × (item < 2 ^ 24) }
@@ -115,6 +116,7 @@ impl Pass {
     ///
     /// What the pass has then seen keeps the promise: a legal order of its calls, this one among
     /// them, in which no item is overtaken k times where items are distinct.
+    #[inline(always)]
     pub fn dequeue(&mut self, queue: &Queue, start: u32, turns: u16) -> Answer
         requires of { IsOf queue.now self.old }
         requires start { start < queue.now.opened.shape.k }

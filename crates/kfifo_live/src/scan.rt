@@ -62,6 +62,45 @@ impl Ring<'_> {
         }
     }
 
+    /// The same, two slots at a time, which takes fewer instructions where the row is long.
+    ///
+    /// It is for the second row of a scan, which few scans come to but those of an empty segment.
+    #[inline(always)]
+    fn scan_row_by_two<W: Wanted>(self, seat: &mut ThreadSeat, first: usize, count: u32) -> Found
+        requires row { (row : Row self.shape.now W.stops first count) × Stands self seat.old (row.scan.looking row.offset) }
+        ensures { (row : Row self.entry.shape.now W.stops first count) → Stands self.entry seat.old (row.scan.looking row.offset) → Comes seat.old (after_row row result) seat.new }
+    {
+        let end = first + count as usize;
+        let mut index = first;
+        if count % 2 == 1 {
+            let word = self.load(seat, index);
+            if W::is_wanted(word) {
+                return Found::Slot { index, word };
+            }
+            index += 1;
+            if index == end {
+                return Found::Nothing;
+            }
+        }
+        'pairs: loop {
+            let word = self.load(seat, index);
+            if W::is_wanted(word) {
+                return Found::Slot { index, word };
+            }
+            let next = self.load(seat, index + 1);
+            if W::is_wanted(next) {
+                return Found::Slot {
+                    index: index + 1,
+                    word: next,
+                };
+            }
+            index += 2;
+            if index == end {
+                return Found::Nothing;
+            }
+        }
+    }
+
     /// Looks for a filled slot of a segment, or for an empty one: at `limit` slots, cyclically from `start`.
     #[inline(always)]
     pub(crate) fn scan<W: Wanted>(
@@ -78,14 +117,24 @@ impl Ring<'_> {
         ensures { (scan : Scan self.entry.shape.now W.stops segment start limit) → Stands self.entry seat.old (scan.looking 0) → Comes seat.old (scan.leads result) seat.new }
     {
         let origin = self.shape.slot_index(segment, 0);
-        let upper = limit.min(self.shape.k() - start);
-        let found = self.scan_row::<W>(seat, origin + start as usize, upper);
-        if let Found::Slot { index, word } = found {
+        let index = origin + start as usize;
+        let word = self.load(seat, index);
+        if W::is_wanted(word) {
             return Found::Slot { index, word };
         }
-        if upper == limit {
+        if limit == 1 {
             return Found::Nothing;
         }
-        self.scan_row::<W>(seat, origin, limit - upper)
+        let upper = (limit - 1).min(self.shape.k() - start - 1);
+        if upper == 0 {
+            return self.scan_row_by_two::<W>(seat, origin, limit - 1);
+        }
+        if let Found::Slot { index, word } = self.scan_row::<W>(seat, index + 1, upper) {
+            return Found::Slot { index, word };
+        }
+        if upper + 1 == limit {
+            return Found::Nothing;
+        }
+        self.scan_row_by_two::<W>(seat, origin, limit - 1 - upper)
     }
 }
