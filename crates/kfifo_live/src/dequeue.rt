@@ -28,6 +28,7 @@ impl Dequeue<'_> {
         requires { Stands self.ring seat.old (dequeue_at self (DequeuePhase.Take ends index filled)) }
         ensures { Comes seat.old (dequeue_round self.entry result) seat.new }
     {
+        // The version rises with each take, so that of two dequeues that read the item one loses.
         let emptied = Word::pack(0, filled.version() + 1);
         if self.ring.exchange(seat, index, filled, emptied) != filled {
             return None;
@@ -65,9 +66,12 @@ impl Dequeue<'_> {
         requires { Stands self.ring seat.old (dequeue_at self (DequeuePhase.Recheck ends (Found.Slot index filled))) }
         ensures { Comes seat.old (dequeue_round self.entry result) seat.new }
     {
+        // The segment may no longer be the head's: the item would not be one of the k oldest.
         if self.ring.load_ends(seat) != ends {
             return None;
         }
+        // Head and tail in one segment: while enqueues still fill it, more than k items could go through
+        // it, and overtake one that stays. So the tail leaves the segment before an item is taken.
         if ends.tail() != ends.head() {
             return self.take(seat, ends, index, filled);
         }
@@ -83,6 +87,8 @@ impl Dequeue<'_> {
         requires { Stands self.ring seat.old (dequeue_at self (DequeuePhase.Recheck ends Found.Nothing)) }
         ensures { Comes seat.old (dequeue_round self.entry result) seat.new }
     {
+        // An item may have been put into a slot after it was seen empty. It is not Done before the head is
+        // held, which changes the ends word: without this look Empty would be answered though it is there.
         if self.ring.load_ends(seat) != ends {
             return None;
         }

@@ -29,7 +29,8 @@ impl Enqueue<'_> {
         requires { Stands self.ring seat.old (enqueue_at self (EnqueuePhase.Undo index filled worn)) }
         ensures { Comes seat.old (enqueue_round self.entry result) seat.new }
     {
-        // The version rises: a dequeue that has read the item may not take what is put here next.
+        // The version rises. If it went back to that of the empty slot, an enqueue that has read the slot
+        // as empty could put its item long after, in a segment that is no longer the tail's (ABA).
         let emptied = Word::pack(0, filled.version() + 1);
         if self.ring.exchange(seat, index, filled, emptied) != filled {
             return Some(Answer::Done);
@@ -49,6 +50,8 @@ impl Enqueue<'_> {
         requires { Stands self.ring seat.old (enqueue_at self (EnqueuePhase.HoldHead index filled ends)) }
         ensures { Comes seat.old (enqueue_round self.entry result) seat.new }
     {
+        // A dequeue may have seen this slot empty, before the put, and be about to move the head on. It
+        // would pass the item: raising the version makes its compare-and-swap fail.
         let held = Ends::pack(ends.head(), ends.tail(), ends.version() + 1);
         let found = self.ring.exchange(seat, ENDS, ends.into(), held.into());
         if found == ends.into() {
@@ -73,6 +76,9 @@ impl Enqueue<'_> {
             }
             return self.hold_head(seat, now, index, filled);
         }
+        // Between the look at the ends and the put, others may have filled and emptied the segment, and
+        // the head have moved on past it. Done would then leave the item behind the head: a dequeue
+        // could answer Empty while it is there.
         let tail = now.tail();
         if segment == tail || shape.dist(head, segment) <= shape.dist(head, tail) {
             return Some(Answer::Done);
@@ -105,6 +111,7 @@ impl Enqueue<'_> {
         requires { Stands self.ring seat.old (enqueue_at self (EnqueuePhase.ReloadSlot ends index filled)) }
         ensures { Comes seat.old (enqueue_round self.entry result) seat.new }
     {
+        // Where a dequeue has taken the item already, no place in the queue is left to be made sure of.
         if self.ring.load(seat, index) != filled {
             return Some(Answer::Done);
         }
@@ -124,6 +131,8 @@ impl Enqueue<'_> {
         if ends.version() == shape.last() {
             return Some(Answer::Worn);
         }
+        // The round ends here, won or lost. Moving the tail as well, after a move of the head that was
+        // lost, would let the tail meet the head: a full ring would look empty.
         self.ring.move_head(seat, ends);
         None
     }
@@ -134,6 +143,8 @@ impl Enqueue<'_> {
         requires { Stands self.ring seat.old (enqueue_at self (EnqueuePhase.ConfirmFull ends)) }
         ensures { Comes seat.old (enqueue_round self.entry result) seat.new }
     {
+        // The slots were looked at one after the other. Only if head and tail have not moved since were
+        // they those of the tail's and the head's segment, all in one round.
         if self.ring.load_ends(seat) == ends {
             Some(Answer::Full)
         } else {
@@ -148,6 +159,7 @@ impl Enqueue<'_> {
         ensures { Comes seat.old (enqueue_round self.entry result) seat.new }
     {
         let shape = self.ring.shape;
+        // The segment was seen filled while it was the tail's only if head and tail stand as before.
         if self.ring.load_ends(seat) != ends {
             return None;
         }
@@ -173,9 +185,12 @@ impl Enqueue<'_> {
         requires { Stands self.ring seat.old (enqueue_at self (EnqueuePhase.Recheck ends (Found.Slot index empty))) }
         ensures { Comes seat.old (enqueue_round self.entry result) seat.new }
     {
+        // The segment may no longer be the tail's. An item put there would stand behind items that came
+        // later, and be overtaken by them.
         if self.ring.load_ends(seat) != ends {
             return None;
         }
+        // A put needs a version, and the one that empties the slot again another.
         if self.ring.shape.last() < empty.version() + 2 {
             return Some(Answer::Worn);
         }
