@@ -14,7 +14,7 @@ use Rattle.kfifo_machine.proofs.Schedules.{own-append, run_on, same_place, still
 use Rattle.kfifo_live.specs.declared.view.Opening.{Opening}
 use Rattle.kfifo_live.specs.declared.view.Part.{Part}
 use Rattle.kfifo_live.specs.declared.view.View.{View}
-use Rattle.kfifo_live.specs.Schedule.{part, view_of, world_after, thread_in, thread_of, more_in, seen_of, with_seen, AllBegin, first_part, both_parts}
+use Rattle.kfifo_live.specs.Schedule.{part, view_of, world_after, thread_in, thread_of, more_in, seen_of, with_seen, AllBegin, first_part, other_parts, no_part, both_parts}
 use Rattle.kfifo_live.specs.Step.{IsAt, Looks, Leads, Runs}
 use Rattle.kfifo_live.specs.Pass.{Known, StartsWith, IsPass, known_of, Finds}
 use Rattle.kfifo_live.specs.Promise.{KeepsPromise}
@@ -104,6 +104,14 @@ met thread word found old new other both seen p held is l kept =
     passes_on thread old new l.all l.world p
     (kept ∙ ap first_part l.afterwards ∙ (λ i. view_of (opened i) (part (thread_in (parts i)) l.all ∷ [])))
     (held ∙ p.held) b.0 (ap (λ (o : Opening). world_after o l.all) (sym opened) ∙ l.reached)
+
+-- the parts that were put behind a pass's own for a look come back as they were
+pub returned : (thread : ℕ) (old : Me (Unit {0}) View) (lent both seen rest back : View) (all : List Event) → IsPass thread old → both ≡ both_parts old.0 lent → seen ≡ with_seen both all → rest ≡ other_parts seen
+    → back ≡ both_parts (no_part lent) rest → back ≡ lent
+returned thread old lent both seen rest back all p both_is seen_is rest_is back_is =
+    let behind : both.parts ≡ part thread (seen_of old.0) ∷ lent.parts = ap (λ (v : View). v.parts) both_is ∙ ap (λ (ps : List Part). ps ++ lent.parts) p.alone in
+    let parts : rest.parts ≡ lent.parts = ap (λ (v : View). v.parts) (rest_is ∙ ap other_parts seen_is) ∙ ap more_in behind in
+    back_is ∙ ap (λ (ps : List Part). view_of lent.opened ps) parts
 
 -- a look at the schedule with the parts of two passes: each has seen a beginning of it with all its own events
 pub both_begin : (whole both : View) (thread other : ℕ) (old : Me (Unit {0}) View) (mine : Me (Unit {0}) View) (index word : ℕ) (seen : View)

@@ -7,3 +7,4 @@ pub mod Promise
 pub mod Pass
 pub mod Balance
 pub mod Calls
+pub mod Faults

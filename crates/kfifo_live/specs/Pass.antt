@@ -40,6 +40,10 @@ pub record IsPass (thread : ℕ) (me : Me (Unit {0}) View) : Type 0 where
   pub idle : IsAt None me.0
   pub few : me.0.opened.threads ≤ 64
 
+-- after the empty schedule each word of the opening is 0
+abbrev pub IsZeroed : Opening → Type 0
+IsZeroed o = (world : World) → world_after o [] ≡ Some world → (index : ℕ) → word_at world index ≡ 0
+
 -- the pass came from this opening
 abbrev pub IsOf : OpenQueue → Known → Type 0
 IsOf q p = (p.table ≡ q.table) × (p.opened ≡ q.opened)

@@ -99,7 +99,7 @@ fn gather_all(shared: &Words, mut seat: ThreadSeat, mut passes: Vec<Pass>) -> Th
 /// promise: a legal order of them, in which no item is overtaken k times where items are distinct.
 ///
 /// MissingPass where not each pass of the opening is there once, which is tested first; Memory where
-/// a growth was refused. The items are then lost to the caller.
+/// an allocation failed. The items are then lost to the caller.
 pub fn close(alloc: Global, queue: Queue, mut passes: Vec<Pass>) -> Result<Vec<u32>, CloseFault>
     requires { AllOf queue passes.items }
     ensures ok { IfOk result (λ items. Closes queue passes.items items.items) }

@@ -32,5 +32,6 @@ pub fn meet(queue: &Queue, first: &mut Pass, second: &mut Pass)
     let whole = give_all(shared, &mut first.seat);
     gather::<Brand>(shared, &mut second.seat, whole);
     observe(shared, &mut second.seat, 0);
-    first.seat = give_rest(shared, &mut second.seat);
+    let rest = give_rest(shared, &mut second.seat);
+    gather::<Brand>(shared, &mut first.seat, rest);
 }
