@@ -3,11 +3,11 @@ ghost use Rattle.std.specs.Prelude.{◌≡◌, ℕ, ◌+◌, ◌-◌, ◌^◌, �
 ghost use Rattle.kfifo_machine.specs.Machine;
 ghost use Rattle.kfifo_machine.specs.Machine.{place_of};
 ghost use Rattle.kfifo_machine.specs.declared.event.Event.{Event};
-ghost use Rattle.kfifo_linear.specs.Notes.{begins_call, deed_at};
+ghost use Rattle.kfifo_linear.specs.Notes.{begins_call, action_at};
 ghost use Rattle.kfifo_linear.specs.Following.{Follows};
 ghost use Rattle.kfifo_linear.specs.Order.{ledger_after_all, order_of, point};
 
-use crate::deed::Deed;
+use crate::action::Action;
 use crate::notes::Notes;
 use kfifo_machine::{Event, NotEnabled, Outcome, StartFault, State, start, step};
 use kfifo_words::{Ends, Shape, Word};
@@ -70,15 +70,15 @@ impl Linearizer {
     }
 
     /// What the next step of a thread will do; nothing, where it is in no call.
-    fn next_deed(&self, thread: u32) -> Deed
-        ensures { result ≡ deed_at self.now.shape self.now.world (place_of self.now.world thread) }
+    fn next_action(&self, thread: u32) -> Action
+        ensures { result ≡ action_at self.now.shape self.now.world (place_of self.now.world thread) }
     {
         match self.state.place(thread) {
-            None => Deed::Look,
+            None => Action::Other,
             Some(running) => {
                 let shape = self.state.shape();
                 let word = self.state.word(running.access(&shape).index());
-                Deed::of(&shape, running, Word::of_bits(word))
+                Action::of(&shape, running, Word::of_bits(word))
             }
         }
     }
@@ -98,9 +98,9 @@ impl Linearizer {
     {
         let shape = self.state.shape();
         let ends = Ends::of_bits(self.state.word(0));
-        let deed = self.next_deed(event.thread);
+        let action = self.next_action(event.thread);
         let outcome = step(&mut self.state, event)?;
-        self.notes.note(&shape, event, ends, deed, outcome);
+        self.notes.note(&shape, event, ends, action, outcome);
         Ok(outcome)
     }
 
