@@ -130,6 +130,20 @@ fn unfinished_enqueue(rt: HostRuntime) -> Result<(), Fail> {
         check_order(rt.alloc(), &history, 1, &[1])?,
         Verdict::NotARun(0)
     );
+    let misplaced = [1, 0];
+    assert_eq!(rt;
+        check_order(rt.alloc(), &history, 1, &misplaced)?,
+        Verdict::NotARun(0)
+    );
+    let early = History::new(vec![in rt.alloc(); put(1, 4, 0, 2), begun(0, 3, 3)]?)?;
+    assert_eq!(rt;
+        check_order(rt.alloc(), &early, 1, &misplaced)?,
+        Verdict::BreaksBefore
+    );
+    assert_eq!(rt;
+        check_order(rt.alloc(), &early, 1, &[0])?,
+        Verdict::Legal
+    );
     let alone = History::new(vec![in rt.alloc(); got(1, 3, 1, 7)]?)?;
     assert!(rt; !has_order(rt.alloc(), &alone, 1)?);
     let late = History::new(vec![in rt.alloc(); put(0, 3, 0, 10), got(1, 3, 1, 7)]?)?;
