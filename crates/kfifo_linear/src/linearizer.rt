@@ -52,8 +52,8 @@ fn points_of(alloc: Global, placed: &[(u64, usize)]) -> Result<Vec<u64>, AllocEr
 impl Linearizer {
     /// A linearizer of this many threads, with room for this many calls, that has followed no event.
     ///
-    /// ThreadsOutOfRange where the number of threads is not 1 to 64; Memory where a growth was
-    /// refused.
+    /// ThreadsOutOfRange where the number of threads is not 1 to 64; Memory where an allocation
+    /// failed.
     pub fn open(
         alloc: Global,
         shape: Shape,
@@ -117,7 +117,7 @@ impl Linearizer {
     }
 
     /// The linearization order of the events that it has followed, as numbers of calls by their first
-    /// events. Memory where a growth was refused.
+    /// events. Memory where an allocation failed.
     pub fn order(&self, alloc: Global) -> Result<Vec<usize>, AllocError>
         ensures { IfOk result (λ order. (threads room : ℕ) (events : List Event) → Follows threads room events self.now → threads ≤ 64
             → order.items ≡ order_of self.now.shape threads events) }
@@ -126,8 +126,8 @@ impl Linearizer {
         calls_of(alloc, placed.as_slice())
     }
 
-    /// The points of the calls in that order, each a step of the schedule. Memory where a growth was
-    /// refused.
+    /// The points of the calls in that order, each a step of the schedule. Memory where an allocation
+    /// failed.
     pub fn points(&self, alloc: Global) -> Result<Vec<u64>, AllocError>
         ensures { IfOk result (λ points. (threads room : ℕ) (events : List Event) → Follows threads room events self.now → threads ≤ 64
             → points.items ≡ map (point (ledger_after_all self.now.shape threads events)) (order_of self.now.shape threads events)) }
