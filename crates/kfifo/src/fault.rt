@@ -59,7 +59,7 @@ impl Fault {
         ensures { numbered result.words.now result.number result.call ≡ fault_text self }
     {
         match self {
-            Fault::Shape(fault) => Line::numbered("shape fault ", fault as usize),
+            Fault::Shape(fault) => Line::numbered("shape fault ", fault.number() as usize),
             Fault::Word(number) => Line::numbered("word fault at ", number),
             Fault::Order => Line::plain("order fault"),
             Fault::Input => Line::plain("input"),
