@@ -2,7 +2,7 @@
 ghost use Rattle.std.specs.Prelude.{◌≡◌, ◌<◌, ◌≤◌, ◌+◌, ◌*◌};
 ghost use Rattle.kfifo_live.specs.Pass.{IsOf, IsSame};
 
-use crate::{OpenFault, Pass, Queue};
+use crate::{CloseFault, OpenFault, Pass, Queue};
 use kfifo_machine::{Begin, Event, Outcome, State, start, step};
 use kfifo_model::Answer;
 use kfifo_words::{Ends, Shape, Word};
@@ -205,6 +205,22 @@ fn opens_with_one_pass_for_each_thread(rt: HostRuntime) -> Result<(), Fail> {
             assert_eq!(rt; pass.thread() as usize, place);
         }
     }
+    Ok(())
+}
+
+#[test]
+fn numbers_faults(rt: HostRuntime) -> Result<(), Fail> {
+    assert_eq!(rt; OpenFault::ThreadsOutOfRange.number(), 1);
+    assert_eq!(rt; OpenFault::Memory.number(), 2);
+    assert_eq!(rt; CloseFault::Memory.number(), 1);
+    assert_eq!(rt; CloseFault::MissingPass.number(), 2);
+    let text = OpenFault::ThreadsOutOfRange.to_string(rt.alloc())?;
+    assert_eq!(rt; text.as_str(), "the number of threads is not 1 to 64");
+    let text = CloseFault::MissingPass.to_string(rt.alloc())?;
+    assert_eq!(rt;
+        text.as_str(),
+        "not each pass of the queue's opening was given back once"
+    );
     Ok(())
 }
 

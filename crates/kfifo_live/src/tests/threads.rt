@@ -3,7 +3,7 @@ ghost use Rattle.std.specs.Prelude.{◌≡◌, ◌<◌, ◌≤◌, ◌+◌, ◌*
 ghost use Rattle.kfifo_live.specs.Pass.{AllOf, IsOf, IsSame};
 
 use super::{LAST, call, dequeue, draw, enqueue};
-use crate::{CloseFault, Pass, Queue, close, meet};
+use crate::{CloseFault, OpenFault, Pass, Queue, close, meet};
 use kfifo_machine::Begin;
 use kfifo_model::{Answer, Call, End, History, Op, has_order};
 use kfifo_words::Shape;
@@ -116,6 +116,29 @@ fn closes_only_with_each_pass(rt: HostRuntime) -> Result<(), Fail> {
     assert_eq!(rt; fault, CloseFault::MissingPass);
     let (queue, passes) = Queue::open(rt.alloc(), shape, 3)?;
     assert!(rt; close(rt.alloc(), queue, passes)?.is_empty());
+    Ok(())
+}
+
+#[test]
+fn opens_and_closes_the_greatest_queue(rt: HostRuntime) -> Result<(), Fail> {
+    let shape = Shape::new(64, 1_024, LAST)?;
+    let (queue, passes) = Queue::open(rt.alloc(), shape, 64)?;
+    assert_eq!(rt; passes.len(), 64);
+    assert!(rt; close(rt.alloc(), queue, passes)?.is_empty());
+    Ok(())
+}
+
+/// Holds whichever request for memory fails.
+#[test]
+fn refused_memory(rt: HostRuntime) -> Result<(), Fail> {
+    let shape = Shape::new(2, 2, LAST)?;
+    match Queue::open(rt.alloc(), shape, 3) {
+        Ok((queue, passes)) => match close(rt.alloc(), queue, passes) {
+            Ok(left) => assert!(rt; left.is_empty()),
+            Err(fault) => assert_eq!(rt; fault, CloseFault::Memory),
+        },
+        Err(fault) => assert_eq!(rt; fault, OpenFault::Memory),
+    }
     Ok(())
 }
 
@@ -272,12 +295,42 @@ fn loses_nothing_and_doubles_nothing(rt: HostRuntime) -> Result<(), Fail> {
         (3, 2, 1),
         (4, 4, 2),
         (8, 5, 8),
+        (1, 1_024, 1),
+        (64, 2, 64),
+        (64, 1_024, 64),
     ] {
         let shape = Shape::with_probes(k, n, LAST, probes)?;
         let (made, left) = race(&rt, rt.alloc(), shape, 50_000)?;
         let put = items_put(rt.alloc(), made.as_slice())?;
         let out = items_out(rt.alloc(), made.as_slice(), left.as_slice())?;
         assert!(rt; put.len() > 10_000, "{shape:?}");
+        assert!(rt; put == out, "{shape:?}");
+    }
+    Ok(())
+}
+
+/// How many calls were answered Worn.
+fn count_worn(made: &[Call]) -> usize {
+    made.iter()
+        .filter(|call| matches!(
+            &call.end,
+            Some(End {
+                answer: Answer::Worn,
+                ..
+            })
+        ))
+        .count()
+}
+
+#[test]
+fn wears_out_and_loses_nothing(rt: HostRuntime) -> Result<(), Fail> {
+    for (k, n, last) in [(1u32, 2u32, 60u64), (2, 3, 100), (4, 2, 200)] {
+        let shape = Shape::new(k, n, last)?;
+        let (made, left) = race(&rt, rt.alloc(), shape, 2_000)?;
+        let put = items_put(rt.alloc(), made.as_slice())?;
+        let out = items_out(rt.alloc(), made.as_slice(), left.as_slice())?;
+        assert!(rt; count_worn(made.as_slice()) > 0, "{shape:?}");
+        assert!(rt; !put.is_empty(), "{shape:?}");
         assert!(rt; put == out, "{shape:?}");
     }
     Ok(())
