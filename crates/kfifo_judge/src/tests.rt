@@ -217,6 +217,10 @@ fn too_many_members(rt: HostRuntime) -> Result<(), Fail> {
     let mut whole = FromStd::new(many.as_bytes());
     let found = check_stream(rt.alloc(), &mut whole, &mut sink, 2, None);
     assert_eq!(rt; found, Err(StreamFault::Record(RecordFault::TooMany)));
+    // A record that is too long is no record, also where an order is given.
+    let mut whole = FromStd::new(many.as_bytes());
+    let found = check_stream(rt.alloc(), &mut whole, &mut sink, 2, Some(&[]));
+    assert_eq!(rt; found, Err(StreamFault::Record(RecordFault::TooMany)));
     Ok(())
 }
 
@@ -242,6 +246,15 @@ fn thirteen_calls(rt: HostRuntime) -> Result<(), Fail> {
         None,
     );
     assert_eq!(rt; found, Err(StreamFault::Search(SearchFault::TooLong)));
+    // An order of as many calls is judged: unfinished enqueues may all be left out.
+    let found = check_stream(
+        rt.alloc(),
+        &mut source_of(text.as_str(), 0),
+        &mut sink,
+        2,
+        Some(&[]),
+    );
+    assert_eq!(rt; found, Ok(0));
     Ok(())
 }
 
@@ -250,19 +263,67 @@ fn blanks(alloc: Global, count: usize) -> Result<Vec<u8>, Fail> {
     Ok(vec![in alloc; b' '; count]?)
 }
 
+/// A source of so many spaces, in pieces of 4,096 bytes.
+fn long_source(blanks: &[u8]) -> FromStd<Pieces<'_>> {
+    FromStd::new(Pieces {
+        bytes: blanks,
+        step: 4_096,
+        fails_at: 0,
+        calls: 0,
+    })
+}
+
+/// One byte over the limit, which comes as a piece of its own, is too much; the limit itself is not.
 #[test]
 fn long_inputs(rt: HostRuntime) -> Result<(), Fail> {
-    let blank = blanks(rt.alloc(), 16_777_217)?;
+    let mut blank = blanks(rt.alloc(), 16_777_217)?;
     let mut sink = sink_with(rt.alloc(), 0, 0);
-    let mut long = FromStd::new(blank.as_slice());
+    let mut long = long_source(blank.as_slice());
     let found = check_stream(rt.alloc(), &mut long, &mut sink, 2, None);
     assert_eq!(rt; found, Err(StreamFault::Input));
-    assert_eq!(rt; long.failed, 0);
-    let less = blanks(rt.alloc(), 16_777_216)?;
-    let mut fits = FromStd::new(less.as_slice());
+    assert_eq!(rt; (long.inner.calls, long.failed), (4_097, 0));
+    let mut long = long_source(blank.as_slice());
+    let found = measure_stream(rt.alloc(), &mut long, &mut sink);
+    assert_eq!(rt; found, Err(StreamFault::Input));
+    blank.pop();
+    let mut fits = long_source(blank.as_slice());
     let found = measure_stream(rt.alloc(), &mut fits, &mut sink);
     assert_eq!(rt; found, Err(StreamFault::NotJson));
+    let mut fits = long_source(blank.as_slice());
+    let found = check_stream(rt.alloc(), &mut fits, &mut sink, 2, None);
+    assert_eq!(rt; found, Err(StreamFault::NotJson));
     assert_eq!(rt; sink.inner.calls, 0);
+    Ok(())
+}
+
+/// Faults of streams, and what is said of each.
+const TOLD: [(StreamFault, &str); 7] = [
+    (
+        StreamFault::Input,
+        "reading failed, or the input is over 16,777,216 bytes",
+    ),
+    (StreamFault::NotJson, "the input is no JSON text in UTF-8"),
+    (
+        StreamFault::Record(RecordFault::TooMany),
+        "the record has over 65,536 calls",
+    ),
+    (
+        StreamFault::Search(SearchFault::TooLong),
+        "the history has over 12 calls",
+    ),
+    (
+        StreamFault::RepeatedItem,
+        "an item is repeated: it was put or taken twice",
+    ),
+    (StreamFault::Memory, "out of memory"),
+    (StreamFault::Output, "the answer could not be written"),
+];
+
+#[test]
+fn tells_faults(rt: HostRuntime) -> Result<(), Fail> {
+    for (fault, said) in TOLD {
+        assert_eq!(&rt; format!(in rt.alloc(); "{fault}")?.as_str(), said);
+    }
     Ok(())
 }
 

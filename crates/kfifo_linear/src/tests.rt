@@ -218,11 +218,66 @@ fn a_long_schedule(rt: HostRuntime) -> Result<(), Fail> {
     Ok(())
 }
 
-/// Whichever request for memory fails, the answer is the refusal, or what it is without a failure.
+/// So many threads begin a dequeue each, and make so many events of it, in turn.
+fn in_turn(alloc: Global, threads: u32, events: u32) -> Result<Vec<Event>, AllocError> {
+    let first = Begin::Dequeue { start: 0, turns: 1 };
+    let mut all = Vec::new(alloc);
+    for round in 0..events {
+        for thread in 0..threads {
+            let begin = if round == 0 { Some(first) } else { None };
+            all.push(Event { thread, begin })?;
+        }
+    }
+    Ok(all)
+}
+
+/// 64 threads find a ring with segments of 64 slots empty: each call loads the ends, 64 slots and the
+/// ends again, and stands in the order at its last step.
+#[test]
+fn orders_64_threads(rt: HostRuntime) -> Result<(), Fail> {
+    let shape = Shape::new(64, 2, LAST)?;
+    let mut events = in_turn(rt.alloc(), 64, 66)?;
+    assert_eq!(&rt; events.len(), 4_224);
+    let order = linearize(rt.alloc(), shape, 64, &events)?;
+    let points = linearization_points(rt.alloc(), shape, 64, &events)?;
+    assert_eq!(&rt; (order.len(), points.len()), (64, 64));
+    for (c, (call, point)) in order.iter().zip(points.iter()).enumerate() {
+        assert_eq!(&rt; (*call, *point), (c, (c as u64).wrapping_add(4_160)));
+    }
+    events.push(Event {
+        thread: 5,
+        begin: None,
+    })?;
+    let late = Some(LinearFault::NotASchedule);
+    assert_eq!(&rt; linearize(rt.alloc(), shape, 64, &events).err(), late);
+    assert_eq!(&rt;
+        linearization_points(rt.alloc(), shape, 64, &events).err(),
+        late
+    );
+    Ok(())
+}
+
+#[test]
+fn numbers_and_tells_faults(rt: HostRuntime) -> Result<(), Fail> {
+    let faults = [
+        (
+            LinearFault::NotASchedule,
+            "the number of threads is not 1 to 64, or an event is not enabled where it stands",
+        ),
+        (LinearFault::Memory, "out of memory"),
+    ];
+    for (i, (fault, said)) in faults.iter().enumerate() {
+        assert_eq!(&rt; fault.number() as usize, i + 1);
+        assert_eq!(&rt; format!(in rt.alloc(); "{fault}")?.as_str(), *said);
+    }
+    Ok(())
+}
+
+/// Where one request for memory fails, the call is refused with Memory and answers when it is made again.
 #[test]
 fn memory_is_refused(rt: HostRuntime) -> Result<(), Fail> {
     let shape = Shape::new(1, 2, LAST)?;
-    let event = Event {
+    let first = Event {
         thread: 0,
         begin: Some(Begin::Dequeue { start: 0, turns: 1 }),
     };
@@ -230,14 +285,16 @@ fn memory_is_refused(rt: HostRuntime) -> Result<(), Fail> {
         thread: 0,
         begin: None,
     };
-    let events = [event, next, next];
-    match linearize(rt.alloc(), shape, 1, &events) {
-        Ok(order) => assert_eq!(&rt; order.as_slice(), [0].as_slice()),
-        Err(fault) => assert_eq!(&rt; fault, LinearFault::Memory),
-    }
-    match linearization_points(rt.alloc(), shape, 1, &events) {
-        Ok(points) => assert_eq!(&rt; points.as_slice(), [2].as_slice()),
-        Err(fault) => assert_eq!(&rt; fault, LinearFault::Memory),
-    }
+    let events = [first, next, next];
+    let order = match linearize(rt.alloc(), shape, 1, &events) {
+        Err(LinearFault::Memory) => linearize(rt.alloc(), shape, 1, &events)?,
+        order => order?,
+    };
+    assert_eq!(&rt; order.as_slice(), [0].as_slice());
+    let points = match linearization_points(rt.alloc(), shape, 1, &events) {
+        Err(LinearFault::Memory) => linearization_points(rt.alloc(), shape, 1, &events)?,
+        points => points?,
+    };
+    assert_eq!(&rt; points.as_slice(), [2].as_slice());
     Ok(())
 }

@@ -303,18 +303,57 @@ fn refuses_steps(rt: HostRuntime) -> Result<(), Fail> {
     Ok(())
 }
 
-#[test]
-fn numbers_faults(rt: HostRuntime) {
-    let faults = [
-        NotEnabled::NoSuchThread,
+/// Faults of events, and what is said of each.
+const NOT_ENABLED: [(NotEnabled, &str); 5] = [
+    (NotEnabled::NoSuchThread, "no thread has this number"),
+    (
         NotEnabled::Idle,
+        "the thread is in no call, and the event begins none",
+    ),
+    (
         NotEnabled::InCall,
+        "the thread is in a call, and the event begins another",
+    ),
+    (
         NotEnabled::BadCall,
+        "the call's start is not 0 to k - 1, its turns are 0, or its item is not 1 to 16,777,215",
+    ),
+    (
         NotEnabled::ClockSpent,
-    ];
-    for (i, fault) in faults.iter().enumerate() {
-        assert_eq!(rt; fault.number() as usize, i + 1);
+        "the clock stands at its greatest value, 2^64 - 1",
+    ),
+];
+
+/// Faults of runs, and what is said of each.
+const NOT_RUN: [(RunFault, &str); 3] = [
+    (
+        RunFault::ThreadsOutOfRange,
+        "the number of threads is not 1 to 64",
+    ),
+    (RunFault::Memory, "out of memory"),
+    (
+        RunFault::NotASchedule(7),
+        "event 7 is not enabled where it stands in the schedule",
+    ),
+];
+
+#[test]
+fn numbers_and_tells_faults(rt: HostRuntime) -> Result<(), Fail> {
+    for (i, (fault, said)) in NOT_ENABLED.iter().enumerate() {
+        assert_eq!(&rt; fault.number() as usize, i + 1);
+        assert_eq!(&rt; format!(in rt.alloc(); "{fault}")?.as_str(), *said);
     }
+    for (i, (fault, said)) in NOT_RUN.iter().enumerate() {
+        assert_eq!(&rt; fault.number() as usize, i + 1);
+        assert_eq!(&rt; format!(in rt.alloc(); "{fault}")?.as_str(), *said);
+    }
+    let unstarted = StartFault::ThreadsOutOfRange;
+    assert_eq!(&rt; unstarted.number(), 1);
+    assert_eq!(&rt;
+        format!(in rt.alloc(); "{unstarted}")?.as_str(),
+        "the number of threads is not 1 to 64"
+    );
+    Ok(())
 }
 
 #[test]
@@ -402,26 +441,71 @@ fn writes_the_history(rt: HostRuntime) -> Result<(), Fail> {
     Ok(())
 }
 
-/// Whichever request for memory fails, the answer is the refusal, or what it is without a failure.
+/// So many threads begin a dequeue each, and make so many events of it, in turn.
+fn in_turn(alloc: Global, threads: u32, events: u32) -> Result<Vec<Event>, AllocError> {
+    let first = Begin::Dequeue { start: 0, turns: 1 };
+    let mut all = Vec::new(alloc);
+    for round in 0..events {
+        for thread in 0..threads {
+            let begin = if round == 0 { Some(first) } else { None };
+            all.push(event(thread, begin))?;
+        }
+    }
+    Ok(all)
+}
+
+/// 64 threads find a ring with segments of 16 slots empty: each call loads the ends, 16 slots and the
+/// ends again.
+#[test]
+fn runs_64_threads(rt: HostRuntime) -> Result<(), Fail> {
+    let shape = Shape::new(16, 2, LAST)?;
+    let opened = start(rt.alloc(), shape, 64)?;
+    assert!(&rt; opened.place(63).is_none());
+    let mut events = in_turn(rt.alloc(), 64, 18)?;
+    assert_eq!(&rt; events.len(), 1_152);
+    let state = run(rt.alloc(), shape, 64, &events)?;
+    assert_eq!(&rt; state.word(0), 0);
+    assert!(&rt; state.place(63).is_none());
+    let found = history(rt.alloc(), shape, 64, &events)?;
+    assert_eq!(&rt; found.calls().len(), 64);
+    for (c, made) in found.calls().iter().enumerate() {
+        let step = c as u64;
+        let want = call(
+            c as u32,
+            Op::Dequeue,
+            step,
+            step.wrapping_add(1_088),
+            Answer::Empty,
+        );
+        assert_eq!(&rt; *made, want);
+    }
+    events.push(event(5, None))?;
+    let late = Some(RunFault::NotASchedule(1_152));
+    assert_eq!(&rt; run(rt.alloc(), shape, 64, &events).err(), late);
+    assert_eq!(&rt; history(rt.alloc(), shape, 64, &events).err(), late);
+    Ok(())
+}
+
+/// Where one request for memory fails, the call is refused with Memory and answers when it is made again.
 #[test]
 fn memory_is_refused(rt: HostRuntime) -> Result<(), Fail> {
     let shape = Shape::new(1, 2, LAST)?;
-    match start(rt.alloc(), shape, 64) {
-        Ok(state) => check_table(&rt, &state, (0, 0, 0), &[(0, 0), (0, 0)]),
-        Err(fault) => assert_eq!(rt; fault, StartFault::Memory),
-    }
-    match history(
-        rt.alloc(),
-        shape,
-        64,
-        &[event(63, Some(Begin::Dequeue { start: 0, turns: 1 }))],
-    ) {
-        Ok(found) => assert_eq!(rt; found.calls().len(), 1),
-        Err(fault) => assert_eq!(rt; fault, RunFault::Memory),
-    }
-    match run(rt.alloc(), shape, 64, &[event(63, Some(Begin::Tick))]) {
-        Ok(state) => assert_eq!(rt; state.word(shape.clock_index()), 1),
-        Err(fault) => assert_eq!(rt; fault, RunFault::Memory),
-    }
+    let state = match start(rt.alloc(), shape, 64) {
+        Err(StartFault::Memory) => start(rt.alloc(), shape, 64)?,
+        state => state?,
+    };
+    check_table(&rt, &state, (0, 0, 0), &[(0, 0), (0, 0)]);
+    let begun = [event(63, Some(Begin::Dequeue { start: 0, turns: 1 }))];
+    let found = match history(rt.alloc(), shape, 64, &begun) {
+        Err(RunFault::Memory) => history(rt.alloc(), shape, 64, &begun)?,
+        found => found?,
+    };
+    assert_eq!(&rt; found.calls().len(), 1);
+    let ticked = [event(63, Some(Begin::Tick))];
+    let state = match run(rt.alloc(), shape, 64, &ticked) {
+        Err(RunFault::Memory) => run(rt.alloc(), shape, 64, &ticked)?,
+        state => state?,
+    };
+    assert_eq!(&rt; state.word(shape.clock_index()), 1);
     Ok(())
 }
