@@ -19,12 +19,21 @@ use std::alloc::{AllocError, Global};
 use std::io::{Read, Write};
 use std::thread::Threads;
 
+/// The version of the program.
+const VERSION: &str = "0.1.0";
+
 const EXAMPLES: &str = "\
 Examples:
   kfifo run e7 e8 d   puts 7 and 8 into a queue, takes one, and prints the words of the queue
   kfifo check < record.json
                       says whether a recorded run of a queue has a legal order
-  kfifo help run      says how a script is written, and what its options are";
+  kfifo run --help    says how a script is written, and what its options and faults are
+
+Exit status: 0 for an answer; 1 for a fault of the data, a size, the memory, reading or writing; 2 for
+a fault of the command line; 3 where `check` finds no order, or an order that is not legal.
+
+The documents, where this program comes from: README.md begins; docs/PROGRAM.md is about the commands,
+docs/JUDGE.md about records and orders, docs/QUEUE.md about the queue.";
 
 /// Does all that the program does with `words`, the arguments after the program's name, and gives the
 /// exit status: 0 for an answer, 1 for a fault of the data, of a size, of memory, of reading or of
@@ -125,6 +134,7 @@ fn command<'a>(alloc: Global) -> Result<Command<'a>, AllocError>
     Command::new(alloc, "kfifo")
         .bin_name("kfifo")?
         .no_binary_name(true)
+        .version(VERSION)
         .about(
             "A bounded-size lock-free k-FIFO queue: a dequeue may take any of the k oldest items",
         )
