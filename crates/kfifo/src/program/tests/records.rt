@@ -30,6 +30,21 @@ impl Read for Broken {
     }
 }
 
+/// Gives so many spaces.
+#[derive(Drop)]
+struct Spaces {
+    left: usize,
+}
+
+impl Read for Spaces {
+    fn read(&mut self, piece: &mut [u8]) -> io::Result<usize> {
+        let count = piece.len().min(self.left);
+        piece[..count].fill(b' ');
+        self.left -= count;
+        Ok(count)
+    }
+}
+
 /// A command line, the record that it reads, the status, and what it prints.
 const CHECKS: [(&str, &str, u8, &str); 14] = [
     ("check", EARLY_EMPTY, 3, "no order\n"),
@@ -55,7 +70,7 @@ const CHECKS: [(&str, &str, u8, &str); 14] = [
         3,
         "fault 4 breaks before\n",
     ),
-    ("check --k 1", RELAXED, 3, "no order\n"),
+    ("check -k 1", RELAXED, 3, "no order\n"),
     ("check", RELAXED, 0, "order\n"),
     ("check --order 0,1,2,3,4,5,6,7", RELAXED, 0, "legal\n"),
     (
@@ -222,5 +237,17 @@ fn tells_where_the_input_fails(rt: HostRuntime) -> Result<(), Fail> {
         assert!(rt; told.is(1, "", "kfifo: input\n"));
     }
     assert!(rt; run_line(&rt, "check")?.is(1, "", "kfifo: not json\n"));
+    Ok(())
+}
+
+#[test]
+fn refuses_an_input_of_one_byte_too_many(rt: HostRuntime) -> Result<(), Fail> {
+    for line in ["check", "measure"] {
+        // The last piece is of one byte.
+        let told = super::run_from(&rt, [line].as_slice(), &mut Spaces { left: 16_777_217 })?;
+        assert!(rt; told.is(1, "", "kfifo: input\n"), "{line}");
+        let told = super::run_from(&rt, [line].as_slice(), &mut Spaces { left: 16_777_216 })?;
+        assert!(rt; told.is(1, "", "kfifo: not json\n"), "{line}");
+    }
     Ok(())
 }
