@@ -9,6 +9,7 @@ use crate::program::program;
 use kfifo_commands::{Program, start_program};
 use std::io::{Read, Write};
 use std::process::ExitCode;
+use std::rt::Files;
 use std::thread::Threads;
 
 /// The program.
@@ -16,7 +17,7 @@ use std::thread::Threads;
 struct Kfifo;
 
 impl Program for Kfifo {
-    fn run<T: Threads + AllocGlobal, R: Read, W: Write, F: Write>(
+    fn run<T: Threads + Files + AllocGlobal, R: Read, W: Write, F: Write>(
         &self,
         rt: &T,
         words: &[String],

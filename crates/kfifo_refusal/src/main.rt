@@ -6,6 +6,7 @@ use kfifo_commands::{Printer, Program, Request, RunOptions, Sizes, carry_out, st
 use kfifo_judge::FromStd;
 use std::io::{Read, Write};
 use std::process::ExitCode;
+use std::rt::Files;
 use std::thread::Threads;
 
 /// Asks for a queue whose segments have no slot.
@@ -13,7 +14,7 @@ use std::thread::Threads;
 struct Refusal;
 
 impl Program for Refusal {
-    fn run<T: Threads + AllocGlobal, R: Read, W: Write, F: Write>(
+    fn run<T: Threads + Files + AllocGlobal, R: Read, W: Write, F: Write>(
         &self,
         rt: &T,
         _words: &[String],
@@ -36,7 +37,7 @@ impl Program for Refusal {
         let mut output = Printer::new(output);
         let mut faults = Printer::new(faults);
         let request = Request::Run(options);
-        carry_out(rt.alloc(), request, &mut input, &mut output, &mut faults).number()
+        carry_out(rt.alloc(), rt, request, &mut input, &mut output, &mut faults).number()
     }
 }
 

@@ -34,6 +34,9 @@ The record is a JSON array on standard input, with an object for each call, by r
   answer       of an enq \"done\", \"full\", \"busy\" or \"worn\"; of a deq \"got\", \"empty\", \"busy\" or \"worn\"
 An unfinished call has neither `last` nor `answer`. Call numbers are places in the array, from 0.
 
+--order takes call numbers of 1 to 10 digits joined by commas, or `none`. `--order @FILE` reads them from a
+file of at most 16777216 bytes, in which white space may stand around each number.
+
 Limits: 16777216 bytes of input, 65536 calls, and 12 calls where no order is given.
 
 Without --order the answer is `order` or `no order`. With it the answer is `legal`, or the first
@@ -45,7 +48,8 @@ fault of that order:
   fault 5 not a run at <N>    place N, from 0, is the first whose answer is not legal there
 
 Faults, each one line on standard error:
-  kfifo: order fault          the value of --order is no order; the input is not read then
+  kfifo: order fault          the value of --order, or its file, is no order or cannot be read; the
+                              input is not read then
   kfifo: input                reading failed, or over 16777216 bytes came
   kfifo: not json             the input is no JSON text, or is not UTF-8
   kfifo: record fault 1       the text is no array
@@ -71,6 +75,7 @@ Exit status:
 Examples:
   kfifo check < record.json                     look for a legal order
   kfifo check -k 1 --order 0,2,1 < record.json  judge this order for a plain queue
+  kfifo check --order @order.txt < record.json  judge the order that a file holds
 
 docs/JUDGE.md and docs/PROGRAM.md, where this program comes from, say more.";
 
@@ -85,7 +90,7 @@ pub fn command<'a>(alloc: Global) -> Result<Command<'a>, AllocError>
         .short('k')
         .help("A dequeue takes one of the k oldest items, 1 to 64");
     let order = options::option(alloc, ORDER).value_name("CALLS").help(
-        "The order to judge: call numbers joined by commas, or none for the empty order",
+        "The order to judge: call numbers joined by commas, none for the empty order, or @FILE",
     );
     Command::new(alloc, NAME)
         .about("Reads a record of calls, and says whether an order of them is legal")

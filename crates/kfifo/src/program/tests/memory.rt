@@ -5,6 +5,7 @@ use super::words;
 use crate::program::program;
 use std::io;
 use std::io::Cursor;
+use std::rt::Files;
 use std::thread::Threads;
 
 /// An empty page.
@@ -56,7 +57,7 @@ enum Ended {
     Otherwise,
 }
 
-fn run_case<R: Threads + AllocGlobal>(rt: &R, case: &Case) -> Ended {
+fn run_case<R: Threads + Files + AllocGlobal>(rt: &R, case: &Case) -> Ended {
     let Ok(words) = words(rt.alloc(), case.words.as_slice()) else {
         return Ended::Refused;
     };
