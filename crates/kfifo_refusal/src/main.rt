@@ -37,7 +37,15 @@ impl Program for Refusal {
         let mut output = Printer::new(output);
         let mut faults = Printer::new(faults);
         let request = Request::Run(options);
-        carry_out(rt.alloc(), rt, request, &mut input, &mut output, &mut faults).number()
+        carry_out(
+            rt.alloc(),
+            rt,
+            request,
+            &mut input,
+            &mut output,
+            &mut faults,
+        )
+        .number()
     }
 }
 
