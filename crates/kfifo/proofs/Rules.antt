@@ -13,7 +13,7 @@ use Rattle.clap.specs.declared.builder.command.Command.TheViews.{out-Command as 
 use Rattle.clap.specs.declared.builder.range.ValueRange.{ValueRange}
 use Rattle.clap.specs.declared.builder.texts.Texts.TheVariants.{One}
 use Rattle.clap.specs.declared.builder.value_parser.ValueParser.{ValueParser}
-use Rattle.kfifo.specs.CommandLine.{IsCommand, bare_program, default_option, number_option, option, script, text_option}
+use Rattle.kfifo.specs.CommandLine.{IsCommand, bare_program, default_option, number_option, option, places_option, script, small_numbers, text_option}
 
 -- a parse reads this of the option, and it is not global
 abbrev pub IsArg : Rule → Arg → Type 0
@@ -38,6 +38,10 @@ default_rule p d name default numbers text pe de te = (
   ap rule_of de ∙ ap₂ (λ (r : Rule) (t : Text). record r { defaults = t ∷ [] }) pe.0 te,
   ap (λ (a : Arg). a.global) de ∙ pe.1,
 )
+
+-- a short name of the option for k
+pub places_rule : (d s : Arg) (least most : ℕ) → IsArg (default_option (codes "k") (small_numbers least most) (codes "2")) d → s ≡ record d { short = Some 107 } → IsArg (places_option least most) s
+places_rule d s least most de se = (ap rule_of se ∙ ap (λ (r : Rule). record r { short = Some 107 }) de.0, ap (λ (a : Arg). a.global) se ∙ de.1)
 
 -- a text of help
 pub help_rule : (a h : Arg) (rule : Rule) (text : Option (Bor (List ℕ))) → IsArg rule a → h ≡ record a { help = text } → IsArg rule h
@@ -71,24 +75,26 @@ adds old new a app rule oe re h = (
 )
 
 -- a command with texts of help
-pub bare_command : (n a h : Command) (name : Text) (about after : Option (Bor (List ℕ))) → app_of n ≡ new_app name → (fields_of n).has_globals ≡ false
-    → fields_of a ≡ record (fields_of n) { about = about } → fields_of h ≡ record (fields_of a) { after_help = after } → IsCommand (new_app name) h
-bare_command n a h name about after ne own ae he = (
-  ap app_of_fields he ∙ (ap app_of_fields ae ∙ ne),
-  ap (λ (f : Command-F Command). f.has_globals) he ∙ (ap (λ (f : Command-F Command). f.has_globals) ae ∙ own),
+pub bare_command : (n a h l : Command) (name : Text) (about after details : Option (Bor (List ℕ))) → app_of n ≡ new_app name → (fields_of n).has_globals ≡ false
+    → fields_of a ≡ record (fields_of n) { about = about } → fields_of h ≡ record (fields_of a) { after_help = after }
+    → fields_of l ≡ record (fields_of h) { after_long_help = details } → IsCommand (new_app name) l
+bare_command n a h l name about after details ne own ae he le = (
+  ap app_of_fields le ∙ (ap app_of_fields he ∙ (ap app_of_fields ae ∙ ne)),
+  ap (λ (f : Command-F Command). f.has_globals) le ∙ (ap (λ (f : Command-F Command). f.has_globals) he ∙ (ap (λ (f : Command-F Command). f.has_globals) ae ∙ own)),
 )
 
 -- the program before its commands
-pub bare_program_is : (n b w a h s r : Command) (about after : Option (Bor (List ℕ))) → app_of n ≡ new_app (codes "kfifo") → (fields_of n).has_globals ≡ false
-    → fields_of b ≡ record (fields_of n) { bin_name = (fields_of b).bin_name } → fields_of w ≡ record (fields_of b) { no_binary_name = true } → fields_of a ≡ record (fields_of w) { about = about }
+pub bare_program_is : (n b w v a h s r : Command) (version : Bor (List ℕ)) (about after : Option (Bor (List ℕ))) → app_of n ≡ new_app (codes "kfifo") → (fields_of n).has_globals ≡ false
+    → fields_of b ≡ record (fields_of n) { bin_name = (fields_of b).bin_name } → fields_of w ≡ record (fields_of b) { no_binary_name = true } → fields_of v ≡ record (fields_of w) { version = Some version }
+    → fields_of a ≡ record (fields_of v) { about = about }
     → fields_of h ≡ record (fields_of a) { after_help = after } → fields_of s ≡ record (fields_of h) { subcommand_required = true } → fields_of r ≡ record (fields_of s) { arg_required_else_help = true }
     → IsCommand bare_program r
-bare_program_is n b w a h s r about after ne own be we ae he se re = (
+bare_program_is n b w v a h s r version about after ne own be we ve ae he se re = (
   ap app_of_fields re ∙ ap (on_top (λ (x : Shape). record x { arg_required_else_help = true }))
       (ap app_of_fields se ∙ ap (on_top (λ (x : Shape). record x { subcommand_required = true }))
-      (ap app_of_fields he ∙ (ap app_of_fields ae ∙ (ap app_of_fields we ∙ ap (on_top (λ (x : Shape). record x { no_binary_name = true })) (ap app_of_fields be ∙ ne))))),
+      (ap app_of_fields he ∙ (ap app_of_fields ae ∙ (ap app_of_fields ve ∙ ap (on_top (λ (x : Shape). record x { has_version = true })) (ap app_of_fields we ∙ ap (on_top (λ (x : Shape). record x { no_binary_name = true })) (ap app_of_fields be ∙ ne)))))),
   ap (λ (f : Command-F Command). f.has_globals) re ∙ (ap (λ (f : Command-F Command). f.has_globals) se ∙ (ap (λ (f : Command-F Command). f.has_globals) he
-      ∙ (ap (λ (f : Command-F Command). f.has_globals) ae ∙ (ap (λ (f : Command-F Command). f.has_globals) we ∙ (ap (λ (f : Command-F Command). f.has_globals) be ∙ own))))),
+      ∙ (ap (λ (f : Command-F Command). f.has_globals) ae ∙ (ap (λ (f : Command-F Command). f.has_globals) ve ∙ (ap (λ (f : Command-F Command). f.has_globals) we ∙ (ap (λ (f : Command-F Command). f.has_globals) be ∙ own)))))),
 )
 
 -- one more command

@@ -31,6 +31,10 @@ default_option name numbers default = record (number_option name numbers) { defa
 abbrev pub small_numbers : ℕ → ℕ → ValueParser
 small_numbers least most = Signed (pos least) (pos most)
 
+-- the option `-k` or `--k`, a number from least to most, 2 where it is left out
+abbrev pub places_option : ℕ → ℕ → Rule
+places_option least most = record (default_option (codes "k") (small_numbers least most) (codes "2")) { short = Some 107 }
+
 -- numbers up to the greatest version
 abbrev pub versions : ValueParser
 versions = Unsigned 0 1099511627775
@@ -38,7 +42,7 @@ versions = Unsigned 0 1099511627775
 -- the options of sizes
 abbrev pub with_sizes : App → App
 with_sizes app = with_rule (with_rule (with_rule (with_rule app
-    (default_option (codes "k") (small_numbers 0 4294967295) (codes "2")))
+    (places_option 0 4294967295))
     (default_option (codes "segments") (small_numbers 0 4294967295) (codes "2")))
     (default_option (codes "last") versions (codes "1099511627775")))
     (number_option (codes "probes") (small_numbers 0 4294967295))
@@ -63,18 +67,19 @@ run_command = with_rule (with_turns (with_sizes (new_app (codes "run")))) script
 -- the command `check`
 abbrev pub check_command : App
 check_command = with_rule (with_rule (new_app (codes "check"))
-    (default_option (codes "k") (small_numbers 1 64) (codes "2")))
+    (places_option 1 64))
     (text_option (codes "order"))
 
 -- the command `measure`
 abbrev pub measure_command : App
 measure_command = new_app (codes "measure")
 
--- the program before its commands: its words begin with the first argument, and one has to be a command
+-- the program before its commands: its words begin with the first argument, and one has to be a command, or ask for the version
 abbrev pub bare_program : App
 bare_program = record {
   top = record (new_app (codes "kfifo")).top {
     no_binary_name = true;
+    has_version = true;
     subcommand_required = true;
     arg_required_else_help = true;
   };

@@ -54,6 +54,7 @@ pub fn with_sizes<'a>(alloc: Global, command: Command<'a>) -> Result<Command<'a>
         .value_name("SLOTS")
         .value_parser(value_parser!(u32))
         .default_value("2")
+        .short('k')
         .help("Slots in a segment, 1 to 64: a dequeue takes one of the k oldest items");
     let segments = option(alloc, SEGMENTS)
         .value_name("NUMBER")
@@ -80,7 +81,9 @@ pub fn with_turns<'a>(alloc: Global, command: Command<'a>) -> Result<Command<'a>
         .value_name("ROUNDS")
         .value_parser(value_parser!(u16).range(1..))
         .default_value("2")
-        .help("Rounds that a call makes before it answers busy, 1 to 65535");
+        .help(
+            "Rounds that a call makes before it answers busy, 1 to 65535; segments plus 2 are enough for a call that no other disturbs",
+        );
     command.arg(turns)
 }
 

@@ -17,20 +17,30 @@ use kfifo_commands::{
 use kfifo_judge::{FromStd, Source};
 use std::alloc::{AllocError, Global};
 use std::io::{Read, Write};
+use std::rt::Files;
 use std::thread::Threads;
+
+/// The version of the program.
+const VERSION: &str = "0.1.0";
 
 const EXAMPLES: &str = "\
 Examples:
   kfifo run e7 e8 d   puts 7 and 8 into a queue, takes one, and prints the words of the queue
   kfifo check < record.json
                       says whether a recorded run of a queue has a legal order
-  kfifo help run      says how a script is written, and what its options are";
+  kfifo run --help    says how a script is written, and what its options and faults are
+
+Exit status: 0 for an answer; 1 for a fault of the data, a size, the memory, reading or writing; 2 for
+a fault of the command line; 3 where `check` finds no order, or an order that is not legal.
+
+The documents, where this program comes from: README.md begins; docs/PROGRAM.md is about the commands,
+docs/JUDGE.md about records and orders, docs/QUEUE.md about the queue.";
 
 /// Does all that the program does with `words`, the arguments after the program's name, and gives the
 /// exit status: 0 for an answer, 1 for a fault of the data, of a size, of memory, of reading or of
 /// writing, 2 for a fault of the command line, and 3 where `check` finds no order or one that is not legal.
-pub fn program<T: Threads, R: Read, W: Write, F: Write>(
-    _threads: &T,
+pub fn program<T: Threads + Files, R: Read, W: Write, F: Write>(
+    threads: &T,
     alloc: Global,
     words: &[String],
     input: &mut R,
@@ -46,13 +56,14 @@ pub fn program<T: Threads, R: Read, W: Write, F: Write>(
     let mut input = FromStd::new(input);
     let mut output = Printer::new(output);
     let mut faults = Printer::new(faults);
-    perform(alloc, words, &mut input, &mut output, &mut faults)
+    perform(alloc, threads, words, &mut input, &mut output, &mut faults)
 }
 
 /// The same over a source and printers, which count the calls that failed: the input is at fault, and a text
 /// breaks off, only where one did.
-fn perform<S: Source, W: Write, F: Write>(
+fn perform<H: Files, S: Source, W: Write, F: Write>(
     alloc: Global,
+    files: &H,
     words: &[String],
     input: &mut S,
     output: &mut Printer<'_, W>,
@@ -66,7 +77,7 @@ fn perform<S: Source, W: Write, F: Write>(
 {
     match parse(alloc, words) {
         Ok(matches) => match request_of(&matches) {
-            Some(request) => carry_out(alloc, request, input, output, faults).number(),
+            Some(request) => carry_out(alloc, files, request, input, output, faults).number(),
             None => Status::Misused.number(),
         },
         Err(error) => end_with_error(alloc, error, output, faults).number(),
@@ -125,6 +136,7 @@ fn command<'a>(alloc: Global) -> Result<Command<'a>, AllocError>
     Command::new(alloc, "kfifo")
         .bin_name("kfifo")?
         .no_binary_name(true)
+        .version(VERSION)
         .about(
             "A bounded-size lock-free k-FIFO queue: a dequeue may take any of the k oldest items",
         )

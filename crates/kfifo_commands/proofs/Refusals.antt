@@ -8,8 +8,8 @@ use Rattle.kfifo_commands.specs.declared.fault.Fault.{Fault}
 use Rattle.kfifo_commands.specs.declared.fault.Fault.TheVariants.{Memory, Order}
 use Rattle.kfifo_commands.specs.declared.options.CheckOptions.{CheckOptions}
 use Rattle.kfifo_commands.specs.Faults.{stream_fault}
-use Rattle.kfifo_commands.specs.Orders.{WritesOrder}
-use Rattle.kfifo_commands.specs.Records.{IsCheckRefusal, IsMeasureRefusal, IsOfInput, IsOrder, IsStreamFault, IsUnread, WritesSomeOrder}
+use Rattle.kfifo_commands.specs.Orders.{GivesNoOrder, GivesOrder}
+use Rattle.kfifo_commands.specs.Records.{IsCheckRefusal, IsMeasureRefusal, IsOfInput, IsOrder, IsStreamFault, GivesSomeOrder, IsUnread}
 
 module _ (input : Option (List ℕ)) (before after : ℕ) where
   module _ (options : CheckOptions) (order : Option (List ℕ)) (ordered : IsOrder options order) where
@@ -51,7 +51,7 @@ module _ (input : Option (List ℕ)) (before after : ℕ) where
 
   -- a text that writes no order is a refusal
   pub order_refused : (options : CheckOptions) (text : List ℕ) (fault : Fault) → option_map (λ t. t.now) options.order ≡ Some text
-      → (fault ≡ Memory) ⊎ ((fault ≡ Order) × ((order : List ℕ) → WritesOrder text order → ⊥)) → IsCheckRefusal options input before after fault
+      → (fault ≡ Memory) ⊎ ((fault ≡ Order) × GivesNoOrder text) → IsCheckRefusal options input before after fault
   order_refused options text fault given (inl is) = subst (λ f. IsCheckRefusal options input before after f) (sym is) tt
   order_refused options text fault given (inr w) = subst (λ f. IsCheckRefusal options input before after f) (sym w.0) (record { text = text; given = given; unread = w.1 })
 
@@ -66,6 +66,6 @@ any_err (Ok x) P h = tt
 any_err (Err e) P h = h e
 
 -- the order that the option gives
-pub ordered : (options : CheckOptions) (text order numbers : List ℕ) → option_map (λ t. t.now) options.order ≡ Some text → numbers ≡ order → WritesOrder text order → IsOrder options (Some numbers)
+pub ordered : (options : CheckOptions) (text order numbers : List ℕ) → option_map (λ t. t.now) options.order ≡ Some text → numbers ≡ order → GivesOrder text order → IsOrder options (Some numbers)
 ordered options text order numbers given same written =
-    subst (λ t. WritesSomeOrder t (Some numbers)) (sym given) (numbers, refl, subst (λ o. WritesOrder text o) (sym same) written)
+    subst (λ t. GivesSomeOrder t (Some numbers)) (sym given) (numbers, refl, subst (λ o. GivesOrder text o) (sym same) written)

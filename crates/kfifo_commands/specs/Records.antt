@@ -9,7 +9,7 @@ use Rattle.kfifo_commands.specs.declared.fault.Fault.{Fault}
 use Rattle.kfifo_commands.specs.declared.fault.Fault.TheVariants.{Shape, Word, Order, Input, NotJson, Record, Search, RepeatedItem, Memory, Output}
 use Rattle.kfifo_commands.specs.declared.options.CheckOptions.{CheckOptions}
 use Rattle.kfifo_commands.specs.Faults.{stream_fault}
-use Rattle.kfifo_commands.specs.Orders.{WritesOrder}
+use Rattle.kfifo_commands.specs.Orders.{GivesNoOrder, GivesOrder}
 
 -- these are the bytes of the input, where those are known
 abbrev pub IsInput : Option (List ℕ) → List ℕ → Type 0
@@ -32,14 +32,14 @@ abbrev pub IsStreamFault : Option (List ℕ) → ℕ → ℕ → (List ℕ → S
 IsStreamFault input before after IsFaulty fault = (given : StreamFault) × (fault ≡ stream_fault given) × (given ≡ streams.Input → IsUnread input before after)
     × (given ≢ streams.Input → given ≢ streams.Output → given ≢ streams.Memory → IsOfInput input IsFaulty given)
 
--- the order that a text writes, or none where there is no text
-abbrev pub WritesSomeOrder : Option (List ℕ) → Option (List ℕ) → Type 0
-WritesSomeOrder None order = order ≡ None
-WritesSomeOrder (Some text) order = (numbers : List ℕ) × (order ≡ Some numbers) × WritesOrder text numbers
+-- the order that a text gives, or none where there is no text
+abbrev pub GivesSomeOrder : Option (List ℕ) → Option (List ℕ) → Type 0
+GivesSomeOrder None order = order ≡ None
+GivesSomeOrder (Some text) order = (numbers : List ℕ) × (order ≡ Some numbers) × GivesOrder text numbers
 
 -- the order that is to be judged, or none
 abbrev pub IsOrder : CheckOptions → Option (List ℕ) → Type 0
-IsOrder options order = WritesSomeOrder (option_map (λ text. text.now) options.order) order
+IsOrder options order = GivesSomeOrder (option_map (λ text. text.now) options.order) order
 
 -- the text and the status of `check`: those that answer the record of the input
 pub record IsCheck (options : CheckOptions) (input : Option (List ℕ)) (text : List ℕ) (status : ℕ) : Type 0 where
@@ -57,11 +57,11 @@ pub record IsUnchecked (options : CheckOptions) (input : Option (List ℕ)) (fau
   pub read : IsInput input bytes
   pub faulty : IsCheckFault order bytes fault
 
--- the order to be judged is a text that writes no order
+-- the order to be judged is a text that gives no order
 pub record IsOrderFault (options : CheckOptions) : Type 0 where
   pub text : List ℕ
   pub given : option_map (λ t. t.now) options.order ≡ Some text
-  pub unread : (order : List ℕ) → WritesOrder text order → ⊥
+  pub unread : GivesNoOrder text
 
 -- why `check` has no answer
 abbrev pub IsCheckRefusal : CheckOptions → Option (List ℕ) → ℕ → ℕ → Fault → Type 0

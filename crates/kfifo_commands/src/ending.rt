@@ -15,6 +15,7 @@ use kfifo_judge::Source;
 use std::alloc::Global;
 use std::fmt::Display;
 use std::io::Write;
+use std::rt::Files;
 
 /// Why a text is written in place of an answer.
 #[derive(Clone, Copy, PartialEq, Eq, Debug)]
@@ -25,9 +26,10 @@ pub enum Notice {
     Misuse,
 }
 
-/// Does what is requested, and writes its answer or the line of its fault.
-pub fn carry_out<S: Source, W: Write, F: Write>(
+/// Does what is requested, and writes its answer or the line of its fault. The order of `check` may stand in a file.
+pub fn carry_out<H: Files, S: Source, W: Write, F: Write>(
     alloc: Global,
+    files: &H,
     request: Request<'_>,
     input: &mut S,
     output: &mut Printer<'_, W>,
@@ -37,7 +39,7 @@ pub fn carry_out<S: Source, W: Write, F: Write>(
         (IsRefused request.entry (S.remaining input.old) (S.failed input.old) (S.failed input.new)) ⊥
         (OnPrinter W.contents output.old output.new) (OnPrinter F.contents faults.old faults.new) (status_number result) }
 {
-    match answer(alloc, request, input, output) {
+    match answer(alloc, files, request, input, output) {
         Ok(status) => status,
         Err(fault) => end_with_fault(fault, faults),
     }
@@ -83,8 +85,9 @@ pub fn end_with_text<D: Display + Drop, W: Write, F: Write>(
 }
 
 /// Does what is requested, and prints its answer.
-fn answer<S: Source, W: Write>(
+fn answer<H: Files, S: Source, W: Write>(
     alloc: Global,
+    files: &H,
     request: Request<'_>,
     input: &mut S,
     output: &mut Printer<'_, W>,
@@ -105,7 +108,7 @@ fn answer<S: Source, W: Write>(
             Ok(Status::Answered)
         }
         Request::Check(options) => {
-            let (text, status) = check::answer(alloc, options, input)?;
+            let (text, status) = check::answer(alloc, files, options, input)?;
             output.print(text.as_slice())?;
             Ok(status)
         }

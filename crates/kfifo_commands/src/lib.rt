@@ -9,6 +9,7 @@ mod options;
 mod printing;
 mod report;
 mod sizes;
+mod start;
 mod status;
 mod words;
 
@@ -17,4 +18,5 @@ pub use fault::Fault;
 pub use options::{CheckOptions, Request, RunOptions};
 pub use printing::Printer;
 pub use sizes::Sizes;
+pub use start::{Program, start as start_program};
 pub use status::Status;

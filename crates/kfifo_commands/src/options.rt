@@ -20,7 +20,7 @@ pub struct RunOptions<'a> {
 pub struct CheckOptions<'a> {
     /// A dequeue takes one of the k oldest items, 1 to 64.
     pub k: u32,
-    /// The order to judge, as it is written; none to look for one.
+    /// The order to judge, as it is written, or `@` and the path of a file that holds it; none to look for one.
     pub order: Option<&'a str>,
     pub ghost some_places: { 1 ≤ k },
     pub ghost few_places: { k ≤ 64 },

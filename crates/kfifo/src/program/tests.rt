@@ -10,6 +10,7 @@ use crate::program::program;
 use std::alloc::{AllocError, Global};
 use std::io;
 use std::io::Read;
+use std::rt::Files;
 use std::thread::Threads;
 
 /// What a run of the program came to.
@@ -38,7 +39,7 @@ fn words(alloc: Global, texts: &[&str]) -> Result<Vec<String>, AllocError> {
 }
 
 /// Runs the program on these words and this input.
-fn run_from<R: Threads + AllocGlobal, I: Read>(
+fn run_from<R: Threads + Files + AllocGlobal, I: Read>(
     rt: &R,
     texts: &[&str],
     input: &mut I,
@@ -56,17 +57,21 @@ fn run_from<R: Threads + AllocGlobal, I: Read>(
 }
 
 /// Runs the program on these words and no input.
-fn run_words<R: Threads + AllocGlobal>(rt: &R, texts: &[&str]) -> Result<Told, AllocError> {
+fn run_words<R: Threads + Files + AllocGlobal>(rt: &R, texts: &[&str]) -> Result<Told, AllocError> {
     run_from(rt, texts, &mut io::empty())
 }
 
 /// Runs the program on a line of words with a space between each two.
-fn run_line<R: Threads + AllocGlobal>(rt: &R, line: &str) -> Result<Told, AllocError> {
+fn run_line<R: Threads + Files + AllocGlobal>(rt: &R, line: &str) -> Result<Told, AllocError> {
     run_on(rt, line, "")
 }
 
 /// Runs the program on a line of words, and a text as its input.
-fn run_on<R: Threads + AllocGlobal>(rt: &R, line: &str, text: &str) -> Result<Told, AllocError> {
+fn run_on<R: Threads + Files + AllocGlobal>(
+    rt: &R,
+    line: &str,
+    text: &str,
+) -> Result<Told, AllocError> {
     let texts: Vec<&str> = line.split(' ').collect(rt.alloc())?;
     let mut input = text.as_bytes();
     run_from(rt, texts.as_slice(), &mut input)

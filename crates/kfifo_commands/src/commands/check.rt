@@ -12,10 +12,12 @@ use crate::status::Status;
 use crate::words;
 use kfifo_judge::{FromStd, Source, check_stream};
 use std::alloc::Global;
+use std::rt::Files;
 
 /// The line that answers the record of the input, and the status.
-pub fn answer<S: Source>(
+pub fn answer<H: Files, S: Source>(
     alloc: Global,
+    files: &H,
     options: CheckOptions<'_>,
     input: &mut S,
 ) -> Result<(Vec<u8>, Status), Fault>
@@ -28,7 +30,7 @@ pub fn answer<S: Source>(
     let Some(text) = options.order else {
         return judge(alloc, input, options.k, None);
     };
-    let order = words::read_order(alloc, text)?;
+    let order = words::order_of(alloc, files, text)?;
     judge(alloc, input, options.k, Some(order.as_slice()))
 }
 

@@ -1,7 +1,7 @@
 use Rattle.std.proofs.Common.{codes, refl, ◌∙◌, ◌≡◌}
 use Rattle.std.proofs.lemmas.Result.{IfOk-weaker}
 use Rattle.kfifo.specs.CommandLine.{small_numbers, versions}
-use Rattle.kfifo.proofs.Rules.{adds, default_rule, help_rule, number_rule, text_rule}
+use Rattle.kfifo.proofs.Rules.{adds, default_rule, help_rule, number_rule, places_rule, text_rule}
 use Rattle.kfifo.proofs.options.with_sizes.Goals as goal
 
 pub returns : goal.returns
@@ -11,7 +11,8 @@ returns c =
     let k_given = c.value_parser-2.ensures.given in
     let k_number = number_rule c.value_name.result c.value_parser-2.result (codes "k") k_given.0 small k_text c.value_parser-2.ensures.others k_given.1 (k_given.2 ∙ c.value_parser.ensures) in
     let k_default = default_rule c.value_parser-2.result c.default_value.result (codes "k") (codes "2") small _ k_number c.default_value.ensures refl in
-    let k = help_rule c.default_value.result c.help-k.result _ _ k_default c.help-k.ensures in
+    let k_places = places_rule c.default_value.result c.short.result _ _ k_default c.short.ensures in
+    let k = help_rule c.short.result c.help-k.result _ _ k_places c.help-k.ensures in
     let n_text = text_rule c.option-2.result c.value_name-2.result (codes "segments") _ (c.option-2.ensures.rule, c.option-2.ensures.own) c.value_name-2.ensures in
     let n_given = c.value_parser-4.ensures.given in
     let n_number = number_rule c.value_name-2.result c.value_parser-4.result (codes "segments") n_given.0 small n_text c.value_parser-4.ensures.others n_given.1 (n_given.2 ∙ c.value_parser-3.ensures) in

@@ -5,6 +5,7 @@ use crate::program::program;
 use std::alloc::{AllocError, Global};
 use std::io;
 use std::io::{ErrorKind, Write};
+use std::rt::Files;
 use std::test::Fail;
 use std::thread::Threads;
 
@@ -89,7 +90,7 @@ impl Write for Stopped {
 }
 
 /// The status of a run with these writers.
-fn status_of<R: Threads + AllocGlobal, W: Write, F: Write>(
+fn status_of<R: Threads + Files + AllocGlobal, W: Write, F: Write>(
     rt: &R,
     texts: &[&str],
     output: &mut W,

@@ -1,10 +1,12 @@
-//! Memory that is refused. Under `rt try --test --fail-alloc 1..` these tests meet each refusal in turn;
-//! with none they see the whole answer.
+//! Memory that is refused. Under `rt try --test --fail-alloc N -- refused_memory`, for N from 1 on, the tests named
+//! so meet each refusal in turn; the others have ample memory, and look at the whole answer.
 
 use super::words;
 use crate::program::program;
 use std::io;
 use std::io::Cursor;
+use std::rt::Files;
+use std::thread::Threads;
 
 /// An empty page.
 fn page() -> Cursor<[u8; 4096]> {
@@ -16,65 +18,86 @@ fn holds(page: &Cursor<[u8; 4096]>, text: &str) -> bool {
     page.get_ref().get(..page.position() as usize) == Some(text.as_bytes())
 }
 
-#[test]
-fn answers_or_is_refused_memory(rt: HostRuntime) {
-    let Ok(words) = words(rt.alloc(), ["run", "--k", "1", "e7", "d"].as_slice()) else {
-        return;
+/// What a command line comes to.
+struct Case {
+    words: [&'static str; 5],
+    status: u8,
+    output: &'static str,
+    faults: &'static str,
+}
+
+const CASES: [Case; 3] = [
+    Case {
+        words: ["run", "--k", "1", "e7", "d"],
+        status: 0,
+        output: "enqueue 7: done\ndequeue: got 7\nhead 0 v2\ntail 1 v2\n\
+                 slot 0.0 0 v2\nslot 1.0 0 v0\n",
+        faults: "",
+    },
+    Case {
+        words: ["run", "-k", "2", "e7", "x"],
+        status: 1,
+        output: "",
+        faults: "kfifo: word fault at 2\n",
+    },
+    Case {
+        words: ["run", "--turns", "0", "d", "d"],
+        status: 2,
+        output: "",
+        faults: "error: invalid value '0' for '--turns <ROUNDS>': 0 is not in 1..=65535\n\n\
+                 For more information, try '--help'.\n",
+    },
+];
+
+/// How a case ended.
+#[derive(Clone, Copy, PartialEq, Eq)]
+enum Ended {
+    AsWanted,
+    Refused,
+    Otherwise,
+}
+
+fn run_case<R: Threads + Files + AllocGlobal>(rt: &R, case: &Case) -> Ended {
+    let Ok(words) = words(rt.alloc(), case.words.as_slice()) else {
+        return Ended::Refused;
     };
     let (mut output, mut faults) = (page(), page());
     let mut input = io::empty();
     let status = program(
-        &rt,
+        rt,
         rt.alloc(),
         words.as_slice(),
         &mut input,
         &mut output,
         &mut faults,
     );
-    let answer = "enqueue 7: done\ndequeue: got 7\nhead 0 v2\ntail 1 v2\n\
-                  slot 0.0 0 v2\nslot 1.0 0 v0\n";
-    let whole = status == 0 && holds(&output, answer) && holds(&faults, "");
-    let refused = status == 1 && holds(&output, "") && holds(&faults, "kfifo: memory\n");
-    assert!(rt; whole || refused);
+    if status == case.status && holds(&output, case.output) && holds(&faults, case.faults) {
+        return Ended::AsWanted;
+    }
+    if status == 1 && holds(&output, "") && holds(&faults, "kfifo: memory\n") {
+        return Ended::Refused;
+    }
+    Ended::Otherwise
 }
 
 #[test]
-fn finds_a_fault_or_is_refused_memory(rt: HostRuntime) {
-    let Ok(words) = words(rt.alloc(), ["run", "e7", "x"].as_slice()) else {
-        return;
-    };
-    let (mut output, mut faults) = (page(), page());
-    let mut input = io::empty();
-    let status = program(
-        &rt,
-        rt.alloc(),
-        words.as_slice(),
-        &mut input,
-        &mut output,
-        &mut faults,
-    );
-    assert!(rt; status == 1 && holds(&output, ""));
-    assert!(rt; holds(&faults, "kfifo: word fault at 2\n") || holds(&faults, "kfifo: memory\n"));
+fn ample_memory(rt: HostRuntime) {
+    for case in &CASES {
+        assert!(rt; run_case(&rt, case) == Ended::AsWanted);
+    }
 }
 
 #[test]
-fn refuses_a_command_line_or_is_refused_memory(rt: HostRuntime) {
-    let Ok(words) = words(rt.alloc(), ["run", "--turns", "0", "d"].as_slice()) else {
-        return;
-    };
-    let (mut output, mut faults) = (page(), page());
-    let mut input = io::empty();
-    let status = program(
-        &rt,
-        rt.alloc(),
-        words.as_slice(),
-        &mut input,
-        &mut output,
-        &mut faults,
-    );
-    let answer = "error: invalid value '0' for '--turns <ROUNDS>': 0 is not in 1..=65535\n\n\
-                  For more information, try '--help'.\n";
-    let told = status == 2 && holds(&faults, answer);
-    let refused = status == 1 && holds(&faults, "kfifo: memory\n");
-    assert!(rt; holds(&output, "") && (told || refused));
+fn refused_memory_of_an_answer(rt: HostRuntime) {
+    assert!(rt; run_case(&rt, &CASES[0]) != Ended::Otherwise);
+}
+
+#[test]
+fn refused_memory_of_a_fault(rt: HostRuntime) {
+    assert!(rt; run_case(&rt, &CASES[1]) != Ended::Otherwise);
+}
+
+#[test]
+fn refused_memory_of_a_misuse(rt: HostRuntime) {
+    assert!(rt; run_case(&rt, &CASES[2]) != Ended::Otherwise);
 }

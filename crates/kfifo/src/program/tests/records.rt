@@ -2,9 +2,9 @@
 
 use super::{run_line, run_on};
 use std::alloc::Global;
-use std::io;
 use std::io::{ErrorKind, Read};
 use std::test::Fail;
+use std::{fs, io};
 
 /// A dequeue finds the queue empty though an enqueue has ended before it.
 const EARLY_EMPTY: &str = r#"[{"thread":0,"op":"enq","item":1,"first":0,"last":8,"answer":"done"},
@@ -27,6 +27,21 @@ struct Broken;
 impl Read for Broken {
     fn read(&mut self, _piece: &mut [u8]) -> io::Result<usize> {
         Err(ErrorKind::Other.into())
+    }
+}
+
+/// Gives so many spaces.
+#[derive(Drop)]
+struct Spaces {
+    left: usize,
+}
+
+impl Read for Spaces {
+    fn read(&mut self, piece: &mut [u8]) -> io::Result<usize> {
+        let count = piece.len().min(self.left);
+        piece[..count].fill(b' ');
+        self.left -= count;
+        Ok(count)
     }
 }
 
@@ -55,7 +70,7 @@ const CHECKS: [(&str, &str, u8, &str); 14] = [
         3,
         "fault 4 breaks before\n",
     ),
-    ("check --k 1", RELAXED, 3, "no order\n"),
+    ("check -k 1", RELAXED, 3, "no order\n"),
     ("check", RELAXED, 0, "order\n"),
     ("check --order 0,1,2,3,4,5,6,7", RELAXED, 0, "legal\n"),
     (
@@ -222,5 +237,40 @@ fn tells_where_the_input_fails(rt: HostRuntime) -> Result<(), Fail> {
         assert!(rt; told.is(1, "", "kfifo: input\n"));
     }
     assert!(rt; run_line(&rt, "check")?.is(1, "", "kfifo: not json\n"));
+    Ok(())
+}
+
+#[test]
+fn refuses_an_input_of_one_byte_too_many(rt: HostRuntime) -> Result<(), Fail> {
+    for line in ["check", "measure"] {
+        // The last piece is of one byte.
+        let told = super::run_from(&rt, [line].as_slice(), &mut Spaces { left: 16_777_217 })?;
+        assert!(rt; told.is(1, "", "kfifo: input\n"), "{line}");
+        let told = super::run_from(&rt, [line].as_slice(), &mut Spaces { left: 16_777_216 })?;
+        assert!(rt; told.is(1, "", "kfifo: not json\n"), "{line}");
+    }
+    Ok(())
+}
+
+#[test]
+fn reads_an_order_from_a_file(rt: HostRuntime) -> Result<(), Fail> {
+    let path = "kfifo_order_of_a_test.txt";
+    let line = format!(in rt.alloc(); "check --order @{path}")?;
+    for (order, status, output, faults) in [
+        ("0,1,2,3,4,5,6,7", 0, "legal\n", ""),
+        (" 0, 1 ,2\n,3\t,4,\r\n5,6,7\n", 0, "legal\n", ""),
+        ("0,1\n", 3, "fault 3 leaves out\n", ""),
+        (" none\n", 3, "fault 3 leaves out\n", ""),
+        ("0,1 2,3,4,5,6,7", 1, "", "kfifo: order fault\n"),
+        ("0,,1", 1, "", "kfifo: order fault\n"),
+        ("", 1, "", "kfifo: order fault\n"),
+    ] {
+        fs::write(&rt, path, order)?;
+        let told = run_on(&rt, line.as_str(), RELAXED)?;
+        assert!(rt; told.is(status, output, faults), "{order}");
+    }
+    fs::remove_file(&rt, path)?;
+    let gone = run_on(&rt, line.as_str(), RELAXED)?;
+    assert!(rt; gone.is(1, "", "kfifo: order fault\n"));
     Ok(())
 }

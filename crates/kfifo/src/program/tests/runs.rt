@@ -1,6 +1,7 @@
 //! What `run` prints, and the faults of its sizes and words.
 
 use super::{run_line, run_words};
+use std::str::from_utf8;
 use std::test::Fail;
 
 #[test]
@@ -83,6 +84,8 @@ fn reads_leading_zeros_and_options_anywhere(rt: HostRuntime) -> Result<(), Fail>
         "run e7:1",
         "run e0000000007:0000000001",
         "run e7:1 --k 2",
+        "run -k 2 e7:1",
+        "run -k2 e7:1",
         "run --k=002 --segments=2 -- e7:1",
         "run --last 1099511627775 --turns 65535 --probes 2 e7:1",
     ] {
@@ -172,5 +175,18 @@ fn names_the_first_word_at_fault(rt: HostRuntime) -> Result<(), Fail> {
     // Behind two hyphens a word may begin with a hyphen.
     let behind = run_line(&rt, "run -- e7 -d")?;
     assert!(rt; behind.is(1, "", "kfifo: word fault at 2\n"));
+    Ok(())
+}
+
+#[test]
+fn prints_a_long_answer(rt: HostRuntime) -> Result<(), Fail> {
+    let told = run_line(&rt, "run -k 64 --segments 128 e7:63")?;
+    assert!(rt; told.status == 0 && told.faults.is_empty());
+    assert!(rt; told.output.len() > 65_536);
+    let text = from_utf8(told.output.as_slice())?;
+    assert!(rt; text.starts_with("enqueue 7: done\nhead 0 v1\ntail 0 v1\nslot 0.0 0 v0\n"));
+    assert!(rt; text.contains("\nslot 0.63 7 v1\nslot 1.0 0 v0\n"));
+    assert!(rt; text.ends_with("\nslot 127.63 0 v0\n"));
+    assert_eq!(rt; text.lines().count(), 1 + 2 + 128 * 64);
     Ok(())
 }

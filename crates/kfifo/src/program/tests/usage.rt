@@ -5,7 +5,7 @@ use std::str::from_utf8;
 use std::test::Fail;
 
 /// A command line that asks for help, and what stands in it.
-const HELP: [(&str, [&str; 3]); 9] = [
+const HELP: [(&str, [&str; 3]); 12] = [
     (
         "--help",
         [
@@ -19,7 +19,7 @@ const HELP: [(&str, [&str; 3]); 9] = [
         [
             "Usage: kfifo <COMMAND>\n",
             "\n  run ",
-            "\n  kfifo help run ",
+            "\n  kfifo run --help ",
         ],
     ),
     (
@@ -62,6 +62,30 @@ const HELP: [(&str, [&str; 3]); 9] = [
             "certainly overtaken",
         ],
     ),
+    (
+        "run --help",
+        [
+            "\n  kfifo: shape fault 4 ",
+            "\n  kfifo: word fault at <N> ",
+            "\nExit status:\n",
+        ],
+    ),
+    (
+        "check --help",
+        [
+            "\n  kfifo: record fault 7 at call <N> ",
+            "12 calls where no order is given",
+            "\n  3  `no order` ",
+        ],
+    ),
+    (
+        "measure --help",
+        [
+            "\n  kfifo: measure fault 2 ",
+            "16777216 bytes",
+            "\nExit status:\n",
+        ],
+    ),
     // Help is asked for before a shape or a word is looked at.
     (
         "run --k 0 x --help",
@@ -78,6 +102,14 @@ fn helps(rt: HostRuntime) -> Result<(), Fail> {
         for part in parts {
             assert!(rt; text.contains(part), "{line}: {part}: {text}");
         }
+    }
+    Ok(())
+}
+
+#[test]
+fn tells_its_version(rt: HostRuntime) -> Result<(), Fail> {
+    for line in ["--version", "-V"] {
+        assert!(rt; run_line(&rt, line)?.is(0, "kfifo 0.1.0\n", ""), "{line}");
     }
     Ok(())
 }
