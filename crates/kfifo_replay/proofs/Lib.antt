@@ -1,0 +1,5 @@
+pub mod Sums
+pub mod Events
+pub mod Within
+pub mod Undos
+pub mod Picking

@@ -1,0 +1,5 @@
+pub mod Picks
+pub mod Scripts
+pub mod Player
+pub mod Reports
+pub mod Finishing
