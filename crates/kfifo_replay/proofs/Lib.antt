@@ -3,3 +3,4 @@ pub mod Events
 pub mod Within
 pub mod Undos
 pub mod Picking
+pub mod Opening

@@ -1,8 +1,8 @@
 //! Replays, pick by pick.
-ghost use Rattle.std.specs.Prelude.{◌≡◌, ℕ, ◌+◌, ◌^◌, ◌<◌, ◌≤◌, ◌↔◌, List, [], ◌∷◌, ◌++◌, length, map, replicate, get_or, slice_get, All, vec_len, true, false, IsTrue, IfOk, IfErr, OnOk, OnErr, Err};
+ghost use Rattle.std.specs.Prelude.{◌≡◌, ℕ, ◌+◌, ◌^◌, ◌<◌, ◌≤◌, ◌↔◌, List, [], ◌∷◌, ◌++◌, length, map, replicate, get_or, slice_get, All, sum_by, true, false, IsTrue, IfOk, IfErr, OnOk, OnErr, Err};
 ghost use Rattle.kfifo_words.specs.declared.shape.Shape.{Shape};
 ghost use Rattle.kfifo_machine.specs.declared.event.Begin.{Begin};
-ghost use Rattle.kfifo_replay.specs.Scripts.{IsCall, IsScript, AreScripts, calls_in};
+ghost use Rattle.kfifo_replay.specs.Scripts.{IsCall, IsScript, AreScripts};
 ghost use Rattle.kfifo_replay.specs.Picks.{script_of, event_at};
 ghost use Rattle.kfifo_replay.specs.Player.{StandsFor, IsRefused, Stops};
 ghost use Rattle.kfifo_replay.specs.Player;
@@ -68,22 +68,28 @@ fn is_script(shape: &Shape, script: &[Begin]) -> bool
     script.len() <= MAX_CALLS && script.iter().all(|call| is_call(shape, *call))
 }
 
+/// Whether each of these is a script that a thread may have.
+fn is_each_script(shape: &Shape, scripts: &[Vec<Begin>]) -> bool
+    ensures { IsTrue result ↔ All (λ script. IsScript shape.now script.items) scripts.now }
+{
+    scripts.iter().all(|script| is_script(shape, script.as_slice()))
+}
+
 /// Whether a replay may have these scripts.
 fn are_scripts(shape: &Shape, scripts: &[Vec<Begin>]) -> bool
     ensures { IsTrue result ↔ AreScripts shape.now (map (λ script. script.items) scripts.now) }
 {
     !scripts.is_empty()
         && scripts.len() <= MAX_THREADS as usize
-        && scripts.iter().all(|script| is_script(shape, script.as_slice()))
+        && is_each_script(shape, scripts)
 }
 
 /// The number of their calls.
 fn count_calls(scripts: &[Vec<Begin>]) -> usize
-    requires few { length scripts.now ≤ 64 }
-    requires short { All (λ script. vec_len script ≤ 64) scripts.now }
-    ensures { result ≡ calls_in (map (λ script. script.items) scripts.now) }
+    requires { sum_by (λ script. length script.items) scripts.now < 2 ^ 64 }
+    ensures { result ≡ sum_by (λ script. length script.items) scripts.now }
 {
-    scripts.iter().map(|script| script.len()).sum()
+    scripts.iter().map(|script| script.as_slice().len()).sum()
 }
 
 /// Scripts of one's own, of the same calls.
