@@ -41,7 +41,7 @@ stands c =
     (subst (λ n. Follows n (calls_in (by_calls c.args.scripts.now)) [] (the_view c.linearizer.inside)) size
     (subst (λ n. Follows (length c.args.scripts.now) n [] (the_view c.linearizer.inside)) calls
     (subst (Follows (length c.args.scripts.now) c.count_calls-room.result []) (sym c.linearizer.view_is) follows)))
-    (c.in_ok-vec.ensures.items ∙ ap (λ n. replicate n 0) size)
+    (c.in_ok-vec.ensures.items_if_clones_equal (λ y is. is) ∙ ap (λ n. replicate n 0) size)
     (c.in_ok-new.ensures.log ∙ ap blank size)
     (subst (λ n. n ≤ c.in_ok-new.field-0.room) calls c.in_ok-new.ensures.room)
     refl
