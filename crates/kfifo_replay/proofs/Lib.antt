@@ -4,3 +4,4 @@ pub mod Within
 pub mod Undos
 pub mod Picking
 pub mod Opening
+pub mod Reporting
