@@ -72,16 +72,16 @@ fn is_script(shape: &Shape, script: &[Begin]) -> bool
 fn is_each_script(shape: &Shape, scripts: &[Vec<Begin>]) -> bool
     ensures { IsTrue result ↔ All (λ script. IsScript shape.now script.items) scripts.now }
 {
-    scripts.iter().all(|script| is_script(shape, script.as_slice()))
+    scripts
+        .iter()
+        .all(|script| is_script(shape, script.as_slice()))
 }
 
 /// Whether a replay may have these scripts.
 fn are_scripts(shape: &Shape, scripts: &[Vec<Begin>]) -> bool
     ensures { IsTrue result ↔ AreScripts shape.now (map (λ script. script.items) scripts.now) }
 {
-    !scripts.is_empty()
-        && scripts.len() <= MAX_THREADS as usize
-        && is_each_script(shape, scripts)
+    !scripts.is_empty() && scripts.len() <= MAX_THREADS as usize && is_each_script(shape, scripts)
 }
 
 /// The number of their calls.

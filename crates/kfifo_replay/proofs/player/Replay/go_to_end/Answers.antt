@@ -9,16 +9,20 @@ loop-init c = (0, λ shape scripts earlier stands. subst (λ (xs : List ℕ). St
 
 pub loop-preserved : goal.loop-preserved
 loop-preserved c =
-    let count : ℕ = c.loop.invariant.0 in
-    (count + 1, λ shape scripts earlier stands.
-    let more : (earlier ++ replicate count c.args.thread) ++ c.args.thread ∷ [] ≡ earlier ++ replicate (count + 1) c.args.thread =
-    append_assoc earlier (replicate count c.args.thread) (c.args.thread ∷ []) ∙ ap (λ (xs : List ℕ). earlier ++ xs) (replicate_more count c.args.thread) in
-    subst (λ (xs : List ℕ). StandsFor shape scripts xs c.pick.new.self) more
-    (c.pick.ensures.made c.loop-test.true shape scripts (earlier ++ replicate count c.args.thread) (c.loop.invariant.1 shape scripts earlier stands)))
+    let count : ℕ = c.loop.invariant.0 in (
+      count + 1,
+      λ shape scripts earlier stands.
+          let more : (earlier ++ replicate count c.args.thread) ++ c.args.thread ∷ [] ≡ earlier ++ replicate (count + 1) c.args.thread =
+          append_assoc earlier (replicate count c.args.thread) (c.args.thread ∷ []) ∙ ap (λ (xs : List ℕ). earlier ++ xs) (replicate_more count c.args.thread) in
+          subst (λ (xs : List ℕ). StandsFor shape scripts xs c.pick.new.self) more
+          (c.pick.ensures.made c.loop-test.true shape scripts (earlier ++ replicate count c.args.thread) (c.loop.invariant.1 shape scripts earlier stands)),
+    )
 
 pub returns : goal.returns
 returns c shape scripts earlier stands =
     let count : ℕ = c.loop.invariant.0 in
-    let now = c.loop.invariant.1 shape scripts earlier stands in
-    (replicate count c.args.thread, record { count = count; picks = refl; ended = c.pick.ensures.refused c.loop-test.false shape scripts (earlier ++ replicate count c.args.thread) now },
-    subst (StandsFor shape scripts (earlier ++ replicate count c.args.thread)) (sym (c.pick.ensures.unchanged c.loop-test.false)) now)
+    let now = c.loop.invariant.1 shape scripts earlier stands in (
+      replicate count c.args.thread,
+      record { count = count; picks = refl; ended = c.pick.ensures.refused c.loop-test.false shape scripts (earlier ++ replicate count c.args.thread) now },
+      subst (StandsFor shape scripts (earlier ++ replicate count c.args.thread)) (sym (c.pick.ensures.unchanged c.loop-test.false)) now,
+    )
