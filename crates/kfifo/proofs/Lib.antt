@@ -1,12 +1,4 @@
-pub mod Calls
 pub mod Numbers
-pub mod Orders
-pub mod Outcomes
-pub mod Refusals
-pub mod Reports
-pub mod Scripts
-pub mod Writings
-pub mod Rules
 pub mod Parsing
-pub mod Statuses
 pub mod Printed
+pub mod Rules

@@ -1,5 +1,5 @@
 -- What a parse of the program's words gives.
-use Rattle.std.proofs.Common.{◌≡◌, ◌≢◌, ◌∙◌, true, List, Option, Some, None, Result, Ok, Err, IfOk, IfErr, ap, ap₂, sym, subst, refl, inl, inr, option_map}
+use Rattle.std.proofs.Common.{◌≡◌, ◌≢◌, ◌∙◌, true, List, Option, Some, None, Result, Ok, Err, IfOk, ap, ap₂, sym, subst, refl, inl, inr, option_map}
 use Rattle.std.proofs.lemmas.Result.{IfOk-weaker}
 use Rattle.clap.proofs.OnLiterals.{clap_on_literals}
 use Rattle.clap.specs.Faults.{fault_of, is_simple_and_free}
@@ -12,7 +12,7 @@ use Rattle.clap.specs.declared.error.kind.ErrorKind.TheVariants.{OutOfMemory}
 use Rattle.clap.specs.declared.parser.matches.ArgMatches.TheViews.{out-ArgMatches, out-SubCommand}
 use Rattle.clap.specs.declared.parser.matches.Found.{Found}
 use Rattle.clap.specs.declared.parser.matches.SubCommand.{SubCommand}
-use Rattle.kfifo.specs.Endings.{Shows}
+use Rattle.kfifo.specs.Requests.{Shows}
 use Rattle.clap.specs.declared.error.Error.{Error}
 use Rattle.clap.specs.declared.parser.matches.ArgMatches.{ArgMatches}
 use Rattle.kfifo.specs.CommandLine.{Names, kfifo, kinds, named}
@@ -56,11 +56,6 @@ both_of (Some p) name rows e f =
 -- the matches of the command that was named
 pub named_as : (m : ArgMatches) (name : Text) (found : Found) → subcommand_name_of m ≡ Some name → option_map (λ p. p.1) (subcommand_rows_of m) ≡ Some (rows_of found) → Names (subcommand_rows_of m) name found
 named_as m name found e f = both_of (subcommand_rows_of m) name (rows_of found) (sym (same_name (out-ArgMatches m).subcommand) ∙ e) f
-
--- what each error has, the error of a result has
-pub any_err : {T E : Type 0} (r : Result T E) (P : E → Type 0) → ((e : E) → P e) → IfErr r P
-any_err (Ok x) P h = tt
-any_err (Err e) P h = h e
 
 -- help is shown where it was asked for
 pub help_asked : (ks : Kinds) (e : Error) → HasKind ks e → Shows (kind_of e) → (kind : ErrorKind) × IsAmong kind ks × Shows kind

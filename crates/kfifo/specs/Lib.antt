@@ -1,11 +1,3 @@
-pub mod Answers
 pub mod CommandLine
-pub mod Endings
-pub mod Faults
-pub mod Lines
 pub mod Options
-pub mod Orders
-pub mod Printing
-pub mod Records
-pub mod Reports
-pub mod Words
+pub mod Requests

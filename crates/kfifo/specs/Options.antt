@@ -1,10 +1,12 @@
 -- What the options of a command give.
-use Rattle.std.specs.Prelude.{◌≡◌, ℕ, ◌^◌, ◌<◌, ◌≤◌, List, length, Option, Some, None, MatchOption, unwrap_or}
+use Rattle.std.specs.Prelude.{◌≡◌, ℕ, ◌^◌, ◌<◌, ◌≤◌, List, [], length, Option, Some, None, MatchOption, codes, map, max, min, option_map, unwrap_or}
 use Rattle.std.specs.Str.Parse.{digits_value}
 use Rattle.clap.specs.declared.parser.matches.Found.{Found}
-use Rattle.clap.specs.Words.{one_text}
-use Rattle.kfifo.specs.declared.options.Sizes.{Sizes}
-use Rattle.kfifo.specs.Words.{IsDigits}
+use Rattle.clap.specs.Words.{first_value, matched_of, one_text, raw_values}
+use Rattle.kfifo_commands.specs.declared.options.CheckOptions.{CheckOptions}
+use Rattle.kfifo_commands.specs.declared.options.RunOptions.{RunOptions}
+use Rattle.kfifo_commands.specs.declared.sizes.Sizes.{Sizes}
+use Rattle.kfifo_commands.specs.Words.{IsDigits}
 
 -- an option with no text gives no number, and one whose digits write a number of so many bits gives that number
 abbrev pub GivesNumber : ℕ → Option (List ℕ) → Option ℕ → Type 0
@@ -18,8 +20,31 @@ pub record GivesOr (bits : ℕ) (text : Option (List ℕ)) (default number : ℕ
   pub is : number ≡ unwrap_or given default
 
 -- the sizes that the options give
-pub record GivesSizes (found : Found) (k segments last probes : List ℕ) (sizes : Sizes) : Type 0 where
-  pub k_given : GivesOr 32 (one_text found k) 2 sizes.k
-  pub segments_given : GivesOr 32 (one_text found segments) 2 sizes.segments
-  pub last_given : GivesOr 64 (one_text found last) 1099511627775 sizes.last
-  pub probes_given : GivesNumber 32 (one_text found probes) sizes.probes
+pub record GivesSizes (found : Found) (sizes : Sizes) : Type 0 where
+  pub k_given : GivesOr 32 (one_text found (codes "k")) 2 sizes.k
+  pub segments_given : GivesOr 32 (one_text found (codes "segments")) 2 sizes.segments
+  pub last_given : GivesOr 64 (one_text found (codes "last")) 1099511627775 sizes.last
+  pub probes_given : GivesNumber 32 (one_text found (codes "probes")) sizes.probes
+
+-- the rounds of a call, at least 1
+abbrev pub GivesTurns : Found → ℕ → Type 0
+GivesTurns found turns = (given : ℕ) × GivesOr 16 (one_text found (codes "turns")) 2 given × (turns ≡ max given 1)
+
+-- the words that the last positional has, none where it is left out
+abbrev pub given_words : Found → List (List ℕ)
+given_words found = unwrap_or (option_map raw_values (matched_of found (codes "words"))) []
+
+-- the options of `run`
+pub record GivesRun (found : Found) (options : RunOptions) : Type 0 where
+  pub sizes : GivesSizes found options.sizes
+  pub turns : GivesTurns found options.turns
+  pub words : map (λ word. word.now) options.words.now ≡ given_words found
+
+-- the option `--k` of `check`, from 1 to 64
+abbrev pub GivesPlaces : Found → ℕ → Type 0
+GivesPlaces found k = (given : ℕ) × GivesOr 32 (one_text found (codes "k")) 2 given × (k ≡ min (max given 1) 64)
+
+-- the options of `check`
+pub record GivesCheck (found : Found) (options : CheckOptions) : Type 0 where
+  pub k : GivesPlaces found options.k
+  pub order : option_map (λ text. text.now) options.order ≡ first_value found (codes "order")

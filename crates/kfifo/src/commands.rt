@@ -1,4 +1,4 @@
-//! The commands, one module for each: its options, its words, and its answer.
+//! The commands, one module for each: how it is written on the command line, and what its options give.
 
 pub mod check;
 pub mod measure;

@@ -2,22 +2,16 @@
 #![tactic(auto)]
 
 ghost use Rattle.std.specs.Prelude.{◌≡◌, ◌⊎◌};
-ghost use Rattle.kfifo.specs.Faults.{fault_line};
-ghost use Rattle.kfifo.specs.Printing.{Tells};
+ghost use Rattle.kfifo_commands.specs.Endings.{Tells};
+ghost use Rattle.kfifo_commands.specs.Faults.{fault_line};
+ghost use Rattle.kfifo_commands.specs.Printing.{OnPrinter};
 
 mod commands;
-mod fault;
 mod options;
-mod printing;
 mod program;
-mod report;
-mod status;
-mod words;
 
-use crate::program::{end_with_fault, program};
-use fault::Fault;
-use printing::Printer;
-use status::Status;
+use crate::program::program;
+use kfifo_commands::{Fault, Printer, Status, end_with_fault};
 use std::env;
 use std::io::{self, ErrorKind, Write};
 use std::process::ExitCode;
@@ -54,8 +48,8 @@ fn arguments<R: Env + AllocGlobal>(rt: &R) -> io::Result<Vec<String>> {
 
 /// Ends the program where the arguments could not be read: one is not UTF-8, or memory is short.
 fn end_without_words<F: Write>(error: &io::Error, faults: &mut Printer<'_, F>) -> u8
-    ensures { ((result ≡ 1) × Tells F.contents faults.old (fault_line Fault.Memory) faults.new)
-        ⊎ ((result ≡ 2) × Tells F.contents faults.old NO_TEXT.now faults.new) }
+    ensures { ((result ≡ 1) × Tells (OnPrinter F.contents faults.old faults.new) (fault_line Fault.Memory))
+        ⊎ ((result ≡ 2) × Tells (OnPrinter F.contents faults.old faults.new) NO_TEXT.now) }
 {
     if error.kind() == ErrorKind::OutOfMemory {
         return end_with_fault(Fault::Memory, faults).number();

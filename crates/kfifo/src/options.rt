@@ -1,13 +1,12 @@
 //! Options that several commands share.
-ghost use Rattle.std.specs.Prelude.{◌≡◌, ◌≤◌, ℕ, Some, false, IfOk, MatchResult, unwrap_or, max, codes};
+ghost use Rattle.std.specs.Prelude.{◌≡◌, ◌≤◌, false, IfOk};
 ghost use Rattle.clap.specs.Words.{app_of, found_of, one_text, rule_of};
 ghost use Rattle.clap.specs.declared.builder.command.Command.TheViews.{out-Command as fields_of};
-ghost use Rattle.kfifo_words.specs.Sizes.{fault_of};
 ghost use Rattle.kfifo.specs.CommandLine as line;
-ghost use Rattle.kfifo.specs.Options.{GivesOr};
+ghost use Rattle.kfifo.specs.Options.{GivesOr, GivesSizes, GivesTurns};
 
 use clap::{Arg, ArgAction, ArgMatches, Command, value_parser};
-use kfifo_words::{Shape, ShapeFault};
+use kfifo_commands::Sizes;
 use std::alloc::{AllocError, Global};
 
 const K: &str = "k";
@@ -28,42 +27,15 @@ const DEFAULT_LAST: u64 = 1_099_511_627_775;
 
 const DEFAULT_TURNS: u16 = 2;
 
-/// The sizes of a shape, as the command line gives them.
-#[derive(Clone, Copy, PartialEq, Eq, Debug)]
-pub struct Sizes {
-    /// Slots in a segment.
-    pub k: u32,
-    /// Segments in the ring.
-    pub segments: u32,
-    /// The greatest version.
-    pub last: u64,
-    /// Slots of a segment that an enqueue looks at; all k where it is left out.
-    pub probes: Option<u32>,
-}
-
-impl Sizes {
-    ghost use Rattle.kfifo.specs.Options.{GivesSizes};
-
-    /// The sizes that the options give.
-    pub fn of(matches: &ArgMatches<'_>) -> Sizes
-        ensures { GivesSizes (found_of matches.now) (codes "k") (codes "segments") (codes "last") (codes "probes") result }
-    {
-        Sizes {
-            k: count_of(matches, K, DEFAULT_K),
-            segments: count_of(matches, SEGMENTS, DEFAULT_SEGMENTS),
-            last: matches.get_one(LAST).unwrap_or(DEFAULT_LAST),
-            probes: matches.get_one(PROBES),
-        }
-    }
-
-    /// The shape of these sizes.
-    pub fn shape(self) -> Result<Shape, ShapeFault>
-        ensures { let probes = unwrap_or self.probes self.k in MatchResult result
-            (λ s. (s.k ≡ self.k) × (s.n ≡ self.segments) × (s.last ≡ self.last) × (s.probes ≡ probes))
-            (λ fault. fault_of self.k self.segments self.last probes ≡ Some fault) }
-    {
-        let probes = self.probes.unwrap_or(self.k);
-        Shape::with_probes(self.k, self.segments, self.last, probes)
+/// The sizes that the options give.
+pub fn sizes_of(matches: &ArgMatches<'_>) -> Sizes
+    ensures { GivesSizes (found_of matches.now) result }
+{
+    Sizes {
+        k: count_of(matches, K, DEFAULT_K),
+        segments: count_of(matches, SEGMENTS, DEFAULT_SEGMENTS),
+        last: matches.get_one(LAST).unwrap_or(DEFAULT_LAST),
+        probes: matches.get_one(PROBES),
     }
 }
 
@@ -115,7 +87,7 @@ pub fn with_turns<'a>(alloc: Global, command: Command<'a>) -> Result<Command<'a>
 /// The rounds of a call, at least 1: the option admits no less.
 pub fn turns_of(matches: &ArgMatches<'_>) -> u16
     ensures some { 1 ≤ result }
-    ensures given { (turns : ℕ) × GivesOr 16 (one_text (found_of matches.now) (codes "turns")) 2 turns × (result ≡ max turns 1) }
+    ensures given { GivesTurns (found_of matches.now) result }
 {
     matches.get_one(TURNS).unwrap_or(DEFAULT_TURNS).max(1)
 }

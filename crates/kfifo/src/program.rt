@@ -1,23 +1,21 @@
 //! The whole program over any reader and writers.
-ghost use Rattle.std.specs.Prelude.{◌≡◌, ◌≢◌, ℕ, ◌≤◌, ◌⊎◌, List, IfSome, IfOk, IfErr, map, string_bytes};
-ghost use Rattle.std.specs.Io.KnownBytes.{Appends};
+ghost use Rattle.std.specs.Prelude.{◌≡◌, ◌≢◌, ℕ, List, None, IfOk, IfSome, map, string_bytes};
 ghost use Rattle.clap.specs.Kinds.{FailsBy};
-ghost use Rattle.kfifo_judge.specs.Streams.{AppendsPart};
-ghost use Rattle.clap.specs.Words.{subcommand_rows_of};
+ghost use Rattle.clap.specs.Words.{kind_of, subcommand_rows_of};
 ghost use Rattle.kfifo.specs.CommandLine.{IsCommand, NamesNone, kfifo, kinds, named};
-ghost use Rattle.kfifo.specs.Endings.{Answers, AreAtFault, IsFault, IsPrinted, IsRefused, Shows};
-ghost use Rattle.kfifo.specs.Faults.{fault_line};
-ghost use Rattle.kfifo.specs.Printing.{Breaks, Tells, Writes};
-ghost use Rattle.kfifo.specs.Records.{status_number};
+ghost use Rattle.kfifo.specs.Requests.{IsFault, IsMisuse, IsPrinted, Requests, Shows};
+ghost use Rattle.kfifo_commands.specs.Endings.{Ends, Tells};
+ghost use Rattle.kfifo_commands.specs.Printing.{OnPrinter, OnWriter};
+ghost use Rattle.kfifo_commands.specs.Statuses.{status_number};
 
 use crate::commands::{check, measure, run};
-use crate::fault::Fault;
-use crate::printing::Printer;
-use crate::status::Status;
 use clap::error::ErrorKind;
 use clap::{ArgMatches, Command, Error};
+use kfifo_commands::{
+    Fault, Notice, Printer, Request, Status, carry_out, end_with_fault, end_with_text,
+};
+use kfifo_judge::{FromStd, Source};
 use std::alloc::{AllocError, Global};
-use std::fmt::Display;
 use std::io::{Read, Write};
 use std::thread::Threads;
 
@@ -39,111 +37,77 @@ pub fn program<T: Threads, R: Read, W: Write, F: Write>(
     output: &mut W,
     faults: &mut F,
 ) -> u8
-    ensures status { result ≤ 3 }
-    ensures printed { let texts = map (λ w. string_bytes w) words.now in (result ≡ 0) ⊎ (result ≡ 3) → (faults.new ≡ faults.old)
-        × ((text : List ℕ) × IsPrinted texts (R.remaining input.old) text result × Appends (W.contents output.old) (W.contents output.new) text) }
-    ensures failed { let texts = map (λ w. string_bytes w) words.now in result ≡ 1 →
-        ((faults.new ≡ faults.old) × ((text : List ℕ) × (status : ℕ) × IsPrinted texts (R.remaining input.old) text status × AppendsPart (W.contents output.old) (W.contents output.new) text))
-        ⊎ ((output.new ≡ output.old) × ((fault : Fault) × IsFault texts (R.remaining input.old) fault × AppendsPart (F.contents faults.old) (F.contents faults.new) (fault_line fault))) }
-    ensures misused { let texts = map (λ w. string_bytes w) words.now in result ≡ 2 → (output.new ≡ output.old)
-        × ((AreAtFault texts × ((text : List ℕ) × AppendsPart (F.contents faults.old) (F.contents faults.new) text))
-        ⊎ (NamesNone (named texts) × (faults.new ≡ faults.old))) }
+    // Std's contract of a reader has no word for a read that fails: so many did.
+    ensures { let texts = map (λ w. string_bytes w) words.now in (failed : ℕ)
+        × Ends (IsPrinted texts (R.remaining input.old) 0 failed) (IsFault texts (R.remaining input.old) 0 failed)
+        (IsMisuse texts (OnWriter F.contents faults.old faults.new))
+        (OnWriter W.contents output.old output.new) (OnWriter F.contents faults.old faults.new) result }
 {
+    let mut input = FromStd::new(input);
     let mut output = Printer::new(output);
     let mut faults = Printer::new(faults);
-    perform(alloc, words, input, &mut output, &mut faults)
+    perform(alloc, words, &mut input, &mut output, &mut faults)
 }
 
-/// The same over printers, which tell that a text breaks off only where a call of its writer failed.
-fn perform<R: Read, W: Write, F: Write>(
+/// The same over a source and printers, which count the calls that failed: the input is at fault, and a text
+/// breaks off, only where one did.
+fn perform<S: Source, W: Write, F: Write>(
     alloc: Global,
     words: &[String],
-    input: &mut R,
+    input: &mut S,
     output: &mut Printer<'_, W>,
     faults: &mut Printer<'_, F>,
 ) -> u8
-    ensures status { result ≤ 3 }
-    ensures printed { let texts = map (λ w. string_bytes w) words.now in (result ≡ 0) ⊎ (result ≡ 3) → (faults.new ≡ faults.old)
-        × ((text : List ℕ) × IsPrinted texts (R.remaining input.old) text result × Writes W.contents output.old text output.new) }
-    ensures failed { let texts = map (λ w. string_bytes w) words.now in result ≡ 1 →
-        ((faults.new ≡ faults.old) × ((text : List ℕ) × (status : ℕ) × IsPrinted texts (R.remaining input.old) text status × Breaks W.contents output.old text output.new))
-        ⊎ ((output.new ≡ output.old) × ((fault : Fault) × IsFault texts (R.remaining input.old) fault × Tells F.contents faults.old (fault_line fault) faults.new)) }
-    ensures misused { let texts = map (λ w. string_bytes w) words.now in result ≡ 2 → (output.new ≡ output.old)
-        × ((AreAtFault texts × ((text : List ℕ) × Tells F.contents faults.old text faults.new))
-        ⊎ (NamesNone (named texts) × (faults.new ≡ faults.old))) }
+    ensures { let texts = map (λ w. string_bytes w) words.now in
+        Ends (IsPrinted texts (S.remaining input.old) (S.failed input.old) (S.failed input.new))
+        (IsFault texts (S.remaining input.old) (S.failed input.old) (S.failed input.new))
+        (IsMisuse texts (OnPrinter F.contents faults.old faults.new))
+        (OnPrinter W.contents output.old output.new) (OnPrinter F.contents faults.old faults.new) result }
 {
     match parse(alloc, words) {
-        Ok(matches) => end_with_answer(alloc, &matches, input, output, faults).number(),
-        Err(error) => end_with_text(alloc, error.kind(), &error, output, faults).number(),
+        Ok(matches) => match request_of(&matches) {
+            Some(request) => carry_out(alloc, request, input, output, faults).number(),
+            None => Status::Misused.number(),
+        },
+        Err(error) => end_with_error(alloc, error, output, faults).number(),
     }
-}
-
-/// Does the command that the command line names, and writes its answer or the line of its fault.
-fn end_with_answer<R: Read, W: Write, F: Write>(
-    alloc: Global,
-    matches: &ArgMatches<'_>,
-    input: &mut R,
-    output: &mut Printer<'_, W>,
-    faults: &mut Printer<'_, F>,
-) -> Status
-    ensures printed { (result ≡ Status.Answered) ⊎ (result ≡ Status.Unordered) → (faults.new ≡ faults.old)
-        × ((text : List ℕ) × Answers (subcommand_rows_of matches.now) (R.remaining input.old) text (status_number result) × Writes W.contents output.old text output.new) }
-    ensures failed { result ≡ Status.Failed →
-        ((faults.new ≡ faults.old) × ((text : List ℕ) × (status : ℕ) × Answers (subcommand_rows_of matches.now) (R.remaining input.old) text status × Breaks W.contents output.old text output.new))
-        ⊎ ((output.new ≡ output.old) × ((fault : Fault) × IsRefused (subcommand_rows_of matches.now) (R.remaining input.old) fault × Tells F.contents faults.old (fault_line fault) faults.new)) }
-    ensures misused { result ≡ Status.Misused → (output.new ≡ output.old) × NamesNone (subcommand_rows_of matches.now) × (faults.new ≡ faults.old) }
-{
-    match answer(alloc, matches, input, output) {
-        Ok(status) => status,
-        Err(fault) => end_with_fault(fault, faults),
-    }
-}
-
-/// Writes the line of a fault. Where that fails the status stays.
-pub fn end_with_fault<F: Write>(fault: Fault, faults: &mut Printer<'_, F>) -> Status
-    ensures status { result ≡ Status.Failed }
-    ensures told { fault ≢ Fault.Output → Tells F.contents faults.old (fault_line fault) faults.new }
-    ensures silent { fault ≡ Fault.Output → faults.new ≡ faults.old }
-{
-    if fault != Fault::Output {
-        fault.tell(faults);
-    }
-    Status::Failed
 }
 
 /// Writes what a command line came to that names no command to be done: help, or what is wrong with it.
-fn end_with_text<D: Display + Drop, W: Write, F: Write>(
+fn end_with_error<W: Write, F: Write>(
     alloc: Global,
-    kind: ErrorKind,
-    text: D,
+    error: Error,
     output: &mut Printer<'_, W>,
     faults: &mut Printer<'_, F>,
 ) -> Status
-    ensures answered { result ≡ Status.Answered → Shows kind × (faults.new ≡ faults.old)
-        × ((bytes : List ℕ) × IfSome (D.output text) (λ known. bytes ≡ known) × Writes W.contents output.old bytes output.new) }
-    ensures failed { result ≡ Status.Failed →
-        (Shows kind × (faults.new ≡ faults.old) × ((bytes : List ℕ) × IfSome (D.output text) (λ known. bytes ≡ known) × Breaks W.contents output.old bytes output.new))
-        ⊎ ((output.new ≡ output.old) × Tells F.contents faults.old (fault_line Fault.Memory) faults.new) }
-    ensures misused { result ≡ Status.Misused → (¬ (Shows kind)) × (kind ≢ ErrorKind.OutOfMemory) × (output.new ≡ output.old)
-        × ((bytes : List ℕ) × IfSome (D.output text) (λ known. bytes ≡ known) × Tells F.contents faults.old bytes faults.new) }
-    ensures ordered { result ≢ Status.Unordered }
+    ensures { Ends (λ text status. Shows (kind_of error) × (status ≡ 0)) (λ fault. fault ≡ Fault.Memory)
+        ((¬ (Shows (kind_of error))) × (kind_of error ≢ ErrorKind.OutOfMemory) × ((text : List ℕ) × Tells (OnPrinter F.contents faults.old faults.new) text))
+        (OnPrinter W.contents output.old output.new) (OnPrinter F.contents faults.old faults.new) (status_number result) }
 {
-    let Ok(text) = text.to_string(alloc) else {
-        return end_with_fault(Fault::Memory, faults);
-    };
-    match kind {
+    match error.kind() {
         ErrorKind::OutOfMemory => end_with_fault(Fault::Memory, faults),
         ErrorKind::DisplayHelp | ErrorKind::DisplayVersion => {
-            match output.print(text.as_bytes()) {
-                Ok(()) => Status::Answered,
-                Err(_) => Status::Failed,
-            }
+            end_with_text(alloc, Notice::Help, error, output, faults)
         }
-        _ => {
-            faults.write(text.as_bytes());
-            Status::Misused
-        }
+        _ => end_with_text(alloc, Notice::Misuse, error, output, faults),
     }
+}
+
+/// What the command that was named is asked to do.
+fn request_of<'a>(matches: &'a ArgMatches<'_>) -> Option<Request<'a>>
+    ensures some { IfSome result (Requests (subcommand_rows_of matches.now)) }
+    ensures none { result ≡ None → NamesNone (subcommand_rows_of matches.now) }
+{
+    if let Some(options) = matches.subcommand_matches(run::NAME) {
+        return Some(Request::Run(run::options_of(options)));
+    }
+    if let Some(options) = matches.subcommand_matches(check::NAME) {
+        return Some(Request::Check(check::options_of(options)));
+    }
+    if let Some(_) = matches.subcommand_matches(measure::NAME) {
+        return Some(Request::Measure);
+    }
+    None
 }
 
 /// What the command line names.
@@ -170,39 +134,6 @@ fn command<'a>(alloc: Global) -> Result<Command<'a>, AllocError>
         .subcommand(run::command(alloc)?)?
         .subcommand(check::command(alloc)?)?
         .subcommand(measure::command(alloc)?)
-}
-
-/// Does the command that the command line names.
-fn answer<R: Read, W: Write>(
-    alloc: Global,
-    matches: &ArgMatches<'_>,
-    input: &mut R,
-    output: &mut Printer<'_, W>,
-) -> Result<Status, Fault>
-    ensures statuses { IfOk result (λ status. status ≢ Status.Failed) }
-    ensures printed { IfOk result (λ status. status ≢ Status.Misused → (text : List ℕ)
-        × Answers (subcommand_rows_of matches.now) (R.remaining input.old) text (status_number status) × Writes W.contents output.old text output.new) }
-    ensures misused { IfOk result (λ status. status ≡ Status.Misused → NamesNone (subcommand_rows_of matches.now) × (output.new ≡ output.old)) }
-    ensures broken { IfErr result (λ fault. fault ≡ Fault.Output → (text : List ℕ) × (status : ℕ)
-        × Answers (subcommand_rows_of matches.now) (R.remaining input.old) text status × Breaks W.contents output.old text output.new) }
-    ensures refused { IfErr result (λ fault. fault ≢ Fault.Output → IsRefused (subcommand_rows_of matches.now) (R.remaining input.old) fault × (output.new ≡ output.old)) }
-{
-    if let Some(options) = matches.subcommand_matches(run::NAME) {
-        let text = run::answer(alloc, options)?;
-        output.print(text.as_bytes())?;
-        return Ok(Status::Answered);
-    }
-    if let Some(options) = matches.subcommand_matches(check::NAME) {
-        let (text, status) = check::answer(alloc, options, input)?;
-        output.print(text.as_slice())?;
-        return Ok(status);
-    }
-    if let Some(_) = matches.subcommand_matches(measure::NAME) {
-        let text = measure::answer(alloc, input)?;
-        output.print(text.as_slice())?;
-        return Ok(Status::Answered);
-    }
-    Ok(Status::Misused)
 }
 
 #[cfg(test)]

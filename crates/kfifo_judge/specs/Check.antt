@@ -1,5 +1,5 @@
 -- What `check` writes, and the statuses that it ends with.
-use Rattle.std.specs.Prelude.{ℕ, ◌≡◌, ◌<◌, ◌⊎◌, List, [], ◌∷◌, ◌++◌, Option, Some, None, length, codes}
+use Rattle.std.specs.Prelude.{ℕ, ◌≡◌, ◌<◌, ◌≤◌, ◌⊎◌, List, [], ◌∷◌, ◌++◌, Option, Some, None, length, codes}
 use Rattle.std.specs.Fmt.{decimal}
 use Rattle.kfifo_model.specs.declared.calls.Call.{Call}
 use Rattle.kfifo_model.specs.declared.orders.Verdict.{Verdict}
@@ -33,10 +33,12 @@ verdict_status LeavesOut = 3
 verdict_status BreaksBefore = 3
 verdict_status (NotARun place) = 3
 
--- The text and the status that answer a history: whether some order is legal, or what is to be said of the given one.
+-- The text and the status that answer a history: whether some order of its 12 calls or fewer is legal, or what is to be said of the
+-- given one.
 abbrev pub IsCheckAnswer : ℕ → Option (List ℕ) → List Call → List ℕ → ℕ → Type 0
 IsCheckAnswer k None h text status =
-    (HasOrder k h × (text ≡ line (codes "order")) × (status ≡ 0)) ⊎ ((HasOrder k h → ⊥) × (text ≡ line (codes "no order")) × (status ≡ 3))
+    (length h ≤ 12)
+    × ((HasOrder k h × (text ≡ line (codes "order")) × (status ≡ 0)) ⊎ ((HasOrder k h → ⊥) × (text ≡ line (codes "no order")) × (status ≡ 3)))
 IsCheckAnswer k (Some order) h text status = (v : Verdict) × IsVerdict k h order v × (text ≡ verdict_text v) × (status ≡ verdict_status v)
 
 -- The text and the status answer the record that the bytes are.
@@ -48,8 +50,8 @@ pub record IsChecked (k : ℕ) (order : Option (List ℕ)) (bytes text : List �
 -- why a history has no answer
 abbrev pub IsUnanswered : Option (List ℕ) → List Call → StreamFault → Type 0
 IsUnanswered order h (faults.Search searches.TooLong) = (order ≡ None) × (12 < length h)
-IsUnanswered order h (faults.Search searches.Memory) = order ≡ None
-IsUnanswered order h faults.Memory = Unit {0}
+IsUnanswered order h (faults.Search searches.Memory) = (order ≡ None) × (length h ≤ 12)
+IsUnanswered order h faults.Memory = order ≡ None → length h ≤ 12
 IsUnanswered order h faults.NotJson = ⊥
 IsUnanswered order h (faults.Record f) = ⊥
 IsUnanswered order h faults.RepeatedItem = ⊥

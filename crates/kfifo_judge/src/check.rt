@@ -8,7 +8,7 @@ ghost use Rattle.kfifo_judge.specs.Streams.{CountsOne, AppendsPart};
 ghost use Rattle.kfifo_judge.specs.Check.{line, verdict_text, verdict_status, IsCheckAnswer, IsChecked, IsUnanswered, IsCheckFault};
 
 use crate::record::{StreamFault, read_record};
-use crate::streams::{ReadFault, Sink, Source, read_all, write_all};
+use crate::streams::{Sink, Source, read_all, write_all};
 use kfifo_model::{History, Verdict, check_order, has_order};
 use std::alloc::{AllocError, Global};
 
@@ -56,30 +56,16 @@ fn answer(
     ensures { let o = option_map (λ s. s.now) order.entry in
         MatchResult result (λ a. IsCheckAnswer k o history.now (string_bytes a.0) a.1) (IsUnanswered o history.now) }
 {
-    let line = match order {
-        Some(order) => match check_order(alloc, history, k, order) {
-            Ok(verdict) => match verdict_line(alloc, verdict) {
-                Ok(line) => Ok((line, status_of(verdict))),
-                Err(_) => Err(StreamFault::Memory),
-            },
-            Err(_) => Err(StreamFault::Memory),
-        },
+    match order {
+        Some(order) => {
+            let verdict = check_order(alloc, history, k, order)?;
+            Ok((verdict_line(alloc, verdict)?, status_of(verdict)))
+        }
         None => match has_order(alloc, history, k) {
-            Ok(true) => with_status(line_of(alloc, "order"), 0),
-            Ok(false) => with_status(line_of(alloc, "no order"), 3),
+            Ok(true) => Ok((line_of(alloc, "order")?, 0)),
+            Ok(false) => Ok((line_of(alloc, "no order")?, 3)),
             Err(fault) => Err(StreamFault::Search(fault)),
         },
-    };
-    line
-}
-
-/// A line with a status, where there was memory for it.
-fn with_status(line: Result<String, AllocError>, status: u8) -> Result<(String, u8), StreamFault>
-    ensures { MatchResult result (λ a. (line ≡ Ok a.0) × (a.1 ≡ status)) (λ f. f ≡ StreamFault.Memory) }
-{
-    match line {
-        Ok(line) => Ok((line, status)),
-        Err(_) => Err(StreamFault::Memory),
     }
 }
 
@@ -132,17 +118,14 @@ pub fn check_stream<R: Source, W: Sink>(
     ensures faults { let o = option_map (λ s. s.now) order.entry in
         IfErr result (λ f. f ≢ StreamFault.Input → f ≢ StreamFault.Output → f ≢ StreamFault.Memory →
         (bytes : List ℕ) × IfSome (R.remaining source.old) (λ given. given ≡ bytes) × IsCheckFault o bytes f) }
+    // Every answer but Input and Memory: all that the source had to give, no longer than the limit, was read.
+    ensures short { result ≢ Err StreamFault.Input → result ≢ Err StreamFault.Memory → IfSome (R.remaining source.old) (λ given. length given ≤ 16777216) }
     // No call failed but the one that was answered.
     ensures source_calls { (result ≢ Err StreamFault.Input) → R.failed source.new ≡ R.failed source.old }
     ensures sink_calls { (result ≢ Err StreamFault.Output) → W.failed sink.new ≡ W.failed sink.old }
     ensures sink_failed { result ≡ Err StreamFault.Output → CountsOne (W.failed sink.old) (W.failed sink.new) }
 {
-    let bytes = match read_all(alloc, source) {
-        Ok(bytes) => bytes,
-        Err(ReadFault::Memory) => return Err(StreamFault::Memory),
-        Err(ReadFault::Failed) => return Err(StreamFault::Input),
-        Err(ReadFault::TooLong) => return Err(StreamFault::Input),
-    };
+    let bytes = read_all(alloc, source)?;
     match answer_text(alloc, &bytes, k, order) {
         Ok((text, status)) => {
             if write_all(sink, text.as_bytes()) {

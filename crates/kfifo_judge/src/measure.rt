@@ -1,5 +1,5 @@
 //! The answer of the command `measure`.
-ghost use Rattle.std.specs.Prelude.{ℕ, ◌≡◌, ◌≢◌, ◌<◌, ◌⊎◌, List, string_bytes, length, Err, IfOk, IfErr, IfSome, MatchResult};
+ghost use Rattle.std.specs.Prelude.{ℕ, ◌≡◌, ◌≢◌, ◌<◌, ◌≤◌, ◌⊎◌, List, string_bytes, length, Err, IfOk, IfErr, IfSome, MatchResult};
 ghost use Rattle.std.specs.Io.KnownBytes.{Appends, Keeps};
 ghost use Rattle.kfifo_model.specs.declared.calls.Call.{Call};
 ghost use Rattle.kfifo_model.specs.Measures.{IsDoneEnqueue, HasDistinctItems};
@@ -8,7 +8,7 @@ ghost use Rattle.kfifo_judge.specs.Streams.{CountsOne, AppendsPart};
 ghost use Rattle.kfifo_judge.specs.Measure.{overtaken_line, measure_text, IsMeasured, IsUnmeasured, IsMeasuringFault};
 
 use crate::record::{StreamFault, read_record};
-use crate::streams::{ReadFault, Sink, Source, read_all, write_all};
+use crate::streams::{Sink, Source, read_all, write_all};
 use kfifo_model::{History, MeasureFault, Overtaken, measure};
 use std::alloc::{AllocError, Global};
 
@@ -44,10 +44,7 @@ fn answer(alloc: Global, history: &History) -> Result<String, StreamFault>
         × ((n : ℕ) → IsDoneEnqueue history.now n → HasDistinctItems history.now)) (IsUnmeasured history.now) }
 {
     match measure(alloc, history) {
-        Ok(found) => match all_lines(alloc, &found) {
-            Ok(text) => Ok(text),
-            Err(_) => Err(StreamFault::Memory),
-        },
+        Ok(found) => Ok(all_lines(alloc, &found)?),
         Err(MeasureFault::RepeatedItem) => Err(StreamFault::RepeatedItem),
         Err(MeasureFault::Memory) => Err(StreamFault::Memory),
     }
@@ -89,17 +86,14 @@ pub fn measure_stream<R: Source, W: Sink>(
         ⊎ ((R.failed source.new ≡ R.failed source.old) × IfSome (R.remaining source.old) (λ given. 16777216 < length given)) }
     ensures faults { IfErr result (λ f. f ≢ StreamFault.Input → f ≢ StreamFault.Output → f ≢ StreamFault.Memory →
         (bytes : List ℕ) × IfSome (R.remaining source.old) (λ given. given ≡ bytes) × IsMeasuringFault bytes f) }
+    // Every answer but Input and Memory: all that the source had to give, no longer than the limit, was read.
+    ensures short { result ≢ Err StreamFault.Input → result ≢ Err StreamFault.Memory → IfSome (R.remaining source.old) (λ given. length given ≤ 16777216) }
     // No call failed but the one that was answered.
     ensures source_calls { (result ≢ Err StreamFault.Input) → R.failed source.new ≡ R.failed source.old }
     ensures sink_calls { (result ≢ Err StreamFault.Output) → W.failed sink.new ≡ W.failed sink.old }
     ensures sink_failed { result ≡ Err StreamFault.Output → CountsOne (W.failed sink.old) (W.failed sink.new) }
 {
-    let bytes = match read_all(alloc, source) {
-        Ok(bytes) => bytes,
-        Err(ReadFault::Memory) => return Err(StreamFault::Memory),
-        Err(ReadFault::Failed) => return Err(StreamFault::Input),
-        Err(ReadFault::TooLong) => return Err(StreamFault::Input),
-    };
+    let bytes = read_all(alloc, source)?;
     match answer_text(alloc, &bytes) {
         Ok(text) => {
             if write_all(sink, text.as_bytes()) {

@@ -5,9 +5,10 @@ ghost use Rattle.std.specs.Io.KnownBytes.{Appends, Consumes, Keeps, ReadConsumes
 ghost use Rattle.kfifo_judge.specs.Streams.{countable, CountsOne, CountsRead, CountsWrite, AppendsPart};
 ghost use Rattle.kfifo_judge.specs.ReadCounts.{IsReadCount};
 
-use std::alloc::Global;
+use std::alloc::{AllocError, Global};
 use std::io;
 use std::io::{Read, Write};
+use thiserror::Error;
 
 /// The most bytes of an input.
 pub const MOST_BYTES: usize = 16_777_216;
@@ -99,14 +100,27 @@ impl<W: Write> Sink for FromStd<W> {
 }
 
 /// Why no input was read.
-#[derive(Clone, Copy, Debug, PartialEq, Eq)]
+#[derive(Clone, Copy, Debug, PartialEq, Eq, Error)]
 pub enum ReadFault {
     /// A call of the source failed.
+    #[error("reading failed")]
     Failed,
     /// Over 16,777,216 bytes came.
+    #[error("the input is over 16,777,216 bytes")]
     TooLong,
-    /// A growth was refused.
+    /// An allocation failed.
+    #[error("out of memory")]
     Memory,
+}
+
+impl From<AllocError> for ReadFault {
+    ghost use Rattle.kfifo_judge.specs.declared.streams.ReadFault.TheVariants.{Memory};
+
+    ghost from_gives = { λ _ fault. fault ≡ Memory };
+
+    fn from(_: AllocError) -> ReadFault {
+        ReadFault::Memory
+    }
 }
 
 /// All that a source gives, at most 16,777,216 bytes. A call that failed is not made again.
@@ -130,9 +144,7 @@ pub fn read_all<R: Source>(alloc: Global, source: &mut R) -> Result<Vec<u8>, Rea
         if count > MOST_BYTES - bytes.len() {
             return Err(ReadFault::TooLong);
         }
-        if let Err(_) = bytes.extend_from_slice(&piece[..count]) {
-            return Err(ReadFault::Memory);
-        }
+        bytes.extend_from_slice(&piece[..count])?;
     }
 }
 

@@ -88,19 +88,19 @@ module _ (shape : Shape) (ends a b : ℕ) (ok : EndsOk shape ends a b) where
       record { head = head_below shape ends a b ok; tail = tail_below shape ends a b ok }
 
 -- after a step
-pub ends_stay : (shape : Shape) → (words : ℕ → ℕ) (thread : ℕ) (running : Running) (l : Ledger) → EndsOk shape (words 0) l.a l.b → Sane shape running → EndsOk shape (words_by (access shape running) words 0) (stepped shape words thread running l).a (stepped shape words thread running l).b
+pub ends_stay : (shape : Shape) → (words : ℕ → ℕ) (thread : ℕ) (running : Running) (l : Ledger) → EndsOk shape (words 0) l.head l.tail → Sane shape running → EndsOk shape (words_by (access shape running) words 0) (stepped shape words thread running l).head (stepped shape words thread running l).tail
 unfolding stepped
 ends_stay shape words thread running l ok s =
-    let r : InRing shape (words 0) = ends_in_ring shape (words 0) l.a l.b ok in
-    let nh : next_segment shape.n (head_of (words 0)) ≡ (l.a + 1) % shape.n = ap (next_segment shape.n) ok.head ∙ next-mod shape.n l.a shape.some_segments in
-    let nt : next_segment shape.n (tail_of (words 0)) ≡ (l.b + 1) % shape.n = ap (next_segment shape.n) ok.tail ∙ next-mod shape.n l.b shape.some_segments in
-    let same = same_end shape (words 0) l.a l.b ok in
-    let other = other_end shape (words 0) l.a l.b ok in
-    let full = full_ring shape (words 0) l.a l.b ok in
-    let room = room_in_ring shape (words 0) l.a l.b ok in
+    let r : InRing shape (words 0) = ends_in_ring shape (words 0) l.head l.tail ok in
+    let nh : next_segment shape.n (head_of (words 0)) ≡ (l.head + 1) % shape.n = ap (next_segment shape.n) ok.head ∙ next-mod shape.n l.head shape.some_segments in
+    let nt : next_segment shape.n (tail_of (words 0)) ≡ (l.tail + 1) % shape.n = ap (next_segment shape.n) ok.tail ∙ next-mod shape.n l.tail shape.some_segments in
+    let same = same_end shape (words 0) l.head l.tail ok in
+    let other = other_end shape (words 0) l.head l.tail ok in
+    let full = full_ring shape (words 0) l.head l.tail ok in
+    let room = room_in_ring shape (words 0) l.head l.tail ok in
     grind (arith, nat_tests, noted-same, noted-other, head-ends_word, tail-ends_word, next_segment-below)
 
--- a word that a step looks at is one of the table
+-- a word that a step finds is one of the table
 pub sane_in_table : (shape : Shape) (running : Running) → Sane shape running → accessed (access shape running) < table_size shape
 sane_in_table shape running s = grind (arith, nat_tests, scan_index-is_slot)
 
@@ -109,7 +109,7 @@ begun_sane shape b r m e = grind (arith, nat_tests, and_parts)
 
 -- Head and tail are where their numbers say, and each thread's place is sane
 pub record Base (shape : Shape) (w : ℕ → ℕ) (p : ℕ → Option Running) (l : Ledger) : Type 0 where
-  pub ends : EndsOk shape (w 0) l.a l.b
+  pub ends : EndsOk shape (w 0) l.head l.tail
   pub sane : (t : ℕ) (r : Running) → p t ≡ Some r → Sane shape r
 
 -- the place that a step leads to is sane
@@ -129,7 +129,7 @@ module _ (shape : Shape) where
   pub base_step : (w : ℕ → ℕ) (p : ℕ → Option Running) (l : Ledger) (t : ℕ) (r : Running) → Base shape w p l → p t ≡ Some r → Base shape (words_by (access shape r) w) (noted p t (place_after (advance shape r (found_in shape w r)))) (stepped shape w t r l)
   base_step w p l t r h e =
       let s : Sane shape r = h.sane t r e in
-      let look : accessed (access shape r) ≡ 0 → InRing shape (found_in shape w r) = λ z. rw z (ends_in_ring shape (w 0) l.a l.b h.ends) in
+      let look : accessed (access shape r) ≡ 0 → InRing shape (found_in shape w r) = λ z. rw z (ends_in_ring shape (w 0) l.head l.tail h.ends) in
       let n : NextSane shape (advance shape r (found_in shape w r)) = stays_sane shape r (found_in shape w r) s look in
       record {
         ends = ends_stay shape w t r l h.ends s;
@@ -170,7 +170,7 @@ module _ (shape : Shape) where
       }
 
   -- after every schedule the tail is less than a round ahead of the head, and both are where their numbers say
-  pub no_wrap : (threads : ℕ) (events : List Event) (final : World) → run shape (Some (opening shape threads)) events ≡ Some final → EndsOk shape (word_at final 0) (ledger_of shape (Some (opening shape threads)) events blank).a (ledger_of shape (Some (opening shape threads)) events blank).b
+  pub no_wrap : (threads : ℕ) (events : List Event) (final : World) → run shape (Some (opening shape threads)) events ≡ Some final → EndsOk shape (word_at final 0) (ledger_of shape (Some (opening shape threads)) events blank).head (ledger_of shape (Some (opening shape threads)) events blank).tail
   no_wrap threads events final e =
       (after_all shape (Base shape) base_table base_begin base_step base_tick events (opening shape threads) final blank
       (record { size = opening_size shape threads; holds = base_opening threads })

@@ -30,13 +30,13 @@ pub record Takes (shape : Shape) (w : ℕ → ℕ) (l l' : Ledger) (t i : ℕ) :
   pub full : value_of (w i) ≢ 0
   pub fresh : l.standing (l.caller t) ≡ Outside
   pub inside : l.standing (l.owner i) ≡ Inside i
-  pub born : l.born i ≤ l.head_seen t
-  pub past : l.head_seen t < l.b
-  pub reached : l.head_seen t ≤ l.a
+  pub loaded : l.tail_at_load i ≤ l.head_seen t
+  pub past : l.head_seen t < l.tail
+  pub reached : l.head_seen t ≤ l.head
   pub place : l.head_seen t % shape.n ≡ segment_of shape i
-  pub a_same : l'.a ≡ l.a
-  pub b_same : l'.b ≡ l.b
-  pub low : l'.low i ≡ l.head_seen t + 1
+  pub head_same : l'.head ≡ l.head
+  pub tail_same : l'.tail ≡ l.tail
+  pub untaken : l'.untaken_from i ≡ l.head_seen t + 1
   pub last : l'.last (l.caller t) ≡ Some l.now
   pub answer : is_some (l'.answer (l.caller t)) ≡ true
   pub gone : l'.standing (l.owner i) ≡ Gone i (l.head_seen t) (gone_point l i (l.head_seen t))
@@ -51,7 +51,7 @@ gone_at_tail shape w w' l l' t i n c now times k here =
     let kept : l'.tails (l.head_seen t) ≡ l.tails (l.head_seen t) = c.tails_kept (l.head_seen t) k.past in
     let below : 0 < l.head_seen t → l'.tails (l.head_seen t - 1) ≡ l.tails (l.head_seen t - 1) = λ z. c.tails_kept (l.head_seen t - 1) (omega (arith, k.past)) in
     let rise : 0 < l.head_seen t → l.tails (l.head_seen t - 1) < l.tails (l.head_seen t) = λ z. times.tails_rise (l.head_seen t - 1) (l.head_seen t) (omega arith) k.past in
-    let at : AtTail l' (l.head_seen t) (l.tails (l.head_seen t)) = record { reached = omega (arith, k.past, k.b_same); after = λ z. omega (arith, below z, rise z); before = λ z. omega (arith, kept); past = omega (arith, now) } in
+    let at : AtTail l' (l.head_seen t) (l.tails (l.head_seen t)) = record { reached = omega (arith, k.past, k.tail_same); after = λ z. omega (arith, below z, rise z); before = λ z. omega (arith, kept); past = omega (arith, now) } in
     elim (cases_Bool (l.settled i)) [
       | inr e ↦ rw e at
       | inl e ↦
@@ -80,15 +80,15 @@ took_at_head shape w w' l l' t i c now times k =
     let tails_v : l.tails (l.head_seen t) < l.now = times.tails_past (l.head_seen t) k.past in
     let below : 0 < l.head_seen t → l'.heads (l.head_seen t - 1) ≡ l.heads (l.head_seen t - 1) = λ z. c.heads_kept (l.head_seen t - 1) (omega (arith, k.reached)) in
     let past : 0 < l.head_seen t → l.heads (l.head_seen t - 1) < l.now = λ z. times.heads_past (l.head_seen t - 1) (omega (arith, k.reached)) in
-    elim (cases_Bool (ltb (l.head_seen t) l.a)) [
+    elim (cases_Bool (ltb (l.head_seen t) l.head)) [
       | inl e ↦
-          let lt : l.head_seen t < l.a = ltb-true _ _ e in
+          let lt : l.head_seen t < l.head = ltb-true _ _ e in
           let same : l'.heads (l.head_seen t) ≡ l.heads (l.head_seen t) = c.heads_kept (l.head_seen t) lt in
           let rise : 0 < l.head_seen t → l.heads (l.head_seen t - 1) < l.heads (l.head_seen t) = λ z. times.heads_rise (l.head_seen t - 1) (l.head_seen t) (omega arith) lt in
-          rw e (record { reached = omega (arith, k.a_same); after = λ z. omega (arith, below z, rise z); before = λ z. omega (arith, same); past = omega (arith, now, times.heads_past (l.head_seen t) lt); tail_past = omega (arith, k.past, k.b_same); tail_before = omega (arith, kept, times.tail_first (l.head_seen t) lt) })
+          rw e (record { reached = omega (arith, k.head_same); after = λ z. omega (arith, below z, rise z); before = λ z. omega (arith, same); past = omega (arith, now, times.heads_past (l.head_seen t) lt); tail_past = omega (arith, k.past, k.tail_same); tail_before = omega (arith, kept, times.tail_first (l.head_seen t) lt) })
       | inr e ↦
-          let ge : l.a ≤ l.head_seen t = ltb-false _ _ e in
-          rw e (record { reached = omega (arith, k.reached, k.a_same); after = λ z. omega (arith, below z, past z); before = λ z. absurd (omega (arith, k.a_same)); past = omega (arith, now); tail_past = omega (arith, k.past, k.b_same); tail_before = omega (arith, kept) })
+          let ge : l.head ≤ l.head_seen t = ltb-false _ _ e in
+          rw e (record { reached = omega (arith, k.reached, k.head_same); after = λ z. omega (arith, below z, past z); before = λ z. absurd (omega (arith, k.head_same)); past = omega (arith, now); tail_past = omega (arith, k.past, k.tail_same); tail_before = omega (arith, kept) })
     ]
 
 -- a dequeue that finds the queue empty now
@@ -101,12 +101,12 @@ stands_clear shape w l i (R.Dequeue start left (D.Recheck ends Nothing)) k pos s
 stands_clear shape w l i other k pos s c e g = absurd e
 
 -- nothing in the table is settled then
-none_settled_now : (shape : Shape) (w : ℕ → ℕ) (l : Ledger) (i : ℕ) (r : Running) → 0 < shape.k → IsSlotIndex shape i → EndsOk shape (w 0) l.a l.b → l.b ≡ l.a → Sane shape r → HasClear shape w l r → Stands w r → SlotOk shape w l i → l.settled i ≡ false
+none_settled_now : (shape : Shape) (w : ℕ → ℕ) (l : Ledger) (i : ℕ) (r : Running) → 0 < shape.k → IsSlotIndex shape i → EndsOk shape (w 0) l.head l.tail → l.tail ≡ l.head → Sane shape r → HasClear shape w l r → Stands w r → SlotOk shape w l i → l.settled i ≡ false
 none_settled_now shape w l i r k is_slot ok same s c st here =
     elim (cases_Bool (l.settled i)) [
       | inl e ↦
           let h : SettledOk shape l i = here.settled e in
-          let v : l.visit i ≡ l.a = omega (arith, h.from_head, h.to_tail) in
+          let v : l.visit i ≡ l.head = omega (arith, h.from_head, h.to_tail) in
           stands_clear shape w l i r k is_slot.above s c st (sym h.place ∙ ap (λ x. x % shape.n) v ∙ sym ok.head)
       | inr e ↦ e
     ]
@@ -114,12 +114,12 @@ none_settled_now shape w l i r k is_slot ok same s c st here =
 above : (x p : ℕ) → x ≢ p → p ≤ x → p < x
 above x p ne le = elim (cases_eq x p) [ inl e ↦ absurd (ne e) | inr n ↦ omega arith ]
 
-settle_point_late : (l : Ledger) (v p x : ℕ) → Times l → AtTail l v p → ((y : ℕ) → y < l.b → l.tails y ≢ p) → v ≤ x → p < settle_point l x
+settle_point_late : (l : Ledger) (v p x : ℕ) → Times l → AtTail l v p → ((y : ℕ) → y < l.tail → l.tails y ≢ p) → v ≤ x → p < settle_point l x
 unfolding settle_point
 settle_point_late l v p x times at apart h =
-    elim (cases_Bool (ltb x l.b)) [
+    elim (cases_Bool (ltb x l.tail)) [
       | inl e ↦
-          let lt : x < l.b = ltb-true _ _ e in
+          let lt : x < l.tail = ltb-true _ _ e in
           rw e (elim (cases_eq v x) [
             | inl q ↦ above (l.tails x) p (apart x lt) (omega (arith, ap l.tails q, at.before (omega (arith, q))))
             | inr q ↦ omega (arith, at.before (omega arith), times.tails_rise v x (omega arith) lt)
@@ -149,7 +149,7 @@ inside_outside i e = cc
 gone_started : (shape : Shape) (w : ℕ → ℕ) (l : Ledger) (t : ℕ) (l' : Ledger) (i : ℕ) → Takes shape w l l' t i → SlotOk shape w l i → l.first (l.owner i) ≤ gone_point l i (l.head_seen t)
 unfolding gone_point
 gone_started shape w l t l' i k here =
-    let tails : l.first (l.owner i) ≤ l.tails (l.head_seen t) = (here.full k.full).after (l.head_seen t) k.born k.past in
+    let tails : l.first (l.owner i) ≤ l.tails (l.head_seen t) = (here.full k.full).after (l.head_seen t) k.loaded k.past in
     elim (cases_Bool (l.settled i)) [ inl e ↦ rw e (omega (arith, (here.settled e).started)) | inr e ↦ rw e tails ]
 
 gone_ended : (shape : Shape) (w : ℕ → ℕ) (l : Ledger) (t i e : ℕ) → SlotOk shape w l i → value_of (w i) ≢ 0 → l.last (l.owner i) ≡ Some e → gone_point l i (l.head_seen t) ≤ e
@@ -163,12 +163,12 @@ gone_ended shape w l t i e here full g =
 took_started : (l : Ledger) (t : ℕ) → l.first (l.caller t) ≤ l.now → Round l t → l.first (l.caller t) ≤ took_point l (l.head_seen t)
 unfolding took_point
 took_started l t n rd =
-    elim (cases_Bool (ltb (l.head_seen t) l.a)) [
+    elim (cases_Bool (ltb (l.head_seen t) l.head)) [
       | inl e ↦ rw e (rd.heads_after (l.head_seen t) (omega arith) (ltb-true _ _ e))
       | inr e ↦ rw e n
     ]
 
-module _ (shape : Shape) (w : ℕ → ℕ) (l : Ledger) (t : ℕ) (r : Running) (s : Sane shape r) (ok : EndsOk shape (w 0) l.a l.b) (me : ThreadOk shape w l t r) (times : Times l) (all : Slots shape w l) where
+module _ (shape : Shape) (w : ℕ → ℕ) (l : Ledger) (t : ℕ) (r : Running) (s : Sane shape r) (ok : EndsOk shape (w 0) l.head l.tail) (me : ThreadOk shape w l t r) (times : Times l) (all : Slots shape w l) where
   -- whose item was taken before, or is now
   pub standing_gone : (c i v p : ℕ) → (stepped shape w t r l).standing c ≡ Gone i v p → (l.standing c ≡ Gone i v p) ⊎ (Takes shape w l (stepped shape w t r l) t i × IsSlotIndex shape i × (c ≡ l.owner i) × (v ≡ l.head_seen t) × (p ≡ gone_point l i v))
   unfolding stepped
@@ -178,17 +178,17 @@ module _ (shape : Shape) (w : ℕ → ℕ) (l : Ledger) (t : ℕ) (r : Running) 
   unfolding stepped
   standing_took c o v p e = let f = me.fresh in let g = me.target in let rd = me.round in grind (arith, nat_tests, noted_tells)
 
-  standing_stood : (c v p : ℕ) → (stepped shape w t r l).standing c ≡ Stood v p → (l.standing c ≡ Stood v p) ⊎ (Stands w r × (c ≡ l.caller t) × (v ≡ l.a) × (p ≡ l.now) × (l.b ≡ l.a) × ((stepped shape w t r l).a ≡ l.a) × ((stepped shape w t r l).b ≡ l.b))
+  standing_stood : (c v p : ℕ) → (stepped shape w t r l).standing c ≡ Stood v p → (l.standing c ≡ Stood v p) ⊎ (Stands w r × (c ≡ l.caller t) × (v ≡ l.head) × (p ≡ l.now) × (l.tail ≡ l.head) × ((stepped shape w t r l).head ≡ l.head) × ((stepped shape w t r l).tail ≡ l.tail))
   unfolding stepped
-  standing_stood c v p e = let f = me.fresh in let same = same_end shape (w 0) l.a l.b ok in grind (arith, nat_tests, noted_tells)
+  standing_stood c v p e = let f = me.fresh in let same = same_end shape (w 0) l.head l.tail ok in grind (arith, nat_tests, noted_tells)
 
   standing_inside : (c i : ℕ) → (l.standing c ≡ Inside i → InsideOk shape w l c i) → (stepped shape w t r l).standing c ≡ Inside i → InsideOk shape (words_by (access shape r) w) (stepped shape w t r l) c i
   unfolding stepped
   standing_inside c i old e = let own = me.own in let f = me.fresh in grind (arith, nat_tests, noted_tells, filled_with-value)
 
-  low_rises : (i : ℕ) → IsSlotIndex shape i → l.low i ≤ l.born i ⊎ (value_of (w i) ≡ 0) → l.low i ≤ (stepped shape w t r l).low i
+  untaken_rises : (i : ℕ) → IsSlotIndex shape i → l.untaken_from i ≤ l.tail_at_load i ⊎ (value_of (w i) ≡ 0) → l.untaken_from i ≤ (stepped shape w t r l).untaken_from i
   unfolding stepped
-  low_rises i is_slot lb = let g = me.target in grind (arith, nat_tests, noted_tells)
+  untaken_rises i is_slot lb = let g = me.target in grind (arith, nat_tests, noted_tells)
 
   ch : EndsChange w (words_by (access shape r) w) l (stepped shape w t r l)
   ch = ends_change shape w l t r s ok
@@ -212,8 +212,8 @@ module _ (shape : Shape) (w : ℕ → ℕ) (l : Ledger) (t : ℕ) (r : Running) 
   unfolding stepped
   first_stays c p h = h
 
-  low_or_empty : (i : ℕ) → SlotOk shape w l i → l.low i ≤ l.born i ⊎ (value_of (w i) ≡ 0)
-  low_or_empty i here = elim (cases_eq (value_of (w i)) 0) [ inl e ↦ inr e | inr ne ↦ inl (here.full ne).low_born ]
+  untaken_or_empty : (i : ℕ) → SlotOk shape w l i → l.untaken_from i ≤ l.tail_at_load i ⊎ (value_of (w i) ≡ 0)
+  untaken_or_empty i here = elim (cases_eq (value_of (w i)) 0) [ inl e ↦ inr e | inr ne ↦ inl (here.full ne).untaken_to_load ]
 
   gone_stays : (c i v p : ℕ) → GoneOk shape l c i v p → SlotOk shape w l i → GoneOk shape (stepped shape w t r l) c i v p
   gone_stays c i v p h here =
@@ -223,7 +223,7 @@ module _ (shape : Shape) (w : ℕ → ℕ) (l : Ledger) (t : ℕ) (r : Running) 
         at_tail = at_tail_stays w (words_by (access shape r) w) l (stepped shape w t r l) v p ch next_now h.at_tail;
         started = first_stays c p h.started;
         ended = ended_stays c p h.at_tail.past h.ended;
-        under = omega (arith, h.under, low_rises i h.is_slot (low_or_empty i here));
+        under = omega (arith, h.under, untaken_rises i h.is_slot (untaken_or_empty i here));
       }
 
   gone_begins : (i : ℕ) → IsSlotIndex shape i → Takes shape w l (stepped shape w t r l) t i → SlotOk shape w l i → GoneOk shape (stepped shape w t r l) (l.owner i) i (l.head_seen t) (gone_point l i (l.head_seen t))
@@ -239,7 +239,7 @@ module _ (shape : Shape) (w : ℕ → ℕ) (l : Ledger) (t : ℕ) (r : Running) 
           | inl z ↦ gone_ended shape w l t i e here k.full (sym z ∙ g)
           | inr z ↦ absurd (inside_outside i (sym k.inside ∙ ap l.standing z.1 ∙ k.fresh))
         ];
-        under = omega (arith, k.low);
+        under = omega (arith, k.untaken);
       }
 
   -- an item that was taken stays so
@@ -278,7 +278,7 @@ module _ (shape : Shape) (w : ℕ → ℕ) (l : Ledger) (t : ℕ) (r : Running) 
       }
 
   -- a taken item's place is not before a place at which the tail was in an earlier or the same visit, where its own is not
-  taken_later : (i v p : ℕ) → Takes shape w l (stepped shape w t r l) t i → AtTail l v p → (l.settled i ≡ true → p < l.point i) → ((y : ℕ) → y < l.b → l.tails y ≢ p) → gone_point l i (l.head_seen t) ≤ p → l.head_seen t < v
+  taken_later : (i v p : ℕ) → Takes shape w l (stepped shape w t r l) t i → AtTail l v p → (l.settled i ≡ true → p < l.point i) → ((y : ℕ) → y < l.tail → l.tails y ≢ p) → gone_point l i (l.head_seen t) ≤ p → l.head_seen t < v
   unfolding gone_point
   taken_later i v p k at late apart before =
       elim (cases_lt (l.head_seen t) v) [
@@ -295,12 +295,12 @@ module _ (shape : Shape) (w : ℕ → ℕ) (l : Ledger) (t : ℕ) (r : Running) 
       ]
 
   -- an item that is settled now has a later place than one at which the head had not come further than its visit
-  settled_later : (i v p : ℕ) → v ≤ l.a → AtTail l v p → (l.settled i ≡ true → p < l.point i) → ((y : ℕ) → y < l.b → l.tails y ≢ p) → (here : SlotOk shape w l i) → IsSlotIndex shape i → SlotOk shape (words_by (access shape r) w) (stepped shape w t r l) i → (stepped shape w t r l).settled i ≡ true → p < (stepped shape w t r l).point i
+  settled_later : (i v p : ℕ) → v ≤ l.head → AtTail l v p → (l.settled i ≡ true → p < l.point i) → ((y : ℕ) → y < l.tail → l.tails y ≢ p) → (here : SlotOk shape w l i) → IsSlotIndex shape i → SlotOk shape (words_by (access shape r) w) (stepped shape w t r l) i → (stepped shape w t r l).settled i ≡ true → p < (stepped shape w t r l).point i
   settled_later i v p va at late apart here is_slot after e =
       elim (settled_old shape w l t r s ok me times all i is_slot here e) [
         | inl k ↦ omega (arith, late k.0, k.2)
         | inr k ↦
-            let from : l.a ≤ (stepped shape w t r l).visit i = omega (arith, (after.settled e).from_head, ch.a_rise) in
+            let from : l.head ≤ (stepped shape w t r l).visit i = omega (arith, (after.settled e).from_head, ch.head_rise) in
             rw k.1 (settle_point_late l v p ((stepped shape w t r l).visit i) times at apart (omega arith))
       ]
 
@@ -308,9 +308,9 @@ module _ (shape : Shape) (w : ℕ → ℕ) (l : Ledger) (t : ℕ) (r : Running) 
   stood_stays c v p h here after =
       record {
         at_tail = at_tail_stays w (words_by (access shape r) w) l (stepped shape w t r l) v p ch next_now h.at_tail;
-        head_reached = omega (arith, h.head_reached, ch.a_rise);
+        head_reached = omega (arith, h.head_reached, ch.head_rise);
         head_after = λ z. omega (arith, h.head_after z, ch.heads_kept (v - 1) (omega (arith, h.head_reached)));
-        head_before = λ z. elim (cases_lt v l.a) [
+        head_before = λ z. elim (cases_lt v l.head) [
           | inl lt ↦ omega (arith, h.head_before lt, ch.heads_kept v lt)
           | inr ge ↦ omega (arith, h.at_tail.past, ch.heads_new v ge z)
         ];
@@ -327,7 +327,7 @@ module _ (shape : Shape) (w : ℕ → ℕ) (l : Ledger) (t : ℕ) (r : Running) 
               omega (arith, k.3, taken_later i v p k.0 h.at_tail (h.none_settled i k.1) h.no_tail b)
         ];
         none_settled = λ i is_slot e. settled_later i v p h.head_reached h.at_tail (h.none_settled i is_slot) h.no_tail (here i is_slot) is_slot (after i is_slot) e;
-        no_tail = λ x z y. elim (cases_lt x l.b) [
+        no_tail = λ x z y. elim (cases_lt x l.tail) [
           | inl lt ↦ h.no_tail x lt (sym (ch.tails_kept x lt) ∙ y)
           | inr ge ↦ absurd (omega (arith, h.at_tail.past, ch.tails_new x ge z, y))
         ];
@@ -338,18 +338,18 @@ module _ (shape : Shape) (w : ℕ → ℕ) (l : Ledger) (t : ℕ) (r : Running) 
   unfolding stepped
   stands_alone st i = grind (arith, nat_tests, noted_tells)
 
-  stands_answer : Stands w r → l.b ≡ l.a → is_some ((stepped shape w t r l).answer (l.caller t)) ≡ true
+  stands_answer : Stands w r → l.tail ≡ l.head → is_some ((stepped shape w t r l).answer (l.caller t)) ≡ true
   unfolding stepped
   stands_answer st same =
       let h : tail_of (w 0) ≡ head_of (w 0) = ok.tail ∙ ap (λ x. x % shape.n) same ∙ sym ok.head in
       grind (arith, nat_tests, noted_tells)
 
-  stood_begins : Stands w r → l.b ≡ l.a → (stepped shape w t r l).a ≡ l.a → (stepped shape w t r l).b ≡ l.b → ((i : ℕ) → IsSlotIndex shape i → SlotOk shape w l i) → ((c i v p : ℕ) → l.standing c ≡ Gone i v p → GoneOk shape l c i v p) → StoodOk shape (stepped shape w t r l) (l.caller t) l.a l.now
+  stood_begins : Stands w r → l.tail ≡ l.head → (stepped shape w t r l).head ≡ l.head → (stepped shape w t r l).tail ≡ l.tail → ((i : ℕ) → IsSlotIndex shape i → SlotOk shape w l i) → ((c i v p : ℕ) → l.standing c ≡ Gone i v p → GoneOk shape l c i v p) → StoodOk shape (stepped shape w t r l) (l.caller t) l.head l.now
   stood_begins st same a b here gone =
       record {
-        at_tail = record { reached = omega arith; after = λ z. omega (arith, times.tails_past (l.a - 1) (omega arith), ch.tails_kept (l.a - 1) (omega arith)); before = λ z. absurd (omega arith); past = omega (arith, next_now) };
+        at_tail = record { reached = omega arith; after = λ z. omega (arith, times.tails_past (l.head - 1) (omega arith), ch.tails_kept (l.head - 1) (omega arith)); before = λ z. absurd (omega arith); past = omega (arith, next_now) };
         head_reached = omega arith;
-        head_after = λ z. omega (arith, times.heads_past (l.a - 1) (omega arith), ch.heads_kept (l.a - 1) (omega arith));
+        head_after = λ z. omega (arith, times.heads_past (l.head - 1) (omega arith), ch.heads_kept (l.head - 1) (omega arith));
         head_before = λ z. absurd (omega arith);
         started = first_stays (l.caller t) l.now me.started;
         ended = λ e g. elim (old_last (l.caller t)) [
@@ -359,9 +359,9 @@ module _ (shape : Shape) (w : ℕ → ℕ) (l : Ledger) (t : ℕ) (r : Running) 
         finished = stands_answer st same;
         none_gone = λ d i u q e z.
             let k : GoneOk shape l d i u q = gone d i u q ((stands_alone st i).1 d u q e) in
-            omega (arith, k.under, (here i k.is_slot).low_b);
+            omega (arith, k.under, (here i k.is_slot).untaken_to_tail);
         none_settled = λ i is_slot e. absurd (false≢true (sym (none_settled_now shape w l i r shape.some_slot is_slot ok same s me.clear st (here i is_slot)) ∙ sym ((stands_alone st i).0) ∙ e));
-        no_tail = λ x z y. let lt : x < l.b = omega arith in absurd (omega (arith, times.tails_past x lt, ch.tails_kept x lt, y));
+        no_tail = λ x z y. let lt : x < l.tail = omega arith in absurd (omega (arith, times.tails_past x lt, ch.tails_kept x lt, y));
       }
 
   next_begin : (stepped shape w t r l).begin ≡ l.begin
@@ -377,7 +377,7 @@ module _ (shape : Shape) (w : ℕ → ℕ) (l : Ledger) (t : ℕ) (r : Running) 
   standing_later c o z = let k = me.known in let own = me.own in grind (arith, nat_tests, noted_tells)
 
   taken_apart : (i v p : ℕ) (c : ℕ) → Takes shape w l (stepped shape w t r l) t i → SlotOk shape w l i → GoneOk shape l c i v p → v ≡ l.head_seen t → ⊥
-  taken_apart i v p c k here h e = omega (arith, h.under, (here.full k.full).low_born, k.born)
+  taken_apart i v p c k here h e = omega (arith, h.under, (here.full k.full).untaken_to_load, k.loaded)
 
   -- an answer says where its call stands
   own_answered : ((i : ℕ) → 0 < i → i < 1 + shape.n * shape.k → value_of (w i) ≢ 0 → item_of (l.begin (l.owner i)) ≡ value_of (w i)) → (x : Answer) → advance shape r (found_in shape w r) ≡ Answers x → Fits l.begin x ((stepped shape w t r l).standing (l.caller t))

@@ -1,4 +1,4 @@
--- At the second look at the ends before an item's put the tail has not left the item's visit.
+-- At the Recheck before an item's put the tail has not left the item's visit.
 use Rattle.std.proofs.Common.{◌≡◌, ◌≢◌, ◌⊎◌, ℕ, ◌+◌, ◌%◌, ◌<◌, ◌≤◌, List, Bool, true, false, Option, Some, None, inl, inr, refl, sym, ap, ◌∙◌, arith}
 use Rattle.std.proofs.lemmas.Bool.{cases_eq, cases_lt}
 use Rattle.std.proofs.lemmas.Bool.Decides.{nat_tests}
@@ -30,12 +30,12 @@ use Rattle.kfifo_linear.proofs.Whole.{begun_standing, inv_table, inv_begin, inv_
 -- at step q the tail had not left visit v
 pub record NotLeft (l : Ledger) (v q : ℕ) : Type 0 where
   pub past : q ≤ l.now
-  pub held : (x : ℕ) → x < l.b → l.tails x < q → x < v
+  pub held : (x : ℕ) → x < l.tail → l.tails x < q → x < v
 
 stays : (w w' : ℕ → ℕ) (l l' : Ledger) (v q : ℕ) → EndsChange w w' l l' → l'.now ≡ l.now + 1 → NotLeft l v q → NotLeft l' v q
 stays w w' l l' v q c now h = record {
   past = omega (arith, h.past);
-  held = λ x below lt. elim (cases_lt x l.b) [
+  held = λ x below lt. elim (cases_lt x l.tail) [
     | inl old ↦ h.held x old (omega (arith, c.tails_kept x old))
     | inr new ↦ absurd (omega (arith, c.tails_new x new below, h.past))
   ];
@@ -44,30 +44,30 @@ stays w w' l l' v q c now h = record {
 wider : (l : Ledger) (v u q : ℕ) → v ≤ u → NotLeft l v q → NotLeft l u q
 wider l v u q le h = record { past = h.past; held = λ x below lt. omega (arith, h.held x below lt) }
 
--- a thread that is about to put looked at the ends while the tail was where it was when the round began
-abbrev pub HasCheck : Ledger → ℕ → Running → Type 0
-HasCheck l t (R.Enqueue item start left (E.Put ends index empty)) = NotLeft l (l.tail_seen t) (l.checked t)
-HasCheck l t other = Unit {0}
+-- a thread that is about to put made its Recheck while the tail was where it was when the round began
+abbrev pub HasRecheck : Ledger → ℕ → Running → Type 0
+HasRecheck l t (R.Enqueue item start left (E.Put ends index empty)) = NotLeft l (l.tail_seen t) (l.rechecked t)
+HasRecheck l t other = Unit {0}
 
 abbrev is_put : Running → Bool
 is_put (R.Enqueue item start left (E.Put ends index empty)) = true
 is_put other = false
 
-put_check : (l : Ledger) (t : ℕ) (r : Running) → is_put r ≡ true → HasCheck l t r → NotLeft l (l.tail_seen t) (l.checked t)
-put_check l t (R.Enqueue item start left (E.Put ends index empty)) e h = h
-put_check l t r e h = grind arith
+put_recheck : (l : Ledger) (t : ℕ) (r : Running) → is_put r ≡ true → HasRecheck l t r → NotLeft l (l.tail_seen t) (l.rechecked t)
+put_recheck l t (R.Enqueue item start left (E.Put ends index empty)) e h = h
+put_recheck l t r e h = grind arith
 
-HasCheck-others : (l l' : Ledger) (u : ℕ) (q : Running) → (NotLeft l (l.tail_seen u) (l.checked u) → NotLeft l' (l'.tail_seen u) (l'.checked u)) → HasCheck l u q → HasCheck l' u q
-HasCheck-others l l' u (R.Enqueue item start left (E.Put ends index empty)) keep h = keep h
-HasCheck-others l l' u other keep h = tt
+HasRecheck-others : (l l' : Ledger) (u : ℕ) (q : Running) → (NotLeft l (l.tail_seen u) (l.rechecked u) → NotLeft l' (l'.tail_seen u) (l'.rechecked u)) → HasRecheck l u q → HasRecheck l' u q
+HasRecheck-others l l' u (R.Enqueue item start left (E.Put ends index empty)) keep h = keep h
+HasRecheck-others l l' u other keep h = tt
 
-module _ (shape : Shape) (w : ℕ → ℕ) (l : Ledger) (t : ℕ) (r : Running) (s : Sane shape r) (ok : EndsOk shape (w 0) l.a l.b) (me : ThreadOk shape w l t r) where
-  -- a look that leads to a put
-  own_check : IfGoes (HasCheck (stepped shape w t r l) t) (advance shape r (found_in shape w r))
+module _ (shape : Shape) (w : ℕ → ℕ) (l : Ledger) (t : ℕ) (r : Running) (s : Sane shape r) (ok : EndsOk shape (w 0) l.head l.tail) (me : ThreadOk shape w l t r) where
+  -- a Recheck that leads to a put
+  own_recheck : IfGoes (HasRecheck (stepped shape w t r l) t) (advance shape r (found_in shape w r))
   unfolding stepped
-  own_check = let ld = me.loaded in grind (arith, nat_tests, noted-same)
+  own_recheck = let ld = me.loaded in grind (arith, nat_tests, noted-same)
 
-  other_same : (u : ℕ) → (u ≡ t → ⊥) → ((stepped shape w t r l).tail_seen u ≡ l.tail_seen u) × ((stepped shape w t r l).checked u ≡ l.checked u)
+  other_same : (u : ℕ) → (u ≡ t → ⊥) → ((stepped shape w t r l).tail_seen u ≡ l.tail_seen u) × ((stepped shape w t r l).rechecked u ≡ l.rechecked u)
   unfolding stepped
   other_same u ne = grind (arith, nat_tests, noted-other)
 
@@ -75,21 +75,21 @@ module _ (shape : Shape) (w : ℕ → ℕ) (l : Ledger) (t : ℕ) (r : Running) 
   unfolding stepped
   now_next = refl
 
-  sure_kept : (c : ℕ) → l.standing c ≢ Outside → (stepped shape w t r l).sure c ≡ l.sure c
+  recheck_kept : (c : ℕ) → l.standing c ≢ Outside → (stepped shape w t r l).recheck_before_put c ≡ l.recheck_before_put c
   unfolding stepped
-  sure_kept c not_out = let f = me.fresh in grind (arith, nat_tests, noted_tells)
+  recheck_kept c not_out = let f = me.fresh in grind (arith, nat_tests, noted_tells)
 
   inside_from : (c i : ℕ) → (l.standing c ≡ Inside i → InsideOk shape w l c i) → (stepped shape w t r l).standing c ≡ Inside i
-      → ((l.standing c ≡ Inside i) × ((stepped shape w t r l).born i ≡ l.born i)) ⊎ (((stepped shape w t r l).born i ≡ l.tail_seen t) × ((stepped shape w t r l).sure c ≡ l.checked t) × (is_put r ≡ true))
+      → ((l.standing c ≡ Inside i) × ((stepped shape w t r l).tail_at_load i ≡ l.tail_at_load i)) ⊎ (((stepped shape w t r l).tail_at_load i ≡ l.tail_seen t) × ((stepped shape w t r l).recheck_before_put c ≡ l.rechecked t) × (is_put r ≡ true))
   unfolding stepped
   inside_from c i old e = let f = me.fresh in let own = me.own in grind (arith, nat_tests, noted_tells)
 
--- the invariant with what the second looks saw
+-- the invariant with what the Rechecks saw
 pub record Checks (shape : Shape) (w : ℕ → ℕ) (p : ℕ → Option Running) (l : Ledger) : Type 0 where
   pub inv : Inv shape w p l
-  pub threads : (t : ℕ) (r : Running) → p t ≡ Some r → HasCheck l t r
-  pub inside : (c i : ℕ) → l.standing c ≡ Inside i → NotLeft l (l.born i) (l.sure c)
-  pub gone : (c i v q : ℕ) → l.standing c ≡ Gone i v q → NotLeft l v (l.sure c)
+  pub threads : (t : ℕ) (r : Running) → p t ≡ Some r → HasRecheck l t r
+  pub inside : (c i : ℕ) → l.standing c ≡ Inside i → NotLeft l (l.tail_at_load i) (l.recheck_before_put c)
+  pub gone : (c i v q : ℕ) → l.standing c ≡ Gone i v q → NotLeft l v (l.recheck_before_put c)
 
 inside_outside : (i : ℕ) → Inside i ≡ Outside → ⊥
 inside_outside i e = cc
@@ -101,7 +101,7 @@ module _ (shape : Shape) where
   checks_step : (w : ℕ → ℕ) (p : ℕ → Option Running) (l : Ledger) (t : ℕ) (r : Running) → Checks shape w p l → p t ≡ Some r → Checks shape (words_by (access shape r) w) (noted p t (place_after (advance shape r (found_in shape w r)))) (stepped shape w t r l)
   checks_step w p l t r h e =
       let s : Sane shape r = h.inv.base.sane t r e in
-      let ok : EndsOk shape (w 0) l.a l.b = h.inv.base.ends in
+      let ok : EndsOk shape (w 0) l.head l.tail = h.inv.base.ends in
       let me : ThreadOk shape w l t r = h.inv.threads t r e in
       let all : Slots shape w l = slots_facts shape w l h.inv.slots in
       let change : EndsChange w (words_by (access shape r) w) l (stepped shape w t r l) = ends_change shape w l t r s ok in
@@ -109,33 +109,33 @@ module _ (shape : Shape) where
       record {
         inv = inv_step shape w p l t r h.inv e;
         threads = λ u q f. elim (cases_eq u t) [
-          | inl same ↦ rw same (goes_at (HasCheck (stepped shape w t r l) t) (advance shape r (found_in shape w r)) q (sym (noted-same p t u (place_after (advance shape r (found_in shape w r))) same) ∙ f) (own_check shape w l t r s ok me))
+          | inl same ↦ rw same (goes_at (HasRecheck (stepped shape w t r l) t) (advance shape r (found_in shape w r)) q (sym (noted-same p t u (place_after (advance shape r (found_in shape w r))) same) ∙ f) (own_recheck shape w l t r s ok me))
           | inr ne ↦
               let g : p u ≡ Some q = sym (noted-other p t u (place_after (advance shape r (found_in shape w r))) ne) ∙ f in
               let k = other_same shape w l t r s ok me u ne in
-              HasCheck-others l (stepped shape w t r l) u q (λ c. rw (k.0, k.1) (on (l.tail_seen u) (l.checked u) c)) (h.threads u q g)
+              HasRecheck-others l (stepped shape w t r l) u q (λ c. rw (k.0, k.1) (on (l.tail_seen u) (l.rechecked u) c)) (h.threads u q g)
         ];
         inside = λ c i f. elim (inside_from shape w l t r s ok me c i (h.inv.calls.inside c i) f) [
-          | inl k ↦ rw (k.1, sure_kept shape w l t r s ok me c (λ o. inside_outside i (sym k.0 ∙ o))) (on (l.born i) (l.sure c) (h.inside c i k.0))
-          | inr k ↦ rw (k.0, k.1) (on (l.tail_seen t) (l.checked t) (put_check l t r k.2 (h.threads t r e)))
+          | inl k ↦ rw (k.1, recheck_kept shape w l t r s ok me c (λ o. inside_outside i (sym k.0 ∙ o))) (on (l.tail_at_load i) (l.recheck_before_put c) (h.inside c i k.0))
+          | inr k ↦ rw (k.0, k.1) (on (l.tail_seen t) (l.rechecked t) (put_recheck l t r k.2 (h.threads t r e)))
         ];
         gone = λ c i v q f. elim (standing_gone shape w l t r s ok me h.inv.times all c i v q f) [
-          | inl k ↦ rw (sure_kept shape w l t r s ok me c (λ o. gone_outside i v q (sym k ∙ o))) (on v (l.sure c) (h.gone c i v q k))
+          | inl k ↦ rw (recheck_kept shape w l t r s ok me c (λ o. gone_outside i v q (sym k ∙ o))) (on v (l.recheck_before_put c) (h.gone c i v q k))
           | inr k ↦
               let at : l.standing c ≡ Inside i = ap l.standing k.2 ∙ k.0.inside in
-              let le : l.born i ≤ v = omega (arith, k.0.born, k.3) in
-              rw (sure_kept shape w l t r s ok me c (λ o. inside_outside i (sym at ∙ o))) (on v (l.sure c) (wider l (l.born i) v (l.sure c) le (h.inside c i at)))
+              let le : l.tail_at_load i ≤ v = omega (arith, k.0.loaded, k.3) in
+              rw (recheck_kept shape w l t r s ok me c (λ o. inside_outside i (sym at ∙ o))) (on v (l.recheck_before_put c) (wider l (l.tail_at_load i) v (l.recheck_before_put c) le (h.inside c i at)))
         ];
       }
 
   -- a ledger with the same numbers of the tail, and steps
-  same_tail : (l l' : Ledger) (v q : ℕ) → l'.b ≡ l.b → l'.tails ≡ l.tails → l.now ≤ l'.now → NotLeft l v q → NotLeft l' v q
+  same_tail : (l l' : Ledger) (v q : ℕ) → l'.tail ≡ l.tail → l'.tails ≡ l.tails → l.now ≤ l'.now → NotLeft l v q → NotLeft l' v q
   same_tail l l' v q b tails now h = record { past = omega (arith, h.past); held = λ x below lt. h.held x (omega arith) (let e : l'.tails x ≡ l.tails x = ap (λ f. f x) tails in omega arith) }
 
-  begun_check : (l : Ledger) (t : ℕ) (b : Begin) (r : Running) → begun b ≡ Some r → HasCheck (called t b l) t r
-  begun_check l t b r g = grind (arith, nat_tests)
+  begun_recheck : (l : Ledger) (t : ℕ) (b : Begin) (r : Running) → begun b ≡ Some r → HasRecheck (called t b l) t r
+  begun_recheck l t b r g = grind (arith, nat_tests)
 
-  begun_tail : (l : Ledger) (t : ℕ) (b : Begin) → ((called t b l).b ≡ l.b) × ((called t b l).tails ≡ l.tails) × ((called t b l).now ≡ l.now) × ((called t b l).tail_seen ≡ l.tail_seen) × ((called t b l).checked ≡ l.checked) × ((called t b l).sure ≡ l.sure) × ((called t b l).born ≡ l.born)
+  begun_tail : (l : Ledger) (t : ℕ) (b : Begin) → ((called t b l).tail ≡ l.tail) × ((called t b l).tails ≡ l.tails) × ((called t b l).now ≡ l.now) × ((called t b l).tail_seen ≡ l.tail_seen) × ((called t b l).rechecked ≡ l.rechecked) × ((called t b l).recheck_before_put ≡ l.recheck_before_put) × ((called t b l).tail_at_load ≡ l.tail_at_load)
   unfolding called
   begun_tail l t b = (refl, refl, refl, refl, refl, refl, refl)
 
@@ -147,13 +147,13 @@ module _ (shape : Shape) where
       record {
         inv = inv_begin shape w p l t b r h.inv e m g;
         threads = λ u q f. elim (cases_eq u t) [
-          | inl same ↦ rw (same, ← (same_Some r q (sym (noted-same p t u (Some r) same) ∙ f))) (begun_check l t b r g)
+          | inl same ↦ rw (same, ← (same_Some r q (sym (noted-same p t u (Some r) same) ∙ f))) (begun_recheck l t b r g)
           | inr ne ↦
               let x : p u ≡ Some q = sym (noted-other p t u (Some r) ne) ∙ f in
-              HasCheck-others l (called t b l) u q (λ c. rw (k.3, k.4) (on (l.tail_seen u) (l.checked u) c)) (h.threads u q x)
+              HasRecheck-others l (called t b l) u q (λ c. rw (k.3, k.4) (on (l.tail_seen u) (l.rechecked u) c)) (h.threads u q x)
         ];
-        inside = λ c i f. let was = begun_standing l t b c (Inside i) f (inside_outside i) in rw (k.5, k.6) (on (l.born i) (l.sure c) (h.inside c i was.0));
-        gone = λ c i v q f. let was = begun_standing l t b c (Gone i v q) f (gone_outside i v q) in rw k.5 (on v (l.sure c) (h.gone c i v q was.0));
+        inside = λ c i f. let was = begun_standing l t b c (Inside i) f (inside_outside i) in rw (k.5, k.6) (on (l.tail_at_load i) (l.recheck_before_put c) (h.inside c i was.0));
+        gone = λ c i v q f. let was = begun_standing l t b c (Gone i v q) f (gone_outside i v q) in rw k.5 (on v (l.recheck_before_put c) (h.gone c i v q was.0));
       }
 
   checks_tick : (w : ℕ → ℕ) (p : ℕ → Option Running) (l : Ledger) → Checks shape w p l → Checks shape (noted w (clock_at shape.k shape.n) (w (clock_at shape.k shape.n) + 1)) p (record l { now = l.now + 1 })
@@ -162,9 +162,9 @@ module _ (shape : Shape) where
       let on = λ (v q : ℕ). same_tail l next v q refl refl (omega arith) in
       record {
         inv = inv_tick shape w p l h.inv;
-        threads = λ u q f. HasCheck-others l next u q (on (l.tail_seen u) (l.checked u)) (h.threads u q f);
-        inside = λ c i f. on (l.born i) (l.sure c) (h.inside c i f);
-        gone = λ c i v q f. on v (l.sure c) (h.gone c i v q f);
+        threads = λ u q f. HasRecheck-others l next u q (on (l.tail_seen u) (l.rechecked u)) (h.threads u q f);
+        inside = λ c i f. on (l.tail_at_load i) (l.recheck_before_put c) (h.inside c i f);
+        gone = λ c i v q f. on v (l.recheck_before_put c) (h.gone c i v q f);
       }
 
   checks_opening : (threads : ℕ) → Checks shape (word_at (opening shape threads)) (place_of (opening shape threads)) blank
@@ -184,13 +184,13 @@ module _ (shape : Shape) where
       e).holds
 
   -- of an item in the order
-  pub put_in_visit : (w : ℕ → ℕ) (p : ℕ → Option Running) (l : Ledger) (c v i q : ℕ) → Checks shape w p l → Stands l c (Puts v i) q → number_at l.tails l.b (l.sure c) ≤ v
+  pub put_in_visit : (w : ℕ → ℕ) (p : ℕ → Option Running) (l : Ledger) (c v i q : ℕ) → Checks shape w p l → Stands l c (Puts v i) q → number_at l.tails l.tail (l.recheck_before_put c) ≤ v
   put_in_visit w p l c v i q h e = elim (puts_standing l c v i q e) [
-    | inl gone ↦ number_within l.tails l.b v (l.sure c) (h.gone c i v q gone).held
+    | inl gone ↦ number_within l.tails l.tail v (l.recheck_before_put c) (h.gone c i v q gone).held
     | inr k ↦
         let here : InsideOk shape w l c i = h.inv.calls.inside c i k.0 in
         let full = (h.inv.slots i here.is_slot).full here.full in
         let settled = (h.inv.slots i here.is_slot).settled k.1 in
-        let le : l.born i ≤ v = place_below shape.n v (l.born i) (omega (arith, full.born_b, h.inv.base.ends.no_wrap, settled.from_head, k.2)) (full.place ∙ sym settled.place ∙ ap (λ x. x % shape.n) k.2) in
-        number_within l.tails l.b v (l.sure c) (wider l (l.born i) v (l.sure c) le (h.inside c i k.0)).held
+        let le : l.tail_at_load i ≤ v = place_below shape.n v (l.tail_at_load i) (omega (arith, full.load_to_tail, h.inv.base.ends.no_wrap, settled.from_head, k.2)) (full.place ∙ sym settled.place ∙ ap (λ x. x % shape.n) k.2) in
+        number_within l.tails l.tail v (l.recheck_before_put c) (wider l (l.tail_at_load i) v (l.recheck_before_put c) le (h.inside c i k.0)).held
   ]

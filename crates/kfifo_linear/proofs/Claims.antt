@@ -41,17 +41,17 @@ words_rise shape w r s ring i =
 
 -- the round of a thread: what its first load found, and when it was
 pub record Round (l : Ledger) (t : ℕ) : Type 0 where
-  pub a_below : l.head_seen t ≤ l.a
-  pub b_below : l.tail_seen t ≤ l.b
-  pub tails_after : (v : ℕ) → l.tail_seen t ≤ v → v < l.b → l.first (l.caller t) ≤ l.tails v
-  pub heads_after : (v : ℕ) → l.head_seen t ≤ v → v < l.a → l.first (l.caller t) ≤ l.heads v
+  pub head_below : l.head_seen t ≤ l.head
+  pub tail_below : l.tail_seen t ≤ l.tail
+  pub tails_after : (v : ℕ) → l.tail_seen t ≤ v → v < l.tail → l.first (l.caller t) ≤ l.tails v
+  pub heads_after : (v : ℕ) → l.head_seen t ≤ v → v < l.head → l.first (l.caller t) ≤ l.heads v
 
 -- the ends that a round loaded first: where they stand unchanged, the numbers do too
 pub record Loaded (shape : Shape) (w : ℕ → ℕ) (l : Ledger) (t x : ℕ) : Type 0 where
   pub ends : EndsOk shape x (l.head_seen t) (l.tail_seen t)
   pub below : x ≤ w 0
-  pub a_same : w 0 ≡ x → l.head_seen t ≡ l.a
-  pub b_same : w 0 ≡ x → l.tail_seen t ≡ l.b
+  pub head_same : w 0 ≡ x → l.head_seen t ≡ l.head
+  pub tail_same : w 0 ≡ x → l.tail_seen t ≡ l.tail
 
 abbrev pub EnqueueLoaded : Shape → (ℕ → ℕ) → Ledger → ℕ → EnqueuePhase → Type 0
 EnqueueLoaded shape w l t E.LoadEnds = Unit {0}
@@ -103,26 +103,26 @@ at_load (R.Dequeue start left (D.MoveHead ends)) = false
 -- what a step of one thread changes of the ends and their numbers
 pub record EndsChange (w w' : ℕ → ℕ) (l l' : Ledger) : Type 0 where
   pub rise : w 0 ≤ w' 0
-  pub a_rise : l.a ≤ l'.a
-  pub b_rise : l.b ≤ l'.b
-  pub a_kept : w' 0 ≡ w 0 → l'.a ≡ l.a
-  pub b_kept : w' 0 ≡ w 0 → l'.b ≡ l.b
-  pub tails_kept : (v : ℕ) → v < l.b → l'.tails v ≡ l.tails v
-  pub tails_new : (v : ℕ) → l.b ≤ v → v < l'.b → l'.tails v ≡ l.now
-  pub heads_kept : (v : ℕ) → v < l.a → l'.heads v ≡ l.heads v
-  pub heads_new : (v : ℕ) → l.a ≤ v → v < l'.a → l'.heads v ≡ l.now
+  pub head_rise : l.head ≤ l'.head
+  pub tail_rise : l.tail ≤ l'.tail
+  pub head_kept : w' 0 ≡ w 0 → l'.head ≡ l.head
+  pub tail_kept : w' 0 ≡ w 0 → l'.tail ≡ l.tail
+  pub tails_kept : (v : ℕ) → v < l.tail → l'.tails v ≡ l.tails v
+  pub tails_new : (v : ℕ) → l.tail ≤ v → v < l'.tail → l'.tails v ≡ l.now
+  pub heads_kept : (v : ℕ) → v < l.head → l'.heads v ≡ l.heads v
+  pub heads_new : (v : ℕ) → l.head ≤ v → v < l'.head → l'.heads v ≡ l.now
 
-pub ends_change : (shape : Shape) → (w : ℕ → ℕ) (l : Ledger) (t : ℕ) (r : Running) → Sane shape r → EndsOk shape (w 0) l.a l.b → EndsChange w (words_by (access shape r) w) l (stepped shape w t r l)
+pub ends_change : (shape : Shape) → (w : ℕ → ℕ) (l : Ledger) (t : ℕ) (r : Running) → Sane shape r → EndsOk shape (w 0) l.head l.tail → EndsChange w (words_by (access shape r) w) l (stepped shape w t r l)
 unfolding stepped
 ends_change shape w l t r s ok =
-    let ring : InRing shape (w 0) = ends_in_ring shape (w 0) l.a l.b ok in
+    let ring : InRing shape (w 0) = ends_in_ring shape (w 0) l.head l.tail ok in
     let few = shape.few_segments in
     record {
       rise = words_rise shape w r s ring 0;
-      a_rise = grind (arith, nat_tests, noted_tells);
-      b_rise = grind (arith, nat_tests, noted_tells);
-      a_kept = grind (arith, nat_tests, noted_tells, ends_word-above, next_segment-below);
-      b_kept = grind (arith, nat_tests, noted_tells, ends_word-above, next_segment-below);
+      head_rise = grind (arith, nat_tests, noted_tells);
+      tail_rise = grind (arith, nat_tests, noted_tells);
+      head_kept = grind (arith, nat_tests, noted_tells, ends_word-above, next_segment-below);
+      tail_kept = grind (arith, nat_tests, noted_tells, ends_word-above, next_segment-below);
       tails_kept = grind (arith, nat_tests, noted_tells);
       tails_new = grind (arith, nat_tests, noted_tells);
       heads_kept = grind (arith, nat_tests, noted_tells);
@@ -135,20 +135,20 @@ loaded_stays shape w w' l l' u x c h t ld =
     record {
       ends = rw (h, t) ld.ends;
       below = omega (arith, ld.below, c.rise);
-      a_same = λ e. let z : w' 0 ≡ w 0 = omega (arith, ld.below, c.rise) in omega (arith, h, ld.a_same (sym z ∙ e), c.a_kept z);
-      b_same = λ e. let z : w' 0 ≡ w 0 = omega (arith, ld.below, c.rise) in omega (arith, t, ld.b_same (sym z ∙ e), c.b_kept z);
+      head_same = λ e. let z : w' 0 ≡ w 0 = omega (arith, ld.below, c.rise) in omega (arith, h, ld.head_same (sym z ∙ e), c.head_kept z);
+      tail_same = λ e. let z : w' 0 ≡ w 0 = omega (arith, ld.below, c.rise) in omega (arith, t, ld.tail_same (sym z ∙ e), c.tail_kept z);
     }
 
 pub round_stays : (w w' : ℕ → ℕ) (l l' : Ledger) (u : ℕ) → EndsChange w w' l l' → l'.head_seen u ≡ l.head_seen u → l'.tail_seen u ≡ l.tail_seen u → l'.caller u ≡ l.caller u → l'.first (l.caller u) ≡ l.first (l.caller u) → l.first (l.caller u) ≤ l.now → Round l u → Round l' u
 round_stays w w' l l' u c h t k f n r =
     record {
-      a_below = omega (arith, h, r.a_below, c.a_rise);
-      b_below = omega (arith, t, r.b_below, c.b_rise);
-      tails_after = λ v v1 v2. rw k (elim (cases_lt v l.b) [
+      head_below = omega (arith, h, r.head_below, c.head_rise);
+      tail_below = omega (arith, t, r.tail_below, c.tail_rise);
+      tails_after = λ v v1 v2. rw k (elim (cases_lt v l.tail) [
         | inl lt ↦ omega (arith, f, c.tails_kept v lt, r.tails_after v (omega (arith, t)) lt)
         | inr ge ↦ omega (arith, f, c.tails_new v ge v2)
       ]);
-      heads_after = λ v v1 v2. rw k (elim (cases_lt v l.a) [
+      heads_after = λ v v1 v2. rw k (elim (cases_lt v l.head) [
         | inl lt ↦ omega (arith, f, c.heads_kept v lt, r.heads_after v (omega (arith, h)) lt)
         | inr ge ↦ omega (arith, f, c.heads_new v ge v2)
       ]);

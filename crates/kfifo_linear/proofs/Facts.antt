@@ -23,9 +23,9 @@ Stands l c role p = spot l c ≡ Some (record { role = role; point = p })
 
 -- where the head is at a place
 pub record HeadAt (l : Ledger) (v p : ℕ) : Type 0 where
-  pub reached : v ≤ l.a
+  pub reached : v ≤ l.head
   pub after : 0 < v → l.heads (v - 1) < p
-  pub before : v < l.a → p ≤ l.heads v
+  pub before : v < l.head → p ≤ l.heads v
 
 -- an answer's role
 abbrev pub RoleAnswers : (ℕ → ℕ) → Answer → Role → Type 0
@@ -45,7 +45,7 @@ pub record Facts (shape : Shape) (l : Ledger) : Type 0 where
   pub gets_head : (c o v p : ℕ) → Stands l c (Gets o v) p → AtHead l v p
   pub gets_item : (c o v p : ℕ) → Stands l c (Gets o v) p → (i : ℕ) × ((q : ℕ) × Stands l o (Puts v i) q)
   -- an item whose visit the head has left was taken
-  pub left : (c v i p : ℕ) → Stands l c (Puts v i) p → v < l.a → (d : ℕ) × ((q : ℕ) × Stands l d (Gets c v) q)
+  pub left : (c v i p : ℕ) → Stands l c (Puts v i) p → v < l.head → (d : ℕ) × ((q : ℕ) × Stands l d (Gets c v) q)
   -- two items of one visit are in different slots
   pub apart : (c d v i p q : ℕ) → Stands l c (Puts v i) p → Stands l d (Puts v i) q → c ≡ d
   -- an Empty has its place where head and tail are in one visit, and each item whose place is not later is of an earlier visit
@@ -136,15 +136,15 @@ module _ (shape : Shape) (w : ℕ → ℕ) (p : ℕ → Option Running) (l : Led
   settled_of c i e s = (inv.slots i (slot_of c i e).is_slot).settled s
 
   -- a settled item's visit is not below that of any item that was taken from its slot
-  above_low : (c i : ℕ) → l.standing c ≡ Inside i → l.settled i ≡ true → l.low i ≤ l.visit i
-  above_low c i e s =
+  above_untaken : (c i : ℕ) → l.standing c ≡ Inside i → l.settled i ≡ true → l.untaken_from i ≤ l.visit i
+  above_untaken c i e s =
       let k : InsideOk shape w l c i = slot_of c i e in
       let f : FullOk shape l i = (inv.slots i k.is_slot).full k.full in
       let g : SettledOk shape l i = settled_of c i e s in
-      let wrap : l.b < l.a + shape.n = inv.base.ends.no_wrap in
-      let same : l.born i % shape.n ≡ l.visit i % shape.n = f.place ∙ sym g.place in
-      let under : l.born i ≤ l.visit i = place_below shape.n (l.visit i) (l.born i) (omega (arith, f.born_b, g.from_head)) same in
-      omega (arith, f.low_born)
+      let wrap : l.tail < l.head + shape.n = inv.base.ends.no_wrap in
+      let same : l.tail_at_load i % shape.n ≡ l.visit i % shape.n = f.place ∙ sym g.place in
+      let under : l.tail_at_load i ≤ l.visit i = place_below shape.n (l.visit i) (l.tail_at_load i) (omega (arith, f.load_to_tail, g.from_head)) same in
+      omega (arith, f.untaken_to_load)
 
   within_of : (c : ℕ) (x : Standing) (s : Spot) → l.standing c ≡ x → spot_of l c x ≡ Some s → Within l c s
   within_of c Outside s k e = within_refused l c (l.last c) s refl (inv.calls.lasts c) e
@@ -217,10 +217,10 @@ module _ (shape : Shape) (w : ℕ → ℕ) (p : ℕ → Option Running) (l : Led
         apart = λ c d v i q x e f. elim (puts_standing l c v i q e) [
           | inl k ↦ elim (puts_standing l d v i x f) [
             | inl m ↦ inv.calls.apart c d i v q v x k m refl
-            | inr m ↦ absurd (omega (arith, (inv.calls.gone c i v q k).under, above_low d i m.0 m.1, m.2))
+            | inr m ↦ absurd (omega (arith, (inv.calls.gone c i v q k).under, above_untaken d i m.0 m.1, m.2))
           ]
           | inr k ↦ elim (puts_standing l d v i x f) [
-            | inl m ↦ absurd (omega (arith, (inv.calls.gone d i v x m).under, above_low c i k.0 k.1, k.2))
+            | inl m ↦ absurd (omega (arith, (inv.calls.gone d i v x m).under, above_untaken c i k.0 k.1, k.2))
             | inr m ↦ sym (slot_of c i k.0).owner ∙ (slot_of d i m.0).owner
           ]
         ];

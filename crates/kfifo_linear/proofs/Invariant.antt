@@ -59,10 +59,10 @@ pub record ToTake (shape : Shape) (w : ℕ → ℕ) (l : Ledger) (t index filled
 
 abbrev pub HasTarget : Shape → (ℕ → ℕ) → Ledger → ℕ → Running → Type 0
 HasTarget shape w l t (R.Enqueue item start left (E.Recheck ends (Slot index seen))) = ToFill shape w l t index seen
-HasTarget shape w l t (R.Enqueue item start left (E.Put ends index empty)) = ToFill shape w l t index empty × (w index ≡ empty → l.low index ≤ l.tail_seen t)
+HasTarget shape w l t (R.Enqueue item start left (E.Put ends index empty)) = ToFill shape w l t index empty × (w index ≡ empty → l.untaken_from index ≤ l.tail_seen t)
 HasTarget shape w l t (R.Dequeue start left (D.Recheck ends (Slot index seen))) = ToTake shape w l t index seen
-HasTarget shape w l t (R.Dequeue start left (D.MoveTail ends index filled)) = ToTake shape w l t index filled × (w index ≡ filled → l.born index ≤ l.head_seen t)
-HasTarget shape w l t (R.Dequeue start left (D.Take ends index filled)) = ToTake shape w l t index filled × (w index ≡ filled → l.born index ≤ l.head_seen t) × (l.head_seen t < l.b)
+HasTarget shape w l t (R.Dequeue start left (D.MoveTail ends index filled)) = ToTake shape w l t index filled × (w index ≡ filled → l.tail_at_load index ≤ l.head_seen t)
+HasTarget shape w l t (R.Dequeue start left (D.Take ends index filled)) = ToTake shape w l t index filled × (w index ≡ filled → l.tail_at_load index ≤ l.head_seen t) × (l.head_seen t < l.tail)
 HasTarget shape w l t other = Unit {0}
 
 -- the slots of the head's segment that a scan from start saw in its first offset looks have no settled item, as long as the ends stand
@@ -98,24 +98,24 @@ pub record ThreadOk (shape : Shape) (w : ℕ → ℕ) (l : Ledger) (t : ℕ) (r 
 
 -- a place in the order at which the tail is in this visit
 pub record AtTail (l : Ledger) (v p : ℕ) : Type 0 where
-  pub reached : v ≤ l.b
+  pub reached : v ≤ l.tail
   pub after : 0 < v → l.tails (v - 1) < p
-  pub before : v < l.b → p ≤ l.tails v
+  pub before : v < l.tail → p ≤ l.tails v
   pub past : p < l.now
 
 -- a place at which the head is in this visit, and the tail is past it
 pub record AtHead (l : Ledger) (v p : ℕ) : Type 0 where
-  pub reached : v ≤ l.a
+  pub reached : v ≤ l.head
   pub after : 0 < v → l.heads (v - 1) < p
-  pub before : v < l.a → p ≤ l.heads v
+  pub before : v < l.head → p ≤ l.heads v
   pub past : p < l.now
-  pub tail_past : v < l.b
+  pub tail_past : v < l.tail
   pub tail_before : l.tails v < p
 
 -- a slot with a settled item: it is of a visit that the head has not left and the tail has reached
 pub record SettledOk (shape : Shape) (l : Ledger) (i : ℕ) : Type 0 where
-  pub from_head : l.a ≤ l.visit i
-  pub to_tail : l.visit i ≤ l.b
+  pub from_head : l.head ≤ l.visit i
+  pub to_tail : l.visit i ≤ l.tail
   pub place : l.visit i % shape.n ≡ segment_of shape i
   pub at_tail : AtTail l (l.visit i) (l.point i)
   pub started : l.first (l.owner i) ≤ l.point i
@@ -126,14 +126,14 @@ pub record FullOk (shape : Shape) (l : Ledger) (i : ℕ) : Type 0 where
   pub inside : l.standing (l.owner i) ≡ Inside i
   pub known : l.owner i < l.calls
   pub begun : l.first (l.owner i) ≤ l.now
-  pub low_born : l.low i ≤ l.born i
-  pub born_b : l.born i ≤ l.b
-  pub place : l.born i % shape.n ≡ segment_of shape i
-  pub after : (v : ℕ) → l.born i ≤ v → v < l.b → l.first (l.owner i) ≤ l.tails v
+  pub untaken_to_load : l.untaken_from i ≤ l.tail_at_load i
+  pub load_to_tail : l.tail_at_load i ≤ l.tail
+  pub place : l.tail_at_load i % shape.n ≡ segment_of shape i
+  pub after : (v : ℕ) → l.tail_at_load i ≤ v → v < l.tail → l.first (l.owner i) ≤ l.tails v
   pub unsettled : l.settled i ≡ false → l.last (l.owner i) ≡ None
 
 pub record SlotOk (shape : Shape) (w : ℕ → ℕ) (l : Ledger) (i : ℕ) : Type 0 where
-  pub low_b : l.low i ≤ l.b
+  pub untaken_to_tail : l.untaken_from i ≤ l.tail
   pub empty : value_of (w i) ≡ 0 → l.settled i ≡ false
   pub full : value_of (w i) ≢ 0 → FullOk shape l i
   pub item : value_of (w i) ≢ 0 → item_of (l.begin (l.owner i)) ≡ value_of (w i)
@@ -141,11 +141,11 @@ pub record SlotOk (shape : Shape) (w : ℕ → ℕ) (l : Ledger) (i : ℕ) : Typ
 
 -- the steps at which head and tail left their visits
 pub record Times (l : Ledger) : Type 0 where
-  pub tails_past : (v : ℕ) → v < l.b → l.tails v < l.now
-  pub tails_rise : (u v : ℕ) → u < v → v < l.b → l.tails u < l.tails v
-  pub heads_past : (v : ℕ) → v < l.a → l.heads v < l.now
-  pub heads_rise : (u v : ℕ) → u < v → v < l.a → l.heads u < l.heads v
-  pub tail_first : (v : ℕ) → v < l.a → l.tails v < l.heads v
+  pub tails_past : (v : ℕ) → v < l.tail → l.tails v < l.now
+  pub tails_rise : (u v : ℕ) → u < v → v < l.tail → l.tails u < l.tails v
+  pub heads_past : (v : ℕ) → v < l.head → l.heads v < l.now
+  pub heads_rise : (u v : ℕ) → u < v → v < l.head → l.heads u < l.heads v
+  pub tail_first : (v : ℕ) → v < l.head → l.tails v < l.heads v
 
 -- a call whose item was taken from slot i in visit v, and its place
 pub record GoneOk (shape : Shape) (l : Ledger) (c i v p : ℕ) : Type 0 where
@@ -154,7 +154,7 @@ pub record GoneOk (shape : Shape) (l : Ledger) (c i v p : ℕ) : Type 0 where
   pub at_tail : AtTail l v p
   pub started : l.first c ≤ p
   pub ended : (e : ℕ) → l.last c ≡ Some e → p ≤ e
-  pub under : v < l.low i
+  pub under : v < l.untaken_from i
 
 -- the visit in which the item of a standing was taken
 abbrev pub gone_visit : Standing → ℕ
@@ -173,15 +173,15 @@ pub record TookOk (l : Ledger) (c o v p : ℕ) : Type 0 where
 -- a call that found the queue empty in visit v, and its place: what does not have its place later was taken in an earlier visit
 pub record StoodOk (shape : Shape) (l : Ledger) (c v p : ℕ) : Type 0 where
   pub at_tail : AtTail l v p
-  pub head_reached : v ≤ l.a
+  pub head_reached : v ≤ l.head
   pub head_after : 0 < v → l.heads (v - 1) < p
-  pub head_before : v < l.a → p ≤ l.heads v
+  pub head_before : v < l.head → p ≤ l.heads v
   pub started : l.first c ≤ p
   pub ended : (e : ℕ) → l.last c ≡ Some e → p ≡ e
   pub finished : is_some (l.answer c) ≡ true
   pub none_gone : (d i u q : ℕ) → l.standing d ≡ Gone i u q → q ≤ p → u < v
   pub none_settled : (i : ℕ) → IsSlotIndex shape i → l.settled i ≡ true → p < l.point i
-  pub no_tail : (x : ℕ) → x < l.b → l.tails x ≢ p
+  pub no_tail : (x : ℕ) → x < l.tail → l.tails x ≢ p
 
 -- the slot of an item that is in one
 pub record InsideOk (shape : Shape) (w : ℕ → ℕ) (l : Ledger) (c i : ℕ) : Type 0 where

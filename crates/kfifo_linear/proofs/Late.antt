@@ -33,7 +33,7 @@ use Rattle.kfifo_words.specs.declared.shape.Shape.{Shape}
 
 -- the slots that a scan of the head's segment saw: what stands in one was put while the head was here, as long as the ends stand
 abbrev pub Seen_empty : Shape → (ℕ → ℕ) → Ledger → ℕ → ℕ → ℕ → Type 0
-Seen_empty shape w l ends start offset = w 0 ≡ ends → (o : ℕ) → o < offset → value_of (w (scan_index shape (head_of ends) start o)) ≢ 0 → l.a ≤ l.put_head (scan_index shape (head_of ends) start o)
+Seen_empty shape w l ends start offset = w 0 ≡ ends → (o : ℕ) → o < offset → value_of (w (scan_index shape (head_of ends) start o)) ≢ 0 → l.head ≤ l.head_at_put (scan_index shape (head_of ends) start o)
 
 abbrev pub HasSeen : Shape → (ℕ → ℕ) → Ledger → Running → Type 0
 HasSeen shape w l (R.Enqueue item start left (E.ScanHead ends offset)) = Seen_empty shape w l ends 0 offset
@@ -45,8 +45,8 @@ HasSeen shape w l other = Unit {0}
 
 -- a chosen item was put before the head left the visit of the choice, and the head has gone at most once round since
 pub record Chosen (shape : Shape) (w : ℕ → ℕ) (l : Ledger) (t index filled : ℕ) : Type 0 where
-  pub put : w index ≡ filled → l.put_head index ≤ l.head_seen t
-  pub near : w index ≡ filled → l.a ≤ l.head_seen t + shape.n
+  pub put : w index ≡ filled → l.head_at_put index ≤ l.head_seen t
+  pub near : w index ≡ filled → l.head ≤ l.head_seen t + shape.n
 
 abbrev pub HasChosen : Shape → (ℕ → ℕ) → Ledger → ℕ → Running → Type 0
 HasChosen shape w l t (R.Dequeue start left (D.MoveTail ends index filled)) = Chosen shape w l t index filled
@@ -54,12 +54,12 @@ HasChosen shape w l t (R.Dequeue start left (D.Take ends index filled)) = Chosen
 HasChosen shape w l t other = Unit {0}
 
 pub record Late (shape : Shape) (w : ℕ → ℕ) (p : ℕ → Option Running) (l : Ledger) : Type 0 where
-  pub put_a : (i : ℕ) → l.put_head i ≤ l.a
+  pub put_to_head : (i : ℕ) → l.head_at_put i ≤ l.head
   pub seen : (t : ℕ) (r : Running) → p t ≡ Some r → HasSeen shape w l r
   pub chosen : (t : ℕ) (r : Running) → p t ≡ Some r → HasChosen shape w l t r
 
-module _ (shape : Shape) (w : ℕ → ℕ) (l : Ledger) (t : ℕ) (r : Running) (s : Sane shape r) (ok : EndsOk shape (w 0) l.a l.b) (me : ThreadOk shape w l t r) (put_a : (i : ℕ) → l.put_head i ≤ l.a) (mine : HasSeen shape w l r) (choice : HasChosen shape w l t r) where
-  late_put : (i : ℕ) → (stepped shape w t r l).put_head i ≤ (stepped shape w t r l).a
+module _ (shape : Shape) (w : ℕ → ℕ) (l : Ledger) (t : ℕ) (r : Running) (s : Sane shape r) (ok : EndsOk shape (w 0) l.head l.tail) (me : ThreadOk shape w l t r) (put_to_head : (i : ℕ) → l.head_at_put i ≤ l.head) (mine : HasSeen shape w l r) (choice : HasChosen shape w l t r) where
+  late_put : (i : ℕ) → (stepped shape w t r l).head_at_put i ≤ (stepped shape w t r l).head
   unfolding stepped
   late_put i = grind (arith, nat_tests, noted_tells)
 
@@ -72,29 +72,29 @@ module _ (shape : Shape) (w : ℕ → ℕ) (l : Ledger) (t : ℕ) (r : Running) 
   own_chosen = let ld = me.loaded in grind (arith, nat_tests, noted_tells)
 
   -- a step that leaves the ends as they are keeps what was seen of them
-  seen_kept : (i : ℕ) → words_by (access shape r) w 0 ≡ w 0 → (value_of (w i) ≢ 0 → l.a ≤ l.put_head i) → value_of (words_by (access shape r) w i) ≢ 0 → (stepped shape w t r l).a ≤ (stepped shape w t r l).put_head i
+  seen_kept : (i : ℕ) → words_by (access shape r) w 0 ≡ w 0 → (value_of (w i) ≢ 0 → l.head ≤ l.head_at_put i) → value_of (words_by (access shape r) w i) ≢ 0 → (stepped shape w t r l).head ≤ (stepped shape w t r l).head_at_put i
   unfolding stepped
   seen_kept i e h v =
-      let ring : InRing shape (w 0) = ends_in_ring shape (w 0) l.a l.b ok in
+      let ring : InRing shape (w 0) = ends_in_ring shape (w 0) l.head l.tail ok in
       let few = shape.few_segments in
       grind (arith, nat_tests, noted_tells, ends_word-above, next_segment-below, emptied-value)
 
-  put_kept : (i : ℕ) → words_by (access shape r) w i ≡ w i → 0 < i → (stepped shape w t r l).put_head i ≡ l.put_head i
+  put_kept : (i : ℕ) → words_by (access shape r) w i ≡ w i → 0 < i → (stepped shape w t r l).head_at_put i ≡ l.head_at_put i
   unfolding stepped
   put_kept i e pos = grind (arith, nat_tests, noted_tells, slot_word-above)
 
-  a_moves : ((stepped shape w t r l).a ≡ l.a) ⊎ ((stepped shape w t r l).a ≡ l.a + 1)
+  head_moves : ((stepped shape w t r l).head ≡ l.head) ⊎ ((stepped shape w t r l).head ≡ l.head + 1)
   unfolding stepped
-  a_moves = grind (arith, nat_tests)
+  head_moves = grind (arith, nat_tests)
 
-seen_slot : (shape : Shape) (w : ℕ → ℕ) (l : Ledger) (i ends start : ℕ) → 0 < shape.k → 0 < i → start < shape.k → Seen_empty shape w l ends start shape.k → w 0 ≡ ends → segment_of shape i ≡ head_of (w 0) → value_of (w i) ≢ 0 → l.a ≤ l.put_head i
+seen_slot : (shape : Shape) (w : ℕ → ℕ) (l : Ledger) (i ends start : ℕ) → 0 < shape.k → 0 < i → start < shape.k → Seen_empty shape w l ends start shape.k → w 0 ≡ ends → segment_of shape i ≡ head_of (w 0) → value_of (w i) ≢ 0 → l.head ≤ l.head_at_put i
 seen_slot shape w l i ends start k pos h c e g v =
     let z : scan_index shape (head_of ends) start (back shape i start) ≡ i = ap (λ x. scan_index shape x start (back shape i start)) (sym (g ∙ ap head_of e)) ∙ scan_index-back shape i start k pos h in
-    let y : l.a ≤ l.put_head (scan_index shape (head_of ends) start (back shape i start)) = c e (back shape i start) (back-below shape i start k) (λ x. v (ap (λ j. value_of (w j)) (sym z) ∙ x)) in
+    let y : l.head ≤ l.head_at_put (scan_index shape (head_of ends) start (back shape i start)) = c e (back shape i start) (back-below shape i start k) (λ x. v (ap (λ j. value_of (w j)) (sym z) ∙ x)) in
     rw z at y
 
 -- where a head-on is won, what stands in the head's segment was put while the head was here
-head_on_seen : (shape : Shape) (w : ℕ → ℕ) (l : Ledger) (i : ℕ) (r : Running) → 0 < shape.k → 0 < i → Sane shape r → HasSeen shape w l r → MovesHead w r → segment_of shape i ≡ head_of (w 0) → value_of (w i) ≢ 0 → l.a ≤ l.put_head i
+head_on_seen : (shape : Shape) (w : ℕ → ℕ) (l : Ledger) (i : ℕ) (r : Running) → 0 < shape.k → 0 < i → Sane shape r → HasSeen shape w l r → MovesHead w r → segment_of shape i ≡ head_of (w 0) → value_of (w i) ≢ 0 → l.head ≤ l.head_at_put i
 head_on_seen shape w l i (R.Enqueue item start left (E.MoveHead ends)) k pos s c e g v = seen_slot shape w l i ends 0 k pos k c e g v
 head_on_seen shape w l i (R.Dequeue start left (D.MoveHead ends)) k pos s c e g v = seen_slot shape w l i ends start k pos s.0 c e g v
 head_on_seen shape w l i other k pos s c e g v = absurd e
@@ -107,33 +107,33 @@ HasChosen-others shape w w' l l' u (R.Dequeue start left (D.MoveTail ends index 
 HasChosen-others shape w w' l l' u (R.Dequeue start left (D.Take ends index filled)) s g keep h = keep index filled s.1.0 s.1.1 g.0 h
 HasChosen-others shape w w' l l' u other s g keep h = tt
 
-module _ (shape : Shape) (w : ℕ → ℕ) (l : Ledger) (t : ℕ) (r : Running) (s : Sane shape r) (ok : EndsOk shape (w 0) l.a l.b) (me : ThreadOk shape w l t r) (put_a : (i : ℕ) → l.put_head i ≤ l.a) (mine : HasSeen shape w l r) (choice : HasChosen shape w l t r)
+module _ (shape : Shape) (w : ℕ → ℕ) (l : Ledger) (t : ℕ) (r : Running) (s : Sane shape r) (ok : EndsOk shape (w 0) l.head l.tail) (me : ThreadOk shape w l t r) (put_to_head : (i : ℕ) → l.head_at_put i ≤ l.head) (mine : HasSeen shape w l r) (choice : HasChosen shape w l t r)
     (u : ℕ) (q : Running) (ne : u ≡ t → ⊥) (sq : Sane shape q) (them : ThreadOk shape w l u q) (seen_h : (stepped shape w t r l).head_seen u ≡ l.head_seen u) where
   ups : (i : ℕ) → w i ≤ words_by (access shape r) w i
-  ups i = words_rise shape w r s (ends_in_ring shape (w 0) l.a l.b ok) i
+  ups i = words_rise shape w r s (ends_in_ring shape (w 0) l.head l.tail ok) i
 
   other_seen : (ends start offset : ℕ) → Loaded shape w l u ends → Seen_empty shape w l ends start offset → Seen_empty shape (words_by (access shape r) w) (stepped shape w t r l) ends start offset
   other_seen ends start offset ld c e o below v =
       let z : words_by (access shape r) w 0 ≡ w 0 = omega (arith, ld.below, ups 0) in
-      seen_kept shape w l t r s ok me put_a mine choice (scan_index shape (head_of ends) start o) z (c (sym z ∙ e) o below) v
+      seen_kept shape w l t r s ok me put_to_head mine choice (scan_index shape (head_of ends) start o) z (c (sym z ∙ e) o below) v
 
   other_chosen : (index filled : ℕ) → IsSlotIndex shape index → value_of filled ≢ 0 → ToTake shape w l u index filled → Chosen shape w l u index filled → Chosen shape (words_by (access shape r) w) (stepped shape w t r l) u index filled
   other_chosen index filled i v g c =
       record {
         put = λ e.
             let z : words_by (access shape r) w index ≡ w index = omega (arith, g.below, ups index) in
-            omega (arith, put_kept shape w l t r s ok me put_a mine choice index z i.above, seen_h, c.put (sym z ∙ e));
+            omega (arith, put_kept shape w l t r s ok me put_to_head mine choice index z i.above, seen_h, c.put (sym z ∙ e));
         near = λ e.
             let z : words_by (access shape r) w index ≡ w index = omega (arith, g.below, ups index) in
             let x : w index ≡ filled = sym z ∙ e in
-            elim (a_moves shape w l t r s ok me put_a mine choice) [
+            elim (head_moves shape w l t r s ok me put_to_head mine choice) [
               | inl k ↦ omega (arith, k, seen_h, c.near x)
-              | inr k ↦ elim (cases_eq l.a (l.head_seen u + shape.n)) [
+              | inr k ↦ elim (cases_eq l.head (l.head_seen u + shape.n)) [
                 | inr far ↦ omega (arith, k, seen_h, c.near x)
                 | inl at ↦
                     let m : MovesHead w r = moves_head shape w l t r (λ y. omega (arith, k, y)) in
                     let d : segment_of shape index ≡ head_of (w 0) = g.place ∙ sym (add-mod_right (l.head_seen u) shape.n) ∙ ap (λ y. y % shape.n) (sym at) ∙ sym ok.head in
-                    let b : l.a ≤ l.put_head index = head_on_seen shape w l index r shape.some_slot i.above s mine m d (λ y. v (ap value_of (sym x) ∙ y)) in
+                    let b : l.head ≤ l.head_at_put index = head_on_seen shape w l index r shape.some_slot i.above s mine m d (λ y. v (ap value_of (sym x) ∙ y)) in
                     absurd (omega (arith, b, c.put x, at, shape.some_segments))
               ]
             ];
@@ -173,25 +173,25 @@ module _ (shape : Shape) where
   both_step : (w : ℕ → ℕ) (p : ℕ → Option Running) (l : Ledger) (t : ℕ) (r : Running) → Both shape w p l → p t ≡ Some r → Both shape (words_by (access shape r) w) (noted p t (place_after (advance shape r (found_in shape w r)))) (stepped shape w t r l)
   both_step w p l t r h e =
       let s : Sane shape r = h.inv.base.sane t r e in
-      let ok : EndsOk shape (w 0) l.a l.b = h.inv.base.ends in
+      let ok : EndsOk shape (w 0) l.head l.tail = h.inv.base.ends in
       let me : ThreadOk shape w l t r = h.inv.threads t r e in
       let mine : HasSeen shape w l r = h.late.seen t r e in
       let choice : HasChosen shape w l t r = h.late.chosen t r e in
       record {
         inv = inv_step shape w p l t r h.inv e;
         late = record {
-          put_a = late_put shape w l t r s ok me h.late.put_a mine choice;
+          put_to_head = late_put shape w l t r s ok me h.late.put_to_head mine choice;
           seen = λ u q f. elim (cases_eq u t) [
-            | inl same ↦ goes_at (HasSeen shape (words_by (access shape r) w) (stepped shape w t r l)) (advance shape r (found_in shape w r)) q (sym (noted-same p t u (place_after (advance shape r (found_in shape w r))) same) ∙ f) (own_seen_empty shape w l t r s ok me h.late.put_a mine choice)
+            | inl same ↦ goes_at (HasSeen shape (words_by (access shape r) w) (stepped shape w t r l)) (advance shape r (found_in shape w r)) q (sym (noted-same p t u (place_after (advance shape r (found_in shape w r))) same) ∙ f) (own_seen_empty shape w l t r s ok me h.late.put_to_head mine choice)
             | inr ne ↦
                 let g : p u ≡ Some q = sym (noted-other p t u (place_after (advance shape r (found_in shape w r))) ne) ∙ f in
-                other_late_seen shape w l t r s ok me h.late.put_a mine choice u q ne (h.inv.base.sane u q g) (h.inv.threads u q g) (seen_same w l t r u ne) (h.late.seen u q g)
+                other_late_seen shape w l t r s ok me h.late.put_to_head mine choice u q ne (h.inv.base.sane u q g) (h.inv.threads u q g) (seen_same w l t r u ne) (h.late.seen u q g)
           ];
           chosen = λ u q f. elim (cases_eq u t) [
-            | inl same ↦ rw same (goes_at (HasChosen shape (words_by (access shape r) w) (stepped shape w t r l) t) (advance shape r (found_in shape w r)) q (sym (noted-same p t u (place_after (advance shape r (found_in shape w r))) same) ∙ f) (own_chosen shape w l t r s ok me h.late.put_a mine choice))
+            | inl same ↦ rw same (goes_at (HasChosen shape (words_by (access shape r) w) (stepped shape w t r l) t) (advance shape r (found_in shape w r)) q (sym (noted-same p t u (place_after (advance shape r (found_in shape w r))) same) ∙ f) (own_chosen shape w l t r s ok me h.late.put_to_head mine choice))
             | inr ne ↦
                 let g : p u ≡ Some q = sym (noted-other p t u (place_after (advance shape r (found_in shape w r))) ne) ∙ f in
-                other_late_chosen shape w l t r s ok me h.late.put_a mine choice u q ne (h.inv.base.sane u q g) (h.inv.threads u q g) (seen_same w l t r u ne) (h.late.chosen u q g)
+                other_late_chosen shape w l t r s ok me h.late.put_to_head mine choice u q ne (h.inv.base.sane u q g) (h.inv.threads u q g) (seen_same w l t r u ne) (h.late.chosen u q g)
           ];
         };
       }
@@ -202,7 +202,7 @@ module _ (shape : Shape) where
       record {
         inv = inv_begin shape w p l t b r h.inv e m g;
         late = record {
-          put_a = h.late.put_a;
+          put_to_head = h.late.put_to_head;
           seen = λ u q f. elim (cases_eq u t) [
             | inl same ↦ rw (← (same_Some r q (sym (noted-same p t u (Some r) same) ∙ f))) (begun_late shape w l t b r g).0
             | inr ne ↦ HasSeen-others shape w w l (called t b l) u q (λ ends start offset ld c. c) (h.inv.threads u q (sym (noted-other p t u (Some r) ne) ∙ f)).loaded (h.late.seen u q (sym (noted-other p t u (Some r) ne) ∙ f))
@@ -221,7 +221,7 @@ module _ (shape : Shape) where
       record {
         inv = inv_tick shape w p l h.inv;
         late = record {
-          put_a = h.late.put_a;
+          put_to_head = h.late.put_to_head;
           seen = λ u q f. tick_seen shape w l (w (clock_at shape.k shape.n) + 1) u q (h.inv.base.sane u q f) (h.inv.threads u q f).loaded (λ ends ld. loaded_in_ring shape w l u ends ld) (h.late.seen u q f);
           chosen = λ u q f. HasChosen-others shape w (noted w (clock_at shape.k shape.n) (w (clock_at shape.k shape.n) + 1)) l (record l { now = l.now + 1 }) u q (h.inv.base.sane u q f) (h.inv.threads u q f).target
               (λ index filled i v tk c.
@@ -237,7 +237,7 @@ module _ (shape : Shape) where
       record {
         inv = inv_opening shape threads;
         late = record {
-          put_a = λ i. omega arith;
+          put_to_head = λ i. omega arith;
           seen = λ t r f. absurd (none-some r (sym (get_or_replicate threads t None) ∙ f));
           chosen = λ t r f. absurd (none-some r (sym (get_or_replicate threads t None) ∙ f));
         };

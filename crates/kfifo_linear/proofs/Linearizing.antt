@@ -26,11 +26,11 @@ use Rattle.kfifo_machine.specs.Program.{access, accessed, advance}
 use Rattle.kfifo_machine.specs.Runs.{going}
 use Rattle.kfifo_machine.proofs.Schedules.{Some-injective, after-snoc, made_within, run_on, stepped, take-next}
 use Rattle.kfifo_machine.proofs.Sound.{sound_ends, sound_threads}
-use Rattle.kfifo_linear.specs.declared.deed.Deed.{Deed}
-use Rattle.kfifo_linear.specs.declared.deed.Deed.TheVariants.{Check, HeadOn, Hold, Look, Open, PutBack, PutIn, Settle, Stand, TailOn, TakeOut}
+use Rattle.kfifo_linear.specs.declared.action.Action.{Action}
+use Rattle.kfifo_linear.specs.declared.action.Action.TheVariants.{HoldHead, LoadEnds, MoveHead, MoveTail, Other, Put, Recheck, RecheckEmpty, ReloadEnds, Take, Undo}
 use Rattle.kfifo_linear.specs.Ledger as ledger
-use Rattle.kfifo_linear.specs.Ledger.{Ledger, blank, called, deed, deed_if, found_in, ledger_after, ledger_from, ledger_of, noted, Outside}
-use Rattle.kfifo_linear.specs.Notes.{HasRoom, Notes, begins_call, calls_begun, deed_at, fed, marked, no_caller, no_filling, no_notes, noted_event, own_call, slot}
+use Rattle.kfifo_linear.specs.Ledger.{Ledger, blank, called, action, action_if, found_in, ledger_after, ledger_from, ledger_of, noted, Outside}
+use Rattle.kfifo_linear.specs.Notes.{HasRoom, Notes, begins_call, calls_begun, action_at, fed, marked, no_caller, no_filling, no_notes, noted_event, own_call, slot}
 use Rattle.kfifo_linear.specs.declared.notes.Whereabouts.TheVariants.{Nowhere}
 use Rattle.kfifo_linear.specs.Notes as note
 use Rattle.kfifo_linear.specs.Following.{Follower, Follows, IsFollowing, Sizes, Tells, follower}
@@ -43,8 +43,8 @@ use Rattle.kfifo_linear.proofs.Agrees.{Agrees}
 use Rattle.kfifo_linear.proofs.Schedule.{agreed}
 use Rattle.kfifo_linear.proofs.Telling.{CanTell, told, told_call, told_tick}
 
--- a deed that is one where a test holds
-by_test : (P : Deed → Type 0) (test : Bool) (what : Deed) → P Look → (test ≡ true → P what) → P (deed_if test what)
+-- an action that is one where a test holds
+by_test : (P : Action → Type 0) (test : Bool) (what : Action) → P Other → (test ≡ true → P what) → P (action_if test what)
 by_test P true what none one = one refl
 by_test P false what none one = none
 
@@ -53,35 +53,35 @@ module _ (shape : Shape) (w : ℕ → ℕ) (p : ℕ → Option Running) (l : Led
   slot_known : (index : ℕ) → IsSlotIndex shape index → index < length n.slots
   slot_known index is = omega (arith, is.below, sizes.slots)
 
-  can_enqueue : (item start left : ℕ) (phase : _) → p t ≡ Some (R.Enqueue item start left phase) → CanTell shape l n t (deed shape (R.Enqueue item start left phase) (found_in shape w (R.Enqueue item start left phase)))
+  can_enqueue : (item start left : ℕ) (phase : _) → p t ≡ Some (R.Enqueue item start left phase) → CanTell shape l n t (action shape (R.Enqueue item start left phase) (found_in shape w (R.Enqueue item start left phase)))
   can_enqueue item start left E.LoadEnds at = tt
   can_enqueue item start left (E.ScanTail ends offset) at = tt
   can_enqueue item start left (E.Recheck ends seen) at = tt
   can_enqueue item start left (E.Put ends index empty) at =
       let s = ok.inv.base.sane t (R.Enqueue item start left (E.Put ends index empty)) at in
-      by_test (CanTell shape l n t) _ (PutIn index) tt (λ e. slot_known index s.3.1)
+      by_test (CanTell shape l n t) _ (Put index) tt (λ e. slot_known index s.3.1)
   can_enqueue item start left (E.ReloadSlot ends index filled) at = tt
   can_enqueue item start left (E.ReloadEnds ends index filled) at =
       let s = ok.inv.base.sane t (R.Enqueue item start left (E.ReloadEnds ends index filled)) at in
-      by_test (CanTell shape l n t) _ (Settle index (tail_of ends)) tt (λ e. (slot_known index s.3.1, s.3.0.tail))
+      by_test (CanTell shape l n t) _ (ReloadEnds index (tail_of ends)) tt (λ e. (slot_known index s.3.1, s.3.0.tail))
   can_enqueue item start left (E.HoldHead index filled held) at =
       let s = ok.inv.base.sane t (R.Enqueue item start left (E.HoldHead index filled held)) at in
-      by_test (CanTell shape l n t) _ (Hold index) tt (λ e. slot_known index s.3.0)
+      by_test (CanTell shape l n t) _ (HoldHead index) tt (λ e. slot_known index s.3.0)
   can_enqueue item start left (E.Undo index filled worn) at =
       let s = ok.inv.base.sane t (R.Enqueue item start left (E.Undo index filled worn)) at in
-      by_test (CanTell shape l n t) _ (PutBack index) tt (λ e. slot_known index s.3.0)
+      by_test (CanTell shape l n t) _ (Undo index) tt (λ e. slot_known index s.3.0)
   can_enqueue item start left (E.ScanHead ends offset) at = tt
   can_enqueue item start left (E.ConfirmFull ends) at = tt
-  can_enqueue item start left (E.MoveHead ends) at = by_test (CanTell shape l n t) _ HeadOn tt (λ e. tt)
-  can_enqueue item start left (E.MoveTail ends) at = by_test (CanTell shape l n t) _ TailOn tt (λ e. tt)
+  can_enqueue item start left (E.MoveHead ends) at = by_test (CanTell shape l n t) _ MoveHead tt (λ e. tt)
+  can_enqueue item start left (E.MoveTail ends) at = by_test (CanTell shape l n t) _ MoveTail tt (λ e. tt)
 
   -- of a take that is won: its slot holds the item of a known call, and the latest visits have its visit
-  can_take : (start left ends index filled : ℕ) → p t ≡ Some (R.Dequeue start left (D.Take ends index filled)) → w index ≡ filled → CanTell shape l n t (TakeOut index)
+  can_take : (start left ends index filled : ℕ) → p t ≡ Some (R.Dequeue start left (D.Take ends index filled)) → w index ≡ filled → CanTell shape l n t (Take index)
   can_take start left ends index filled at won =
       let s = ok.inv.base.sane t (R.Dequeue start left (D.Take ends index filled)) at in
       let target = (ok.inv.threads t (R.Dequeue start left (D.Take ends index filled)) at).target in
       let full : FullOk shape l index = (ok.inv.slots index s.1.0).full (λ e. s.1.1 (ap value_of (sym won) ∙ e)) in
-      let near : l.a ≤ l.head_seen t + shape.n = (ok.late.chosen t (R.Dequeue start left (D.Take ends index filled)) at).near won in
+      let near : l.head ≤ l.head_seen t + shape.n = (ok.late.chosen t (R.Dequeue start left (D.Take ends index filled)) at).near won in
       let wrap = ok.inv.base.ends.no_wrap in (
         slot_known index s.1.0,
         omega (arith, full.known, counted, sizes.calls),
@@ -90,44 +90,44 @@ module _ (shape : Shape) (w : ℕ → ℕ) (p : ℕ → Option Running) (l : Led
         omega (arith, near, sizes.heads),
       )
 
-  can_dequeue : (start left : ℕ) (phase : _) → p t ≡ Some (R.Dequeue start left phase) → CanTell shape l n t (deed shape (R.Dequeue start left phase) (found_in shape w (R.Dequeue start left phase)))
+  can_dequeue : (start left : ℕ) (phase : _) → p t ≡ Some (R.Dequeue start left phase) → CanTell shape l n t (action shape (R.Dequeue start left phase) (found_in shape w (R.Dequeue start left phase)))
   can_dequeue start left D.LoadEnds at = tt
   can_dequeue start left (D.ScanHead ends offset) at = tt
   can_dequeue start left (D.Recheck ends (Slot index seen)) at = tt
-  can_dequeue start left (D.Recheck ends Nothing) at = by_test (CanTell shape l n t) _ Stand tt (λ e. tt)
-  can_dequeue start left (D.MoveTail ends index filled) at = by_test (CanTell shape l n t) _ TailOn tt (λ e. tt)
-  can_dequeue start left (D.Take ends index filled) at = by_test (CanTell shape l n t) (w index == filled) (TakeOut index) tt (λ e. can_take start left ends index filled at (eqb-true (w index) filled e))
-  can_dequeue start left (D.MoveHead ends) at = by_test (CanTell shape l n t) _ HeadOn tt (λ e. tt)
+  can_dequeue start left (D.Recheck ends Nothing) at = by_test (CanTell shape l n t) _ RecheckEmpty tt (λ e. tt)
+  can_dequeue start left (D.MoveTail ends index filled) at = by_test (CanTell shape l n t) _ MoveTail tt (λ e. tt)
+  can_dequeue start left (D.Take ends index filled) at = by_test (CanTell shape l n t) (w index == filled) (Take index) tt (λ e. can_take start left ends index filled at (eqb-true (w index) filled e))
+  can_dequeue start left (D.MoveHead ends) at = by_test (CanTell shape l n t) _ MoveHead tt (λ e. tt)
 
-  pub can_tell : (r : Running) → p t ≡ Some r → CanTell shape l n t (deed shape r (found_in shape w r))
+  pub can_tell : (r : Running) → p t ≡ Some r → CanTell shape l n t (action shape r (found_in shape w r))
   can_tell (R.Enqueue item start left phase) at = can_enqueue item start left phase at
   can_tell (R.Dequeue start left phase) at = can_dequeue start left phase at
 
   -- there is room for what is told
-  pub has_room : (what : Deed) → CanTell shape l n t what → HasRoom shape n what
-  has_room Look can = tt
-  has_room Open can = tt
-  has_room Check can = tt
-  has_room (PutIn index) can = can
-  has_room (PutBack index) can = can
-  has_room (Settle index segment) can = can
-  has_room (Hold index) can = can
-  has_room (TakeOut index) can = (can.0, omega (arith, h.owner index, can.1))
-  has_room HeadOn can = tt
-  has_room TailOn can = tt
-  has_room Stand can = tt
+  pub has_room : (what : Action) → CanTell shape l n t what → HasRoom shape n what
+  has_room Other can = tt
+  has_room LoadEnds can = tt
+  has_room Recheck can = tt
+  has_room (Put index) can = can
+  has_room (Undo index) can = can
+  has_room (ReloadEnds index segment) can = can
+  has_room (HoldHead index) can = can
+  has_room (Take index) can = (can.0, omega (arith, h.owner index, can.1))
+  has_room MoveHead can = tt
+  has_room MoveTail can = tt
+  has_room RecheckEmpty can = tt
 
   -- the step of a thread in a call
-  pub tells_step : (r : Running) → t < threads → p t ≡ Some r → Tells (ledger.stepped shape w t r l) (note.stepped shape t (w 0) (deed shape r (found_in shape w r)) (outcome_of (advance shape r (found_in shape w r))) n)
+  pub tells_step : (r : Running) → t < threads → p t ≡ Some r → Tells (ledger.stepped shape w t r l) (note.stepped shape t (w 0) (action shape r (found_in shape w r)) (outcome_of (advance shape r (found_in shape w r))) n)
   unfolding ledger.stepped
   tells_step r thread at =
       let mine : ThreadOk shape w l t r = ok.inv.threads t r at in
       told shape l n t (w 0) h (omega (arith, sizes.callers)) (omega (arith, mine.known, counted, sizes.calls)) mine.unended
       (omega (arith, ok.inv.base.ends.no_wrap, sizes.tails)) (omega (arith, shape.some_segments, sizes.heads)) (omega (arith, shape.some_segments, sizes.tails))
-      (deed shape r (found_in shape w r)) (advance shape r (found_in shape w r)) (can_tell r at)
+      (action shape r (found_in shape w r)) (advance shape r (found_in shape w r)) (can_tell r at)
 
 -- the lists keep their sizes
-sizes_marked : (shape : Shape) (threads room : ℕ) (n : Notes) (t ends : ℕ) (what : Deed) (outcome : Outcome) → Sizes shape threads room n → Sizes shape threads room (note.stepped shape t ends what outcome n)
+sizes_marked : (shape : Shape) (threads room : ℕ) (n : Notes) (t ends : ℕ) (what : Action) (outcome : Outcome) → Sizes shape threads room n → Sizes shape threads room (note.stepped shape t ends what outcome n)
 sizes_marked shape threads room n t ends what outcome h = record {
   heads = grind (arith, length-set, h.heads);
   tails = grind (arith, length-set, h.tails);
@@ -142,10 +142,10 @@ sizes_marked shape threads room n t ends what outcome h = record {
 sizes_called : (shape : Shape) (threads room : ℕ) (n : Notes) (t : ℕ) → Sizes shape threads room n → n.begun < room → Sizes shape threads room (note.called t n)
 sizes_called shape threads room n t h less = record { heads = h.heads; tails = h.tails; slots = h.slots; callers = length-set n.callers t _ ∙ h.callers; calls = h.calls; begun = omega arith; head = h.head; tail = h.tail }
 
-sizes_event : (shape : Shape) (threads room : ℕ) (n : Notes) (t ends : ℕ) (begin : Option Begin) (what : Deed) (outcome : Outcome) → Sizes shape threads room n → (begins_call begin ≡ true → n.begun < room) → Sizes shape threads room (noted_event shape t begin ends what outcome n)
+sizes_event : (shape : Shape) (threads room : ℕ) (n : Notes) (t ends : ℕ) (begin : Option Begin) (what : Action) (outcome : Outcome) → Sizes shape threads room n → (begins_call begin ≡ true → n.begun < room) → Sizes shape threads room (noted_event shape t begin ends what outcome n)
 sizes_event shape threads room n t ends None what outcome h less = sizes_marked shape threads room n t ends what outcome h
-sizes_event shape threads room n t ends (Some (B.Enqueue item start turns)) what outcome h less = sizes_marked shape threads room (note.called t n) t ends Open outcome (sizes_called shape threads room n t h (less refl))
-sizes_event shape threads room n t ends (Some (B.Dequeue start turns)) what outcome h less = sizes_marked shape threads room (note.called t n) t ends Open outcome (sizes_called shape threads room n t h (less refl))
+sizes_event shape threads room n t ends (Some (B.Enqueue item start turns)) what outcome h less = sizes_marked shape threads room (note.called t n) t ends LoadEnds outcome (sizes_called shape threads room n t h (less refl))
+sizes_event shape threads room n t ends (Some (B.Dequeue start turns)) what outcome h less = sizes_marked shape threads room (note.called t n) t ends LoadEnds outcome (sizes_called shape threads room n t h (less refl))
 sizes_event shape threads room n t ends (Some B.Tick) what outcome h less = record { heads = h.heads; tails = h.tails; slots = h.slots; callers = h.callers; calls = h.calls; begun = h.begun; head = omega (arith, h.head); tail = omega (arith, h.tail) }
 
 begun_is : (test : Bool) (first r : Running) → cond test (Some first) None ≡ Some r → first ≡ r
@@ -155,25 +155,25 @@ begun_is false first r e = absurd (none-some r e)
 module _ (shape : Shape) (world next : World) (outcome : Outcome) (e : Event) (l : Ledger) (n : Notes) (threads room : ℕ) (ok : Both shape (word_at world) (place_of world) l) (h : Tells l n) (sizes : Sizes shape threads room n) (counted : l.calls ≤ room)
     (outside : l.standing l.calls ≡ Outside) (unended : l.last l.calls ≡ None) (within : e.thread < threads) (less : begins_call e.begin ≡ true → n.begun < room) where
   -- the first step of a call
-  tells_begin : (b : Begin) (r q : Running) → n.begun < room → deed shape r (found_in shape (word_at world) r) ≡ Open → advance shape r (found_in shape (word_at world) r) ≡ Goes q
-      → Tells (ledger.stepped shape (word_at world) e.thread r (called e.thread b l)) (note.stepped shape e.thread (word_at world 0) Open Went (note.called e.thread n))
+  tells_begin : (b : Begin) (r q : Running) → n.begun < room → action shape r (found_in shape (word_at world) r) ≡ LoadEnds → advance shape r (found_in shape (word_at world) r) ≡ Goes q
+      → Tells (ledger.stepped shape (word_at world) e.thread r (called e.thread b l)) (note.stepped shape e.thread (word_at world 0) LoadEnds Went (note.called e.thread n))
   unfolding ledger.stepped called
-  tells_begin b r q some opens goes =
+  tells_begin b r q some loads goes =
       let mine : noted l.caller e.thread l.calls e.thread ≡ l.calls = noted-same l.caller e.thread e.thread l.calls refl in
       let new : Tells (called e.thread b l) (note.called e.thread n) = told_call l n e.thread b h (omega (arith, sizes.callers)) outside unended in
       let size : length (note.called e.thread n).callers ≡ length n.callers = length-set n.callers e.thread _ in
-      rw (opens, goes)
+      rw (loads, goes)
       (told shape (called e.thread b l) (note.called e.thread n) e.thread (word_at world 0) new (omega (arith, size, sizes.callers)) (omega (arith, mine, h.begun, sizes.calls)) (rw mine (noted-same l.last l.calls l.calls None refl))
-      (omega (arith, ok.inv.base.ends.no_wrap, sizes.tails)) (omega (arith, shape.some_segments, sizes.heads)) (omega (arith, shape.some_segments, sizes.tails)) Open (Goes q) tt)
+      (omega (arith, ok.inv.base.ends.no_wrap, sizes.tails)) (omega (arith, shape.some_segments, sizes.heads)) (omega (arith, shape.some_segments, sizes.tails)) LoadEnds (Goes q) tt)
 
   tells_by_place : (place : Option Running) (begin : Option Begin) (r : Running) → place_of world e.thread ≡ place → e.begin ≡ begin → going shape place begin ≡ Some r → outcome ≡ outcome_of (advance shape r (found shape world r))
-      → Tells (ledger_from shape (word_at world) e.thread place begin l) (noted_event shape e.thread begin (word_at world 0) (deed_at shape world place) outcome n)
+      → Tells (ledger_from shape (word_at world) e.thread place begin l) (noted_event shape e.thread begin (word_at world 0) (action_at shape world place) outcome n)
   unfolding found
   tells_by_place None None r was is goes comes = absurd (cc)
   tells_by_place (Some q) (Some b) r was is goes comes = absurd (cc)
   tells_by_place (Some q) None r was is goes comes =
       let same : q ≡ r = Some-injective q r goes in
-      subst (λ (o : Outcome). Tells (ledger.stepped shape (word_at world) e.thread q l) (note.stepped shape e.thread (word_at world 0) (deed shape q (found_in shape (word_at world) q)) o n)) (sym (comes ∙ ap (λ (x : Running). outcome_of (advance shape x (found_in shape (word_at world) x))) (sym same)))
+      subst (λ (o : Outcome). Tells (ledger.stepped shape (word_at world) e.thread q l) (note.stepped shape e.thread (word_at world 0) (action shape q (found_in shape (word_at world) q)) o n)) (sym (comes ∙ ap (λ (x : Running). outcome_of (advance shape x (found_in shape (word_at world) x))) (sym same)))
       (tells_step shape (word_at world) (place_of world) l n e.thread threads room ok h sizes counted q within was)
   tells_by_place None (Some (B.Enqueue item start turns)) r was is goes comes =
       let first : Running = R.Enqueue item start turns E.LoadEnds in
@@ -194,7 +194,7 @@ module _ (shape : Shape) (world next : World) (outcome : Outcome) (e : Event) (l
       elim (stepped shape world e next outcome made) [
         | inl s ↦ tells_by_place (place_of world e.thread) e.begin s.running refl refl s.goes s.outcome_is
         | inr t ↦
-            let goal : Tells (ledger_from shape (word_at world) e.thread None (Some B.Tick) l) (noted_event shape e.thread (Some B.Tick) (word_at world 0) (deed_at shape world None) outcome n) = told_tick l n h in
+            let goal : Tells (ledger_from shape (word_at world) e.thread None (Some B.Tick) l) (noted_event shape e.thread (Some B.Tick) (word_at world 0) (action_at shape world None) outcome n) = told_tick l n h in
             rw (t.begins, t.idle) goal
       ]
 
@@ -206,10 +206,10 @@ ledger_more shape (Some world) here [] e l is = ap (λ w. ledger_after shape w e
 ledger_more shape (Some world) here (d ∷ events) e l is = ledger_more shape (world_of (step shape world d)) here events e (ledger_after shape world d l) is
 
 -- one event more, and one call more where it begins one
-steps_more : (shape : Shape) (n : Notes) (t ends : ℕ) (begin : Option Begin) (what : Deed) (outcome : Outcome) → (noted_event shape t begin ends what outcome n).step ≡ n.step + 1
+steps_more : (shape : Shape) (n : Notes) (t ends : ℕ) (begin : Option Begin) (what : Action) (outcome : Outcome) → (noted_event shape t begin ends what outcome n).step ≡ n.step + 1
 steps_more shape n t ends begin what outcome = grind arith
 
-begun_more : (shape : Shape) (n : Notes) (t ends : ℕ) (begin : Option Begin) (what : Deed) (outcome : Outcome) → (noted_event shape t begin ends what outcome n).begun ≡ n.begun + cond (begins_call begin) 1 0
+begun_more : (shape : Shape) (n : Notes) (t ends : ℕ) (begin : Option Begin) (what : Action) (outcome : Outcome) → (noted_event shape t begin ends what outcome n).begun ≡ n.begun + cond (begins_call begin) 1 0
 begun_more shape n t ends begin what outcome = grind arith
 
 length-filter_one : {X : Type 0} (test : X → Bool) (x : X) → length (filter test (x ∷ [])) ≡ cond (test x) 1 0
@@ -231,10 +231,10 @@ follows_on shape threads room events world next outcome e n h made less =
     let within : e.thread < threads = omega (arith, made_within shape world e next outcome made, sound_threads shape threads events world h.reached) in
     record {
       reached = after-snoc shape threads events world e h.reached ∙ ap world_of made;
-      steps = steps_more shape n e.thread (word_at world 0) e.begin (deed_at shape world (place_of world e.thread)) outcome ∙ ap (λ k. k + 1) h.steps ∙ sym (length-append events (e ∷ []));
-      begun = begun_more shape n e.thread (word_at world 0) e.begin (deed_at shape world (place_of world e.thread)) outcome ∙ ap (λ k. k + cond (begins_call e.begin) 1 0) h.begun ∙ sym (calls_more events e);
+      steps = steps_more shape n e.thread (word_at world 0) e.begin (action_at shape world (place_of world e.thread)) outcome ∙ ap (λ k. k + 1) h.steps ∙ sym (length-append events (e ∷ []));
+      begun = begun_more shape n e.thread (word_at world 0) e.begin (action_at shape world (place_of world e.thread)) outcome ∙ ap (λ k. k + cond (begins_call e.begin) 1 0) h.begun ∙ sym (calls_more events e);
       tells = rw more (tells_event shape world next outcome e l n threads room ok h.tells h.sizes (omega (arith, h.tells.begun, h.sizes.begun)) (ok.inv.calls.later l.calls (omega arith)) (same.none l.calls (omega arith)).0 within less made);
-      sizes = sizes_event shape threads room n e.thread (word_at world 0) e.begin (deed_at shape world (place_of world e.thread)) outcome h.sizes less;
+      sizes = sizes_event shape threads room n e.thread (word_at world 0) e.begin (action_at shape world (place_of world e.thread)) outcome h.sizes less;
     }
 
 -- an event that begins nothing goes on with a call
@@ -288,7 +288,7 @@ pub record CanFeed (f : Follower) (e : Event) : Type 0 where
   pub ends : IsEnds f.shape (word_at f.world 0)
   pub thread : e.thread < length f.notes.callers
   pub call : e.begin ≡ None → own_call f.notes e.thread < length f.notes.calls
-  pub room : e.begin ≡ None → HasRoom f.shape f.notes (deed_at f.shape f.world (place_of f.world e.thread))
+  pub room : e.begin ≡ None → HasRoom f.shape f.notes (action_at f.shape f.world (place_of f.world e.thread))
   pub head : f.notes.head ≤ f.notes.step
   pub tail : f.notes.tail ≤ f.notes.step
 
@@ -304,13 +304,13 @@ can_feed f next outcome e h made =
       call = λ none. let r = going_on f.shape f.world e next outcome made none in
           omega (arith, (ok.inv.threads e.thread r.0 r.1).known, h.follows.tells.own e.thread, counted, h.follows.sizes.calls);
       room = λ none. let r = going_on f.shape f.world e next outcome made none in
-          rw r.1 (has_room f.shape (word_at f.world) (place_of f.world) l f.notes e.thread h.threads h.room ok h.follows.tells h.follows.sizes counted (deed f.shape r.0 (found_in f.shape (word_at f.world) r.0))
+          rw r.1 (has_room f.shape (word_at f.world) (place_of f.world) l f.notes e.thread h.threads h.room ok h.follows.tells h.follows.sizes counted (action f.shape r.0 (found_in f.shape (word_at f.world) r.0))
           (can_tell f.shape (word_at f.world) (place_of f.world) l f.notes e.thread h.threads h.room ok h.follows.tells h.follows.sizes counted r.0 r.1));
       head = h.follows.sizes.head;
       tail = h.follows.sizes.tail;
     }
 
--- what a thread finds at its last look at the ends is a word of the ends
+-- what a thread finds when it reloads the ends is a word of the ends
 pub finds_ends : (shape : Shape) (r : Running) (word : ℕ) → (accessed (access shape r) ≡ 0 → IsEnds shape word) → IsFoundBy shape r word
 finds_ends shape r word ends = grind arith
 

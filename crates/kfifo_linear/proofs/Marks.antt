@@ -120,11 +120,11 @@ module _ (shape : Shape) (w : ℕ → ℕ) (p : ℕ → Option Running) (log : L
   at_stands : (c q : ℕ) (r : Role) → Stands l c r q → stands l c ≡ true
   at_stands c q r st = ap is_some st
 
-  tail_is : (v q : ℕ) → AtTail l v q → number_at l.tails l.b q ≡ v
-  tail_is v q at = number_is l.tails l.b v q inv.times.tails_rise at.reached at.after at.before
+  tail_is : (v q : ℕ) → AtTail l v q → number_at l.tails l.tail q ≡ v
+  tail_is v q at = number_is l.tails l.tail v q inv.times.tails_rise at.reached at.after at.before
 
-  head_is : (v q : ℕ) → HeadAt l v q → number_at l.heads l.a q ≡ v
-  head_is v q at = number_is l.heads l.a v q inv.times.heads_rise at.reached at.after at.before
+  head_is : (v q : ℕ) → HeadAt l v q → number_at l.heads l.head q ≡ v
+  head_is v q at = number_is l.heads l.head v q inv.times.heads_rise at.reached at.after at.before
 
   -- a call that took the item of another
   taken_by : (c g v q x : ℕ) → Stands l g (Gets c v) q → does log.calls g ≡ M.Takes x → IsTakeOf (does log.calls) (marks_of shape l) c g
@@ -168,11 +168,11 @@ module _ (shape : Shape) (w : ℕ → ℕ) (p : ℕ → Option Running) (log : L
   pub points_fit : PointsFit shape.k (does log.calls) (marks_of shape l)
   points_fit =
       record {
-        head_rises = λ q r le. number_rises l.heads l.a q r le;
-        tail_rises = λ q r le. number_rises l.tails l.b q r le;
+        head_rises = λ q r le. number_rises l.heads l.head q r le;
+        tail_rises = λ q r le. number_rises l.tails l.tail q r le;
         added = λ c x st is.
             let put = put_of c x st is in
-            ap (number_at l.tails l.b) (at_point c put.point (Puts put.visit put.index) put.stands)
+            ap (number_at l.tails l.tail) (at_point c put.point (Puts put.visit put.index) put.stands)
             ∙ tail_is put.visit put.point (facts.puts_tail c put.visit put.index put.point put.stands)
             ∙ sym (visit_is c put.visit put.index put.point put.stands);
         slot_below = λ c x st is.
@@ -196,27 +196,27 @@ module _ (shape : Shape) (w : ℕ → ℕ) (p : ℕ → Option Running) (log : L
         taken = λ g x st is.
             let got = get_of g x st is in
             let at = facts.gets_head g got.source got.visit got.point got.stands in
-            ap (number_at l.heads l.a) (at_point g got.point (Gets got.source got.visit) got.stands)
+            ap (number_at l.heads l.head) (at_point g got.point (Gets got.source got.visit) got.stands)
             ∙ head_is got.visit got.point (record { reached = at.reached; after = at.after; before = at.before })
             ∙ sym (source_visit g x got);
         beyond = λ g x st is.
             let got = get_of g x st is in
             let at = facts.gets_head g got.source got.visit got.point got.stands in
-            let past : got.visit < number_at l.tails l.b got.point = number_past l.tails l.b got.visit got.point at.tail_past at.tail_before in
-            let e : number_at l.tails l.b (point l g) ≡ number_at l.tails l.b got.point = ap (number_at l.tails l.b) (at_point g got.point (Gets got.source got.visit) got.stands) in
+            let past : got.visit < number_at l.tails l.tail got.point = number_past l.tails l.tail got.visit got.point at.tail_past at.tail_before in
+            let e : number_at l.tails l.tail (point l g) ≡ number_at l.tails l.tail got.point = ap (number_at l.tails l.tail) (at_point g got.point (Gets got.source got.visit) got.stands) in
             omega (arith, source_visit g x got);
         taken_once = λ c g k a b. once c g k a.1 b.1 (get_of g a.1 a.0 a.2) (get_of k b.1 b.0 b.2) a.3 b.3;
         left_behind = λ c q a lt.
             let put = put_of c a.1 a.0 a.2 in
-            let most = number_most l.heads l.a q in
-            let below : put.visit < l.a = omega (arith, visit_is c put.visit put.index put.point put.stands) in
+            let most = number_most l.heads l.head q in
+            let below : put.visit < l.head = omega (arith, visit_is c put.visit put.index put.point put.stands) in
             let t = facts.left c put.visit put.index put.point put.stands below in
             (t.0, taken_by c t.0 put.visit t.1.0 (item_of (l.begin c)) t.1.1 (takes_at c t.0 put.visit t.1.0 t.1.1));
         empty_ends = λ e st is.
             let none = none_of e st is in
             let at = facts.none_tail e none.visit none.point none.stands in
             let q = at_point e none.point (Finds_none none.visit) none.stands in
-            ap (number_at l.heads l.a) q ∙ head_is none.visit none.point at.1 ∙ sym (tail_is none.visit none.point at.0) ∙ sym (ap (number_at l.tails l.b) q);
+            ap (number_at l.heads l.head) q ∙ head_is none.visit none.point at.1 ∙ sym (tail_is none.visit none.point at.0) ∙ sym (ap (number_at l.tails l.tail) q);
         empty_visit = λ e c st is a le same.
             let none = none_of e st is in
             let put = put_of c a.1 a.0 a.2 in
@@ -224,7 +224,7 @@ module _ (shape : Shape) (w : ℕ → ℕ) (p : ℕ → Option Running) (log : L
             let q = at_point e none.point (Finds_none none.visit) none.stands in
             let r = at_point c put.point (Puts put.visit put.index) put.stands in
             let lt : put.visit < none.visit = facts.none_before e none.visit none.point c put.visit put.index put.point none.stands put.stands (omega arith) in
-            let head : number_at l.heads l.a (point l e) ≡ none.visit = ap (number_at l.heads l.a) q ∙ head_is none.visit none.point at.1 in
+            let head : number_at l.heads l.head (point l e) ≡ none.visit = ap (number_at l.heads l.head) q ∙ head_is none.visit none.point at.1 in
             absurd (omega (arith, visit_is c put.visit put.index put.point put.stands));
         sound = λ c st wrong. let s = spot_is (spot l c) st in never_wrong (λ o. item_of (l.begin o)) (item_of (l.begin c)) s.0.role (acts_of c s.0 s.1 M.Wrong wrong);
       }

@@ -29,14 +29,14 @@ filled_with-item item empty h = value-slot_word item (version_of empty + 1) h
 pub emptied-value : (filled : ℕ) → value_of (emptied filled) ≡ 0
 emptied-value filled = value-slot_word 0 (version_of filled + 1) (lit< tt)
 
-module _ (shape : Shape) (w : ℕ → ℕ) (l : Ledger) (t : ℕ) (r : Running) (s : Sane shape r) (ok : EndsOk shape (w 0) l.a l.b) (me : ThreadOk shape w l t r) (times : Times l) where
+module _ (shape : Shape) (w : ℕ → ℕ) (l : Ledger) (t : ℕ) (r : Running) (s : Sane shape r) (ok : EndsOk shape (w 0) l.head l.tail) (me : ThreadOk shape w l t r) (times : Times l) where
   -- a head-on is won only where the tail is past the head
-  head_on_past : (stepped shape w t r l).a ≡ l.a + 1 → l.a < l.b
+  head_on_past : (stepped shape w t r l).head ≡ l.head + 1 → l.head < l.tail
   unfolding stepped
   head_on_past e =
       let n = shape.some_segments in
-      let other = other_end shape (w 0) l.a l.b ok in
-      let full = full_ring shape (w 0) l.a l.b ok in
+      let other = other_end shape (w 0) l.head l.tail ok in
+      let full = full_ring shape (w 0) l.head l.tail ok in
       grind (arith, nat_tests)
 
   pub times_stay : Times (stepped shape w t r l)
@@ -55,9 +55,9 @@ module _ (shape : Shape) (w : ℕ → ℕ) (l : Ledger) (t : ℕ) (r : Running) 
 pub at_tail_stays : (w w' : ℕ → ℕ) (l l' : Ledger) (v p : ℕ) → EndsChange w w' l l' → l'.now ≡ l.now + 1 → AtTail l v p → AtTail l' v p
 at_tail_stays w w' l l' v p c n h =
     record {
-      reached = omega (arith, h.reached, c.b_rise);
+      reached = omega (arith, h.reached, c.tail_rise);
       after = λ z. omega (arith, h.after z, c.tails_kept (v - 1) (omega (arith, h.reached)));
-      before = λ z. elim (cases_lt v l.b) [
+      before = λ z. elim (cases_lt v l.tail) [
         | inl lt ↦ omega (arith, h.before lt, c.tails_kept v lt)
         | inr ge ↦ omega (arith, h.past, c.tails_new v ge z)
       ];
@@ -67,19 +67,19 @@ at_tail_stays w w' l l' v p c n h =
 pub at_head_stays : (w w' : ℕ → ℕ) (l l' : Ledger) (v p : ℕ) → EndsChange w w' l l' → l'.now ≡ l.now + 1 → AtHead l v p → AtHead l' v p
 at_head_stays w w' l l' v p c n h =
     record {
-      reached = omega (arith, h.reached, c.a_rise);
+      reached = omega (arith, h.reached, c.head_rise);
       after = λ z. omega (arith, h.after z, c.heads_kept (v - 1) (omega (arith, h.reached)));
-      before = λ z. elim (cases_lt v l.a) [
+      before = λ z. elim (cases_lt v l.head) [
         | inl lt ↦ omega (arith, h.before lt, c.heads_kept v lt)
         | inr ge ↦ omega (arith, h.past, c.heads_new v ge z)
       ];
       past = omega (arith, h.past, n);
-      tail_past = omega (arith, h.tail_past, c.b_rise);
+      tail_past = omega (arith, h.tail_past, c.tail_rise);
       tail_before = omega (arith, h.tail_before, c.tails_kept v h.tail_past);
     }
 
 -- an item that is settled now: the place of its enqueue. After the step, since the place may be the step itself
-pub settle_at_tail : (w w' : ℕ → ℕ) (l l' : Ledger) (v : ℕ) → EndsChange w w' l l' → l'.now ≡ l.now + 1 → Times l → v ≤ l.b → l'.b ≡ l.b → AtTail l' v (settle_point l v)
+pub settle_at_tail : (w w' : ℕ → ℕ) (l l' : Ledger) (v : ℕ) → EndsChange w w' l l' → l'.now ≡ l.now + 1 → Times l → v ≤ l.tail → l'.tail ≡ l.tail → AtTail l' v (settle_point l v)
 unfolding settle_point
 settle_at_tail w w' l l' v c n times h e =
     let past = times.tails_past in
@@ -117,7 +117,7 @@ MovesHead w (R.Enqueue item start left (E.MoveHead ends)) = w 0 ≡ ends
 MovesHead w (R.Dequeue start left (D.MoveHead ends)) = w 0 ≡ ends
 MovesHead w other = ⊥
 
-pub moves_head : (shape : Shape) (w : ℕ → ℕ) (l : Ledger) (t : ℕ) (r : Running) → (stepped shape w t r l).a ≢ l.a → MovesHead w r
+pub moves_head : (shape : Shape) (w : ℕ → ℕ) (l : Ledger) (t : ℕ) (r : Running) → (stepped shape w t r l).head ≢ l.head → MovesHead w r
 unfolding stepped
 moves_head shape w l t r e = grind (arith, nat_tests)
 
@@ -136,11 +136,11 @@ zero_below : (n : ℕ) → 2 ≤ n → 0 < n
 zero_below n h = omega arith
 
 -- one slot
-module _ (shape : Shape) (w : ℕ → ℕ) (l : Ledger) (t : ℕ) (r : Running) (s : Sane shape r) (ok : EndsOk shape (w 0) l.a l.b) (me : ThreadOk shape w l t r) (times : Times l) (all : Slots shape w l)
+module _ (shape : Shape) (w : ℕ → ℕ) (l : Ledger) (t : ℕ) (r : Running) (s : Sane shape r) (ok : EndsOk shape (w 0) l.head l.tail) (me : ThreadOk shape w l t r) (times : Times l) (all : Slots shape w l)
     (i : ℕ) (is_slot : IsSlotIndex shape i) (here : SlotOk shape w l i) where
-  slot_low_b : (stepped shape w t r l).low i ≤ (stepped shape w t r l).b
+  slot_untaken_to_tail : (stepped shape w t r l).untaken_from i ≤ (stepped shape w t r l).tail
   unfolding stepped
-  slot_low_b = let h = here.low_b in let g = me.target in let rd = me.round in grind (arith, nat_tests, noted_tells)
+  slot_untaken_to_tail = let h = here.untaken_to_tail in let g = me.target in let rd = me.round in grind (arith, nat_tests, noted_tells)
 
   slot_empty : value_of (words_by (access shape r) w i) ≡ 0 → (stepped shape w t r l).settled i ≡ false
   unfolding stepped
@@ -154,15 +154,15 @@ module _ (shape : Shape) (w : ℕ → ℕ) (l : Ledger) (t : ℕ) (r : Running) 
   unfolding stepped
   full_known v = let h = here.full in let k = me.known in grind (arith, nat_tests, noted_tells, emptied-value)
 
-  full_low_born : value_of (words_by (access shape r) w i) ≢ 0 → (stepped shape w t r l).low i ≤ (stepped shape w t r l).born i
+  full_untaken_to_load : value_of (words_by (access shape r) w i) ≢ 0 → (stepped shape w t r l).untaken_from i ≤ (stepped shape w t r l).tail_at_load i
   unfolding stepped
-  full_low_born v = let h = here.full in let g = me.target in grind (arith, nat_tests, noted_tells, emptied-value)
+  full_untaken_to_load v = let h = here.full in let g = me.target in grind (arith, nat_tests, noted_tells, emptied-value)
 
-  full_born_b : value_of (words_by (access shape r) w i) ≢ 0 → (stepped shape w t r l).born i ≤ (stepped shape w t r l).b
+  full_load_to_tail : value_of (words_by (access shape r) w i) ≢ 0 → (stepped shape w t r l).tail_at_load i ≤ (stepped shape w t r l).tail
   unfolding stepped
-  full_born_b v = let h = here.full in let g = me.round in grind (arith, nat_tests, noted_tells, emptied-value)
+  full_load_to_tail v = let h = here.full in let g = me.round in grind (arith, nat_tests, noted_tells, emptied-value)
 
-  full_place : value_of (words_by (access shape r) w i) ≢ 0 → (stepped shape w t r l).born i % shape.n ≡ segment_of shape i
+  full_place : value_of (words_by (access shape r) w i) ≢ 0 → (stepped shape w t r l).tail_at_load i % shape.n ≡ segment_of shape i
   unfolding stepped
   full_place v = let h = here.full in let g = me.target in grind (arith, nat_tests, noted_tells, emptied-value)
 
@@ -174,18 +174,18 @@ module _ (shape : Shape) (w : ℕ → ℕ) (l : Ledger) (t : ℕ) (r : Running) 
   unfolding stepped
   full_begun v = let h = here.full in let k = me.started in grind (arith, nat_tests, noted_tells, emptied-value)
 
-  full_after : value_of (words_by (access shape r) w i) ≢ 0 → (x : ℕ) → (stepped shape w t r l).born i ≤ x → x < (stepped shape w t r l).b → (stepped shape w t r l).first ((stepped shape w t r l).owner i) ≤ (stepped shape w t r l).tails x
+  full_after : value_of (words_by (access shape r) w i) ≢ 0 → (x : ℕ) → (stepped shape w t r l).tail_at_load i ≤ x → x < (stepped shape w t r l).tail → (stepped shape w t r l).first ((stepped shape w t r l).owner i) ≤ (stepped shape w t r l).tails x
   unfolding stepped
   full_after v x x1 x2 = let h = here.full in let k = me.started in let g = me.round in grind (arith, nat_tests, noted_tells, emptied-value)
 
   -- what the window's distances are
-  d_tail : distance shape.n (head_of (w 0)) (tail_of (w 0)) ≡ l.b - l.a
-  d_tail = rw (ok.head, ok.tail) (distance-mod shape.n l.a l.b ok.ordered ok.no_wrap)
+  d_tail : distance shape.n (head_of (w 0)) (tail_of (w 0)) ≡ l.tail - l.head
+  d_tail = rw (ok.head, ok.tail) (distance-mod shape.n l.head l.tail ok.ordered ok.no_wrap)
 
-  d_place : (x : ℕ) → x < shape.n → (l.a + distance shape.n (head_of (w 0)) x) % shape.n ≡ x
-  d_place x h = rw ok.head ((at_distance shape.n l.a x h).0)
+  d_place : (x : ℕ) → x < shape.n → (l.head + distance shape.n (head_of (w 0)) x) % shape.n ≡ x
+  d_place x h = rw ok.head ((at_distance shape.n l.head x h).0)
 
-  settled_to_tail : (stepped shape w t r l).settled i ≡ true → (stepped shape w t r l).visit i ≤ (stepped shape w t r l).b
+  settled_to_tail : (stepped shape w t r l).settled i ≡ true → (stepped shape w t r l).visit i ≤ (stepped shape w t r l).tail
   unfolding stepped settle_visit
   settled_to_tail e =
       let h = here.settled in
@@ -204,7 +204,7 @@ module _ (shape : Shape) (w : ℕ → ℕ) (l : Ledger) (t : ℕ) (r : Running) 
       let m = mod-lt (l.tail_seen t) (zero_below shape.n shape.some_segments) in
       grind (arith, nat_tests, noted_tells)
 
-  settled_from_head : (stepped shape w t r l).settled i ≡ true → (stepped shape w t r l).a ≤ (stepped shape w t r l).visit i
+  settled_from_head : (stepped shape w t r l).settled i ≡ true → (stepped shape w t r l).head ≤ (stepped shape w t r l).visit i
   unfolding stepped settle_visit
   settled_from_head e =
       let h = here.settled in
@@ -234,7 +234,7 @@ module _ (shape : Shape) (w : ℕ → ℕ) (l : Ledger) (t : ℕ) (r : Running) 
   last_old c = grind (arith, nat_tests, noted_tells)
 
   -- a settled item was so before, or is now
-  pub settled_old : (stepped shape w t r l).settled i ≡ true → ((l.settled i ≡ true) × ((stepped shape w t r l).visit i ≡ l.visit i) × ((stepped shape w t r l).point i ≡ l.point i) × ((stepped shape w t r l).owner i ≡ l.owner i)) ⊎ (((stepped shape w t r l).visit i ≤ l.b) × ((stepped shape w t r l).point i ≡ settle_point l ((stepped shape w t r l).visit i)) × ((stepped shape w t r l).b ≡ l.b) × ((stepped shape w t r l).last (l.caller t) ≡ Some l.now) × ((stepped shape w t r l).owner i ≡ l.caller t))
+  pub settled_old : (stepped shape w t r l).settled i ≡ true → ((l.settled i ≡ true) × ((stepped shape w t r l).visit i ≡ l.visit i) × ((stepped shape w t r l).point i ≡ l.point i) × ((stepped shape w t r l).owner i ≡ l.owner i)) ⊎ (((stepped shape w t r l).visit i ≤ l.tail) × ((stepped shape w t r l).point i ≡ settle_point l ((stepped shape w t r l).visit i)) × ((stepped shape w t r l).tail ≡ l.tail) × ((stepped shape w t r l).last (l.caller t) ≡ Some l.now) × ((stepped shape w t r l).owner i ≡ l.caller t))
   unfolding stepped settle_visit
   settled_old e =
       let d = d_tail in
@@ -285,14 +285,14 @@ module _ (shape : Shape) (w : ℕ → ℕ) (l : Ledger) (t : ℕ) (r : Running) 
   pub slot_stays : SlotOk shape (words_by (access shape r) w) (stepped shape w t r l) i
   slot_stays =
       record {
-        low_b = slot_low_b;
+        untaken_to_tail = slot_untaken_to_tail;
         empty = slot_empty;
         full = λ v. record {
           inside = full_inside v;
           known = full_known v;
           begun = full_begun v;
-          low_born = full_low_born v;
-          born_b = full_born_b v;
+          untaken_to_load = full_untaken_to_load v;
+          load_to_tail = full_load_to_tail v;
           place = full_place v;
           after = full_after v;
           unsettled = full_unsettled v;

@@ -16,8 +16,8 @@ use Rattle.kfifo_machine.specs.declared.place.Next.TheVariants.{Answers, Goes}
 use Rattle.kfifo_machine.specs.declared.place.Running.TheVariants as R
 use Rattle.kfifo_machine.specs.declared.place.Running.{Running}
 use Rattle.kfifo_model.specs.declared.calls.Answer.{Answer}
-use Rattle.kfifo_linear.specs.declared.deed.Deed.{Deed}
-use Rattle.kfifo_linear.specs.declared.deed.Deed.TheVariants.{Check, HeadOn, Hold, Look, Open, PutBack, PutIn, Settle, Stand, TailOn, TakeOut}
+use Rattle.kfifo_linear.specs.declared.action.Action.{Action}
+use Rattle.kfifo_linear.specs.declared.action.Action.TheVariants.{HoldHead, LoadEnds, MoveHead, MoveTail, Other, Put, Recheck, RecheckEmpty, ReloadEnds, Take, Undo}
 use Rattle.kfifo_linear.specs.declared.notes.Whereabouts.{Whereabouts}
 use Rattle.kfifo_linear.specs.declared.notes.Whereabouts.TheVariants.{At, InSlot, Nowhere}
 use Rattle.kfifo_linear.specs.Ledger.{Gone, Inside, Ledger, Outside, Standing, Stood, Took, called, did, gone_point, is_inside, noted, took_point, settle_point, settle_visit, standing_after}
@@ -56,24 +56,24 @@ apart : (u v size : ℕ) → u < v → v < u + size → u % size ≢ v % size
 apart u v size lt near e = let same : v ≡ u = same_place size u v (omega arith) near (sym e) in omega arith
 
 -- the facts of a step on which its notes rest
-abbrev pub CanTell : Shape → Ledger → Notes → ℕ → Deed → Type 0
-CanTell shape l n t (PutIn index) = index < length n.slots
-CanTell shape l n t (PutBack index) = index < length n.slots
-CanTell shape l n t (Settle index segment) = (index < length n.slots) × (segment < shape.n)
-CanTell shape l n t (Hold index) = index < length n.slots
-CanTell shape l n t (TakeOut index) = (index < length n.slots) × (l.owner index < length n.calls) × (l.head_seen t < l.b) × (l.b ≤ l.head_seen t + length n.tails) × (l.a ≤ l.head_seen t + length n.heads)
+abbrev pub CanTell : Shape → Ledger → Notes → ℕ → Action → Type 0
+CanTell shape l n t (Put index) = index < length n.slots
+CanTell shape l n t (Undo index) = index < length n.slots
+CanTell shape l n t (ReloadEnds index segment) = (index < length n.slots) × (segment < shape.n)
+CanTell shape l n t (HoldHead index) = index < length n.slots
+CanTell shape l n t (Take index) = (index < length n.slots) × (l.owner index < length n.calls) × (l.head_seen t < l.tail) × (l.tail ≤ l.head_seen t + length n.tails) × (l.head ≤ l.head_seen t + length n.heads)
 CanTell shape l n t other = Unit {0}
 
-module _ (shape : Shape) (l : Ledger) (n : Notes) (t ends : ℕ) (r : Running) (h : Tells l n) (thread : t < length n.callers) (known : l.caller t < length n.calls) (unended : l.last (l.caller t) ≡ None) (near : l.b ≤ l.a + length n.tails) (some_heads : 0 < length n.heads) (some_tails : 0 < length n.tails) where
-  -- after a deed of a call that goes on
-  abbrev Told : Deed → Type 0
+module _ (shape : Shape) (l : Ledger) (n : Notes) (t ends : ℕ) (r : Running) (h : Tells l n) (thread : t < length n.callers) (known : l.caller t < length n.calls) (unended : l.last (l.caller t) ≡ None) (near : l.tail ≤ l.head + length n.tails) (some_heads : 0 < length n.heads) (some_tails : 0 < length n.tails) where
+  -- after an action of a call that goes on
+  abbrev Told : Action → Type 0
   Told what = Tells (did shape t ends what (Goes r) l) (later (marked shape t ends what n))
 
-  tells_nothing : Told Look
+  tells_nothing : Told Other
   tells_nothing = record { step = ap (λ x. x + 1) h.step; head = h.head; tail = h.tail; heads = h.heads; tails = h.tails; owner = h.owner; settled = h.settled; point = h.point; own = h.own; head_seen = h.head_seen; begun = h.begun; calls = h.calls }
 
-  tells_open : Told Open
-  tells_open = record {
+  tells_load_ends : Told LoadEnds
+  tells_load_ends = record {
     step = ap (λ x. x + 1) h.step;
     head = h.head;
     tail = h.tail;
@@ -83,7 +83,7 @@ module _ (shape : Shape) (l : Ledger) (n : Notes) (t ends : ℕ) (r : Running) (
     settled = h.settled;
     point = h.point;
     own = λ u. set_kept (λ c. c.call) l.caller n.callers t u _ _ thread refl h.own;
-    head_seen = λ u. set_new (λ c. c.head_seen) l.head_seen n.callers t u _ _ l.a thread h.head h.head_seen;
+    head_seen = λ u. set_new (λ c. c.head_seen) l.head_seen n.callers t u _ _ l.head thread h.head h.head_seen;
     begun = h.begun;
     calls = h.calls;
   }
@@ -96,8 +96,8 @@ module _ (shape : Shape) (l : Ledger) (n : Notes) (t ends : ℕ) (r : Running) (
         | inr ne ↦ get_or-set_other n.calls c d place Nowhere ne ∙ h.calls d ∙ ap (λ s. brief s (l.last d)) (sym (noted-other l.standing c d standing ne))
       ]
 
-  tells_put_in : (index : ℕ) → index < length n.slots → Told (PutIn index)
-  tells_put_in index less = record {
+  tells_put : (index : ℕ) → index < length n.slots → Told (Put index)
+  tells_put index less = record {
     step = ap (λ x. x + 1) h.step;
     head = h.head;
     tail = h.tail;
@@ -112,8 +112,8 @@ module _ (shape : Shape) (l : Ledger) (n : Notes) (t ends : ℕ) (r : Running) (
     calls = λ c. rw (h.own t) (placed (l.caller t) (InSlot index) (Inside index) known refl c);
   }
 
-  tells_put_back : (index : ℕ) → index < length n.slots → Told (PutBack index)
-  tells_put_back index less = record {
+  tells_undo : (index : ℕ) → index < length n.slots → Told (Undo index)
+  tells_undo index less = record {
     step = ap (λ x. x + 1) h.step;
     head = h.head;
     tail = h.tail;
@@ -128,8 +128,8 @@ module _ (shape : Shape) (l : Ledger) (n : Notes) (t ends : ℕ) (r : Running) (
     calls = λ c. rw (h.own t) (placed (l.caller t) Nowhere Outside known (sym (ap (brief Outside) unended)) c);
   }
 
-  tells_stand : Told Stand
-  tells_stand = record {
+  tells_recheck_empty : Told RecheckEmpty
+  tells_recheck_empty = record {
     step = ap (λ x. x + 1) h.step;
     head = h.head;
     tail = h.tail;
@@ -141,13 +141,13 @@ module _ (shape : Shape) (l : Ledger) (n : Notes) (t ends : ℕ) (r : Running) (
     owner = h.owner;
     settled = h.settled;
     point = h.point;
-    calls = λ c. rw (h.own t) (placed (l.caller t) (At n.step) (Stood l.a l.now) known (ap At h.step) c);
+    calls = λ c. rw (h.own t) (placed (l.caller t) (At n.step) (Stood l.head l.now) known (ap At h.step) c);
   }
 
   -- the item of the call, where it is still in its slot, is settled in this visit
-  point_is : (at visit : ℕ) → at ≡ visit → l.a ≤ visit → note.settle_point n at ≡ settle_point l visit
+  point_is : (at visit : ℕ) → at ≡ visit → l.head ≤ visit → note.settle_point n at ≡ settle_point l visit
   unfolding settle_point
-  point_is at visit same from = rw (same, h.step, h.tail) (when_below visit l.b (left_at n.tails visit) l.now (l.tails visit) (λ lt. h.tails visit lt (omega arith)))
+  point_is at visit same from = rw (same, h.step, h.tail) (when_below visit l.tail (left_at n.tails visit) l.now (l.tails visit) (λ lt. h.tails visit lt (omega arith)))
 
   settled_owner : (s : Standing) (last : Option ℕ) (index visit : ℕ) → index < length n.slots → (i : ℕ) → (slot (note.settles_if (brief s last) index visit n) i).owner ≡ l.owner i
   settled_owner (Inside at) last index visit less i = set_kept (λ x. x.owner) l.owner n.slots index i _ _ less refl h.owner
@@ -166,7 +166,7 @@ module _ (shape : Shape) (l : Ledger) (n : Notes) (t ends : ℕ) (r : Running) (
   settled_settled (Took c v p) last index visit less i = h.settled i
   settled_settled (Stood v p) last index visit less i = h.settled i
 
-  settled_point : (s : Standing) (last : Option ℕ) (index at visit : ℕ) → index < length n.slots → at ≡ visit → l.a ≤ visit → (i : ℕ)
+  settled_point : (s : Standing) (last : Option ℕ) (index at visit : ℕ) → index < length n.slots → at ≡ visit → l.head ≤ visit → (i : ℕ)
       → (slot (note.settles_if (brief s last) index at n) i).point ≡ cond (is_inside s) (noted l.point index (settle_point l visit) i) (l.point i)
   settled_point (Inside slot_at) last index at visit less same from i = set_new (λ x. x.point) l.point n.slots index i _ _ (settle_point l visit) less (point_is at visit same from) h.point
   settled_point Outside None index at visit less same from i = h.point i
@@ -191,20 +191,20 @@ module _ (shape : Shape) (l : Ledger) (n : Notes) (t ends : ℕ) (r : Running) (
   unfolding settle_visit
   settle_visit_is segment = ap (λ x. x + distance shape.n (head_of ends) segment) h.head
 
-  settle_from : (segment : ℕ) → l.a ≤ settle_visit shape l (head_of ends) segment
+  settle_from : (segment : ℕ) → l.head ≤ settle_visit shape l (head_of ends) segment
   unfolding settle_visit
   settle_from segment = omega arith
 
-  tells_settle : (index segment : ℕ) → index < length n.slots → Told (Settle index segment)
-  tells_settle index segment less =
+  tells_reload_ends : (index segment : ℕ) → index < length n.slots → Told (ReloadEnds index segment)
+  tells_reload_ends index segment less =
       let place : whereabouts n (own_call n t) ≡ brief (l.standing (l.caller t)) (l.last (l.caller t)) = own_place in
       let visit : n.head + distance shape.n (head_of ends) segment ≡ settle_visit shape l (head_of ends) segment = settle_visit_is segment in
       record {
         step = rest index (n.head + distance shape.n (head_of ends) segment) (λ m. m.step + 1 ≡ l.now + 1) (ap (λ x. x + 1) h.step) (λ f. ap (λ x. x + 1) h.step);
-        head = rest index (n.head + distance shape.n (head_of ends) segment) (λ m. m.head ≡ l.a) h.head (λ f. h.head);
-        tail = rest index (n.head + distance shape.n (head_of ends) segment) (λ m. m.tail ≡ l.b) h.tail (λ f. h.tail);
-        heads = rest index (n.head + distance shape.n (head_of ends) segment) (λ m. TellVisits l.heads l.a m.heads) h.heads (λ f. h.heads);
-        tails = rest index (n.head + distance shape.n (head_of ends) segment) (λ m. TellVisits l.tails l.b m.tails) h.tails (λ f. h.tails);
+        head = rest index (n.head + distance shape.n (head_of ends) segment) (λ m. m.head ≡ l.head) h.head (λ f. h.head);
+        tail = rest index (n.head + distance shape.n (head_of ends) segment) (λ m. m.tail ≡ l.tail) h.tail (λ f. h.tail);
+        heads = rest index (n.head + distance shape.n (head_of ends) segment) (λ m. TellVisits l.heads l.head m.heads) h.heads (λ f. h.heads);
+        tails = rest index (n.head + distance shape.n (head_of ends) segment) (λ m. TellVisits l.tails l.tail m.tails) h.tails (λ f. h.tails);
         own = λ u. rest index (n.head + distance shape.n (head_of ends) segment) (λ m. own_call m u ≡ l.caller u) (h.own u) (λ f. h.own u);
         head_seen = λ u. rest index (n.head + distance shape.n (head_of ends) segment) (λ m. (caller m u).head_seen ≡ l.head_seen u) (h.head_seen u) (λ f. h.head_seen u);
         begun = rest index (n.head + distance shape.n (head_of ends) segment) (λ m. m.begun ≡ l.calls) h.begun (λ f. h.begun);
@@ -214,23 +214,23 @@ module _ (shape : Shape) (l : Ledger) (n : Notes) (t ends : ℕ) (r : Running) (
         point = λ i. rw place (settled_point (l.standing (l.caller t)) (l.last (l.caller t)) index (n.head + distance shape.n (head_of ends) segment) (settle_visit shape l (head_of ends) segment) less visit (settle_from segment) i);
       }
 
-  tells_hold : (index : ℕ) → index < length n.slots → Told (Hold index)
-  tells_hold index less =
+  tells_hold_head : (index : ℕ) → index < length n.slots → Told (HoldHead index)
+  tells_hold_head index less =
       let place : whereabouts n (own_call n t) ≡ brief (l.standing (l.caller t)) (l.last (l.caller t)) = own_place in
-      let visit : n.head ≡ l.a = h.head in
+      let visit : n.head ≡ l.head = h.head in
       record {
         step = rest index (n.head) (λ m. m.step + 1 ≡ l.now + 1) (ap (λ x. x + 1) h.step) (λ f. ap (λ x. x + 1) h.step);
-        head = rest index (n.head) (λ m. m.head ≡ l.a) h.head (λ f. h.head);
-        tail = rest index (n.head) (λ m. m.tail ≡ l.b) h.tail (λ f. h.tail);
-        heads = rest index (n.head) (λ m. TellVisits l.heads l.a m.heads) h.heads (λ f. h.heads);
-        tails = rest index (n.head) (λ m. TellVisits l.tails l.b m.tails) h.tails (λ f. h.tails);
+        head = rest index (n.head) (λ m. m.head ≡ l.head) h.head (λ f. h.head);
+        tail = rest index (n.head) (λ m. m.tail ≡ l.tail) h.tail (λ f. h.tail);
+        heads = rest index (n.head) (λ m. TellVisits l.heads l.head m.heads) h.heads (λ f. h.heads);
+        tails = rest index (n.head) (λ m. TellVisits l.tails l.tail m.tails) h.tails (λ f. h.tails);
         own = λ u. rest index (n.head) (λ m. own_call m u ≡ l.caller u) (h.own u) (λ f. h.own u);
         head_seen = λ u. rest index (n.head) (λ m. (caller m u).head_seen ≡ l.head_seen u) (h.head_seen u) (λ f. h.head_seen u);
         begun = rest index (n.head) (λ m. m.begun ≡ l.calls) h.begun (λ f. h.begun);
         calls = λ c. rest index (n.head) (λ m. whereabouts m c ≡ brief (l.standing c) (l.last c)) (h.calls c) (λ f. h.calls c);
         owner = λ i. rw place (settled_owner (l.standing (l.caller t)) (l.last (l.caller t)) index (n.head) less i);
         settled = λ i. rw place (settled_settled (l.standing (l.caller t)) (l.last (l.caller t)) index (n.head) less i);
-        point = λ i. rw place (settled_point (l.standing (l.caller t)) (l.last (l.caller t)) index n.head l.a less visit (omega arith) i);
+        point = λ i. rw place (settled_point (l.standing (l.caller t)) (l.last (l.caller t)) index n.head l.head less visit (omega arith) i);
       }
 
   -- one visit more was left
@@ -245,8 +245,8 @@ module _ (shape : Shape) (l : Ledger) (n : Notes) (t ends : ℕ) (r : Running) (
             get_or-set_other steps (number % length steps) (visit % length steps) step 0 (apart visit number (length steps) lt (omega arith)) ∙ old visit lt (omega arith) ∙ sym (noted-other left number visit now ne)
       ])
 
-  tells_head_on : Told HeadOn
-  tells_head_on = record {
+  tells_move_head : Told MoveHead
+  tells_move_head = record {
     step = ap (λ x. x + 1) h.step;
     tail = h.tail;
     tails = h.tails;
@@ -258,11 +258,11 @@ module _ (shape : Shape) (l : Ledger) (n : Notes) (t ends : ℕ) (r : Running) (
     point = h.point;
     calls = h.calls;
     head = ap (λ x. x + 1) h.head;
-    heads = rw h.head (left_more l.heads l.a n.heads n.step l.now some_heads h.step h.heads);
+    heads = rw h.head (left_more l.heads l.head n.heads n.step l.now some_heads h.step h.heads);
   }
 
-  tells_tail_on : Told TailOn
-  tells_tail_on = record {
+  tells_move_tail : Told MoveTail
+  tells_move_tail = record {
     step = ap (λ x. x + 1) h.step;
     head = h.head;
     heads = h.heads;
@@ -274,17 +274,17 @@ module _ (shape : Shape) (l : Ledger) (n : Notes) (t ends : ℕ) (r : Running) (
     point = h.point;
     calls = h.calls;
     tail = ap (λ x. x + 1) h.tail;
-    tails = rw h.tail (left_more l.tails l.b n.tails n.step l.now some_tails h.step h.tails);
+    tails = rw h.tail (left_more l.tails l.tail n.tails n.step l.now some_tails h.step h.tails);
   }
 
   -- the points of an item's enqueue and of the dequeue that takes it
-  gone_is : (index visit : ℕ) → visit < l.b → l.b ≤ visit + length n.tails → note.gone_point n index visit ≡ gone_point l index visit
+  gone_is : (index visit : ℕ) → visit < l.tail → l.tail ≤ visit + length n.tails → note.gone_point n index visit ≡ gone_point l index visit
   unfolding gone_point
   gone_is index visit below near = rw (h.settled index, h.point index, h.tails visit below near) refl
 
-  took_is : (visit : ℕ) → l.a ≤ visit + length n.heads → note.took_point n visit ≡ took_point l visit
+  took_is : (visit : ℕ) → l.head ≤ visit + length n.heads → note.took_point n visit ≡ took_point l visit
   unfolding took_point
-  took_is visit near = rw (h.step, h.head) (when_below visit l.a (left_at n.heads visit) l.now (l.heads visit) (λ lt. h.heads visit lt near))
+  took_is visit near = rw (h.step, h.head) (when_below visit l.head (left_at n.heads visit) l.now (l.heads visit) (λ lt. h.heads visit lt near))
 
   -- two calls go to standings of which this is told
   two_placed : (c d : ℕ) (at to : Whereabouts) (standing other : Standing) → c < length n.calls → d < length n.calls → at ≡ brief standing (l.last c) → to ≡ brief other (l.last d)
@@ -297,7 +297,7 @@ module _ (shape : Shape) (l : Ledger) (n : Notes) (t ends : ℕ) (r : Running) (
       ]
 
   -- a thread takes the item of a slot, in this visit
-  taken_calls : (index visit owner own : ℕ) → owner ≡ l.owner index → own ≡ l.caller t → visit ≡ l.head_seen t → l.owner index < length n.calls → visit < l.b → l.b ≤ visit + length n.tails → l.a ≤ visit + length n.heads
+  taken_calls : (index visit owner own : ℕ) → owner ≡ l.owner index → own ≡ l.caller t → visit ≡ l.head_seen t → l.owner index < length n.calls → visit < l.tail → l.tail ≤ visit + length n.tails → l.head ≤ visit + length n.heads
       → (c : ℕ) → get_or (set (set n.calls owner (At (note.gone_point n index visit))) own (At (note.took_point n visit))) c Nowhere
       ≡ brief (noted (noted l.standing (l.owner index) (Gone index (l.head_seen t) (gone_point l index (l.head_seen t)))) (l.caller t) (Took (l.owner index) (l.head_seen t) (took_point l (l.head_seen t))) c) (l.last c)
   taken_calls index visit owner own owner_is own_is visit_is below under near_tail near_head c =
@@ -305,8 +305,8 @@ module _ (shape : Shape) (l : Ledger) (n : Notes) (t ends : ℕ) (r : Running) (
       (two_placed (l.owner index) (l.caller t) (At (note.gone_point n index visit)) (At (note.took_point n visit)) (Gone index (l.head_seen t) (gone_point l index (l.head_seen t))) (Took (l.owner index) (l.head_seen t) (took_point l (l.head_seen t))) below known
       (ap At (gone_is index visit under near_tail ∙ ap (gone_point l index) visit_is)) (ap At (took_is visit near_head ∙ ap (took_point l) visit_is)) c)
 
-  tells_take_out : (index : ℕ) → index < length n.slots → l.owner index < length n.calls → l.head_seen t < l.b → l.b ≤ l.head_seen t + length n.tails → l.a ≤ l.head_seen t + length n.heads → Told (TakeOut index)
-  tells_take_out index less below under near_tail near_head =
+  tells_take : (index : ℕ) → index < length n.slots → l.owner index < length n.calls → l.head_seen t < l.tail → l.tail ≤ l.head_seen t + length n.tails → l.head ≤ l.head_seen t + length n.heads → Told (Take index)
+  tells_take index less below under near_tail near_head =
       let seen : (caller n t).head_seen ≡ l.head_seen t = h.head_seen t in
       record {
         step = ap (λ x. x + 1) h.step;
@@ -323,19 +323,19 @@ module _ (shape : Shape) (l : Ledger) (n : Notes) (t ends : ℕ) (r : Running) (
         calls = λ c. taken_calls index (caller n t).head_seen (slot n index).owner (own_call n t) (h.owner index) (h.own t) seen below (omega arith) (omega arith) (omega arith) c;
       }
 
-  -- after any deed
-  tells_marked : (what : Deed) → CanTell shape l n t what → Told what
-  tells_marked Look can = tells_nothing
-  tells_marked Open can = tells_open
-  tells_marked Check can = record { step = ap (λ x. x + 1) h.step; head = h.head; tail = h.tail; heads = h.heads; tails = h.tails; owner = h.owner; settled = h.settled; point = h.point; own = h.own; head_seen = h.head_seen; begun = h.begun; calls = h.calls }
-  tells_marked (PutIn index) can = tells_put_in index can
-  tells_marked (PutBack index) can = tells_put_back index can
-  tells_marked (Settle index segment) can = tells_settle index segment can.0
-  tells_marked (Hold index) can = tells_hold index can
-  tells_marked (TakeOut index) can = tells_take_out index can.0 can.1 can.2 can.3 can.4
-  tells_marked HeadOn can = tells_head_on
-  tells_marked TailOn can = tells_tail_on
-  tells_marked Stand can = tells_stand
+  -- after any action
+  tells_marked : (what : Action) → CanTell shape l n t what → Told what
+  tells_marked Other can = tells_nothing
+  tells_marked LoadEnds can = tells_load_ends
+  tells_marked Recheck can = record { step = ap (λ x. x + 1) h.step; head = h.head; tail = h.tail; heads = h.heads; tails = h.tails; owner = h.owner; settled = h.settled; point = h.point; own = h.own; head_seen = h.head_seen; begun = h.begun; calls = h.calls }
+  tells_marked (Put index) can = tells_put index can
+  tells_marked (Undo index) can = tells_undo index can
+  tells_marked (ReloadEnds index segment) can = tells_reload_ends index segment can.0
+  tells_marked (HoldHead index) can = tells_hold_head index can
+  tells_marked (Take index) can = tells_take index can.0 can.1 can.2 can.3 can.4
+  tells_marked MoveHead can = tells_move_head
+  tells_marked MoveTail can = tells_move_tail
+  tells_marked RecheckEmpty can = tells_recheck_empty
 
 -- a call that ends has its point there, where it had none before
 ends_at : (place : Whereabouts) (standing : Standing) (last : Option ℕ) (now : ℕ) → last ≡ None → place ≡ brief standing last → note.at_end now place ≡ brief standing (Some now)
@@ -348,12 +348,12 @@ ends_at place standing last now none is = let new : place ≡ brief standing Non
     by_standing (Took call visit point) = refl
     by_standing (Stood visit point) = refl
 
-pub length-marked_calls : (shape : Shape) (n : Notes) (t ends : ℕ) (what : Deed) → length (marked shape t ends what n).calls ≡ length n.calls
+pub length-marked_calls : (shape : Shape) (n : Notes) (t ends : ℕ) (what : Action) → length (marked shape t ends what n).calls ≡ length n.calls
 length-marked_calls shape n t ends what = grind (arith, length-set)
 
-module _ (shape : Shape) (l : Ledger) (n : Notes) (t ends : ℕ) (h : Tells l n) (thread : t < length n.callers) (known : l.caller t < length n.calls) (unended : l.last (l.caller t) ≡ None) (near : l.b ≤ l.a + length n.tails) (some_heads : 0 < length n.heads) (some_tails : 0 < length n.tails) where
-  -- after a deed with which the call ends
-  told_end : (what : Deed) (x : Answer) (r : Running) → Tells (did shape t ends what (Goes r) l) (later (marked shape t ends what n)) → Tells (did shape t ends what (Answers x) l) (later (ended t (Ended x) (marked shape t ends what n)))
+module _ (shape : Shape) (l : Ledger) (n : Notes) (t ends : ℕ) (h : Tells l n) (thread : t < length n.callers) (known : l.caller t < length n.calls) (unended : l.last (l.caller t) ≡ None) (near : l.tail ≤ l.head + length n.tails) (some_heads : 0 < length n.heads) (some_tails : 0 < length n.tails) where
+  -- after an action with which the call ends
+  told_end : (what : Action) (x : Answer) (r : Running) → Tells (did shape t ends what (Goes r) l) (later (marked shape t ends what n)) → Tells (did shape t ends what (Answers x) l) (later (ended t (Ended x) (marked shape t ends what n)))
   told_end what x r g =
       let own : own_call (marked shape t ends what n) t ≡ l.caller t = g.own t in
       let step : (marked shape t ends what n).step ≡ l.now = omega (arith, g.step) in
@@ -383,7 +383,7 @@ module _ (shape : Shape) (l : Ledger) (n : Notes) (t ends : ℕ) (h : Tells l n)
       }
 
   -- after any step
-  pub told : (what : Deed) (next : Next) → CanTell shape l n t what → Tells (did shape t ends what next l) (later (ended t (outcome_of next) (marked shape t ends what n)))
+  pub told : (what : Action) (next : Next) → CanTell shape l n t what → Tells (did shape t ends what next l) (later (ended t (outcome_of next) (marked shape t ends what n)))
   told what (Goes r) can = tells_marked shape l n t ends r h thread known unended near some_heads some_tails what can
   told what (Answers x) can = told_end what x any (tells_marked shape l n t ends any h thread known unended near some_heads some_tails what can)
     where

@@ -26,19 +26,19 @@ use Rattle.kfifo_words.specs.declared.shape.Shape.{Shape}
 
 -- what holds of every slot, one fact at a time
 pub record Slots (shape : Shape) (w : ℕ → ℕ) (l : Ledger) : Type 0 where
-  pub low_b : (i : ℕ) → 0 < i → i < 1 + shape.n * shape.k → l.low i ≤ l.b
+  pub untaken_to_tail : (i : ℕ) → 0 < i → i < 1 + shape.n * shape.k → l.untaken_from i ≤ l.tail
   pub empty : (i : ℕ) → 0 < i → i < 1 + shape.n * shape.k → value_of (w i) ≡ 0 → l.settled i ≡ false
   pub inside : (i : ℕ) → 0 < i → i < 1 + shape.n * shape.k → value_of (w i) ≢ 0 → l.standing (l.owner i) ≡ Inside i
-  pub born_b : (i : ℕ) → 0 < i → i < 1 + shape.n * shape.k → value_of (w i) ≢ 0 → l.born i ≤ l.b
-  pub place : (i : ℕ) → 0 < i → i < 1 + shape.n * shape.k → value_of (w i) ≢ 0 → l.born i % shape.n ≡ segment_of shape i
+  pub load_to_tail : (i : ℕ) → 0 < i → i < 1 + shape.n * shape.k → value_of (w i) ≢ 0 → l.tail_at_load i ≤ l.tail
+  pub place : (i : ℕ) → 0 < i → i < 1 + shape.n * shape.k → value_of (w i) ≢ 0 → l.tail_at_load i % shape.n ≡ segment_of shape i
 
 pub slots_facts : (shape : Shape) (w : ℕ → ℕ) (l : Ledger) → ((i : ℕ) → IsSlotIndex shape i → SlotOk shape w l i) → Slots shape w l
 slots_facts shape w l h =
     record {
-      low_b = λ i a b. (h i (record { above = a; below = b })).low_b;
+      untaken_to_tail = λ i a b. (h i (record { above = a; below = b })).untaken_to_tail;
       empty = λ i a b. (h i (record { above = a; below = b })).empty;
       inside = λ i a b v. ((h i (record { above = a; below = b })).full v).inside;
-      born_b = λ i a b v. ((h i (record { above = a; below = b })).full v).born_b;
+      load_to_tail = λ i a b v. ((h i (record { above = a; below = b })).full v).load_to_tail;
       place = λ i a b v. ((h i (record { above = a; below = b })).full v).place;
     }
 
@@ -58,7 +58,7 @@ keeps_clear shape w l t r s c empty =
     grind (arith, nat_tests, scan_index-is_slot)
 
 -- one's own step
-module _ (shape : Shape) (w : ℕ → ℕ) (l : Ledger) (t : ℕ) (r : Running) (s : Sane shape r) (ok : EndsOk shape (w 0) l.a l.b) (me : ThreadOk shape w l t r) (all : Slots shape w l) where
+module _ (shape : Shape) (w : ℕ → ℕ) (l : Ledger) (t : ℕ) (r : Running) (s : Sane shape r) (ok : EndsOk shape (w 0) l.head l.tail) (me : ThreadOk shape w l t r) (all : Slots shape w l) where
   own_unended : IfGoes (λ q. (stepped shape w t r l).last (l.caller t) ≡ None) (advance shape r (found_in shape w r))
   unfolding stepped
   own_unended = let u = me.unended in grind (arith, nat_tests)
@@ -84,8 +84,8 @@ module _ (shape : Shape) (w : ℕ → ℕ) (l : Ledger) (t : ℕ) (r : Running) 
       let g = me.target in
       let ld = me.loaded in
       let k = shape.some_slot in
-      let same = same_end shape (w 0) l.a l.b ok in
-      let other = other_end shape (w 0) l.a l.b ok in
+      let same = same_end shape (w 0) l.head l.tail ok in
+      let other = other_end shape (w 0) l.head l.tail ok in
       grind (arith, nat_tests, noted_tells, segment_of-scan_index, place_below)
 
   own_clear : IfGoes (HasClear shape (words_by (access shape r) w) (stepped shape w t r l)) (advance shape r (found_in shape w r))
@@ -146,23 +146,23 @@ HasOwn-others shape w w' l l' u q s e keep h = grind arith
 
 pub HasTarget-others : (shape : Shape) (w w' : ℕ → ℕ) (l l' : Ledger) (u : ℕ) (q : Running) → Sane shape q
     → ((index empty : ℕ) → IsSlotIndex shape index → ToFill shape w l u index empty → ToFill shape w' l' u index empty)
-    → ((index empty : ℕ) → IsSlotIndex shape index → ToFill shape w l u index empty → (w index ≡ empty → l.low index ≤ l.tail_seen u) → w' index ≡ empty → l'.low index ≤ l'.tail_seen u)
+    → ((index empty : ℕ) → IsSlotIndex shape index → ToFill shape w l u index empty → (w index ≡ empty → l.untaken_from index ≤ l.tail_seen u) → w' index ≡ empty → l'.untaken_from index ≤ l'.tail_seen u)
     → ((index filled : ℕ) → IsSlotIndex shape index → ToTake shape w l u index filled → ToTake shape w' l' u index filled)
-    → ((index filled : ℕ) → IsSlotIndex shape index → ToTake shape w l u index filled → (w index ≡ filled → l.born index ≤ l.head_seen u) → w' index ≡ filled → l'.born index ≤ l'.head_seen u)
-    → (l.head_seen u < l.b → l'.head_seen u < l'.b)
+    → ((index filled : ℕ) → IsSlotIndex shape index → ToTake shape w l u index filled → (w index ≡ filled → l.tail_at_load index ≤ l.head_seen u) → w' index ≡ filled → l'.tail_at_load index ≤ l'.head_seen u)
+    → (l.head_seen u < l.tail → l'.head_seen u < l'.tail)
     → HasTarget shape w l u q → HasTarget shape w' l' u q
-HasTarget-others shape w w' l l' u (R.Enqueue item start left (E.Recheck ends (Slot index seen))) s fill low take old past h = fill index seen s.3.1 h
-HasTarget-others shape w w' l l' u (R.Enqueue item start left (E.Put ends index empty)) s fill low take old past h = (fill index empty s.3.1 h.0, low index empty s.3.1 h.0 h.1)
-HasTarget-others shape w w' l l' u (R.Dequeue start left (D.Recheck ends (Slot index seen))) s fill low take old past h = take index seen s.1.1 h
-HasTarget-others shape w w' l l' u (R.Dequeue start left (D.MoveTail ends index filled)) s fill low take old past h = (take index filled s.1.1 h.0, old index filled s.1.1 h.0 h.1)
-HasTarget-others shape w w' l l' u (R.Dequeue start left (D.Take ends index filled)) s fill low take old past h = (take index filled s.1.0 h.0, old index filled s.1.0 h.0 h.1, past h.2)
-HasTarget-others shape w w' l l' u other s fill low take old past h = tt
+HasTarget-others shape w w' l l' u (R.Enqueue item start left (E.Recheck ends (Slot index seen))) s fill untaken take old past h = fill index seen s.3.1 h
+HasTarget-others shape w w' l l' u (R.Enqueue item start left (E.Put ends index empty)) s fill untaken take old past h = (fill index empty s.3.1 h.0, untaken index empty s.3.1 h.0 h.1)
+HasTarget-others shape w w' l l' u (R.Dequeue start left (D.Recheck ends (Slot index seen))) s fill untaken take old past h = take index seen s.1.1 h
+HasTarget-others shape w w' l l' u (R.Dequeue start left (D.MoveTail ends index filled)) s fill untaken take old past h = (take index filled s.1.1 h.0, old index filled s.1.1 h.0 h.1)
+HasTarget-others shape w w' l l' u (R.Dequeue start left (D.Take ends index filled)) s fill untaken take old past h = (take index filled s.1.0 h.0, old index filled s.1.0 h.0 h.1, past h.2)
+HasTarget-others shape w w' l l' u other s fill untaken take old past h = tt
 
 pub HasClear-others : (shape : Shape) (w w' : ℕ → ℕ) (l l' : Ledger) (u : ℕ) (q : Running) → ((ends start offset : ℕ) → Loaded shape w l u ends → Clear shape w l ends start offset → Clear shape w' l' ends start offset) → HasLoaded shape w l u q → HasClear shape w l q → HasClear shape w' l' q
 HasClear-others shape w w' l l' u q keep ld h = grind arith
 
 -- another thread's step
-module _ (shape : Shape) (w : ℕ → ℕ) (l : Ledger) (t : ℕ) (r : Running) (s : Sane shape r) (ok : EndsOk shape (w 0) l.a l.b) (me : ThreadOk shape w l t r) (all : Slots shape w l)
+module _ (shape : Shape) (w : ℕ → ℕ) (l : Ledger) (t : ℕ) (r : Running) (s : Sane shape r) (ok : EndsOk shape (w 0) l.head l.tail) (me : ThreadOk shape w l t r) (all : Slots shape w l)
     (u : ℕ) (q : Running) (ne : u ≡ t → ⊥) (sq : Sane shape q) (them : ThreadOk shape w l u q) (apart : l.caller u ≡ l.caller t → ⊥) where
   other_kept : ((stepped shape w t r l).caller u ≡ l.caller u) × ((stepped shape w t r l).head_seen u ≡ l.head_seen u) × ((stepped shape w t r l).tail_seen u ≡ l.tail_seen u) × ((stepped shape w t r l).last (l.caller u) ≡ l.last (l.caller u)) × ((stepped shape w t r l).answer (l.caller u) ≡ l.answer (l.caller u))
   unfolding stepped
@@ -177,13 +177,13 @@ module _ (shape : Shape) (w : ℕ → ℕ) (l : Ledger) (t : ℕ) (r : Running) 
   unfolding stepped
   slot_owner i pos e = grind (arith, nat_tests, noted_tells, slot_word-above)
 
-  slot_born : (i : ℕ) → 0 < i → words_by (access shape r) w i ≡ w i → (stepped shape w t r l).born i ≡ l.born i
+  slot_load : (i : ℕ) → 0 < i → words_by (access shape r) w i ≡ w i → (stepped shape w t r l).tail_at_load i ≡ l.tail_at_load i
   unfolding stepped
-  slot_born i pos e = grind (arith, nat_tests, noted_tells, slot_word-above)
+  slot_load i pos e = grind (arith, nat_tests, noted_tells, slot_word-above)
 
-  slot_low : (i : ℕ) → 0 < i → words_by (access shape r) w i ≡ w i → (stepped shape w t r l).low i ≡ l.low i
+  slot_untaken : (i : ℕ) → 0 < i → words_by (access shape r) w i ≡ w i → (stepped shape w t r l).untaken_from i ≡ l.untaken_from i
   unfolding stepped
-  slot_low i pos e = grind (arith, nat_tests, noted_tells, slot_word-above)
+  slot_untaken i pos e = grind (arith, nat_tests, noted_tells, slot_word-above)
 
   slot_unsettled : (i : ℕ) → 0 < i → words_by (access shape r) w i ≡ w i → l.standing (l.caller u) ≡ Inside i → l.settled i ≡ false → l.owner i ≡ l.caller u → (stepped shape w t r l).settled i ≡ false
   unfolding stepped
@@ -202,7 +202,7 @@ module _ (shape : Shape) (w : ℕ → ℕ) (l : Ledger) (t : ℕ) (r : Running) 
   other_gone g = let own = me.own in grind (arith, nat_tests, noted_tells)
 
   rises : (i : ℕ) → w i ≤ words_by (access shape r) w i
-  rises i = words_rise shape w r s (ends_in_ring shape (w 0) l.a l.b ok) i
+  rises i = words_rise shape w r s (ends_in_ring shape (w 0) l.head l.tail ok) i
 
   other_own : (index filled : ℕ) → IsSlotIndex shape index → value_of filled ≢ 0 → Own shape w l u index filled → Own shape (words_by (access shape r) w) (stepped shape w t r l) u index filled
   other_own index filled i v own =
@@ -228,18 +228,18 @@ module _ (shape : Shape) (w : ℕ → ℕ) (l : Ledger) (t : ℕ) (r : Running) 
   other_to_fill : (index empty : ℕ) → IsSlotIndex shape index → ToFill shape w l u index empty → ToFill shape (words_by (access shape r) w) (stepped shape w t r l) u index empty
   other_to_fill index empty i f = record { place = rw other_kept.2 f.place; below = omega (arith, f.below, rises index) }
 
-  other_fill_low : (index empty : ℕ) → IsSlotIndex shape index → ToFill shape w l u index empty → (w index ≡ empty → l.low index ≤ l.tail_seen u) → words_by (access shape r) w index ≡ empty → (stepped shape w t r l).low index ≤ (stepped shape w t r l).tail_seen u
-  other_fill_low index empty i f low e =
+  other_fill_untaken : (index empty : ℕ) → IsSlotIndex shape index → ToFill shape w l u index empty → (w index ≡ empty → l.untaken_from index ≤ l.tail_seen u) → words_by (access shape r) w index ≡ empty → (stepped shape w t r l).untaken_from index ≤ (stepped shape w t r l).tail_seen u
+  other_fill_untaken index empty i f untaken e =
       let z : words_by (access shape r) w index ≡ w index = omega (arith, f.below, rises index) in
-      omega (arith, slot_low index i.above z, other_kept.2, low (sym z ∙ e))
+      omega (arith, slot_untaken index i.above z, other_kept.2, untaken (sym z ∙ e))
 
   other_to_take : (index filled : ℕ) → IsSlotIndex shape index → ToTake shape w l u index filled → ToTake shape (words_by (access shape r) w) (stepped shape w t r l) u index filled
   other_to_take index filled i f = record { place = rw other_kept.1 f.place; below = omega (arith, f.below, rises index) }
 
-  other_take_old : (index filled : ℕ) → IsSlotIndex shape index → ToTake shape w l u index filled → (w index ≡ filled → l.born index ≤ l.head_seen u) → words_by (access shape r) w index ≡ filled → (stepped shape w t r l).born index ≤ (stepped shape w t r l).head_seen u
+  other_take_old : (index filled : ℕ) → IsSlotIndex shape index → ToTake shape w l u index filled → (w index ≡ filled → l.tail_at_load index ≤ l.head_seen u) → words_by (access shape r) w index ≡ filled → (stepped shape w t r l).tail_at_load index ≤ (stepped shape w t r l).head_seen u
   other_take_old index filled i f old e =
       let z : words_by (access shape r) w index ≡ w index = omega (arith, f.below, rises index) in
-      omega (arith, slot_born index i.above z, other_kept.1, old (sym z ∙ e))
+      omega (arith, slot_load index i.above z, other_kept.1, old (sym z ∙ e))
 
   other_change : EndsChange w (words_by (access shape r) w) l (stepped shape w t r l)
   other_change = ends_change shape w l t r s ok
@@ -250,7 +250,7 @@ module _ (shape : Shape) (w : ℕ → ℕ) (l : Ledger) (t : ℕ) (r : Running) 
   head_unsettled i e g f =
       let own = me.own in
       let ld = me.loaded in
-      let ring : InRing shape (w 0) = ends_in_ring shape (w 0) l.a l.b ok in
+      let ring : InRing shape (w 0) = ends_in_ring shape (w 0) l.head l.tail ok in
       let few = shape.few_segments in
       grind (arith, nat_tests, noted_tells, ends_word-above)
 
@@ -267,7 +267,7 @@ module _ (shape : Shape) (w : ℕ → ℕ) (l : Ledger) (t : ℕ) (r : Running) 
   other_has_own = HasOwn-others shape w (words_by (access shape r) w) l (stepped shape w t r l) u q sq other_kept.2 other_own them.own
 
   other_has_target : HasTarget shape (words_by (access shape r) w) (stepped shape w t r l) u q
-  other_has_target = HasTarget-others shape w (words_by (access shape r) w) l (stepped shape w t r l) u q sq other_to_fill other_fill_low other_to_take other_take_old (λ z. omega (arith, z, other_kept.1, other_change.b_rise)) them.target
+  other_has_target = HasTarget-others shape w (words_by (access shape r) w) l (stepped shape w t r l) u q sq other_to_fill other_fill_untaken other_to_take other_take_old (λ z. omega (arith, z, other_kept.1, other_change.tail_rise)) them.target
 
   other_has_clear : HasClear shape (words_by (access shape r) w) (stepped shape w t r l) q
   other_has_clear = HasClear-others shape w (words_by (access shape r) w) l (stepped shape w t r l) u q other_clear them.loaded them.clear

@@ -46,13 +46,13 @@ begun_other shape w l t b u q ne s h =
       unended = rw (c, e) h.unended;
       unanswered = rw (c, an) h.unanswered;
       makes = rw (c, bg) h.makes;
-      round = λ a. let r = h.round a in record { a_below = r.a_below; b_below = r.b_below; tails_after = λ v v1 v2. rw (c, f) (r.tails_after v v1 v2); heads_after = λ v v1 v2. rw (c, f) (r.heads_after v v1 v2) };
-      loaded = HasLoaded-others shape w w l (called t b l) u q (λ x ld. record { ends = ld.ends; below = ld.below; a_same = ld.a_same; b_same = ld.b_same }) h.loaded;
+      round = λ a. let r = h.round a in record { head_below = r.head_below; tail_below = r.tail_below; tails_after = λ v v1 v2. rw (c, f) (r.tails_after v v1 v2); heads_after = λ v v1 v2. rw (c, f) (r.heads_after v v1 v2) };
+      loaded = HasLoaded-others shape w w l (called t b l) u q (λ x ld. record { ends = ld.ends; below = ld.below; head_same = ld.head_same; tail_same = ld.tail_same }) h.loaded;
       fresh = λ a. rw (c, st) (h.fresh a);
       own = HasOwn-others shape w w l (called t b l) u q s refl (λ index filled _ _ own. record { below = own.below; place = own.place; owner = λ z. own.owner z ∙ sym c; inside = λ z. rw (c, st) (own.inside z); unsettled = own.unsettled; gone = λ z. rw (c, st) (own.gone z) }) h.own;
       target = HasTarget-others shape w w l (called t b l) u q s
           (λ index empty _ x. record { place = x.place; below = x.below })
-          (λ index empty _ x low. low)
+          (λ index empty _ x untaken. untaken)
           (λ index filled _ x. record { place = x.place; below = x.below })
           (λ index filled _ x old. old)
           (λ z. z) h.target;
@@ -81,8 +81,8 @@ tick_thread shape w l u q s h =
       unended = h.unended;
       unanswered = h.unanswered;
       makes = h.makes;
-      round = λ a. let r = h.round a in record { a_below = r.a_below; b_below = r.b_below; tails_after = r.tails_after; heads_after = r.heads_after };
-      loaded = HasLoaded-others shape w (noted w (clock_at shape.k shape.n) (w (clock_at shape.k shape.n) + 1)) l (record l { now = l.now + 1 }) u q (λ x ld. record { ends = ld.ends; below = omega (arith, z0, ld.below); a_same = λ e. ld.a_same (sym z0 ∙ e); b_same = λ e. ld.b_same (sym z0 ∙ e) }) h.loaded;
+      round = λ a. let r = h.round a in record { head_below = r.head_below; tail_below = r.tail_below; tails_after = r.tails_after; heads_after = r.heads_after };
+      loaded = HasLoaded-others shape w (noted w (clock_at shape.k shape.n) (w (clock_at shape.k shape.n) + 1)) l (record l { now = l.now + 1 }) u q (λ x ld. record { ends = ld.ends; below = omega (arith, z0, ld.below); head_same = λ e. ld.head_same (sym z0 ∙ e); tail_same = λ e. ld.tail_same (sym z0 ∙ e) }) h.loaded;
       fresh = h.fresh;
       own = HasOwn-others shape w (noted w (clock_at shape.k shape.n) (w (clock_at shape.k shape.n) + 1)) l (record l { now = l.now + 1 }) u q s refl
           (λ index filled i _ own.
@@ -91,7 +91,7 @@ tick_thread shape w l u q s h =
           h.own;
       target = HasTarget-others shape w (noted w (clock_at shape.k shape.n) (w (clock_at shape.k shape.n) + 1)) l (record l { now = l.now + 1 }) u q s
           (λ index empty i x. record { place = x.place; below = omega (arith, z index i.below, x.below) })
-          (λ index empty i x low e. low (sym (z index i.below) ∙ e))
+          (λ index empty i x untaken e. untaken (sym (z index i.below) ∙ e))
           (λ index filled i x. record { place = x.place; below = omega (arith, z index i.below, x.below) })
           (λ index filled i x old e. old (sym (z index i.below) ∙ e))
           (λ y. y) h.target;
@@ -102,9 +102,9 @@ tick_slot : (shape : Shape) (w : ℕ → ℕ) (l : Ledger) (i : ℕ) → IsSlotI
 tick_slot shape w l i is_slot h =
     let z = ticked_word shape w (w (clock_at shape.k shape.n) + 1) i is_slot.below in
     record {
-      low_b = h.low_b;
+      untaken_to_tail = h.untaken_to_tail;
       empty = λ e. h.empty (ap value_of (sym z) ∙ e);
-      full = λ v. let f = h.full (λ e. v (ap value_of z ∙ e)) in record { inside = f.inside; known = f.known; begun = omega (arith, f.begun); low_born = f.low_born; born_b = f.born_b; place = f.place; after = f.after; unsettled = f.unsettled };
+      full = λ v. let f = h.full (λ e. v (ap value_of z ∙ e)) in record { inside = f.inside; known = f.known; begun = omega (arith, f.begun); untaken_to_load = f.untaken_to_load; load_to_tail = f.load_to_tail; place = f.place; after = f.after; unsettled = f.unsettled };
       item = λ v. h.item (λ e. v (ap value_of z ∙ e)) ∙ ap value_of (sym z);
       settled = λ e. let f = h.settled e in record { from_head = f.from_head; to_tail = f.to_tail; place = f.place; at_tail = record { reached = f.at_tail.reached; after = f.at_tail.after; before = f.at_tail.before; past = omega (arith, f.at_tail.past) }; started = f.started; ended = f.ended };
     }
@@ -276,7 +276,7 @@ module _ (shape : Shape) where
   unfolding stepped
   inv_step w p l t r h e =
       let s : Sane shape r = h.base.sane t r e in
-      let ok : EndsOk shape (w 0) l.a l.b = h.base.ends in
+      let ok : EndsOk shape (w 0) l.head l.tail = h.base.ends in
       let me : ThreadOk shape w l t r = h.threads t r e in
       let all : Slots shape w l = slots_facts shape w l h.slots in
       record {
@@ -355,7 +355,7 @@ module _ (shape : Shape) where
         threads = λ t r f. absurd (none-some r (sym (get_or_replicate threads t None) ∙ f));
         callers = λ t u r q f g c. absurd (none-some r (sym (get_or_replicate threads t None) ∙ f));
         slots = λ i is_slot. record {
-          low_b = omega arith;
+          untaken_to_tail = omega arith;
           empty = λ _. refl;
           full = λ v. absurd (v (ap value_of (get_or_replicate {X = ℕ} (table_size shape) i 0) ∙ refl));
           item = λ v. absurd (v (ap value_of (get_or_replicate {X = ℕ} (table_size shape) i 0) ∙ refl));

@@ -33,10 +33,10 @@ TellVisits left number steps = (visit : ℕ) → visit < number → number ≤ v
 
 pub record Tells (l : Ledger) (n : Notes) : Type 0 where
   pub step : n.step ≡ l.now
-  pub head : n.head ≡ l.a
-  pub tail : n.tail ≡ l.b
-  pub heads : TellVisits l.heads l.a n.heads
-  pub tails : TellVisits l.tails l.b n.tails
+  pub head : n.head ≡ l.head
+  pub tail : n.tail ≡ l.tail
+  pub heads : TellVisits l.heads l.head n.heads
+  pub tails : TellVisits l.tails l.tail n.tails
   pub owner : (index : ℕ) → (slot n index).owner ≡ l.owner index
   pub settled : (index : ℕ) → (slot n index).settled ≡ l.settled index
   pub point : (index : ℕ) → (slot n index).point ≡ l.point index

@@ -66,24 +66,24 @@ abbrev pub LawsHold : Shape → ℕ → Type 0
 LawsHold shape threads = (events : List Event) (here : World) → after shape threads events ≡ Some here
     → OrderLaws (history_of shape threads events) (marks_of shape (ledger_after_all shape threads events))
 
--- At the second look at the ends before an item's put the tail has not left the item's visit
+-- At the Recheck before an item's put the tail has not left the item's visit
 abbrev pub PutsInVisit : Shape → ℕ → Type 0
 PutsInVisit shape threads = (events : List Event) (here : World) → after shape threads events ≡ Some here
     → (c : ℕ) → IsAdd (does (history_of shape threads events)) (marks_of shape (ledger_after_all shape threads events)) c
-    → (marks_of shape (ledger_after_all shape threads events)).tail ((ledger_after_all shape threads events).sure c) ≤ (marks_of shape (ledger_after_all shape threads events)).visit c
+    → (marks_of shape (ledger_after_all shape threads events)).tail ((ledger_after_all shape threads events).recheck_before_put c) ≤ (marks_of shape (ledger_after_all shape threads events)).visit c
 
 -- A take that is about to be won is of a visit from which the head has gone at most once round, and the tail at most twice: the
 -- steps of the last 2n visits of head and tail have both points
 abbrev pub TakesInTime : Shape → ℕ → Type 0
 TakesInTime shape threads = (events : List Event) (here : World) → after shape threads events ≡ Some here
     → (thread start left ends index filled : ℕ) → place_of here thread ≡ Some (R.Dequeue start left (D.Take ends index filled)) → word_at here index ≡ filled
-    → ((ledger_after_all shape threads events).a ≤ (ledger_after_all shape threads events).head_seen thread + shape.n)
-    × ((ledger_after_all shape threads events).b < (ledger_after_all shape threads events).head_seen thread + 2 * shape.n)
+    → ((ledger_after_all shape threads events).head ≤ (ledger_after_all shape threads events).head_seen thread + shape.n)
+    × ((ledger_after_all shape threads events).tail < (ledger_after_all shape threads events).head_seen thread + 2 * shape.n)
 
 -- The ledger's numbers of head and tail are those of the won head-ons and tail-ons
 abbrev pub NumbersAgree : Shape → ℕ → Type 0
 NumbersAgree shape threads = (events : List Event) (here : World) → after shape threads events ≡ Some here
-    → ((ledger_after_all shape threads events).a ≡ head_ons shape threads events) × ((ledger_after_all shape threads events).b ≡ tail_ons shape threads events)
+    → ((ledger_after_all shape threads events).head ≡ head_ons shape threads events) × ((ledger_after_all shape threads events).tail ≡ tail_ons shape threads events)
 
 -- A list with the calls that stand, sorted by point and number, is the order
 abbrev pub OneOrder : Shape → ℕ → Type 0

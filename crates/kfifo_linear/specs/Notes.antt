@@ -10,9 +10,9 @@ use Rattle.kfifo_machine.specs.declared.event.Outcome.TheVariants.{Ended, Went}
 use Rattle.kfifo_machine.specs.declared.event.Event.{Event}
 use Rattle.kfifo_machine.specs.declared.place.Running.{Running}
 use Rattle.kfifo_machine.specs.Machine.{World, found, place_of, word_at}
-use Rattle.kfifo_linear.specs.Ledger.{deed}
-use Rattle.kfifo_linear.specs.declared.deed.Deed.{Deed}
-use Rattle.kfifo_linear.specs.declared.deed.Deed.TheVariants.{Check, HeadOn, Hold, Look, Open, PutBack, PutIn, Settle, Stand, TailOn, TakeOut}
+use Rattle.kfifo_linear.specs.Ledger.{action}
+use Rattle.kfifo_linear.specs.declared.action.Action.{Action}
+use Rattle.kfifo_linear.specs.declared.action.Action.TheVariants.{HoldHead, LoadEnds, MoveHead, MoveTail, Other, Put, Recheck, RecheckEmpty, ReloadEnds, Take, Undo}
 use Rattle.kfifo_linear.specs.declared.notes.Caller.{Caller}
 use Rattle.kfifo_linear.specs.declared.notes.Filling.{Filling}
 use Rattle.kfifo_linear.specs.declared.notes.Whereabouts.{Whereabouts}
@@ -85,16 +85,16 @@ abbrev pub slot_is : ℕ → Filling → Notes → Notes
 slot_is index filling n = record n { slots = set n.slots index filling }
 
 -- a round begins
-abbrev pub opens : ℕ → Notes → Notes
-opens thread n = record n { callers = set n.callers thread (record (caller n thread) { head_seen = n.head }) }
+abbrev pub loads_ends : ℕ → Notes → Notes
+loads_ends thread n = record n { callers = set n.callers thread (record (caller n thread) { head_seen = n.head }) }
 
 -- a thread's item is put into a slot, and taken back
-abbrev pub puts_in : ℕ → ℕ → Notes → Notes
-puts_in thread index n =
+abbrev pub puts : ℕ → ℕ → Notes → Notes
+puts thread index n =
     goes_to (own_call n thread) (InSlot index) (slot_is index (record (slot n index) { owner = own_call n thread; settled = false }) n)
 
-abbrev pub puts_back : ℕ → ℕ → Notes → Notes
-puts_back thread index n = goes_to (own_call n thread) Nowhere (slot_is index (record (slot n index) { settled = false }) n)
+abbrev pub undoes : ℕ → ℕ → Notes → Notes
+undoes thread index n = goes_to (own_call n thread) Nowhere (slot_is index (record (slot n index) { settled = false }) n)
 
 -- the point of an enqueue whose item is settled in this visit
 abbrev pub settle_point : Notes → ℕ → ℕ
@@ -120,22 +120,22 @@ abbrev pub takes_in : ℕ → ℕ → ℕ → Notes → Notes
 takes_in visit thread index n =
     goes_to (own_call n thread) (At (took_point n visit)) (goes_to (slot n index).owner (At (gone_point n index visit)) (slot_is index (record (slot n index) { settled = false }) n))
 
-abbrev pub takes_out : ℕ → ℕ → Notes → Notes
-takes_out thread index n = takes_in (caller n thread).head_seen thread index n
+abbrev pub takes : ℕ → ℕ → Notes → Notes
+takes thread index n = takes_in (caller n thread).head_seen thread index n
 
--- after a deed of a thread that found these ends
-abbrev pub marked : Shape → ℕ → ℕ → Deed → Notes → Notes
-marked shape thread ends Look n = n
-marked shape thread ends Open n = opens thread n
-marked shape thread ends Check n = n
-marked shape thread ends (PutIn index) n = puts_in thread index n
-marked shape thread ends (PutBack index) n = puts_back thread index n
-marked shape thread ends (Settle index segment) n = settles thread index (n.head + distance shape.n (head_of ends) segment) n
-marked shape thread ends (Hold index) n = settles thread index n.head n
-marked shape thread ends (TakeOut index) n = takes_out thread index n
-marked shape thread ends HeadOn n = record n { head = n.head + 1; heads = leaves n.head n.step n.heads }
-marked shape thread ends TailOn n = record n { tail = n.tail + 1; tails = leaves n.tail n.step n.tails }
-marked shape thread ends Stand n = goes_to (own_call n thread) (At n.step) n
+-- after an action of a thread that found these ends
+abbrev pub marked : Shape → ℕ → ℕ → Action → Notes → Notes
+marked shape thread ends Other n = n
+marked shape thread ends LoadEnds n = loads_ends thread n
+marked shape thread ends Recheck n = n
+marked shape thread ends (Put index) n = puts thread index n
+marked shape thread ends (Undo index) n = undoes thread index n
+marked shape thread ends (ReloadEnds index segment) n = settles thread index (n.head + distance shape.n (head_of ends) segment) n
+marked shape thread ends (HoldHead index) n = settles thread index n.head n
+marked shape thread ends (Take index) n = takes thread index n
+marked shape thread ends MoveHead n = record n { head = n.head + 1; heads = leaves n.head n.step n.heads }
+marked shape thread ends MoveTail n = record n { tail = n.tail + 1; tails = leaves n.tail n.step n.tails }
+marked shape thread ends RecheckEmpty n = goes_to (own_call n thread) (At n.step) n
 
 -- a call that ends, and has no point yet, has it at its last step
 abbrev pub at_end : ℕ → Whereabouts → Whereabouts
@@ -152,37 +152,37 @@ abbrev pub later : Notes → Notes
 later n = record n { step = n.step + 1 }
 
 -- after a step of a thread
-abbrev pub stepped : Shape → ℕ → ℕ → Deed → Outcome → Notes → Notes
-stepped shape thread ends deed outcome n = later (ended thread outcome (marked shape thread ends deed n))
+abbrev pub stepped : Shape → ℕ → ℕ → Action → Outcome → Notes → Notes
+stepped shape thread ends action outcome n = later (ended thread outcome (marked shape thread ends action n))
 
 -- a call begins
 abbrev pub called : ℕ → Notes → Notes
 called thread n = record n { callers = set n.callers thread (record (caller n thread) { call = n.begun }); begun = n.begun + 1 }
 
--- after an event of a thread that begins this, or else does this deed, that finds these ends and comes to this
-abbrev pub noted_event : Shape → ℕ → Option Begin → ℕ → Deed → Outcome → Notes → Notes
-noted_event shape thread None ends deed outcome n = stepped shape thread ends deed outcome n
-noted_event shape thread (Some (B.Enqueue item start turns)) ends deed outcome n = stepped shape thread ends Open outcome (called thread n)
-noted_event shape thread (Some (B.Dequeue start turns)) ends deed outcome n = stepped shape thread ends Open outcome (called thread n)
-noted_event shape thread (Some B.Tick) ends deed outcome n = later n
+-- after an event of a thread that begins this, or else does this action, that finds these ends and comes to this
+abbrev pub noted_event : Shape → ℕ → Option Begin → ℕ → Action → Outcome → Notes → Notes
+noted_event shape thread None ends action outcome n = stepped shape thread ends action outcome n
+noted_event shape thread (Some (B.Enqueue item start turns)) ends action outcome n = stepped shape thread ends LoadEnds outcome (called thread n)
+noted_event shape thread (Some (B.Dequeue start turns)) ends action outcome n = stepped shape thread ends LoadEnds outcome (called thread n)
+noted_event shape thread (Some B.Tick) ends action outcome n = later n
 
--- there is room for the slot and the call of a deed
-abbrev pub HasRoom : Shape → Notes → Deed → Type 0
-HasRoom shape n (PutIn index) = index < length n.slots
-HasRoom shape n (PutBack index) = index < length n.slots
-HasRoom shape n (Settle index segment) = (index < length n.slots) × (segment < shape.n)
-HasRoom shape n (Hold index) = index < length n.slots
-HasRoom shape n (TakeOut index) = (index < length n.slots) × ((slot n index).owner < length n.calls)
+-- there is room for the slot and the call of an action
+abbrev pub HasRoom : Shape → Notes → Action → Type 0
+HasRoom shape n (Put index) = index < length n.slots
+HasRoom shape n (Undo index) = index < length n.slots
+HasRoom shape n (ReloadEnds index segment) = (index < length n.slots) × (segment < shape.n)
+HasRoom shape n (HoldHead index) = index < length n.slots
+HasRoom shape n (Take index) = (index < length n.slots) × ((slot n index).owner < length n.calls)
 HasRoom shape n other = Unit {0}
 
 -- what the next step of a thread at this place will do
-abbrev pub deed_at : Shape → World → Option Running → Deed
-deed_at shape world None = Look
-deed_at shape world (Some running) = deed shape running (found shape world running)
+abbrev pub action_at : Shape → World → Option Running → Action
+action_at shape world None = Other
+action_at shape world (Some running) = action shape running (found shape world running)
 
 -- the notes after an event that comes to this
 abbrev pub fed : Shape → World → Event → Outcome → Notes → Notes
-fed shape world event outcome n = noted_event shape event.thread event.begin (word_at world 0) (deed_at shape world (place_of world event.thread)) outcome n
+fed shape world event outcome n = noted_event shape event.thread event.begin (word_at world 0) (action_at shape world (place_of world event.thread)) outcome n
 
 -- an event that begins this begins a call: a tick is none
 abbrev pub begins_call : Option Begin → Bool

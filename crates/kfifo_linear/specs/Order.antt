@@ -63,6 +63,6 @@ marks_of shape l =
       visit = λ c. visit_of (role_of (spot l c));
       slot = λ c. slot_of shape (role_of (spot l c));
       source = λ c. source_of (role_of (spot l c));
-      head = number_at l.heads l.a;
-      tail = number_at l.tails l.b;
+      head = number_at l.heads l.head;
+      tail = number_at l.tails l.tail;
     }

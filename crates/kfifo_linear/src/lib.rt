@@ -2,7 +2,7 @@
 //! overtaken k times.
 #![tactic(auto)]
 
-mod deed;
+mod action;
 mod linearization;
 mod linearizer;
 mod notes;

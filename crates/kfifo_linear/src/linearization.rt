@@ -1,5 +1,6 @@
 //! The linearization order of a whole schedule.
-ghost use Rattle.std.specs.Prelude.{◌≡◌, ◌<◌, ◌≤◌, ◌⊎◌, map, IfOk, Err};
+ghost use Rattle.std.specs.Prelude.{◌≡◌, ◌<◌, ◌≤◌, map, IfOk, IfErr};
+ghost use Rattle.kfifo_linear.specs.Faults.{IsLinearFault};
 ghost use Rattle.kfifo_machine.specs.Machine.{IsSchedule};
 ghost use Rattle.kfifo_linear.specs.Notes.{begins_call, calls_begun};
 ghost use Rattle.kfifo_linear.specs.Order.{ledger_after_all, order_of, point};
@@ -7,17 +8,34 @@ ghost use Rattle.kfifo_linear.specs.Following.{Follows};
 ghost use Rattle.kfifo_linear.specs.Headline.{HasLegalOrder, FewOvertake, FewCertainlyOvertake, LawsHold, PutsInVisit};
 
 use crate::linearizer::Linearizer;
-use kfifo_machine::{Begin, Event, MAX_THREADS, StartFault};
+use kfifo_machine::{Begin, Event, StartFault};
 use kfifo_words::Shape;
 use std::alloc::{AllocError, Global};
+use thiserror::Error;
 
 /// Why there is no order.
-#[derive(Clone, Copy, PartialEq, Eq, Debug)]
+#[derive(Clone, Copy, PartialEq, Eq, Debug, Error)]
 pub enum LinearFault {
-    /// The number of threads is not 1 to 64, or an event is not enabled.
-    NotASchedule = 1,
-    /// A growth was refused.
-    Memory = 2,
+    /// 1: the number of threads is not 1 to 64, or an event is not enabled.
+    #[error("the number of threads is not 1 to 64, or an event is not enabled where it stands")]
+    NotASchedule,
+    /// 2: an allocation failed.
+    #[error("out of memory")]
+    Memory,
+}
+
+impl LinearFault {
+    ghost use Rattle.kfifo_linear.specs.Faults.{linear_fault_number};
+
+    /// The fault's number, 1 or 2.
+    pub fn number(self) -> u32
+        ensures { result ≡ linear_fault_number self }
+    {
+        match self {
+            LinearFault::NotASchedule => 1,
+            LinearFault::Memory => 2,
+        }
+    }
 }
 
 impl From<AllocError> for LinearFault {
@@ -68,8 +86,7 @@ fn followed(
     events: &[Event],
 ) -> Result<Linearizer, LinearFault>
     ensures followed { IfOk result (λ l. (l.shape ≡ shape) × (0 < threads) × (threads ≤ 64) × Follows threads (calls_begun events.now) events.now l) }
-    ensures threads { (threads ≡ 0) ⊎ (64 < threads) → result ≡ Err LinearFault.NotASchedule }
-    ensures refused { result ≡ Err LinearFault.NotASchedule → ((threads ≡ 0) ⊎ (64 < threads)) ⊎ (IsSchedule shape threads events.now → ⊥) }
+    ensures refused { IfErr result (IsLinearFault shape threads events.now) }
 {
     let mut linearizer = Linearizer::open(alloc, shape, threads, count_calls(events))?;
     for event in events {
@@ -89,8 +106,7 @@ fn order_events(
     events: &[Event],
 ) -> Result<Vec<usize>, LinearFault>
     ensures order { IfOk result (λ order. (0 < threads) × (threads ≤ 64) × IsSchedule shape threads events.now × (order.items ≡ order_of shape threads events.now)) }
-    ensures threads { (threads ≡ 0) ⊎ (64 < threads) → result ≡ Err LinearFault.NotASchedule }
-    ensures refused { result ≡ Err LinearFault.NotASchedule → ((threads ≡ 0) ⊎ (64 < threads)) ⊎ (IsSchedule shape threads events.now → ⊥) }
+    ensures refused { IfErr result (IsLinearFault shape threads events.now) }
 {
     let linearizer = followed(alloc, shape, threads, events)?;
     Ok(linearizer.order(alloc)?)
@@ -98,8 +114,8 @@ fn order_events(
 
 /// The linearization order of the schedule of these events, as numbers of calls by their first events.
 ///
-/// Refused: NotASchedule where the number of threads is not 1 to 64 or an event is not enabled; Memory
-/// where a growth was refused.
+/// Refused: NotASchedule exactly where the number of threads is not 1 to 64, or else, Memory aside, an
+/// event is not enabled; Memory where an allocation failed.
 ///
 /// The clauses from `legal` on speak of every schedule of this shape and number of threads, whatever is
 /// answered. The order of a schedule is a legal order of its history: it has all finished calls and
@@ -114,8 +130,7 @@ pub fn linearize(
     events: &[Event],
 ) -> Result<Vec<usize>, LinearFault>
     ensures order { IfOk result (λ order. (0 < threads) × (threads ≤ 64) × IsSchedule shape threads events.now × (order.items ≡ order_of shape threads events.now)) }
-    ensures threads { (threads ≡ 0) ⊎ (64 < threads) → result ≡ Err LinearFault.NotASchedule }
-    ensures refused { result ≡ Err LinearFault.NotASchedule → ((threads ≡ 0) ⊎ (64 < threads)) ⊎ (IsSchedule shape threads events.now → ⊥) }
+    ensures refused { IfErr result (IsLinearFault shape threads events.now) }
     ensures legal { threads ≤ 64 → HasLegalOrder shape threads }
     ensures overtaken { threads ≤ 64 → FewOvertake shape threads }
     ensures certainly { threads ≤ 64 → FewCertainlyOvertake shape threads }
@@ -137,8 +152,7 @@ pub fn linearization_points(
 ) -> Result<Vec<u64>, LinearFault>
     ensures points { IfOk result (λ points. (0 < threads) × (threads ≤ 64) × IsSchedule shape threads events.now
         × (points.items ≡ map (point (ledger_after_all shape threads events.now)) (order_of shape threads events.now))) }
-    ensures threads { (threads ≡ 0) ⊎ (64 < threads) → result ≡ Err LinearFault.NotASchedule }
-    ensures refused { result ≡ Err LinearFault.NotASchedule → ((threads ≡ 0) ⊎ (64 < threads)) ⊎ (IsSchedule shape threads events.now → ⊥) }
+    ensures refused { IfErr result (IsLinearFault shape threads events.now) }
 {
     let linearizer = followed(alloc, shape, threads, events)?;
     Ok(linearizer.points(alloc)?)

@@ -3,11 +3,11 @@ ghost use Rattle.std.specs.Prelude.{◌≡◌, ℕ, ◌+◌, ◌-◌, ◌^◌, �
 ghost use Rattle.kfifo_machine.specs.Machine;
 ghost use Rattle.kfifo_machine.specs.Machine.{place_of};
 ghost use Rattle.kfifo_machine.specs.declared.event.Event.{Event};
-ghost use Rattle.kfifo_linear.specs.Notes.{begins_call, deed_at};
+ghost use Rattle.kfifo_linear.specs.Notes.{begins_call, action_at};
 ghost use Rattle.kfifo_linear.specs.Following.{Follows};
 ghost use Rattle.kfifo_linear.specs.Order.{ledger_after_all, order_of, point};
 
-use crate::deed::Deed;
+use crate::action::Action;
 use crate::notes::Notes;
 use kfifo_machine::{Event, NotEnabled, Outcome, Running, StartFault, State, start, step};
 use kfifo_words::{Ends, Shape, Word};
@@ -52,8 +52,8 @@ fn points_of(alloc: Global, placed: &[(u64, usize)]) -> Result<Vec<u64>, AllocEr
 impl Linearizer {
     /// A linearizer of this many threads, with room for this many calls, that has followed no event.
     ///
-    /// ThreadsOutOfRange where the number of threads is not 1 to 64; Memory where a growth was
-    /// refused.
+    /// ThreadsOutOfRange where the number of threads is not 1 to 64; Memory where an allocation
+    /// failed.
     pub fn open(
         alloc: Global,
         shape: Shape,
@@ -84,15 +84,15 @@ impl Linearizer {
     }
 
     /// What the next step of a thread will do; nothing, where it is in no call.
-    fn next_deed(&self, thread: u32) -> Deed
-        ensures { result ≡ deed_at self.now.shape self.now.world (place_of self.now.world thread) }
+    fn next_action(&self, thread: u32) -> Action
+        ensures { result ≡ action_at self.now.shape self.now.world (place_of self.now.world thread) }
     {
         match self.state.place(thread) {
-            None => Deed::Look,
+            None => Action::Other,
             Some(running) => {
                 let shape = self.state.shape();
                 let word = self.state.word(running.access(&shape).index());
-                Deed::of(&shape, running, Word::of_bits(word))
+                Action::of(&shape, running, Word::of_bits(word))
             }
         }
     }
@@ -112,9 +112,9 @@ impl Linearizer {
     {
         let shape = self.state.shape();
         let ends = Ends::of_bits(self.state.word(0));
-        let deed = self.next_deed(event.thread);
+        let action = self.next_action(event.thread);
         let outcome = step(&mut self.state, event)?;
-        self.notes.note(&shape, event, ends, deed, outcome);
+        self.notes.note(&shape, event, ends, action, outcome);
         Ok(outcome)
     }
 
@@ -131,7 +131,7 @@ impl Linearizer {
     }
 
     /// The linearization order of the events that it has followed, as numbers of calls by their first
-    /// events. Memory where a growth was refused.
+    /// events. Memory where an allocation failed.
     pub fn order(&self, alloc: Global) -> Result<Vec<usize>, AllocError>
         ensures { IfOk result (λ order. (threads room : ℕ) (events : List Event) → Follows threads room events self.now → threads ≤ 64
             → order.items ≡ order_of self.now.shape threads events) }
@@ -140,8 +140,8 @@ impl Linearizer {
         calls_of(alloc, placed.as_slice())
     }
 
-    /// The points of the calls in that order, each a step of the schedule. Memory where a growth was
-    /// refused.
+    /// The points of the calls in that order, each a step of the schedule. Memory where an allocation
+    /// failed.
     pub fn points(&self, alloc: Global) -> Result<Vec<u64>, AllocError>
         ensures { IfOk result (λ points. (threads room : ℕ) (events : List Event) → Follows threads room events self.now → threads ≤ 64
             → points.items ≡ map (point (ledger_after_all self.now.shape threads events)) (order_of self.now.shape threads events)) }

@@ -1,9 +1,9 @@
 //! What is kept of a schedule to name the order of its calls: lists of fixed sizes, made once.
 ghost use Rattle.std.specs.Prelude.{◌≡◌, ◌+◌, ◌-◌, ◌*◌, ◌^◌, ◌<◌, None, true, length, replicate, IfOk};
 ghost use Rattle.kfifo_machine.specs.Places.{IsEnds};
-ghost use Rattle.kfifo_linear.specs.Notes.{Notes, HasRoom, own_call, slot, left_at, leaves, opens, puts_in, puts_back, settle_point, settles, took_point, gone_point, takes_out, marked, ended, stepped, called, later, no_notes, begins_call, noted_event, point_at, points_below};
+ghost use Rattle.kfifo_linear.specs.Notes.{Notes, HasRoom, own_call, slot, left_at, leaves, loads_ends, puts, undoes, settle_point, settles, took_point, gone_point, takes, marked, ended, stepped, called, later, no_notes, begins_call, noted_event, point_at, points_below};
 
-use crate::deed::Deed;
+use crate::action::Action;
 use kfifo_machine::{Begin, Event, Outcome};
 use kfifo_words::{Ends, Shape};
 use std::alloc::{AllocError, Global};
@@ -135,19 +135,19 @@ impl Notes {
     }
 
     /// A round of the thread begins.
-    fn open(&mut self, thread: usize)
+    fn load_ends(&mut self, thread: usize)
         requires { thread < length self.old.callers }
-        ensures { self.new ≡ opens thread self.old }
+        ensures { self.new ≡ loads_ends thread self.old }
     {
         self.callers[thread].head_seen = self.head.number;
     }
 
     /// The thread's item is put into this slot.
-    fn put_in(&mut self, thread: usize, index: usize)
+    fn put(&mut self, thread: usize, index: usize)
         requires thread { thread < length self.old.callers }
         requires call { own_call self.old thread < length self.old.calls }
         requires index { index < length self.old.slots }
-        ensures { self.new ≡ puts_in thread index self.old }
+        ensures { self.new ≡ puts thread index self.old }
     {
         let owner = self.callers[thread].call;
         self.slots[index] = Filling {
@@ -159,11 +159,11 @@ impl Notes {
     }
 
     /// The thread's item is taken back out of this slot.
-    fn put_back(&mut self, thread: usize, index: usize)
+    fn undo(&mut self, thread: usize, index: usize)
         requires thread { thread < length self.old.callers }
         requires call { own_call self.old thread < length self.old.calls }
         requires index { index < length self.old.slots }
-        ensures { self.new ≡ puts_back thread index self.old }
+        ensures { self.new ≡ undoes thread index self.old }
     {
         self.slots[index].settled = false;
         self.calls[self.callers[thread].call] = Whereabouts::Nowhere;
@@ -224,12 +224,12 @@ impl Notes {
     }
 
     /// The thread takes the item of this slot.
-    fn take_out(&mut self, thread: usize, index: usize)
+    fn take(&mut self, thread: usize, index: usize)
         requires thread { thread < length self.old.callers }
         requires call { own_call self.old thread < length self.old.calls }
         requires index { index < length self.old.slots }
         requires owner { (slot self.old index).owner < length self.old.calls }
-        ensures { self.new ≡ takes_out thread index self.old }
+        ensures { self.new ≡ takes thread index self.old }
     {
         let Caller { call, head_seen } = self.callers[thread];
         let gone = self.gone_point(index, head_seen);
@@ -240,28 +240,30 @@ impl Notes {
     }
 
     /// The thread, which found these ends, did this.
-    fn mark(&mut self, shape: &Shape, thread: usize, ends: Ends, deed: Deed)
+    fn mark(&mut self, shape: &Shape, thread: usize, ends: Ends, action: Action)
         requires numbers { (self.old.head < 2 ^ 64 - 1) × (self.old.tail < 2 ^ 64 - 1) }
         requires ends { IsEnds shape.now ends }
         requires thread { thread < length self.old.callers }
         requires call { own_call self.old thread < length self.old.calls }
-        requires room { HasRoom shape.now self.old deed }
-        ensures { self.new ≡ marked shape.now thread ends deed self.old }
+        requires room { HasRoom shape.now self.old action }
+        ensures { self.new ≡ marked shape.now thread ends action self.old }
     {
-        match deed {
-            Deed::Look | Deed::Check => {}
-            Deed::Open => self.open(thread),
-            Deed::PutIn(index) => self.put_in(thread, index),
-            Deed::PutBack(index) => self.put_back(thread, index),
-            Deed::Settle { index, segment } => {
+        match action {
+            Action::Other | Action::Recheck => {}
+            Action::LoadEnds => self.load_ends(thread),
+            Action::Put(index) => self.put(thread, index),
+            Action::Undo(index) => self.undo(thread, index),
+            Action::ReloadEnds { index, segment } => {
                 let ahead = shape.dist(ends.head(), segment);
                 self.settle(thread, index, ahead as u64);
             }
-            Deed::Hold(index) => self.settle(thread, index, 0),
-            Deed::TakeOut(index) => self.take_out(thread, index),
-            Deed::HeadOn => self.head.leave(self.step),
-            Deed::TailOn => self.tail.leave(self.step),
-            Deed::Stand => self.calls[self.callers[thread].call] = Whereabouts::At(self.step),
+            Action::HoldHead(index) => self.settle(thread, index, 0),
+            Action::Take(index) => self.take(thread, index),
+            Action::MoveHead => self.head.leave(self.step),
+            Action::MoveTail => self.tail.leave(self.step),
+            Action::RecheckEmpty => self.calls[self.callers[thread].call] = Whereabouts::At(
+                self.step,
+            ),
         }
     }
 
@@ -296,39 +298,46 @@ impl Notes {
     }
 
     /// The thread, which found these ends, did this, and its step came to this.
-    fn step(&mut self, shape: &Shape, thread: usize, ends: Ends, deed: Deed, outcome: Outcome)
+    fn step(&mut self, shape: &Shape, thread: usize, ends: Ends, action: Action, outcome: Outcome)
         requires step { self.old.step < 2 ^ 64 - 1 }
         requires numbers { (self.old.head < 2 ^ 64 - 1) × (self.old.tail < 2 ^ 64 - 1) }
         requires ends { IsEnds shape.now ends }
         requires thread { thread < length self.old.callers }
         requires call { own_call self.old thread < length self.old.calls }
-        requires room { HasRoom shape.now self.old deed }
-        ensures { self.new ≡ stepped shape.now thread ends deed outcome self.old }
+        requires room { HasRoom shape.now self.old action }
+        ensures { self.new ≡ stepped shape.now thread ends action outcome self.old }
     {
-        self.mark(shape, thread, ends, deed);
+        self.mark(shape, thread, ends, action);
         self.end(thread, outcome);
         self.tick();
     }
 
     /// After an event, which found these ends, and came to this: it begins a call, or is a tick, or
-    /// its thread does this deed.
-    pub fn note(&mut self, shape: &Shape, event: Event, ends: Ends, deed: Deed, outcome: Outcome)
+    /// its thread does this action.
+    pub fn note(
+        &mut self,
+        shape: &Shape,
+        event: Event,
+        ends: Ends,
+        action: Action,
+        outcome: Outcome,
+    )
         requires step { self.old.step < 2 ^ 64 - 1 }
         requires numbers { (self.old.head < 2 ^ 64 - 1) × (self.old.tail < 2 ^ 64 - 1) }
         requires ends { IsEnds shape.now ends }
         requires thread { event.thread < length self.old.callers }
         requires call { event.begin ≡ None → own_call self.old event.thread < length self.old.calls }
-        requires room { event.begin ≡ None → HasRoom shape.now self.old deed }
+        requires room { event.begin ≡ None → HasRoom shape.now self.old action }
         requires more { begins_call event.begin ≡ true → self.old.begun < length self.old.calls }
-        ensures { self.new ≡ noted_event shape.now event.thread event.begin ends deed outcome self.old }
+        ensures { self.new ≡ noted_event shape.now event.thread event.begin ends action outcome self.old }
     {
         let thread = event.thread as usize;
         match event.begin {
-            None => self.step(shape, thread, ends, deed, outcome),
+            None => self.step(shape, thread, ends, action, outcome),
             Some(Begin::Tick) => self.tick(),
             Some(Begin::Enqueue { .. } | Begin::Dequeue { .. }) => {
                 self.call(thread);
-                self.step(shape, thread, ends, Deed::Open, outcome);
+                self.step(shape, thread, ends, Action::LoadEnds, outcome);
             }
         }
     }

@@ -21,7 +21,7 @@ use Rattle.kfifo_live.specs.declared.view.Opening.{Opening}
 use Rattle.kfifo_live.specs.declared.view.Part.{Part}
 use Rattle.kfifo_live.specs.declared.view.View.{View}
 use Rattle.kfifo_live.specs.Schedule.{part, view_of, world_after, AllBegin, Owns, Fits, OneSchedule, thread_of, seen_of, more_in, with_seen}
-use Rattle.kfifo_live.specs.Step.{At, Steps}
+use Rattle.kfifo_live.specs.Step.{IsAt, Steps}
 
 -- a longer schedule, with nothing more of the thread
 begins_on : (thread : ℕ) (seen all more : List Event) → Begins thread seen all → own thread more ≡ [] → Begins thread seen (all ++ more)
@@ -117,19 +117,19 @@ unfolding found word_at
 found-is shape world running i is = ap (λ j. get_or world.words j 0) (sym is)
 
 -- the step of a thread which is at this place once it has seen this
-goes_at : {S : Type 0} (o : Opening) (s : State S View) (id : ℕ) (thread : ℕ) (seen : List Event) (more : List Part) (here : World)
-    → world_after o seen ≡ Some here → thread < length here.places → (begin : Option Begin) (running : Running) → going o.shape (place_of here thread) begin ≡ Some running
+goes_at : {S : Type 0} (o : Opening) (s : State S View) (id : ℕ) (thread : ℕ) (seen : List Event) (more : List Part) (place : Option Running) (here : World)
+    → world_after o seen ≡ Some here → thread < length here.places → place_of here thread ≡ place → (begin : Option Begin) (running : Running) → going o.shape place begin ≡ Some running
     → (i : ℕ) → accessed (access o.shape running) ≡ i → (f : ℕ → ℕ) → ((n : ℕ) → f n ≡ written (access o.shape running) n)
     → OneSchedule o s.words s.views → get_elem? s.views id ≡ some (view_of o (part thread seen ∷ more))
-    → (w : View) × OneSchedule o (slice_set s.words i (f (slice_index s.words i))) (set s.views id w) × Steps begin running (view_of o (part thread seen ∷ more)) (slice_index s.words i) w
-goes_at o s id thread seen more here reached within begin running from i word f same kept at =
+    → (w : View) × OneSchedule o (slice_set s.words i (f (slice_index s.words i))) (set s.views id w) × Steps begin (view_of o (part thread seen ∷ more)) (slice_index s.words i) w
+goes_at o s id thread seen more place here reached within stood begin running from i word f same kept at =
     let mine = kept.fit id (view_of o (part thread seen ∷ more)) at in
     let b = mine.begin.0 in
     let e = event thread begin in
     let arrived : world_after o (seen ++ b.rest) ≡ Some kept.world = ap (λ es. world_after o es) (sym b.goes_on) ∙ kept.runs in
     let onward : run o.shape (Some here) b.rest ≡ Some kept.world = sym (run_on o.shape (Some (opening o.shape o.threads)) here seen b.rest reached) ∙ arrived in
-    let place : place_of kept.world thread ≡ place_of here thread = same_place o.shape here kept.world b.rest thread b.no_own onward in
-    let now : going o.shape (place_of kept.world thread) begin ≡ Some running = ap (λ p. going o.shape p begin) place ∙ from in
+    let still_there : place_of kept.world thread ≡ place = same_place o.shape here kept.world b.rest thread b.no_own onward ∙ stood in
+    let now : going o.shape (place_of kept.world thread) begin ≡ Some running = ap (λ p. going o.shape p begin) still_there ∙ from in
     let still : length kept.world.places ≡ length here.places = still_threads o.shape here kept.world b.rest onward in
     let inside : thread < length kept.world.places = omega (arith, within, still) in
     let end = moved o.shape kept.world thread running in
@@ -145,6 +145,7 @@ goes_at o s id thread seen more here reached within begin running from i word f 
       record {
         between = b.rest;
         here = kept.world;
+        from = running;
         others = b.no_own;
         reached = arrived;
         within = inside;
@@ -155,27 +156,24 @@ goes_at o s id thread seen more here reached within begin running from i word f 
     )
 
 -- One lemma for all kinds of step, whether they load or exchange: the word becomes what the machine writes
-pub goes : {S : Type 0} (o : Opening) (slots id : ℕ) (carried : List (ℕ × S)) (v : View) (begin : Option Begin) (running : Running) → At begin running v
-    → (i : ℕ) → accessed (access v.opened.shape running) ≡ i → (f : ℕ → ℕ) → ((n : ℕ) → f n ≡ written (access v.opened.shape running) n)
-    → Allows (λ (s : State S View). OneSchedule o s.words s.views) slots id (v, carried) i f (λ found w. Steps begin running v found w.0 × (w.1 ≡ carried))
-goes {S} o slots id carried v begin running a i word f same s kept homes at fits =
-    let opened = (kept.fit id v at).opened in
-    let v' = with_seen v (seen_of v) in
-    let P : View → Type 0 = λ x. (w : View) × OneSchedule o (slice_set s.words i (f (slice_index s.words i))) (set s.views id w) × Steps begin running x (slice_index s.words i) w in
-    let Q : Opening → Type 0 = λ x. OneSchedule x s.words s.views → (w : View) × OneSchedule x (slice_set s.words i (f (slice_index s.words i))) (set s.views id w) × Steps begin running v' (slice_index s.words i) w in
-    let got : P v' = subst Q opened (λ k. goes_at v.opened s id (thread_of v) (seen_of v) (more_in v.parts) a.here a.reached a.within begin running a.goes i word f same k (at ∙ ap some a.seated)) kept in
-    let put = subst P (sym a.seated) got in
-    (put.0, keeps, tt, put.1, (put.2, refl))
-
--- the same at a step that a ghost member names
-pub touches : {S : Type 0} (o : Opening) (slots id : ℕ) (me : Me S View) (b begin : Option Begin) (p running : Running) → b ≡ begin → p ≡ running
-    → (shape : Shape) → me.0.opened.shape ≡ shape → At begin running me.0
+pub goes : {S : Type 0} (o : Opening) (slots id : ℕ) (me : Me S View) (place : Option Running) → IsAt place me.0
+    → (begin : Option Begin) (running : Running) (shape : Shape) → me.0.opened.shape ≡ shape → going shape place begin ≡ Some running
     → (a : Access) → access shape running ≡ a → (f : ℕ → ℕ) → ((n : ℕ) → f n ≡ written a n)
-    → Allows (λ (s : State S View). OneSchedule o s.words s.views) slots id me (accessed a) f (λ found w. Steps b p me.0 found w.0 × (w.1 ≡ me.1))
-touches {S} o slots id me b begin p running same_begin same_place shape same_shape at a is f writes =
-    let here : At b p me.0 = subst (λ (x : Option Begin × Running). At x.0 x.1 me.0) (λ i. (sym same_begin i, sym same_place i)) at in
-    let touch : a ≡ access me.0.opened.shape p = sym is ∙ (λ i. access (sym same_shape i) (sym same_place i)) in
-    goes o slots id me.1 me.0 b p here (accessed a) (ap accessed (sym touch)) f (λ n. writes n ∙ ap (λ (x : Access). written x n) touch)
+    → Allows (λ (s : State S View). OneSchedule o s.words s.views) slots id me (accessed a) f (λ found w. Steps begin me.0 found w.0 × (w.1 ≡ me.1))
+goes {S} o slots id me place stood begin running shape sizes from a is f writes s kept homes at fits =
+    let v = me.0 in
+    let i = accessed a in
+    let opened = (kept.fit id v at).opened in
+    let from' : going v.opened.shape place begin ≡ Some running = ap (λ (x : Shape). going x place begin) sizes ∙ from in
+    let touch : access v.opened.shape running ≡ a = ap (λ (x : Shape). access x running) sizes ∙ is in
+    let writes' : (n : ℕ) → f n ≡ written (access v.opened.shape running) n = λ n. writes n ∙ ap (λ (x : Access). written x n) (sym touch) in
+    let v' = with_seen v (seen_of v) in
+    let P : View → Type 0 = λ x. (w : View) × OneSchedule o (slice_set s.words i (f (slice_index s.words i))) (set s.views id w) × Steps begin x (slice_index s.words i) w in
+    let Q : Opening → Type 0 = λ x. OneSchedule x s.words s.views → (w : View) × OneSchedule x (slice_set s.words i (f (slice_index s.words i))) (set s.views id w) × Steps begin v' (slice_index s.words i) w in
+    let got : P v' = subst Q opened
+    (λ k. goes_at v.opened s id (thread_of v) (seen_of v) (more_in v.parts) place stood.here stood.reached stood.within stood.place_is begin running from' i (ap accessed touch) f writes' k (at ∙ ap some stood.seated)) kept in
+    let put = subst P (sym stood.seated) got in
+    (put.0, keeps, tt, put.1, (put.2, refl))
 
 pub either-cond : (b : Bool) (x y : ℕ) → either b x y ≡ cond b x y
 either-cond true x y = refl

@@ -8,3 +8,5 @@ pub mod Gathered
 pub mod Leftovers
 pub mod Rotation
 pub mod Balance
+pub mod CallScans
+pub mod Made

@@ -1,14 +1,14 @@
 -- The passes of an opening.
-use Rattle.std.proofs.Common.{◌≡◌, ℕ, zero, suc, ◌+◌, ◌-◌, ◌<◌, ◌≤◌, [], ◌∷◌, ◌++◌, Option, None, get_or, replicate, length, refl, sym, ap, ◌∙◌, subst, arith}
+use Rattle.std.proofs.Common.{◌≡◌, ℕ, zero, suc, ◌+◌, ◌-◌, ◌*◌, ◌<◌, ◌≤◌, [], ◌∷◌, ◌++◌, Option, Some, None, get_or, replicate, length, refl, sym, ap, ◌∙◌, subst, arith}
 use Rattle.std.proofs.lemmas.List.{length-replicate}
 use Rattle.atomic_table.specs.Table.{Me}
 use Rattle.kfifo_machine.specs.declared.place.Running.{Running}
-use Rattle.kfifo_machine.specs.Machine.{opening, place_of}
+use Rattle.kfifo_machine.specs.Machine.{World, opening, place_of, word_at}
 use Rattle.kfifo_live.specs.declared.view.Opening.{Opening}
 use Rattle.kfifo_live.specs.declared.view.View.{View}
 use Rattle.kfifo_live.specs.Schedule.{part, view_of, fresh, seen_of, first_part, other_parts}
-use Rattle.kfifo_live.specs.Step.{Idle}
-use Rattle.kfifo_live.specs.Pass.{OpenQueue, new_passes, IsPass}
+use Rattle.kfifo_live.specs.Step.{IsAt}
+use Rattle.kfifo_live.specs.Pass.{OpenQueue, new_passes, IsPass, IsZeroed}
 
 pub fresh_more : (first count : ℕ) → first < count → fresh first (count - first) ≡ part first [] ∷ fresh (first + 1) (count - (first + 1))
 fresh_more first count lt =
@@ -38,8 +38,8 @@ inside o thread lt = let idle : Option Running = None in let n = length-replicat
 
 pub new_pass : (o : Opening) (thread : ℕ) (me : Me (Unit {0}) View) → thread < o.threads → o.threads ≤ 64 → me.0 ≡ view_of o (part thread [] ∷ []) → me.1 ≡ [] → IsPass thread me
 new_pass o thread me lt few is held =
-    let idle : Idle (view_of o (part thread [] ∷ [])) = record { here = opening o.shape o.threads; seated = refl; reached = refl; within = inside o thread lt; idle = idle_at o thread } in
-    record { alone = ap (λ v. v.parts) is ∙ ap (λ es. part thread es ∷ []) (sym (ap seen_of is)); held = held; idle = subst Idle (sym is) idle; few = subst (λ (v : View). v.opened.threads ≤ 64) (sym is) few }
+    let idle : IsAt None (view_of o (part thread [] ∷ [])) = record { here = opening o.shape o.threads; seated = refl; reached = refl; within = inside o thread lt; place_is = idle_at o thread } in
+    record { alone = ap (λ v. v.parts) is ∙ ap (λ es. part thread es ∷ []) (sym (ap seen_of is)); held = held; idle = subst (IsAt None) (sym is) idle; few = subst (λ (v : View). v.opened.threads ≤ 64) (sym is) few }
 
 -- the first part is cut off
 pub cut_first : (o : Opening) (first count : ℕ) (v left right : View) → first < count → v ≡ view_of o (fresh first (count - first)) → left ≡ first_part v → right ≡ other_parts v
@@ -48,3 +48,16 @@ cut_first o first count v left right lt is l r =
     let v' = is ∙ ap (view_of o) (fresh_more first count lt) in
     let n = ap (λ (x : View). length x.parts) v' in
     (l ∙ ap first_part v', r ∙ ap other_parts v', omega (arith, n))
+
+-- the words of an opening
+pub zeroed : (o : Opening) → IsZeroed o
+unfolding opening word_at
+zeroed o world reached index = ap (λ (w : World). get_or w.words index 0) (sym (Some-injective _ _ reached)) ∙ all_zero (2 + o.shape.n * o.shape.k) index
+  where
+    Some-injective : (v w : World) → Some v ≡ Some w → v ≡ w
+    Some-injective v w e = cc
+
+    all_zero : (n i : ℕ) → get_or {A = ℕ} (replicate n 0) i 0 ≡ 0
+    all_zero zero i = refl
+    all_zero (suc n) zero = refl
+    all_zero (suc n) (suc i) = all_zero n i

@@ -3,21 +3,23 @@ use Rattle.std.proofs.Common.{◌≡◌, ℕ, ◌<◌, ◌≤◌, List, [], ◌�
 use Rattle.std.proofs.lemmas.List.{append-nil}
 use Rattle.atomic_table.specs.Table.{Me}
 use Rattle.atomic_table.specs.Seated.{TableId}
+use Rattle.atomic_table.specs.declared.shared.Seat.{Seat}
 use Rattle.kfifo_model.specs.declared.calls.Answer.{Answer}
 use Rattle.kfifo_machine.specs.declared.event.Begin.{Begin}
 use Rattle.kfifo_machine.specs.declared.event.Event.{Event}
 use Rattle.kfifo_machine.specs.declared.place.Next.TheVariants.{Answers}
 use Rattle.kfifo_machine.specs.Machine.{World, opening, place_of, run, word_at}
-use Rattle.kfifo_machine.specs.Runs.{Begins, own}
+use Rattle.kfifo_machine.specs.Runs.{Begins, WholeRun, own}
 use Rattle.kfifo_machine.proofs.Schedules.{own-append, run_on, same_place, still_threads}
 use Rattle.kfifo_live.specs.declared.view.Opening.{Opening}
 use Rattle.kfifo_live.specs.declared.view.Part.{Part}
 use Rattle.kfifo_live.specs.declared.view.View.{View}
-use Rattle.kfifo_live.specs.Schedule.{part, view_of, world_after, thread_in, thread_of, more_in, seen_of, with_seen, AllBegin, first_part, both_parts}
-use Rattle.kfifo_live.specs.Step.{Idle, Looks, Went}
-use Rattle.kfifo_live.specs.Pass.{StartsWith, IsPass, known_of, Finds}
+use Rattle.kfifo_live.specs.Schedule.{part, view_of, world_after, thread_in, thread_of, more_in, seen_of, with_seen, AllBegin, first_part, other_parts, no_part, both_parts}
+use Rattle.kfifo_live.specs.Step.{IsAt, Looks, Leads, Runs}
+use Rattle.kfifo_live.specs.Pass.{Known, StartsWith, IsPass, known_of, Finds}
 use Rattle.kfifo_live.specs.Promise.{KeepsPromise}
-use Rattle.kfifo_live.proofs.Whole.{idle_after}
+use Rattle.kfifo_live.specs.Calls.{Makes}
+use Rattle.kfifo_live.proofs.Whole.{at_next, whole}
 use Rattle.kfifo_linear.proofs.Schedule.{has_legal_order, few_overtake, few_certainly}
 
 -- a pass acts for its thread
@@ -41,10 +43,10 @@ passes_on : (thread : ℕ) (old new : Me (Unit {0}) View) (all : List Event) (en
 passes_on thread old new all end p is held b there =
     let same = pass_thread thread old p in
     let within = subst (λ (t : ℕ). t < length p.idle.here.places) same p.idle.within in
-    let place = ap (λ t. place_of p.idle.here t) (sym same) ∙ p.idle.idle in
+    let place = ap (λ t. place_of p.idle.here t) (sym same) ∙ p.idle.place_is in
     let on = idle_on old.0.opened thread (seen_of old.0) all p.idle.here end p.idle.reached within place b there in
-    let idle : Idle (view_of old.0.opened (part thread all ∷ [])) = record { here = end; seated = refl; reached = there; within = on.0; idle = on.1 } in
-    record { alone = ap (λ v. v.parts) is ∙ ap (λ es. part thread es ∷ []) (sym (ap seen_of is)); held = held; idle = subst Idle (sym is) idle; few = few_same old.0 new.0 (part thread all ∷ []) is p.few }
+    let idle : IsAt None (view_of old.0.opened (part thread all ∷ [])) = record { here = end; seated = refl; reached = there; within = on.0; place_is = on.1 } in
+    record { alone = ap (λ v. v.parts) is ∙ ap (λ es. part thread es ∷ []) (sym (ap seen_of is)); held = held; idle = subst (IsAt None) (sym is) idle; few = few_same old.0 new.0 (part thread all ∷ []) is p.few }
 
 alone_with : (thread : ℕ) (old : Me (Unit {0}) View) (all : List Event) → IsPass thread old → with_seen old.0 all ≡ view_of old.0.opened (part thread all ∷ [])
 alone_with thread old all p = ap (λ (ps : List Part). view_of old.0.opened (part (thread_in ps) all ∷ more_in ps)) p.alone
@@ -70,18 +72,27 @@ finds table table' thread index word old new p l =
     }
 
 -- after a call
-pub called : (begin : Begin) (answer : Answer) (thread : ℕ) (table table' : TableId) (old new : Me (Unit {0}) View) → IsPass thread old
-    → Went (Some begin) table old (Answers answer) table' new → IsPass thread new
-called begin answer thread table table' old new p w =
-    let l = w.leads in
+pub called : (begin : Begin) (answer : Answer) (thread : ℕ) (old new : Me (Unit {0}) View) → IsPass thread old
+    → new.1 ≡ old.1 → Leads (Some begin) old.0 (Answers answer) new.0 → IsPass thread new
+called begin answer thread old new p slots l =
     let all = (seen_of old.0 ++ l.between) ++ l.last ∷ [] in
     let is : new.0 ≡ view_of old.0.opened (part thread all ∷ []) = l.now ∙ alone_with thread old all p in
     record {
       alone = ap (λ v. v.parts) is ∙ ap (λ es. part thread es ∷ []) (sym (ap seen_of is));
-      held = w.same_slots ∙ p.held;
-      idle = idle_after (Some begin) old.0 new.0 answer l;
+      held = slots ∙ p.held;
+      idle = at_next (Some begin) old.0 new.0 (Answers answer) l;
       few = few_same old.0 new.0 (part thread all ∷ []) is p.few;
     }
+
+-- and what was new to it is one whole run
+pub made : (call : Begin) (answer : Answer) (thread : ℕ) (old new : Seat (Unit {0}) View) (now : Known) → IsPass thread old.me → known_of old.table_id thread old.me.0 ≡ now
+    → Runs (Some call) old (Answers answer) new → Makes call answer now (known_of new.table_id thread new.me.0)
+made call answer thread old new now p is runs =
+    let run = whole call old.me.0 new.me.0 answer runs.leads in
+    let o = old.me.0.opened in
+    let of_thread : WholeRun o.shape o.threads thread call answer (seen_of old.me.0) (seen_of new.me.0) =
+    subst (λ (t : ℕ). WholeRun o.shape o.threads t call answer (seen_of old.me.0) (seen_of new.me.0)) (pass_thread thread old.me p) run in
+    subst (λ (k : Known). Makes call answer k (known_of new.table_id thread new.me.0)) is of_thread
 
 -- after a look with another's parts beside its own, which it then gives back
 pub met : (thread word found : ℕ) (old new : Me (Unit {0}) View) (other both seen : View) → IsPass thread old → new.1 ≡ old.1
@@ -93,6 +104,14 @@ met thread word found old new other both seen p held is l kept =
     passes_on thread old new l.all l.world p
     (kept ∙ ap first_part l.afterwards ∙ (λ i. view_of (opened i) (part (thread_in (parts i)) l.all ∷ [])))
     (held ∙ p.held) b.0 (ap (λ (o : Opening). world_after o l.all) (sym opened) ∙ l.reached)
+
+-- the parts that were put behind a pass's own for a look come back as they were
+pub returned : (thread : ℕ) (old : Me (Unit {0}) View) (lent both seen rest back : View) (all : List Event) → IsPass thread old → both ≡ both_parts old.0 lent → seen ≡ with_seen both all → rest ≡ other_parts seen
+    → back ≡ both_parts (no_part lent) rest → back ≡ lent
+returned thread old lent both seen rest back all p both_is seen_is rest_is back_is =
+    let behind : both.parts ≡ part thread (seen_of old.0) ∷ lent.parts = ap (λ (v : View). v.parts) both_is ∙ ap (λ (ps : List Part). ps ++ lent.parts) p.alone in
+    let parts : rest.parts ≡ lent.parts = ap (λ (v : View). v.parts) (rest_is ∙ ap other_parts seen_is) ∙ ap more_in behind in
+    back_is ∙ ap (λ (ps : List Part). view_of lent.opened ps) parts
 
 -- a look at the schedule with the parts of two passes: each has seen a beginning of it with all its own events
 pub both_begin : (whole both : View) (thread other : ℕ) (old : Me (Unit {0}) View) (mine : Me (Unit {0}) View) (index word : ℕ) (seen : View)

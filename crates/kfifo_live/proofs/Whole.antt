@@ -2,8 +2,7 @@
 use Rattle.std.proofs.Common.{◌≡◌, ℕ, ◌<◌, List, [], ◌∷◌, ◌++◌, length, Option, Some, None, Ok, refl, sym, ap, ◌∙◌, subst, append_assoc, arith}
 use Rattle.std.proofs.lemmas.List.{length-set}
 use Rattle.std.proofs.lemmas.Grind.{get_or-set_at}
-use Rattle.atomic_table.specs.Table.{Me}
-use Rattle.atomic_table.specs.Seated.{TableId}
+use Rattle.atomic_table.specs.declared.shared.Seat.{Seat}
 use Rattle.kfifo_words.specs.declared.shape.Shape.{Shape}
 use Rattle.kfifo_model.specs.declared.calls.Answer.{Answer}
 use Rattle.kfifo_machine.specs.declared.event.Begin.{Begin}
@@ -12,15 +11,17 @@ use Rattle.kfifo_machine.specs.declared.place.Running.{Running}
 use Rattle.kfifo_machine.specs.declared.place.Next.{Next}
 use Rattle.kfifo_machine.specs.declared.place.Next.TheVariants.{Goes, Answers}
 use Rattle.kfifo_machine.specs.Program.{access, accessed, advance}
-use Rattle.kfifo_machine.specs.Machine.{World, moved, found, word_at, place_of, place_after, outcome_of, world_of}
+use Rattle.kfifo_machine.specs.declared.place.Access.{Access}
+use Rattle.kfifo_machine.specs.Machine.{World, moved, found, word_at, opening, place_of, place_after, outcome_of, run, world_of}
 use Rattle.kfifo_machine.specs.Runs.{event, own, going, AllGoOn, WholeRun}
 use Rattle.kfifo_machine.specs.Places.{IsPlace, IsFoundBy}
 use Rattle.kfifo_machine.proofs.Places.{found_by, in_table}
-use Rattle.kfifo_machine.proofs.Schedules.{after-snoc, own-append, steps_on}
+use Rattle.kfifo_machine.proofs.Schedules.{after-snoc, own-append, run_on, same_place, steps_on}
 use Rattle.kfifo_machine.proofs.Sound.{sound, going_place, place_is}
 use Rattle.kfifo_live.specs.declared.view.View.{View}
 use Rattle.kfifo_live.specs.Schedule.{world_after, thread_of, seen_of, with_seen}
-use Rattle.kfifo_live.specs.Step.{At, Idle, Steps, IsOwnRun, Leads, Ready, Rests, Stepped, Went, Onward}
+use Rattle.kfifo_live.specs.declared.ring.Ring.{Ring}
+use Rattle.kfifo_live.specs.Step.{IsAt, Steps, IsOwnRun, Leads, IsSeatOf, Rests, Stands, Awaits, Runs, Comes, Stepped, Onward}
 use Rattle.kfifo_live.proofs.Keeps.{own_same}
 
 AllGoOn-append : (xs ys : List Event) → AllGoOn xs → AllGoOn ys → AllGoOn (xs ++ ys)
@@ -48,26 +49,40 @@ length-moved : (shape : Shape) (world : World) (thread : ℕ) (running : Running
 unfolding moved
 length-moved shape world thread running = length-set world.places thread (place_after (advance shape running (found shape world running)))
 
+-- a step is made from where its thread stood
+steps_from : (begin : Option Begin) (place : Option Running) (running : Running) (v : View) (word : ℕ) (w : View) → IsAt place v → (s : Steps begin v word w)
+    → going v.opened.shape place begin ≡ Some running → s.from ≡ running
+steps_from begin place running v word w stood s from =
+    let t = thread_of v in
+    let onward : run v.opened.shape (Some stood.here) s.between ≡ Some s.here = sym (run_on v.opened.shape (Some (opening v.opened.shape v.opened.threads)) stood.here (seen_of v) s.between stood.reached) ∙ s.reached in
+    let there : place_of s.here t ≡ place = same_place v.opened.shape stood.here s.here s.between t s.others onward ∙ stood.place_is in
+    Some-injective s.from running (sym s.goes ∙ ap (λ p. going v.opened.shape p begin) there ∙ from)
+  where
+    Some-injective : (x y : Running) → Some x ≡ Some y → x ≡ y
+    Some-injective x y e = cc
+
 -- one step
-pub one_step : (begin : Option Begin) (running : Running) (v : View) (word : ℕ) (w : View) (next : Next) → Steps begin running v word w → advance v.opened.shape running word ≡ next → Leads begin v next w
-one_step begin running v word w next s is =
+pub one_step : (begin : Option Begin) (place : Option Running) (running : Running) (v : View) (word : ℕ) (w : View) (next : Next) → IsAt place v → Steps begin v word w
+    → going v.opened.shape place begin ≡ Some running → advance v.opened.shape running word ≡ next → Leads begin v next w
+one_step begin place running v word w next stood s from is =
     let t = thread_of v in
     let shape = v.opened.shape in
     let e = event t begin in
-    let come : advance shape running (found shape s.here running) ≡ next = ap (λ n. advance shape running n) (sym s.word_is) ∙ is in
+    let same : s.from ≡ running = steps_from begin place running v word w stood s from in
+    let come : advance shape s.from (found shape s.here s.from) ≡ next = ap (λ n. advance shape s.from n) (sym s.word_is) ∙ ap (λ (r : Running). advance shape r word) same ∙ is in
     let own_are : own t (s.between ++ e ∷ []) ≡ e ∷ [] = own-append t s.between (e ∷ []) ∙ (λ i. s.others i ++ own_same t begin i) in
     record {
       between = s.between;
       last = e;
       before = s.here;
-      here = moved shape s.here t running;
+      here = moved shape s.here t s.from;
       now = s.afterwards;
       last_own = refl;
       own_run = subst (λ (es : List Event). IsOwnRun t begin es) (sym own_are) (one_own t begin);
       reached = s.reached;
-      made = steps_on shape s.here e running s.within s.goes ∙ ap (λ (n : Next). Ok (moved shape s.here t running, outcome_of n)) come;
-      within = let h = length-moved shape s.here t running in omega (arith, s.within, h);
-      place = place-moved shape s.here t running s.within ∙ ap place_after come;
+      made = steps_on shape s.here e s.from s.within s.goes ∙ ap (λ (n : Next). Ok (moved shape s.here t s.from, outcome_of n)) come;
+      within = let h = length-moved shape s.here t s.from in omega (arith, s.within, h);
+      place = place-moved shape s.here t s.from s.within ∙ ap place_after come;
     }
 
 -- the world after the steps
@@ -100,29 +115,17 @@ more_steps begin v w x running next a b = from_there (subst (λ (y : View). Lead
           place = b.place;
         }
 
--- where the steps of a call have led it to a place, its thread goes on from there
-pub at_next : (begin : Option Begin) (v w : View) (running : Running) → Leads begin v (Goes running) w → At None running w
-at_next begin v w running l =
-    let there : At None running (with_seen v ((seen_of v ++ l.between) ++ l.last ∷ [])) = record {
+-- where the steps of a call have led it, its thread is
+pub at_next : (begin : Option Begin) (v w : View) (next : Next) → Leads begin v next w → IsAt (place_after next) w
+at_next begin v w next l =
+    let there : IsAt (place_after next) (with_seen v ((seen_of v ++ l.between) ++ l.last ∷ [])) = record {
       here = l.here;
       seated = refl;
-      reached = reached_here begin v (Goes running) w l;
+      reached = reached_here begin v next w l;
       within = l.within;
-      goes = ap (λ p. going v.opened.shape p None) l.place;
+      place_is = l.place;
     } in
-    subst (At None running) (sym l.now) there
-
--- where they have led it to its answer, its thread is idle
-pub idle_after : (begin : Option Begin) (v w : View) (answer : Answer) → Leads begin v (Answers answer) w → Idle w
-idle_after begin v w answer l =
-    let there : Idle (with_seen v ((seen_of v ++ l.between) ++ l.last ∷ [])) = record {
-      here = l.here;
-      seated = refl;
-      reached = reached_here begin v (Answers answer) w l;
-      within = l.within;
-      idle = l.place;
-    } in
-    subst Idle (sym l.now) there
+    subst (IsAt (place_after next)) (sym l.now) there
 
 -- and from the first step on they are a whole run
 pub whole : (call : Begin) (v w : View) (answer : Answer) → Leads (Some call) v (Answers answer) w → WholeRun v.opened.shape v.opened.threads (thread_of v) call answer (seen_of v) (seen_of w)
@@ -138,118 +141,101 @@ whole call v w answer l = record {
   ends = l.made;
 }
 
--- an idle thread may begin a call
-pub at_first : (begin : Begin) (running : Running) (v : View) → Idle v → going v.opened.shape None (Some begin) ≡ Some running → At (Some begin) running v
-at_first begin running v i is = record {
-  here = i.here;
-  seated = i.seated;
-  reached = i.reached;
-  within = i.within;
-  goes = ap (λ p. going v.opened.shape p (Some begin)) i.idle ∙ is;
-}
-
--- a place from which a thread goes on is one
-pub at_place : (begin : Option Begin) (running : Running) (v : View) → At begin running v → IsPlace v.opened.shape running
-at_place begin running v a =
-    let s = sound v.opened.shape v.opened.threads (seen_of v) a.here a.reached in
-    going_place v.opened.shape (place_of a.here (thread_of v)) begin running (λ r at. place_is v.opened.shape a.here (thread_of v) r s at) a.goes
-
--- the same of a seat of a table
-pub ready_place : (table : TableId) (shape : Shape) (begin : Option Begin) (running : Running) (seat : TableId) (v : View) → Ready table shape begin running seat v → IsPlace shape running
-ready_place table shape begin running seat v r = subst (λ (s : Shape). IsPlace s running) r.shape_is (at_place begin running v r.at)
-
-module _ {S : Type 0} (table : TableId) (shape : Shape) where
-  pub ready_next : (begin : Option Begin) (running next : Running) (seat seat' : TableId) (me me' : Me S View) → Ready table shape begin running seat me.0 → Went begin seat me (Goes next) seat' me'
-      → Ready table shape None next seat' me'.0
-  ready_next begin running next seat seat' me me' r w = record {
-    same_table = w.same_table ∙ r.same_table;
-    size = r.size;
-    shape_is = ap (λ (v : View). v.opened.shape) w.leads.now ∙ r.shape_is;
-    at = at_next begin me.0 me'.0 next w.leads;
-  }
-
-  pub went_one : (begin : Option Begin) (running : Running) (seat seat' : TableId) (me me' : Me S View) (word : ℕ) (next : Next) → Ready table shape begin running seat me.0
-      → Stepped shape begin running seat me word seat' me' → advance shape running word ≡ next → Went begin seat me next seat' me'
-  went_one begin running seat seat' me me' word next r s is = record {
-    same_table = s.same_table;
-    same_slots = s.same_slots;
-    leads = one_step begin running me.0 word me'.0 next s.step (ap (λ (x : Shape). advance x running word) r.shape_is ∙ is);
-  }
-
-pub went_on : {S : Type 0} (begin : Option Begin) (running : Running) (a b c : TableId) (me me' me'' : Me S View) (next : Next) → Went begin a me (Goes running) b me' → Went None b me' next c me'' → Went begin a me next c me''
-went_on begin running a b c me me' me'' next x y = record {
-  same_table = y.same_table ∙ x.same_table;
-  same_slots = y.same_slots ∙ x.same_slots;
-  leads = more_steps begin me.0 me'.0 me''.0 running next x.leads y.leads;
-}
+-- a place at which a thread is, is one
+is_place : (place : Running) (v : View) → IsAt (Some place) v → IsPlace v.opened.shape place
+is_place place v a = place_is v.opened.shape a.here (thread_of v) place (sound v.opened.shape v.opened.threads (seen_of v) a.here a.reached) a.place_is
 
 -- what a step finds in a sound world
-pub found_sound : (begin : Option Begin) (running : Running) (v : View) (word : ℕ) (w : View) → Steps begin running v word w → IsFoundBy v.opened.shape running word
+found_sound : (begin : Option Begin) (v : View) (word : ℕ) (w : View) → (s : Steps begin v word w) → IsFoundBy v.opened.shape s.from word
 unfolding found word_at
-found_sound begin running v word w s =
+found_sound begin v word w s =
     let here = sound v.opened.shape v.opened.threads (seen_of v ++ s.between) s.here s.reached in
-    subst (λ (n : ℕ). IsFoundBy v.opened.shape running n) (sym s.word_is) (found_by v.opened.shape s.here.words s.here.places running here)
+    subst (λ (n : ℕ). IsFoundBy v.opened.shape s.from n) (sym s.word_is) (found_by v.opened.shape s.here.words s.here.places s.from here)
 
--- what the table tells of a step of the seat's thread
-pub told : {S : Type 0} (shape : Shape) (b begin : Option Begin) (p running : Running) (seat seat' : TableId) (me me' : Me S View) (word : ℕ)
-    → b ≡ begin → p ≡ running → me.0.opened.shape ≡ shape → seat' ≡ seat → Steps b p me.0 word me'.0 × (me'.1 ≡ me.1) → Stepped shape begin running seat me word seat' me'
-told shape b begin p running seat seat' me me' word same_begin same_place same_shape same_table tells =
-    let step : Steps begin running me.0 word me'.0 = subst (λ (x : Option Begin × Running). Steps x.0 x.1 me.0 word me'.0) (λ i. (same_begin i, same_place i)) tells.0 in
-    record {
-      same_table = same_table;
-      same_slots = tells.1;
-      step = step;
-      sound = subst (λ (s : Shape). IsFoundBy s running word) same_shape (found_sound begin running me.0 word me'.0 step);
-    }
-
--- the step's word is one of the table
-pub within_table : (table : TableId) (shape : Shape) (begin : Option Begin) (running : Running) (seat : TableId) (v : View) → Ready table shape begin running seat v → (i : ℕ) → accessed (access shape running) ≡ i → i < table.words
-within_table table shape begin running seat v r i is =
-    let below = in_table shape running (ready_place table shape begin running seat v r) in
-    omega (arith, below, r.size, is)
-
--- a step from a place that leads to this
-pub leads_to : {S : Type 0} (table : TableId) (shape : Shape) (begin : Option Begin) (running place : Running) (seat seat' : TableId) (me me' : Me S View) (word : ℕ) (next : Next)
-    → place ≡ running → Ready table shape begin running seat me.0 → Stepped shape begin place seat me word seat' me' → advance shape running word ≡ next → Went begin seat me next seat' me'
-leads_to {S} table shape begin running place seat seat' me me' word next same ready stepped is =
-    went_one table shape begin running seat seat' me me' word next ready (subst (λ (r : Running). Stepped shape begin r seat me word seat' me') same stepped) is
-
--- a seat that rests may make the first step of a call
-pub first_ready : (table : TableId) (shape : Shape) (begin : Begin) (running : Running) (seat : TableId) (v : View) → Rests table shape seat v → going shape None (Some begin) ≡ Some running
-    → Ready table shape (Some begin) running seat v
-first_ready table shape begin running seat v r is = record {
-  same_table = r.same_table;
-  size = r.size;
-  shape_is = r.shape_is;
-  at = at_first begin running v r.idle (ap (λ (s : Shape). going s None (Some begin)) r.shape_is ∙ is);
+-- steps of a call, and then more of it
+pub runs_on : {S : Type 0} {begin : Option Begin} {old mid new : Seat S View} {place : Running} {next : Next} → Runs begin old (Goes place) mid → Comes mid next new → Runs begin old next new
+runs_on {S} {begin} {old} {mid} {new} {place} {next} a b = record {
+  same_table = b.same_table ∙ a.same_table;
+  same_slots = b.same_slots ∙ a.same_slots;
+  leads = more_steps begin old.me.0 mid.me.0 new.me.0 place next a.leads b.leads;
 }
 
--- where a seat stands, it has come from itself
-pub onward_here : {S : Type 0} (table : TableId) (shape : Shape) (next : Next) (running : Running) (seat : TableId) (me : Me S View)
-    → Ready table shape None running seat me.0 → next ≡ Goes running → Onward table shape next seat me seat me
-onward_here table shape next running seat me ready is = record {
-  ready = λ r same. subst (λ (x : Running). Ready table shape None x seat me.0) (Goes-injective running r (sym is ∙ same)) ready;
-  so_far = λ later seat'' me'' went. went;
-}
-  where
-    Goes-injective : (x y : Running) → Goes x ≡ Goes y → x ≡ y
-    Goes-injective x y e = cc
+pub comes_as : {S : Type 0} {begin : Option Begin} {old new : Seat S View} {next later : Next} → Runs begin old next new → next ≡ later → Runs begin old later new
+comes_as {S} {begin} {old} {new} runs is = subst (λ (n : Next). Runs begin old n new) is runs
 
--- and a step leads on
-pub onward_step : {S : Type 0} (table : TableId) (shape : Shape) (next : Next) (running place : Running) (a b c : TableId) (me me' me'' : Me S View) (word : ℕ) (later : Next)
-    → Onward table shape next a me b me' → next ≡ Goes running → place ≡ running → Stepped shape None place b me' word c me'' → advance shape running word ≡ later
-    → ((r : Running) × (later ≡ Goes r)) → Onward table shape later a me c me''
-onward_step {S} table shape next running place a b c me me' me'' word later on is same stepped leads goes_on =
-    let ready = on.ready running is in
-    let went = leads_to table shape None running place b c me' me'' word later same ready stepped leads in
-    record {
-      ready = λ r goes. ready_next table shape None running r b c me' me'' ready (subst (λ (n : Next). Went None b me' n c me'') goes went);
-      so_far = λ n d e more. on.so_far n d e (went_on None goes_on.0 b c d me' me'' e n (subst (λ (x : Next). Went None b me' x c me'') goes_on.1 went) more);
-    }
+module _ {S : Type 0} {ring : Ring} where
+  seat_on : {old new : Seat S View} (begin : Option Begin) (next : Next) → IsSeatOf ring old → Runs begin old next new → IsSeatOf ring new
+  seat_on begin next of runs = record { table = runs.same_table ∙ of.table; size = of.size; sizes = ap (λ (v : View). v.opened.shape) runs.leads.now ∙ of.sizes }
 
--- from one place to the next, and from there
-pub onward_on : {S : Type 0} (table : TableId) (shape : Shape) (next later : Next) (a b c : TableId) (me me' me'' : Me S View) → Onward table shape next a me b me' → Onward table shape later b me' c me'' → Onward table shape later a me c me''
-onward_on table shape next later a b c me me' me'' x y = record {
-  ready = y.ready;
-  so_far = λ n d e went. x.so_far n d e (y.so_far n d e went);
-}
+  -- where steps of a call led the thread, it stands
+  pub stands_on : {begin : Option Begin} {old new : Seat S View} {place : Running} → IsSeatOf ring old → Runs begin old (Goes place) new → Stands ring new place
+  stands_on {begin} {old} {new} {place} of runs =
+      let there = at_next begin old.me.0 new.me.0 (Goes place) runs.leads in
+      let seat = seat_on begin (Goes place) of runs in
+      record { of = seat; at = there; is_place = subst (λ (s : Shape). IsPlace s place) seat.sizes (is_place place new.me.0 there) }
+
+  -- what the table tells of a step
+  pub stepped : {old new : Seat S View} {found word : ℕ} → new.table_id ≡ old.table_id → Steps None old.me.0 found new.me.0 → new.me.1 ≡ old.me.1 → word ≡ found → Stepped ring old word new
+  stepped {old} {new} {found} {word} table steps slots is =
+      let step : Steps None old.me.0 word new.me.0 = subst (λ (n : ℕ). Steps None old.me.0 n new.me.0) (sym is) steps in
+      record {
+        comes = λ place stands. record {
+          same_table = table;
+          same_slots = slots;
+          leads = one_step None (Some place) place old.me.0 word new.me.0 _ stands.at step refl (ap (λ (x : Shape). advance x place word) stands.of.sizes);
+        };
+        sound = λ place stands.
+            subst (λ (x : Shape × Running). IsFoundBy x.0 x.1 word)
+            (λ i. (stands.of.sizes i, steps_from None (Some place) place old.me.0 word new.me.0 stands.at step refl i))
+            (found_sound None old.me.0 word new.me.0 step);
+      }
+
+  -- and of the first step of a call
+  pub begun : {old new : Seat S View} {picked begin : Begin} {found word : ℕ} → Rests ring old → picked ≡ begin → new.table_id ≡ old.table_id → Steps (Some picked) old.me.0 found new.me.0 → new.me.1 ≡ old.me.1 → word ≡ found
+      → (place : Running) → going ring.shape.now None (Some begin) ≡ Some place → Runs (Some begin) old (advance ring.shape.now place word) new
+  begun {old} {new} {picked} {begin} {found} {word} rests same table steps slots is place from =
+      let step : Steps (Some begin) old.me.0 word new.me.0 = subst (λ (x : Begin × ℕ). Steps (Some x.0) old.me.0 x.1 new.me.0) (λ i. (same i, sym is i)) steps in
+      let from' = ap (λ (x : Shape). going x None (Some begin)) rests.of.sizes ∙ from in
+      record {
+        same_table = table;
+        same_slots = slots;
+        leads = one_step (Some begin) None place old.me.0 word new.me.0 _ rests.idle step from' (ap (λ (x : Shape). advance x place word) rests.of.sizes);
+      }
+
+  -- the step that a place asks for
+  pub awaits : {seat : Seat S View} {place : Running} {next : Access} → Stands ring seat place → access ring.shape.now place ≡ next → Awaits ring seat next
+  awaits {seat} {place} stands is = record { place = place; stands = stands; next_is = is }
+
+  -- the step from where the thread stood, and where it leads
+  pub comes : {old new : Seat S View} {place : Running} {word : ℕ} {next : Next} → Stands ring old place → Stepped ring old word new → advance ring.shape.now place word ≡ next → Comes old next new
+  comes {old} {new} {place} stands stepped is = subst (λ (n : Next). Comes old n new) is (stepped.comes place stands)
+
+  pub goes_to : {old new : Seat S View} {place later : Running} {word : ℕ} → Stands ring old place → Stepped ring old word new → advance ring.shape.now place word ≡ Goes later → Stands ring new later
+  goes_to stands stepped is = stands_on stands.of (comes stands stepped is)
+
+  -- and what follows it
+  pub comes_by : {old mid new : Seat S View} {place : Running} {word : ℕ} {next : Next} (later : Running) → Stands ring old place → Stepped ring old word mid → advance ring.shape.now place word ≡ Goes later
+      → Comes mid next new → Comes old next new
+  comes_by later stands stepped is more = runs_on (comes stands stepped is) more
+
+  -- where the thread stands, it has come from there
+  pub onward_here : {seat : Seat S View} {place : Running} → Stands ring seat place → Onward ring seat place seat
+  onward_here stands = record { stands = stands; so_far = λ next later more. more }
+
+  -- and a step leads on
+  pub onward_step : {old mid new : Seat S View} {place later : Running} {word : ℕ} → Onward ring old place mid → Stepped ring mid word new → advance ring.shape.now place word ≡ Goes later → Onward ring old later new
+  onward_step on stepped is = record {
+    stands = goes_to on.stands stepped is;
+    so_far = λ next last more. on.so_far next last (runs_on (comes on.stands stepped is) more);
+  }
+
+  pub onward_comes : {old mid new : Seat S View} {place : Running} {word : ℕ} {next : Next} → Onward ring old place mid → Stepped ring mid word new → advance ring.shape.now place word ≡ next → Comes old next new
+  onward_comes {old} {mid} {new} {place} {word} {next} on stepped is = on.so_far next new (comes on.stands stepped is)
+
+  -- the next step's word is one of the table
+  pub within_table : {seat : Seat S View} {next : Access} → (a : Awaits ring seat next) → accessed next < ring.words.now.table_id.words
+  within_table {seat} {next} a =
+      let below = in_table ring.shape.now a.place a.stands.is_place in
+      let same = ap accessed a.next_is in
+      let size = a.stands.of.size in
+      omega (arith, below, size, same)

@@ -1,6 +1,10 @@
 pub mod Schedule
 pub mod Step
+pub mod Scans
+pub mod Rounds
 pub mod Left
 pub mod Promise
 pub mod Pass
 pub mod Balance
+pub mod Calls
+pub mod Faults

@@ -1,5 +1,5 @@
 -- A queue and its passes, as callers see them.
-use Rattle.std.specs.Prelude.{◌<◌, ◌≤◌, ◌≡◌, ℕ, zero, suc, List, [], ◌∷◌, Some, ◌+◌, ◌++◌, length, true, ◌==◌}
+use Rattle.std.specs.Prelude.{◌<◌, ◌≤◌, ◌≡◌, ℕ, zero, suc, List, [], ◌∷◌, Some, None, ◌+◌, ◌++◌, length, true, ◌==◌}
 use Rattle.std.specs.List.{list_any}
 use Rattle.atomic_table.specs.Table.{Me}
 use Rattle.atomic_table.specs.Seated.{TableId}
@@ -12,7 +12,7 @@ use Rattle.kfifo_live.specs.Schedule.{part, world_after, seen_of, AllBegin}
 use Rattle.kfifo_live.specs.Left.{items_left}
 use Rattle.kfifo_live.specs.Promise.{KeepsPromise}
 use Rattle.kfifo_live.specs.Balance.{times, puts, undos, takes}
-use Rattle.kfifo_live.specs.Step.{Idle}
+use Rattle.kfifo_live.specs.Step.{IsAt}
 
 -- an open queue: its table, and what it was opened with
 pub record OpenQueue : Type 0 where
@@ -37,8 +37,12 @@ known_of table thread v = record { table = table; opened = v.opened; thread = th
 pub record IsPass (thread : ℕ) (me : Me (Unit {0}) View) : Type 0 where
   pub alone : me.0.parts ≡ part thread (seen_of me.0) ∷ []
   pub held : me.1 ≡ []
-  pub idle : Idle me.0
+  pub idle : IsAt None me.0
   pub few : me.0.opened.threads ≤ 64
+
+-- after the empty schedule each word of the opening is 0
+abbrev pub IsZeroed : Opening → Type 0
+IsZeroed o = (world : World) → world_after o [] ≡ Some world → (index : ℕ) → word_at world index ≡ 0
 
 -- the pass came from this opening
 abbrev pub IsOf : OpenQueue → Known → Type 0

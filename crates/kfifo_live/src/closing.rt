@@ -8,11 +8,10 @@ ghost use Rattle.kfifo_live.specs.Pass.{queue_of, AllOf, IsGathered, Closes, IsC
 ghost use Rattle.kfifo_live.specs.declared.fault.CloseFault.TheVariants.{MissingPass};
 
 use crate::fault::CloseFault;
-use crate::law::Law;
 use crate::queue::{Pass, Queue};
 use crate::seats::gather;
-use crate::view::{Opening, View};
-use atomic_table::{Closed, Seat, Shared};
+use crate::view::{ThreadSeat, Words};
+use atomic_table::Closed;
 use kfifo_words::{Ends, Shape, Word};
 use std::alloc::{AllocError, Global};
 use std::marker::Brand;
@@ -78,11 +77,7 @@ fn read_items(alloc: Global, shape: &Shape, words: &[u64]) -> Result<Vec<u32>, A
 }
 
 /// A seat with the parts of all passes.
-fn gather_all(
-    shared: &Shared<(), View, Opening, Law>,
-    mut seat: Seat<(), View>,
-    mut passes: Vec<Pass>,
-) -> Seat<(), View>
+fn gather_all(shared: &Words, mut seat: ThreadSeat, mut passes: Vec<Pass>) -> ThreadSeat
     requires table { (seat.table_id ≡ shared.now.table_id) × (0 < shared.now.table_id.words) }
     requires of { AllOf (queue_of seat.table_id seat.me.0.opened) passes.items }
     ensures table { result.table_id ≡ seat.table_id }
@@ -104,7 +99,7 @@ fn gather_all(
 /// promise: a legal order of them, in which no item is overtaken k times where items are distinct.
 ///
 /// MissingPass where not each pass of the opening is there once, which is tested first; Memory where
-/// a growth was refused. The items are then lost to the caller.
+/// an allocation failed. The items are then lost to the caller.
 pub fn close(alloc: Global, queue: Queue, mut passes: Vec<Pass>) -> Result<Vec<u32>, CloseFault>
     requires { AllOf queue passes.items }
     ensures ok { IfOk result (λ items. Closes queue passes.items items.items) }

@@ -1,15 +1,31 @@
 //! Why a queue was not opened, or not closed.
 ghost use Rattle.std.specs.Prelude.{◌≡◌};
+ghost use Rattle.kfifo_live.specs.Faults.{open_fault_number, close_fault_number};
 
 use std::alloc::AllocError;
+use thiserror::Error;
 
 /// Why a queue was not opened. Nothing is kept after a refusal.
-#[derive(Clone, Copy, PartialEq, Eq, Debug)]
+#[derive(Clone, Copy, PartialEq, Eq, Debug, Error)]
 pub enum OpenFault {
-    /// The number of threads is not 1 to 64.
-    ThreadsOutOfRange = 1,
-    /// A growth was refused.
-    Memory = 2,
+    /// 1: the number of threads is not 1 to 64.
+    #[error("the number of threads is not 1 to 64")]
+    ThreadsOutOfRange,
+    /// 2: an allocation failed.
+    #[error("out of memory")]
+    Memory,
+}
+
+impl OpenFault {
+    /// The fault's number, 1 or 2.
+    pub fn number(self) -> u32
+        ensures { result ≡ open_fault_number self }
+    {
+        match self {
+            OpenFault::ThreadsOutOfRange => 1,
+            OpenFault::Memory => 2,
+        }
+    }
 }
 
 impl From<AllocError> for OpenFault {
@@ -23,12 +39,26 @@ impl From<AllocError> for OpenFault {
 }
 
 /// Why a queue was lost at its end.
-#[derive(Clone, Copy, PartialEq, Eq, Debug)]
+#[derive(Clone, Copy, PartialEq, Eq, Debug, Error)]
 pub enum CloseFault {
-    /// A growth was refused.
-    Memory = 1,
-    /// Not each pass of the opening is there once.
-    MissingPass = 2,
+    /// 1: an allocation failed.
+    #[error("out of memory")]
+    Memory,
+    /// 2: not each pass of the opening is there once.
+    #[error("not each pass of the queue's opening was given back once")]
+    MissingPass,
+}
+
+impl CloseFault {
+    /// The fault's number, 1 or 2.
+    pub fn number(self) -> u32
+        ensures { result ≡ close_fault_number self }
+    {
+        match self {
+            CloseFault::Memory => 1,
+            CloseFault::MissingPass => 2,
+        }
+    }
 }
 
 impl From<AllocError> for CloseFault {

@@ -6,20 +6,18 @@ mod closing;
 mod dequeue;
 mod enqueue;
 mod fault;
-mod law;
 mod meeting;
 mod opening;
 mod queue;
+mod ring;
+mod rule;
 mod scan;
 mod seats;
 #[cfg(test)]
 mod tests;
-mod touch;
 mod view;
 
 pub use closing::close;
 pub use fault::{CloseFault, OpenFault};
-pub use law::{All, Gather, Glance, Going, Law, Opened, Own, Rest};
 pub use meeting::meet;
 pub use queue::{Pass, Queue};
-pub use view::{Opening, Part, View};

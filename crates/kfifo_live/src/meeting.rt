@@ -6,7 +6,7 @@ ghost use Rattle.kfifo_live.specs.Pass.{IsOf, IsSame, StartsWith};
 ghost use Rattle.kfifo_live.specs.Promise.{KeepsPromise};
 
 use crate::queue::{Pass, Queue};
-use crate::seats::{gather, give_all, give_rest, glance};
+use crate::seats::{gather, give_all, give_rest, observe};
 use std::marker::Brand;
 
 /// The second pass has then seen all that the first had, by one load of the ends word, which is no
@@ -31,6 +31,7 @@ pub fn meet(queue: &Queue, first: &mut Pass, second: &mut Pass)
     let shared = &queue.table.shared;
     let whole = give_all(shared, &mut first.seat);
     gather::<Brand>(shared, &mut second.seat, whole);
-    glance(shared, &mut second.seat, 0);
-    first.seat = give_rest(shared, &mut second.seat);
+    observe(shared, &mut second.seat, 0);
+    let rest = give_rest(shared, &mut second.seat);
+    gather::<Brand>(shared, &mut first.seat, rest);
 }

@@ -2,15 +2,14 @@
 ghost use Rattle.std.specs.Prelude.{◌≡◌, ◌<◌, ◌≤◌, ◌+◌, ◌⊎◌, ◌↔◌, [], IfOk, IsErrOf, length};
 ghost use Rattle.kfifo_linear.specs.Headline.{HasLegalOrder, FewOvertake, FewCertainlyOvertake};
 ghost use Rattle.kfifo_live.specs.Schedule.{opening, fresh, view_of};
-ghost use Rattle.kfifo_live.specs.Pass.{queue_of, new_passes};
+ghost use Rattle.kfifo_live.specs.Pass.{IsZeroed, queue_of, new_passes};
 ghost use Rattle.kfifo_live.specs.declared.fault.OpenFault.TheVariants.{ThreadsOutOfRange};
 
 use crate::fault::OpenFault;
-use crate::law::Law;
 use crate::queue::{Pass, Queue};
 use crate::seats::give_rest;
-use crate::view::{Opening, View};
-use atomic_table::{Seat, Shared, Table};
+use crate::view::{Opening, ThreadSeat, Words};
+use atomic_table::Table;
 use kfifo_machine::MAX_THREADS;
 use kfifo_words::Shape;
 use std::alloc::{AllocError, Global};
@@ -18,8 +17,8 @@ use std::alloc::{AllocError, Global};
 /// A pass for each thread, which has seen nothing.
 fn deal(
     alloc: Global,
-    shared: &Shared<(), View, Opening, Law>,
-    mut seat: Seat<(), View>,
+    shared: &Words,
+    mut seat: ThreadSeat,
     threads: u32,
 ) -> Result<Vec<Pass>, AllocError>
     requires table { (seat.table_id ≡ shared.now.table_id) × (0 < shared.now.table_id.words) }
@@ -37,16 +36,18 @@ fn deal(
 }
 
 impl Queue {
-    /// A queue with all words 0, and one pass for each thread, numbered from 0.
+    /// A queue, and one pass for each thread, numbered from 0. The passes have seen the empty schedule,
+    /// after which all words are 0.
     ///
-    /// ThreadsOutOfRange where the number of threads is not 1 to 64; Memory where a growth was
-    /// refused. Nothing is kept after a refusal.
+    /// ThreadsOutOfRange where the number of threads is not 1 to 64; Memory where an allocation
+    /// failed. Nothing is kept after a refusal.
     ///
     /// Every schedule of such a queue, and so what any of its passes will have seen, has a legal
     /// order of its calls; in it, where the items are distinct, none is overtaken k times.
     pub fn open(alloc: Global, shape: Shape, threads: u32) -> Result<(Queue, Vec<Pass>), OpenFault>
         ensures ok { IfOk result (λ r. (r.0.opened ≡ opening shape threads) × (r.1.items ≡ new_passes r.0 0 threads)) }
         ensures threads { IsErrOf result ThreadsOutOfRange ↔ ((threads ≡ 0) ⊎ (64 < threads)) }
+        ensures zeroed { IfOk result (λ r. IsZeroed r.0.opened) }
         ensures legal { IfOk result (λ r. HasLegalOrder shape threads) }
         ensures few_overtake { IfOk result (λ r. FewOvertake shape threads) }
         ensures few_certainly_overtake { IfOk result (λ r. FewCertainlyOvertake shape threads) }

@@ -1,19 +1,17 @@
 //! A running queue and its passes.
 ghost use Rattle.std.specs.Prelude.{◌≡◌, ◌<◌, ◌≤◌, ◌+◌, ◌*◌, ◌^◌};
-ghost use Rattle.kfifo_machine.specs.Runs.{WholeRun};
-ghost use Rattle.kfifo_machine.specs.Laws.{FewEvents, LeavesNone};
-ghost use Rattle.kfifo_machine.specs.Causes.{FullHasCause, WornHasCause};
-ghost use Rattle.kfifo_machine.specs.Rounds.{BusyHasCause, BusyIsDisturbed};
+ghost use Rattle.kfifo_machine.specs.Laws.{IsRefusal};
 ghost use Rattle.kfifo_machine.specs.declared.event.Begin.TheVariants.{Enqueue, Dequeue};
 ghost use Rattle.kfifo_live.specs.Schedule.{opening};
+ghost use Rattle.kfifo_live.specs.Calls.{Makes, TakesFewSteps, HasCause, IsDisturbed, LeavesNoItem};
 ghost use Rattle.kfifo_live.specs.Promise.{KeepsPromise};
 ghost use Rattle.kfifo_live.specs.Pass.{OpenQueue, Known, queue_of, known_of, IsPass, IsOf, IsSame, Finds};
 
-use crate::law::Law;
-use crate::seats::glance;
-use crate::view::{Opening, View};
-use crate::{dequeue, enqueue};
-use atomic_table::{Seat, Table};
+use crate::ring::Ring;
+use crate::rule::QueueRule;
+use crate::seats::observe;
+use crate::view::{Opening, ThreadSeat, View};
+use atomic_table::Table;
 use kfifo_model::Answer;
 use kfifo_words::Shape;
 use std::alloc::Global;
@@ -24,7 +22,7 @@ use std::marker::Model;
 /// Clauses see it as its table and what it was opened with.
 #[derive(Drop)]
 pub struct Queue {
-    pub(crate) table: Table<(), View, Opening, Law, Global>,
+    pub(crate) table: Table<(), View, Opening, QueueRule, Global>,
     pub(crate) shape: Shape,
     pub(crate) threads: u32,
 }
@@ -47,7 +45,7 @@ impl Model for Queue {
 #[derive(Drop)]
 pub struct Pass {
     pub(crate) thread: u32,
-    pub(crate) seat: Seat<(), View>,
+    pub(crate) seat: ThreadSeat,
 }
 
 impl Model for Pass {
@@ -87,29 +85,25 @@ impl Pass {
     ///
     /// What the pass has then seen keeps the promise: a legal order of its calls, this one among
     /// them, in which no item is overtaken k times where items are distinct.
+    #[inline(always)]
     pub fn enqueue(&mut self, queue: &Queue, item: u32, start: u32, turns: u16) -> Answer
         requires of { IsOf queue.now self.old }
         requires item { (1 ≤ item) × (item < 2 ^ 24) }
         requires start { start < queue.now.opened.shape.k }
         requires turns { 1 ≤ turns }
         ensures same { IsSame self.old self.new }
-        ensures run { WholeRun self.old.opened.shape self.old.opened.threads self.old.thread (Enqueue item start turns) result self.old.seen self.new.seen }
+        ensures run { Makes (Enqueue item start turns) result self.old self.new }
+        ensures few_steps { TakesFewSteps (Enqueue item start turns) self.old self.new }
+        ensures cause { HasCause (Enqueue item start turns) result self.old self.new }
+        ensures disturbed { result ≡ Answer.Busy → self.old.opened.shape.n + 2 ≤ turns → IsDisturbed self.old self.new }
+        ensures leaves_none { IsRefusal result → LeavesNoItem self.old self.new }
         ensures promise { KeepsPromise self.new.opened self.new.seen }
-        ensures few_events { FewEvents self.old.opened.shape self.old.opened.threads }
-        ensures leaves_none { LeavesNone self.old.opened.shape self.old.opened.threads }
-        ensures full_has_cause { FullHasCause self.old.opened.shape self.old.opened.threads }
-        ensures worn_has_cause { WornHasCause self.old.opened.shape self.old.opened.threads }
-        ensures busy_has_cause { BusyHasCause self.old.opened.shape self.old.opened.threads }
-        ensures busy_is_disturbed { BusyIsDisturbed self.old.opened.shape self.old.opened.threads }
     {
-        enqueue::enqueue(
-            &queue.table.shared,
-            &mut self.seat,
-            &queue.shape,
-            item,
-            start,
-            turns,
-        )
+        let ring = Ring {
+            words: &queue.table.shared,
+            shape: &queue.shape,
+        };
+        ring.enqueue(&mut self.seat, item, start, turns)
     }
 
     /// Takes one of the k oldest items.
@@ -122,25 +116,24 @@ impl Pass {
     ///
     /// What the pass has then seen keeps the promise: a legal order of its calls, this one among
     /// them, in which no item is overtaken k times where items are distinct.
+    #[inline(always)]
     pub fn dequeue(&mut self, queue: &Queue, start: u32, turns: u16) -> Answer
         requires of { IsOf queue.now self.old }
         requires start { start < queue.now.opened.shape.k }
         requires turns { 1 ≤ turns }
         ensures same { IsSame self.old self.new }
-        ensures run { WholeRun self.old.opened.shape self.old.opened.threads self.old.thread (Dequeue start turns) result self.old.seen self.new.seen }
+        ensures run { Makes (Dequeue start turns) result self.old self.new }
+        ensures few_steps { TakesFewSteps (Dequeue start turns) self.old self.new }
+        ensures cause { HasCause (Dequeue start turns) result self.old self.new }
+        ensures disturbed { result ≡ Answer.Busy → self.old.opened.shape.n + 2 ≤ turns → IsDisturbed self.old self.new }
+        ensures leaves_none { IsRefusal result → LeavesNoItem self.old self.new }
         ensures promise { KeepsPromise self.new.opened self.new.seen }
-        ensures few_events { FewEvents self.old.opened.shape self.old.opened.threads }
-        ensures worn_has_cause { WornHasCause self.old.opened.shape self.old.opened.threads }
-        ensures busy_has_cause { BusyHasCause self.old.opened.shape self.old.opened.threads }
-        ensures busy_is_disturbed { BusyIsDisturbed self.old.opened.shape self.old.opened.threads }
     {
-        dequeue::dequeue(
-            &queue.table.shared,
-            &mut self.seat,
-            &queue.shape,
-            start,
-            turns,
-        )
+        let ring = Ring {
+            words: &queue.table.shared,
+            shape: &queue.shape,
+        };
+        ring.dequeue(&mut self.seat, start, turns)
     }
 
     /// One load of the word with this index: 0 is the ends word, then come the slots, segment by
@@ -153,6 +146,6 @@ impl Pass {
         ensures finds { Finds self.old self.new index result }
         ensures promise { KeepsPromise self.new.opened self.new.seen }
     {
-        glance(&queue.table.shared, &mut self.seat, index)
+        observe(&queue.table.shared, &mut self.seat, index)
     }
 }

@@ -1,12 +1,140 @@
-//! The order in which a scan looks at the slots of a segment.
+//! Scans of a segment.
+ghost use Rattle.std.specs.Prelude.{◌≡◌, ◌<◌, ◌≤◌, ◌+◌, ℕ, Bool};
+ghost use Rattle.kfifo_live.specs.Step.{Comes, Stands};
+ghost use Rattle.kfifo_live.specs.Scans.{Row, Scan, after_row, is_empty, is_filled};
 
-/// Slots of a segment that stand side by side in the table.
-#[derive(Clone, Copy)]
-pub(crate) struct Row {
-    /// How many slots the scan has seen before them.
-    pub(crate) offset: u32,
-    /// The index of the first one's word.
-    pub(crate) index: usize,
-    /// How many they are.
-    pub(crate) count: u32,
+use crate::ring::Ring;
+use crate::view::ThreadSeat;
+use kfifo_machine::Found;
+use kfifo_words::Word;
+
+/// What a scan looks for. It stops at the first such word.
+pub(crate) trait Wanted {
+    ghost stops: { ℕ → Bool };
+
+    /// Whether the scan stops at this word.
+    fn is_wanted(word: Word) -> bool
+        ensures { result ≡ Self.stops word };
+}
+
+/// A scan for an empty slot.
+pub(crate) struct Empty;
+
+impl Wanted for Empty {
+    ghost stops = { is_empty };
+
+    #[inline(always)]
+    fn is_wanted(word: Word) -> bool {
+        word.value() == 0
+    }
+}
+
+/// A scan for a filled slot.
+pub(crate) struct Filled;
+
+impl Wanted for Filled {
+    ghost stops = { is_filled };
+
+    #[inline(always)]
+    fn is_wanted(word: Word) -> bool {
+        word.value() != 0
+    }
+}
+
+impl Ring<'_> {
+    /// Looks for a filled slot, or for an empty one, among `count` slots side by side, at least one.
+    #[inline(always)]
+    fn scan_row<W: Wanted>(self, seat: &mut ThreadSeat, first: usize, count: u32) -> Found
+        requires row { (row : Row self.shape.now W.stops first count) × Stands self seat.old (row.scan.looking row.offset) }
+        ensures { (row : Row self.entry.shape.now W.stops first count) → Stands self.entry seat.old (row.scan.looking row.offset) → Comes seat.old (after_row row result) seat.new }
+    {
+        let end = first + count as usize;
+        let mut index = first;
+        'slots: loop {
+            let word = self.load(seat, index);
+            if W::is_wanted(word) {
+                return Found::Slot { index, word };
+            }
+            index += 1;
+            if index == end {
+                return Found::Nothing;
+            }
+        }
+    }
+
+    /// The same, two slots at a time, which takes fewer instructions where the row is long.
+    ///
+    /// It is for the second row of a scan, which few scans come to but those of an empty segment.
+    #[inline(always)]
+    fn scan_row_by_two<W: Wanted>(self, seat: &mut ThreadSeat, first: usize, count: u32) -> Found
+        requires row { (row : Row self.shape.now W.stops first count) × Stands self seat.old (row.scan.looking row.offset) }
+        ensures { (row : Row self.entry.shape.now W.stops first count) → Stands self.entry seat.old (row.scan.looking row.offset) → Comes seat.old (after_row row result) seat.new }
+    {
+        let end = first + count as usize;
+        let mut index = first;
+        if count % 2 == 1 {
+            let word = self.load(seat, index);
+            if W::is_wanted(word) {
+                return Found::Slot { index, word };
+            }
+            index += 1;
+            if index == end {
+                return Found::Nothing;
+            }
+        }
+        'pairs: loop {
+            let word = self.load(seat, index);
+            if W::is_wanted(word) {
+                return Found::Slot { index, word };
+            }
+            let next = self.load(seat, index + 1);
+            if W::is_wanted(next) {
+                return Found::Slot {
+                    index: index + 1,
+                    word: next,
+                };
+            }
+            index += 2;
+            if index == end {
+                return Found::Nothing;
+            }
+        }
+    }
+
+    /// Looks for a filled slot of a segment, or for an empty one: at `limit` slots, cyclically from `start`.
+    #[inline(always)]
+    pub(crate) fn scan<W: Wanted>(
+        self,
+        seat: &mut ThreadSeat,
+        segment: u32,
+        start: u32,
+        limit: u32,
+    ) -> Found
+        requires segment { segment < self.shape.now.n }
+        requires start { start < self.shape.now.k }
+        requires limit { (1 ≤ limit) × (limit ≤ self.shape.now.k) }
+        requires scan { (scan : Scan self.shape.now W.stops segment start limit) × Stands self seat.old (scan.looking 0) }
+        ensures { (scan : Scan self.entry.shape.now W.stops segment start limit) → Stands self.entry seat.old (scan.looking 0) → Comes seat.old (scan.leads result) seat.new }
+    {
+        let origin = self.shape.slot_index(segment, 0);
+        let index = origin + start as usize;
+        let word = self.load(seat, index);
+        if W::is_wanted(word) {
+            return Found::Slot { index, word };
+        }
+        if limit == 1 {
+            return Found::Nothing;
+        }
+        let upper = (limit - 1).min(self.shape.k() - start - 1);
+        if upper == 0 {
+            return self.scan_row_by_two::<W>(seat, origin, limit - 1);
+        }
+        if let Found::Slot { index, word } = self.scan_row::<W>(seat, index + 1, upper) {
+            return Found::Slot { index, word };
+        }
+        if upper + 1 == limit {
+            return Found::Nothing;
+        }
+        self.scan_row_by_two::<W>(seat, origin, limit - 1 - upper)
+    }
 }

@@ -3,29 +3,21 @@ ghost use Rattle.std.specs.Prelude.{◌≡◌, ◌<◌, ◌≤◌, [], length};
 ghost use Rattle.kfifo_live.specs.Schedule.{IsSeated, first_part, other_parts, no_part, both_parts};
 ghost use Rattle.kfifo_live.specs.Step.{Looks};
 
-use crate::law::{All, Gather, Glance, Law, Opened, Rest};
-use crate::view::{Opening, View};
-use atomic_table::{Seat, Shared};
+use crate::rule::{All, Gather, Observation, Opened, Rest};
+use crate::view::{ThreadSeat, Words};
 
 /// One load of a word. All that was done up to now was then seen.
-pub(crate) fn glance(
-    shared: &Shared<(), View, Opening, Law>,
-    seat: &mut Seat<(), View>,
-    index: usize,
-) -> u64
+pub(crate) fn observe(shared: &Words, seat: &mut ThreadSeat, index: usize) -> u64
     requires table { (seat.old.table_id ≡ shared.now.table_id) × (index < shared.now.table_id.words) }
     requires seated { IsSeated seat.old.me.0 }
     ensures same { (seat.new.table_id ≡ seat.old.table_id) × (seat.new.me.1 ≡ seat.old.me.1) }
     ensures looks { Looks index result seat.old.me.0 seat.new.me.0 }
 {
-    shared.load::<Glance>(seat, index)
+    shared.load::<Observation>(seat, index)
 }
 
 /// Keeps the first part of a seat's view, and gives a new seat the others.
-pub(crate) fn give_rest(
-    shared: &Shared<(), View, Opening, Law>,
-    seat: &mut Seat<(), View>,
-) -> Seat<(), View>
+pub(crate) fn give_rest(shared: &Words, seat: &mut ThreadSeat) -> ThreadSeat
     requires table { (seat.old.table_id ≡ shared.now.table_id) × (0 < shared.now.table_id.words) }
     requires some { 1 ≤ length seat.old.me.0.parts }
     ensures same { (seat.new.table_id ≡ seat.old.table_id) × (seat.new.me.1 ≡ seat.old.me.1) }
@@ -36,10 +28,7 @@ pub(crate) fn give_rest(
 }
 
 /// Gives a new seat the whole view, and keeps nothing.
-pub(crate) fn give_all(
-    shared: &Shared<(), View, Opening, Law>,
-    seat: &mut Seat<(), View>,
-) -> Seat<(), View>
+pub(crate) fn give_all(shared: &Words, seat: &mut ThreadSeat) -> ThreadSeat
     requires table { (seat.old.table_id ≡ shared.now.table_id) × (0 < shared.now.table_id.words) }
     ensures same { (seat.new.table_id ≡ seat.old.table_id) × (seat.new.me.1 ≡ seat.old.me.1) }
     ensures kept { seat.new.me.0 ≡ no_part seat.old.me.0 }
@@ -49,11 +38,7 @@ pub(crate) fn give_all(
 }
 
 /// Takes the parts of another seat, behind its own.
-pub(crate) fn gather<O: Opened>(
-    shared: &Shared<(), View, Opening, Law>,
-    seat: &mut Seat<(), View>,
-    other: Seat<(), View>,
-)
+pub(crate) fn gather<O: Opened>(shared: &Words, seat: &mut ThreadSeat, other: ThreadSeat)
     requires table { (seat.old.table_id ≡ shared.now.table_id) × (0 < shared.now.table_id.words) }
     requires other { (other.table_id ≡ shared.now.table_id) × (other.me.1 ≡ []) }
     requires picked { O.opened ≡ seat.old.me.0.opened }

@@ -1,7 +1,15 @@
 //! What the seats of a table know. No value of `Part` or `View` is ever made: they live in proofs alone.
+use crate::rule::QueueRule;
+use atomic_table::{Seat, Shared};
 use kfifo_machine::Event;
 use kfifo_words::Shape;
 use std::collections::LinkedList;
+
+/// The words of a queue, which its threads share.
+pub type Words = Shared<(), View, Opening, QueueRule>;
+
+/// What a thread makes its steps with.
+pub type ThreadSeat = Seat<(), View>;
 
 /// What a queue was opened with.
 #[derive(Clone, Copy)]

@@ -1,6 +1,8 @@
 //! Events of a schedule.
+ghost use Rattle.std.specs.Prelude.{◌≡◌};
 
 use kfifo_model::Answer;
+use thiserror::Error;
 
 /// What an idle thread begins.
 #[derive(Clone, Copy, PartialEq, Eq, Debug)]
@@ -33,16 +35,38 @@ pub enum Outcome {
 }
 
 /// Why an event cannot be made. The first fault in this order is answered.
-#[derive(Clone, Copy, PartialEq, Eq, Debug)]
+#[derive(Clone, Copy, PartialEq, Eq, Debug, Error)]
 pub enum NotEnabled {
-    /// No thread has this number.
-    NoSuchThread = 1,
-    /// The thread is idle, and the event begins nothing.
-    Idle = 2,
-    /// The thread is inside a call, and the event begins another.
-    InCall = 3,
-    /// The start is not below k, there are no turns, or the item is out of range.
-    BadCall = 4,
-    /// A tick, where the clock is 2^64 - 1.
-    ClockSpent = 5,
+    /// 1: no thread has this number.
+    #[error("no thread has this number")]
+    NoSuchThread,
+    /// 2: the thread is idle, and the event begins nothing.
+    #[error("the thread is in no call, and the event begins none")]
+    Idle,
+    /// 3: the thread is inside a call, and the event begins another.
+    #[error("the thread is in a call, and the event begins another")]
+    InCall,
+    /// 4: the start is not below k, there are no turns, or the item is out of range.
+    #[error("the call's start is not 0 to k - 1, its turns are 0, or its item is not 1 to 16,777,215")]
+    BadCall,
+    /// 5: a tick, where the clock is 2^64 - 1.
+    #[error("the clock stands at its greatest value, 2^64 - 1")]
+    ClockSpent,
+}
+
+impl NotEnabled {
+    ghost use Rattle.kfifo_machine.specs.Faults.{not_enabled_number};
+
+    /// The fault's number, from 1 to 5.
+    pub fn number(self) -> u32
+        ensures { result ≡ not_enabled_number self }
+    {
+        match self {
+            NotEnabled::NoSuchThread => 1,
+            NotEnabled::Idle => 2,
+            NotEnabled::InCall => 3,
+            NotEnabled::BadCall => 4,
+            NotEnabled::ClockSpent => 5,
+        }
+    }
 }

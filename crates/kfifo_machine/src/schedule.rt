@@ -34,7 +34,7 @@ fn run_events(
 /// The state after these events, from the opening.
 ///
 /// Refused, in this order: ThreadsOutOfRange where the number of threads is not 1 to 64; Memory where
-/// a growth was refused; NotASchedule with the place of the first event that is not enabled.
+/// an allocation failed; NotASchedule with the place of the first event that is not enabled.
 ///
 /// The clauses from `no_wrap` on speak of every schedule of this shape and number of threads, whatever
 /// is answered.

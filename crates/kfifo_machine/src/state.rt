@@ -10,6 +10,7 @@ ghost use Rattle.kfifo_machine.specs.Laws.{OthersStay, NoneFalls, OneWord};
 use crate::fault::StartFault;
 use crate::place::idle_places;
 use crate::{Access, Begin, DequeuePhase, EnqueuePhase, Event, Next, NotEnabled, Outcome, Running};
+use kfifo_model::MAX_ITEM;
 use kfifo_words::{Shape, Word};
 use std::alloc::Global;
 use std::marker::Model;
@@ -38,7 +39,7 @@ impl Model for State {
 
 /// The opening state: every word is 0, every thread idle.
 ///
-/// ThreadsOutOfRange where the number of threads is not 1 to 64; Memory where a growth was refused.
+/// ThreadsOutOfRange where the number of threads is not 1 to 64; Memory where an allocation failed.
 pub fn start(alloc: Global, shape: Shape, threads: u32) -> Result<State, StartFault>
     ensures opening { IfOk result (λ s. (s.shape ≡ shape) × (s.world ≡ opening shape threads)) }
     ensures threads { (result ≡ Err StartFault.ThreadsOutOfRange) ↔ ((threads ≡ 0) ⊎ (64 < threads)) }
@@ -132,7 +133,7 @@ fn first_place(shape: &Shape, begin: Begin) -> Option<Running>
 {
     match begin {
         Begin::Enqueue { item, start, turns } => {
-            let may = start < shape.k() && 0 < turns && 0 < item && item < 16_777_216;
+            let may = start < shape.k() && 0 < turns && 0 < item && item <= MAX_ITEM;
             let phase = EnqueuePhase::LoadEnds;
             may.then_some(Running::Enqueue {
                 item,

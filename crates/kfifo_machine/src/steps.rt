@@ -7,7 +7,7 @@ ghost use Rattle.kfifo_machine.specs.Places.{IsEnds, IsPlace, IsEnqueuePhase, Is
 
 use crate::{Access, DequeuePhase, EnqueuePhase, Found, Next, Running};
 use kfifo_model::Answer;
-use kfifo_words::{Ends, Shape, Word};
+use kfifo_words::{ENDS_INDEX, Ends, Shape, Word};
 
 /// The index of the slot at which a scan of a segment stands.
 #[tactic(auto, unfolding(crate::specs::Program::scan_index))]
@@ -26,7 +26,7 @@ fn head_moved(shape: &Shape, ends: Ends) -> Access
     ensures { result ≡ Access.Exchange 0 ends (Rattle.kfifo_machine.specs.Program.head_moved shape.now ends) }
 {
     Access::Exchange {
-        index: 0,
+        index: ENDS_INDEX,
         from: ends.into(),
         to: Ends::pack(shape.next(ends.head()), ends.tail(), ends.version() + 1).into(),
     }
@@ -38,7 +38,7 @@ fn tail_moved(shape: &Shape, ends: Ends) -> Access
     ensures { result ≡ Access.Exchange 0 ends (Rattle.kfifo_machine.specs.Program.tail_moved shape.now ends) }
 {
     Access::Exchange {
-        index: 0,
+        index: ENDS_INDEX,
         from: ends.into(),
         to: Ends::pack(ends.head(), shape.next(ends.tail()), ends.version() + 1).into(),
     }
@@ -52,20 +52,20 @@ fn enqueue_step(shape: &Shape, item: u32, start: u32, phase: EnqueuePhase) -> Ac
     ensures { result ≡ enqueue_access shape.now item start phase }
 {
     match phase {
-        EnqueuePhase::LoadEnds => Access::Load { index: 0 },
+        EnqueuePhase::LoadEnds => Access::Load { index: ENDS_INDEX },
         EnqueuePhase::ScanTail { ends, offset } => Access::Load {
             index: scan(shape, ends.tail(), start, offset),
         },
-        EnqueuePhase::Recheck { .. } => Access::Load { index: 0 },
+        EnqueuePhase::Recheck { .. } => Access::Load { index: ENDS_INDEX },
         EnqueuePhase::Put { index, empty, .. } => Access::Exchange {
             index,
             from: empty,
             to: Word::pack(item, empty.version() + 1),
         },
         EnqueuePhase::ReloadSlot { index, .. } => Access::Load { index },
-        EnqueuePhase::ReloadEnds { .. } => Access::Load { index: 0 },
+        EnqueuePhase::ReloadEnds { .. } => Access::Load { index: ENDS_INDEX },
         EnqueuePhase::HoldHead { held, .. } => Access::Exchange {
-            index: 0,
+            index: ENDS_INDEX,
             from: held.into(),
             to: Ends::pack(held.head(), held.tail(), held.version() + 1).into(),
         },
@@ -77,7 +77,7 @@ fn enqueue_step(shape: &Shape, item: u32, start: u32, phase: EnqueuePhase) -> Ac
         EnqueuePhase::ScanHead { ends, offset } => Access::Load {
             index: scan(shape, ends.head(), 0, offset),
         },
-        EnqueuePhase::ConfirmFull { .. } => Access::Load { index: 0 },
+        EnqueuePhase::ConfirmFull { .. } => Access::Load { index: ENDS_INDEX },
         EnqueuePhase::MoveHead { ends } => head_moved(shape, ends),
         EnqueuePhase::MoveTail { ends } => tail_moved(shape, ends),
     }
@@ -90,11 +90,11 @@ fn dequeue_step(shape: &Shape, start: u32, phase: DequeuePhase) -> Access
     ensures { result ≡ dequeue_access shape.now start phase }
 {
     match phase {
-        DequeuePhase::LoadEnds => Access::Load { index: 0 },
+        DequeuePhase::LoadEnds => Access::Load { index: ENDS_INDEX },
         DequeuePhase::ScanHead { ends, offset } => Access::Load {
             index: scan(shape, ends.head(), start, offset),
         },
-        DequeuePhase::Recheck { .. } => Access::Load { index: 0 },
+        DequeuePhase::Recheck { .. } => Access::Load { index: ENDS_INDEX },
         DequeuePhase::MoveTail { ends, .. } => tail_moved(shape, ends),
         DequeuePhase::Take { index, filled, .. } => Access::Exchange {
             index,

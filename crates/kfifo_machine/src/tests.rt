@@ -313,7 +313,7 @@ fn numbers_faults(rt: HostRuntime) {
         NotEnabled::ClockSpent,
     ];
     for (i, fault) in faults.iter().enumerate() {
-        assert_eq!(rt; *fault as usize, i + 1);
+        assert_eq!(rt; fault.number() as usize, i + 1);
     }
 }
 

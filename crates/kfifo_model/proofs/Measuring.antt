@@ -1,9 +1,10 @@
 -- The facts that the measures' loops end with.
-use Rattle.std.proofs.Common.{ℕ, suc, ◌≡◌, ◌≢◌, ◌+◌, ◌<◌, Bool, true, false, List, [], ◌∷◌, ◌++◌, length, map, take, drop, get_or, refl, sym, ◌∙◌, ap, subst, inl, inr, arith, Option, Some, None, append_assoc, length-append}
+use Rattle.std.proofs.Common.{ℕ, suc, ◌≡◌, ◌≢◌, ◌+◌, ◌<◌, Bool, true, false, List, [], ◌∷◌, ◌++◌, length, map, take, drop, get_or, refl, sym, ◌∙◌, ap, subst, inl, inr, arith, Option, Some, None, append_assoc, length-append, cond, count_by}
 use Rattle.std.specs.List.{filter, range_with_len}
 use Rattle.std.proofs.lemmas.Bool.{cases_lt, cases_order, cond-true, cond-false}
 use Rattle.std.proofs.lemmas.List.{drop_more, map-append, take-append-drop}
 use Rattle.std.proofs.lemmas.List.Elements.{filter-append}
+use Rattle.std.proofs.lemmas.List.Sums.{sum_by-cons}
 use Rattle.kfifo_model.specs.declared.calls.Call.{Call}
 use Rattle.kfifo_model.specs.declared.calls.End.{End}
 use Rattle.kfifo_model.specs.declared.calls.Op.{Op}
@@ -11,14 +12,14 @@ use Rattle.kfifo_model.specs.declared.calls.Op.TheVariants.{Enqueue, Dequeue}
 use Rattle.kfifo_model.specs.declared.orders.Verdict.{Verdict}
 use Rattle.kfifo_model.specs.declared.orders.Verdict.TheVariants.{Legal, Repeats, NotACall, LeavesOut, BreaksBefore, NotARun}
 use Rattle.kfifo_model.specs.Lists.{IsIn}
-use Rattle.kfifo_model.specs.Relaxed.{Effect, Adds, IsRun, next, effect}
+use Rattle.kfifo_model.specs.Relaxed.{Effect, Adds, Takes, Finds_none, Refused, Wrong, IsRun, next, effect}
 use Rattle.kfifo_model.specs.Histories.{does, effect_at, IsLegal}
 use Rattle.kfifo_model.specs.Overtaking.{numbers_of}
 use Rattle.kfifo_model.specs.Verdicts.{IsVerdict, IsTried}
 use Rattle.kfifo_model.specs.declared.orders.Tried.{Tried}
 use Rattle.kfifo_model.specs.declared.orders.Tried.TheVariants as Tries
 use Rattle.kfifo_model.specs.declared.orders.Tried.TheVariants.{Went, Took}
-use Rattle.kfifo_model.specs.Ranks.{rank, ranks_at}
+use Rattle.kfifo_model.specs.Ranks.{rank, ranks_at, is_got}
 use Rattle.kfifo_model.specs.Measures.{SharesItem, RepeatsEarlier, HasDistinctItems, EndsDone}
 use Rattle.kfifo_model.proofs.Greedy.{run_on, no_run}
 use Rattle.kfifo_model.proofs.Ranges.{in_range, into_range, range_push}
@@ -44,6 +45,28 @@ ranks_next k h order found more items after i total lt told run n e =
           ∙ told;
       runs = run_on k items after (does h (get_or order i 0)) (map (does h) (drop (i + 1) order)) n (runs_at k h order items i lt run);
     }
+
+one_rank : (items : List ℕ) (e : Effect) → length (rank items e) ≡ cond (is_got e) 1 0
+one_rank items (Takes x) = refl
+one_rank items (Adds x) = refl
+one_rank items Finds_none = refl
+one_rank items Refused = refl
+one_rank items Wrong = refl
+
+ranks_more : (k : ℕ) (items : List ℕ) (e : Effect) (es : List Effect) (count : ℕ) → IsRun k items (e ∷ es) → ((after : List ℕ) → IsRun k after es → length (ranks_at k (Some after) es) ≡ count)
+    → (left : Option (List ℕ)) → next k items e ≡ left → length (rank items e ++ ranks_at k left es) ≡ cond (is_got e) 1 0 + count
+ranks_more k items e es count run rest None gone = absurd (no_run k items e es gone run)
+ranks_more k items e es count run rest (Some after) gone =
+    let one = one_rank items e in
+    let others = rest after (run_on k items after e es gone run) in
+    length-append (rank items e) (ranks_at k (Some after) es) ∙ omega (arith, one, others)
+
+-- a run has one rank for each call that got an item
+pub length-ranks_at : (k : ℕ) (h : List Call) (order items : List ℕ) → IsRun k items (map (does h) order) → length (ranks_at k (Some items) (map (does h) order)) ≡ count_by (λ c. is_got (does h c)) order
+length-ranks_at k h [] items run = refl
+length-ranks_at k h (c ∷ order) items run =
+    ranks_more k items (does h c) (map (does h) order) (count_by (λ d. is_got (does h d)) order) run (λ after rest. length-ranks_at k h order after rest) (next k items (does h c)) refl
+    ∙ sym (sum_by-cons (λ d. cond (is_got (does h d)) 1 0) c order)
 
 -- a beginning of a run is a run
 runs_before : (k : ℕ) (items : List ℕ) (es fs : List Effect) → IsRun k items (es ++ fs) → IsRun k items es

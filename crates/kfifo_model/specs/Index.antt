@@ -85,3 +85,8 @@ measured h (suc n) = measured h n ++ measure_of n (certainly_overtaken h n) (don
 abbrev pub IsMeasureFault : List Call → MeasureFault → Type 0
 IsMeasureFault h RepeatedItem = ((n : ℕ) × IsDoneEnqueue h n) × (HasDistinctItems h → ⊥)
 IsMeasureFault h Memory = Unit {0}
+
+-- the numbers of these faults
+abbrev pub measure_fault_number : MeasureFault → ℕ
+measure_fault_number RepeatedItem = 2
+measure_fault_number Memory = 3

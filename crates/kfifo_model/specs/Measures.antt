@@ -13,6 +13,7 @@ use Rattle.kfifo_model.specs.Relaxed.{Effect, Adds, Takes}
 use Rattle.kfifo_model.specs.Histories.{call, does, IsLegal}
 use Rattle.kfifo_model.specs.Overtaking.{numbers_of, AddsAreDistinct, TakesAreDistinct}
 
+-- why there are no ranks
 abbrev pub IsRankFault : ℕ → List Call → List ℕ → RankFault → Type 0
 IsRankFault k h order NotLegal = IsLegal k h order → ⊥
 IsRankFault k h order Memory = Unit {0}
@@ -41,3 +42,12 @@ RepeatsEarlier h n = (j : ℕ) × (j < n) × SharesItem (does h n) (does h j)
 abbrev pub IsOvertakenFault : List Call → ℕ → OvertakenFault → Type 0
 IsOvertakenFault h c NotAnEnqueue = IsDoneEnqueue h c → ⊥
 IsOvertakenFault h c RepeatedItem = IsDoneEnqueue h c × (HasDistinctItems h → ⊥)
+
+-- the numbers of these faults
+abbrev pub rank_fault_number : RankFault → ℕ
+rank_fault_number NotLegal = 1
+rank_fault_number Memory = 2
+
+abbrev pub overtaken_fault_number : OvertakenFault → ℕ
+overtaken_fault_number NotAnEnqueue = 1
+overtaken_fault_number RepeatedItem = 2

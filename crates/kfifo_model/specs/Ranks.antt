@@ -1,5 +1,5 @@
 -- The ranks of an order: how many older items a dequeue passes over.
-use Rattle.std.specs.Prelude.{ℕ, List, [], ◌∷◌, ◌++◌, Option, Some, None, map}
+use Rattle.std.specs.Prelude.{ℕ, Bool, true, false, List, [], ◌∷◌, ◌++◌, Option, Some, None, map, count_by}
 use Rattle.kfifo_model.specs.declared.calls.Call.{Call}
 use Rattle.kfifo_model.specs.Lists.{place}
 use Rattle.kfifo_model.specs.Relaxed.{Effect, Adds, Takes, Finds_none, Refused, Wrong, next}
@@ -21,3 +21,14 @@ ranks_at k (Some items) (e ∷ es) = rank items e ++ ranks_at k (next k items e)
 
 abbrev pub ranks_of : ℕ → List Call → List ℕ → List ℕ
 ranks_of k h order = ranks_at k (Some []) (map (does h) order)
+
+-- how many calls of an order got an item
+abbrev pub is_got : Effect → Bool
+is_got (Takes x) = true
+is_got (Adds x) = false
+is_got Finds_none = false
+is_got Refused = false
+is_got Wrong = false
+
+abbrev pub gots_in : List Call → List ℕ → ℕ
+gots_in h order = count_by (λ c. is_got (does h c)) order

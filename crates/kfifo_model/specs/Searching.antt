@@ -59,13 +59,16 @@ Extends k h r = (rest : List ℕ) × GoesOn k h r rest
 abbrev pub IsNoNext : ℕ → List Call → Reach → ℕ → Type 0
 IsNoNext k h r n = (rest : List ℕ) → GoesOn k h r (n ∷ rest) → ⊥
 
--- a call that is not done takes x
-abbrev pub IsWanted : List Call → List Bool → ℕ → Type 0
-IsWanted h done x = (n : ℕ) × (IsDone done n → ⊥) × (does h n ≡ Takes x)
+-- a call that is not done has this effect
+abbrev pub IsLeft : List Call → List Bool → Effect → Type 0
+IsLeft h done e = (n : ℕ) × (IsDone done n → ⊥) × (does h n ≡ e)
 
--- a call that is not done adds x
+-- a call that is not done takes x, or adds it
+abbrev pub IsWanted : List Call → List Bool → ℕ → Type 0
+IsWanted h done x = IsLeft h done (Takes x)
+
 abbrev pub IsComing : List Call → List Bool → ℕ → Type 0
-IsComing h done x = (n : ℕ) × (IsDone done n → ⊥) × (does h n ≡ Adds x)
+IsComing h done x = IsLeft h done (Adds x)
 
 -- the effect is legal in the items and changes nothing
 abbrev pub IsIdle : List ℕ → Effect → Type 0

@@ -1,5 +1,5 @@
 -- What the checker answers.
-use Rattle.std.specs.Prelude.{ℕ, ◌≡◌, ◌+◌, ◌<◌, List, [], ◌∷◌, Some, None, map, take, length}
+use Rattle.std.specs.Prelude.{ℕ, ◌≡◌, ◌+◌, ◌<◌, List, [], ◌∷◌, Option, Some, None, map, take, length}
 use Rattle.kfifo_model.specs.declared.calls.Call.{Call}
 use Rattle.kfifo_model.specs.declared.orders.Verdict.{Verdict}
 use Rattle.kfifo_model.specs.declared.orders.Verdict.TheVariants.{Legal, Repeats, NotACall, LeavesOut, BreaksBefore, NotARun}
@@ -23,3 +23,12 @@ abbrev pub IsTried : ℕ → List ℕ → List ℕ → Effect → Tried → Type
 IsTried k before after e NotLegal = next k before e ≡ None
 IsTried k before after e Went = (next k before e ≡ Some after) × (rank before e ≡ [])
 IsTried k before after e (Took p) = (next k before e ≡ Some after) × (rank before e ≡ p ∷ [])
+
+-- the number of a verdict's fault
+abbrev pub verdict_number : Verdict → Option ℕ
+verdict_number Legal = None
+verdict_number Repeats = Some 1
+verdict_number NotACall = Some 2
+verdict_number LeavesOut = Some 3
+verdict_number BreaksBefore = Some 4
+verdict_number (NotARun p) = Some 5

@@ -1,5 +1,8 @@
 //! A call of a queue, and what it was answered.
 
+/// The greatest item; the least is 1.
+pub const MAX_ITEM: u32 = 16_777_215;
+
 /// What a call asks for.
 #[derive(Clone, Copy, Debug, PartialEq, Eq)]
 pub enum Op {

@@ -3,30 +3,41 @@ ghost use Rattle.std.specs.Prelude.{ℕ, ◌≡◌, ◌<◌, ◌↔◌, Option, 
 ghost use Rattle.kfifo_model.specs.Validity.{IsItem, IsInRange, Answers, EndsFrom, IsHistory, IsFault};
 ghost use Rattle.kfifo_model.specs.FaultNumbers.{fault_number, fault_call};
 
-use crate::calls::{Answer, Call, End, Op};
+use crate::calls::{Answer, Call, End, MAX_ITEM, Op};
 use crate::progress::Progress;
+use std::alloc::{AllocError, AllocFailed};
 use std::marker::Model;
+use thiserror::Error;
 
 /// What is wrong with a record, or with a list of calls: the first fault. Those of one call carry its number.
-#[derive(Clone, Copy, Debug, PartialEq, Eq)]
+#[derive(Clone, Copy, Debug, PartialEq, Eq, Error)]
 pub enum RecordFault {
     /// 1: the record is no array.
+    #[error("the record is no array")]
     NotAList,
     /// 2: there are over 65,536 calls.
+    #[error("the record has over 65,536 calls")]
     TooMany,
     /// 3: no object; a key that is missing or not allowed there; a value of the wrong kind; an unknown operation.
+    #[error("call {0} is no call: an object with the keys thread, op and first; item in an enq and where the answer is got; last and answer both or neither; no other key; op enq or deq; whole numbers")]
     NotACall(usize),
     /// 4: the thread is not 0 to 63, or an item not 1 to 2^24 - 1.
+    #[error("call {0} has a thread that is not 0 to 63 or an item that is not 1 to 16,777,215")]
     NumberOutOfRange(usize),
     /// 5: the answer is none of the operation's.
+    #[error("call {0} has an answer that is none of its operation's: done, full, busy or worn of an enqueue, got, empty, busy or worn of a dequeue")]
     WrongAnswer(usize),
     /// 6: the last step is less than the first.
+    #[error("call {0} has a last step below its first")]
     EndsEarly(usize),
     /// 7: the first step is not greater than that of the call before.
+    #[error("call {0} has a first step that is not above that of the call before it")]
     OutOfOrder(usize),
     /// 8: an earlier call of the thread is unfinished, or does not end before this first step.
+    #[error("call {0} begins before an earlier call of its thread has ended")]
     Overlap(usize),
-    /// 9: a growth was refused.
+    /// 9: an allocation failed.
+    #[error("out of memory")]
     Memory,
 }
 
@@ -64,6 +75,26 @@ impl RecordFault {
     }
 }
 
+impl From<AllocError> for RecordFault {
+    ghost use Rattle.kfifo_model.specs.declared.history.RecordFault.TheVariants.{Memory};
+
+    ghost from_gives = { λ _ fault. fault ≡ Memory };
+
+    fn from(_: AllocError) -> RecordFault {
+        RecordFault::Memory
+    }
+}
+
+impl<T: Drop> From<AllocFailed<T>> for RecordFault {
+    ghost use Rattle.kfifo_model.specs.declared.history.RecordFault.TheVariants.{Memory};
+
+    ghost from_gives = { λ _ fault. fault ≡ Memory };
+
+    fn from(_failed: AllocFailed<T>) -> RecordFault {
+        RecordFault::Memory
+    }
+}
+
 /// Calls by rising first step, of which those of one thread do not overlap.
 #[derive(Drop)]
 pub struct History {
@@ -86,7 +117,7 @@ impl Model for History {
 pub(crate) fn is_item(x: u32) -> bool
     ensures { IsTrue result ↔ IsItem x }
 {
-    0 < x && x < 1 << 24
+    0 < x && x <= MAX_ITEM
 }
 
 /// Whether the thread is 0 to 63 and the items are 1 to 2^24 - 1.

@@ -7,13 +7,14 @@ ghost use Rattle.kfifo_model.specs.Histories.{call, does, effect_of};
 ghost use Rattle.kfifo_model.specs.Relaxed.{Adds, Takes};
 ghost use Rattle.kfifo_model.specs.Overtaking.{certainly_overtaken, numbers_of};
 ghost use Rattle.kfifo_model.specs.Measures.{IsDoneEnqueue, HasDistinctItems};
-ghost use Rattle.kfifo_model.specs.Index.{kind_effect, IsIndex, HasTwo, rival_of, rivals_below, last_of, is_beaten, done_item, measured, IsMeasureFault};
+ghost use Rattle.kfifo_model.specs.Index.{kind_effect, IsIndex, HasTwo, rival_of, rivals_below, last_of, is_beaten, done_item, measured, IsMeasureFault, measure_fault_number};
 
 use crate::calls::{Answer, Call, Op};
 use crate::history::History;
 use crate::measures::{added, taken};
 use std::alloc::{AllocError, Global};
 use std::collections::BTreeMap;
+use thiserror::Error;
 
 /// How often the item of one enqueue is certainly overtaken.
 #[derive(Clone, Copy, Debug, PartialEq, Eq)]
@@ -27,12 +28,36 @@ pub struct Overtaken {
 }
 
 /// Why nothing was counted.
-#[derive(Clone, Copy, Debug, PartialEq, Eq)]
+#[derive(Clone, Copy, Debug, PartialEq, Eq, Error)]
 pub enum MeasureFault {
-    /// Two enqueues, each Done or unfinished, carry one item, or two dequeues got one.
+    /// 2, as of one call: two enqueues, each Done or unfinished, carry one item, or two dequeues got one.
+    #[error("an item is repeated: it was put or taken twice")]
     RepeatedItem,
-    /// A growth was refused.
+    /// 3: an allocation failed.
+    #[error("out of memory")]
     Memory,
+}
+
+impl MeasureFault {
+    /// The fault's number: 2 for a repeated item, as where one call is asked for, and 3.
+    pub fn number(self) -> u32
+        ensures { result ≡ measure_fault_number self }
+    {
+        match self {
+            MeasureFault::RepeatedItem => 2,
+            MeasureFault::Memory => 3,
+        }
+    }
+}
+
+impl From<AllocError> for MeasureFault {
+    ghost use Rattle.kfifo_model.specs.declared.index.MeasureFault.TheVariants.{Memory};
+
+    ghost from_gives = { λ _ fault. fault ≡ Memory };
+
+    fn from(_: AllocError) -> MeasureFault {
+        MeasureFault::Memory
+    }
 }
 
 /// A call that got an item which a call put.
@@ -54,7 +79,7 @@ pub enum Kind {
 }
 
 /// The item of a call of this kind.
-fn item_of(kind: Kind, call: &Call) -> Option<u32>
+pub(crate) fn item_of(kind: Kind, call: &Call) -> Option<u32>
     ensures { MatchOption result ((x : ℕ) → effect_of call.now ≡ kind_effect kind x → ⊥) (λ x. effect_of call.now ≡ kind_effect kind x) }
 {
     match kind {
@@ -229,18 +254,11 @@ fn measure_among(alloc: Global, calls: &[Call]) -> Result<Vec<Overtaken>, Measur
     if !has_done(calls) {
         return Ok(Vec::new(alloc));
     }
-    let puts = match index_of(alloc, calls, Kind::Puts) {
-        Ok(Some(puts)) => puts,
-        Ok(None) => return Err(MeasureFault::RepeatedItem),
-        Err(_) => return Err(MeasureFault::Memory),
+    let Some(puts) = index_of(alloc, calls, Kind::Puts)? else {
+        return Err(MeasureFault::RepeatedItem);
     };
-    let gots = match index_of(alloc, calls, Kind::Gots) {
-        Ok(Some(gots)) => gots,
-        Ok(None) => return Err(MeasureFault::RepeatedItem),
-        Err(_) => return Err(MeasureFault::Memory),
+    let Some(gots) = index_of(alloc, calls, Kind::Gots)? else {
+        return Err(MeasureFault::RepeatedItem);
     };
-    match measure_calls(alloc, calls, &puts, &gots) {
-        Ok(found) => Ok(found),
-        Err(_) => Err(MeasureFault::Memory),
-    }
+    Ok(measure_calls(alloc, calls, &puts, &gots)?)
 }

@@ -11,13 +11,13 @@ mod progress;
 mod reading;
 mod search;
 
-pub use calls::{Answer, Call, End, Op};
+pub use calls::{Answer, Call, End, MAX_ITEM, Op};
 pub use history::{History, RecordFault};
 pub use index::{MeasureFault, Overtaken, measure};
 pub use measures::{OvertakenFault, RankFault, overtaken, ranks};
 pub use orders::{Verdict, check_order};
 pub use reading::{MOST_CALLS, read_history};
-pub use search::{SearchFault, has_order};
+pub use search::{MOST_SEARCHED, SearchFault, has_order};
 
 #[cfg(test)]
 mod tests;

@@ -3,27 +3,70 @@ ghost use Rattle.std.specs.Prelude.{ℕ, ◌≡◌, ◌≤◌, ◌<◌, ◌+◌,
 ghost use Rattle.kfifo_model.specs.Relaxed.{Adds, Takes, IsRun};
 ghost use Rattle.kfifo_model.specs.Histories.{effect_of, does, HasOnlyCalls, IsLegal};
 ghost use Rattle.kfifo_model.specs.Overtaking.{adds, takes, some, precedes, ends_below, overtakes, numbers_of, certainly_overtaken};
-ghost use Rattle.kfifo_model.specs.Ranks.{ranks_of};
-ghost use Rattle.kfifo_model.specs.Measures.{IsRankFault, IsDoneEnqueue, HasDistinctItems, EndsDone, SharesItem, RepeatsEarlier, IsOvertakenFault};
+ghost use Rattle.kfifo_model.specs.Ranks.{ranks_of, gots_in};
+ghost use Rattle.kfifo_model.specs.Measures.{IsRankFault, IsDoneEnqueue, HasDistinctItems, EndsDone, SharesItem, RepeatsEarlier, IsOvertakenFault, rank_fault_number, overtaken_fault_number};
 
 use crate::calls::{Answer, Call, End, Op};
 use crate::history::History;
 use crate::orders::{Tried, Verdict, judge, try_number};
 use std::alloc::{AllocError, Global};
 use std::collections::VecDeque;
+use thiserror::Error;
 
 /// Why there are no ranks.
-#[derive(Clone, Copy, Debug, PartialEq, Eq)]
+#[derive(Clone, Copy, Debug, PartialEq, Eq, Error)]
 pub enum RankFault {
+    /// 1: the order is not a legal one of the history.
+    #[error("the order is no legal order of the history")]
     NotLegal,
+    /// 2: an allocation failed.
+    #[error("out of memory")]
     Memory,
 }
 
+impl RankFault {
+    /// The fault's number, 1 or 2.
+    pub fn number(self) -> u32
+        ensures { result ≡ rank_fault_number self }
+    {
+        match self {
+            RankFault::NotLegal => 1,
+            RankFault::Memory => 2,
+        }
+    }
+}
+
+impl From<AllocError> for RankFault {
+    ghost use Rattle.kfifo_model.specs.declared.measures.RankFault.TheVariants.{Memory};
+
+    ghost from_gives = { λ _ fault. fault ≡ Memory };
+
+    fn from(_: AllocError) -> RankFault {
+        RankFault::Memory
+    }
+}
+
 /// Why an item's overtakings are not counted.
-#[derive(Clone, Copy, Debug, PartialEq, Eq)]
+#[derive(Clone, Copy, Debug, PartialEq, Eq, Error)]
 pub enum OvertakenFault {
+    /// 1: no call of the history has the number, or it is no finished enqueue that was answered Done.
+    #[error("the number is not that of a finished enqueue that was answered done")]
     NotAnEnqueue,
+    /// 2: two enqueues, each Done or unfinished, carry one item, or two dequeues got one.
+    #[error("an item is repeated: it was put or taken twice")]
     RepeatedItem,
+}
+
+impl OvertakenFault {
+    /// The fault's number, 1 or 2.
+    pub fn number(self) -> u32
+        ensures { result ≡ overtaken_fault_number self }
+    {
+        match self {
+            OvertakenFault::NotAnEnqueue => 1,
+            OvertakenFault::RepeatedItem => 2,
+        }
+    }
 }
 
 /// The item that a call adds to the queue.
@@ -95,6 +138,8 @@ fn is_legal(alloc: Global, calls: &[Call], k: usize, order: &[usize]) -> Result<
 }
 
 /// For each Got of a legal order in turn, the place in the list of the item that it removes.
+///
+/// Refused: NotLegal exactly where the order is no legal one of the history; Memory where an allocation failed.
 pub fn ranks(
     alloc: Global,
     history: &History,
@@ -102,17 +147,14 @@ pub fn ranks(
     order: &[usize],
 ) -> Result<Vec<u32>, RankFault>
     requires { (1 ≤ k) × (k ≤ 64) }
-    ensures { MatchResult result (λ v. IsLegal k history.now order.now × (v.items ≡ ranks_of k history.now order.now)) (IsRankFault k history.now order.now) }
+    ensures ranks { MatchResult result (λ v. IsLegal k history.now order.now × (v.items ≡ ranks_of k history.now order.now)) (IsRankFault k history.now order.now) }
+    ensures one_each { IfOk result (λ v. length v.items ≡ gots_in history.now order.now) }
 {
     let calls = history.calls();
-    match is_legal(alloc, calls, k as usize, order) {
-        Ok(true) => match ranks_along(alloc, calls, k as usize, order) {
-            Ok(found) => Ok(found),
-            Err(_) => Err(RankFault::Memory),
-        },
-        Ok(false) => Err(RankFault::NotLegal),
-        Err(_) => Err(RankFault::Memory),
+    if !is_legal(alloc, calls, k as usize, order)? {
+        return Err(RankFault::NotLegal);
     }
+    Ok(ranks_along(alloc, calls, k as usize, order)?)
 }
 
 fn is_done_enqueue(call: &Call) -> bool
@@ -270,7 +312,10 @@ fn overtaken_among(calls: &[Call], call: usize) -> Result<usize, OvertakenFault>
     }
 }
 
-/// How many overtakings of the item that this enqueue put are certain.
+/// How many overtakings of the item that this enqueue put are certain. It takes no memory.
+///
+/// Refused, in this order: NotAnEnqueue where the number is not that of a finished enqueue that was answered Done;
+/// RepeatedItem where an item was put or taken twice.
 pub fn overtaken(history: &History, call: usize) -> Result<usize, OvertakenFault>
     ensures { MatchResult result (λ n. IsDoneEnqueue history.now call × HasDistinctItems history.now × (n ≡ certainly_overtaken history.now call)) (IsOvertakenFault history.now call) }
 {

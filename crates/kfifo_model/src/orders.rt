@@ -5,7 +5,7 @@ ghost use Rattle.std.specs.Ordering.{nat_cmp};
 ghost use Rattle.kfifo_model.specs.Lists.{IsIn, place};
 ghost use Rattle.kfifo_model.specs.Relaxed.{IsRun, next, Takes};
 ghost use Rattle.kfifo_model.specs.Histories.{does, effect_of, HasNoRepeats, HasOnlyCalls, HasEachFinished, KeepsBefore};
-ghost use Rattle.kfifo_model.specs.Verdicts.{IsVerdict, IsTried};
+ghost use Rattle.kfifo_model.specs.Verdicts.{IsVerdict, IsTried, verdict_number};
 
 use crate::calls::{Answer, Call, Op};
 use crate::history::History;
@@ -27,6 +27,22 @@ pub enum Verdict {
     BreaksBefore,
     /// 5: the first place whose answer is not legal in the list there.
     NotARun(usize),
+}
+
+impl Verdict {
+    /// The number of the fault, from 1 to 5; none of a legal order.
+    pub fn number(self) -> Option<u32>
+        ensures { result ≡ verdict_number self }
+    {
+        match self {
+            Verdict::Legal => None,
+            Verdict::Repeats => Some(1),
+            Verdict::NotACall => Some(2),
+            Verdict::LeavesOut => Some(3),
+            Verdict::BreaksBefore => Some(4),
+            Verdict::NotARun(_) => Some(5),
+        }
+    }
 }
 
 /// What became of a call that was tried in a list of items.

@@ -11,7 +11,7 @@ ghost use Rattle.kfifo_model.specs.Histories.{call};
 ghost use Rattle.kfifo_model.specs.Validity.{IsInRange, Answers, IsHistory};
 ghost use Rattle.kfifo_model.specs.Records.{is_key, has_known_keys, number_at, text_at, HasNumber, HasOp, IsAnswerWord, HasEnding, item_fits, IsEntry, is_in_range, answer_of, ending_of, op_of, call_of, IsRead, AreRead, IsMemberFault, IsRecordOf, IsReadFault};
 
-use crate::calls::{Answer, Call, End, Op};
+use crate::calls::{Answer, Call, End, MAX_ITEM, Op};
 use crate::history::{History, RecordFault, ends_from, is_item};
 use crate::progress::Progress;
 use serde_json::{Map, Value};
@@ -243,7 +243,7 @@ fn is_entry_in_range(entry: &Entry) -> bool
     ensures { result ≡ is_in_range entry.now }
 {
     let item = match entry.item {
-        Some(x) => 0 < x && x < 1 << 24,
+        Some(x) => 0 < x && x <= MAX_ITEM as u64,
         None => true,
     };
     entry.thread < 64 && item
@@ -333,9 +333,7 @@ fn read_members(alloc: Global, members: &[Value]) -> Result<Vec<Call>, RecordFau
 {
     let mut progress = Progress::new();
     let mut calls = Vec::new(alloc);
-    if let Err(_) = calls.reserve_exact(members.len()) {
-        return Err(RecordFault::Memory);
-    }
+    calls.reserve_exact(members.len())?;
     for (n, member) in members.iter().enumerate() {
         let call = match read_call(member) {
             Ok(call) => call,
@@ -353,15 +351,13 @@ fn read_members(alloc: Global, members: &[Value]) -> Result<Vec<Call>, RecordFau
             return Err(RecordFault::Overlap(n));
         }
         progress.note(&call);
-        if let Err(_) = calls.push(call) {
-            return Err(RecordFault::Memory);
-        }
+        calls.push(call)?;
     }
     Ok(calls)
 }
 
 /// The history that a record says, or its first fault: 1 and 2 before all others, then those of the calls in turn,
-/// each call's from 3 to 8; 9 where a growth was refused.
+/// each call's from 3 to 8; 9 where an allocation failed.
 pub fn read_history(alloc: Global, json: &Value) -> Result<History, RecordFault>
     ensures { MatchResult result (λ h. IsRecordOf (view json.now) h × IsHistory h) (IsReadFault (view json.now)) }
 {

@@ -11,26 +11,31 @@ ghost use Rattle.std.specs.Option.{option_map};
 ghost use Rattle.kfifo_model.specs.Histories.{effect_of, does, CanStand, EndsBelow};
 ghost use Rattle.kfifo_model.specs.Validity.{IsHistory};
 ghost use Rattle.kfifo_model.specs.Reach.{Reach, reach};
-ghost use Rattle.kfifo_model.specs.Searching.{HasOrder, IsSearchFault, search_fault_number, IsDone, IsComplete, IsReady, IsFree, Extends, IsNoNext, IsWanted, IsComing, IsIdle, IsAsGood, AreAsGood, done_count, IsFurther, LeadsTo, IsAdded, IsNextLevel};
+ghost use Rattle.kfifo_model.specs.Index.{kind_effect};
+ghost use Rattle.kfifo_model.specs.Searching.{HasOrder, IsSearchFault, search_fault_number, IsDone, IsComplete, IsReady, IsFree, Extends, IsNoNext, IsLeft, IsWanted, IsComing, IsIdle, IsAsGood, AreAsGood, done_count, IsFurther, LeadsTo, IsAdded, IsNextLevel};
 
 use crate::calls::{Answer, Call, Op};
 use crate::history::History;
-use crate::measures::{added, taken};
+use crate::index::{Kind, item_of};
+use crate::measures::taken;
 use crate::orders::{Tried, try_number};
 use std::alloc::{AllocError, Global};
 use std::cmp::Ordering;
 use std::collections::VecDeque;
 use std::marker::Model;
+use thiserror::Error;
 
 /// The most calls of a history that is searched.
-const LONGEST: usize = 12;
+pub const MOST_SEARCHED: usize = 12;
 
 /// Why no search was made.
-#[derive(Clone, Copy, Debug, PartialEq, Eq)]
+#[derive(Clone, Copy, Debug, PartialEq, Eq, Error)]
 pub enum SearchFault {
     /// 1: the history has over 12 calls, unfinished ones counted.
+    #[error("the history has over 12 calls")]
     TooLong,
-    /// 2: a growth was refused.
+    /// 2: an allocation failed.
+    #[error("out of memory")]
     Memory,
 }
 
@@ -43,6 +48,16 @@ impl SearchFault {
             SearchFault::TooLong => 1,
             SearchFault::Memory => 2,
         }
+    }
+}
+
+impl From<AllocError> for SearchFault {
+    ghost use Rattle.kfifo_model.specs.declared.search.SearchFault.TheVariants.{Memory};
+
+    ghost from_gives = { λ _ fault. fault ≡ Memory };
+
+    fn from(_: AllocError) -> SearchFault {
+        SearchFault::Memory
     }
 }
 
@@ -149,26 +164,12 @@ fn idle_call(calls: &[Call], done: &[bool], items: &[u32]) -> Option<usize>
     None
 }
 
-/// Whether a call that is not done takes the item.
-fn is_wanted(calls: &[Call], done: &[bool], item: u32) -> bool
-    ensures { IsTrue result ↔ IsWanted calls.now done.now item }
+/// Whether a call of this kind that is not done has the item.
+fn is_left(calls: &[Call], done: &[bool], kind: Kind, item: u32) -> bool
+    ensures { IsTrue result ↔ IsLeft calls.now done.now (kind_effect kind item) }
 {
     for (n, call) in calls.iter().enumerate() {
-        if let Some(x) = taken(call) {
-            if x == item && !is_done(done, n) {
-                return true;
-            }
-        }
-    }
-    false
-}
-
-/// Whether a call that is not done adds the item.
-fn is_coming(calls: &[Call], done: &[bool], item: u32) -> bool
-    ensures { IsTrue result ↔ IsComing calls.now done.now item }
-{
-    for (n, call) in calls.iter().enumerate() {
-        if let Some(x) = added(call) {
+        if let Some(x) = item_of(kind, call) {
             if x == item && !is_done(done, n) {
                 return true;
             }
@@ -195,7 +196,7 @@ fn can_finish(calls: &[Call], done: &[bool], items: &[u32]) -> bool
 {
     for (n, call) in calls.iter().enumerate() {
         if let Some(x) = taken(call) {
-            if !is_done(done, n) && !has(items, x) && !is_coming(calls, done, x) {
+            if !is_done(done, n) && !has(items, x) && !is_left(calls, done, Kind::Puts, x) {
                 return false;
             }
         }
@@ -216,7 +217,7 @@ fn remembered(
     let mut kept = Vec::with_capacity(alloc, items.len())?;
     for i in 0..items.len() {
         let item = items[i];
-        let as_good = if is_wanted(calls, done, item) {
+        let as_good = if is_left(calls, done, Kind::Gots, item) {
             item
         } else {
             0
@@ -466,11 +467,8 @@ pub fn has_order(alloc: Global, history: &History, k: u32) -> Result<bool, Searc
     ensures { MatchResult result (λ found. (length history.now ≤ 12) × (IsTrue found ↔ HasOrder k history.now)) (IsSearchFault history.now) }
 {
     let calls = history.calls();
-    if calls.len() > LONGEST {
+    if calls.len() > MOST_SEARCHED {
         return Err(SearchFault::TooLong);
     }
-    match search(alloc, calls, k as usize) {
-        Ok(found) => Ok(found),
-        Err(_) => Err(SearchFault::Memory),
-    }
+    Ok(search(alloc, calls, k as usize)?)
 }

@@ -1,7 +1,7 @@
 //! Worked histories, records and refusals.
 use crate::{
-    Answer, Call, End, History, Op, OvertakenFault, RankFault, RecordFault, SearchFault, Verdict,
-    check_order, has_order, overtaken, ranks, read_history,
+    Answer, Call, End, History, MeasureFault, Op, OvertakenFault, RankFault, RecordFault,
+    SearchFault, Verdict, check_order, has_order, measure, overtaken, ranks, read_history,
 };
 use serde_json::Value;
 use std::alloc::{AllocError, Global};
@@ -130,6 +130,17 @@ fn unfinished_enqueue(rt: HostRuntime) -> Result<(), Fail> {
         check_order(rt.alloc(), &history, 1, &[1])?,
         Verdict::NotARun(0)
     );
+    let misplaced = [1, 0];
+    assert_eq!(rt;
+        check_order(rt.alloc(), &history, 1, &misplaced)?,
+        Verdict::NotARun(0)
+    );
+    let early = History::new(vec![in rt.alloc(); put(1, 4, 0, 2), begun(0, 3, 3)]?)?;
+    assert_eq!(rt;
+        check_order(rt.alloc(), &early, 1, &misplaced)?,
+        Verdict::BreaksBefore
+    );
+    assert_eq!(rt; check_order(rt.alloc(), &early, 1, &[0])?, Verdict::Legal);
     let alone = History::new(vec![in rt.alloc(); got(1, 3, 1, 7)]?)?;
     assert!(rt; !has_order(rt.alloc(), &alone, 1)?);
     let late = History::new(vec![in rt.alloc(); put(0, 3, 0, 10), got(1, 3, 1, 7)]?)?;
@@ -179,6 +190,175 @@ fn sizes(rt: HostRuntime) -> Result<(), Fail> {
     let twelve = History::new(in_turn(rt.alloc(), &[1, 2, 3, 4, 5, 6], &[6, 5, 4, 3, 2, 1])?)?;
     assert!(rt; has_order(rt.alloc(), &twelve, 6)?);
     assert!(rt; !has_order(rt.alloc(), &twelve, 5)?);
+    Ok(())
+}
+
+/// Items to be put in turn.
+const ITEMS: [u32; 7] = [1, 2, 3, 4, 5, 6, 7];
+
+/// Histories of each length that is searched: with k = 1 there is an order where items come out as they
+/// went in, and with k = 64 there is none where one comes out that never went in.
+#[test]
+fn each_length(rt: HostRuntime) -> Result<(), Fail> {
+    for length in 0..=12usize {
+        let gots = length / 2;
+        let puts = &ITEMS[..length - gots];
+        let calls = in_turn(rt.alloc(), puts, &ITEMS[..gots])?;
+        let history = History::new(calls)?;
+        assert_eq!(&rt; history.calls().len(), length);
+        assert_eq!(&rt; has_order(rt.alloc(), &history, 1), Ok(true), "{length}");
+        if length > 0 {
+            let mut calls = in_turn(rt.alloc(), puts, &ITEMS[..gots])?;
+            calls.pop();
+            calls.push(got(1, 9, 9_000, 9_001))?;
+            let history = History::new(calls)?;
+            assert_eq!(&rt; has_order(rt.alloc(), &history, 64), Ok(false), "{length}");
+        }
+    }
+    Ok(())
+}
+
+/// A thousand items are put in turn and come out in turn, but for the last two, which change places.
+#[test]
+fn long_history(rt: HostRuntime) -> Result<(), Fail> {
+    let mut puts: Vec<u32> = Vec::new(rt.alloc());
+    for item in 1..=1_000 {
+        puts.push(item)?;
+    }
+    let mut gots = Vec::from_slice(rt.alloc(), &puts)?;
+    gots.pop();
+    gots.pop();
+    gots.push(1_000)?;
+    gots.push(999)?;
+    let history = History::new(in_turn(rt.alloc(), &puts, &gots)?)?;
+    let mut order: Vec<usize> = Vec::new(rt.alloc());
+    for n in 0..2_000usize {
+        order.push(n)?;
+    }
+    let verdict = check_order(rt.alloc(), &history, 1, &order)?;
+    assert_eq!(&rt; verdict, Verdict::NotARun(1_998));
+    assert_eq!(&rt;
+        ranks(rt.alloc(), &history, 1, &order).err(),
+        Some(RankFault::NotLegal)
+    );
+    let found = ranks(rt.alloc(), &history, 2, &order)?;
+    assert_eq!(&rt; found.len(), 1_000);
+    for (place, rank) in found.iter().enumerate() {
+        let want = if place == 998 { 1 } else { 0 };
+        assert_eq!(&rt; *rank, want, "got {place}");
+    }
+    let measured = measure(rt.alloc(), &history)?;
+    assert_eq!(&rt; measured.len(), 1_000);
+    for one in &measured {
+        let count = if one.item == 999 { 1 } else { 0 };
+        assert_eq!(&rt; one.count, count, "item {}", one.item);
+    }
+    Ok(())
+}
+
+#[test]
+fn long_repeats(rt: HostRuntime) -> Result<(), Fail> {
+    let puts: Vec<u32> = vec![in rt.alloc(); 7; 1_000]?;
+    let history = History::new(in_turn(rt.alloc(), &puts, &[])?)?;
+    assert_eq!(&rt;
+        measure(rt.alloc(), &history).err(),
+        Some(MeasureFault::RepeatedItem)
+    );
+    assert_eq!(&rt; overtaken(&history, 999), Err(OvertakenFault::RepeatedItem));
+    Ok(())
+}
+
+/// The text of a record with so many calls of one thread, which finds the queue empty each time.
+fn record_of(alloc: Global, calls: u32) -> Result<String, Fail> {
+    let mut text = String::with_capacity(alloc, 80 * calls as usize + 2)?;
+    text.push('[')?;
+    for n in 0..calls {
+        if n > 0 {
+            text.push(',')?;
+        }
+        let call = format!(in alloc;
+            "{{\"thread\":0,\"op\":\"deq\",\"first\":{n},\"last\":{n},\"answer\":\"empty\"}}"
+        )?;
+        text.push_str(call.as_str())?;
+    }
+    text.push(']')?;
+    Ok(text)
+}
+
+/// The shortest record and the longest one are read.
+#[test]
+fn shortest_and_longest_record(rt: HostRuntime) -> Result<(), Fail> {
+    for calls in [0u32, 65_536] {
+        let text = record_of(rt.alloc(), calls)?;
+        let value = Value::from_str(rt.alloc(), text.as_str())?;
+        let history = read_history(rt.alloc(), &value)?;
+        assert_eq!(&rt; history.calls().len(), calls as usize);
+        assert_eq!(&rt; measure(rt.alloc(), &history)?.len(), 0);
+    }
+    let text = record_of(rt.alloc(), 65_537)?;
+    let value = Value::from_str(rt.alloc(), text.as_str())?;
+    assert_eq!(&rt;
+        read_history(rt.alloc(), &value).err(),
+        Some(RecordFault::TooMany)
+    );
+    Ok(())
+}
+
+/// Faults of records by their numbers, and what is said of each.
+const RECORD_FAULTS: [(RecordFault, &str); 9] = [
+    (RecordFault::NotAList, "the record is no array"),
+    (RecordFault::TooMany, "the record has over 65,536 calls"),
+    (
+        RecordFault::NotACall(7),
+        "call 7 is no call: an object with the keys thread, op and first; item in an enq and where the answer is got; last and answer both or neither; no other key; op enq or deq; whole numbers",
+    ),
+    (
+        RecordFault::NumberOutOfRange(7),
+        "call 7 has a thread that is not 0 to 63 or an item that is not 1 to 16,777,215",
+    ),
+    (
+        RecordFault::WrongAnswer(7),
+        "call 7 has an answer that is none of its operation's: done, full, busy or worn of an enqueue, got, empty, busy or worn of a dequeue",
+    ),
+    (
+        RecordFault::EndsEarly(7),
+        "call 7 has a last step below its first",
+    ),
+    (
+        RecordFault::OutOfOrder(7),
+        "call 7 has a first step that is not above that of the call before it",
+    ),
+    (
+        RecordFault::Overlap(7),
+        "call 7 begins before an earlier call of its thread has ended",
+    ),
+    (RecordFault::Memory, "out of memory"),
+];
+
+#[test]
+fn numbers_and_tells_faults(rt: HostRuntime) -> Result<(), Fail> {
+    for (i, (fault, said)) in RECORD_FAULTS.iter().enumerate() {
+        assert_eq!(&rt; fault.number() as usize, i + 1);
+        assert_eq!(&rt; format!(in rt.alloc(); "{fault}")?.as_str(), *said);
+    }
+    let not_legal = RankFault::NotLegal;
+    let no_enqueue = OvertakenFault::NotAnEnqueue;
+    let repeated = MeasureFault::RepeatedItem;
+    let too_long = SearchFault::TooLong;
+    let told = format!(in rt.alloc(); "{not_legal}\n{no_enqueue}\n{repeated}\n{too_long}")?;
+    assert_eq!(&rt;
+        told.as_str(),
+        "the order is no legal order of the history\nthe number is not that of a finished enqueue that was answered done\nan item is repeated: it was put or taken twice\nthe history has over 12 calls"
+    );
+    let numbers = (
+        not_legal.number(),
+        no_enqueue.number(),
+        repeated.number(),
+        too_long.number(),
+    );
+    assert_eq!(&rt; numbers, (1, 1, 2, 1));
+    assert_eq!(&rt; Verdict::NotARun(3).number(), Some(5));
+    assert_eq!(&rt; Verdict::Legal.number(), None);
     Ok(())
 }
 
@@ -356,5 +536,10 @@ fn refused_memory(rt: HostRuntime) -> Result<(), Fail> {
         read => read?,
     };
     assert_eq!(rt; read.calls().len(), 1);
+    let measured = match measure(rt.alloc(), &history) {
+        Err(MeasureFault::Memory) => measure(rt.alloc(), &history)?,
+        measured => measured?,
+    };
+    assert_eq!(rt; measured.len(), 4);
     Ok(())
 }

@@ -1,5 +1,5 @@
 -- A replay of no pick.
-use Rattle.std.proofs.Common.{◌≡◌, ℕ, ◌+◌, ◌*◌, ◌<◌, ◌≤◌, List, [], length, map, get_or, replicate, refl, sym, ◌∙◌, ap, subst, Vec, Global, arith}
+use Rattle.std.proofs.Common.{◌≡◌, ℕ, ◌+◌, ◌*◌, ◌≤◌, List, [], length, map, get_or, replicate, refl, ◌∙◌, ap, Vec, Global, arith}
 use Rattle.std.specs.Prelude.{sum_by}
 use Rattle.std.proofs.lemmas.List.Folds.{fold-map}
 use Rattle.std.proofs.lemmas.List.Sums.{sum_by-le}
@@ -7,9 +7,9 @@ use Rattle.std.proofs.lemmas.List.{length-replicate}
 use Rattle.kfifo_words.specs.declared.shape.Shape.{Shape}
 use Rattle.kfifo_machine.specs.declared.event.Begin.{Begin}
 use Rattle.kfifo_machine.specs.Calls.{blank}
-use Rattle.kfifo_linear.specs.Following.{Follower, Follows}
+use Rattle.kfifo_linear.specs.Following.{Follows}
 use Rattle.kfifo_linear.proofs.Base.{get_or_replicate}
-use Rattle.kfifo_replay.specs.Scripts.{AreScripts, IsScript, calls_in}
+use Rattle.kfifo_replay.specs.Scripts.{AreScripts, calls_in}
 use Rattle.kfifo_replay.specs.Player.{Player, StandsFor}
 
 -- the scripts hold 4,096 calls at most

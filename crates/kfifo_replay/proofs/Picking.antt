@@ -1,6 +1,6 @@
 -- One pick of a replay: it makes an event, and the replay then stands for one pick more.
-use Rattle.std.proofs.Common.{◌≡◌, ◌≢◌, ◌⊎◌, ℕ, ◌+◌, ◌^◌, ◌<◌, ◌≤◌, List, [], ◌∷◌, ◌++◌, length, get_or, set, Option, Some, None, Result, Ok, Err, Bool, true, false, cond, refl, sym, ◌∙◌, ap, subst, inl, inr, arith}
-use Rattle.std.specs.Prelude.{◌==◌, ◌&&◌, slice_get, is_some}
+use Rattle.std.proofs.Common.{◌≡◌, ◌⊎◌, ℕ, ◌+◌, ◌^◌, ◌<◌, ◌≤◌, List, [], ◌∷◌, ◌++◌, length, get_or, set, Option, Some, None, Result, Ok, Err, true, cond, sym, ◌∙◌, ap, subst, inl, inr, arith}
+use Rattle.std.specs.Prelude.{slice_get, is_some}
 use Rattle.std.proofs.lemmas.Bool.{cases_eq}
 use Rattle.std.proofs.lemmas.Grind.{get_or-set_at}
 use Rattle.std.proofs.lemmas.List.{get_or-set_other, length-set}
@@ -18,12 +18,12 @@ use Rattle.kfifo_machine.specs.Laws.{counted}
 use Rattle.kfifo_machine.specs.Calls.{Log, logged, log_of}
 use Rattle.kfifo_machine.proofs.Schedules.{Some-injective, StepsFrom, Ticks, stepped}
 use Rattle.kfifo_machine.proofs.Calls.{log_thread, log_call}
-use Rattle.kfifo_linear.specs.Notes.{begins_call, calls_begun}
+use Rattle.kfifo_linear.specs.Notes.{begins_call}
 use Rattle.kfifo_linear.specs.Following.{Follower, Follows}
 use Rattle.kfifo_replay.specs.Scripts.{calls_in}
-use Rattle.kfifo_replay.specs.Picks.{begun_by, script_of, next_call, event_at, picked, and_then, events_of}
+use Rattle.kfifo_replay.specs.Picks.{begun_by, script_of, next_call, event_at, and_then, events_of}
 use Rattle.kfifo_replay.specs.Player.{Book, Player, StandsFor, IsRefused, undoes, is_undoing, takes_back, undos}
-use Rattle.kfifo_replay.proofs.Events.{events_of-snoc, picked_in, GoesOn, BeginsNext, how_made, begun_by-goes_on, begun_by-own, begun_by-other}
+use Rattle.kfifo_replay.proofs.Events.{events_of-snoc, picked_in, how_made, begun_by-goes_on, begun_by-own, begun_by-other}
 use Rattle.kfifo_replay.proofs.Within.{IsWithin, Makes, makes, few_events, within_picks, log_more, script_is}
 use Rattle.kfifo_replay.proofs.Undos.{takes_back-false, undo_told, first_no_undo, undos-snoc, few_undos}
 

@@ -1,5 +1,5 @@
 -- What a replay reports of its picks.
-use Rattle.std.proofs.Common.{◌≡◌, ℕ, ◌+◌, ◌<◌, ◌≤◌, List, [], length, Some, refl, sym, ◌∙◌, ap, subst, inl, inr, arith}
+use Rattle.std.proofs.Common.{◌≡◌, ℕ, ◌<◌, ◌≤◌, List, length, sym, ◌∙◌, ap, subst, inl, inr, arith}
 use Rattle.std.proofs.lemmas.Bool.{cases_lt}
 use Rattle.std.proofs.lemmas.List.{get_or_past}
 use Rattle.kfifo_words.specs.declared.shape.Shape.{Shape}
@@ -12,7 +12,7 @@ use Rattle.kfifo_machine.specs.declared.event.Event.{Event}
 use Rattle.kfifo_machine.specs.Calls.{history_of}
 use Rattle.kfifo_machine.proofs.Schedules.{Some-injective}
 use Rattle.kfifo_linear.specs.Order.{order_of}
-use Rattle.kfifo_linear.specs.Following.{Follower, Follows}
+use Rattle.kfifo_linear.specs.Following.{Follows}
 use Rattle.kfifo_linear.proofs.Schedule.{has_legal_order}
 use Rattle.kfifo_replay.specs.Scripts.{calls_in}
 use Rattle.kfifo_replay.specs.Player.{Player, StandsFor}

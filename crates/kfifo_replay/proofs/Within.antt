@@ -1,12 +1,11 @@
 -- What picks cannot exceed: a thread begins no more calls than its script has, and a schedule has far fewer than 2^64 events.
-use Rattle.std.proofs.Common.{◌≡◌, ◌≢◌, ◌⊎◌, ℕ, ◌+◌, ◌-◌, ◌*◌, ◌^◌, ◌<◌, ◌≤◌, List, [], ◌∷◌, ◌++◌, length, get_or, take, Option, Some, None, Ok, Bool, true, false, cond, refl, sym, ◌∙◌, ap, subst, inl, inr, arith, length-append, lit<}
+use Rattle.std.proofs.Common.{◌≡◌, ◌≢◌, ℕ, ◌+◌, ◌-◌, ◌*◌, ◌^◌, ◌<◌, ◌≤◌, List, [], ◌∷◌, ◌++◌, length, get_or, take, Option, Some, None, Ok, true, cond, refl, sym, ◌∙◌, ap, subst, inl, inr, arith, length-append, lit<}
 use Rattle.std.specs.Prelude.{sum_by, slice_get}
 use Rattle.std.proofs.Math.Nat.{mul-le-mul_right}
 use Rattle.std.proofs.lemmas.Bool.{cases_eq, cases_lt}
 use Rattle.std.proofs.lemmas.Bool.Decides.{nat_tests}
 use Rattle.std.proofs.lemmas.List.{get_or_past, length-set, take_all}
-use Rattle.std.proofs.lemmas.List.Sums.{sum_by-le}
-use Rattle.std.proofs.lemmas.Option.{slice_get_within, get_or_from_slice_get, slice_get_past}
+use Rattle.std.proofs.lemmas.Option.{slice_get_within, get_or_from_slice_get}
 use Rattle.kfifo_words.specs.declared.shape.Shape.{Shape}
 use Rattle.kfifo_machine.specs.declared.event.Begin.{Begin}
 use Rattle.kfifo_machine.specs.declared.event.Begin.TheVariants as B
@@ -23,16 +22,16 @@ use Rattle.kfifo_machine.specs.Runs.{event, going}
 use Rattle.kfifo_machine.specs.Laws.{most_events}
 use Rattle.kfifo_machine.specs.Calls.{Log, logged, logged_by, blank, log_of, history_of}
 use Rattle.kfifo_machine.proofs.Schedules.{Some-injective, after-snoc, other_place, steps_on}
-use Rattle.kfifo_machine.proofs.Sound.{IsSound, sound, sound_threads}
+use Rattle.kfifo_machine.proofs.Sound.{sound, sound_threads}
 use Rattle.kfifo_machine.proofs.Budget.{left_of, left_falls, begin_left}
 use Rattle.kfifo_machine.proofs.Calls.{log-snoc}
 use Rattle.kfifo_linear.specs.Notes.{begins_call, calls_begun}
 use Rattle.kfifo_linear.proofs.Base.{get_or_replicate}
 use Rattle.kfifo_linear.proofs.Linearizing.{calls_more}
 use Rattle.kfifo_replay.specs.Scripts.{IsCall, IsScript, AreScripts, calls_in}
-use Rattle.kfifo_replay.specs.Picks.{begun_by, script_of, next_call, event_at, picked, and_then, events_from, events_of}
+use Rattle.kfifo_replay.specs.Picks.{begun_by, script_of, next_call, event_at, and_then, events_from, events_of}
 use Rattle.kfifo_replay.proofs.Sums.{sum_below, same_below, falls_below, term_below, few_below, sum_below-get_or}
-use Rattle.kfifo_replay.proofs.Events.{events_from-none, picked_in, GoesOn, BeginsNext, how_made, begun_by-goes_on, begun_by-own, begun_by-other}
+use Rattle.kfifo_replay.proofs.Events.{events_from-none, picked_in, how_made, begun_by-goes_on, begun_by-own, begun_by-other}
 
 -- a bound on the events of a call
 abbrev pub most : ℕ

@@ -3,3 +3,4 @@ pub mod Scripts
 pub mod Player
 pub mod Reports
 pub mod Finishing
+pub mod Faults

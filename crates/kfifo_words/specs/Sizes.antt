@@ -15,3 +15,10 @@ fault_of k n last probes =
     else if not (within 2 1099511627775 last) then Some LastOutOfRange
     else if not (within 1 k probes) then Some ProbesOutOfRange
     else None
+
+-- the number of a fault
+abbrev pub shape_fault_number : ShapeFault → ℕ
+shape_fault_number KOutOfRange = 1
+shape_fault_number SegmentsOutOfRange = 2
+shape_fault_number LastOutOfRange = 3
+shape_fault_number ProbesOutOfRange = 4

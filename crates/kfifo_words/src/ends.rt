@@ -5,6 +5,9 @@ ghost use Rattle.kfifo_words.specs.Words.{ends_word, head_of, tail_of, version_o
 use crate::Word;
 use std::marker::Model;
 
+/// The index of the ends word in the table.
+pub const ENDS_INDEX: usize = 0;
+
 /// The ends word: head and tail, segment numbers below 4,096, under one version below 2^40.
 ///
 /// Clauses see it as the number of its bits.

@@ -8,7 +8,7 @@ mod shape;
 mod tests;
 mod word;
 
-pub use ends::Ends;
+pub use ends::{ENDS_INDEX, Ends};
 pub use fault::ShapeFault;
-pub use shape::Shape;
-pub use word::Word;
+pub use shape::{MAX_K, MAX_SEGMENTS, Shape};
+pub use word::{MAX_VALUE, MAX_VERSION, Word};

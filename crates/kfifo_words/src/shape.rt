@@ -1,7 +1,13 @@
 //! The shape of a ring.
 ghost use Rattle.std.specs.Prelude.{◌≡◌, ℕ, ◌+◌, ◌*◌, ◌^◌, ◌<◌, ◌≤◌, Some, None, MatchResult};
 
-use crate::ShapeFault;
+use crate::{MAX_VERSION, ShapeFault};
+
+/// The most slots of a segment.
+pub const MAX_K: u32 = 64;
+
+/// The most segments of a ring.
+pub const MAX_SEGMENTS: u32 = 1024;
 
 /// The sizes of a ring: n segments of k slots, how far versions go, and how many slots an enqueue
 /// looks at.
@@ -45,13 +51,13 @@ impl Shape {
     pub fn with_probes(k: u32, n: u32, last: u64, probes: u32) -> Result<Shape, ShapeFault>
         ensures { MatchResult result (λ s. (s.k ≡ k) × (s.n ≡ n) × (s.last ≡ last) × (s.probes ≡ probes)) (λ f. fault_of k n last probes ≡ Some f) }
     {
-        if k < 1 || k > 64 {
+        if k < 1 || k > MAX_K {
             return Err(ShapeFault::KOutOfRange);
         }
-        if n < 2 || n > 1024 {
+        if n < 2 || n > MAX_SEGMENTS {
             return Err(ShapeFault::SegmentsOutOfRange);
         }
-        if last < 2 || last > 1_099_511_627_775 {
+        if last < 2 || last > MAX_VERSION {
             return Err(ShapeFault::LastOutOfRange);
         }
         if probes < 1 || probes > k {

@@ -4,6 +4,12 @@ ghost use Rattle.kfifo_words.specs.Words.{slot_word, value_of, version_of};
 
 use std::marker::Model;
 
+/// The greatest value of a word.
+pub const MAX_VALUE: u32 = 16_777_215;
+
+/// The greatest version that a word can have.
+pub const MAX_VERSION: u64 = 1_099_511_627_775;
+
 /// A word of 64 bits: a value below 2^24 and a version below 2^40.
 ///
 /// A slot is empty where its value is 0, with an even version, and filled where its value is an

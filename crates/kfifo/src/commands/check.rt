@@ -1,19 +1,13 @@
 //! The command `check`: whether a record has a legal order, or whether a given order of it is legal.
-ghost use Rattle.std.specs.Prelude.{◌≡◌, ◌≢◌, ◌⊎◌, ◌≤◌, ℕ, List, IfOk, IfErr, option_map};
+ghost use Rattle.std.specs.Prelude.{◌≡◌, ◌≤◌, IfOk};
 ghost use Rattle.clap.specs.Words.{found_of};
-ghost use Rattle.kfifo_judge.specs.Check.{IsChecked, IsCheckFault};
-ghost use Rattle.kfifo_judge.specs.declared.record.StreamFault.{StreamFault};
 ghost use Rattle.kfifo.specs.CommandLine.{IsCommand, check_command};
-ghost use Rattle.kfifo.specs.Faults.{stream_fault};
-ghost use Rattle.kfifo.specs.Records.{IsCheck, IsCheckRefusal, IsInput, IsWidth, status_number};
+ghost use Rattle.kfifo.specs.Options.{GivesCheck, GivesPlaces};
 
-use crate::fault::Fault;
-use crate::status::Status;
-use crate::{options, words};
+use crate::options;
 use clap::{ArgMatches, Command, value_parser};
-use kfifo_judge::{FromStd, check_stream};
+use kfifo_commands::CheckOptions;
 use std::alloc::{AllocError, Global};
-use std::io::Read;
 
 /// The name of the command.
 pub const NAME: &str = "check";
@@ -56,54 +50,20 @@ pub fn command<'a>(alloc: Global) -> Result<Command<'a>, AllocError>
         .arg(order)
 }
 
-/// The line that answers the record of the input, and the status.
-pub fn answer<R: Read>(
-    alloc: Global,
-    matches: &ArgMatches<'_>,
-    input: &mut R,
-) -> Result<(Vec<u8>, Status), Fault>
-    ensures ok { IfOk result (λ a. IsCheck (found_of matches.now) (R.remaining input.old) a.0.items (status_number a.1)) }
-    ensures status { IfOk result (λ a. (a.1 ≡ Status.Answered) ⊎ (a.1 ≡ Status.Unordered)) }
-    ensures err { IfErr result (λ fault. IsCheckRefusal (found_of matches.now) (R.remaining input.old) fault) }
-    ensures silent { IfErr result (λ fault. fault ≢ Fault.Output) }
+/// What the options give.
+pub fn options_of<'a>(matches: &'a ArgMatches<'_>) -> CheckOptions<'a>
+    ensures { GivesCheck (found_of matches.now) result }
 {
-    let k = width_of(matches);
-    let Some(text) = matches.get_str(ORDER) else {
-        return judge(alloc, input, k, None);
-    };
-    let order = words::read_order(alloc, text)?;
-    judge(alloc, input, k, Some(order.as_slice()))
+    CheckOptions {
+        k: places_of(matches),
+        order: matches.get_str(ORDER),
+    }
 }
 
 /// The option `--k`, 1 to 64: the option admits no other.
-fn width_of(matches: &ArgMatches<'_>) -> u32
-    ensures given { IsWidth (found_of matches.now) result }
+fn places_of(matches: &ArgMatches<'_>) -> u32
+    ensures given { GivesPlaces (found_of matches.now) result }
     ensures range { (1 ≤ result) × (result ≤ 64) }
 {
     options::count_of(matches, K, DEFAULT_K).max(1).min(64)
-}
-
-/// The line that answers the record of the input for this k, and the status.
-fn judge<R: Read>(
-    alloc: Global,
-    input: &mut R,
-    k: u32,
-    order: Option<&[usize]>,
-) -> Result<(Vec<u8>, Status), Fault>
-    requires { (1 ≤ k) × (k ≤ 64) }
-    ensures ok { let o = option_map (λ s. s.now) order.entry in
-        IfOk result (λ a. (bytes : List ℕ) × IsInput (R.remaining input.old) bytes × IsChecked k o bytes a.0.items (status_number a.1)) }
-    ensures status { IfOk result (λ a. (a.1 ≡ Status.Answered) ⊎ (a.1 ≡ Status.Unordered)) }
-    ensures err { let o = option_map (λ s. s.now) order.entry in
-        IfErr result (λ fault. (given : StreamFault) × (fault ≡ stream_fault given) × (given ≢ StreamFault.Input → given ≢ StreamFault.Output
-        → given ≢ StreamFault.Memory → (bytes : List ℕ) × IsInput (R.remaining input.old) bytes × IsCheckFault o bytes given)) }
-    ensures silent { IfErr result (λ fault. fault ≢ Fault.Output) }
-{
-    let mut source = FromStd::new(input);
-    let mut sink = FromStd::new(Vec::new(alloc));
-    match check_stream(alloc, &mut source, &mut sink, k, order) {
-        Ok(0) => Ok((sink.inner, Status::Answered)),
-        Ok(_) => Ok((sink.inner, Status::Unordered)),
-        Err(fault) => Err(Fault::from(fault)),
-    }
 }

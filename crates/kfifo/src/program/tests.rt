@@ -4,7 +4,6 @@ mod closed;
 mod memory;
 mod records;
 mod runs;
-mod steps;
 mod usage;
 
 use crate::program::program;

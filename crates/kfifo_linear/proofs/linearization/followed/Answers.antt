@@ -14,7 +14,7 @@ feed-requires-clause-room c begins =
     omega (arith, left, c.loop-event.invariant.follows.begun, c.loop-event.invariant.follows.sizes.calls)
 
 pub returns-in-Err-clause-refused : goal.returns-in-Err-clause-refused
-returns-in-Err-clause-refused c e =
+returns-in-Err-clause-refused c =
     let at = c.loop-event.invariant.follows in
     inr (λ schedule. no_schedule c.loop-event.linearizer.shape c.args.threads c.args.events.now c.loop-event.event-index _ c.loop-event.linearizer.world c.in-Err._fault c.loop-event-test.true at.reached c.in-Err.ensures.refused
     (subst (λ s. IsSchedule s c.args.threads c.args.events.now) (sym c.loop-event.invariant.shape) schedule))

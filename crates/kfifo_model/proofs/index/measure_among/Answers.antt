@@ -9,18 +9,18 @@ returns-then-not-has_done c =
     let none = c.if-not-has_done.ensures in
     (c.new.ensures.items ∙ sym (none_measured c.args.calls.now (length c.args.calls.now) none), λ n d. absurd (none n d))
 
-pub returns-in-Ok-None : goal.returns-in-Ok-None
-returns-in-Ok-None c =
-    let two = rw c.in-Ok-None.field-0-is at c.in-Ok-None.ensures in
+pub returns-in_default : goal.returns-in_default
+returns-in_default c =
+    let two = rw c.in_default.is at c.in_ok-puts.ensures in
     (c.if-not-has_done.ensures, two_puts c.args.calls.now two)
 
-pub returns-in-Ok-None-index_of : goal.returns-in-Ok-None-index_of
-returns-in-Ok-None-index_of c =
-    let two = rw c.in-Ok-None-index_of.field-0-is at c.in-Ok-None-index_of.ensures in
+pub returns-in_default-2 : goal.returns-in_default-2
+returns-in_default-2 c =
+    let two = rw c.in_default-2.is at c.in_ok-gots.ensures in
     (c.if-not-has_done.ensures, two_gots c.args.calls.now two)
 
-pub returns-in-Ok : goal.returns-in-Ok
-returns-in-Ok c =
-    let puts = rw c.in-Ok-Some.field-0-is at c.in-Ok-Some.ensures in
-    let gots = rw c.in-Ok-Some-index_of.field-0-is at c.in-Ok-Some-index_of.ensures in
-    (c.in-Ok.ensures, λ n d. all_distinct c.args.calls.now (λ x. get nat_cmp c.in-Ok-Some.puts x) (λ x. get nat_cmp c.in-Ok-Some-index_of.gots x) puts gots)
+pub returns : goal.returns
+returns c =
+    let puts = rw c.in-Some.is at c.in_ok-puts.ensures in
+    let gots = rw c.in-Some-2.is at c.in_ok-gots.ensures in
+    (c.in_ok-measure_calls.ensures, λ n d. all_distinct c.args.calls.now (λ x. get nat_cmp c.in-Some.puts x) (λ x. get nat_cmp c.in-Some-2.gots x) puts gots)

@@ -14,7 +14,7 @@ use Rattle.kfifo_model.proofs.reading.read_members.Goals as goal
 
 pub loop-n-init : goal.loop-n-init
 loop-n-init c =
-    let none = c.in_default.ensures.items ∙ c.new-calls.ensures.items in
+    let none = c.in_ok-reserve_exact.ensures.items ∙ c.new-calls.ensures.items in
     let P : List Call → Type 0 = λ h. (length h ≡ 0) × IsHistory h × AreRead (map view c.args.members.now) h × IsProgress h 0 c.new-progress.result in
     let p = subst P (sym none) (refl, λ n lt. absurd (omega arith), λ n lt. absurd (omega arith), no_progress [] c.new-progress.result c.new-progress.ensures.sized c.new-progress.ensures.latest c.new-progress.ensures.threads) in
     record { sized = p.0; valid = p.1; read = p.2; seen = p.3 }
@@ -80,7 +80,7 @@ loop-n-preserved c =
       lets = λ d. (c.if-not-lets.ensures d).0 refl;
     } in
     let P : List Call → Type 0 = λ h. (length h ≡ c.loop-n.n + 1) × IsHistory h × AreRead (map view c.args.members.now) h × IsProgress h (c.loop-n.n + 1) c.note.new.self in
-    let p = subst P (sym c.in_default-push.ensures.items) (
+    let p = subst P (sym c.in_ok-push.ensures.items) (
       simp length-append (let z = c.loop-n.invariant.sized in omega arith),
       more_valid c.loop-n.calls.items c.in-Ok.call c.loop-n.n c.loop-n.progress c.loop-n.invariant.sized c.loop-n.invariant.valid c.loop-n.invariant.seen tests,
       read_more (map view c.args.members.now) c.loop-n.calls.items c.in-Ok.call c.loop-n.n c.loop-n.invariant.sized c.loop-n.invariant.read

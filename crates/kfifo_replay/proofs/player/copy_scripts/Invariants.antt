@@ -1,5 +1,5 @@
 -- The scripts so far were copied.
-use Rattle.std.proofs.Common.{◌≡◌, map, take, List, Vec, Global}
+use Rattle.std.proofs.Common.{◌≡◌, map, take, Vec, Global}
 use Rattle.kfifo_machine.specs.declared.event.Begin.{Begin}
 use Rattle.kfifo_replay.proofs.player.copy_scripts.Given as goal
 

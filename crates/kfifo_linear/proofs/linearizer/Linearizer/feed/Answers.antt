@@ -2,7 +2,7 @@
 use Rattle.std.proofs.Common.{◌≡◌, ℕ, List, ◌∷◌, ◌++◌, [], true, subst, sym, ap, ◌∙◌, ◌<◌, length}
 use Rattle.kfifo_machine.specs.declared.event.Event.{Event}
 use Rattle.kfifo_machine.specs.Machine.{place_of, word_at}
-use Rattle.kfifo_linear.specs.Notes.{begins_call, deed_at, fed, noted_event}
+use Rattle.kfifo_linear.specs.Notes.{begins_call, action_at, fed, noted_event}
 use Rattle.kfifo_linear.specs.Following.{Follower, Follows, follower}
 use Rattle.kfifo_linear.proofs.Linearizing.{can_feed, feeds, follower_ends}
 use Rattle.kfifo_linear.proofs.linearizer.Linearizer.feed.Goals as goal
@@ -20,19 +20,19 @@ note-requires-clause-call c = (can_feed _ _ _ c.args.event c.self.invariant c.in
 
 pub note-requires-clause-room : goal.note-requires-clause-room
 note-requires-clause-room c =
-    let deed : c.next_deed-deed.result ≡ deed_at c.self.inside.state.shape c.self.inside.state.world (place_of c.self.inside.state.world c.args.event.thread)
-    = c.next_deed-deed.ensures ∙ ap (λ (f : Follower). deed_at f.shape f.world (place_of f.world c.args.event.thread)) (sym c.self.view_is) in
-    rw (c.shape-shape.ensures, deed) (can_feed _ _ _ c.args.event c.self.invariant c.in_ok-outcome.ensures.made).room
+    let action : c.next_action-action.result ≡ action_at c.self.inside.state.shape c.self.inside.state.world (place_of c.self.inside.state.world c.args.event.thread)
+    = c.next_action-action.ensures ∙ ap (λ (f : Follower). action_at f.shape f.world (place_of f.world c.args.event.thread)) (sym c.self.view_is) in
+    rw (c.shape-shape.ensures, action) (can_feed _ _ _ c.args.event c.self.invariant c.in_ok-outcome.ensures.made).room
 
 notes_are : (c : goal.After-note) → c.note.new.self ≡ fed c.self.inside.state.shape c.self.inside.state.world c.args.event c.in_ok-outcome.outcome c.self.inside.notes
 notes_are c =
-    let deed : c.next_deed-deed.result ≡ deed_at c.self.inside.state.shape c.self.inside.state.world (place_of c.self.inside.state.world c.args.event.thread)
-    = c.next_deed-deed.ensures ∙ ap (λ (f : Follower). deed_at f.shape f.world (place_of f.world c.args.event.thread)) (sym c.self.view_is) in
+    let action : c.next_action-action.result ≡ action_at c.self.inside.state.shape c.self.inside.state.world (place_of c.self.inside.state.world c.args.event.thread)
+    = c.next_action-action.ensures ∙ ap (λ (f : Follower). action_at f.shape f.world (place_of f.world c.args.event.thread)) (sym c.self.view_is) in
     let ends : c.of_bits-ends.result ≡ word_at c.self.inside.state.world 0 = c.of_bits-ends.ensures ∙ c.word.ensures in
     c.note.ensures
-    ∙ ap (λ s. noted_event s c.args.event.thread c.args.event.begin c.of_bits-ends.result c.next_deed-deed.result c.in_ok-outcome.outcome c.self.inside.notes) c.shape-shape.ensures
-    ∙ ap (λ w. noted_event c.self.inside.state.shape c.args.event.thread c.args.event.begin w c.next_deed-deed.result c.in_ok-outcome.outcome c.self.inside.notes) ends
-    ∙ ap (λ d. noted_event c.self.inside.state.shape c.args.event.thread c.args.event.begin (word_at c.self.inside.state.world 0) d c.in_ok-outcome.outcome c.self.inside.notes) deed
+    ∙ ap (λ s. noted_event s c.args.event.thread c.args.event.begin c.of_bits-ends.result c.next_action-action.result c.in_ok-outcome.outcome c.self.inside.notes) c.shape-shape.ensures
+    ∙ ap (λ w. noted_event c.self.inside.state.shape c.args.event.thread c.args.event.begin w c.next_action-action.result c.in_ok-outcome.outcome c.self.inside.notes) ends
+    ∙ ap (λ d. noted_event c.self.inside.state.shape c.args.event.thread c.args.event.begin (word_at c.self.inside.state.world 0) d c.in_ok-outcome.outcome c.self.inside.notes) action
 
 followed : (c : goal.After-note) (threads room : ℕ) (events : List Event) → Follows threads room events c.args.self.now → Follows threads room (events ++ c.args.event ∷ []) (follower c.step.new.state.shape c.step.new.state.world c.note.new.self)
 followed c threads room events h =

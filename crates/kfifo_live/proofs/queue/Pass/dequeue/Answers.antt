@@ -1,25 +1,24 @@
 -- After the call the pass is in no call, and what is new to it is one whole run.
-use Rattle.kfifo_live.proofs.Passes.{called, promised}
-use Rattle.kfifo_machine.proofs.Budget.{few_events}
-use Rattle.kfifo_machine.proofs.Wear.{worn_has_cause}
-use Rattle.kfifo_machine.proofs.Losses.{busy_has_cause}
-use Rattle.kfifo_machine.proofs.Undisturbed.{busy_is_disturbed}
+use Rattle.kfifo_machine.specs.declared.event.Begin.TheVariants as B
+use Rattle.kfifo_live.specs.Pass.{known_of}
+use Rattle.kfifo_live.proofs.Made.{takes_few_steps, has_cause, is_disturbed, leaves_none}
+use Rattle.kfifo_live.proofs.Passes.{called, made, promised}
 use Rattle.kfifo_live.proofs.queue.Pass.dequeue.Goals as goal
 
 pub invariant_of-self : goal.invariant_of-self
-invariant_of-self c = called _ _ _ _ _ c.self.inside.seat.me c.dequeue.new.seat.me c.self.invariant c.dequeue.ensures
+invariant_of-self c = called _ _ _ c.self.inside.seat.me c.dequeue.new.seat.me c.self.invariant c.dequeue.ensures.same_slots c.dequeue.ensures.leads
 
 pub returns-clause-promise : goal.returns-clause-promise
-returns-clause-promise c = promised _ c.dequeue.new.seat.me (called _ _ _ _ _ c.self.inside.seat.me c.dequeue.new.seat.me c.self.invariant c.dequeue.ensures)
+returns-clause-promise c = promised _ c.dequeue.new.seat.me (called _ _ _ c.self.inside.seat.me c.dequeue.new.seat.me c.self.invariant c.dequeue.ensures.same_slots c.dequeue.ensures.leads)
 
-pub returns-clause-few_events : goal.returns-clause-few_events
-returns-clause-few_events c = few_events c.args.self.now.opened.shape c.args.self.now.opened.threads
+pub returns-clause-few_steps : goal.returns-clause-few_steps
+returns-clause-few_steps c = takes_few_steps (B.Dequeue c.args.start c.args.turns) c.dequeue.result c.args.self.now (known_of c.dequeue.new.seat.table_id c.self.inside.thread c.dequeue.new.seat.me.0) (made _ _ _ c.self.inside.seat c.dequeue.new.seat _ c.self.invariant c.self.view_is c.dequeue.ensures)
 
-pub returns-clause-worn_has_cause : goal.returns-clause-worn_has_cause
-returns-clause-worn_has_cause c = worn_has_cause c.args.self.now.opened.shape c.args.self.now.opened.threads
+pub returns-clause-cause : goal.returns-clause-cause
+returns-clause-cause c = has_cause (B.Dequeue c.args.start c.args.turns) c.dequeue.result c.args.self.now (known_of c.dequeue.new.seat.table_id c.self.inside.thread c.dequeue.new.seat.me.0) (made _ _ _ c.self.inside.seat c.dequeue.new.seat _ c.self.invariant c.self.view_is c.dequeue.ensures)
 
-pub returns-clause-busy_has_cause : goal.returns-clause-busy_has_cause
-returns-clause-busy_has_cause c = busy_has_cause c.args.self.now.opened.shape c.args.self.now.opened.threads
+pub returns-clause-disturbed : goal.returns-clause-disturbed
+returns-clause-disturbed c = is_disturbed (B.Dequeue c.args.start c.args.turns) c.dequeue.result c.args.self.now (known_of c.dequeue.new.seat.table_id c.self.inside.thread c.dequeue.new.seat.me.0) (made _ _ _ c.self.inside.seat c.dequeue.new.seat _ c.self.invariant c.self.view_is c.dequeue.ensures)
 
-pub returns-clause-busy_is_disturbed : goal.returns-clause-busy_is_disturbed
-returns-clause-busy_is_disturbed c = busy_is_disturbed c.args.self.now.opened.shape c.args.self.now.opened.threads
+pub returns-clause-leaves_none : goal.returns-clause-leaves_none
+returns-clause-leaves_none c = leaves_none (B.Dequeue c.args.start c.args.turns) c.dequeue.result c.args.self.now (known_of c.dequeue.new.seat.table_id c.self.inside.thread c.dequeue.new.seat.me.0) (made _ _ _ c.self.inside.seat c.dequeue.new.seat _ c.self.invariant c.self.view_is c.dequeue.ensures)

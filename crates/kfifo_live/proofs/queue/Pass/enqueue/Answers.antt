@@ -1,33 +1,24 @@
 -- After the call the pass is in no call, and what is new to it is one whole run.
-use Rattle.kfifo_live.proofs.Passes.{called, promised}
-use Rattle.kfifo_machine.proofs.Budget.{few_events}
-use Rattle.kfifo_machine.proofs.Refusals.{leaves_none}
-use Rattle.kfifo_machine.proofs.Causes.{full_has_cause}
-use Rattle.kfifo_machine.proofs.Wear.{worn_has_cause}
-use Rattle.kfifo_machine.proofs.Losses.{busy_has_cause}
-use Rattle.kfifo_machine.proofs.Undisturbed.{busy_is_disturbed}
+use Rattle.kfifo_machine.specs.declared.event.Begin.TheVariants as B
+use Rattle.kfifo_live.specs.Pass.{known_of}
+use Rattle.kfifo_live.proofs.Made.{takes_few_steps, has_cause, is_disturbed, leaves_none}
+use Rattle.kfifo_live.proofs.Passes.{called, made, promised}
 use Rattle.kfifo_live.proofs.queue.Pass.enqueue.Goals as goal
 
 pub invariant_of-self : goal.invariant_of-self
-invariant_of-self c = called _ _ _ _ _ c.self.inside.seat.me c.enqueue.new.seat.me c.self.invariant c.enqueue.ensures
+invariant_of-self c = called _ _ _ c.self.inside.seat.me c.enqueue.new.seat.me c.self.invariant c.enqueue.ensures.same_slots c.enqueue.ensures.leads
 
 pub returns-clause-promise : goal.returns-clause-promise
-returns-clause-promise c = promised _ c.enqueue.new.seat.me (called _ _ _ _ _ c.self.inside.seat.me c.enqueue.new.seat.me c.self.invariant c.enqueue.ensures)
+returns-clause-promise c = promised _ c.enqueue.new.seat.me (called _ _ _ c.self.inside.seat.me c.enqueue.new.seat.me c.self.invariant c.enqueue.ensures.same_slots c.enqueue.ensures.leads)
 
-pub returns-clause-few_events : goal.returns-clause-few_events
-returns-clause-few_events c = few_events c.args.self.now.opened.shape c.args.self.now.opened.threads
+pub returns-clause-few_steps : goal.returns-clause-few_steps
+returns-clause-few_steps c = takes_few_steps (B.Enqueue c.args.item c.args.start c.args.turns) c.enqueue.result c.args.self.now (known_of c.enqueue.new.seat.table_id c.self.inside.thread c.enqueue.new.seat.me.0) (made _ _ _ c.self.inside.seat c.enqueue.new.seat _ c.self.invariant c.self.view_is c.enqueue.ensures)
+
+pub returns-clause-cause : goal.returns-clause-cause
+returns-clause-cause c = has_cause (B.Enqueue c.args.item c.args.start c.args.turns) c.enqueue.result c.args.self.now (known_of c.enqueue.new.seat.table_id c.self.inside.thread c.enqueue.new.seat.me.0) (made _ _ _ c.self.inside.seat c.enqueue.new.seat _ c.self.invariant c.self.view_is c.enqueue.ensures)
+
+pub returns-clause-disturbed : goal.returns-clause-disturbed
+returns-clause-disturbed c = is_disturbed (B.Enqueue c.args.item c.args.start c.args.turns) c.enqueue.result c.args.self.now (known_of c.enqueue.new.seat.table_id c.self.inside.thread c.enqueue.new.seat.me.0) (made _ _ _ c.self.inside.seat c.enqueue.new.seat _ c.self.invariant c.self.view_is c.enqueue.ensures)
 
 pub returns-clause-leaves_none : goal.returns-clause-leaves_none
-returns-clause-leaves_none c = leaves_none c.args.self.now.opened.shape c.args.self.now.opened.threads
-
-pub returns-clause-full_has_cause : goal.returns-clause-full_has_cause
-returns-clause-full_has_cause c = full_has_cause c.args.self.now.opened.shape c.args.self.now.opened.threads
-
-pub returns-clause-worn_has_cause : goal.returns-clause-worn_has_cause
-returns-clause-worn_has_cause c = worn_has_cause c.args.self.now.opened.shape c.args.self.now.opened.threads
-
-pub returns-clause-busy_has_cause : goal.returns-clause-busy_has_cause
-returns-clause-busy_has_cause c = busy_has_cause c.args.self.now.opened.shape c.args.self.now.opened.threads
-
-pub returns-clause-busy_is_disturbed : goal.returns-clause-busy_is_disturbed
-returns-clause-busy_is_disturbed c = busy_is_disturbed c.args.self.now.opened.shape c.args.self.now.opened.threads
+returns-clause-leaves_none c = leaves_none (B.Enqueue c.args.item c.args.start c.args.turns) c.enqueue.result c.args.self.now (known_of c.enqueue.new.seat.table_id c.self.inside.thread c.enqueue.new.seat.me.0) (made _ _ _ c.self.inside.seat c.enqueue.new.seat _ c.self.invariant c.self.view_is c.enqueue.ensures)

@@ -2,6 +2,7 @@
 use Rattle.kfifo_linear.proofs.Schedule.{has_legal_order, few_overtake, few_certainly}
 use Rattle.std.proofs.Common.{arith, ◌≡◌, replicate, ◌+◌, ◌*◌, ◌∙◌, rules}
 use Rattle.kfifo_live.proofs.Cuts.{opens}
+use Rattle.kfifo_live.proofs.Opens.{zeroed}
 use Rattle.kfifo_live.proofs.queue.Queue.open.Goals as goal
 
 pub of_words-requires : goal.of_words-requires
@@ -17,3 +18,6 @@ returns-clause-few_overtake c = few_overtake c.args.shape c.args.threads (omega 
 
 pub returns-clause-few_certainly_overtake : goal.returns-clause-few_certainly_overtake
 returns-clause-few_certainly_overtake c = few_certainly c.args.shape c.args.threads (omega (arith, c.if-threads-gt-MAX_THREADS.false))
+
+pub returns-clause-zeroed : goal.returns-clause-zeroed
+returns-clause-zeroed c = zeroed _

@@ -1,7 +1,7 @@
 -- The pick that is refused is the next one of the list with so many of it.
-use Rattle.std.proofs.Common.{◌≡◌, ℕ, List, ◌++◌, take, replicate, get_or, refl, sym, ap, subst, arith}
+use Rattle.std.proofs.Common.{◌≡◌, ℕ, List, ◌++◌, take, replicate, get_or, refl, sym, subst, arith}
 use Rattle.std.proofs.lemmas.List.{take-replicate, get_or-replicate, length-replicate}
-use Rattle.kfifo_replay.specs.Player.{Player, StandsFor, IsRefused, StopsAt}
+use Rattle.kfifo_replay.specs.Player.{StandsFor, IsRefused, StopsAt}
 use Rattle.kfifo_replay.proofs.player.Replay.feed_many.Goals as goal
 
 pub returns-then-not-pick-clause-refused : goal.returns-then-not-pick-clause-refused

@@ -1,7 +1,7 @@
 -- One pick more at each turn, and one more is refused at the end.
 use Rattle.std.proofs.Common.{◌≡◌, ℕ, ◌+◌, List, [], ◌∷◌, ◌++◌, replicate, refl, sym, ◌∙◌, ap, subst}
 use Rattle.std.proofs.lemmas.List.{append-nil, append_assoc, replicate_more}
-use Rattle.kfifo_replay.specs.Player.{Player, StandsFor}
+use Rattle.kfifo_replay.specs.Player.{StandsFor}
 use Rattle.kfifo_replay.proofs.player.Replay.go_to_end.Goals as goal
 
 pub loop-init : goal.loop-init

@@ -1,6 +1,5 @@
 -- The calls of a schedule are a history.
 use Rattle.std.proofs.Common.{◌≡◌, ◌∙◌, length, ap, subst, sym}
-use Rattle.kfifo_model.specs.declared.calls.Call.{Call}
 use Rattle.kfifo_model.specs.Validity.{IsHistory}
 use Rattle.kfifo_machine.specs.Calls.{Log}
 use Rattle.kfifo_machine.proofs.Calls.{history_is, no_fault}

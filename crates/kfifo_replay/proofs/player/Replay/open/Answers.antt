@@ -1,14 +1,12 @@
 -- A new replay stands for no pick.
-use Rattle.std.proofs.Common.{◌≡◌, ℕ, ◌<◌, ◌≤◌, List, [], length, map, replicate, Vec, Global, refl, sym, ◌∙◌, ap, subst, arith}
-use Rattle.std.specs.Prelude.{sum_by}
+use Rattle.std.proofs.Common.{◌≡◌, ◌≤◌, List, [], length, map, replicate, Vec, Global, refl, sym, ◌∙◌, ap, subst, arith}
 use Rattle.std.proofs.lemmas.List.{length-map}
-use Rattle.kfifo_words.specs.declared.shape.Shape.{Shape}
 use Rattle.kfifo_machine.specs.declared.event.Begin.{Begin}
 use Rattle.kfifo_machine.specs.Calls.{blank}
 use Rattle.kfifo_linear.specs.contracts.linearizer.Linearizer.{the_view}
 use Rattle.kfifo_linear.specs.Following.{Follower, Follows}
 use Rattle.kfifo_replay.specs.Scripts.{AreScripts, calls_in}
-use Rattle.kfifo_replay.specs.Player.{Player, StandsFor}
+use Rattle.kfifo_replay.specs.Player.{StandsFor}
 use Rattle.kfifo_replay.proofs.Opening.{few_calls, calls_in-map, stands_none}
 use Rattle.kfifo_replay.proofs.player.Replay.open.Goals as goal
 

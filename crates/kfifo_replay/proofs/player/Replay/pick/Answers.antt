@@ -1,5 +1,5 @@
 -- A pick makes its event, and the replay stands for one pick more.
-use Rattle.std.proofs.Common.{◌≡◌, ℕ, ◌+◌, ◌<◌, ◌≤◌, List, [], ◌∷◌, ◌++◌, length, get_or, set, Option, Some, None, Bool, true, false, cond, refl, sym, ◌∙◌, ap, subst, arith, length-append}
+use Rattle.std.proofs.Common.{◌≡◌, ℕ, ◌+◌, ◌<◌, ◌≤◌, List, [], ◌∷◌, ◌++◌, length, get_or, set, Option, None, Bool, true, false, cond, refl, sym, ◌∙◌, ap, subst, arith, length-append}
 use Rattle.std.specs.Prelude.{slice_get, is_some}
 use Rattle.std.specs.Int.{from_bool}
 use Rattle.std.proofs.lemmas.Grind.{get_or_default_zero}
@@ -14,7 +14,7 @@ use Rattle.kfifo_replay.specs.Scripts.{calls_in}
 use Rattle.kfifo_replay.specs.Picks.{script_of, event_at}
 use Rattle.kfifo_replay.specs.Player.{Player, StandsFor, is_undoing, takes_back}
 use Rattle.kfifo_replay.specs.contracts.player.Replay.{the_view}
-use Rattle.kfifo_replay.proofs.Picking.{sees, few_steps, few_rollbacks, is_refused, own_thread, thread_within, never_refused, room_for_call, room_in_book, thread_in_book, call_in_book, few_begun, stands_on}
+use Rattle.kfifo_replay.proofs.Picking.{sees, few_steps, few_rollbacks, is_refused, thread_within, never_refused, room_for_call, room_in_book, thread_in_book, call_in_book, few_begun, stands_on}
 use Rattle.kfifo_replay.proofs.player.Replay.pick.Goals as goal
 
 -- a test as a number

@@ -1,11 +1,10 @@
 -- The order is legal, so it has ranks; and the report is that of the picks.
-use Rattle.std.proofs.Common.{◌≡◌, ℕ, ◌<◌, ◌≤◌, List, length, refl, sym, ◌∙◌, ap, subst, arith}
+use Rattle.std.proofs.Common.{◌≡◌, ℕ, List, length, sym, ◌∙◌, ap, subst, arith}
 use Rattle.kfifo_words.specs.declared.shape.Shape.{Shape}
 use Rattle.kfifo_model.specs.declared.calls.Call.{Call}
 use Rattle.kfifo_model.specs.Histories.{IsLegal}
 use Rattle.kfifo_model.specs.Measures.{IsRankFault}
 use Rattle.kfifo_model.specs.Ranks.{ranks_of}
-use Rattle.kfifo_machine.specs.declared.event.Begin.{Begin}
 use Rattle.kfifo_machine.specs.Calls.{history_of}
 use Rattle.kfifo_linear.specs.Order.{order_of}
 use Rattle.kfifo_replay.specs.Player.{Player, StandsFor}
@@ -24,7 +23,7 @@ unreachable-requires c =
     history_same i.shape i.scripts i.picks p i.stands c.in_ok-history.history (c.in_ok-history.ensures.history i.shape i.scripts i.picks (subst (StandsFor i.shape i.scripts i.picks) c.self.view_is i.stands)) in
     let k : c.k.result ≡ i.shape.k = c.k.ensures ∙ ap (λ (x : Shape). x.k) i.stands.shape_is in
     let refused : IsLegal c.k.result c.in_ok-history.history c.as_slice.result.now → ⊥ =
-    subst (IsRankFault c.k.result c.in_ok-history.history c.as_slice.result.now) c.in-Err-NotLegal.field-0-is c.in-Err-NotLegal.ensures in
+    subst (IsRankFault c.k.result c.in_ok-history.history c.as_slice.result.now) c.in-Err-NotLegal.field-0-is c.in-Err-NotLegal.ensures.ranks in
     refused (same_legal (sym k) (sym history) (sym order) (is_legal i.shape i.scripts i.picks p i.stands))
   where
     same_legal : {k l : ℕ} {h g : List Call} {o q : List ℕ} → k ≡ l → h ≡ g → o ≡ q → IsLegal k h o → IsLegal l g q
@@ -51,7 +50,7 @@ returns-clause-report c shape scripts picks stands =
         steps = c.steps.ensures ∙ s.follows.steps;
         order = order;
         worst_rank = c.greatest_of-worst_rank.ensures
-            ∙ ap greatest (c.as_slice-in-Ok.ensures.value ∙ c.in-Ok.ensures.1)
+            ∙ ap greatest (c.as_slice-in-Ok.ensures.value ∙ c.in-Ok.ensures.ranks.1)
             ∙ ap (λ n. greatest (ranks_of n c.in_ok-history.history c.as_slice.result.now)) k
             ∙ ap (λ (h : List Call). greatest (ranks_of shape.k h c.as_slice.result.now)) history
             ∙ ap (λ (o : List ℕ). greatest (ranks_of shape.k (history_of shape (length scripts) s.events) o)) (c.as_slice.ensures.value ∙ order);

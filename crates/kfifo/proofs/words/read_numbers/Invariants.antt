@@ -1,7 +1,0 @@
-use Rattle.std.proofs.Common.{take}
-use Rattle.kfifo.specs.Orders.{WriteNumbers}
-use Rattle.kfifo.proofs.Orders.{texts_of}
-use Rattle.kfifo.proofs.words.read_numbers.Given as goal
-
-abbrev pub invariant-loop-text : goal.invariant-loop-text
-invariant-loop-text l = WriteNumbers (texts_of (take l.text-index l.texts)) l.numbers.items

@@ -1,0 +1,28 @@
+use Rattle.std.proofs.Common.{refl}
+use Rattle.kfifo_commands.specs.Statuses.{status_number}
+use Rattle.kfifo_commands.proofs.Refusals.{any_err}
+use Rattle.kfifo_commands.proofs.ending.answer.Goals as goal
+
+pub returns-in_err-print-in-Run-clause-broken : goal.returns-in_err-print-in-Run-clause-broken
+returns-in_err-print-in-Run-clause-broken g c = any_err c.from_residual-in_err-print-in-Run.result _ (λ fault is. (
+  c.as_bytes.result.now,
+  0,
+  rw (c.in-Run.is, c.as_bytes.ensures.value) (c.in_ok-text-in-Run.ensures.ok, refl),
+  c.in_err-print-in-Run.ensures.err,
+))
+
+pub returns-in_err-print-in-Check-clause-broken : goal.returns-in_err-print-in-Check-clause-broken
+returns-in_err-print-in-Check-clause-broken g c = any_err c.from_residual-in_err-print-in-Check.result _ (λ fault is. (
+  c.as_slice.result.now,
+  status_number c.in_ok-text-in-Check.status,
+  rw (c.in-Check.is, c.as_slice.ensures.value) c.in_ok-text-in-Check.ensures.ok,
+  c.in_err-print-in-Check.ensures.err,
+))
+
+pub returns-in_err-print-in-Measure-clause-broken : goal.returns-in_err-print-in-Measure-clause-broken
+returns-in_err-print-in-Measure-clause-broken g c = any_err c.from_residual-in_err-print-in-Measure.result _ (λ fault is. (
+  c.as_slice-in-Measure.result.now,
+  0,
+  rw (c.in-Measure.is, c.as_slice-in-Measure.ensures.value) (c.in_ok-text-in-Measure.ensures.ok, refl),
+  c.in_err-print-in-Measure.ensures.err,
+))

@@ -1,0 +1,7 @@
+use Rattle.std.proofs.Common.{take}
+use Rattle.kfifo_commands.specs.Orders.{WriteNumbers}
+use Rattle.kfifo_commands.proofs.Orders.{texts_of}
+use Rattle.kfifo_commands.proofs.words.read_numbers.Given as goal
+
+abbrev pub invariant-loop-text : goal.invariant-loop-text
+invariant-loop-text l = WriteNumbers (texts_of (take l.text-index l.texts)) l.numbers.items

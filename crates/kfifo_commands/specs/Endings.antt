@@ -1,0 +1,49 @@
+-- What the commands come to, and how the program ends.
+use Rattle.std.specs.Prelude.{◌≡◌, ◌≢◌, ◌⊎◌, ◌≤◌, ℕ, List, Option}
+use Rattle.kfifo_commands.specs.declared.fault.Fault.{Fault}
+use Rattle.kfifo_commands.specs.declared.fault.Fault.TheVariants.{Input}
+use Rattle.kfifo_commands.specs.declared.options.Request.{Request}
+use Rattle.kfifo_commands.specs.declared.options.Request.TheVariants.{Run, Check, Measure}
+use Rattle.kfifo_commands.specs.Faults.{fault_line}
+use Rattle.kfifo_commands.specs.Records.{IsCheck, IsCheckRefusal, IsMeasure, IsMeasureRefusal}
+use Rattle.kfifo_commands.specs.Runs.{IsRunAnswer, IsRunRefusal}
+
+-- the text that answers a request, and its status
+abbrev pub Answers : Request → Option (List ℕ) → List ℕ → ℕ → Type 0
+Answers (Run options) input text status = IsRunAnswer options text × (status ≡ 0)
+Answers (Check options) input text status = IsCheck options input text status
+Answers Measure input text status = IsMeasure input text × (status ≡ 0)
+
+-- the same, and no read failed
+abbrev pub IsAnswered : Request → Option (List ℕ) → ℕ → ℕ → List ℕ → ℕ → Type 0
+IsAnswered request input before after text status = Answers request input text status × (after ≡ before)
+
+-- why a request has no answer, by its input and the numbers of failed reads before and after
+abbrev pub IsCause : Request → Option (List ℕ) → ℕ → ℕ → Fault → Type 0
+IsCause (Run options) input before after fault = IsRunRefusal options fault
+IsCause (Check options) input before after fault = IsCheckRefusal options input before after fault
+IsCause Measure input before after fault = IsMeasureRefusal input before after fault
+
+-- the same, and no read failed but where that is the fault
+abbrev pub IsRefused : Request → Option (List ℕ) → ℕ → ℕ → Fault → Type 0
+IsRefused request input before after fault = IsCause request input before after fault × (fault ≢ Input → after ≡ before)
+
+-- what became of a text that was to be written: all of it, a beginning of it, or nothing was written at all
+pub data Written : Type 0 where
+  Whole : List ℕ → Written
+  Part : List ℕ → Written
+  Nothing : Written
+
+-- the text was written as far as that could be done
+abbrev pub Tells : (Written → Type 0) → List ℕ → Type 0
+Tells faults text = faults (Whole text) ⊎ faults (Part text)
+
+-- How a run ends with a status. `answers` says which texts answer with which status, `causes` which faults are the cause
+-- of a failure, `misuse` when the command line is at fault; `output` and `faults` say what was written to either writer.
+pub record Ends (answers : List ℕ → ℕ → Type 0) (causes : Fault → Type 0) (misuse : Type 0) (output faults : Written → Type 0) (status : ℕ) : Type 0 where
+  pub known : status ≤ 3
+  pub printed : (status ≡ 0) ⊎ (status ≡ 3) → faults Nothing × ((text : List ℕ) × answers text status × output (Whole text))
+  pub failed : status ≡ 1 →
+      (faults Nothing × ((text : List ℕ) × (planned : ℕ) × answers text planned × output (Part text)))
+      ⊎ (output Nothing × ((fault : Fault) × causes fault × Tells faults (fault_line fault)))
+  pub misused : status ≡ 2 → output Nothing × misuse

@@ -1,0 +1,10 @@
+pub mod Endings
+pub mod Faults
+pub mod Lines
+pub mod Orders
+pub mod Printing
+pub mod Records
+pub mod Reports
+pub mod Runs
+pub mod Statuses
+pub mod Words

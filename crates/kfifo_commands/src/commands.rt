@@ -1,0 +1,5 @@
+//! The commands, one module for each: what it answers.
+
+pub mod check;
+pub mod measure;
+pub mod run;

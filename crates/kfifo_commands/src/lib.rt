@@ -1,0 +1,20 @@
+//! What the program `kfifo` does: its commands over plain options, their texts, faults and statuses. No command
+//! line is read here.
+#![tactic(auto)]
+
+mod commands;
+mod ending;
+mod fault;
+mod options;
+mod printing;
+mod report;
+mod sizes;
+mod status;
+mod words;
+
+pub use ending::{Notice, carry_out, end_with_fault, end_with_text};
+pub use fault::Fault;
+pub use options::{CheckOptions, Request, RunOptions};
+pub use printing::Printer;
+pub use sizes::Sizes;
+pub use status::Status;

@@ -1,0 +1,15 @@
+use Rattle.std.proofs.Common.{arith}
+use Rattle.std.proofs.lemmas.Bool.Decides.{nat_tests}
+use Rattle.kfifo_live.specs.Rounds.{dequeue_at}
+use Rattle.kfifo_machine.specs.declared.place.DequeuePhase.TheVariants as P
+use Rattle.kfifo_live.proofs.Whole.{comes, comes_by, goes_to}
+use Rattle.kfifo_live.proofs.dequeue.Dequeue.close_segment.Goals as goal
+
+pub returns-then-ne : goal.returns-then-ne
+returns-then-ne c = comes c.requires c.move_tail.ensures (grind (arith, nat_tests))
+
+pub take-requires : goal.take-requires
+take-requires c = goes_to c.requires c.move_tail.ensures (grind (arith, nat_tests))
+
+pub returns : goal.returns
+returns c = comes_by (dequeue_at c.args.self (P.Take c.args.ends c.args.index c.args.filled)) c.requires c.move_tail.ensures (grind (arith, nat_tests)) c.take.ensures

@@ -1,0 +1,19 @@
+-- The scan leads on to the second look at the ends word.
+use Rattle.kfifo_live.proofs.CallScans.{tail_scan}
+use Rattle.kfifo_live.proofs.Whole.{stands_on, runs_on}
+use Rattle.kfifo_live.proofs.enqueue.Enqueue.round.Goals as goal
+
+pub scan-requires-clause-scan : goal.scan-requires-clause-scan
+scan-requires-clause-scan c = (tail_scan c.args.self c.args.ends _ _ c.tail.ensures.value c.probes-probes.ensures, c.requires)
+
+pub fill_slot-requires : goal.fill_slot-requires
+fill_slot-requires c = stands_on c.requires.of (c.in-Slot.ensures (tail_scan c.args.self c.args.ends _ _ c.tail.ensures.value c.probes-probes.ensures) c.requires)
+
+pub leave_segment-requires : goal.leave_segment-requires
+leave_segment-requires c = stands_on c.requires.of (c.in-Nothing.ensures (tail_scan c.args.self c.args.ends _ _ c.tail.ensures.value c.probes-probes.ensures) c.requires)
+
+pub returns-in-Slot : goal.returns-in-Slot
+returns-in-Slot c = runs_on (c.in-Slot.ensures (tail_scan c.args.self c.args.ends _ _ c.tail.ensures.value c.probes-probes.ensures) c.requires) c.fill_slot.ensures
+
+pub returns-in-Nothing : goal.returns-in-Nothing
+returns-in-Nothing c = runs_on (c.in-Nothing.ensures (tail_scan c.args.self c.args.ends _ _ c.tail.ensures.value c.probes-probes.ensures) c.requires) c.leave_segment.ensures

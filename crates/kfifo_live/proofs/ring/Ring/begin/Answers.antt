@@ -1,0 +1,18 @@
+use Rattle.std.proofs.Common.{None, Some, refl, ap, ◌∙◌, arith}
+use Rattle.kfifo_machine.specs.Runs.{going}
+use Rattle.kfifo_live.proofs.Keeps.{goes}
+use Rattle.kfifo_live.proofs.Whole.{begun}
+use Rattle.kfifo_live.proofs.ring.Ring.begin.Goals as goal
+
+pub load-requires : goal.load-requires
+load-requires g c =
+    let of = c.requires.rests.of in
+    let first = c.requires.first in (
+      of.table,
+      (let size = of.size in omega arith),
+      goes _ _ _ c.args.seat.now.me None c.requires.rests.idle (Some g.C.BegunCall.begin) first.place _ of.sizes
+          (ap (λ b. going c.args.self.shape.now None (Some b)) c.requires.picked ∙ first.goes) _ first.next_is (λ n. n) (λ n. refl),
+    )
+
+pub returns : goal.returns
+returns g c = begun c.requires.rests c.requires.picked c.load.ensures.0 c.load.ensures.2.0 c.load.ensures.2.1 c.of_bits.ensures

@@ -1,5 +1,0 @@
-use Rattle.kfifo_live.proofs.Cuts.{looks}
-use Rattle.kfifo_live.proofs.seats.glance.Goals as goal
-
-pub load-requires : goal.load-requires
-load-requires c = (c.requires.table.0, c.requires.table.1, looks _ _ _ c.args.seat.now.me c.args.index c.requires.seated)

@@ -1,0 +1,91 @@
+//! The rule of the table, and what its steps tell.
+ghost use Rattle.std.specs.Prelude.{◌≡◌, Some, None, []};
+ghost use Rattle.kfifo_live.specs.declared.view.Opening.{Opening};
+ghost use Rattle.kfifo_machine.specs.declared.event.Begin.{Begin};
+ghost use Rattle.kfifo_machine.specs.declared.event.Begin.TheVariants.{Tick};
+ghost use Rattle.kfifo_live.specs.Schedule.{OneSchedule, first_view, first_part, other_parts, no_part, both_parts, view_of, small_opening};
+ghost use Rattle.kfifo_live.specs.Step.{Steps, Looks};
+
+use crate::view::{Opening, View};
+use atomic_table::{Join, Play, Split, TableRule};
+use std::marker::{Brand, PhantomData};
+
+/// The rule, or invariant, of the table: there is one schedule; the words are those after it, and each
+/// seat has seen a beginning of it with all events of its threads.
+pub struct QueueRule;
+
+impl TableRule<(), View, Opening> for QueueRule {
+    ghost holds = { λ o s. OneSchedule o s.words s.views };
+
+    ghost first = { first_view };
+}
+
+/// The call that a first step begins. Each call picks its own.
+pub trait BegunCall {
+    ghost begin: { Begin };
+}
+
+impl BegunCall for Brand {
+    ghost begin = { Tick };
+}
+
+/// The first step of a call.
+pub struct FirstStep<C: BegunCall> {
+    of: PhantomData<C>,
+}
+
+impl<C: BegunCall> Play<(), View> for FirstStep<C> {
+    ghost then = { λ s v found w. Steps (Some C.begin) v.0 found w.0 × (w.1 ≡ v.1) };
+}
+
+/// A later step of a call.
+pub struct NextStep;
+
+impl Play<(), View> for NextStep {
+    ghost then = { λ s v found w. Steps None v.0 found w.0 × (w.1 ≡ v.1) };
+}
+
+/// A load that is no step of a call.
+pub struct Observation;
+
+impl Play<(), View> for Observation {
+    ghost then = { λ s v found w. Looks s.word found v.0 w.0 × (w.1 ≡ v.1) };
+}
+
+/// Keeps the first part, and gives the others.
+pub struct Rest;
+
+impl Split<View> for Rest {
+    ghost left = { first_part };
+
+    ghost right = { other_parts };
+}
+
+/// Keeps nothing, and gives the whole view.
+pub struct All;
+
+impl Split<View> for All {
+    ghost left = { no_part };
+
+    ghost right = { λ v. v };
+}
+
+/// The opening of the queue. Each join picks it.
+pub trait Opened {
+    ghost opened: { Opening };
+}
+
+impl Opened for Brand {
+    ghost opened = { small_opening };
+}
+
+/// Takes the parts of another seat, which is spent.
+pub struct Gather<O: Opened> {
+    of: PhantomData<O>,
+}
+
+impl<O: Opened> Join<View> for Gather<O> {
+    ghost both = { both_parts };
+
+    ghost spent = { view_of O.opened [] };
+}

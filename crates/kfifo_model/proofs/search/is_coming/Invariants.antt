@@ -1,8 +1,0 @@
-use Rattle.std.proofs.Common.{ℕ, ◌≡◌, ◌<◌}
-use Rattle.kfifo_model.specs.Relaxed.{Adds}
-use Rattle.kfifo_model.specs.Histories.{does}
-use Rattle.kfifo_model.specs.Searching.{IsDone}
-use Rattle.kfifo_model.proofs.search.is_coming.Given as goal
-
-abbrev pub invariant-loop-n : goal.invariant-loop-n
-invariant-loop-n l = (m : ℕ) → m < l.n → (IsDone l.done m → ⊥) → does l.calls m ≡ Adds l.item → ⊥
