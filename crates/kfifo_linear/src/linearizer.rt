@@ -9,7 +9,7 @@ ghost use Rattle.kfifo_linear.specs.Order.{ledger_after_all, order_of, point};
 
 use crate::action::Action;
 use crate::notes::Notes;
-use kfifo_machine::{Event, NotEnabled, Outcome, StartFault, State, start, step};
+use kfifo_machine::{Event, NotEnabled, Outcome, Running, StartFault, State, start, step};
 use kfifo_words::{Ends, Shape, Word};
 use std::alloc::{AllocError, Global};
 use std::marker::Model;
@@ -67,6 +67,20 @@ impl Linearizer {
         let state = start(alloc, shape, threads)?;
         let notes = Notes::new(alloc, &shape, threads as usize, calls)?;
         Ok(Linearizer { state, notes })
+    }
+
+    /// How many events it has followed.
+    pub fn steps(&self) -> u64
+        ensures { result ≡ self.now.notes.step }
+    {
+        self.notes.steps()
+    }
+
+    /// The place of a thread in its call; none where it is in no call, or no thread has this number.
+    pub fn place(&self, thread: u32) -> Option<Running>
+        ensures { result ≡ place_of self.now.world thread }
+    {
+        self.state.place(thread)
     }
 
     /// What the next step of a thread will do; nothing, where it is in no call.

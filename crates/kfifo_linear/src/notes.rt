@@ -127,6 +127,13 @@ impl Notes {
         })
     }
 
+    /// How many events they are of.
+    pub fn steps(&self) -> u64
+        ensures { result ≡ self.now.step }
+    {
+        self.step
+    }
+
     /// A round of the thread begins.
     fn load_ends(&mut self, thread: usize)
         requires { thread < length self.old.callers }

@@ -42,7 +42,7 @@ budget-some : (shape : Shape) (running : Running) → IsPlace shape running → 
 budget-some shape running place = grind (arith, nat_tests)
 
 -- each own event brings a call nearer to its end
-left_falls : (shape : Shape) (here : World) (e : Event) (there : World) (outcome : Outcome) (running : Running) → IsSound shape here → step shape here e ≡ Ok (there, outcome)
+pub left_falls : (shape : Shape) (here : World) (e : Event) (there : World) (outcome : Outcome) (running : Running) → IsSound shape here → step shape here e ≡ Ok (there, outcome)
     → going shape (place_of here e.thread) e.begin ≡ Some running → left_of shape.k (place_of there e.thread) < budget shape.k running
 left_falls shape here e there outcome running sound is goes =
     elim (stepped shape here e there outcome is) [
@@ -138,7 +138,7 @@ unfolding ticked place_of
 tick_leaves shape here thread = refl
 
 -- the first event of a call, and what it leaves
-begin_left : (shape : Shape) (here : World) (e : Event) (there : World) (outcome : Outcome) (call : Begin) → IsSound shape here → step shape here e ≡ Ok (there, outcome) → e.begin ≡ Some call
+pub begin_left : (shape : Shape) (here : World) (e : Event) (there : World) (outcome : Outcome) (call : Begin) → IsSound shape here → step shape here e ≡ Ok (there, outcome) → e.begin ≡ Some call
     → left_of shape.k (place_of there e.thread) < most_events shape call
 begin_left shape here e there outcome call sound is begins =
     elim (stepped shape here e there outcome is) [

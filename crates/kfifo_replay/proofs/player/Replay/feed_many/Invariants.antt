@@ -1,0 +1,9 @@
+-- So many picks were made.
+use Rattle.std.proofs.Common.{ℕ, List, ◌++◌, replicate}
+use Rattle.kfifo_words.specs.declared.shape.Shape.{Shape}
+use Rattle.kfifo_machine.specs.declared.event.Begin.{Begin}
+use Rattle.kfifo_replay.specs.Player.{StandsFor}
+use Rattle.kfifo_replay.proofs.player.Replay.feed_many.Given as goal
+
+abbrev pub invariant-loop-place : goal.invariant-loop-place
+invariant-loop-place l = (shape : Shape) (scripts : List (List Begin)) (earlier : List ℕ) → StandsFor shape scripts earlier l.initial.self → StandsFor shape scripts (earlier ++ replicate l.place l.pick) l.self

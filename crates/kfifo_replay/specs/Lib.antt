@@ -1,0 +1,6 @@
+pub mod Picks
+pub mod Scripts
+pub mod Player
+pub mod Reports
+pub mod Finishing
+pub mod Faults

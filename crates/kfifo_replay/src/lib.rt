@@ -1,0 +1,13 @@
+//! Replays: scripts run on the machine in the order of given picks, step by step, in bounded memory.
+#![tactic(auto)]
+
+mod book;
+mod fault;
+mod player;
+mod report;
+#[cfg(test)]
+mod tests;
+
+pub use fault::ReplayFault;
+pub use player::{MAX_CALLS, Replay};
+pub use report::{Report, replay};

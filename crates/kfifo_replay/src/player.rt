@@ -1,0 +1,305 @@
+//! Replays, pick by pick.
+ghost use Rattle.std.specs.Prelude.{◌≡◌, ℕ, ◌+◌, ◌^◌, ◌<◌, ◌≤◌, ◌↔◌, List, [], ◌∷◌, ◌++◌, length, map, replicate, get_or, slice_get, All, sum_by, true, false, IsTrue, IfOk, IfErr, OnOk, OnErr, Err};
+ghost use Rattle.kfifo_words.specs.declared.shape.Shape.{Shape};
+ghost use Rattle.kfifo_machine.specs.declared.event.Begin.{Begin};
+ghost use Rattle.kfifo_replay.specs.Scripts.{IsCall, IsScript, AreScripts};
+ghost use Rattle.kfifo_replay.specs.Picks.{script_of, event_at};
+ghost use Rattle.kfifo_replay.specs.Player.{StandsFor, IsRefused, Stops};
+ghost use Rattle.kfifo_replay.specs.Player;
+ghost use Rattle.kfifo_replay.specs.Finishing.{Ended, Finished};
+ghost use Rattle.kfifo_replay.specs.Reports.{ArePoints, IsHistoryOf, IsReport};
+
+use crate::book::Book;
+use crate::fault::ReplayFault;
+use crate::report::{Report, count_unfinished, greatest_of};
+use kfifo_linear::Linearizer;
+use kfifo_machine::{Begin, EnqueuePhase, Event, MAX_THREADS, Outcome, Running};
+use kfifo_model::{Answer, History, RankFault, ranks};
+use kfifo_words::Shape;
+use std::alloc::{AllocError, Global};
+use std::marker::Model;
+
+/// The most calls of a script.
+pub const MAX_CALLS: usize = 64;
+
+/// A replay of scripts, one for each thread, that has made the events of the picks that it was fed.
+///
+/// It keeps the machine's state, one entry for each call of the scripts, and what the order of the calls
+/// needs: no list of picks or events. All its room is made by `open`, so no pick takes memory.
+#[derive(Drop)]
+pub struct Replay {
+    shape: Shape,
+    scripts: Vec<Vec<Begin>>,
+    linearizer: Linearizer,
+    begun: Vec<usize>,
+    book: Book,
+    rollbacks: u64,
+}
+
+impl Model for Replay {
+    ghost use Rattle.std.specs.Prelude.{map};
+    ghost use Rattle.kfifo_replay.specs.Player.{Player, IsReplay};
+
+    ghost Value = { Player };
+
+    ghost view = { λ r. record { shape = r.shape; scripts = map (λ script. script.items) r.scripts.items; follower = r.linearizer; begun = r.begun.items; book = r.book; rollbacks = r.rollbacks } };
+
+    ghost invariant = { λ r. IsReplay (record { shape = r.shape; scripts = map (λ script. script.items) r.scripts.items; follower = r.linearizer; begun = r.begun.items; book = r.book; rollbacks = r.rollbacks }) };
+}
+
+/// Whether a call is in range: its start below k, 1 to 65,535 rounds, an item from 1 to 2^24 - 1. A
+/// tick is none.
+fn is_call(shape: &Shape, call: Begin) -> bool
+    ensures { IsTrue result ↔ IsCall shape.now call }
+{
+    match call {
+        Begin::Enqueue { item, start, turns } => {
+            start < shape.k() && 0 < turns && 0 < item && item < 16_777_216
+        }
+        Begin::Dequeue { start, turns } => start < shape.k() && 0 < turns,
+        Begin::Tick => false,
+    }
+}
+
+/// Whether a thread may have this script.
+fn is_script(shape: &Shape, script: &[Begin]) -> bool
+    ensures { IsTrue result ↔ IsScript shape.now script.now }
+{
+    script.len() <= MAX_CALLS && script.iter().all(|call| is_call(shape, *call))
+}
+
+/// Whether each of these is a script that a thread may have.
+fn is_each_script(shape: &Shape, scripts: &[Vec<Begin>]) -> bool
+    ensures { IsTrue result ↔ All (λ script. IsScript shape.now script.items) scripts.now }
+{
+    scripts
+        .iter()
+        .all(|script| is_script(shape, script.as_slice()))
+}
+
+/// Whether a replay may have these scripts.
+fn are_scripts(shape: &Shape, scripts: &[Vec<Begin>]) -> bool
+    ensures { IsTrue result ↔ AreScripts shape.now (map (λ script. script.items) scripts.now) }
+{
+    !scripts.is_empty() && scripts.len() <= MAX_THREADS as usize && is_each_script(shape, scripts)
+}
+
+/// The number of their calls.
+fn count_calls(scripts: &[Vec<Begin>]) -> usize
+    requires { sum_by (λ script. length script.items) scripts.now < 2 ^ 64 }
+    ensures { result ≡ sum_by (λ script. length script.items) scripts.now }
+{
+    scripts.iter().map(|script| script.as_slice().len()).sum()
+}
+
+/// Scripts of one's own, of the same calls.
+fn copy_scripts(alloc: Global, scripts: &[Vec<Begin>]) -> Result<Vec<Vec<Begin>>, AllocError>
+    ensures { IfOk result (λ copies. map (λ script. script.items) copies.items ≡ map (λ script. script.items) scripts.now) }
+{
+    let mut copies = Vec::with_capacity(alloc, scripts.len())?;
+    for script in scripts {
+        copies.push(Vec::from_slice(alloc, script.as_slice())?)?;
+    }
+    Ok(copies)
+}
+
+/// Whether a step that was an undo or not, and came to this, was a won undo.
+fn takes_back(undoing: bool, outcome: Outcome) -> bool
+    ensures { result ≡ Player.takes_back undoing outcome }
+{
+    undoing && outcome != Outcome::Ended(Answer::Done)
+}
+
+/// Whether the next step of a thread at this place takes back the item that its call had put, or finds
+/// that it is gone.
+fn is_undoing(place: &Option<Running>) -> bool
+    ensures { result ≡ Player.is_undoing place.now }
+{
+    match place {
+        Some(Running::Enqueue { phase, .. }) => match phase {
+            EnqueuePhase::Undo { .. } => true,
+            _ => false,
+        },
+        _ => false,
+    }
+}
+
+impl Replay {
+    /// The replay of these scripts, script i being that of thread i, with no pick.
+    ///
+    /// Refused, in this order: BadScript where there is no script, or there are over 64, or one has over
+    /// 64 calls, a tick, or a call out of range; Memory where an allocation failed.
+    pub fn open(alloc: Global, shape: Shape, scripts: &[Vec<Begin>]) -> Result<Replay, ReplayFault>
+        ensures opened { IfOk result (λ r. StandsFor shape (map (λ script. script.items) scripts.now) [] r) }
+        ensures refused { (result ≡ Err ReplayFault.BadScript) ↔ (AreScripts shape (map (λ script. script.items) scripts.now) → ⊥) }
+        ensures no_pick { (place : ℕ) → result ≡ Err (ReplayFault.BadPick place) → ⊥ }
+    {
+        if !are_scripts(&shape, scripts) {
+            return Err(ReplayFault::BadScript);
+        }
+        let room = count_calls(scripts);
+        let threads = scripts.len();
+        let linearizer = match Linearizer::open(alloc, shape, threads as u32, room) {
+            Ok(linearizer) => linearizer,
+            Err(_fault) => return Err(ReplayFault::Memory),
+        };
+        Ok(Replay {
+            shape,
+            scripts: copy_scripts(alloc, scripts)?,
+            linearizer,
+            begun: vec![in alloc; 0; threads]?,
+            book: Book::new(alloc, threads, room)?,
+            rollbacks: 0,
+        })
+    }
+
+    /// The call that a thread begins next; none where no script has its number, or it has ended.
+    fn next_call(&self, thread: u32) -> Option<Begin>
+        requires { length self.now.begun ≡ length self.now.scripts }
+        ensures { result ≡ slice_get (script_of self.now.scripts thread) (get_or self.now.begun thread 0) }
+    {
+        let script = self.scripts.get(thread as usize)?;
+        script.get(self.begun[thread as usize]).copied()
+    }
+
+    /// The event that a pick of this thread makes; none where the pick is refused.
+    fn event(&self, thread: u32, place: &Option<Running>) -> Option<Event>
+        requires { length self.now.begun ≡ length self.now.scripts }
+        ensures { result ≡ event_at thread place.now (slice_get (script_of self.now.scripts thread) (get_or self.now.begun thread 0)) }
+    {
+        let begin = match place {
+            Some(_running) => None,
+            None => Some(self.next_call(thread)?),
+        };
+        Some(Event { thread, begin })
+    }
+
+    /// Makes the event of this pick, or answers false where it is refused, and stays as it was.
+    fn pick(&mut self, thread: u32) -> bool
+        ensures made { result ≡ true → (shape : Shape) (scripts : List (List Begin)) (earlier : List ℕ) → StandsFor shape scripts earlier self.old → StandsFor shape scripts (earlier ++ thread ∷ []) self.new }
+        ensures refused { result ≡ false → (shape : Shape) (scripts : List (List Begin)) (earlier : List ℕ) → StandsFor shape scripts earlier self.old → IsRefused shape scripts earlier thread }
+        ensures unchanged { result ≡ false → self.new ≡ self.old }
+        ensures steps { result ≡ true → self.new.follower.notes.step ≡ self.old.follower.notes.step + 1 }
+        ensures few { self.new.follower.notes.step < 2 ^ 64 }
+    {
+        let place = self.linearizer.place(thread);
+        let undoing = is_undoing(&place);
+        let Some(event) = self.event(thread, &place) else {
+            return false;
+        };
+        let step = self.linearizer.steps();
+        let outcome = match self.linearizer.feed(event) {
+            Ok(outcome) => outcome,
+            Err(_fault) => unreachable!(),
+        };
+        self.book.note(step, event, outcome);
+        self.begun[thread as usize] += usize::from(event.begin.is_some());
+        self.rollbacks += u64::from(takes_back(undoing, outcome));
+        true
+    }
+
+    /// Makes the events of these picks, each of which names the thread that makes the next event: an
+    /// idle thread begins the next call of its script, and a thread inside a call goes on.
+    ///
+    /// BadPick with the place among these picks, from 0, of the first one that names no script or a
+    /// thread whose script has ended: the picks before it are made, it and the later ones are not. It
+    /// takes no memory.
+    pub fn feed(&mut self, picks: &[u32]) -> Result<(), ReplayFault>
+        ensures made { OnOk result ((shape : Shape) (scripts : List (List Begin)) (earlier : List ℕ) → StandsFor shape scripts earlier self.old → StandsFor shape scripts (earlier ++ picks.now) self.new) }
+        ensures refused { IfErr result (λ fault. (shape : Shape) (scripts : List (List Begin)) (earlier : List ℕ) → StandsFor shape scripts earlier self.old → Stops shape scripts earlier picks.now fault self.new) }
+    {
+        for (place, thread) in picks.iter().enumerate() {
+            if !self.pick(*thread) {
+                return Err(ReplayFault::BadPick(place));
+            }
+        }
+        Ok(())
+    }
+
+    /// As `feed` of a list with this pick so many times.
+    pub fn feed_many(&mut self, pick: u32, count: u32) -> Result<(), ReplayFault>
+        ensures made { OnOk result ((shape : Shape) (scripts : List (List Begin)) (earlier : List ℕ) → StandsFor shape scripts earlier self.old → StandsFor shape scripts (earlier ++ replicate count pick) self.new) }
+        ensures refused { IfErr result (λ fault. (shape : Shape) (scripts : List (List Begin)) (earlier : List ℕ) → StandsFor shape scripts earlier self.old → Stops shape scripts earlier (replicate count pick) fault self.new) }
+    {
+        for place in 0..count {
+            if !self.pick(pick) {
+                return Err(ReplayFault::BadPick(place as usize));
+            }
+        }
+        Ok(())
+    }
+
+    /// A thread makes all events that its script still has.
+    fn go_to_end(&mut self, thread: u32)
+        ensures { (shape : Shape) (scripts : List (List Begin)) (earlier : List ℕ) → StandsFor shape scripts earlier self.old → Ended shape scripts thread earlier self.new }
+    {
+        while self.pick(thread) {}
+    }
+
+    /// By rising number, each thread but the stopped one makes all events that its script still has.
+    ///
+    /// BadScript where no script has the number of the stopped thread; then nothing changes. It takes no
+    /// memory.
+    pub fn finish(&mut self, stopped: u32) -> Result<(), ReplayFault>
+        ensures finished { OnOk result ((shape : Shape) (scripts : List (List Begin)) (earlier : List ℕ) → StandsFor shape scripts earlier self.old → Finished stopped shape scripts (length scripts) earlier self.new) }
+        ensures stopped { OnOk result (stopped < length self.old.scripts) }
+        ensures refused { IfErr result (λ fault. (fault ≡ ReplayFault.BadScript) × (length self.old.scripts ≤ stopped)) }
+        ensures unchanged { OnErr result (self.new ≡ self.old) }
+    {
+        let threads = self.scripts.len() as u32;
+        if stopped >= threads {
+            return Err(ReplayFault::BadScript);
+        }
+        for thread in 0..threads {
+            if thread != stopped {
+                self.go_to_end(thread);
+            }
+        }
+        Ok(())
+    }
+
+    /// The points of the calls in the linearization order, in turn: each is a step of the schedule, between
+    /// the first and the last of its call. Memory where an allocation failed.
+    pub fn points(&self, alloc: Global) -> Result<Vec<u64>, ReplayFault>
+        ensures points { IfOk result (λ points. (shape : Shape) (scripts : List (List Begin)) (picks : List ℕ) → StandsFor shape scripts picks self.now → ArePoints shape scripts picks points.items) }
+        ensures memory { IfErr result (λ fault. fault ≡ ReplayFault.Memory) }
+    {
+        Ok(self.linearizer.points(alloc)?)
+    }
+
+    /// The calls so far, by their first events; a call's first and last step are the places of its
+    /// events. Memory where an allocation failed.
+    pub fn history(&self, alloc: Global) -> Result<History, ReplayFault>
+        ensures history { IfOk result (λ history. (shape : Shape) (scripts : List (List Begin)) (picks : List ℕ) → StandsFor shape scripts picks self.now → IsHistoryOf shape scripts picks history) }
+        ensures memory { IfErr result (λ fault. fault ≡ ReplayFault.Memory) }
+    {
+        match History::new(Vec::from_slice(alloc, self.book.calls())?) {
+            Ok(history) => Ok(history),
+            Err(_fault) => unreachable!(),
+        }
+    }
+
+    /// The report of the picks that were made: the number of events, the linearization order, the
+    /// greatest rank in it, and the numbers of won undos and of unfinished enqueues in the order.
+    ///
+    /// Memory where an allocation failed.
+    pub fn report(&self, alloc: Global) -> Result<Report, ReplayFault>
+        ensures report { IfOk result (λ report. (shape : Shape) (scripts : List (List Begin)) (picks : List ℕ) → StandsFor shape scripts picks self.now → IsReport shape scripts picks report) }
+        ensures memory { IfErr result (λ fault. fault ≡ ReplayFault.Memory) }
+    {
+        let order = self.linearizer.order(alloc)?;
+        let history = self.history(alloc)?;
+        let worst_rank = match ranks(alloc, &history, self.shape.k(), order.as_slice()) {
+            Ok(found) => greatest_of(found.as_slice()),
+            Err(RankFault::Memory) => return Err(ReplayFault::Memory),
+            Err(RankFault::NotLegal) => unreachable!(),
+        };
+        Ok(Report {
+            steps: self.linearizer.steps(),
+            worst_rank,
+            rollbacks: self.rollbacks,
+            completed: count_unfinished(history.calls(), order.as_slice()),
+            order,
+        })
+    }
+}
