@@ -8,7 +8,7 @@ use Rattle.kfifo_live.specs.declared.view.Opening.{Opening}
 use Rattle.kfifo_live.specs.declared.view.View.{View}
 use Rattle.kfifo_live.specs.Schedule.{part, view_of, fresh, seen_of, first_part, other_parts}
 use Rattle.kfifo_live.specs.Step.{IsAt}
-use Rattle.kfifo_live.specs.Pass.{OpenQueue, new_passes, IsPass, IsZeroed}
+use Rattle.kfifo_live.specs.Pass.{OpenQueue, AllOf, new_passes, IsPass, IsZeroed}
 
 pub fresh_more : (first count : ℕ) → first < count → fresh first (count - first) ≡ part first [] ∷ fresh (first + 1) (count - (first + 1))
 fresh_more first count lt =
@@ -61,3 +61,8 @@ zeroed o world reached index = ap (λ (w : World). get_or w.words index 0) (sym 
     all_zero zero i = refl
     all_zero (suc n) zero = refl
     all_zero (suc n) (suc i) = all_zero n i
+
+-- the passes of an opening came from it
+pub all_of_new : (q : OpenQueue) (first count : ℕ) → AllOf q (new_passes q first count)
+all_of_new q first zero = tt
+all_of_new q first (suc count) = ((refl, refl), all_of_new q (suc first) count)
