@@ -27,7 +27,7 @@ use Rattle.kfifo_machine.specs.Runs.{going}
 use Rattle.kfifo_machine.proofs.Schedules.{Some-injective, after-snoc, made_within, run_on, stepped, take-next}
 use Rattle.kfifo_machine.proofs.Sound.{sound_ends, sound_threads}
 use Rattle.kfifo_linear.specs.declared.action.Action.{Action}
-use Rattle.kfifo_linear.specs.declared.action.Action.TheVariants.{HoldHead, LoadEnds, MoveHead, MoveTail, Other, Put, Recheck, RecheckEmpty, ReloadEnds, Take, Undo}
+use Rattle.kfifo_linear.specs.declared.action.Action.TheVariants.{HoldHead, LoadEnds, MoveHead, MoveTail, Unnoted, Put, Recheck, RecheckEmpty, ReloadEnds, Take, Undo}
 use Rattle.kfifo_linear.specs.Ledger as ledger
 use Rattle.kfifo_linear.specs.Ledger.{Ledger, blank, called, action, action_if, found_in, ledger_after, ledger_from, ledger_of, noted, Outside}
 use Rattle.kfifo_linear.specs.Notes.{HasRoom, Notes, begins_call, calls_begun, action_at, fed, marked, no_caller, no_filling, no_notes, noted_event, own_call, slot}
@@ -44,7 +44,7 @@ use Rattle.kfifo_linear.proofs.Schedule.{agreed}
 use Rattle.kfifo_linear.proofs.Telling.{CanTell, told, told_call, told_tick}
 
 -- an action that is one where a test holds
-by_test : (P : Action → Type 0) (test : Bool) (what : Action) → P Other → (test ≡ true → P what) → P (action_if test what)
+by_test : (P : Action → Type 0) (test : Bool) (what : Action) → P Unnoted → (test ≡ true → P what) → P (action_if test what)
 by_test P true what none one = one refl
 by_test P false what none one = none
 
@@ -105,7 +105,7 @@ module _ (shape : Shape) (w : ℕ → ℕ) (p : ℕ → Option Running) (l : Led
 
   -- there is room for what is told
   pub has_room : (what : Action) → CanTell shape l n t what → HasRoom shape n what
-  has_room Other can = tt
+  has_room Unnoted can = tt
   has_room LoadEnds can = tt
   has_room Recheck can = tt
   has_room (Put index) can = can

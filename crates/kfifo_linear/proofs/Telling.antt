@@ -17,7 +17,7 @@ use Rattle.kfifo_machine.specs.declared.place.Running.TheVariants as R
 use Rattle.kfifo_machine.specs.declared.place.Running.{Running}
 use Rattle.kfifo_model.specs.declared.calls.Answer.{Answer}
 use Rattle.kfifo_linear.specs.declared.action.Action.{Action}
-use Rattle.kfifo_linear.specs.declared.action.Action.TheVariants.{HoldHead, LoadEnds, MoveHead, MoveTail, Other, Put, Recheck, RecheckEmpty, ReloadEnds, Take, Undo}
+use Rattle.kfifo_linear.specs.declared.action.Action.TheVariants.{HoldHead, LoadEnds, MoveHead, MoveTail, Unnoted, Put, Recheck, RecheckEmpty, ReloadEnds, Take, Undo}
 use Rattle.kfifo_linear.specs.declared.notes.Whereabouts.{Whereabouts}
 use Rattle.kfifo_linear.specs.declared.notes.Whereabouts.TheVariants.{At, InSlot, Nowhere}
 use Rattle.kfifo_linear.specs.Ledger.{Gone, Inside, Ledger, Outside, Standing, Stood, Took, called, did, gone_point, is_inside, noted, took_point, settle_point, settle_visit, standing_after}
@@ -69,7 +69,7 @@ module _ (shape : Shape) (l : Ledger) (n : Notes) (t ends : ℕ) (r : Running) (
   abbrev Told : Action → Type 0
   Told what = Tells (did shape t ends what (Goes r) l) (later (marked shape t ends what n))
 
-  tells_nothing : Told Other
+  tells_nothing : Told Unnoted
   tells_nothing = record { step = ap (λ x. x + 1) h.step; head = h.head; tail = h.tail; heads = h.heads; tails = h.tails; owner = h.owner; settled = h.settled; point = h.point; own = h.own; head_seen = h.head_seen; begun = h.begun; calls = h.calls }
 
   tells_load_ends : Told LoadEnds
@@ -325,7 +325,7 @@ module _ (shape : Shape) (l : Ledger) (n : Notes) (t ends : ℕ) (r : Running) (
 
   -- after any action
   tells_marked : (what : Action) → CanTell shape l n t what → Told what
-  tells_marked Other can = tells_nothing
+  tells_marked Unnoted can = tells_nothing
   tells_marked LoadEnds can = tells_load_ends
   tells_marked Recheck can = record { step = ap (λ x. x + 1) h.step; head = h.head; tail = h.tail; heads = h.heads; tails = h.tails; owner = h.owner; settled = h.settled; point = h.point; own = h.own; head_seen = h.head_seen; begun = h.begun; calls = h.calls }
   tells_marked (Put index) can = tells_put index can

@@ -8,7 +8,7 @@ use Rattle.kfifo_machine.specs.declared.event.Begin.TheVariants as B
 use Rattle.kfifo_machine.specs.Machine.{World, place_of, step, word_at, world_of}
 use Rattle.kfifo_machine.specs.Program.{access, accessed, advance}
 use Rattle.kfifo_linear.specs.declared.action.Action.{Action}
-use Rattle.kfifo_linear.specs.declared.action.Action.TheVariants.{HoldHead, LoadEnds, MoveHead, MoveTail, Other, Put, Recheck, RecheckEmpty, ReloadEnds, Take, Undo}
+use Rattle.kfifo_linear.specs.declared.action.Action.TheVariants.{HoldHead, LoadEnds, MoveHead, MoveTail, Unnoted, Put, Recheck, RecheckEmpty, ReloadEnds, Take, Undo}
 use Rattle.kfifo_machine.specs.declared.event.Begin.{Begin}
 use Rattle.kfifo_machine.specs.declared.event.Event.{Event}
 use Rattle.kfifo_machine.specs.declared.place.DequeuePhase.{DequeuePhase}
@@ -25,7 +25,7 @@ use Rattle.kfifo_words.specs.declared.shape.Shape.{Shape}
 -- the action where its exchange was won or its test held, else one that tells the order nothing
 abbrev pub action_if : Bool → Action → Action
 action_if true action = action
-action_if false action = Other
+action_if false action = Unnoted
 
 -- what an enqueue's reload of the ends did, its item being in a slot of this segment: it is between head and tail, or not
 abbrev pub settles : Shape → ℕ → ℕ → ℕ → Action
@@ -35,23 +35,23 @@ settles shape segment index word =
 -- what a step of an enqueue did that found this word
 abbrev pub enqueue_action : Shape → EnqueuePhase → ℕ → Action
 enqueue_action shape E.LoadEnds word = LoadEnds
-enqueue_action shape (E.ScanTail ends offset) word = Other
+enqueue_action shape (E.ScanTail ends offset) word = Unnoted
 enqueue_action shape (E.Recheck ends seen) word = Recheck
 enqueue_action shape (E.Put ends index empty) word = action_if (word == empty) (Put index)
-enqueue_action shape (E.ReloadSlot ends index filled) word = Other
+enqueue_action shape (E.ReloadSlot ends index filled) word = Unnoted
 enqueue_action shape (E.ReloadEnds ends index filled) word = settles shape (tail_of ends) index word
 enqueue_action shape (E.HoldHead index filled held) word = action_if (word == held) (HoldHead index)
 enqueue_action shape (E.Undo index filled worn) word = action_if (word == filled) (Undo index)
-enqueue_action shape (E.ScanHead ends offset) word = Other
-enqueue_action shape (E.ConfirmFull ends) word = Other
+enqueue_action shape (E.ScanHead ends offset) word = Unnoted
+enqueue_action shape (E.ConfirmFull ends) word = Unnoted
 enqueue_action shape (E.MoveHead ends) word = action_if (word == ends) MoveHead
 enqueue_action shape (E.MoveTail ends) word = action_if (word == ends) MoveTail
 
 -- the same of a dequeue
 abbrev pub dequeue_action : DequeuePhase → ℕ → Action
 dequeue_action D.LoadEnds word = LoadEnds
-dequeue_action (D.ScanHead ends offset) word = Other
-dequeue_action (D.Recheck ends (Slot index seen)) word = Other
+dequeue_action (D.ScanHead ends offset) word = Unnoted
+dequeue_action (D.Recheck ends (Slot index seen)) word = Unnoted
 dequeue_action (D.Recheck ends Nothing) word = action_if ((word == ends) && (tail_of ends == head_of ends)) RecheckEmpty
 dequeue_action (D.MoveTail ends index filled) word = action_if (word == ends) MoveTail
 dequeue_action (D.Take ends index filled) word = action_if (word == filled) (Take index)

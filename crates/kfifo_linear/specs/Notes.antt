@@ -12,7 +12,7 @@ use Rattle.kfifo_machine.specs.declared.place.Running.{Running}
 use Rattle.kfifo_machine.specs.Machine.{World, found, place_of, word_at}
 use Rattle.kfifo_linear.specs.Ledger.{action}
 use Rattle.kfifo_linear.specs.declared.action.Action.{Action}
-use Rattle.kfifo_linear.specs.declared.action.Action.TheVariants.{HoldHead, LoadEnds, MoveHead, MoveTail, Other, Put, Recheck, RecheckEmpty, ReloadEnds, Take, Undo}
+use Rattle.kfifo_linear.specs.declared.action.Action.TheVariants.{HoldHead, LoadEnds, MoveHead, MoveTail, Unnoted, Put, Recheck, RecheckEmpty, ReloadEnds, Take, Undo}
 use Rattle.kfifo_linear.specs.declared.notes.Caller.{Caller}
 use Rattle.kfifo_linear.specs.declared.notes.Filling.{Filling}
 use Rattle.kfifo_linear.specs.declared.notes.Whereabouts.{Whereabouts}
@@ -125,7 +125,7 @@ takes thread index n = takes_in (caller n thread).head_seen thread index n
 
 -- after an action of a thread that found these ends
 abbrev pub marked : Shape → ℕ → ℕ → Action → Notes → Notes
-marked shape thread ends Other n = n
+marked shape thread ends Unnoted n = n
 marked shape thread ends LoadEnds n = loads_ends thread n
 marked shape thread ends Recheck n = n
 marked shape thread ends (Put index) n = puts thread index n
@@ -177,7 +177,7 @@ HasRoom shape n other = Unit {0}
 
 -- what the next step of a thread at this place will do
 abbrev pub action_at : Shape → World → Option Running → Action
-action_at shape world None = Other
+action_at shape world None = Unnoted
 action_at shape world (Some running) = action shape running (found shape world running)
 
 -- the notes after an event that comes to this

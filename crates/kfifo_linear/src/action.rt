@@ -11,7 +11,7 @@ use kfifo_words::{Ends, Shape, Word};
 #[derive(Clone, Copy, PartialEq, Eq, Debug)]
 pub enum Action {
     /// Any other step: a load that tells the order nothing, or an exchange that was lost.
-    Other,
+    Unnoted,
     /// The first load of the ends in a round.
     LoadEnds,
     /// An enqueue's second load of the ends in a round.
@@ -41,7 +41,7 @@ impl Action {
     fn won(self, won: bool) -> Action
         ensures { result ≡ action_if won self }
     {
-        if won { self } else { Action::Other }
+        if won { self } else { Action::Unnoted }
     }
 
     /// What a step from this place did that found this word.
@@ -82,7 +82,7 @@ fn of_enqueue(shape: &Shape, phase: EnqueuePhase, word: Word) -> Action
         EnqueuePhase::ScanTail { .. }
         | EnqueuePhase::ReloadSlot { .. }
         | EnqueuePhase::ScanHead { .. }
-        | EnqueuePhase::ConfirmFull { .. } => Action::Other,
+        | EnqueuePhase::ConfirmFull { .. } => Action::Unnoted,
     }
 }
 
@@ -104,7 +104,7 @@ fn of_dequeue(phase: DequeuePhase, word: Word) -> Action
     match phase {
         DequeuePhase::LoadEnds => Action::LoadEnds,
         DequeuePhase::Recheck { ends, found } => match found {
-            Found::Slot { .. } => Action::Other,
+            Found::Slot { .. } => Action::Unnoted,
             Found::Nothing => {
                 Action::RecheckEmpty.won(Ends::from(word) == ends && ends.tail() == ends.head())
             }
@@ -112,6 +112,6 @@ fn of_dequeue(phase: DequeuePhase, word: Word) -> Action
         DequeuePhase::MoveTail { ends, .. } => Action::MoveTail.won(Ends::from(word) == ends),
         DequeuePhase::Take { index, filled, .. } => Action::Take(index).won(word == filled),
         DequeuePhase::MoveHead { ends } => Action::MoveHead.won(Ends::from(word) == ends),
-        DequeuePhase::ScanHead { .. } => Action::Other,
+        DequeuePhase::ScanHead { .. } => Action::Unnoted,
     }
 }

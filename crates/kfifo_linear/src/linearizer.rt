@@ -88,7 +88,7 @@ impl Linearizer {
         ensures { result ≡ action_at self.now.shape self.now.world (place_of self.now.world thread) }
     {
         match self.state.place(thread) {
-            None => Action::Other,
+            None => Action::Unnoted,
             Some(running) => {
                 let shape = self.state.shape();
                 let word = self.state.word(running.access(&shape).index());

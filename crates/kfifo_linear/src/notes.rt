@@ -249,7 +249,7 @@ impl Notes {
         ensures { self.new ≡ marked shape.now thread ends action self.old }
     {
         match action {
-            Action::Other | Action::Recheck => {}
+            Action::Unnoted | Action::Recheck => {}
             Action::LoadEnds => self.load_ends(thread),
             Action::Put(index) => self.put(thread, index),
             Action::Undo(index) => self.undo(thread, index),
