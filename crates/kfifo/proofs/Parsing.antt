@@ -1,5 +1,5 @@
 -- What a parse of the program's words gives.
-use Rattle.std.proofs.Common.{◌≡◌, ◌≢◌, ◌∙◌, true, List, Option, Some, None, Result, Ok, Err, IfOk, ap, ap₂, sym, subst, refl, inl, inr, option_map}
+use Rattle.std.proofs.Common.{◌≡◌, ◌≢◌, ◌∙◌, true, List, Option, Some, None, Result, IfOk, ap, ap₂, sym, subst, refl, inl, inr, option_map}
 use Rattle.std.proofs.lemmas.Result.{IfOk-weaker}
 use Rattle.clap.proofs.OnLiterals.{clap_on_literals}
 use Rattle.clap.specs.Faults.{fault_of, is_simple_and_free}

@@ -1,5 +1,5 @@
 -- How the program ends, by how its parts end.
-use Rattle.std.proofs.Common.{◌≡◌, ◌⊎◌, ◌∙◌, ℕ, List, Option, ap, inl, inr, sym}
+use Rattle.std.proofs.Common.{◌≡◌, ◌∙◌, ℕ, List, Option, ap, inl, inr, sym}
 use Rattle.clap.specs.Words.{Text}
 use Rattle.kfifo.specs.Requests.{IsMisuse}
 use Rattle.kfifo_commands.specs.declared.fault.Fault.{Fault}

@@ -1,5 +1,5 @@
 use Rattle.std.proofs.Common.{inl, inr, refl, subst}
-use Rattle.kfifo.specs.Requests.{IsFault, IsPrinted, Requests, Shows}
+use Rattle.kfifo.specs.Requests.{Requests}
 use Rattle.kfifo.proofs.Parsing.{at_fault, help_asked}
 use Rattle.kfifo.proofs.Printed.{ends_as}
 use Rattle.kfifo.proofs.program.perform.Goals as goal

@@ -1,6 +1,4 @@
 use Rattle.std.proofs.Common.{rules}
-use Rattle.kfifo_commands.specs.Endings.{Written}
-use Rattle.kfifo_commands.specs.Printing.{OnPrinter, OnWriter}
 use Rattle.kfifo.proofs.Printed.{ends_on, misuse_on, on_writer}
 use Rattle.kfifo.proofs.program.program.Goals as goal
 
