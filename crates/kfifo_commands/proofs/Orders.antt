@@ -82,10 +82,13 @@ spaced_told {V = V} items bytes text words r same utf8 some parts h = cases r h
         → MatchResult r (λ v. WritesSpacedOrder bytes (items v)) (λ fault. (fault ≡ Memory) ⊎ ((fault ≡ Order) × ((order : List ℕ) → WritesSpacedOrder bytes order → ⊥)))
     cases (Ok v) h = (utf8, inr (subst (λ t. WriteNumbers t (items v)) all_parts h))
     cases (Err fault) (inl memory) = inl memory
-    cases (Err fault) (inr unread) = inr (unread.0, λ order written. elim written.1 [
-      | inl empty ↦ some (ap trimmed (sym same) ∙ empty.0)
-      | inr all ↦ unread.1 order (subst (λ t. WriteNumbers t order) (sym all_parts) all)
-    ])
+    cases (Err fault) (inr unread) = inr (
+      unread.0,
+      λ order written. elim written.1 [
+        | inl empty ↦ some (ap trimmed (sym same) ∙ empty.0)
+        | inr all ↦ unread.1 order (subst (λ t. WriteNumbers t order) (sym all_parts) all)
+      ],
+    )
 
 -- the text that `trim_ascii` gives
 pub trim_is : (text rest : List ℕ) → IsTrimAscii text rest → rest ≡ trimmed text
