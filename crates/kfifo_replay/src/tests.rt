@@ -53,6 +53,26 @@ fn open(alloc: Global, k: u32, scripts: &[&[Begin]]) -> Result<Replay, Fail> {
     Ok(Replay::open(alloc, Shape::new(k, 2, LAST)?, own.as_slice())?)
 }
 
+/// The report of a whole replay. It has no clause, so that the proof of a test does not compute a schedule.
+fn whole(
+    alloc: Global,
+    shape: Shape,
+    scripts: &[Vec<Begin>],
+    picks: &[u32],
+) -> Result<Report, ReplayFault> {
+    replay(alloc, shape, scripts, picks)
+}
+
+/// Feeds these picks, for the same reason with no clause.
+fn feed_list(replay: &mut Replay, picks: &[u32]) -> Result<(), ReplayFault> {
+    replay.feed(picks)
+}
+
+/// Feeds one pick so many times, for the same reason with no clause.
+fn feed_group(replay: &mut Replay, group: Group) -> Result<(), ReplayFault> {
+    replay.feed_many(group.thread, group.count)
+}
+
 /// Feeds these groups of picks.
 fn feed(replay: &mut Replay, groups: &[Group]) -> Result<(), Fail> {
     for group in groups {
@@ -92,13 +112,13 @@ fn two_dequeues(alloc: Global) -> Result<Vec<Vec<Begin>>, AllocError> {
 fn whole_replays(rt: HostRuntime) -> Result<(), Fail> {
     let shape = Shape::new(1, 2, LAST)?;
     let scripts = two_dequeues(rt.alloc())?;
-    let in_turn = replay(rt.alloc(), shape, scripts.as_slice(), &[0, 0, 0, 1, 1, 1])?;
+    let in_turn = whole(rt.alloc(), shape, scripts.as_slice(), &[0, 0, 0, 1, 1, 1])?;
     check(&rt, &in_turn, steps(6), &[0, 1]);
-    let within = replay(rt.alloc(), shape, scripts.as_slice(), &[0, 1, 1, 1, 0, 0])?;
+    let within = whole(rt.alloc(), shape, scripts.as_slice(), &[0, 1, 1, 1, 0, 0])?;
     check(&rt, &within, steps(6), &[1, 0]);
-    let none = replay(rt.alloc(), shape, scripts.as_slice(), &[])?;
+    let none = whole(rt.alloc(), shape, scripts.as_slice(), &[])?;
     check(&rt, &none, steps(0), &[]);
-    match replay(
+    match whole(
         rt.alloc(),
         shape,
         scripts.as_slice(),
@@ -107,7 +127,7 @@ fn whole_replays(rt: HostRuntime) -> Result<(), Fail> {
         Ok(_report) => panic!(&rt; "a thread whose script has ended"),
         Err(fault) => assert_eq!(&rt; fault, ReplayFault::BadPick(6)),
     }
-    match replay(rt.alloc(), shape, scripts.as_slice(), &[0, 2]) {
+    match whole(rt.alloc(), shape, scripts.as_slice(), &[0, 2]) {
         Ok(_report) => panic!(&rt; "no such script"),
         Err(fault) => assert_eq!(&rt; fault, ReplayFault::BadPick(1)),
     }
@@ -126,7 +146,7 @@ fn put_behind(alloc: Global) -> Result<Replay, Fail> {
 #[test]
 fn a_put_behind_the_head_in_pieces(rt: HostRuntime) -> Result<(), Fail> {
     let mut replay = put_behind(rt.alloc())?;
-    replay.feed(&[1, 1, 1, 1, 1, 1, 1])?;
+    feed_list(&mut replay, &[1, 1, 1, 1, 1, 1, 1])?;
     feed(&mut replay, &[picks(0, 3), picks(2, 15)])?;
     check(&rt, &replay.report(rt.alloc())?, steps(25), &[0, 2, 3]);
     feed(&mut replay, &[picks(0, 11)])?;
@@ -135,8 +155,11 @@ fn a_put_behind_the_head_in_pieces(rt: HostRuntime) -> Result<(), Fail> {
         ..steps(36)
     };
     check(&rt, &replay.report(rt.alloc())?, undone, &[0, 2, 3, 1]);
-    assert_eq!(&rt; replay.feed(&[0]), Err(ReplayFault::BadPick(0)));
-    assert_eq!(&rt; replay.feed_many(2, 3), Err(ReplayFault::BadPick(0)));
+    assert_eq!(&rt; feed_list(&mut replay, &[0]), Err(ReplayFault::BadPick(0)));
+    assert_eq!(&rt;
+        feed_group(&mut replay, picks(2, 3)),
+        Err(ReplayFault::BadPick(0))
+    );
     check(&rt, &replay.report(rt.alloc())?, undone, &[0, 2, 3, 1]);
     Ok(())
 }
@@ -267,7 +290,7 @@ fn a_stopped_thread(rt: HostRuntime) -> Result<(), Fail> {
     ];
     for (made, steps, completed, order, left) in cases {
         let mut replay = open(rt.alloc(), 1, &[&[enqueue(5, 0, 1)], &[dequeue(0, 1)]])?;
-        replay.feed_many(0, made)?;
+        feed_group(&mut replay, picks(0, made))?;
         replay.finish(0)?;
         let want = Want {
             steps,
@@ -278,7 +301,10 @@ fn a_stopped_thread(rt: HostRuntime) -> Result<(), Fail> {
         check(&rt, &replay.report(rt.alloc())?, want, order);
         assert_eq!(&rt; replay.finish(2), Err(ReplayFault::BadScript));
         check(&rt, &replay.report(rt.alloc())?, want, order);
-        assert_eq!(&rt; replay.feed_many(0, 9), Err(ReplayFault::BadPick(left)));
+        assert_eq!(&rt;
+            feed_group(&mut replay, picks(0, 9)),
+            Err(ReplayFault::BadPick(left))
+        );
     }
     Ok(())
 }
@@ -307,7 +333,7 @@ fn scripts_that_are_refused(rt: HostRuntime) -> Result<(), Fail> {
         for _script in 0..count {
             scripts.push(vec![in rt.alloc(); dequeue(0, 1); 64]?)?;
         }
-        let refused = match replay(rt.alloc(), shape, scripts.as_slice(), &[]) {
+        let refused = match whole(rt.alloc(), shape, scripts.as_slice(), &[]) {
             Ok(_report) => false,
             Err(fault) => fault == ReplayFault::BadScript,
         };
@@ -333,7 +359,7 @@ fn memory_is_refused(rt: HostRuntime) -> Result<(), Fail> {
         Err(_refused) => return Ok(()),
     };
     let shape = Shape::new(1, 2, LAST)?;
-    match replay(rt.alloc(), shape, scripts.as_slice(), &[0, 1, 1, 1, 0, 0]) {
+    match whole(rt.alloc(), shape, scripts.as_slice(), &[0, 1, 1, 1, 0, 0]) {
         Ok(report) => check(&rt, &report, steps(6), &[1, 0]),
         Err(fault) => assert_eq!(&rt; fault, ReplayFault::Memory),
     }
@@ -344,7 +370,7 @@ fn memory_is_refused(rt: HostRuntime) -> Result<(), Fail> {
             Replay::open(rt.alloc(), shape, scripts.as_slice())?
         }
     };
-    replay.feed(&[0, 1, 1, 1, 0, 0])?;
+    feed_list(&mut replay, &[0, 1, 1, 1, 0, 0])?;
     for _time in 0..2 {
         match replay.report(rt.alloc()) {
             Ok(report) => check(&rt, &report, steps(6), &[1, 0]),
