@@ -5,8 +5,6 @@ mod book;
 mod fault;
 mod player;
 mod report;
-#[cfg(test)]
-mod tests;
 
 pub use fault::ReplayFault;
 pub use player::{MAX_CALLS, Replay};
