@@ -12,7 +12,7 @@ use Rattle.kfifo_machine.specs.Machine.{opening}
 use Rattle.kfifo_live.specs.declared.view.Opening.{Opening}
 use Rattle.kfifo_live.specs.declared.view.Part.{Part}
 use Rattle.kfifo_live.specs.declared.view.View.{View}
-use Rattle.kfifo_live.specs.Schedule.{part, view_of, fresh, first_view, thread_of, seen_of, with_seen, more_in, IsSeated, AllBegin, Owns, Fits, OneSchedule, both_parts}
+use Rattle.kfifo_live.specs.Schedule.{part, view_of, fresh, first_view, thread_of, seen_of, with_seen, more_in, IsSeated, AllBegin, Owns, Fits, OneSchedule, FewTicks, both_parts}
 use Rattle.kfifo_live.specs.Step.{Looks}
 use Rattle.kfifo_live.proofs.Keeps.{adds, fits_set}
 
@@ -22,7 +22,7 @@ looks_at : {S : Type 0} (o : Opening) (s : State S View) (id thread : ℕ) (seen
     → (w : View) × OneSchedule o (slice_set s.words i (slice_index s.words i)) (set s.views id w) × Looks i (slice_index s.words i) (view_of o (part thread seen ∷ more)) w
 looks_at o s id thread seen more i kept at =
     let words : slice_set s.words i (slice_index s.words i) ≡ kept.world.words = set-get_or s.words i 0 ∙ kept.words_are in
-    let k = adds o s.words (slice_set s.words i (slice_index s.words i)) s.views id thread seen more kept at [] (λ u apart. refl) kept.world refl words in
+    let k = adds o s.words (slice_set s.words i (slice_index s.words i)) s.views id thread seen more kept at [] (λ u apart. refl) kept.world refl words (subst (FewTicks o) (sym (append-nil kept.all)) kept.few_ticks) in
     let mine = kept.fit id (view_of o (part thread seen ∷ more)) at in (
       view_of o (part thread kept.all ∷ more),
       subst (λ (es : List Event). OneSchedule o (slice_set s.words i (slice_index s.words i)) (set s.views id (view_of o (part thread es ∷ more)))) (append-nil kept.all) k,
@@ -131,6 +131,7 @@ cuts o id v n le s kept at =
       owner = owner;
       runs = kept.runs;
       words_are = kept.words_are;
+      few_ticks = kept.few_ticks;
       fit = λ j u e.
           ⊎_elim
           (λ (x : get_elem? (set s.views id left) j ≡ some u).
@@ -166,6 +167,7 @@ gathers o id v other w opened same s kept at apart there =
       owner = owner;
       runs = kept.runs;
       words_are = kept.words_are;
+      few_ticks = kept.few_ticks;
       fit = λ j u e. fits_set o kept.all owner (set s.views id both) other (view_of opened [])
           (λ i y not_other f. fits_at o kept.all owner s.views id both other
           (λ i y not_id not_other f. let they = kept.fit i y f in record { opened = they.opened; begin = they.begin; owns = owns_other kept.owner other 0 id m i 0 y.parts not_other they.owns })
@@ -199,6 +201,7 @@ opens o words is = record {
   owner = λ t. (0, t);
   runs = refl;
   words_are = is;
+  few_ticks = λ thread. omega arith;
   fit = one;
 }
   where

@@ -1,27 +1,33 @@
 -- Each step keeps the rule: there is still one schedule.
-use Rattle.std.proofs.Common.{◌≡◌, ◌≢◌, ℕ, suc, ◌<◌, ◌≤◌, List, [], ◌∷◌, ◌++◌, length, set, get_or, Option, Some, Bool, true, false, refl, sym, ap, ◌∙◌, subst, ⊎_elim, arith, append_assoc, cond, eq-eqb, ne_eqb}
+use Rattle.std.proofs.Common.{◌≡◌, ◌≢◌, ℕ, suc, ◌+◌, ◌*◌, ◌%◌, ◌^◌, ◌<◌, ◌≤◌, List, [], ◌∷◌, ◌++◌, length, set, get_or, Option, Some, None, Ok, Err, Bool, true, false, refl, sym, ap, ◌∙◌, subst, ⊎_elim, arith, append_assoc, cond, eq-eqb, ne_eqb}
 use Rattle.std.specs.Prelude.{slice_index, slice_set, ◌==◌}
 use Rattle.std.proofs.lemmas.List.{append-nil, set-get_or}
+use Rattle.std.proofs.lemmas.Bool.{lt-ltb}
 use mathlib.Core.Option.{some}
 use lib.ListN.{get_elem?}
 use prog.Atomic.{either}
 use Rattle.atomic_table.specs.Table.{State, keeps, Me, Allows}
 use Rattle.atomic_table.proofs.Lists.{at_set}
 use Rattle.kfifo_words.specs.declared.shape.Shape.{Shape}
+use Rattle.kfifo_words.specs.Ring.{clock_at}
 use Rattle.kfifo_machine.specs.declared.event.Begin.{Begin}
+use Rattle.kfifo_machine.specs.declared.event.Begin.TheVariants.{Tick}
+use Rattle.kfifo_machine.specs.declared.event.Outcome.TheVariants.{Went}
+use Rattle.kfifo_machine.specs.declared.event.NotEnabled.TheVariants.{NoSuchThread, ClockSpent}
 use Rattle.kfifo_machine.specs.declared.event.Event.{Event}
 use Rattle.kfifo_machine.specs.declared.place.Running.{Running}
 use Rattle.kfifo_machine.specs.declared.place.Access.{Access}
 use Rattle.kfifo_machine.specs.declared.place.Access.TheVariants.{Load, Exchange}
 use Rattle.kfifo_machine.specs.Program.{access, accessed}
-use Rattle.kfifo_machine.specs.Machine.{World, opening, moved, found, word_at, place_of, words_after, world_of, run}
+use Rattle.kfifo_machine.specs.Machine.{World, opening, moved, ticked, found, word_at, place_of, words_after, world_of, step, step_from, run}
 use Rattle.kfifo_machine.specs.Runs.{event, own, going, Begins}
 use Rattle.kfifo_machine.proofs.Schedules.{run_on, own-append, same_place, still_threads, steps_on}
 use Rattle.kfifo_live.specs.declared.view.Opening.{Opening}
 use Rattle.kfifo_live.specs.declared.view.Part.{Part}
 use Rattle.kfifo_live.specs.declared.view.View.{View}
-use Rattle.kfifo_live.specs.Schedule.{part, view_of, world_after, AllBegin, Owns, Fits, OneSchedule, thread_of, seen_of, more_in, with_seen}
-use Rattle.kfifo_live.specs.Step.{IsAt, Steps}
+use Rattle.kfifo_live.specs.Schedule.{part, view_of, world_after, AllBegin, Owns, Fits, OneSchedule, FewTicks, IsSmall, ticks, thread_of, seen_of, more_in, with_seen}
+use Rattle.kfifo_live.specs.Step.{IsAt, Steps, DrawsStamp}
+use Rattle.kfifo_live.proofs.Ticks.{clock_below, few_more, few_tick, no_tick}
 
 -- a longer schedule, with nothing more of the thread
 begins_on : (thread : ℕ) (seen all more : List Event) → Begins thread seen all → own thread more ≡ [] → Begins thread seen (all ++ more)
@@ -59,9 +65,9 @@ fits_set o all owner views id w others mine j u e =
 pub adds : (o : Opening) (words after_words : List ℕ) (views : List View) (id : ℕ) (thread : ℕ) (seen : List Event) (more : List Part)
     → (kept : OneSchedule o words views) → get_elem? views id ≡ some (view_of o (part thread seen ∷ more))
     → (tail : List Event) → ((u : ℕ) → u ≢ thread → own u tail ≡ [])
-    → (end : World) → run o.shape (Some kept.world) tail ≡ Some end → after_words ≡ end.words
+    → (end : World) → run o.shape (Some kept.world) tail ≡ Some end → after_words ≡ end.words → FewTicks o (kept.all ++ tail)
     → OneSchedule o after_words (set views id (view_of o (part thread (kept.all ++ tail) ∷ more)))
-adds o words after_words views id thread seen more kept at tail others end runs words_are =
+adds o words after_words views id thread seen more kept at tail others end runs words_are few =
     let mine = kept.fit id (view_of o (part thread seen ∷ more)) at in
     let owned : kept.owner thread ≡ (id, 0) = mine.owns.0 in
     record {
@@ -70,6 +76,7 @@ adds o words after_words views id thread seen more kept at tail others end runs 
       owner = kept.owner;
       runs = run_on o.shape (Some (opening o.shape o.threads)) kept.world kept.all tail kept.runs ∙ runs;
       words_are = words_are;
+      few_ticks = few;
       fit = fits_set o (kept.all ++ tail) kept.owner views id (view_of o (part thread (kept.all ++ tail) ∷ more))
           (λ j u apart e.
           let theirs = kept.fit j u e in
@@ -139,7 +146,8 @@ goes_at o s id thread seen more place here reached within stood begin running fr
     let w' = view_of o (part thread (kept.all ++ e ∷ []) ∷ more) in
     let is_w : w' ≡ w = ap (λ (es : List Event). view_of o (part thread (es ++ e ∷ []) ∷ more)) b.goes_on in
     let made : run o.shape (Some kept.world) (e ∷ []) ≡ Some end = ap world_of (steps_on o.shape kept.world e running inside now) in
-    let k = adds o s.words (slice_set s.words i (f (slice_index s.words i))) s.views id thread seen more kept at (e ∷ []) (λ u apart. own_other thread u begin apart) end made new_words in (
+    let k = adds o s.words (slice_set s.words i (f (slice_index s.words i))) s.views id thread seen more kept at (e ∷ []) (λ u apart. own_other thread u begin apart) end made new_words
+    (few_more o kept.all e (no_tick o.shape place begin running from) kept.few_ticks) in (
       w,
       subst (λ (x : View). OneSchedule o (slice_set s.words i (f (slice_index s.words i))) (set s.views id x)) is_w k,
       record {
@@ -173,6 +181,85 @@ goes {S} o slots id me place stood begin running shape sizes from a is f writes 
     let got : P v' = subst Q opened
     (λ k. goes_at v.opened s id (thread_of v) (seen_of v) (more_in v.parts) place stood.here stood.reached stood.within stood.place_is begin running from' i (ap accessed touch) f writes' k (at ∙ ap some stood.seated)) kept in
     let put = subst P (sym stood.seated) got in
+    (put.0, keeps, tt, put.1, (put.2, refl))
+
+-- the words after a tick
+ticked_words : (shape : Shape) (world : World) → word_at world (clock_at shape.k shape.n) ≤ 131072
+    → slice_set world.words (clock_at shape.k shape.n) ((slice_index world.words (clock_at shape.k shape.n) + 1) % 2 ^ 64) ≡ (ticked shape world).words
+unfolding ticked word_at
+ticked_words shape world few =
+    let n = slice_index world.words (clock_at shape.k shape.n) in
+    let same : (n + 1) % 2 ^ 64 ≡ n + 1 = omega arith in
+    ap (λ (x : ℕ). slice_set world.words (clock_at shape.k shape.n) x) same
+
+clock-is : (world : World) (i : ℕ) → slice_index world.words i ≡ word_at world i
+unfolding word_at
+clock-is world i = refl
+
+-- a tick of an idle thread is made
+ticks_on : (shape : Shape) (world : World) (thread : ℕ) → thread < length world.places → place_of world thread ≡ None → word_at world (clock_at shape.k shape.n) ≤ 131072
+    → step shape world (event thread (Some Tick)) ≡ Ok (ticked shape world, Went)
+unfolding step
+ticks_on shape world thread within idle few =
+    ap (λ b. cond b (step_from shape world thread (place_of world thread) (Some Tick)) (Err NoSuchThread)) (lt-ltb thread (length world.places) within)
+    ∙ ap (λ p. step_from shape world thread p (Some Tick)) idle
+    ∙ ap (λ b. cond b (Err ClockSpent) (Ok (ticked shape world, Went))) (ne_eqb (word_at world (clock_at shape.k shape.n)) 18446744073709551615 (λ e. absurd (omega arith)))
+
+-- a tick of an idle thread that may tick once more
+draws_at : {S : Type 0} (o : Opening) (s : State S View) (id : ℕ) (thread : ℕ) (seen : List Event) (more : List Part) (here : World)
+    → world_after o seen ≡ Some here → thread < length here.places → place_of here thread ≡ None → IsSmall o → ticks (own thread seen) < 2 * o.calls
+    → OneSchedule o s.words s.views → get_elem? s.views id ≡ some (view_of o (part thread seen ∷ more))
+    → (w : View) × OneSchedule o (slice_set s.words (clock_at o.shape.k o.shape.n) ((slice_index s.words (clock_at o.shape.k o.shape.n) + 1) % 2 ^ 64)) (set s.views id w)
+    × DrawsStamp (view_of o (part thread seen ∷ more)) (slice_index s.words (clock_at o.shape.k o.shape.n)) w
+draws_at o s id thread seen more here reached within idle small room kept at =
+    let mine = kept.fit id (view_of o (part thread seen ∷ more)) at in
+    let b = mine.begin.0 in
+    let e = event thread (Some Tick) in
+    let clock = clock_at o.shape.k o.shape.n in
+    let arrived : world_after o (seen ++ b.rest) ≡ Some kept.world = ap (λ es. world_after o es) (sym b.goes_on) ∙ kept.runs in
+    let onward : run o.shape (Some here) b.rest ≡ Some kept.world = sym (run_on o.shape (Some (opening o.shape o.threads)) here seen b.rest reached) ∙ arrived in
+    let still_idle : place_of kept.world thread ≡ None = same_place o.shape here kept.world b.rest thread b.no_own onward ∙ idle in
+    let still : length kept.world.places ≡ length here.places = still_threads o.shape here kept.world b.rest onward in
+    let inside : thread < length kept.world.places = omega (arith, within, still) in
+    let few = clock_below o kept.all kept.world small.0 small.1 kept.few_ticks kept.runs in
+    let new_words : slice_set s.words clock ((slice_index s.words clock + 1) % 2 ^ 64) ≡ (ticked o.shape kept.world).words =
+    (λ k. slice_set (kept.words_are k) clock ((slice_index (kept.words_are k) clock + 1) % 2 ^ 64)) ∙ ticked_words o.shape kept.world few in
+    let w = view_of o (part thread ((seen ++ b.rest) ++ e ∷ []) ∷ more) in
+    let w' = view_of o (part thread (kept.all ++ e ∷ []) ∷ more) in
+    let is_w : w' ≡ w = ap (λ (es : List Event). view_of o (part thread (es ++ e ∷ []) ∷ more)) b.goes_on in
+    let made : run o.shape (Some kept.world) (e ∷ []) ≡ Some (ticked o.shape kept.world) = ap world_of (ticks_on o.shape kept.world thread inside still_idle few) in
+    let own_all : own thread kept.all ≡ own thread seen = ap (own thread) b.goes_on ∙ own-append thread seen b.rest ∙ ap (λ es. own thread seen ++ es) b.no_own ∙ append-nil (own thread seen) in
+    let room_left : ticks (own thread kept.all) < 2 * o.calls = subst (λ (es : List Event). ticks es < 2 * o.calls) (sym own_all) room in
+    let k = adds o s.words (slice_set s.words clock ((slice_index s.words clock + 1) % 2 ^ 64)) s.views id thread seen more kept at (e ∷ []) (λ u apart. own_other thread u (Some Tick) apart) (ticked o.shape kept.world) made new_words
+    (few_tick o kept.all e room_left kept.few_ticks) in (
+      w,
+      subst (λ (x : View). OneSchedule o (slice_set s.words clock ((slice_index s.words clock + 1) % 2 ^ 64)) (set s.views id x)) is_w k,
+      record {
+        between = b.rest;
+        here = kept.world;
+        others = b.no_own;
+        reached = arrived;
+        stamp_is = ap (λ ws. slice_index ws clock) kept.words_are ∙ clock-is kept.world clock;
+        made = ticks_on o.shape kept.world thread inside still_idle few;
+        afterwards = refl;
+      },
+    )
+
+-- The tick keeps the rule
+pub draws : {S : Type 0} (o : Opening) (slots id : ℕ) (me : Me S View) (clock : ℕ) → clock ≡ clock_at me.0.opened.shape.k me.0.opened.shape.n → IsAt None me.0 → IsSmall me.0.opened
+    → ticks (own (thread_of me.0) (seen_of me.0)) < 2 * me.0.opened.calls
+    → Allows (λ (s : State S View). OneSchedule o s.words s.views) slots id me clock (λ n. (n + 1) % 2 ^ 64) (λ found w. DrawsStamp me.0 found w.0 × (w.1 ≡ me.1))
+draws {S} o slots id me clock clock_is stood small room s kept homes at fits =
+    let v = me.0 in
+    let opened = (kept.fit id v at).opened in
+    let v' = with_seen v (seen_of v) in
+    let i = clock_at v.opened.shape.k v.opened.shape.n in
+    let P : View → Type 0 = λ x. (w : View) × OneSchedule o (slice_set s.words i ((slice_index s.words i + 1) % 2 ^ 64)) (set s.views id w) × DrawsStamp x (slice_index s.words i) w in
+    let Q : Opening → Type 0 = λ x. OneSchedule x s.words s.views → (w : View) × OneSchedule x (slice_set s.words i ((slice_index s.words i + 1) % 2 ^ 64)) (set s.views id w) × DrawsStamp v' (slice_index s.words i) w in
+    let got : P v' = subst Q opened
+    (λ k. draws_at v.opened s id (thread_of v) (seen_of v) (more_in v.parts) stood.here stood.reached stood.within stood.place_is small room k (at ∙ ap some stood.seated)) kept in
+    let R : ℕ → Type 0 = λ j. (w : View) × OneSchedule o (slice_set s.words j ((slice_index s.words j + 1) % 2 ^ 64)) (set s.views id w) × DrawsStamp v (slice_index s.words j) w in
+    let put = subst R (sym clock_is) (subst P (sym stood.seated) got) in
     (put.0, keeps, tt, put.1, (put.2, refl))
 
 pub either-cond : (b : Bool) (x y : ℕ) → either b x y ≡ cond b x y

@@ -1,3 +1,4 @@
+pub mod Ticks
 pub mod Keeps
 pub mod Cuts
 pub mod Whole

@@ -6,7 +6,7 @@ use Rattle.kfifo_machine.specs.declared.place.Running.{Running}
 use Rattle.kfifo_machine.specs.Machine.{World, opening, place_of, word_at}
 use Rattle.kfifo_live.specs.declared.view.Opening.{Opening}
 use Rattle.kfifo_live.specs.declared.view.View.{View}
-use Rattle.kfifo_live.specs.Schedule.{part, view_of, fresh, seen_of, first_part, other_parts}
+use Rattle.kfifo_live.specs.Schedule.{IsSmall, part, view_of, fresh, seen_of, first_part, other_parts}
 use Rattle.kfifo_live.specs.Step.{IsAt}
 use Rattle.kfifo_live.specs.Pass.{OpenQueue, AllOf, new_passes, IsPass, IsZeroed}
 
@@ -36,10 +36,10 @@ inside : (o : Opening) (thread : ℕ) → thread < o.threads → thread < length
 unfolding opening
 inside o thread lt = let idle : Option Running = None in let n = length-replicate o.threads idle in omega (arith, lt, n)
 
-pub new_pass : (o : Opening) (thread : ℕ) (me : Me (Unit {0}) View) → thread < o.threads → o.threads ≤ 64 → me.0 ≡ view_of o (part thread [] ∷ []) → me.1 ≡ [] → IsPass thread me
+pub new_pass : (o : Opening) (thread : ℕ) (me : Me (Unit {0}) View) → thread < o.threads → IsSmall o → me.0 ≡ view_of o (part thread [] ∷ []) → me.1 ≡ [] → IsPass thread me
 new_pass o thread me lt few is held =
     let idle : IsAt None (view_of o (part thread [] ∷ [])) = record { here = opening o.shape o.threads; seated = refl; reached = refl; within = inside o thread lt; place_is = idle_at o thread } in
-    record { alone = ap (λ v. v.parts) is ∙ ap (λ es. part thread es ∷ []) (sym (ap seen_of is)); held = held; idle = subst (IsAt None) (sym is) idle; few = subst (λ (v : View). v.opened.threads ≤ 64) (sym is) few }
+    record { alone = ap (λ v. v.parts) is ∙ ap (λ es. part thread es ∷ []) (sym (ap seen_of is)); held = held; idle = subst (IsAt None) (sym is) idle; few = subst (λ (v : View). IsSmall v.opened) (sym is) few }
 
 -- the first part is cut off
 pub cut_first : (o : Opening) (first count : ℕ) (v left right : View) → first < count → v ≡ view_of o (fresh first (count - first)) → left ≡ first_part v → right ≡ other_parts v

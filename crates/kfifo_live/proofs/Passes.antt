@@ -5,22 +5,30 @@ use Rattle.atomic_table.specs.Table.{Me}
 use Rattle.atomic_table.specs.Seated.{TableId}
 use Rattle.atomic_table.specs.declared.shared.Seat.{Seat}
 use Rattle.kfifo_model.specs.declared.calls.Answer.{Answer}
+use Rattle.kfifo_words.specs.declared.shape.Shape.{Shape}
 use Rattle.kfifo_machine.specs.declared.event.Begin.{Begin}
+use Rattle.kfifo_machine.specs.declared.event.Begin.TheVariants.{Tick}
 use Rattle.kfifo_machine.specs.declared.event.Event.{Event}
 use Rattle.kfifo_machine.specs.declared.place.Next.TheVariants.{Answers}
-use Rattle.kfifo_machine.specs.Machine.{World, opening, place_of, run, word_at}
-use Rattle.kfifo_machine.specs.Runs.{Begins, WholeRun, own}
-use Rattle.kfifo_machine.proofs.Schedules.{own-append, run_on, same_place, still_threads}
+use Rattle.kfifo_machine.specs.Machine.{World, opening, place_of, run, ticked, word_at, world_of}
+use Rattle.kfifo_machine.specs.Runs.{Begins, WholeRun, event, own}
+use Rattle.kfifo_machine.proofs.Budget.{tick_leaves}
+use Rattle.kfifo_machine.proofs.Schedules.{after-snoc, own-append, run_on, same_place, still_threads}
 use Rattle.kfifo_live.specs.declared.view.Opening.{Opening}
 use Rattle.kfifo_live.specs.declared.view.Part.{Part}
 use Rattle.kfifo_live.specs.declared.view.View.{View}
-use Rattle.kfifo_live.specs.Schedule.{part, view_of, world_after, thread_in, thread_of, more_in, seen_of, with_seen, AllBegin, first_part, other_parts, no_part, both_parts}
-use Rattle.kfifo_live.specs.Step.{IsAt, Looks, Leads, Runs}
+use Rattle.kfifo_live.specs.Schedule.{IsSmall, part, view_of, world_after, thread_in, thread_of, more_in, seen_of, with_seen, AllBegin, first_part, other_parts, no_part, both_parts}
+use Rattle.kfifo_live.specs.Step.{IsAt, DrawsStamp, Looks, Leads, Runs}
 use Rattle.kfifo_live.specs.Pass.{Known, StartsWith, IsPass, known_of, Finds}
 use Rattle.kfifo_live.specs.Promise.{KeepsPromise}
 use Rattle.kfifo_live.specs.Calls.{Makes}
+use Rattle.kfifo_live.specs.Stamps.{Draws}
 use Rattle.kfifo_live.proofs.Whole.{at_next, whole}
 use Rattle.kfifo_linear.proofs.Schedule.{has_legal_order, few_overtake, few_certainly}
+
+length-ticked : (shape : Shape) (world : World) → length (ticked shape world).places ≡ length world.places
+unfolding ticked
+length-ticked shape world = refl
 
 -- a pass acts for its thread
 pub pass_thread : (thread : ℕ) (me : Me (Unit {0}) View) → IsPass thread me → thread_of me.0 ≡ thread
@@ -34,9 +42,9 @@ idle_on o thread seen all here end reached within idle b there =
     let still = still_threads o.shape here end b.rest onward in
     (omega (arith, within, still), same_place o.shape here end b.rest thread b.no_own onward ∙ idle)
 
--- its opening has so many threads as before
-few_same : (v w : View) (parts : List Part) → w ≡ view_of v.opened parts → v.opened.threads ≤ 64 → w.opened.threads ≤ 64
-few_same v w parts is few = subst (λ (o : Opening). o.threads ≤ 64) (sym (ap (λ (x : View). x.opened) is)) few
+-- its opening is as small as before
+few_same : (v w : View) (parts : List Part) → w ≡ view_of v.opened parts → IsSmall v.opened → IsSmall w.opened
+few_same v w parts is few = subst IsSmall (sym (ap (λ (x : View). x.opened) is)) few
 
 passes_on : (thread : ℕ) (old new : Me (Unit {0}) View) (all : List Event) (end : World) → IsPass thread old
     → new.0 ≡ view_of old.0.opened (part thread all ∷ []) → new.1 ≡ [] → Begins thread (seen_of old.0) all → world_after old.0.opened all ≡ Some end → IsPass thread new
@@ -82,6 +90,52 @@ called begin answer thread old new p slots l =
       held = slots ∙ p.held;
       idle = at_next (Some begin) old.0 new.0 (Answers answer) l;
       few = few_same old.0 new.0 (part thread all ∷ []) is p.few;
+    }
+
+-- after a tick
+pub drawn : (stamp thread : ℕ) (old new : Me (Unit {0}) View) → IsPass thread old → new.1 ≡ old.1 → DrawsStamp old.0 stamp new.0 → IsPass thread new
+drawn stamp thread old new p slots d =
+    let v = old.0 in
+    let t = thread_of v in
+    let shape = v.opened.shape in
+    let all = (seen_of v ++ d.between) ++ event t (Some Tick) ∷ [] in
+    let is : new.0 ≡ view_of v.opened (part thread all ∷ []) = d.afterwards ∙ alone_with thread old all p in
+    let onward : run shape (Some p.idle.here) d.between ≡ Some d.here = sym (run_on shape (Some (opening shape v.opened.threads)) p.idle.here (seen_of v) d.between p.idle.reached) ∙ d.reached in
+    let still = still_threads shape p.idle.here d.here d.between onward in
+    let there : place_of d.here t ≡ None = same_place shape p.idle.here d.here d.between t d.others onward ∙ p.idle.place_is in
+    let size = length-ticked shape d.here in
+    let at : IsAt None (with_seen v all) = record {
+      here = ticked shape d.here;
+      seated = refl;
+      reached = after-snoc shape v.opened.threads (seen_of v ++ d.between) d.here (event t (Some Tick)) d.reached ∙ ap world_of d.made;
+      within = let w = p.idle.within in omega arith;
+      place_is = tick_leaves shape d.here t ∙ there;
+    } in
+    record {
+      alone = ap (λ v. v.parts) is ∙ ap (λ es. part thread es ∷ []) (sym (ap seen_of is));
+      held = slots ∙ p.held;
+      idle = subst (IsAt None) (sym d.afterwards) at;
+      few = few_same old.0 new.0 (part thread all ∷ []) is p.few;
+    }
+
+-- and what it drew
+pub draws_known : (stamp thread : ℕ) (old new : Seat (Unit {0}) View) (now : Known) → IsPass thread old.me → known_of old.table_id thread old.me.0 ≡ now → new.table_id ≡ old.table_id
+    → DrawsStamp old.me.0 stamp new.me.0 → Draws stamp now (known_of new.table_id thread new.me.0)
+draws_known stamp thread old new now p is table d =
+    let v = old.me.0 in
+    let of_pass = subst (λ (t : ℕ). Draws stamp (known_of old.table_id t v) (known_of new.table_id t new.me.0)) (pass_thread thread old.me p) at_thread in
+    subst (λ (k : Known). Draws stamp k (known_of new.table_id thread new.me.0)) is of_pass
+  where
+    at_thread : Draws stamp (known_of old.table_id (thread_of old.me.0) old.me.0) (known_of new.table_id (thread_of old.me.0) new.me.0)
+    at_thread = record {
+      between = d.between;
+      here = d.here;
+      others = d.others;
+      reached = d.reached;
+      stamp_is = d.stamp_is;
+      made = d.made;
+      same = (table, ap (λ (x : View). x.opened) d.afterwards, refl);
+      new_is = ap seen_of d.afterwards;
     }
 
 -- and what was new to it is one whole run
@@ -156,4 +210,4 @@ keeps_promise o seen here few reached = record {
 
 -- so does what a pass has seen
 pub promised : (thread : ℕ) (me : Me (Unit {0}) View) → IsPass thread me → KeepsPromise me.0.opened (seen_of me.0)
-promised thread me p = keeps_promise me.0.opened (seen_of me.0) p.idle.here p.few p.idle.reached
+promised thread me p = keeps_promise me.0.opened (seen_of me.0) p.idle.here p.few.0 p.idle.reached

@@ -17,7 +17,7 @@ use Rattle.kfifo_machine.specs.Runs.{event, own, going, AllGoOn, WholeRun}
 use Rattle.kfifo_machine.specs.Places.{IsPlace, IsFoundBy}
 use Rattle.kfifo_machine.proofs.Places.{found_by, in_table}
 use Rattle.kfifo_machine.proofs.Schedules.{after-snoc, own-append, run_on, same_place, steps_on}
-use Rattle.kfifo_machine.proofs.Sound.{sound, going_place, place_is}
+use Rattle.kfifo_machine.proofs.Sound.{sound, place_is}
 use Rattle.kfifo_live.specs.declared.view.View.{View}
 use Rattle.kfifo_live.specs.Schedule.{world_after, thread_of, seen_of, with_seen}
 use Rattle.kfifo_live.specs.declared.ring.Ring.{Ring}

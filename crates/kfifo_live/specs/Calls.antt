@@ -1,12 +1,12 @@
 -- What one call of a pass came to: the events that it added to what the pass had seen, and what its answer says of them.
-use Rattle.std.specs.Prelude.{◌≡◌, ◌≢◌, ℕ, ◌+◌, ◌≤◌, List, ◌∷◌, ◌++◌, length, drop, Some}
+use Rattle.std.specs.Prelude.{◌≡◌, ◌≢◌, ℕ, ◌≤◌, List, ◌∷◌, ◌++◌, length, drop, Some}
 use Rattle.kfifo_model.specs.declared.calls.Answer.{Answer}
 use Rattle.kfifo_model.specs.declared.calls.Answer.TheVariants.{Full, Busy, Worn}
 use Rattle.kfifo_machine.specs.declared.event.Begin.{Begin}
 use Rattle.kfifo_machine.specs.declared.event.Event.{Event}
 use Rattle.kfifo_machine.specs.Machine.{World, word_at}
 use Rattle.kfifo_machine.specs.Runs.{WholeRun, own}
-use Rattle.kfifo_machine.specs.Laws.{IsRefusal, PutsNext, most_events}
+use Rattle.kfifo_machine.specs.Laws.{PutsNext, most_events}
 use Rattle.kfifo_machine.specs.Causes.{CauseOfFull, CauseOfWorn, looks, start_of}
 use Rattle.kfifo_machine.specs.Rounds.{LosesAll, OtherWins, turns_of}
 use Rattle.kfifo_live.specs.Pass.{Known}

@@ -7,4 +7,5 @@ pub mod Promise
 pub mod Pass
 pub mod Balance
 pub mod Calls
+pub mod Stamps
 pub mod Faults

@@ -1,5 +1,5 @@
 -- A queue and its passes, as callers see them.
-use Rattle.std.specs.Prelude.{◌<◌, ◌≤◌, ◌≡◌, ℕ, zero, suc, List, [], ◌∷◌, Some, None, ◌+◌, ◌++◌, length, true, ◌==◌}
+use Rattle.std.specs.Prelude.{◌<◌, ◌≡◌, ℕ, zero, suc, List, [], ◌∷◌, Some, None, ◌+◌, ◌++◌, length, true, ◌==◌}
 use Rattle.std.specs.List.{list_any}
 use Rattle.atomic_table.specs.Table.{Me}
 use Rattle.atomic_table.specs.Seated.{TableId}
@@ -8,7 +8,7 @@ use Rattle.kfifo_machine.specs.Machine.{World, word_at}
 use Rattle.kfifo_machine.specs.Runs.{Begins}
 use Rattle.kfifo_live.specs.declared.view.Opening.{Opening}
 use Rattle.kfifo_live.specs.declared.view.View.{View}
-use Rattle.kfifo_live.specs.Schedule.{part, world_after, seen_of, AllBegin}
+use Rattle.kfifo_live.specs.Schedule.{IsSmall, part, world_after, seen_of, AllBegin}
 use Rattle.kfifo_live.specs.Left.{items_left}
 use Rattle.kfifo_live.specs.Promise.{KeepsPromise}
 use Rattle.kfifo_live.specs.Balance.{times, puts, undos, takes}
@@ -33,12 +33,12 @@ abbrev pub known_of : TableId → ℕ → View → Known
 known_of table thread v = record { table = table; opened = v.opened; thread = thread; seen = seen_of v }
 
 -- what is always so of a pass: it acts for its thread alone, which is in no call, its seat holds no slot, and its queue was
--- opened for at most 64 threads
+-- opened for few threads and stamped calls
 pub record IsPass (thread : ℕ) (me : Me (Unit {0}) View) : Type 0 where
   pub alone : me.0.parts ≡ part thread (seen_of me.0) ∷ []
   pub held : me.1 ≡ []
   pub idle : IsAt None me.0
-  pub few : me.0.opened.threads ≤ 64
+  pub few : IsSmall me.0.opened
 
 -- after the empty schedule each word of the opening is 0
 abbrev pub IsZeroed : Opening → Type 0

@@ -1,18 +1,24 @@
 -- The one schedule of a running queue, and what each seat of its table has seen of it.
-use Rattle.std.specs.Prelude.{◌≡◌, ℕ, zero, suc, List, [], ◌∷◌, Option, Some, take, drop, ◌++◌}
+use Rattle.std.specs.Prelude.{◌≡◌, ℕ, zero, suc, ◌*◌, ◌≤◌, Bool, true, false, List, [], ◌∷◌, Option, Some, take, drop, length, filter, ◌++◌}
 use Rattle.std.proofs.Common.{lit<, lit≤}
 use mathlib.Core.Option.{some}
 use lib.ListN.{get_elem?}
 use Rattle.kfifo_words.specs.declared.shape.Shape.{Shape}
+use Rattle.kfifo_machine.specs.declared.event.Begin.{Begin}
+use Rattle.kfifo_machine.specs.declared.event.Begin.TheVariants.{Tick}
 use Rattle.kfifo_machine.specs.declared.event.Event.{Event}
 use Rattle.kfifo_machine.specs.Machine.{World, after}
-use Rattle.kfifo_machine.specs.Runs.{Begins}
+use Rattle.kfifo_machine.specs.Runs.{Begins, own}
 use Rattle.kfifo_live.specs.declared.view.Opening.{Opening}
 use Rattle.kfifo_live.specs.declared.view.Part.{Part}
 use Rattle.kfifo_live.specs.declared.view.View.{View}
 
+-- the opening of a stamped queue, and that of a plain one, in which no call is stamped
+abbrev pub stamped_opening : Shape → ℕ → ℕ → Opening
+stamped_opening shape threads calls = record { shape = shape; threads = threads; calls = calls }
+
 abbrev pub opening : Shape → ℕ → Opening
-opening shape threads = record { shape = shape; threads = threads }
+opening shape threads = stamped_opening shape threads 0
 
 abbrev pub part : ℕ → List Event → Part
 part thread seen = record { thread = thread; seen = seen }
@@ -23,6 +29,22 @@ view_of o parts = record { opened = o; parts = parts }
 -- the world after a schedule of an opening
 abbrev pub world_after : Opening → List Event → Option World
 world_after o events = after o.shape o.threads events
+
+-- few enough threads and stamped calls
+abbrev pub IsSmall : Opening → Type 0
+IsSmall o = (o.threads ≤ 64) × (o.calls ≤ 1024)
+
+-- how many of these events are ticks of the clock
+abbrev pub begins_tick : Option Begin → Bool
+begins_tick (Some Tick) = true
+begins_tick begin = false
+
+abbrev pub ticks : List Event → ℕ
+ticks events = length (filter (λ e. begins_tick e.begin) events)
+
+-- no thread has ticked more often than twice for each stamped call that its pass may make
+abbrev pub FewTicks : Opening → List Event → Type 0
+FewTicks o all = (thread : ℕ) → ticks (own thread all) ≤ 2 * o.calls
 
 -- threads first, first + 1, .. that have seen nothing
 abbrev pub fresh : ℕ → ℕ → List Part
@@ -48,14 +70,15 @@ pub record Fits (o : Opening) (all : List Event) (owner : ℕ → ℕ × ℕ) (s
   pub begin : AllBegin v.parts all
   pub owns : Owns owner seat 0 v.parts
 
--- One schedule: the words of the table are those after it, and what each seat has seen of its threads is a beginning of
--- it with all their events
+-- One schedule: the words of the table are those after it, what each seat has seen of its threads is a beginning of it with
+-- all their events, and the clock has ticked so seldom that it is not spent
 pub record OneSchedule (o : Opening) (words : List ℕ) (views : List View) : Type 0 where
   pub all : List Event
   pub world : World
   pub owner : ℕ → ℕ × ℕ
   pub runs : world_after o all ≡ Some world
   pub words_are : words ≡ world.words
+  pub few_ticks : FewTicks o all
   pub fit : (seat : ℕ) (v : View) → get_elem? views seat ≡ some v → Fits o all owner seat v
 
 -- the first part's thread, what was seen by it, and the other parts

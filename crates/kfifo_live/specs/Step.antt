@@ -2,16 +2,17 @@
 use Rattle.std.specs.Prelude.{◌≡◌, ℕ, ◌+◌, ◌*◌, ◌<◌, List, [], ◌∷◌, ◌++◌, length, get_or, Option, Some, None, Ok}
 use Rattle.atomic_table.specs.declared.shared.Seat.{Seat}
 use Rattle.kfifo_words.specs.declared.shape.Shape.{Shape}
-use Rattle.kfifo_model.specs.declared.calls.Answer.{Answer}
+use Rattle.kfifo_words.specs.Ring.{clock_at}
 use Rattle.kfifo_machine.specs.declared.event.Begin.{Begin}
+use Rattle.kfifo_machine.specs.declared.event.Begin.TheVariants.{Tick}
 use Rattle.kfifo_machine.specs.declared.event.Event.{Event}
+use Rattle.kfifo_machine.specs.declared.event.Outcome.TheVariants.{Went}
 use Rattle.kfifo_machine.specs.declared.place.Access.{Access}
 use Rattle.kfifo_machine.specs.declared.place.Access.TheVariants.{Load}
 use Rattle.kfifo_machine.specs.declared.place.Running.{Running}
 use Rattle.kfifo_machine.specs.declared.place.Next.{Next}
-use Rattle.kfifo_machine.specs.declared.place.Next.TheVariants.{Goes, Answers}
 use Rattle.kfifo_machine.specs.Program.{access, advance}
-use Rattle.kfifo_machine.specs.Machine.{World, found, place_of, place_after, outcome_of, step}
+use Rattle.kfifo_machine.specs.Machine.{World, found, ticked, word_at, place_of, place_after, outcome_of, step}
 use Rattle.kfifo_machine.specs.Runs.{event, own, going, AllGoOn, BeginsOnce}
 use Rattle.kfifo_machine.specs.Places.{IsPlace, IsFoundBy}
 use Rattle.kfifo_live.specs.declared.ring.Ring.{Ring}
@@ -38,6 +39,17 @@ pub record Steps (begin : Option Begin) (v : View) (word : ℕ) (w : View) : Typ
   pub goes : going v.opened.shape (place_of here (thread_of v)) begin ≡ Some from
   pub word_is : word ≡ found v.opened.shape here from
   pub afterwards : w ≡ with_seen v ((seen_of v ++ between) ++ event (thread_of v) begin ∷ [])
+
+-- A tick of the first part's thread, which is in no call: events of others, after which it finds this stamp on the clock,
+-- and then its own tick
+pub record DrawsStamp (v : View) (stamp : ℕ) (w : View) : Type 0 where
+  pub between : List Event
+  pub here : World
+  pub others : own (thread_of v) between ≡ []
+  pub reached : world_after v.opened (seen_of v ++ between) ≡ Some here
+  pub stamp_is : stamp ≡ word_at here (clock_at v.opened.shape.k v.opened.shape.n)
+  pub made : step v.opened.shape here (event (thread_of v) (Some Tick)) ≡ Ok (ticked v.opened.shape here, Went)
+  pub afterwards : w ≡ with_seen v ((seen_of v ++ between) ++ event (thread_of v) (Some Tick) ∷ [])
 
 -- a look at a word, which is no event: the schedule so far was seen
 pub record Looks (index word : ℕ) (v w : View) : Type 0 where

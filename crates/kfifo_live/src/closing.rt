@@ -115,6 +115,7 @@ pub fn close(alloc: Global, queue: Queue, mut passes: Vec<Pass>) -> Result<Vec<u
         table,
         shape,
         threads: _,
+        calls: _,
     } = queue;
     let Pass { thread: _, seat } = last;
     let seat = gather_all(&table.shared, seat, passes);

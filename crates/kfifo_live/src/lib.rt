@@ -13,6 +13,7 @@ mod ring;
 mod rule;
 mod scan;
 mod seats;
+mod stamps;
 #[cfg(test)]
 mod tests;
 mod view;
@@ -21,3 +22,4 @@ pub use closing::close;
 pub use fault::{CloseFault, OpenFault};
 pub use meeting::meet;
 pub use queue::{Pass, Queue};
+pub use stamps::{StampPass, StampQueue};

@@ -1,7 +1,7 @@
 //! Opening a queue.
 ghost use Rattle.std.specs.Prelude.{◌≡◌, ◌<◌, ◌≤◌, ◌+◌, ◌⊎◌, ◌↔◌, [], IfOk, IsErrOf, length};
 ghost use Rattle.kfifo_linear.specs.Headline.{HasLegalOrder, FewOvertake, FewCertainlyOvertake};
-ghost use Rattle.kfifo_live.specs.Schedule.{opening, fresh, view_of};
+ghost use Rattle.kfifo_live.specs.Schedule.{IsSmall, opening, stamped_opening, fresh, view_of};
 ghost use Rattle.kfifo_live.specs.Pass.{IsZeroed, queue_of, new_passes};
 ghost use Rattle.kfifo_live.specs.declared.fault.OpenFault.TheVariants.{ThreadsOutOfRange};
 
@@ -22,7 +22,7 @@ fn deal(
     threads: u32,
 ) -> Result<Vec<Pass>, AllocError>
     requires table { (seat.table_id ≡ shared.now.table_id) × (0 < shared.now.table_id.words) }
-    requires few { threads ≤ 64 }
+    requires few { IsSmall seat.me.0.opened }
     requires seat { (seat.me.1 ≡ []) × (seat.me.0 ≡ view_of seat.me.0.opened (fresh 0 threads)) × (seat.me.0.opened.threads ≡ threads) }
     ensures { IfOk result (λ ps. ps.items ≡ new_passes (queue_of seat.table_id seat.me.0.opened) 0 threads) }
 {
@@ -36,6 +36,34 @@ fn deal(
 }
 
 impl Queue {
+    /// A queue for so many stamped calls of each pass, and its passes.
+    pub(crate) fn open_for(
+        alloc: Global,
+        shape: Shape,
+        threads: u32,
+        calls: u32,
+    ) -> Result<(Queue, Vec<Pass>), AllocError>
+        requires threads { (0 < threads) × (threads ≤ 64) }
+        requires calls { calls ≤ 1024 }
+        ensures { IfOk result (λ r. (r.0.opened ≡ stamped_opening shape threads calls) × (r.1.items ≡ new_passes r.0 0 threads)) }
+    {
+        let words = vec![in alloc; 0; 2 + shape.n() as usize * shape.k() as usize]?;
+        let about = Opening {
+            shape,
+            threads,
+            calls,
+        };
+        let (table, seat) = Table::of_words(alloc, words.as_slice(), &about)?;
+        let passes = deal(alloc, &table.shared, seat, threads)?;
+        let queue = Queue {
+            table,
+            shape,
+            threads,
+            calls,
+        };
+        Ok((queue, passes))
+    }
+
     /// A queue, and one pass for each thread, numbered from 0. The passes have seen the empty schedule,
     /// after which all words are 0.
     ///
@@ -55,15 +83,7 @@ impl Queue {
         if threads == 0 || threads > MAX_THREADS {
             return Err(OpenFault::ThreadsOutOfRange);
         }
-        let words = vec![in alloc; 0; 2 + shape.n() as usize * shape.k() as usize]?;
-        let about = Opening { shape, threads };
-        let (table, seat) = Table::of_words(alloc, words.as_slice(), &about)?;
-        let passes = deal(alloc, &table.shared, seat, threads)?;
-        let queue = Queue {
-            table,
-            shape,
-            threads,
-        };
-        Ok((queue, passes))
+        let opened = Queue::open_for(alloc, shape, threads, 0)?;
+        Ok(opened)
     }
 }

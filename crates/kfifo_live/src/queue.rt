@@ -2,7 +2,7 @@
 ghost use Rattle.std.specs.Prelude.{◌≡◌, ◌<◌, ◌≤◌, ◌+◌, ◌*◌, ◌^◌};
 ghost use Rattle.kfifo_machine.specs.Laws.{IsRefusal};
 ghost use Rattle.kfifo_machine.specs.declared.event.Begin.TheVariants.{Enqueue, Dequeue};
-ghost use Rattle.kfifo_live.specs.Schedule.{opening};
+ghost use Rattle.kfifo_live.specs.Schedule.{stamped_opening};
 ghost use Rattle.kfifo_live.specs.Calls.{Makes, TakesFewSteps, HasCause, IsDisturbed, LeavesNoItem};
 ghost use Rattle.kfifo_live.specs.Promise.{KeepsPromise};
 ghost use Rattle.kfifo_live.specs.Pass.{OpenQueue, Known, queue_of, known_of, IsPass, IsOf, IsSame, Finds};
@@ -25,14 +25,15 @@ pub struct Queue {
     pub(crate) table: Table<(), View, Opening, QueueRule, Global>,
     pub(crate) shape: Shape,
     pub(crate) threads: u32,
+    pub(crate) calls: u32,
 }
 
 impl Model for Queue {
     ghost Value = { OpenQueue };
 
-    ghost view = { λ q. queue_of q.table.shared.table_id (opening q.shape q.threads) };
+    ghost view = { λ q. queue_of q.table.shared.table_id (stamped_opening q.shape q.threads q.calls) };
 
-    ghost invariant = { λ q. (q.table.shared.key ≡ opening q.shape q.threads) × (q.table.shared.table_id.words ≡ 2 + q.shape.n * q.shape.k) × (q.table.shared.table_id.slots ≡ 0) × (0 < q.threads) };
+    ghost invariant = { λ q. (q.table.shared.key ≡ stamped_opening q.shape q.threads q.calls) × (q.table.shared.table_id.words ≡ 2 + q.shape.n * q.shape.k) × (q.table.shared.table_id.slots ≡ 0) × (0 < q.threads) };
 }
 
 /// What a thread makes its calls with. It may go to another thread between two calls.

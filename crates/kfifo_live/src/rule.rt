@@ -4,14 +4,14 @@ ghost use Rattle.kfifo_live.specs.declared.view.Opening.{Opening};
 ghost use Rattle.kfifo_machine.specs.declared.event.Begin.{Begin};
 ghost use Rattle.kfifo_machine.specs.declared.event.Begin.TheVariants.{Tick};
 ghost use Rattle.kfifo_live.specs.Schedule.{OneSchedule, first_view, first_part, other_parts, no_part, both_parts, view_of, small_opening};
-ghost use Rattle.kfifo_live.specs.Step.{Steps, Looks};
+ghost use Rattle.kfifo_live.specs.Step.{Steps, DrawsStamp, Looks};
 
 use crate::view::{Opening, View};
 use atomic_table::{Join, Play, Split, TableRule};
 use std::marker::{Brand, PhantomData};
 
-/// The rule, or invariant, of the table: there is one schedule; the words are those after it, and each
-/// seat has seen a beginning of it with all events of its threads.
+/// The rule, or invariant, of the table: there is one schedule; the words are those after it, each seat
+/// has seen a beginning of it with all events of its threads, and the clock has ticked seldom.
 pub struct QueueRule;
 
 impl TableRule<(), View, Opening> for QueueRule {
@@ -43,6 +43,13 @@ pub struct NextStep;
 
 impl Play<(), View> for NextStep {
     ghost then = { λ s v found w. Steps None v.0 found w.0 × (w.1 ≡ v.1) };
+}
+
+/// A tick of the clock.
+pub struct DrawStamp;
+
+impl Play<(), View> for DrawStamp {
+    ghost then = { λ s v found w. DrawsStamp v.0 found w.0 × (w.1 ≡ v.1) };
 }
 
 /// A load that is no step of a call.

@@ -18,6 +18,8 @@ pub struct Opening {
     pub shape: Shape,
     /// How many passes it has.
     pub threads: u32,
+    /// How many stamped calls each of them may make: none of a plain queue.
+    pub calls: u32,
 }
 
 /// What was seen of the schedule on behalf of a thread.

@@ -30,7 +30,7 @@ close_with-closed-requires c =
 pub returns-clause-ok : goal.returns-clause-ok
 returns-clause-ok c =
     let of = all_of_last _ _ _ (subst (AllOf c.args.queue) c.in-Some.ensures.items c.requires) in
-    let few = subst (λ (o : Opening). o.threads ≤ 64) (ap (λ (k : Known). k.opened) c.last.view_is ∙ of.1.1) c.last.invariant.few in
+    let few = subst (λ (o : Opening). o.threads ≤ 64) (ap (λ (k : Known). k.opened) c.last.view_is ∙ of.1.1) c.last.invariant.few.0 in
     closes c.args.queue _ _ _ _ _ _ c.last.inside.seat.me.0 _ c.pop.new.self.items c.in-Some.last
     (c.queue.invariant.0 ∙ ap (λ (q : OpenQueue). q.opened) c.queue.view_is)
     c.in-Some.ensures.items

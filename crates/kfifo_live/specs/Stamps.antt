@@ -1,0 +1,91 @@
+-- Stamped calls: a tick of the clock, one whole run of a call, and a tick again; and what a pass has logged of them.
+use Rattle.std.specs.Prelude.{◌≡◌, ℕ, ◌*◌, ◌<◌, ◌≤◌, List, [], ◌∷◌, ◌++◌, length, Some, Ok}
+use Rattle.kfifo_words.specs.Ring.{clock_at}
+use Rattle.kfifo_model.specs.declared.calls.Answer.{Answer}
+use Rattle.kfifo_model.specs.declared.calls.Call.{Call}
+use Rattle.kfifo_model.specs.declared.calls.Op.{Op}
+use Rattle.kfifo_model.specs.Lists.{Each, EachPair}
+use Rattle.kfifo_model.specs.Histories.{call, EndsBelow}
+use Rattle.kfifo_machine.specs.declared.event.Begin.{Begin}
+use Rattle.kfifo_machine.specs.declared.event.Begin.TheVariants.{Tick}
+use Rattle.kfifo_machine.specs.declared.event.Event.{Event}
+use Rattle.kfifo_machine.specs.declared.event.Outcome.TheVariants.{Went}
+use Rattle.kfifo_machine.specs.Machine.{World, step, ticked, word_at}
+use Rattle.kfifo_machine.specs.Laws.{IsRefusal}
+use Rattle.kfifo_machine.specs.Runs.{event, own}
+use Rattle.kfifo_live.specs.Schedule.{ticks, world_after}
+use Rattle.kfifo_live.specs.Promise.{calls_of}
+use Rattle.kfifo_live.specs.Pass.{Known, IsSame}
+use Rattle.kfifo_live.specs.Calls.{Makes, HasCause, LeavesNoItem}
+
+-- a pass, and the calls that it has logged
+pub record Logged : Type 0 where
+  pub pass : Known
+  pub log : List Call
+
+abbrev pub logged_by : Known → List Call → Logged
+logged_by pass log = record { pass = pass; log = log }
+
+-- the pass drew this stamp: after events of others the clock had it, and then the pass ticked
+pub record Draws (stamp : ℕ) (old new : Known) : Type 0 where
+  pub between : List Event
+  pub here : World
+  pub others : own old.thread between ≡ []
+  pub reached : world_after old.opened (old.seen ++ between) ≡ Some here
+  pub stamp_is : stamp ≡ word_at here (clock_at old.opened.shape.k old.opened.shape.n)
+  pub made : step old.opened.shape here (event old.thread (Some Tick)) ≡ Ok (ticked old.opened.shape here, Went)
+  pub same : IsSame old new
+  pub new_is : new.seen ≡ (old.seen ++ between) ++ event old.thread (Some Tick) ∷ []
+
+-- a call of this thread, its stamps and its answer
+abbrev pub stamped_call : ℕ → Op → ℕ → ℕ → Answer → Call
+stamped_call thread op first last answer = record { thread = thread; op = op; first = first; end = Some (record { last = last; answer = answer }) }
+
+-- A stamped call: a tick, one whole run of this call with this answer, and a tick; the log has one call more, whose first and
+-- last are what the ticks drew. What is promised of a call is so of its run
+pub record MakesStamped (begin : Begin) (op : Op) (answer : Answer) (old new : Logged) : Type 0 where
+  pub begun : Known
+  pub ended : Known
+  pub first : ℕ
+  pub last : ℕ
+  pub draws_first : Draws first old.pass begun
+  pub makes : Makes begin answer begun ended
+  pub cause : HasCause begin answer begun ended
+  pub leaves_none : IsRefusal answer → LeavesNoItem begun ended
+  pub draws_last : Draws last ended new.pass
+  pub log_is : new.log ≡ old.log ++ stamped_call old.pass.thread op first last answer ∷ []
+
+-- A logged call is a call of the schedule under other stamps: its first is what a tick drew that stands before the first event
+-- of the call, with no event of the thread between; its last is what a tick drew that stands after the last event
+pub record IsStamped (all : List Event) (logged made : Call) : Type 0 where
+  pub thread : logged.thread ≡ made.thread
+  pub op : logged.op ≡ made.op
+  pub before : List Event
+  pub between : List Event
+  pub begin : Event
+  pub rest : List Event
+  pub split : all ≡ (before ++ event logged.thread (Some Tick) ∷ between) ++ begin ∷ rest
+  pub quiet : own logged.thread between ≡ []
+  pub own_begin : begin.thread ≡ logged.thread
+  pub first_is : logged.first ≡ ticks before
+  pub made_first : made.first ≡ length (before ++ event logged.thread (Some Tick) ∷ between)
+  pub upto : List Event
+  pub later : List Event
+  pub answer : Answer
+  pub step : ℕ
+  pub split_last : all ≡ upto ++ event logged.thread (Some Tick) ∷ later
+  pub logged_end : logged.end ≡ Some (record { last = ticks upto; answer = answer })
+  pub made_end : made.end ≡ Some (record { last = step; answer = answer })
+  pub ended : step < length upto
+
+-- What is always so of a log: it has the calls of the pass in the schedule that it has seen, each between two ticks of its own,
+-- one after the other, and the pass has made no tick but these
+pub record IsLog (p : Known) (log : List Call) : Type 0 where
+  pub count : ticks (own p.thread p.seen) ≡ 2 * length log
+  pub room : length log ≤ p.opened.calls
+  pub mine : Each (λ c. c.thread ≡ p.thread) log
+  pub in_turn : EachPair (λ c d. EndsBelow c.end d.first) log
+  pub past : Each (λ c. EndsBelow c.end (ticks p.seen)) log
+  pub made : (i : ℕ) → i < length log → (n : ℕ) × (n < length (calls_of p.opened p.seen)) × IsStamped p.seen (call log i) (call (calls_of p.opened p.seen) n)
+  pub logs : (n : ℕ) → n < length (calls_of p.opened p.seen) → (call (calls_of p.opened p.seen) n).thread ≡ p.thread
+      → (i : ℕ) × (i < length log) × IsStamped p.seen (call log i) (call (calls_of p.opened p.seen) n)
