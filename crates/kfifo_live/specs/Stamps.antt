@@ -4,15 +4,18 @@ use Rattle.kfifo_words.specs.Ring.{clock_at}
 use Rattle.kfifo_model.specs.declared.calls.Answer.{Answer}
 use Rattle.kfifo_model.specs.declared.calls.Call.{Call}
 use Rattle.kfifo_model.specs.declared.calls.Op.{Op}
+use Rattle.kfifo_model.specs.declared.calls.Op.TheVariants as O
 use Rattle.kfifo_model.specs.Lists.{Each, EachPair}
 use Rattle.kfifo_model.specs.Histories.{call, EndsBelow}
 use Rattle.kfifo_machine.specs.declared.event.Begin.{Begin}
+use Rattle.kfifo_machine.specs.declared.event.Begin.TheVariants as B
 use Rattle.kfifo_machine.specs.declared.event.Begin.TheVariants.{Tick}
 use Rattle.kfifo_machine.specs.declared.event.Event.{Event}
 use Rattle.kfifo_machine.specs.declared.event.Outcome.TheVariants.{Went}
 use Rattle.kfifo_machine.specs.Machine.{World, step, ticked, word_at}
 use Rattle.kfifo_machine.specs.Laws.{IsRefusal}
 use Rattle.kfifo_machine.specs.Runs.{event, own}
+use Rattle.kfifo_live.specs.declared.view.Opening.{Opening}
 use Rattle.kfifo_live.specs.Schedule.{ticks, world_after}
 use Rattle.kfifo_live.specs.Promise.{calls_of}
 use Rattle.kfifo_live.specs.Pass.{Known, IsSame}
@@ -37,13 +40,18 @@ pub record Draws (stamp : ℕ) (old new : Known) : Type 0 where
   pub same : IsSame old new
   pub new_is : new.seen ≡ (old.seen ++ between) ++ event old.thread (Some Tick) ∷ []
 
+-- what a call asks for
+abbrev pub op_asked : Begin → Op
+op_asked (B.Enqueue item start turns) = O.Enqueue item
+op_asked begin = O.Dequeue
+
 -- a call of this thread, its stamps and its answer
 abbrev pub stamped_call : ℕ → Op → ℕ → ℕ → Answer → Call
 stamped_call thread op first last answer = record { thread = thread; op = op; first = first; end = Some (record { last = last; answer = answer }) }
 
 -- A stamped call: a tick, one whole run of this call with this answer, and a tick; the log has one call more, whose first and
 -- last are what the ticks drew. What is promised of a call is so of its run
-pub record MakesStamped (begin : Begin) (op : Op) (answer : Answer) (old new : Logged) : Type 0 where
+pub record MakesStamped (begin : Begin) (answer : Answer) (old new : Logged) : Type 0 where
   pub begun : Known
   pub ended : Known
   pub first : ℕ
@@ -53,7 +61,7 @@ pub record MakesStamped (begin : Begin) (op : Op) (answer : Answer) (old new : L
   pub cause : HasCause begin answer begun ended
   pub leaves_none : IsRefusal answer → LeavesNoItem begun ended
   pub draws_last : Draws last ended new.pass
-  pub log_is : new.log ≡ old.log ++ stamped_call old.pass.thread op first last answer ∷ []
+  pub log_is : new.log ≡ old.log ++ stamped_call old.pass.thread (op_asked begin) first last answer ∷ []
 
 -- A logged call is a call of the schedule under other stamps: its first is what a tick drew that stands before the first event
 -- of the call, with no event of the thread between; its last is what a tick drew that stands after the last event
@@ -78,6 +86,11 @@ pub record IsStamped (all : List Event) (logged made : Call) : Type 0 where
   pub made_end : made.end ≡ Some (record { last = step; answer = answer })
   pub ended : step < length upto
 
+-- the log has the calls of this thread in the schedule
+pub record HasCalls (o : Opening) (all : List Event) (thread : ℕ) (log : List Call) : Type 0 where
+  pub made : (i : ℕ) → i < length log → (n : ℕ) × (n < length (calls_of o all)) × ((call (calls_of o all) n).thread ≡ thread) × IsStamped all (call log i) (call (calls_of o all) n)
+  pub logged : (n : ℕ) → n < length (calls_of o all) → (call (calls_of o all) n).thread ≡ thread → (i : ℕ) × (i < length log) × IsStamped all (call log i) (call (calls_of o all) n)
+
 -- What is always so of a log: it has the calls of the pass in the schedule that it has seen, each between two ticks of its own,
 -- one after the other, and the pass has made no tick but these
 pub record IsLog (p : Known) (log : List Call) : Type 0 where
@@ -86,6 +99,4 @@ pub record IsLog (p : Known) (log : List Call) : Type 0 where
   pub mine : Each (λ c. c.thread ≡ p.thread) log
   pub in_turn : EachPair (λ c d. EndsBelow c.end d.first) log
   pub past : Each (λ c. EndsBelow c.end (ticks p.seen)) log
-  pub made : (i : ℕ) → i < length log → (n : ℕ) × (n < length (calls_of p.opened p.seen)) × IsStamped p.seen (call log i) (call (calls_of p.opened p.seen) n)
-  pub logs : (n : ℕ) → n < length (calls_of p.opened p.seen) → (call (calls_of p.opened p.seen) n).thread ≡ p.thread
-      → (i : ℕ) × (i < length log) × IsStamped p.seen (call log i) (call (calls_of p.opened p.seen) n)
+  pub calls : HasCalls p.opened p.seen p.thread log

@@ -3,11 +3,10 @@
 //! The clock is one of the queue's own words. A stamped call draws a stamp from it, makes the plain
 //! call, and draws another.
 ghost use Rattle.std.specs.Prelude.{◌≡◌, ◌<◌, ◌≤◌, ◌*◌, ◌+◌, ◌^◌, IfNone, IfSome, length, vec_capacity};
-ghost use Rattle.kfifo_model.specs.declared.calls.Op.TheVariants as O;
 ghost use Rattle.kfifo_machine.specs.declared.event.Begin.TheVariants as B;
 ghost use Rattle.kfifo_machine.specs.Laws.{most_events};
 ghost use Rattle.kfifo_machine.specs.Runs.{own};
-ghost use Rattle.kfifo_live.specs.Schedule.{ticks};
+ghost use Rattle.kfifo_live.specs.Schedule.{IsSmall, ticks};
 ghost use Rattle.kfifo_live.specs.Calls.{added};
 ghost use Rattle.kfifo_live.specs.Pass.{OpenQueue, IsOf, IsSame};
 ghost use Rattle.kfifo_live.specs.Promise.{KeepsPromise};
@@ -48,7 +47,7 @@ impl Model for StampPass {
 
     ghost view = { λ p. logged_by p.pass p.log.items };
 
-    ghost invariant = { λ p. IsLog p.pass p.log.items × (p.pass.opened.calls ≤ vec_capacity p.log) };
+    ghost invariant = { λ p. IsLog p.pass p.log.items × KeepsPromise p.pass.opened p.pass.seen × (p.pass.opened.calls ≤ vec_capacity p.log) };
 }
 
 impl Pass {
@@ -57,7 +56,9 @@ impl Pass {
     fn draw_stamp(&mut self, queue: &Queue) -> u64
         requires of { IsOf queue.now self.old }
         requires room { ticks (own self.old.thread self.old.seen) < 2 * self.old.opened.calls }
-        ensures { Draws result self.old self.new }
+        ensures draws { Draws result self.old self.new }
+        ensures small { IsSmall self.old.opened }
+        ensures promise { KeepsPromise self.new.opened self.new.seen }
     {
         let clock = queue.shape.clock_index();
         queue
@@ -102,7 +103,7 @@ impl StampPass {
         requires turns { 1 ≤ turns }
         ensures same { IsSame self.old.pass self.new.pass }
         ensures none { IfNone result ((length self.old.log ≡ self.old.pass.opened.calls) × (self.new ≡ self.old)) }
-        ensures some { IfSome result (λ answer. (length self.old.log < self.old.pass.opened.calls) × MakesStamped (B.Enqueue item start turns) (O.Enqueue item) answer self.old self.new) }
+        ensures some { IfSome result (λ answer. (length self.old.log < self.old.pass.opened.calls) × MakesStamped (B.Enqueue item start turns) answer self.old self.new) }
         ensures few_steps { IfSome result (λ answer. length (own self.old.pass.thread (added self.old.pass self.new.pass)) ≤ most_events self.old.pass.opened.shape (B.Enqueue item start turns) + 2) }
         ensures promise { KeepsPromise self.new.pass.opened self.new.pass.seen }
     {
@@ -131,7 +132,7 @@ impl StampPass {
         requires turns { 1 ≤ turns }
         ensures same { IsSame self.old.pass self.new.pass }
         ensures none { IfNone result ((length self.old.log ≡ self.old.pass.opened.calls) × (self.new ≡ self.old)) }
-        ensures some { IfSome result (λ answer. (length self.old.log < self.old.pass.opened.calls) × MakesStamped (B.Dequeue start turns) O.Dequeue answer self.old self.new) }
+        ensures some { IfSome result (λ answer. (length self.old.log < self.old.pass.opened.calls) × MakesStamped (B.Dequeue start turns) answer self.old self.new) }
         ensures few_steps { IfSome result (λ answer. length (own self.old.pass.thread (added self.old.pass self.new.pass)) ≤ most_events self.old.pass.opened.shape (B.Dequeue start turns) + 2) }
         ensures promise { KeepsPromise self.new.pass.opened self.new.pass.seen }
     {

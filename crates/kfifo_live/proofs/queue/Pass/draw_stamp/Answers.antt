@@ -3,10 +3,10 @@ use Rattle.std.proofs.Common.{◌≡◌, ℕ, ◌<◌, ◌*◌, ◌∙◌, ap, s
 use Rattle.kfifo_words.specs.Ring.{clock_at}
 use Rattle.kfifo_machine.specs.Runs.{own}
 use Rattle.kfifo_live.specs.declared.view.Opening.{Opening}
-use Rattle.kfifo_live.specs.Schedule.{ticks, thread_of, seen_of, stamped_opening}
+use Rattle.kfifo_live.specs.Schedule.{IsSmall, ticks, thread_of, seen_of, stamped_opening}
 use Rattle.kfifo_live.specs.Pass.{Known, OpenQueue}
 use Rattle.kfifo_live.proofs.Keeps.{draws}
-use Rattle.kfifo_live.proofs.Passes.{drawn, draws_known, pass_thread}
+use Rattle.kfifo_live.proofs.Passes.{drawn, draws_known, pass_thread, promised}
 use Rattle.kfifo_live.proofs.queue.Pass.draw_stamp.Goals as goal
 
 pub fetch_add-requires : goal.fetch_add-requires
@@ -26,5 +26,11 @@ fetch_add-requires c =
 pub invariant_of-self : goal.invariant_of-self
 invariant_of-self c = drawn c.fetch_add.result _ c.self.inside.seat.me c.fetch_add.new.seat.me c.self.invariant c.fetch_add.ensures.2.1 c.fetch_add.ensures.2.0
 
-pub returns : goal.returns
-returns c = draws_known c.fetch_add.result c.self.inside.thread c.self.inside.seat c.fetch_add.new.seat _ c.self.invariant c.self.view_is c.fetch_add.ensures.0 c.fetch_add.ensures.2.0
+pub returns-clause-draws : goal.returns-clause-draws
+returns-clause-draws c = draws_known c.fetch_add.result c.self.inside.thread c.self.inside.seat c.fetch_add.new.seat _ c.self.invariant c.self.view_is c.fetch_add.ensures.0 c.fetch_add.ensures.2.0
+
+pub returns-clause-small : goal.returns-clause-small
+returns-clause-small c = subst IsSmall (ap (λ (k : Known). k.opened) c.self.view_is) c.self.invariant.few
+
+pub returns-clause-promise : goal.returns-clause-promise
+returns-clause-promise c = promised _ c.fetch_add.new.seat.me (drawn c.fetch_add.result _ c.self.inside.seat.me c.fetch_add.new.seat.me c.self.invariant c.fetch_add.ensures.2.1 c.fetch_add.ensures.2.0)

@@ -1,4 +1,4 @@
-use Rattle.std.proofs.Common.{◌+◌, arith, sym, ◌∙◌}
+use Rattle.std.proofs.Common.{arith, sym, ◌∙◌}
 use Rattle.kfifo_live.proofs.Whole.{onward_step}
 use Rattle.kfifo_live.proofs.Scans.{row_goes_on}
 use Rattle.kfifo_live.proofs.ring.Ring.scan_row.Goals as goal

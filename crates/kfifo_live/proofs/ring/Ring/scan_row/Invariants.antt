@@ -1,4 +1,4 @@
-use Rattle.std.proofs.Common.{◌≡◌, ◌+◌, ◌-◌, ◌<◌, ◌≤◌}
+use Rattle.std.proofs.Common.{◌+◌, ◌-◌, ◌<◌, ◌≤◌}
 use Rattle.kfifo_live.specs.Step.{Stands, Onward}
 use Rattle.kfifo_live.specs.Scans.{Row}
 use Rattle.kfifo_live.proofs.ring.Ring.scan_row.Given as goal
