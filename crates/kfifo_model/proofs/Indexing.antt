@@ -7,7 +7,7 @@ use Rattle.std.proofs.lemmas.List.Sums.{sum_by-cons, sum_by-append}
 use Rattle.std.specs.List.{filter, range_with_len, count_by}
 use Rattle.kfifo_model.specs.declared.index.Rival.{Rival}
 use Rattle.kfifo_model.specs.Overtaking.{some, adds, takes, ends_below, precedes, overtakes_at, overtakes, numbers_of, certainly_overtaken}
-use Rattle.kfifo_model.proofs.Ranges.{in_range, into_range, some_at, some_none, some_below}
+use Rattle.kfifo_model.proofs.Ranges.{in_range, some_at, some_none, some_below}
 use Rattle.kfifo_model.proofs.Measuring.{below, listed, count_more, count_same}
 use Rattle.std.specs.Ordering.{nat_cmp, is_eq}
 use Rattle.std.specs.BTreeMap.{is_at}
@@ -19,7 +19,6 @@ use Rattle.kfifo_model.specs.Relaxed.{Effect, Adds, Takes, Finds_none, Refused, 
 use Rattle.kfifo_model.specs.Histories.{call, does, effect_at}
 use Rattle.kfifo_model.specs.Index.{kind_effect, HasTwo, IsIndex, last_of, rival_of, rivals_below, rival_at, ends_before, is_beaten, done_item_of, done_item, measure_of, measured}
 use Rattle.kfifo_model.specs.Measures.{HasDistinctItems, EndsDone, IsDoneEnqueue}
-use Rattle.kfifo_model.specs.Lists.{IsIn}
 use Rattle.kfifo_model.specs.declared.index.Overtaken.{Overtaken}
 use Rattle.kfifo_model.specs.declared.calls.Op.{Op}
 use Rattle.kfifo_model.specs.declared.calls.Op.TheVariants.{Enqueue, Dequeue}
