@@ -164,17 +164,17 @@ past_on now c past = record { begun = let b = past.begun in omega arith; over = 
     on (Some end) over = omega arith
 
 -- the list of calls with one more
-call-before : (h : List Call) (c : Call) (n : ℕ) → n < length h → call (h ++ c ∷ []) n ≡ call h n
+pub call-before : (h : List Call) (c : Call) (n : ℕ) → n < length h → call (h ++ c ∷ []) n ≡ call h n
 call-before h c n less = get_or-append h (c ∷ []) no_call n less
 
-call-new : (h : List Call) (c : Call) (n : ℕ) → n ≡ length h → call (h ++ c ∷ []) n ≡ c
+pub call-new : (h : List Call) (c : Call) (n : ℕ) → n ≡ length h → call (h ++ c ∷ []) n ≡ c
 call-new h c n is = ap (call (h ++ c ∷ [])) is ∙ get_or-append_seam h c [] no_call
 
-length-more : (h : List Call) (c : Call) → length (h ++ c ∷ []) ≡ length h + 1
+pub length-more : (h : List Call) (c : Call) → length (h ++ c ∷ []) ≡ length h + 1
 length-more h c = length-append h (c ∷ [])
 
 -- the call that a thread begins at this place
-abbrev opened : ℕ → ℕ → Op → Call
+abbrev pub opened : ℕ → ℕ → Op → Call
 opened now thread op = record { thread = thread; op = op; first = now; end = None }
 
 -- A thread that was idle begins a call
@@ -511,7 +511,7 @@ module _ (shape : Shape) (threads : ℕ) (here : World) (e : Event) (there : Wor
       let k = may_begun shape (B.Dequeue start turns) running (may_begin shape (B.Dequeue start turns)) refl goes in
       begins_so (B.Dequeue start turns) O.Dequeue running (advance shape running (found shape here running)) was k.1 k.0 (ap op_of (sym (Some-injective _ running k.1))) refl at
 
-  step_log : IsLog threads there (now + 1) (logged now e.thread e.begin outcome log)
+  pub step_log : IsLog threads there (now + 1) (logged now e.thread e.begin outcome log)
   step_log =
       elim (stepped shape here e there outcome made) [
         | inl s ↦ steps_so e.begin (place_of here e.thread) s.running refl s.goes

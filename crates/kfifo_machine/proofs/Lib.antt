@@ -21,3 +21,4 @@ pub mod Between
 pub mod Counting
 pub mod Lone
 pub mod Floor
+pub mod OwnCalls

@@ -78,7 +78,7 @@ later_more shape thread here next outcome e events made w = record {
   wins = w.wins;
 }
 
-own_single : (thread : ℕ) (last : Event) → last.thread ≡ thread → own thread (last ∷ []) ≡ last ∷ []
+pub own_single : (thread : ℕ) (last : Event) → last.thread ≡ thread → own thread (last ∷ []) ≡ last ∷ []
 own_single thread last mine = ap (λ (b : Bool). cond b (last ∷ []) []) (eq-eqb last.thread thread mine)
 
 own_ends : (thread : ℕ) (es : List Event) (last : Event) → last.thread ≡ thread → own thread (es ++ last ∷ []) ≢ []

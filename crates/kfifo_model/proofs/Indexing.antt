@@ -7,8 +7,8 @@ use Rattle.std.proofs.lemmas.List.Sums.{sum_by-cons, sum_by-append}
 use Rattle.std.specs.List.{filter, range_with_len, count_by}
 use Rattle.kfifo_model.specs.declared.index.Rival.{Rival}
 use Rattle.kfifo_model.specs.Overtaking.{some, adds, takes, ends_below, precedes, overtakes_at, overtakes, numbers_of, certainly_overtaken}
-use Rattle.kfifo_model.proofs.Ranges.{in_range, into_range, some_at, some_none, some_below}
-use Rattle.kfifo_model.proofs.Measuring.{count_more, count_same}
+use Rattle.kfifo_model.proofs.Ranges.{in_range, some_at, some_none, some_below}
+use Rattle.kfifo_model.proofs.Measuring.{below, listed, count_more, count_same}
 use Rattle.std.specs.Ordering.{nat_cmp, is_eq}
 use Rattle.std.specs.BTreeMap.{is_at}
 use Rattle.std.specs.declared.cmp.Ordering.TheVariants.{Less, Equal, Greater}
@@ -19,7 +19,6 @@ use Rattle.kfifo_model.specs.Relaxed.{Effect, Adds, Takes, Finds_none, Refused, 
 use Rattle.kfifo_model.specs.Histories.{call, does, effect_at}
 use Rattle.kfifo_model.specs.Index.{kind_effect, HasTwo, IsIndex, last_of, rival_of, rivals_below, rival_at, ends_before, is_beaten, done_item_of, done_item, measure_of, measured}
 use Rattle.kfifo_model.specs.Measures.{HasDistinctItems, EndsDone, IsDoneEnqueue}
-use Rattle.kfifo_model.specs.Lists.{IsIn}
 use Rattle.kfifo_model.specs.declared.index.Overtaken.{Overtaken}
 use Rattle.kfifo_model.specs.declared.calls.Op.{Op}
 use Rattle.kfifo_model.specs.declared.calls.Op.TheVariants.{Enqueue, Dequeue}
@@ -245,27 +244,24 @@ measured_some h puts gots p g n rivals found more o rs e number item count is =
 
 -- ---- the faults
 
-below_length : (h : List Call) (c : ℕ) → IsIn c (numbers_of h) → c < length h
-below_length h c i = let p = in_range 0 (length h) c i in let q : c < 0 + length h = p.1 in omega arith
-
 pub all_distinct : (h : List Call) (puts gots : ℕ → Option ℕ) → IsIndex h Puts (length h) puts → IsIndex h Gots (length h) gots → HasDistinctItems h
 all_distinct h puts gots p g = (
-  λ x c d i j a b. p.once x c d (below_length h c i) (below_length h d j) a b,
-  λ x c d i j a b. g.once x c d (below_length h c i) (below_length h d j) a b,
+  λ x c d i j a b. p.once x c d (below h c i) (below h d j) a b,
+  λ x c d i j a b. g.once x c d (below h c i) (below h d j) a b,
 )
 
 pub two_puts : (h : List Call) → HasTwo h Puts → HasDistinctItems h → ⊥
 two_puts h t d =
     let i : t.1 < t.2 = t.3 in
     let j : t.2 < length h = t.4 in
-    let e = d.0 t.0 t.1 t.2 (into_range 0 (length h) t.1 (omega arith) (omega arith)) (into_range 0 (length h) t.2 (omega arith) (omega arith)) t.5 t.6 in
+    let e = d.0 t.0 t.1 t.2 (listed h t.1 (omega arith)) (listed h t.2 (omega arith)) t.5 t.6 in
     omega arith
 
 pub two_gots : (h : List Call) → HasTwo h Gots → HasDistinctItems h → ⊥
 two_gots h t d =
     let i : t.1 < t.2 = t.3 in
     let j : t.2 < length h = t.4 in
-    let e = d.1 t.0 t.1 t.2 (into_range 0 (length h) t.1 (omega arith) (omega arith)) (into_range 0 (length h) t.2 (omega arith) (omega arith)) t.5 t.6 in
+    let e = d.1 t.0 t.1 t.2 (listed h t.1 (omega arith)) (listed h t.2 (omega arith)) t.5 t.6 in
     omega arith
 
 done_of_none : (a : Answer) (x : ℕ) → (a ≡ Done → ⊥) → done_item_of a x ≡ None

@@ -10,3 +10,4 @@ pub mod Resting
 pub mod Adding
 pub mod RecordLemmas
 pub mod Indexing
+pub mod Matching

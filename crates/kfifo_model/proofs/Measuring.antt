@@ -89,10 +89,10 @@ faulty k h order BreaksBefore i ne l = i.3 l.is_order.before
 faulty k h order (NotARun p) i ne l = i.3 (runs_front k h order (p + 1) l.is_run)
 
 -- items that repeat
-listed : (h : List Call) (c : ℕ) → c < length h → IsIn c (numbers_of h)
+pub listed : (h : List Call) (c : ℕ) → c < length h → IsIn c (numbers_of h)
 listed h c lt = into_range 0 (length h) c (omega arith) (omega arith)
 
-below : (h : List Call) (c : ℕ) → IsIn c (numbers_of h) → c < length h
+pub below : (h : List Call) (c : ℕ) → IsIn c (numbers_of h) → c < length h
 below h c i = let p = in_range 0 (length h) c i in let q : c < 0 + length h = p.1 in omega arith
 
 pub not_distinct : (h : List Call) (n : ℕ) → n < length h → RepeatsEarlier h n → HasDistinctItems h → ⊥

@@ -12,3 +12,4 @@ pub mod Reach
 pub mod Searching
 pub mod Records
 pub mod Index
+pub mod Matching

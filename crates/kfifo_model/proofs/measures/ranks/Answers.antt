@@ -1,7 +1,7 @@
-use Rattle.std.proofs.Common.{[], length, ap, ◌∙◌, sym, List, subst}
+use Rattle.std.proofs.Common.{[], length, ap, ◌∙◌, List}
 use Rattle.kfifo_model.specs.declared.calls.Call.{Call}
 use Rattle.kfifo_model.specs.Histories.{IsLegal}
-use Rattle.kfifo_model.specs.Ranks.{ranks_of, gots_in}
+use Rattle.kfifo_model.specs.Ranks.{gots_in}
 use Rattle.kfifo_model.proofs.Measuring.{length-ranks_at}
 use Rattle.kfifo_model.proofs.measures.ranks.Goals as goal
 
