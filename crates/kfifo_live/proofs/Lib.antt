@@ -5,7 +5,6 @@ pub mod Whole
 pub mod Opens
 pub mod Scans
 pub mod Passes
-pub mod OwnCalls
 pub mod Logs
 pub mod Gathered
 pub mod Leftovers

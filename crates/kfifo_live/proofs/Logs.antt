@@ -16,6 +16,7 @@ use Rattle.kfifo_machine.specs.declared.event.Begin.TheVariants.{Tick}
 use Rattle.kfifo_machine.specs.declared.event.Event.{Event}
 use Rattle.kfifo_machine.specs.declared.event.Outcome.TheVariants.{Went}
 use Rattle.kfifo_machine.specs.Machine.{World, opening, step, ticked, word_at}
+use Rattle.kfifo_machine.specs.Calls.{op_asked}
 use Rattle.kfifo_machine.specs.Runs.{AllGoOn, WholeRun, event, own}
 use Rattle.kfifo_machine.proofs.Schedules.{own-append, run_before}
 use Rattle.kfifo_live.specs.declared.view.Opening.{Opening}
@@ -23,10 +24,10 @@ use Rattle.kfifo_live.specs.Schedule.{begins_tick, ticks, world_after}
 use Rattle.kfifo_live.specs.Pass.{Known, IsSame}
 use Rattle.kfifo_live.specs.Promise.{calls_of}
 use Rattle.kfifo_live.specs.Calls.{Makes, added}
-use Rattle.kfifo_live.specs.Stamps.{Draws, HasCalls, IsLog, IsStamped, op_asked, stamped_call}
+use Rattle.kfifo_live.specs.Stamps.{Draws, HasCalls, IsLog, IsStamped, stamped_call}
 use Rattle.kfifo_live.proofs.Keeps.{own_same}
 use Rattle.kfifo_live.proofs.Ticks.{clock_is, ticks-append, ticks_of_one}
-use Rattle.kfifo_live.proofs.OwnCalls.{AddsCall, KeepsCalls, RunAdds, keeps_trans, others_keep, run_adds, tick_keeps}
+use Rattle.kfifo_machine.proofs.OwnCalls.{AddsCall, KeepsCalls, RunAdds, keeps_trans, others_keep, run_adds, tick_keeps}
 
 -- what is always so of a log, over a plain schedule
 record IsLogIn (o : Opening) (thread : ℕ) (seen : List Event) (log : List Call) : Type 0 where
@@ -76,8 +77,9 @@ has_on o new seen more is thread log has k = record {
       (m.0, (let a = m.1 in let b = k.longer in omega arith), ap (λ (c : Call). c.thread) same ∙ m.2, subst (IsStamped new (call log i)) (sym same) (stamped_on new seen more is _ _ m.3));
   logged = λ n less mine.
       let old = k.none n less mine in
-      let m = has.logged n old.0 old.1 in
-      (m.0, m.1, subst (IsStamped new (call log m.0)) (sym (k.same n old.0 old.1)) (stamped_on new seen more is _ _ m.2));
+      let own_call = k.mine n old mine in
+      let m = has.logged n old own_call in
+      (m.0, m.1, subst (IsStamped new (call log m.0)) (sym (k.same n old own_call)) (stamped_on new seen more is _ _ m.2));
 }
 
 -- a log with one call more
@@ -110,8 +112,9 @@ has_more o new seen more on thread log c d has k of_thread stamped =
             (length log, (omega arith), subst (λ (x : Call × Call). IsStamped new x.0 x.1) (λ j. (sym (call-last log c) j, sym is j)) stamped)
         | inr ne ↦
             let old = k.none n less mine ne in
-            let m = has.logged n old.0 old.1 in
-            let same : call (calls_of o new) n ≡ call (calls_of o seen) n = k.same n old.0 old.1 in
+            let own_call = k.mine n old mine in
+            let m = has.logged n old own_call in
+            let same : call (calls_of o new) n ≡ call (calls_of o seen) n = k.same n old own_call in
             (m.0, (let a = m.1 in omega arith), subst (λ (x : Call × Call). IsStamped new x.0 x.1) (λ j. (sym (call-before log c m.0 m.1) j, sym same j)) (stamped_on new seen more on _ _ m.2))
       ];
     }
@@ -135,8 +138,13 @@ adds_between thread a b c e d mine x y z =
           z.same n in_c c_mine ∙ t ∙ s;
       none = λ n less own_call ne.
           let in_c = z.none n less own_call in
-          let in_b = y.none n in_c.0 in_c.1 ne in
-          x.none n in_b.0 in_b.1;
+          let c_mine = z.mine n in_c own_call in
+          let in_b = y.none n in_c c_mine ne in
+          x.none n in_b (y.mine n in_b c_mine);
+      mine = λ n less own_call.
+          let in_b : n < length b = let l = x.longer in omega arith in
+          let in_c : n < length c = let l = y.beyond in let m = y.within in omega arith in
+          x.mine n less (y.mine n in_b (z.mine n in_c own_call));
     }
 
 -- a stamp drawn by a thread of an opening, over plain schedules
@@ -167,7 +175,7 @@ module _ (o : Opening) (thread stamp : ℕ) (old new : List Event) (d : DrawsIn 
   draw_keeps few =
       let split = run_before o.shape (Some (opening o.shape o.threads)) d.here old d.between d.reached in
       let a = others_keep o.shape o.threads thread old d.between split.0 d.here few split.1 split.2 d.others in
-      let b = tick_keeps o.shape o.threads thread (old ++ d.between) d.here (ticked o.shape d.here) Went few d.reached d.made in
+      let b = tick_keeps o.shape o.threads thread (old ++ d.between) d.here (ticked o.shape d.here) Went d.reached d.made in
       subst (λ (es : List Event). KeepsCalls thread (calls_of o old) (calls_of o es)) (sym d.new_is) (keeps_trans thread _ _ _ a b)
 
   -- the stamp is the number of ticks before

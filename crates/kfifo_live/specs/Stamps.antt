@@ -4,15 +4,14 @@ use Rattle.kfifo_words.specs.Ring.{clock_at}
 use Rattle.kfifo_model.specs.declared.calls.Answer.{Answer}
 use Rattle.kfifo_model.specs.declared.calls.Call.{Call}
 use Rattle.kfifo_model.specs.declared.calls.Op.{Op}
-use Rattle.kfifo_model.specs.declared.calls.Op.TheVariants as O
 use Rattle.kfifo_model.specs.Lists.{Each, EachPair}
 use Rattle.kfifo_model.specs.Histories.{call, EndsBelow}
 use Rattle.kfifo_machine.specs.declared.event.Begin.{Begin}
-use Rattle.kfifo_machine.specs.declared.event.Begin.TheVariants as B
 use Rattle.kfifo_machine.specs.declared.event.Begin.TheVariants.{Tick}
 use Rattle.kfifo_machine.specs.declared.event.Event.{Event}
 use Rattle.kfifo_machine.specs.declared.event.Outcome.TheVariants.{Went}
 use Rattle.kfifo_machine.specs.Machine.{World, step, ticked, word_at}
+use Rattle.kfifo_machine.specs.Calls.{op_asked}
 use Rattle.kfifo_machine.specs.Laws.{IsRefusal}
 use Rattle.kfifo_machine.specs.Runs.{event, own}
 use Rattle.kfifo_live.specs.declared.view.Opening.{Opening}
@@ -39,11 +38,6 @@ pub record Draws (stamp : ℕ) (old new : Known) : Type 0 where
   pub made : step old.opened.shape here (event old.thread (Some Tick)) ≡ Ok (ticked old.opened.shape here, Went)
   pub same : IsSame old new
   pub new_is : new.seen ≡ (old.seen ++ between) ++ event old.thread (Some Tick) ∷ []
-
--- what a call asks for
-abbrev pub op_asked : Begin → Op
-op_asked (B.Enqueue item start turns) = O.Enqueue item
-op_asked begin = O.Dequeue
 
 -- a call of this thread, its stamps and its answer
 abbrev pub stamped_call : ℕ → Op → ℕ → ℕ → Answer → Call

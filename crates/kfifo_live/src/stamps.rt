@@ -2,7 +2,7 @@
 //!
 //! The clock is one of the queue's own words. A stamped call draws a stamp from it, makes the plain
 //! call, and draws another.
-ghost use Rattle.std.specs.Prelude.{◌≡◌, ◌<◌, ◌≤◌, ◌*◌, ◌+◌, ◌^◌, IfNone, IfSome, length, vec_capacity};
+ghost use Rattle.std.specs.Prelude.{◌≡◌, ◌<◌, ◌≤◌, ◌*◌, ◌+◌, ◌^◌, true, false, IfNone, IfSome, length, vec_capacity};
 ghost use Rattle.kfifo_machine.specs.declared.event.Begin.TheVariants as B;
 ghost use Rattle.kfifo_machine.specs.Laws.{most_events};
 ghost use Rattle.kfifo_machine.specs.Runs.{own};
@@ -86,6 +86,16 @@ impl StampPass {
         self.log.as_slice()
     }
 
+    /// Whether the log has as many calls as it can have.
+    #[inline(always)]
+    fn is_full(&self, queue: &StampQueue) -> bool
+        requires { IsOf queue.now self.now.pass }
+        ensures full { result ≡ true → length self.now.log ≡ self.now.pass.opened.calls }
+        ensures room { result ≡ false → length self.now.log < self.now.pass.opened.calls }
+    {
+        self.log.len() == queue.queue.calls as usize
+    }
+
     /// Puts an item into the queue, as `Pass::enqueue` does, between two stamps, and logs the call.
     ///
     /// None where the log is full, with no event: it has as many calls as `StampQueue::open` made room for.
@@ -107,7 +117,7 @@ impl StampPass {
         ensures few_steps { IfSome result (λ answer. length (own self.old.pass.thread (added self.old.pass self.new.pass)) ≤ most_events self.old.pass.opened.shape (B.Enqueue item start turns) + 2) }
         ensures promise { KeepsPromise self.new.pass.opened self.new.pass.seen }
     {
-        if self.log.len() == queue.queue.calls as usize {
+        if self.is_full(queue) {
             return None;
         }
         let first = self.pass.draw_stamp(&queue.queue);
@@ -136,7 +146,7 @@ impl StampPass {
         ensures few_steps { IfSome result (λ answer. length (own self.old.pass.thread (added self.old.pass self.new.pass)) ≤ most_events self.old.pass.opened.shape (B.Dequeue start turns) + 2) }
         ensures promise { KeepsPromise self.new.pass.opened self.new.pass.seen }
     {
-        if self.log.len() == queue.queue.calls as usize {
+        if self.is_full(queue) {
             return None;
         }
         let first = self.pass.draw_stamp(&queue.queue);

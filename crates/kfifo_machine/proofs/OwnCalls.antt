@@ -19,7 +19,7 @@ use Rattle.kfifo_machine.specs.declared.place.Running.{Running}
 use Rattle.kfifo_machine.specs.Program.{advance}
 use Rattle.kfifo_machine.specs.Machine.{World, opening, place_of, place_after, found, step, world_of, run, after}
 use Rattle.kfifo_machine.specs.Runs.{event, own, going, AllGoOn, WholeRun}
-use Rattle.kfifo_machine.specs.Calls.{Log, ended, logged, logged_by, log_from, blank, log_of, history_of}
+use Rattle.kfifo_machine.specs.Calls.{Log, ended, logged, logged_by, log_from, blank, log_of, history_of, op_asked}
 use Rattle.kfifo_machine.proofs.Schedules.{Some-injective, run_on, run_before, own-append, first_made, made_within, stepped, own_none}
 use Rattle.kfifo_machine.proofs.Budget.{own_place, own_first, tick_leaves, goes_on_from}
 use Rattle.kfifo_machine.proofs.Sound.{IsSound, step_sound, sound}
@@ -44,12 +44,6 @@ pub record AddsCall (thread : ℕ) (old new : List Call) (made : Call) : Type 0 
   pub same : (n : ℕ) → n < length old → (call old n).thread ≡ thread → call new n ≡ call old n
   pub mine : (n : ℕ) → n < length old → (call new n).thread ≡ thread → (call old n).thread ≡ thread
   pub none : (n : ℕ) → n < length new → (call new n).thread ≡ thread → n ≢ number → n < length old
-
--- what a call asks for that begins so. A tick is no call
-abbrev pub op_asked : Begin → Op
-op_asked (B.Enqueue item start turns) = O.Enqueue item
-op_asked (B.Dequeue start turns) = O.Dequeue
-op_asked B.Tick = O.Dequeue
 
 -- What a whole run adds: events of others, then the first event of the call, and the last event of all ends it
 pub record RunAdds (shape : Shape) (threads thread : ℕ) (begin : Begin) (answer : Answer) (old new : List Event) : Type 0 where

@@ -27,6 +27,12 @@ begins place thread op log =
       latest = set log.latest thread (length log.calls);
     }
 
+-- what a call asks for. A tick is no call
+abbrev pub op_asked : Begin → Op
+op_asked (B.Enqueue item start turns) = O.Enqueue item
+op_asked (B.Dequeue start turns) = O.Dequeue
+op_asked B.Tick = O.Dequeue
+
 -- a call with this end
 abbrev pub ended : Call → ℕ → Answer → Call
 ended c place answer = record { thread = c.thread; op = c.op; first = c.first; end = Some (record { last = place; answer = answer }) }

@@ -1,0 +1,2 @@
+use Rattle.kfifo_live.proofs.Logs.{has_room}
+use Rattle.kfifo_live.proofs.stamps.StampPass.is_full.Goals as goal
