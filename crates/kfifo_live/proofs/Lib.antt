@@ -6,6 +6,8 @@ pub mod Opens
 pub mod Scans
 pub mod Passes
 pub mod Logs
+pub mod Shuffles
+pub mod Stamping
 pub mod Gathered
 pub mod Leftovers
 pub mod Rotation

@@ -1,11 +1,13 @@
 -- Stamped calls: a tick of the clock, one whole run of a call, and a tick again; and what a pass has logged of them.
-use Rattle.std.specs.Prelude.{◌≡◌, ℕ, ◌*◌, ◌<◌, ◌≤◌, List, [], ◌∷◌, ◌++◌, length, Some, Ok}
+use Rattle.std.specs.Prelude.{◌≡◌, ℕ, ◌*◌, ◌<◌, ◌≤◌, List, [], ◌∷◌, ◌++◌, length, Some, Ok, IsPermutation}
 use Rattle.kfifo_words.specs.Ring.{clock_at}
 use Rattle.kfifo_model.specs.declared.calls.Answer.{Answer}
 use Rattle.kfifo_model.specs.declared.calls.Call.{Call}
 use Rattle.kfifo_model.specs.declared.calls.Op.{Op}
 use Rattle.kfifo_model.specs.Lists.{Each, EachPair}
-use Rattle.kfifo_model.specs.Histories.{call, EndsBelow}
+use Rattle.kfifo_model.specs.Histories.{call, EndsBelow, IsLegal}
+use Rattle.kfifo_model.specs.Measures.{HasDistinctItems, IsDoneEnqueue}
+use Rattle.kfifo_model.specs.Overtaking.{certainly_overtaken}
 use Rattle.kfifo_machine.specs.declared.event.Begin.{Begin}
 use Rattle.kfifo_machine.specs.declared.event.Begin.TheVariants.{Tick}
 use Rattle.kfifo_machine.specs.declared.event.Event.{Event}
@@ -27,6 +29,15 @@ pub record Logged : Type 0 where
 
 abbrev pub logged_by : Known → List Call → Logged
 logged_by pass log = record { pass = pass; log = log }
+
+-- the calls of all logs, one log after the other; and the passes alone
+abbrev pub all_logs : List Logged → List Call
+all_logs [] = []
+all_logs (p ∷ ps) = p.log ++ all_logs ps
+
+abbrev pub passes_of : List Logged → List Known
+passes_of [] = []
+passes_of (p ∷ ps) = p.pass ∷ passes_of ps
 
 -- the pass drew this stamp: after events of others the clock had it, and then the pass ticked
 pub record Draws (stamp : ℕ) (old new : Known) : Type 0 where
@@ -94,3 +105,17 @@ pub record IsLog (p : Known) (log : List Call) : Type 0 where
   pub in_turn : EachPair (λ c d. EndsBelow c.end d.first) log
   pub past : Each (λ c. EndsBelow c.end (ticks p.seen)) log
   pub calls : HasCalls p.opened p.seen p.thread log
+
+-- the passes of an opening, whose logs are empty
+abbrev pub new_logs : List Known → List Logged
+new_logs [] = []
+new_logs (p ∷ ps) = logged_by p [] ∷ new_logs ps
+
+-- What is gathered of a queue: all logged calls by rising first stamps. They are a history of which there is a legal order, and
+-- by which alone, where items are distinct, fewer than k overtakings of the item of an enqueue answered Done are certain
+pub record Gathers (o : Opening) (ps : List Logged) (h : List Call) : Type 0 where
+  pub each_once : IsPermutation (all_logs ps) h
+  pub rising : (i j : ℕ) → i < j → j < length h → (call h i).first < (call h j).first
+  pub order : List ℕ
+  pub legal : IsLegal o.shape.k h order
+  pub few_certainly_overtake : HasDistinctItems h → (c : ℕ) → IsDoneEnqueue h c → certainly_overtaken h c < o.shape.k

@@ -9,6 +9,7 @@ mod fault;
 mod meeting;
 mod opening;
 mod queue;
+mod recording;
 mod ring;
 mod rule;
 mod scan;
@@ -19,7 +20,8 @@ mod tests;
 mod view;
 
 pub use closing::close;
-pub use fault::{CloseFault, OpenFault};
+pub use fault::{CloseFault, GatherFault, OpenFault};
 pub use meeting::meet;
 pub use queue::{Pass, Queue};
+pub use recording::{MAX_CALLS, gather};
 pub use stamps::{StampPass, StampQueue};
