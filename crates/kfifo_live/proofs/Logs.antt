@@ -209,7 +209,7 @@ no_ticks (e ∷ es) go_on = ap (λ b. length (cond (begins_tick b) (e ∷ filter
     filter_ticks : List Event → List Event
     filter_ticks es = filter (λ (x : Event). begins_tick x.begin) es
 
-Each-snoc : {X : Type 0} (P : X → Type 0) (xs : List X) (x : X) → Each P xs → P x → Each P (xs ++ x ∷ [])
+pub Each-snoc : {X : Type 0} (P : X → Type 0) (xs : List X) (x : X) → Each P xs → P x → Each P (xs ++ x ∷ [])
 Each-snoc P [] x all last = (last, tt)
 Each-snoc P (y ∷ ys) x all last = (all.0, Each-snoc P ys x all.1 last)
 

@@ -358,7 +358,7 @@ module _ (o : Opening) (all : List Event) (here : World) (reached : world_after 
     pairs : AnyPair no_call AreApart h
     pairs = pairs_shuffled no_call AreApart (all_logs ps) h shuffled (any_from_each no_call AreApart turned_pair (all_logs ps) (all_pairs ps g apart))
 
-    rises : (i j : ℕ) → i < j → j < length h → (call h i).first < (call h j).first
+    pub rises : (i j : ℕ) → i < j → j < length h → (call h i).first < (call h j).first
     rises i j lt within =
         let le = sorted i j no_call (omega arith) within in
         let ne = (pairs i j (omega arith) within (λ same. absurd (omega arith))).0 in

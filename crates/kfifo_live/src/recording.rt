@@ -69,7 +69,7 @@ impl StampQueue {
 
 /// Whether one of the passes is of this thread.
 fn has_stamped(passes: &[StampPass], thread: u32) -> bool
-    ensures { result ≡ list_any (λ p. p.thread == thread) (passes_of passes.now) }
+    ensures { result ≡ list_any (λ p. p.pass.thread == thread) passes.now }
 {
     passes.iter().any(|stamped| stamped.pass.thread() == thread)
 }
@@ -132,9 +132,7 @@ pub fn gather(
         Err(CloseFault::Memory) => return Err(GatherFault::Memory),
         Err(CloseFault::MissingPass) => unreachable!(),
     }
-    calls
-        .as_mut_slice()
-        .sort_unstable_by_key(|call| call.first);
+    calls.sort_by_key(|call| call.first)?;
     match History::new(calls) {
         Ok(history) => Ok(history),
         Err(_fault) => unreachable!(),
