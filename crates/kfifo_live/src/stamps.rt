@@ -78,6 +78,13 @@ impl StampQueue {
 }
 
 impl StampPass {
+    /// The number of the pass, which is that of its thread.
+    pub fn thread(&self) -> u32
+        ensures { result ≡ self.now.pass.thread }
+    {
+        self.pass.thread()
+    }
+
     /// The calls that the pass has made, in turn. The stamps of a call are what the clock had before
     /// and after it.
     pub fn log(&self) -> &[Call]

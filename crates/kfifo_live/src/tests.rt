@@ -10,6 +10,7 @@ use std::alloc::Global;
 use std::process::Abort;
 use std::test::Fail;
 
+mod stamps;
 mod threads;
 
 const LAST: u64 = 1_099_511_627_775;
