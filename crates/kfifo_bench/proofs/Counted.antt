@@ -28,11 +28,14 @@ none_put [] h = refl
 none_put (e ∷ es) h = rw h.0 (none_put es h.1)
 
 -- the own events after a whole run: that which begins the call, and events that begin nothing
-own_after : (shape : Shape) (threads thread : ℕ) (call : Begin) (answer : Answer) (old new : List Event) (h : WholeRun shape threads thread call answer old new) → own thread new ≡ own thread old ++ event thread (Some call) ∷ h.one_call.others
+own_after : (shape : Shape) (threads thread : ℕ) (call : Begin) (answer : Answer) (old new : List Event)
+    → (h : WholeRun shape threads thread call answer old new) → own thread new ≡ own thread old ++ event thread (Some call) ∷ h.one_call.others
 own_after shape threads thread call answer old new h =
-    ap (own thread) (h.new_is ∙ append_assoc old h.between (h.last ∷ [])) ∙ own-append thread old (h.between ++ h.last ∷ []) ∙ ap (λ es. own thread old ++ es) h.one_call.first
+    ap (own thread) (h.new_is ∙ append_assoc old h.between (h.last ∷ [])) ∙ own-append thread old (h.between ++ h.last ∷ [])
+    ∙ ap (λ es. own thread old ++ es) h.one_call.first
 
-pub one_more : (shape : Shape) (threads thread : ℕ) (call : Begin) (answer : Answer) (old new : List Event) → WholeRun shape threads thread call answer old new → calls thread new ≡ calls thread old + 1
+pub one_more : (shape : Shape) (threads thread : ℕ) (call : Begin) (answer : Answer) (old new : List Event)
+    → WholeRun shape threads thread call answer old new → calls thread new ≡ calls thread old + 1
 unfolding begun
 one_more shape threads thread call answer old new h =
     ap (λ es. length (begun es)) (own_after shape threads thread call answer old new h)
@@ -40,7 +43,8 @@ one_more shape threads thread call answer old new h =
     ∙ length-append (begun (own thread old)) (begun (event thread (Some call) ∷ h.one_call.others))
     ∙ ap (λ es. calls thread old + length (event thread (Some call) ∷ es)) (none_begun h.one_call.others h.one_call.go_on)
 
-pub item_more : (shape : Shape) (threads thread item start turns : ℕ) (answer : Answer) (old new : List Event) → WholeRun shape threads thread (Enqueue item start turns) answer old new → items_put thread new ≡ items_put thread old ++ item ∷ []
+pub item_more : (shape : Shape) (threads thread item start turns : ℕ) (answer : Answer) (old new : List Event)
+    → WholeRun shape threads thread (Enqueue item start turns) answer old new → items_put thread new ≡ items_put thread old ++ item ∷ []
 unfolding put
 item_more shape threads thread item start turns answer old new h =
     ap put (own_after shape threads thread (Enqueue item start turns) answer old new h)
@@ -50,7 +54,9 @@ item_more shape threads thread item start turns answer old new h =
 -- one number more
 range_more : (a n : ℕ) → range_with_len a n ++ (a + n) ∷ [] ≡ range_with_len a (suc n)
 range_more a zero = ap (λ (k : ℕ). k ∷ []) (let e : a + zero ≡ a = omega arith in e)
-range_more a (suc n) = ap (λ ks. a ∷ ks) (ap (λ (k : ℕ). range_with_len (a + 1) n ++ k ∷ []) (let e : a + suc n ≡ (a + 1) + n = omega arith in e) ∙ range_more (a + 1) n)
+range_more a (suc n) =
+    let e : a + suc n ≡ (a + 1) + n = omega arith in
+    ap (λ ks. a ∷ ks) (ap (λ (k : ℕ). range_with_len (a + 1) n ++ k ∷ []) e ∙ range_more (a + 1) n)
 
 pub up_to : (item : ℕ) → 1 ≤ item → range_with_len 1 (item - 1) ++ item ∷ [] ≡ range_with_len 1 ((item + 1) - 1)
 up_to item positive =

@@ -12,11 +12,14 @@ loop-item-preserved c =
     let more : calls c.args.pass.now.thread c.enqueue.new.self.seen ≡ calls c.args.pass.now.thread c.loop-item.pass.seen + 1 =
     subst (λ t. calls t c.enqueue.new.self.seen ≡ calls t c.loop-item.pass.seen + 1) same.2 (one_more _ _ _ _ _ _ _ c.enqueue.ensures.run) in
     let one : items_put c.args.pass.now.thread c.enqueue.new.self.seen ≡ items_put c.args.pass.now.thread c.loop-item.pass.seen ++ c.loop-item.item ∷ [] =
-    subst (λ t. items_put t c.enqueue.new.self.seen ≡ items_put t c.loop-item.pass.seen ++ c.loop-item.item ∷ []) same.2 (item_more _ _ _ _ _ _ _ _ _ c.enqueue.ensures.run) in
+    subst (λ t. items_put t c.enqueue.new.self.seen ≡ items_put t c.loop-item.pass.seen ++ c.loop-item.item ∷ []) same.2
+    (item_more _ _ _ _ _ _ _ _ _ c.enqueue.ensures.run) in
     record {
       same = (now.0 ∙ same.0, now.1 ∙ same.1, now.2 ∙ same.2);
       made = omega (arith, more, c.loop-item.invariant.made);
-      items = one ∙ ap (λ is. is ++ c.loop-item.item ∷ []) c.loop-item.invariant.items ∙ append_assoc _ _ (c.loop-item.item ∷ []) ∙ ap (λ is. items_put c.args.pass.now.thread c.args.pass.now.seen ++ is) (up_to c.loop-item.item c.loop-item.auto.item);
+      items =
+          one ∙ ap (λ is. is ++ c.loop-item.item ∷ []) c.loop-item.invariant.items ∙ append_assoc _ _ (c.loop-item.item ∷ [])
+          ∙ ap (λ is. items_put c.args.pass.now.thread c.args.pass.now.seen ++ is) (up_to c.loop-item.item c.loop-item.auto.item);
       k = c.next.ensures.same ∙ c.loop-item.invariant.k;
     }
 
