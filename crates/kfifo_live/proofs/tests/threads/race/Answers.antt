@@ -1,5 +1,5 @@
 -- Each racer came back with a pass of the queue.
-use Rattle.std.proofs.Common.{rules, arith, ◌≡◌, ℕ, zero, suc, ◌<◌, List, [], ◌∷◌, length, map, get_or, sym, subst}
+use Rattle.std.proofs.Common.{rules, arith, ℕ, suc, ◌<◌, List, [], ◌∷◌, length, map, get_or, sym, subst}
 use Rattle.kfifo_live.specs.Pass.{OpenQueue, Known, IsOf, AllOf}
 use Rattle.kfifo_live.proofs.tests.threads.race.Goals as goal
 
