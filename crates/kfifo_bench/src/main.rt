@@ -5,10 +5,11 @@
 //! makes a dequeue of an empty queue. It prints how many calls had the answer that is wanted.
 #![tactic(auto)]
 
-ghost use Rattle.std.specs.Prelude.{◌≡◌, ◌<◌, ◌≤◌, ◌+◌, ◌*◌};
+ghost use Rattle.std.specs.Prelude.{◌≡◌, ◌<◌, ◌≤◌, ◌+◌, ◌*◌, ◌++◌};
+ghost use Rattle.std.specs.List.{range_with_len};
 ghost use Rattle.kfifo_live.specs.Pass.{IsOf, IsSame};
 ghost use Rattle.kfifo_bench.specs.Calls;
-ghost use Rattle.kfifo_bench.specs.Calls.{calls, next_state, spread};
+ghost use Rattle.kfifo_bench.specs.Calls.{calls, items_put, next_state, spread};
 
 use kfifo_live::{Pass, Queue};
 use kfifo_model::Answer;
@@ -42,12 +43,13 @@ impl Starts {
     }
 }
 
-/// Puts 512 items.
+/// Puts the items 1 to 512, one after the other.
 fn fill(queue: &Queue, pass: &mut Pass, starts: &mut Starts)
     requires of { IsOf queue.now pass.old }
     requires k { starts.old.k ≡ queue.now.opened.shape.k }
     ensures same { IsSame pass.old pass.new }
     ensures calls { calls pass.old.thread pass.new.seen ≡ calls pass.old.thread pass.old.seen + 512 }
+    ensures items { items_put pass.old.thread pass.new.seen ≡ items_put pass.old.thread pass.old.seen ++ range_with_len 1 512 }
     ensures k { starts.new.k ≡ starts.old.k }
 {
     for item in 1..513u32 {

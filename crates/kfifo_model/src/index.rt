@@ -1,5 +1,6 @@
 //! All certain overtakings of a history, by an index of its items.
-ghost use Rattle.std.specs.Prelude.{ℕ, ◌≡◌, ◌<◌, ◌+◌, ◌↔◌, Bool, true, false, Option, Some, None, List, [], ◌∷◌, length, IsTrue, IsSome, IfOk, MatchOption, MatchResult, MatchBool, count_by};
+ghost use Rattle.std.specs.Prelude.{ℕ, ◌≡◌, ◌<◌, ◌+◌, ◌↔◌, Bool, true, false, Option, Some, None, List, [], ◌∷◌, length, IsTrue};
+ghost use Rattle.std.specs.Prelude.{IsSome, IfOk, MatchOption, MatchResult, MatchBool, count_by};
 ghost use Rattle.std.specs.List.{filter_map, range_with_len};
 ghost use Rattle.std.specs.Ordering.{nat_cmp};
 ghost use Rattle.std.specs.BTreeMap.{get};
@@ -7,7 +8,8 @@ ghost use Rattle.kfifo_model.specs.Histories.{call, does, effect_of};
 ghost use Rattle.kfifo_model.specs.Relaxed.{Adds, Takes};
 ghost use Rattle.kfifo_model.specs.Overtaking.{certainly_overtaken, numbers_of};
 ghost use Rattle.kfifo_model.specs.Measures.{IsDoneEnqueue, HasDistinctItems};
-ghost use Rattle.kfifo_model.specs.Index.{kind_effect, IsIndex, HasTwo, rival_of, rivals_below, last_of, is_beaten, done_item, measured, IsMeasureFault, measure_fault_number};
+ghost use Rattle.kfifo_model.specs.Index.{kind_effect, IsIndex, HasTwo, rival_of, rivals_below, last_of, is_beaten, done_item};
+ghost use Rattle.kfifo_model.specs.Index.{measured, IsMeasureFault, measure_fault_number};
 
 use crate::calls::{Answer, Call, Op};
 use crate::history::History;
@@ -240,7 +242,8 @@ fn has_done(calls: &[Call]) -> bool
 /// The certain overtakings of each item that a finished enqueue put with answer Done, by rising call number. Each
 /// pair of such an enqueue and a dequeue costs one comparison at most.
 pub fn measure(alloc: Global, history: &History) -> Result<Vec<Overtaken>, MeasureFault>
-    ensures { MatchResult result (λ v. (v.items ≡ measured history.now (length history.now)) × ((n : ℕ) → IsDoneEnqueue history.now n → HasDistinctItems history.now))
+    ensures { MatchResult result
+        (λ v. (v.items ≡ measured history.now (length history.now)) × ((n : ℕ) → IsDoneEnqueue history.now n → HasDistinctItems history.now))
         (IsMeasureFault history.now) }
 {
     measure_among(alloc, history.calls())
@@ -248,7 +251,8 @@ pub fn measure(alloc: Global, history: &History) -> Result<Vec<Overtaken>, Measu
 
 /// The same for the calls of a history.
 fn measure_among(alloc: Global, calls: &[Call]) -> Result<Vec<Overtaken>, MeasureFault>
-    ensures { MatchResult result (λ v. (v.items ≡ measured calls.now (length calls.now)) × ((n : ℕ) → IsDoneEnqueue calls.now n → HasDistinctItems calls.now))
+    ensures { MatchResult result
+        (λ v. (v.items ≡ measured calls.now (length calls.now)) × ((n : ℕ) → IsDoneEnqueue calls.now n → HasDistinctItems calls.now))
         (IsMeasureFault calls.now) }
 {
     if !has_done(calls) {

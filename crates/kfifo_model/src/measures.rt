@@ -1,10 +1,12 @@
 //! Ranks, and how often an item was overtaken.
-ghost use Rattle.std.specs.Prelude.{ℕ, ◌≡◌, ◌≤◌, ◌<◌, ◌+◌, ◌&&◌, ◌↔◌, not, List, [], ◌∷◌, map, length, IsTrue, IfOk, MatchOption, MatchResult};
+ghost use Rattle.std.specs.Prelude.{ℕ, ◌≡◌, ◌≤◌, ◌<◌, ◌+◌, ◌&&◌, ◌↔◌, not, List, [], ◌∷◌, map, length, IsTrue, IfOk, MatchOption};
+ghost use Rattle.std.specs.Prelude.{MatchResult};
 ghost use Rattle.kfifo_model.specs.Relaxed.{Adds, Takes, IsRun};
 ghost use Rattle.kfifo_model.specs.Histories.{effect_of, does, HasOnlyCalls, IsLegal};
 ghost use Rattle.kfifo_model.specs.Overtaking.{adds, takes, some, precedes, ends_below, overtakes, numbers_of, certainly_overtaken};
 ghost use Rattle.kfifo_model.specs.Ranks.{ranks_of, gots_in};
-ghost use Rattle.kfifo_model.specs.Measures.{IsRankFault, IsDoneEnqueue, HasDistinctItems, EndsDone, SharesItem, RepeatsEarlier, IsOvertakenFault, rank_fault_number, overtaken_fault_number};
+ghost use Rattle.kfifo_model.specs.Measures.{IsRankFault, IsDoneEnqueue, HasDistinctItems, EndsDone, SharesItem, RepeatsEarlier};
+ghost use Rattle.kfifo_model.specs.Measures.{IsOvertakenFault, rank_fault_number, overtaken_fault_number};
 
 use crate::calls::{Answer, Call, End, Op};
 use crate::history::History;
@@ -147,7 +149,9 @@ pub fn ranks(
     order: &[usize],
 ) -> Result<Vec<u32>, RankFault>
     requires { (1 ≤ k) × (k ≤ 64) }
-    ensures ranks { MatchResult result (λ v. IsLegal k history.now order.now × (v.items ≡ ranks_of k history.now order.now)) (IsRankFault k history.now order.now) }
+    ensures ranks { MatchResult result
+        (λ v. IsLegal k history.now order.now × (v.items ≡ ranks_of k history.now order.now))
+        (IsRankFault k history.now order.now) }
     ensures one_each { IfOk result (λ v. length v.items ≡ gots_in history.now order.now) }
 {
     let calls = history.calls();
@@ -298,7 +302,9 @@ fn count_overtakings(calls: &[Call], c: usize, item: u32) -> usize
 }
 
 fn overtaken_among(calls: &[Call], call: usize) -> Result<usize, OvertakenFault>
-    ensures { MatchResult result (λ n. IsDoneEnqueue calls.now call × HasDistinctItems calls.now × (n ≡ certainly_overtaken calls.now call)) (IsOvertakenFault calls.now call) }
+    ensures { MatchResult result
+        (λ n. IsDoneEnqueue calls.now call × HasDistinctItems calls.now × (n ≡ certainly_overtaken calls.now call))
+        (IsOvertakenFault calls.now call) }
 {
     if call >= calls.len() || !is_done_enqueue(&calls[call]) {
         return Err(OvertakenFault::NotAnEnqueue);
@@ -317,7 +323,9 @@ fn overtaken_among(calls: &[Call], call: usize) -> Result<usize, OvertakenFault>
 /// Refused, in this order: NotAnEnqueue where the number is not that of a finished enqueue that was answered Done;
 /// RepeatedItem where an item was put or taken twice.
 pub fn overtaken(history: &History, call: usize) -> Result<usize, OvertakenFault>
-    ensures { MatchResult result (λ n. IsDoneEnqueue history.now call × HasDistinctItems history.now × (n ≡ certainly_overtaken history.now call)) (IsOvertakenFault history.now call) }
+    ensures { MatchResult result
+        (λ n. IsDoneEnqueue history.now call × HasDistinctItems history.now × (n ≡ certainly_overtaken history.now call))
+        (IsOvertakenFault history.now call) }
 {
     overtaken_among(history.calls(), call)
 }

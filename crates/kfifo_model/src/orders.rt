@@ -194,7 +194,8 @@ fn first_break(
 ) -> Result<Option<usize>, AllocError>
     requires { HasOnlyCalls calls.now order.now }
     ensures { IfOk result (λ r. MatchOption r (IsRun k [] (map (does calls.now) order.now))
-        (λ p. (p < length order.now) × IsRun k [] (map (does calls.now) (take p order.now)) × (IsRun k [] (map (does calls.now) (take (p + 1) order.now)) → ⊥))) }
+        (λ p. (p < length order.now) × IsRun k [] (map (does calls.now) (take p order.now))
+        × (IsRun k [] (map (does calls.now) (take (p + 1) order.now)) → ⊥))) }
 {
     let mut items = VecDeque::new(alloc);
     for (p, n) in order.iter().enumerate() {

@@ -1,5 +1,6 @@
 //! Records of histories, as JSON values.
-ghost use Rattle.std.specs.Prelude.{ℕ, ◌≡◌, ◌+◌, ◌<◌, ◌≤◌, ◌↔◌, Bool, List, Option, length, map, string_bytes, IsTrue, IfOk, MatchOption, MatchResult};
+ghost use Rattle.std.specs.Prelude.{ℕ, ◌≡◌, ◌+◌, ◌<◌, ◌≤◌, ◌↔◌, Bool, List, Option, length, map, string_bytes, IsTrue, IfOk};
+ghost use Rattle.std.specs.Prelude.{MatchOption, MatchResult};
 ghost use Rattle.std.specs.List.{list_all};
 ghost use Rattle.std.specs.BTreeMap.{keys};
 ghost use Rattle.serde_json.specs.Data.{Data};
@@ -9,7 +10,9 @@ ghost use Rattle.kfifo_model.specs.declared.reading.Ending.{Ending as EndingData
 ghost use Rattle.kfifo_model.specs.declared.reading.Entry.{Entry as EntryData};
 ghost use Rattle.kfifo_model.specs.Histories.{call};
 ghost use Rattle.kfifo_model.specs.Validity.{IsInRange, Answers, IsHistory};
-ghost use Rattle.kfifo_model.specs.Records.{is_key, has_known_keys, number_at, text_at, HasNumber, HasOp, IsAnswerWord, HasEnding, item_fits, IsEntry, is_in_range, answer_of, ending_of, op_of, call_of, IsRead, AreRead, IsMemberFault, IsRecordOf, IsReadFault};
+ghost use Rattle.kfifo_model.specs.Records.{is_key, has_known_keys, number_at, text_at, HasNumber, HasOp, IsAnswerWord};
+ghost use Rattle.kfifo_model.specs.Records.{HasEnding, item_fits, IsEntry, is_in_range, answer_of, ending_of, op_of, call_of};
+ghost use Rattle.kfifo_model.specs.Records.{IsRead, AreRead, IsMemberFault, IsRecordOf, IsReadFault};
 
 use crate::calls::{Answer, Call, End, MAX_ITEM, Op};
 use crate::history::{History, RecordFault, ends_from, is_item};

@@ -4,7 +4,8 @@
 //! items left count, so equal ones are kept once, and an item that no call takes any more is as good as any other
 //! such item. A call that is legal and changes nothing goes at once. A beginning from which some dequeue can no
 //! longer get its item is dropped.
-ghost use Rattle.std.specs.Prelude.{ℕ, ◌≡◌, ◌≤◌, ◌<◌, ◌+◌, ◌↔◌, ◌⊎◌, Bool, true, false, slice_set, replicate, List, [], ◌∷◌, length, All, Contains, Any, IsTrue, IsSome, IfSome, IfOk, OnOk, MatchOption, MatchResult};
+ghost use Rattle.std.specs.Prelude.{ℕ, ◌≡◌, ◌≤◌, ◌<◌, ◌+◌, ◌↔◌, ◌⊎◌, Bool, true, false, slice_set, replicate, List, [], ◌∷◌};
+ghost use Rattle.std.specs.Prelude.{length, All, Contains, Any, IsTrue, IsSome, IfSome, IfOk, OnOk, MatchOption, MatchResult};
 ghost use Rattle.kfifo_model.specs.Lists.{IsIn};
 ghost use Rattle.kfifo_model.specs.Relaxed.{Adds, Takes, next};
 ghost use Rattle.std.specs.Option.{option_map};
@@ -12,7 +13,9 @@ ghost use Rattle.kfifo_model.specs.Histories.{effect_of, does, CanStand, EndsBel
 ghost use Rattle.kfifo_model.specs.Validity.{IsHistory};
 ghost use Rattle.kfifo_model.specs.Reach.{Reach, reach};
 ghost use Rattle.kfifo_model.specs.Index.{kind_effect};
-ghost use Rattle.kfifo_model.specs.Searching.{HasOrder, IsSearchFault, search_fault_number, IsDone, IsComplete, IsReady, IsFree, Extends, IsNoNext, IsLeft, IsWanted, IsComing, IsIdle, IsAsGood, AreAsGood, done_count, IsFurther, LeadsTo, IsAdded, IsNextLevel};
+ghost use Rattle.kfifo_model.specs.Searching.{HasOrder, IsSearchFault, search_fault_number, IsDone, IsComplete, IsReady, IsFree};
+ghost use Rattle.kfifo_model.specs.Searching.{Extends, IsNoNext, IsLeft, IsWanted, IsComing, IsIdle, IsAsGood, AreAsGood};
+ghost use Rattle.kfifo_model.specs.Searching.{done_count, IsFurther, LeadsTo, IsAdded, IsNextLevel};
 
 use crate::calls::{Answer, Call, Op};
 use crate::history::History;

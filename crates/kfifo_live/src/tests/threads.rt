@@ -1,5 +1,5 @@
 //! Passes of several threads, and what closing gives back.
-ghost use Rattle.std.specs.Prelude.{◌≡◌, ◌<◌, ◌≤◌, ◌+◌, ◌*◌, ◌^◌, IfOk};
+ghost use Rattle.std.specs.Prelude.{◌≡◌, ◌<◌, ◌≤◌, ◌+◌, ◌*◌, ◌^◌, IfOk, All, map};
 ghost use Rattle.kfifo_live.specs.Pass.{AllOf, IsOf, IsSame};
 
 use super::{LAST, call, dequeue, draw, enqueue};
@@ -11,7 +11,7 @@ use std::alloc::{AllocError, Global};
 use std::process::Abort;
 use std::sync::atomic::{AtomicU64, Ordering};
 use std::test::Fail;
-use std::thread::{Threads, join};
+use std::thread::{Threads, join, map_vec, yield_now};
 
 /// So many calls a thread makes before it gives up.
 const TRIES: u32 = 16_777_216;
@@ -119,66 +119,76 @@ fn closes_only_with_each_pass(rt: HostRuntime) -> Result<(), Fail> {
     Ok(())
 }
 
-#[test]
-fn opens_and_closes_the_greatest_queue(rt: HostRuntime) -> Result<(), Fail> {
-    let shape = Shape::new(64, 1_024, LAST)?;
-    let (queue, passes) = Queue::open(rt.alloc(), shape, 64)?;
-    assert_eq!(rt; passes.len(), 64);
-    assert!(rt; close(rt.alloc(), queue, passes)?.is_empty());
-    Ok(())
+/// Three passes over a small ring; where a request for memory failed, the opening is tried once more.
+fn open_again(alloc: Global, shape: Shape) -> Result<(Queue, Vec<Pass>), OpenFault>
+    ensures { IfOk result (λ r. AllOf r.0 r.1.items) }
+{
+    match Queue::open(alloc, shape, 3) {
+        Err(OpenFault::Memory) => Queue::open(alloc, shape, 3),
+        opened => opened,
+    }
 }
 
-/// Holds whichever request for memory fails.
+/// Holds whichever one request for memory fails, and fails where a call always answers Memory.
 #[test]
 fn refused_memory(rt: HostRuntime) -> Result<(), Fail> {
     let shape = Shape::new(2, 2, LAST)?;
-    match Queue::open(rt.alloc(), shape, 3) {
-        Ok((queue, passes)) => match close(rt.alloc(), queue, passes) {
-            Ok(left) => assert!(rt; left.is_empty()),
-            Err(fault) => assert_eq!(rt; fault, CloseFault::Memory),
-        },
-        Err(fault) => assert_eq!(rt; fault, OpenFault::Memory),
-    }
+    let (queue, passes) = open_again(rt.alloc(), shape)?;
+    let left = match close(rt.alloc(), queue, passes) {
+        Err(CloseFault::Memory) => {
+            let (queue, passes) = Queue::open(rt.alloc(), shape, 3)?;
+            close(rt.alloc(), queue, passes)?
+        }
+        closed => closed?,
+    };
+    assert!(rt; left.is_empty());
     Ok(())
 }
 
-/// Lets a thread begin when all four have come, or after many tries.
-fn wait_for_all(clock: &AtomicU64) {
+/// Lets a thread begin when all have come, or after many tries.
+fn wait_for_all(clock: &AtomicU64, threads: u32) {
     clock.fetch_add(1, Ordering::SeqCst);
     for _try in 0..TRIES {
-        if clock.load(Ordering::SeqCst) >= 4 {
+        if clock.load(Ordering::SeqCst) >= u64::from(threads) {
             return;
         }
+        yield_now();
     }
 }
 
+/// A pass that comes back from a thread, with the calls that were made by it.
+#[derive(Drop)]
+struct Racer {
+    pass: Pass,
+    made: Result<Vec<Call>, AllocError>,
+}
+
 /// Makes drawn calls, and notes when each began and ended by a clock that all threads share.
-fn work(
+fn make_calls(
     alloc: Global,
     queue: &Queue,
-    mut pass: Pass,
+    pass: &mut Pass,
     clock: &AtomicU64,
     calls: u32,
-) -> Result<(Pass, Vec<Call>), AllocError>
-    requires { IsOf queue.now pass }
-    ensures { IfOk result (λ r. IsOf queue.now r.0) }
+) -> Result<Vec<Call>, AllocError>
+    requires { IsOf queue.now pass.old }
+    ensures { IsSame pass.old pass.new }
 {
     let thread = pass.thread();
     let k = queue.shape().k();
     let mut seed = thread.wrapping_mul(7_919).wrapping_add(calls);
-    wait_for_all(clock);
     let mut made = Vec::new(alloc);
     for number in 0..calls {
         let start = draw(&mut seed, 64) % k;
         let turns = if draw(&mut seed, 4) == 0 { 1 } else { 100 };
         let (op, begin) = if draw(&mut seed, 9) < 5 {
-            let item = (thread << 20).wrapping_add(number).wrapping_add(1);
+            let item = (thread << 18).wrapping_add(number).wrapping_add(1);
             (Op::Enqueue(item), enqueue(item, start, turns))
         } else {
             (Op::Dequeue, dequeue(start, turns))
         };
         let first = clock.fetch_add(1, Ordering::SeqCst);
-        let answer = call(queue, &mut pass, begin);
+        let answer = call(queue, pass, begin);
         let last = clock.fetch_add(1, Ordering::SeqCst);
         made.push(Call {
             thread,
@@ -187,73 +197,64 @@ fn work(
             end: answer.map(|answer| End { last, answer }),
         })?;
     }
-    Ok((pass, made))
+    Ok(made)
 }
 
-/// What two threads made at the same time.
-fn pair<R: Threads + Sync>(
-    rt: &R,
-    alloc: Global,
-    queue: &Queue,
-    clock: &AtomicU64,
-    calls: u32,
-    one: Pass,
-    other: Pass,
-) -> Result<(Pass, Pass, Vec<Call>), AllocError>
-    requires { IsOf queue.now one × IsOf queue.now other }
-    ensures { IfOk result (λ r. IsOf queue.now r.0 × IsOf queue.now r.1) }
+/// Makes calls when all threads have come.
+fn race_one(alloc: Global, queue: &Queue, mut pass: Pass, clock: &AtomicU64, calls: u32) -> Racer
+    requires { IsOf queue.now pass }
+    ensures { IsOf queue.now result.pass }
 {
-    let (one, other) = join(
-        rt,
-        move || -> Result<(Pass, Vec<Call>), AllocError>
-            requires { IsOf queue.now one }
-            ensures { IfOk result (λ r. IsOf queue.entry.now r.0) }
-        { work(alloc, queue, one, clock, calls) },
-        move || -> Result<(Pass, Vec<Call>), AllocError>
-            requires { IsOf queue.now other }
-            ensures { IfOk result (λ r. IsOf queue.entry.now r.0) }
-        { work(alloc, queue, other, clock, calls) },
-    );
-    let (one, mut made) = one?;
-    let (other, more) = other?;
-    made.extend_from_slice(more.as_slice())?;
-    Ok((one, other, made))
+    wait_for_all(clock, queue.threads);
+    let made = make_calls(alloc, queue, &mut pass, clock, calls);
+    Racer { pass, made }
 }
 
-/// What four threads made at the same time, in the order in which the calls began, and what was left.
+/// A queue with passes of its own.
+fn open_for(alloc: Global, shape: Shape, threads: u32) -> Result<(Queue, Vec<Pass>), OpenFault>
+    ensures { IfOk result (λ r. All (IsOf r.0) r.1.items) }
+{
+    let (queue, passes) = Queue::open(alloc, shape, threads)?;
+    Ok((queue, passes))
+}
+
+/// The racers' passes, in their order.
+fn passes_back(alloc: Global, racers: Vec<Racer>) -> Result<Vec<Pass>, AllocError>
+    ensures { IfOk result (λ passes. passes.items ≡ map (λ r. r.pass) racers.items) }
+{
+    racers.into_iter().map(|racer| racer.pass).collect(alloc)
+}
+
+/// All calls of the racers, in the order in which they began.
+fn all_calls(alloc: Global, racers: &[Racer]) -> Result<Vec<Call>, AllocError> {
+    let mut all = Vec::new(alloc);
+    for racer in racers {
+        match &racer.made {
+            Ok(made) => all.extend_from_slice(made.as_slice())?,
+            Err(fault) => return Err(*fault),
+        }
+    }
+    all.sort_unstable_by_key(|call| call.first);
+    Ok(all)
+}
+
+/// What so many threads made at the same time, in the order in which the calls began, and what was left.
 fn race<R: Threads + Sync>(
     rt: &R,
     alloc: Global,
     shape: Shape,
+    threads: u32,
     calls: u32,
 ) -> Result<(Vec<Call>, Vec<u32>), Fail> {
-    let (queue, mut passes) = Queue::open(alloc, shape, 4)?;
+    let (queue, passes) = open_for(alloc, shape, threads)?;
     let clock = AtomicU64::new(0);
-    let (Some(d), Some(c), Some(b), Some(a)) = (
-        passes.pop(),
-        passes.pop(),
-        passes.pop(),
-        passes.pop(),
-    ) else {
-        unreachable!()
-    };
-    let (queue_lent, clock_lent) = (&queue, &clock);
-    let (front, back) = join(
+    let racers = map_vec(
         rt,
-        move || -> Result<(Pass, Pass, Vec<Call>), AllocError>
-            requires { IsOf queue_lent.now a × IsOf queue_lent.now b }
-            ensures { IfOk result (λ r. IsOf queue_lent.entry.now r.0 × IsOf queue_lent.entry.now r.1) }
-        { pair(rt, alloc, queue_lent, clock_lent, calls, a, b) },
-        move || -> Result<(Pass, Pass, Vec<Call>), AllocError>
-            requires { IsOf queue_lent.now c × IsOf queue_lent.now d }
-            ensures { IfOk result (λ r. IsOf queue_lent.entry.now r.0 × IsOf queue_lent.entry.now r.1) }
-        { pair(rt, alloc, queue_lent, clock_lent, calls, c, d) },
-    );
-    let (a, b, mut made) = front?;
-    let (c, d, more) = back?;
-    made.extend_from_slice(more.as_slice())?;
-    made.sort_unstable_by_key(|call| call.first);
-    let left = close(alloc, queue, vec![in alloc; d, b, a, c]?)?;
+        passes,
+        &|pass| race_one(alloc, &queue, pass, &clock, calls),
+    )?;
+    let made = all_calls(alloc, racers.as_slice())?;
+    let left = close(alloc, queue, passes_back(alloc, racers)?)?;
     Ok((made, left))
 }
 
@@ -287,6 +288,23 @@ fn items_out(alloc: Global, made: &[Call], left: &[u32]) -> Result<Vec<u32>, All
     Ok(items)
 }
 
+/// Whether what came out and was left is what was put, each item as often; and how many were put.
+fn check_balance<R: Threads + Abort + Sync>(
+    rt: &R,
+    alloc: Global,
+    shape: Shape,
+    threads: u32,
+    calls: u32,
+) -> Result<usize, Fail> {
+    let (made, left) = race(rt, alloc, shape, threads, calls)?;
+    assert_eq!(rt; made.len(), threads as usize * calls as usize, "{shape:?}");
+    assert!(rt; made.iter().all(|call| call.end.is_some()), "{shape:?}");
+    let put = items_put(alloc, made.as_slice())?;
+    let out = items_out(alloc, made.as_slice(), left.as_slice())?;
+    assert!(rt; put == out, "{shape:?}");
+    Ok(put.len())
+}
+
 #[test]
 fn loses_nothing_and_doubles_nothing(rt: HostRuntime) -> Result<(), Fail> {
     for (k, n, probes) in [
@@ -300,12 +318,27 @@ fn loses_nothing_and_doubles_nothing(rt: HostRuntime) -> Result<(), Fail> {
         (64, 1_024, 64),
     ] {
         let shape = Shape::with_probes(k, n, LAST, probes)?;
-        let (made, left) = race(&rt, rt.alloc(), shape, 50_000)?;
-        let put = items_put(rt.alloc(), made.as_slice())?;
-        let out = items_out(rt.alloc(), made.as_slice(), left.as_slice())?;
-        assert!(rt; put.len() > 10_000, "{shape:?}");
-        assert!(rt; put == out, "{shape:?}");
+        let put = check_balance(&rt, rt.alloc(), shape, 4, 50_000)?;
+        assert!(rt; put > 10_000, "{shape:?}");
     }
+    Ok(())
+}
+
+#[test]
+fn sixteen_threads_lose_nothing(rt: HostRuntime) -> Result<(), Fail> {
+    for (k, n) in [(1u32, 2u32), (1, 1_024), (64, 2), (64, 1_024)] {
+        let shape = Shape::new(k, n, LAST)?;
+        let put = check_balance(&rt, rt.alloc(), shape, 16, 10_000)?;
+        assert!(rt; put > 10_000, "{shape:?}");
+    }
+    Ok(())
+}
+
+#[test]
+fn sixty_four_passes_make_calls(rt: HostRuntime) -> Result<(), Fail> {
+    let shape = Shape::new(64, 1_024, LAST)?;
+    let put = check_balance(&rt, rt.alloc(), shape, 64, 500)?;
+    assert!(rt; put > 10_000);
     Ok(())
 }
 
@@ -324,14 +357,16 @@ fn count_worn(made: &[Call]) -> usize {
 
 #[test]
 fn wears_out_and_loses_nothing(rt: HostRuntime) -> Result<(), Fail> {
-    for (k, n, last) in [(1u32, 2u32, 60u64), (2, 3, 100), (4, 2, 200)] {
-        let shape = Shape::new(k, n, last)?;
-        let (made, left) = race(&rt, rt.alloc(), shape, 2_000)?;
-        let put = items_put(rt.alloc(), made.as_slice())?;
-        let out = items_out(rt.alloc(), made.as_slice(), left.as_slice())?;
-        assert!(rt; count_worn(made.as_slice()) > 0, "{shape:?}");
-        assert!(rt; !put.is_empty(), "{shape:?}");
-        assert!(rt; put == out, "{shape:?}");
+    for threads in [4, 16] {
+        for (k, n, last) in [(1u32, 2u32, 60u64), (2, 3, 100), (4, 2, 200)] {
+            let shape = Shape::new(k, n, last)?;
+            let (made, left) = race(&rt, rt.alloc(), shape, threads, 2_000)?;
+            let put = items_put(rt.alloc(), made.as_slice())?;
+            let out = items_out(rt.alloc(), made.as_slice(), left.as_slice())?;
+            assert!(rt; count_worn(made.as_slice()) > 0, "{shape:?}");
+            assert!(rt; !put.is_empty(), "{shape:?}");
+            assert!(rt; put == out, "{shape:?}");
+        }
     }
     Ok(())
 }
@@ -341,7 +376,7 @@ fn short_races_have_legal_orders(rt: HostRuntime) -> Result<(), Fail> {
     for (k, n) in [(1u32, 2u32), (2, 2), (3, 4)] {
         let shape = Shape::new(k, n, LAST)?;
         for round in 0..100 {
-            let (made, _) = race(&rt, rt.alloc(), shape, 3)?;
+            let (made, _) = race(&rt, rt.alloc(), shape, 4, 3)?;
             let history = History::new(made)?;
             assert!(rt; has_order(rt.alloc(), &history, k)?, "{shape:?} {round}");
         }
