@@ -225,7 +225,6 @@ ends_later : (end : Option End) (m n : ℕ) → m ≤ n → EndsBelow end m → 
 ends_later None m n le below = below
 ends_later (Some end) m n le below = omega arith
 
-
 -- a run of a call, whose own events are no ticks
 module _ (o : Opening) (thread : ℕ) (begin : Begin) (answer : Answer) (old new : List Event) (w : WholeRun o.shape o.threads thread begin answer old new) where
   abbrev run_more : List Event

@@ -383,9 +383,9 @@ module _ (o : Opening) (all : List Event) (here : World) (reached : world_after 
     logs_match =
         let R : ℕ → ℕ → Type 0 = λ n m. IsStamped all (call h n) (call (calls_of o all) m) in
         let right : HasPartners (λ m n. R n m) (length (calls_of o all)) (length h) = λ m less.
-            let f = find_log m less ps g (complete (call (calls_of o all) m).thread (thread_below m less)) in
-            let k = Contains-permutation (all_logs ps) h f.0 shuffled f.1 in
-            (k.0, k.1, subst (λ (c : Call). IsStamped all c (call (calls_of o all) m)) (sym (same_default h k.0 no_call f.0 k.1 ∙ k.2)) f.2) in
+        let f = find_log m less ps g (complete (call (calls_of o all) m).thread (thread_below m less)) in
+        let k = Contains-permutation (all_logs ps) h f.0 shuffled f.1 in
+        (k.0, k.1, subst (λ (c : Call). IsStamped all c (call (calls_of o all) m)) (sym (same_default h k.0 no_call f.0 k.1 ∙ k.2)) f.2) in
         let b = match_by R (length h) (length (calls_of o all)) at right
         (λ n p m n_in p_in m_in x y. elim (cases_eq n p) [
           | inl same ↦ same

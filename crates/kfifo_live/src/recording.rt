@@ -21,11 +21,7 @@ use std::alloc::{AllocError, Global};
 pub const MAX_CALLS: u32 = 1024;
 
 /// Passes with room for so many calls in the log of each.
-fn add_logs(
-    alloc: Global,
-    queue: &Queue,
-    passes: Vec<Pass>,
-) -> Result<Vec<StampPass>, AllocError>
+fn add_logs(alloc: Global, queue: &Queue, passes: Vec<Pass>) -> Result<Vec<StampPass>, AllocError>
     requires passes { passes.items ≡ new_passes queue.now 0 queue.now.opened.threads }
     requires few { queue.now.opened.threads ≤ 64 }
     ensures { IfOk result (λ ps. ps.items ≡ new_logs passes.items) }
@@ -90,10 +86,7 @@ fn are_complete(passes: &[StampPass], threads: u32) -> bool
 }
 
 /// The calls of all logs, one log after the other, and the passes alone.
-fn take_logs(
-    alloc: Global,
-    passes: Vec<StampPass>,
-) -> Result<(Vec<Call>, Vec<Pass>), AllocError>
+fn take_logs(alloc: Global, passes: Vec<StampPass>) -> Result<(Vec<Call>, Vec<Pass>), AllocError>
     ensures logs { IfOk result (λ r. r.0.items ≡ all_logs passes.items) }
     ensures passes { IfOk result (λ r. r.1.items ≡ passes_of passes.items) }
     ensures are_logs { IfOk result (λ r. Each (λ p. IsLog p.pass p.log) passes.items) }
