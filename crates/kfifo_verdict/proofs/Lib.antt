@@ -1,0 +1,3 @@
+pub mod Counting
+pub mod Runs
+pub mod Refuting
