@@ -1,11 +1,11 @@
 //! The search for evidence.
 ghost use Rattle.std.specs.Prelude.{ℕ, ◌≡◌, ◌<◌, ◌≤◌, ◌↔◌, ◌⊎◌, IsTrue, List, length, slice_index_or, IfOk, OnSome, MatchOption};
-ghost use Rattle.kfifo_model.specs.Histories.{call, effect_of, does};
+ghost use Rattle.kfifo_model.specs.Histories.{call, effect_of, does, EndsBelow};
 ghost use Rattle.kfifo_model.specs.Relaxed.{Takes, Finds_none};
 ghost use Rattle.kfifo_model.specs.Validity.{IsHistory};
 ghost use Rattle.kfifo_model.specs.Searching.{HasOrder};
 ghost use Rattle.kfifo_verdict.specs.Evidence.{IsNeverPut, IsTakenTwice, IsNotEmpty, IsTooYoung, IsSingle, Gets, count_below};
-ghost use Rattle.kfifo_verdict.specs.Finding.{ArePuts, AreGets, no_presence, ArePresences, IsIndexed, AreStays, IsBucketed, outlast, AreFirst};
+ghost use Rattle.kfifo_verdict.specs.Finding.{ArePuts, AreGets, no_presence, ArePresences, IsIndexed, AreStays, IsBucketed, outlast, AreFirst, first_of};
 ghost use Rattle.kfifo_verdict.specs.Judging.{FoundNotEmpty, GotTooYoung, Never, NeverBefore, HasNoEvidence, IsFirstEvidence};
 
 use crate::deeds::{Deed, deed_of, ends_before, first_after};
@@ -23,6 +23,9 @@ pub(crate) struct Stay {
     /// The call that gets the item, or the number of calls.
     pub gone: usize,
 }
+
+/// No stay at all.
+const NO_STAY: Stay = Stay { put: 0, gone: 0 };
 
 /// The longer of two.
 fn longer(a: Stay, b: Stay) -> Stay
@@ -96,11 +99,16 @@ fn stays_from(
     requires presences { ArePresences calls.now (length calls.now) presences.now }
     ensures { IfOk result (λ v. IsBucketed calls.now presences.now (length calls.now) v.items) }
 {
-    let mut stays = vec![in alloc; Stay { put: 0, gone: 0 }; presences.len()]?;
-    for (p, presence) in presences.iter().enumerate() {
+    let mut stays = vec![in alloc; NO_STAY; calls.len()]?;
+    for p in 0..presences.len() {
+        let presence = presences[p];
         let start = presence.start;
         if start < stays.len() {
-            stays[start] = longer(stays[start], Stay { put: p, gone: presence.gone });
+            let stay = Stay {
+                put: p,
+                gone: presence.gone,
+            };
+            stays[start] = longer(stays[start], stay);
         }
     }
     Ok(stays)
@@ -118,12 +126,20 @@ fn longest_stays(
 {
     let stays = stays_from(alloc, calls, presences)?;
     let mut longest = Vec::with_capacity(alloc, stays.len())?;
-    let mut best = Stay { put: 0, gone: 0 };
-    for stay in stays.iter() {
-        best = longer(best, *stay);
+    let mut best = NO_STAY;
+    for n in 0..stays.len() {
+        best = longer(best, stays[n]);
         longest.push(best)?;
     }
     Ok(longest)
+}
+
+/// Whether call n is there and begins before a call ends.
+fn reaches(calls: &[Call], from: usize, n: usize) -> bool
+    requires { from < length calls.now }
+    ensures { IsTrue result ↔ ((n < length calls.now) × (EndsBelow (call calls.now from).end (first_of calls.now n) → ⊥)) }
+{
+    n < calls.len() && !ends_before(&calls[from], calls[n].first)
 }
 
 /// Puts of items of which one is certainly there at each moment of a call, or none where there are no such.
@@ -135,12 +151,13 @@ fn cover(
 ) -> Result<Option<Vec<usize>>, AllocError>
     requires history { IsHistory calls.now }
     requires stays { AreStays calls.now stays.now }
-    requires empty { does calls.now empty ≡ Finds_none }
+    requires inside { empty < length calls.now }
+    requires found { does calls.now empty ≡ Finds_none }
     ensures { IfOk result (λ found. MatchOption found (FoundNotEmpty calls.now empty → ⊥) (λ puts. IsNotEmpty calls.now empty puts.items)) }
 {
     let mut puts = Vec::new(alloc);
     let mut n = empty;
-    while n < calls.len() && !ends_before(&calls[empty], calls[n].first) {
+    while reaches(calls, empty, n) {
         let stay = stays[n];
         if stay.gone <= n {
             return Ok(None);
