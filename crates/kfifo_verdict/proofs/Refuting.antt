@@ -132,14 +132,14 @@ times_map : (h : List Call) (t : Effect → Bool) (l : List ℕ) → times t (ma
 times_map h t [] = refl
 times_map h t (c ∷ l) = let on = times_map h t l in let p = count_cons (λ c. t (does h c)) c l in omega (arith, on, p)
 
-takes_is : (x : ℕ) (e : Effect) → takes x e ≡ true → e ≡ Takes x
+pub takes_is : (x : ℕ) (e : Effect) → takes x e ≡ true → e ≡ Takes x
 takes_is x (Takes y) t = ap (λ w. Takes w) (sym (eqb-true x y t))
 takes_is x (Adds y) t = absurd (cc)
 takes_is x Finds_none t = absurd (cc)
 takes_is x Refused t = absurd (cc)
 takes_is x Wrong t = absurd (cc)
 
-adds_is : (x : ℕ) (e : Effect) → adds x e ≡ true → e ≡ Adds x
+pub adds_is : (x : ℕ) (e : Effect) → adds x e ≡ true → e ≡ Adds x
 adds_is x (Adds y) t = ap (λ w. Adds w) (sym (eqb-true x y t))
 adds_is x (Takes y) t = absurd (cc)
 adds_is x Finds_none t = absurd (cc)
@@ -170,7 +170,7 @@ greatest f x (z ∷ l) =
       | inr le ↦ (on.0, elim on.1 [ inl e ↦ inl e | inr i ↦ inr (inr i) ], on.2, λ y i. elim i [ inl e ↦ (let q = ap f e in omega (arith, q)) | inr j ↦ on.3 y j ])
     ]
 
-not_ended : (o : Option End) (s : ℕ) → (EndsBelow o s → ⊥) → EndsFrom s o
+pub not_ended : (o : Option End) (s : ℕ) → (EndsBelow o s → ⊥) → EndsFrom s o
 not_ended (Some end) s never = elim (cases_lt end.last s) [ inl lt ↦ absurd (never lt) | inr le ↦ le ]
 not_ended None s never = tt
 

@@ -126,10 +126,20 @@ single_got_once h x p got gs single =
       | inr le ↦ le
     ]
 
--- the call that gets a single item, where there is one
-pub single_got_by : (h : List Call) (x : ℕ) (got : Tally) → IsTally (has_item Out h x) (first_of h) (length h) got → got.count ≡ 0 ⊎ (got.count ≡ 0 → ⊥) → ((got.count ≡ 0) × ((g : ℕ) → Gets h x g → ⊥)) ⊎ ((got.count ≡ 0 → ⊥) × Gets h x got.last)
-single_got_by h x got gs (inl e) = inl (e, λ g is. let some = (gs.last g (got_inside h x g is) (gets_pass h x g is)).1 in absurd (omega (arith, some, e)))
-single_got_by h x got gs (inr ne) = inr (ne, let some : 0 < got.count = omega arith in takes_is x (does h got.last) (gs.passes some).1)
+-- the last call that gets an item, where one does
+pub got_last : (h : List Call) (x : ℕ) (got : Tally) → IsTally (has_item Out h x) (first_of h) (length h) got → (got.count ≡ 0 → ⊥) → Gets h x got.last
+got_last h x got gs ne = let some : 0 < got.count = omega arith in takes_is x (does h got.last) (gs.passes some).1
+
+pub got_none : (h : List Call) (x : ℕ) (got : Tally) → IsTally (has_item Out h x) (first_of h) (length h) got → got.count ≡ 0 → (g : ℕ) → Gets h x g → ⊥
+got_none h x got gs e g is = let some = (gs.last g (got_inside h x g is) (gets_pass h x g is)).1 in absurd (omega (arith, some, e))
+
+-- a call that gets an item which is got once
+pub got_once : (h : List Call) (x g : ℕ) (got : Tally) → IsTally (has_item Out h x) (first_of h) (length h) got → Gets h x g → got.count ≤ 1 → got.count ≡ 1
+got_once h x g got gs is le = let some = (gs.last g (got_inside h x g is) (gets_pass h x g is)).1 in omega (arith, some, le)
+
+-- the put of an item that is put once
+pub put_last : (h : List Call) (x : ℕ) (put : Tally) → IsTally (has_item In h x) (first_of h) (length h) put → put.count ≡ 1 → Puts h x put.last
+put_last h x put ps e = let some : 0 < put.count = omega (arith, e) in adds_is x (does h put.last) (ps.passes some).1
 
 -- ---- never put, and taken twice
 
