@@ -7,3 +7,4 @@ pub mod Being
 pub mod Staying
 pub mod Covering
 pub mod Younger
+pub mod Concluding

@@ -5,11 +5,13 @@ use Rattle.kfifo_model.specs.declared.calls.Call.{Call}
 use Rattle.kfifo_model.specs.Relaxed.{Effect, Adds, Takes, Finds_none, Refused, Wrong}
 use Rattle.kfifo_model.specs.Overtaking.{adds, takes}
 use Rattle.kfifo_model.specs.Histories.{call, does, EndsBelow, Precedes}
+use Rattle.kfifo_verdict.specs.declared.deeds.Deed.{Deed}
+use Rattle.kfifo_verdict.specs.declared.deeds.Deed.TheVariants.{PutIn, TookOut, FoundNone, Nothing}
 use Rattle.kfifo_verdict.specs.declared.deeds.Side.{Side}
 use Rattle.kfifo_verdict.specs.declared.deeds.Side.TheVariants.{In, Out}
 use Rattle.kfifo_verdict.specs.declared.tallies.Tally.{Tally}
 use Rattle.kfifo_verdict.specs.Evidence.{Puts, Gets, count_below, puts_of, gets_of, IsSingle, IsNeverPut, IsTakenTwice}
-use Rattle.kfifo_verdict.specs.Finding.{has_item, side_effect, first_of, IsTally, IsTallied, no_tally}
+use Rattle.kfifo_verdict.specs.Finding.{IsDeed, has_item, side_effect, first_of, IsTally, IsTallied, no_tally}
 use Rattle.kfifo_verdict.proofs.Refuting.{put_inside, got_ended, ended_inside, takes_is, adds_is}
 use Rattle.kfifo_verdict.proofs.Moments.{ends_later}
 
@@ -186,3 +188,10 @@ twice_tells h x g put got ps gs is t =
     let b = gs.count in
     let more = u.1 in
     (omega (arith, upper, lower), omega (arith, a, b, more))
+
+-- what finds no item is told so
+pub found_deed : (e : Effect) (d : Deed) → IsDeed e d → e ≡ Finds_none → d ≡ FoundNone
+found_deed e (PutIn x) i q = let r : Adds x ≡ Finds_none = sym i ∙ q in absurd (cc)
+found_deed e (TookOut x) i q = let r : Takes x ≡ Finds_none = sym i ∙ q in absurd (cc)
+found_deed e FoundNone i q = refl
+found_deed e Nothing i q = absurd (i.2 q)

@@ -162,3 +162,32 @@ older_counted h ps x g put after are start single gets =
     let count = count_below (lasts_at ps put after) put in
     let f = all_first (lasts_at ps put after) count put in
     (f.0, older_found h ps x g put after count f.0 are start single gets (omega arith) f.1)
+
+-- ---- the same, as the code counts over the presences before the put
+
+length_before : (h : List Call) (ps : List Presence) (put : ℕ) → ArePresences h (length h) ps → put < length h → length (take put ps) ≡ put
+length_before h ps put are lt = let size = are.0 in length-take-le put ps (omega (arith, size, lt))
+
+pub young_none : (h : List Call) (ps : List Presence) (g put after k count : ℕ) → IsHistory h → ArePresences h (length h) ps → IsStart h (call h g).end after → (x : ℕ) × IsSingle h x put × Gets h x g × (put < length h)
+    → count ≡ count_below (lasts_at ps put after) (length (take put ps)) → count < k → GotTooYoung k h g → ⊥
+young_none h ps g put after k count v are start s counted few young =
+    let e = ap (count_below (lasts_at ps put after)) (length_before h ps put are s.3) in
+    let most = no_more_older h ps s.0 g put after k v are start s.1 s.2 young in
+    omega (arith, e, most, counted, few)
+
+pub young_found : (h : List Call) (ps : List Presence) (g put after k count : ℕ) (found : List ℕ) → ArePresences h (length h) ps → IsStart h (call h g).end after → (x : ℕ) × IsSingle h x put × Gets h x g × (put < length h)
+    → count ≡ count_below (lasts_at ps put after) (length (take put ps)) → k ≤ count → AreFirst (lasts_at ps put after) k (length (take put ps)) found → IsTooYoung k h g found
+young_found h ps g put after k count found are start s counted enough first =
+    let size = length_before h ps put are s.3 in
+    let e = ap (count_below (lasts_at ps put after)) size in
+    let P : ℕ → Type 0 = λ w. AreFirst (lasts_at ps put after) k w found in
+    older_found h ps s.0 g put after k found are start s.1 s.2 (omega (arith, e, counted, enough)) (subst P size first)
+
+pub young_count : (h : List Call) (ps : List Presence) (g put after count : ℕ) → IsHistory h → ArePresences h (length h) ps → IsStart h (call h g).end after → (x : ℕ) × IsSingle h x put × Gets h x g × (put < length h)
+    → count ≡ count_below (lasts_at ps put after) (length (take put ps)) → GotTooYoung count h g × ((m : ℕ) → GotTooYoung m h g → m ≤ count)
+young_count h ps g put after count v are start s counted =
+    let e : count ≡ count_below (lasts_at ps put after) put = counted ∙ ap (count_below (lasts_at ps put after)) (length_before h ps put are s.3) in
+    let P : ℕ → Type 0 = λ w. GotTooYoung w h g in (
+      subst P (sym e) (older_counted h ps s.0 g put after are start s.1 s.2),
+      λ m young. (let most = no_more_older h ps s.0 g put after m v are start s.1 s.2 young in omega (arith, most, e)),
+    )

@@ -1,6 +1,7 @@
 //! Verdicts, and bounds of k.
-ghost use Rattle.std.specs.Prelude.{ℕ, ◌≤◌, ◌<◌, IfOk, IfSome};
-ghost use Rattle.kfifo_model.specs.Searching.{HasOrder};
+ghost use Rattle.std.specs.Prelude.{◌≤◌, IfOk};
+ghost use Rattle.kfifo_model.specs.Validity.{IsHistory};
+ghost use Rattle.kfifo_verdict.specs.Judging.{IsJudgement, IsLowerBound, AreBounds};
 
 use crate::finding::{evidence, older_at};
 use crate::presences::Items;
@@ -18,6 +19,7 @@ pub fn judge(
     tries: u64,
 ) -> Result<Judgement, AllocError>
     requires { (1 ≤ k) × (k ≤ 64) }
+    ensures { IfOk result (IsJudgement k history.now) }
 {
     if let Some(found) = evidence(alloc, history, k)? {
         return Ok(Judgement::NoOrder(found));
@@ -30,6 +32,8 @@ pub fn judge(
 
 /// The least k that the older items at the calls allow.
 fn lower_bound(alloc: Global, calls: &[Call]) -> Result<usize, AllocError>
+    requires { IsHistory calls.now }
+    ensures { IfOk result (IsLowerBound calls.now) }
 {
     let items = Items::of(alloc, calls)?;
     let mut most = 0;
@@ -47,6 +51,7 @@ fn lower_bound(alloc: Global, calls: &[Call]) -> Result<usize, AllocError>
 /// number of items that are certainly older and there where a single item is got, and at most the least k from there to
 /// 64 for which `witness` finds an order.
 pub fn least_k(alloc: Global, history: &History, tries: u64) -> Result<Bounds, AllocError>
+    ensures { IfOk result (AreBounds history.now) }
 {
     let at_least = lower_bound(alloc, history.calls())?;
     for k in 1..65u32 {

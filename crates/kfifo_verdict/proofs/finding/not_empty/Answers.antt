@@ -4,6 +4,7 @@ use Rattle.kfifo_model.proofs.Checking.{read}
 use Rattle.kfifo_model.proofs.Measuring.{no_more}
 use Rattle.kfifo_verdict.specs.Judging.{FoundNotEmpty}
 use Rattle.kfifo_verdict.proofs.Refuting.{found_ended, ended_inside}
+use Rattle.kfifo_verdict.proofs.Telling.{found_deed}
 use Rattle.kfifo_verdict.proofs.finding.not_empty.Goals as goal
 use Rattle.kfifo_verdict.proofs.finding.not_empty.Goals.{in-FoundNone+in_ok-puts+in_default-2, in_default}
 
@@ -13,7 +14,7 @@ loop-n-preserved c =
     let n = c.loop-n.n in
     no_more (FoundNotEmpty h) n c.loop-n.invariant (λ f. elim c.match-deed_of.branch [
       | in-FoundNone+in_ok-puts+in_default-2 w ↦ (rw w.in_default-2.is at w.in_ok-puts.ensures) f
-      | in_default w ↦ ?
+      | in_default w ↦ w.in_default.not-FoundNone (found_deed _ c.deed_of.result c.deed_of.ensures (ap effect_of (read h n _ c.loop-n-test.true) ∙ f.1.empty))
     ])
 
 pub returns : goal.returns

@@ -1,15 +1,29 @@
-use Rattle.std.proofs.Common.{ℕ, List, Bool, ◌≡◌, ◌≤◌, ◌<◌, length, take, get_or, sym, ◌∙◌, ap, subst, arith}
-use Rattle.std.proofs.lemmas.List.{length-take-le}
+use Rattle.std.proofs.Common.{List, length, sym, subst}
 use Rattle.kfifo_model.specs.declared.calls.Call.{Call}
 use Rattle.kfifo_model.proofs.Checking.{read}
 use Rattle.kfifo_verdict.specs.declared.presences.Presence.{Presence}
-use Rattle.kfifo_verdict.specs.Evidence.{count_below}
-use Rattle.kfifo_verdict.specs.Finding.{IsStart, outlast, no_presence}
-use Rattle.kfifo_verdict.proofs.Younger.{lasts_at, no_more_older, older_found, older_counted}
+use Rattle.kfifo_verdict.specs.Finding.{IsStart, ArePresences}
+use Rattle.kfifo_verdict.proofs.Younger.{young_none, young_found}
 use Rattle.kfifo_verdict.proofs.finding.too_young_at.Goals as goal
 
 pub returns-then-count_older-k : goal.returns-then-count_older-k
-returns-then-count_older-k c = ?
+returns-then-count_older-k c =
+    let h = c.args.calls.now in
+    let n = c.args.n in
+    let ps = c.deref.result.now in
+    let after = c.first_after-after.result in
+    let A : List Presence → Type 0 = λ w. ArePresences h (length h) w in
+    let B : Call → Type 0 = λ w. IsStart h w.end after in
+    young_none h ps n c.in-Some.put after c.args.k c.count_older.result c.requires.history (subst A (sym c.deref.ensures.value) c.requires.items.presences)
+    (subst B (read h n _ c.requires.inside) c.first_after-after.ensures) c.in-Some.ensures c.count_older.ensures c.if-count_older-k.true
 
 pub returns : goal.returns
-returns c = let a = c.count_older.ensures in let f = c.in_ok-first_older.ensures in ?
+returns c =
+    let h = c.args.calls.now in
+    let n = c.args.n in
+    let ps = c.deref.result.now in
+    let after = c.first_after-after.result in
+    let A : List Presence → Type 0 = λ w. ArePresences h (length h) w in
+    let B : Call → Type 0 = λ w. IsStart h w.end after in
+    young_found h ps n c.in-Some.put after c.args.k c.count_older.result c.in_ok-first_older.field-0.items (subst A (sym c.deref.ensures.value) c.requires.items.presences)
+    (subst B (read h n _ c.requires.inside) c.first_after-after.ensures) c.in-Some.ensures c.count_older.ensures c.if-count_older-k.false c.in_ok-first_older.ensures
