@@ -33,9 +33,10 @@ found_refutes k h (Err e) v m = tt
 pub record IsMost (h : List Call) (n most : ℕ) : Type 0 where
   pub above : (m c : ℕ) → c < n → GotTooYoung m h c → m ≤ most
   pub attained : 0 < most → (c : ℕ) × GotTooYoung most h c
+  pub few : most ≤ length h
 
 pub most_none : (h : List Call) → IsMost h 0 0
-most_none h = record { above = λ m c lt. absurd (omega arith); attained = λ lt. absurd (omega arith) }
+most_none h = record { above = λ m c lt. absurd (omega arith); attained = λ lt. absurd (omega arith); few = omega arith }
 
 pub most_skip : (h : List Call) (n most : ℕ) → IsMost h n most → ((m : ℕ) → GotTooYoung m h n → ⊥) → IsMost h (n + 1) most
 most_skip h n most i none = record {
@@ -44,9 +45,10 @@ most_skip h n most i none = record {
     | inr le ↦ (let same : c ≡ n = omega (arith, le, lt) in let P : ℕ → Type 0 = λ w. GotTooYoung m h w in absurd (none m (subst P same y)))
   ];
   attained = i.attained;
+  few = i.few;
 }
 
-pub most_more : (h : List Call) (n most older next : ℕ) → IsMost h n most → GotTooYoung older h n × ((m : ℕ) → GotTooYoung m h n → m ≤ older) → ((next ≡ older) × (most < older)) ⊎ ((next ≡ most) × (older ≤ most)) → IsMost h (n + 1) next
+pub most_more : (h : List Call) (n most older next : ℕ) → IsMost h n most → GotTooYoung older h n × ((m : ℕ) → GotTooYoung m h n → m ≤ older) × (older < length h) → ((next ≡ older) × (most < older)) ⊎ ((next ≡ most) × (older ≤ most)) → IsMost h (n + 1) next
 most_more h n most older next i here choice =
     let up : most ≤ next = elim choice [ inl a ↦ (let e = a.0 in let lt = a.1 in omega (arith, e, lt)) | inr b ↦ (let e = b.0 in omega (arith, e)) ] in
     let covers : older ≤ next = elim choice [ inl a ↦ (let e = a.0 in omega (arith, e)) | inr b ↦ (let e = b.0 in let le = b.1 in omega (arith, e, le)) ] in
@@ -59,6 +61,7 @@ most_more h n most older next i here choice =
         | inl a ↦ (let P : ℕ → Type 0 = λ w. GotTooYoung w h n in (n, subst P (sym a.0) here.0))
         | inr b ↦ (let e = b.0 in let p : 0 < most = omega (arith, e, positive) in let Q : ℕ → Type 0 = λ w. (c : ℕ) × GotTooYoung w h c in subst Q (sym b.0) (i.attained p))
       ];
+      few = elim choice [ inl a ↦ (let e = a.0 in let lt = here.2 in omega (arith, e, lt)) | inr b ↦ (let e = b.0 in let le = i.few in omega (arith, e, le)) ];
     }
 
 pub most_bound : (h : List Call) (n most : ℕ) → length h ≤ n → IsMost h n most → IsLowerBound h (most + 1)

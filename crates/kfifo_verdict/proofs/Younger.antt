@@ -184,10 +184,11 @@ young_found h ps g put after k count found are start s counted enough first =
     older_found h ps s.0 g put after k found are start s.1 s.2 (omega (arith, e, counted, enough)) (subst P size first)
 
 pub young_count : (h : List Call) (ps : List Presence) (g put after count : ℕ) → IsHistory h → ArePresences h (length h) ps → IsStart h (call h g).end after → (x : ℕ) × IsSingle h x put × Gets h x g × (put < length h)
-    → count ≡ count_below (lasts_at ps put after) (length (take put ps)) → GotTooYoung count h g × ((m : ℕ) → GotTooYoung m h g → m ≤ count)
+    → count ≡ count_below (lasts_at ps put after) (length (take put ps)) → GotTooYoung count h g × ((m : ℕ) → GotTooYoung m h g → m ≤ count) × (count < length h)
 young_count h ps g put after count v are start s counted =
     let e : count ≡ count_below (lasts_at ps put after) put = counted ∙ ap (count_below (lasts_at ps put after)) (length_before h ps put are s.3) in
     let P : ℕ → Type 0 = λ w. GotTooYoung w h g in (
       subst P (sym e) (older_counted h ps s.0 g put after are start s.1 s.2),
       λ m young. (let most = no_more_older h ps s.0 g put after m v are start s.1 s.2 young in omega (arith, most, e)),
+      (let few = count_few (lasts_at ps put after) put in let inside = s.3 in omega (arith, few, inside, e)),
     )

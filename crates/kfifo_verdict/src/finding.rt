@@ -250,7 +250,7 @@ pub(crate) fn older_at(calls: &[Call], items: &Items, n: usize) -> Option<usize>
     requires history { IsHistory calls.now }
     requires inside { n < length calls.now }
     requires items { IsIndexed calls.now items.now }
-    ensures { MatchOption result ((m : ℕ) → GotTooYoung m calls.now n → ⊥) (λ older. GotTooYoung older calls.now n × ((m : ℕ) → GotTooYoung m calls.now n → m ≤ older)) }
+    ensures { MatchOption result ((m : ℕ) → GotTooYoung m calls.now n → ⊥) (λ older. GotTooYoung older calls.now n × ((m : ℕ) → GotTooYoung m calls.now n → m ≤ older) × (older < length calls.now)) }
 {
     let put = single_put(calls, items, n)?;
     let after = first_after(calls, &calls[n]);
