@@ -25,7 +25,7 @@ count_into t (suc n) l f =
       | inl passes ↦ (
           let p = parted n l (f n (omega arith) passes) in
           let on = count_into t n (p.front ++ p.back) (λ c lt e.
-              elim (in_more c n p.front p.back (let P : List ℕ → Type 0 = λ w. IsIn c w in subst P p.is (f c (omega arith) e))) [ inl same ↦ absurd (omega arith) | inr i ↦ i ]) in
+          elim (in_more c n p.front p.back (let P : List ℕ → Type 0 = λ w. IsIn c w in subst P p.is (f c (omega arith) e))) [ inl same ↦ absurd (omega arith) | inr i ↦ i ]) in
           let all = ap (count_by t) p.is ∙ count_parted t p.front n p.back in
           let one : ◌≡◌ {A = ℕ} (cond (t n) 1 0) 1 = ap (λ b. cond b 1 0) passes in
           omega (arith, on, all, one)
@@ -61,7 +61,7 @@ count_within t (suc n) l d f =
           let D : List ℕ → Type 0 = λ w. EachPair Differ w in
           let whole = subst D p.is d in
           let on = count_within t n (p.front ++ p.back) (pairs_less Differ n p.front p.back whole) (λ c j e.
-              below_parted n p.front p.back whole c (f c (let P : List ℕ → Type 0 = λ w. IsIn c w in subst P (sym p.is) (in_less c n p.front p.back j)) e) j) in
+          below_parted n p.front p.back whole c (f c (let P : List ℕ → Type 0 = λ w. IsIn c w in subst P (sym p.is) (in_less c n p.front p.back j)) e) j) in
           let all = ap (count_by t) p.is ∙ count_parted t p.front n p.back in
           omega (arith, on, all)
           )
@@ -78,14 +78,13 @@ as_many Has once (p ∷ l) items d f =
     let x = f.0.0 in
     let parts = parted x items f.0.1 in
     let on = as_many Has once l (parts.front ++ parts.back) d.1 (each_from (λ q. (y : ℕ) × IsIn y (parts.front ++ parts.back) × Has q y) l (λ q i.
-        let has = each_at (λ q. (y : ℕ) × IsIn y items × Has q y) q l f.1 i in
-        (
-          has.0,
-          elim (in_more has.0 x parts.front parts.back (let P : List ℕ → Type 0 = λ w. IsIn has.0 w in subst P parts.is has.1)) [
-            | inl same ↦ absurd (each_at (Differ p) q l d.0 i (once x p q f.0.2 (let P : ℕ → Type 0 = λ w. Has q w in subst P same has.2)))
-            | inr j ↦ j
-          ],
-          has.2,
-        ))) in
+    let has = each_at (λ q. (y : ℕ) × IsIn y items × Has q y) q l f.1 i in (
+      has.0,
+      elim (in_more has.0 x parts.front parts.back (let P : List ℕ → Type 0 = λ w. IsIn has.0 w in subst P parts.is has.1)) [
+        | inl same ↦ absurd (each_at (Differ p) q l d.0 i (once x p q f.0.2 (let P : ℕ → Type 0 = λ w. Has q w in subst P same has.2)))
+        | inr j ↦ j
+      ],
+      has.2,
+    ))) in
     let size = ap length parts.is in
     omega (arith, on, size, length-append parts.front (x ∷ parts.back), length-append parts.front parts.back)

@@ -54,8 +54,8 @@ chain_more h e n puts more s v r inside open_ lt is c =
     let G : List ℕ → Type 0 = λ w. Each (λ p. s.gone < length h → (m : ℕ) → first_of h s.gone ≤ m → IsCertainlyThere h p m → ⊥) w in
     let I : ℕ → List ℕ → Type 0 = λ p w. IsIn p w in
     let old_gone = each_from (λ p. s.gone < length h → (m : ℕ) → first_of h s.gone ≤ m → IsCertainlyThere h p m → ⊥) puts (λ p i gone_in m le t.
-        let up = rising h n s.gone v lt gone_in in
-        each_at (λ q. n < length h → (m : ℕ) → first_of h n ≤ m → IsCertainlyThere h q m → ⊥) p puts c.gone i inside m (omega (arith, up, le)) t) in
+    let up = rising h n s.gone v lt gone_in in
+    each_at (λ q. n < length h → (m : ℕ) → first_of h n ≤ m → IsCertainlyThere h q m → ⊥) p puts c.gone i inside m (omega (arith, up, le)) t) in
     let start = c.from in
     record {
       from = omega (arith, start, lt);

@@ -191,7 +191,7 @@ not_empty_refutes k h e puts v n o =
     let L : Effect → Type 0 = λ w. Leaves k a.mid w a.after in
     let none = subst L n.empty a.legal in
     let x = put_along k t.item [] a.mid (map (does h) a.front) a.runs (into_map h (Adds t.item) a.front p i t.single.puts)
-        (λ j. let d = has_map h (Takes t.item) a.front j in let lt = t.kept d.0 d.2 in let le = g.3 d.0 d.1 in absurd (omega (arith, lt, le))) in
+    (λ j. let d = has_map h (Takes t.item) a.front j in let lt = t.kept d.0 d.2 in let le = g.3 d.0 d.1 in absurd (omega (arith, lt, le))) in
     let Q : List ℕ → Type 0 = λ w. IsIn t.item w in
     subst Q none.0 x
 
@@ -215,11 +215,11 @@ behind_put k y q h order g a single gets i =
     let differs = subst D p.is (pairs_front Differ a.front (g ∷ a.back) a.distinct) in
     let H : List Effect → Type 0 = λ w. Has (Takes y) w in
     let not_taken : Has (Takes y) (map (does h) p.back) → ⊥ = λ j.
-        let d = has_map h (Takes y) p.back j in
-        let same = single.once d.0 g d.2 gets in
-        let P : ℕ → Type 0 = λ w. IsIn w a.front in
-        let F : List ℕ → Type 0 = λ w. IsIn d.0 w in
-        itself_not_in_front k h order g a (subst P same (subst F (sym p.is) (in_right d.0 p.front (q ∷ p.back) (inr d.1)))) in
+    let d = has_map h (Takes y) p.back j in
+    let same = single.once d.0 g d.2 gets in
+    let P : ℕ → Type 0 = λ w. IsIn w a.front in
+    let F : List ℕ → Type 0 = λ w. IsIn d.0 w in
+    itself_not_in_front k h order g a (subst P same (subst F (sym p.is) (in_right d.0 p.front (q ∷ p.back) (inr d.1)))) in
     let b = behind_along k y r.0 [] r.2.0 a.mid (map (does h) p.back) is r.2.2 not_taken in (
       p.front,
       p.back,
@@ -236,7 +236,7 @@ behind_put k y q h order g a single gets i =
         is = b.is;
         was = b.was;
         kept = λ x j never. b.kept x j (λ m. never (let d = has_map h (Takes x) p.back m in let F : List ℕ → Type 0 = λ w. IsIn d.0 w in
-        into_map h (Takes x) a.front d.0 (subst F (sym p.is) (in_right d.0 p.front (q ∷ p.back) (inr d.1))) d.2));
+            into_map h (Takes x) a.front d.0 (subst F (sym p.is) (in_right d.0 p.front (q ∷ p.back) (inr d.1))) d.2));
       },
     )
 
@@ -259,11 +259,11 @@ older_before k y q h order g p v l a single gets i older =
       ]
     ] in
     let untaken : Has (Takes older.item) (map (does h) a.front) → ⊥ = λ j.
-        let d = has_map h (Takes older.item) a.front j in not_in_front k h order g d.0 a (older.kept d.0 d.2) d.1 in
+    let d = has_map h (Takes older.item) a.front j in not_in_front k h order g d.0 a (older.kept d.0 d.2) d.1 in
     let untaken_first : Has (Takes older.item) (map (does h) b.0) → ⊥ = λ j.
-        let d = has_map h (Takes older.item) b.0 j in
-        let G : List ℕ → Type 0 = λ w. IsIn d.0 w in
-        untaken (into_map h (Takes older.item) a.front d.0 (subst G (sym b.2) (in_left d.0 b.0 (q ∷ b.1) d.1)) d.2) in
+    let d = has_map h (Takes older.item) b.0 j in
+    let G : List ℕ → Type 0 = λ w. IsIn d.0 w in
+    untaken (into_map h (Takes older.item) a.front d.0 (subst G (sym b.2) (in_left d.0 b.0 (q ∷ b.1) d.1)) d.2) in
     b.6.kept older.item (put_along k older.item [] b.3 (map (does h) b.0) b.4 (into_map h (Adds older.item) b.0 p first older.single.puts) untaken_first) untaken
 
 pub too_young_refutes : (k n : ℕ) (h : List Call) (g : ℕ) (puts : List ℕ) → IsHistory h → k ≤ n → IsTooYoung n h g puts → HasOrder k h → ⊥
@@ -282,7 +282,7 @@ too_young_refutes k n h g puts v le t o =
     let far = place_behind y b.6.before b.6.behind s.0 (λ j. b.5 (b.6.was y j)) (subst G b.6.is s.2) in
     let R : ℕ → ℕ → Type 0 = λ p x. IsSingle h x p in
     let many = as_many R (λ x p r sp sr. sym (sp.alone r sr.puts)) puts b.6.before t.distinct
-        (each_from (λ p. (x : ℕ) × IsIn x b.6.before × R p x) puts (λ p j. let older = each_at (IsOlder h g q) p puts t.older j in (older.item, older_before k y q h o.0 g p v o.1 a t.single t.gets i older, older.single))) in
+    (each_from (λ p. (x : ℕ) × IsIn x b.6.before × R p x) puts (λ p j. let older = each_at (IsOlder h g q) p puts t.older j in (older.item, older_before k y q h o.0 g p v o.1 a t.single t.gets i older, older.single))) in
     let size = t.count in
     let near = s.1 in
     absurd (omega (arith, far, many, size, near, le))

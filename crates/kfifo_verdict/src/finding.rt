@@ -302,11 +302,7 @@ fn too_young(
 }
 
 /// The evidence among the calls of a history.
-fn evidence_among(
-    alloc: Global,
-    calls: &[Call],
-    k: usize,
-) -> Result<Option<Evidence>, AllocError>
+fn evidence_among(alloc: Global, calls: &[Call], k: usize) -> Result<Option<Evidence>, AllocError>
     requires { IsHistory calls.now }
     ensures { IfOk result (λ found. MatchOption found (HasNoEvidence k calls.now) (IsFirstEvidence k calls.now)) }
 {

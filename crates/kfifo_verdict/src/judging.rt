@@ -12,12 +12,7 @@ use std::alloc::{AllocError, Global};
 
 /// A verdict on the history for a queue that may give any of its k oldest items: an order that is legal, found with at
 /// most `tries` choices undone, or evidence that none is, or neither.
-pub fn judge(
-    alloc: Global,
-    history: &History,
-    k: u32,
-    tries: u64,
-) -> Result<Judgement, AllocError>
+pub fn judge(alloc: Global, history: &History, k: u32, tries: u64) -> Result<Judgement, AllocError>
     requires { (1 ≤ k) × (k ≤ 64) }
     ensures { IfOk result (IsJudgement k history.now) }
 {

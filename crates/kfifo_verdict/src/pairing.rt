@@ -28,10 +28,7 @@ pub(crate) fn last_step(calls: &[Call], n: usize) -> u64 {
 }
 
 /// For each put the next put of the same item, and for each item its first put.
-fn chains(
-    alloc: Global,
-    calls: &[Call],
-) -> Result<(Vec<usize>, BTreeMap<u32, usize>), AllocError> {
+fn chains(alloc: Global, calls: &[Call]) -> Result<(Vec<usize>, BTreeMap<u32, usize>), AllocError> {
     let count = calls.len();
     let mut nexts = vec![in alloc; count; count]?;
     let mut firsts = BTreeMap::new(alloc);

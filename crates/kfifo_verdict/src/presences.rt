@@ -49,7 +49,11 @@ fn presence_of(calls: &[Call], puts: &Tallies, gets: &Tallies, p: usize) -> Pres
     }
     Presence {
         start: first_after(calls, &calls[p]),
-        gone: if got.count == 0 { calls.len() } else { got.last },
+        gone: if got.count == 0 {
+            calls.len()
+        } else {
+            got.last
+        },
     }
 }
 

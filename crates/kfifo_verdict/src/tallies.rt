@@ -2,7 +2,6 @@
 ghost use Rattle.std.specs.Prelude.{ℕ, ◌≡◌, ◌<◌, ◌+◌, ◌≤◌, ◌^◌, Bool, true, length, IfOk};
 ghost use Rattle.kfifo_verdict.specs.Finding.{IsTally, IsTallied, tally_in};
 
-
 use crate::deeds::{Side, item_of};
 use kfifo_model::Call;
 use std::alloc::{AllocError, Global};

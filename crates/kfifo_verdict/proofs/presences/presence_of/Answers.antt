@@ -22,16 +22,16 @@ returns-then-tally_of-ne1 c =
     let put = subst P (sym c.tally_of.ensures) (c.requires.puts item) in
     let got = subst G (sym c.tally_of-got.ensures) (c.requires.gets item) in
     never_presence h p _ refl refl (λ x s.
-        let S : ℕ → Type 0 = λ w. IsSingle h w p in
-        let single = subst S (same_put h x item p s.puts is) s in
-        elim c.then-tally_of-ne1.branch [
-          | then-tally_of-ne1-via-then-tally_of-ne1 w ↦ w.if-tally_of-ne1.true (single_put_once h item p c.tally_of.result put single)
-          | then-tally_of-ne1-via-else-tally_of-ne1+then-got-gt1 w ↦ (
-              let more = w.if-got-gt1.true in
-              let le = single_got_once h item p c.tally_of-got.result got single in
-              absurd (omega (arith, more, le))
-              )
-        ])
+    let S : ℕ → Type 0 = λ w. IsSingle h w p in
+    let single = subst S (same_put h x item p s.puts is) s in
+    elim c.then-tally_of-ne1.branch [
+      | then-tally_of-ne1-via-then-tally_of-ne1 w ↦ w.if-tally_of-ne1.true (single_put_once h item p c.tally_of.result put single)
+      | then-tally_of-ne1-via-else-tally_of-ne1+then-got-gt1 w ↦ (
+          let more = w.if-got-gt1.true in
+          let le = single_got_once h item p c.tally_of-got.result got single in
+          absurd (omega (arith, more, le))
+          )
+    ])
 
 pub returns-then-got-eq0 : goal.returns-then-got-eq0
 returns-then-got-eq0 c =
