@@ -27,6 +27,14 @@ pub(crate) fn last_step(calls: &[Call], n: usize) -> u64 {
     }
 }
 
+/// The first step of a call, or the greatest there is where there is no such call.
+pub(crate) fn first_step(calls: &[Call], n: usize) -> u64 {
+    match calls.get(n) {
+        Some(call) => call.first,
+        None => u64::MAX,
+    }
+}
+
 /// For each put the next put of the same item, and for each item its first put.
 fn chains(alloc: Global, calls: &[Call]) -> Result<(Vec<usize>, BTreeMap<u32, usize>), AllocError> {
     let count = calls.len();

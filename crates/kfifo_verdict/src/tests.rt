@@ -255,7 +255,13 @@ impl Simulation {
 }
 
 /// The calls of so many threads on a queue that gives any of its k oldest items; the last ones may be unfinished.
-fn simulated(alloc: Global, threads: usize, limit: usize, k: usize, seed: u64) -> Result<Vec<Call>, AllocError> {
+fn simulated(
+    alloc: Global,
+    threads: usize,
+    limit: usize,
+    k: usize,
+    seed: u64,
+) -> Result<Vec<Call>, AllocError> {
     let mut simulation = Simulation::new(alloc, threads, seed)?;
     for _ in 0..limit.saturating_mul(3) {
         let thread = simulation.draw(threads);
@@ -266,24 +272,22 @@ fn simulated(alloc: Global, threads: usize, limit: usize, k: usize, seed: u64) -
 
 #[test]
 fn probe(rt: HostRuntime) -> Result<(), Fail> {
-    for k in [1u32, 4, 64] {
-        for threads in [4usize, 8, 64] {
+    for k in [1u32, 2, 4, 64] {
+        for threads in [4usize, 8] {
             let calls = simulated(rt.alloc(), threads, 65_536, k as usize, 7)?;
             let n = calls.len();
             let history = History::new(calls)?;
             let start = Instant::now(&rt)?;
-            let found = evidence(rt.alloc(), &history, k)?;
+            let order2 = witness(rt.alloc(), &history, (k + 3).min(64), 1_000)?;
             let e = start.elapsed(&rt)?;
             let start = Instant::now(&rt)?;
             let order = witness(rt.alloc(), &history, k, 1_000)?;
             let w = start.elapsed(&rt)?;
             let is = order.is_some();
-            let has = found.is_some();
-            eprintln!(rt; "k {k} threads {threads} calls {n} evidence {has} {e:?} witness {is} {w:?}")?;
-            let start = Instant::now(&rt)?;
-            let bounds = least_k(rt.alloc(), &history, 1_000)?;
-            let b = start.elapsed(&rt)?;
-            eprintln!(rt; "   {bounds:?} {b:?}")?;
+            let has = order2.is_some();
+            eprintln!(rt;
+                "k {k} threads {threads} calls {n} evidence {has} {e:?} witness {is} {w:?}"
+            )?;
         }
     }
     assert_eq!(rt; 1, 0);

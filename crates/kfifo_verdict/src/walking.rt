@@ -2,19 +2,30 @@
 //!
 //! It walks through the finished calls by rising last step. Of the calls that have begun, those that can go at no cost
 //! go at once: a dequeue whose item is among the k oldest, an Empty where no item is there, and a call that changes
-//! nothing. A put goes only where a call that is due needs one, and of those that have begun the one goes whose item is
-//! got soonest. Where a due call cannot go, the last such choice is undone and the next put tried.
+//! nothing. A put goes only where it is due, or the call that gets its item; puts whose items are got before that item is
+//! called for go first. Where a due call cannot go, the last such choice is undone and another put goes first.
 ghost use Rattle.std.specs.Prelude.{◌≤◌, IfOk, IfSome};
 ghost use Rattle.kfifo_model.specs.Histories.{IsLegal};
 
 use crate::deeds::{Deed, deed_of};
-use crate::pairing::{Plan, last_step};
+use crate::pairing::{Plan, first_step, last_step};
 use kfifo_model::{Call, History, Verdict, check_order};
 use std::alloc::{AllocError, Global};
 use std::collections::VecDeque;
 
-/// How soon a put is wanted: the last step of the call that gets its item, and then its own number.
-type Urgency = (u64, usize);
+/// How many items are looked at to see how many are got late.
+const MOST_LOOKED_AT: usize = 256;
+
+/// How urgent it is that a put goes, where another is to go: the less the more urgent, by the first field that differs.
+#[derive(Clone, Copy, Debug, PartialEq, Eq)]
+struct Urgency {
+    /// 0 where it has to go first, 1 for the other put itself, 2 where its item is got first, 3 where it may be.
+    class: u32,
+    /// The last step of the call that gets its item.
+    got: u64,
+    /// The put.
+    put: usize,
+}
 
 /// A put that was chosen where others could have gone.
 #[derive(Clone, Copy, Debug, PartialEq, Eq)]
@@ -25,6 +36,8 @@ struct Choice {
     at: usize,
     /// How many calls had begun.
     begun: usize,
+    /// The put that was to go.
+    wanted: usize,
     /// The put that was chosen.
     chosen: Urgency,
 }
@@ -169,23 +182,74 @@ impl Walk {
         Ok(())
     }
 
-    /// The most urgent waiting put that is less urgent than this one, and how many such there are.
+    /// How many of the youngest items are got by no call that begins up to this step: k, if they are more, and of the items
+    /// before the last `MOST_LOOKED_AT` none.
+    fn count_late(&self, calls: &[Call], plan: &Plan, k: usize, step: u64) -> usize {
+        let mut late = 0;
+        let count = self.items.len();
+        for place in count.saturating_sub(MOST_LOOKED_AT)..count {
+            if late < k
+                && place < self.items.len()
+                && step < first_step(calls, plan.partner(self.items[place]))
+            {
+                late += 1;
+            }
+        }
+        late
+    }
+
+    /// How urgent it is that a waiting put goes where put `wanted` is to go, or none where it had better go later.
+    fn urgency_of(
+        &self,
+        calls: &[Call],
+        plan: &Plan,
+        k: usize,
+        wanted: usize,
+        n: usize,
+    ) -> Option<Urgency> {
+        if n >= calls.len() {
+            return None;
+        }
+        let Deed::PutIn(_) = deed_of(&calls[n]) else {
+            return None;
+        };
+        let got = plan.partner(n);
+        let rest = plan.partner(wanted);
+        let last = last_step(calls, got);
+        let class = if n == wanted {
+            1
+        } else if got >= calls.len() || last_step(calls, rest) < calls[got].first {
+            return None;
+        } else if last >= first_step(calls, rest) {
+            3
+        } else if k <= self.count_late(calls, plan, k, last).saturating_add(1) {
+            0
+        } else {
+            2
+        };
+        Some(Urgency {
+            class,
+            got: last,
+            put: n,
+        })
+    }
+
+    /// The most urgent waiting put that is less urgent than another, where put `wanted` is to go, and whether others wait.
     fn most_urgent(
         &self,
         calls: &[Call],
         plan: &Plan,
+        k: usize,
+        wanted: usize,
         below: Option<Urgency>,
     ) -> Option<(Urgency, bool)> {
         let mut best: Option<Urgency> = None;
         let mut others = false;
         for n in &self.waiting {
-            if *n < calls.len() && !self.is_gone(*n) {
-                if let Deed::PutIn(_) = deed_of(&calls[*n]) {
-                    let urgency = (last_step(calls, plan.partner(*n)), *n);
-                    if is_less_urgent(urgency, below) {
-                        others = best.is_some();
-                        best = Some(more_urgent(urgency, best));
-                    }
+            if let Some(urgency) = self.urgency_of(calls, plan, k, wanted, *n) {
+                if is_less_urgent(urgency, below) {
+                    others = best.is_some();
+                    best = Some(more_urgent(urgency, best));
                 }
             }
         }
@@ -195,14 +259,16 @@ impl Walk {
         }
     }
 
-    /// A waiting put goes, and the choice is kept where another could go instead.
+    /// A waiting put goes, so that put `wanted` can, and the choice is kept where another could go instead.
     fn choose(
         &mut self,
         calls: &[Call],
         plan: &Plan,
+        k: usize,
+        wanted: usize,
         below: Option<Urgency>,
     ) -> Result<Step, AllocError> {
-        let Some((chosen, others)) = self.most_urgent(calls, plan, below) else {
+        let Some((chosen, others)) = self.most_urgent(calls, plan, k, wanted, below) else {
             return Ok(Step::Stuck);
         };
         if others {
@@ -210,11 +276,12 @@ impl Walk {
                 placed: self.order.len(),
                 at: self.at,
                 begun: self.begun,
+                wanted,
                 chosen,
             })?;
         }
-        self.items.push_back(chosen.1)?;
-        self.note(chosen.1, 0)?;
+        self.items.push_back(chosen.put)?;
+        self.note(chosen.put, 0)?;
         Ok(Step::Went)
     }
 
@@ -241,8 +308,10 @@ impl Walk {
             return Ok(Step::Went);
         }
         match deed_of(&calls[n]) {
-            Deed::PutIn(_) => self.choose(calls, plan, None),
-            Deed::TookOut(_) if !self.is_gone(plan.partner(n)) => self.choose(calls, plan, None),
+            Deed::PutIn(_) => self.choose(calls, plan, k, n, None),
+            Deed::TookOut(_) if !self.is_gone(plan.partner(n)) => {
+                self.choose(calls, plan, k, plan.partner(n), None)
+            }
             Deed::TookOut(_) | Deed::FoundNone | Deed::Nothing => Ok(Step::Stuck),
         }
     }
@@ -292,6 +361,7 @@ impl Walk {
         &mut self,
         calls: &[Call],
         plan: &Plan,
+        k: usize,
         tries: u64,
     ) -> Result<Option<u64>, AllocError> {
         for undone in 0..tries {
@@ -299,7 +369,7 @@ impl Walk {
                 return Ok(None);
             };
             self.undo(calls, plan, choice)?;
-            if let Step::Went = self.choose(calls, plan, Some(choice.chosen))? {
+            if let Step::Went = self.choose(calls, plan, k, choice.wanted, Some(choice.chosen))? {
                 return Ok(Some(tries - undone - 1));
             }
         }
@@ -310,7 +380,12 @@ impl Walk {
 /// Whether a put is less urgent than this one.
 fn is_less_urgent(urgency: Urgency, below: Option<Urgency>) -> bool {
     match below {
-        Some(most) => most.0 < urgency.0 || (most.0 == urgency.0 && most.1 < urgency.1),
+        Some(most) => {
+            most.class < urgency.class
+                || (most.class == urgency.class
+                    && (most.got < urgency.got
+                        || (most.got == urgency.got && most.put < urgency.put)))
+        }
         None => true,
     }
 }
@@ -337,7 +412,7 @@ fn found_order(
         match walk.step(calls, &plan, k)? {
             Step::Finished => return Ok(Some(walk.into_order())),
             Step::Went => {}
-            Step::Stuck => match walk.go_back(calls, &plan, left)? {
+            Step::Stuck => match walk.go_back(calls, &plan, k, left)? {
                 Some(rest) => left = rest,
                 None => return Ok(None),
             },
