@@ -270,26 +270,206 @@ fn simulated(
     Ok(simulation.into_calls())
 }
 
+/// Three calls after each other: item 2 is got before item 1, which was put before it.
+fn reversed(alloc: Global) -> Result<History, RecordFault> {
+    let mut calls = Vec::new(alloc);
+    calls.push(put(0, 1, 0, 1))?;
+    calls.push(put(0, 2, 2, 3))?;
+    calls.push(got(1, 2, 4, 5))?;
+    calls.push(got(1, 1, 6, 7))?;
+    History::new(calls)
+}
+
+/// An Empty in a time of which two items cover a part each.
+fn covered(alloc: Global) -> Result<History, RecordFault> {
+    let mut calls = Vec::new(alloc);
+    calls.push(put(0, 1, 0, 1))?;
+    calls.push(put(1, 2, 2, 12))?;
+    calls.push(empty(2, 10, 20))?;
+    calls.push(got(0, 1, 15, 30))?;
+    History::new(calls)
+}
+
+/// The same without the second item.
+fn uncovered(alloc: Global) -> Result<History, RecordFault> {
+    let mut calls = Vec::new(alloc);
+    calls.push(put(0, 1, 0, 1))?;
+    calls.push(empty(2, 10, 20))?;
+    calls.push(got(0, 1, 15, 30))?;
+    History::new(calls)
+}
+
+/// A get of item 3, after an unfinished put of it or without.
+fn taken_unfinished(alloc: Global, with_put: bool) -> Result<History, RecordFault> {
+    let mut calls = Vec::new(alloc);
+    if with_put {
+        calls.push(Call {
+            thread: 0,
+            op: Op::Enqueue(3),
+            first: 0,
+            end: None,
+        })?;
+    }
+    calls.push(got(1, 3, 6, 11))?;
+    History::new(calls)
+}
+
+/// An item that was put once and got twice.
+fn doubled(alloc: Global) -> Result<History, RecordFault> {
+    let mut calls = Vec::new(alloc);
+    calls.push(put(0, 1, 0, 1))?;
+    calls.push(got(0, 1, 2, 3))?;
+    calls.push(got(1, 1, 4, 5))?;
+    History::new(calls)
+}
+
+fn nothing(alloc: Global) -> Result<History, RecordFault> {
+    History::new(Vec::new(alloc))
+}
+
 #[test]
-fn probe(rt: HostRuntime) -> Result<(), Fail> {
-    for k in [1u32, 2, 4, 64] {
-        for threads in [4usize, 8] {
-            let calls = simulated(rt.alloc(), threads, 65_536, k as usize, 7)?;
-            let n = calls.len();
-            let history = History::new(calls)?;
-            let start = Instant::now(&rt)?;
-            let order2 = witness(rt.alloc(), &history, (k + 3).min(64), 1_000)?;
-            let e = start.elapsed(&rt)?;
-            let start = Instant::now(&rt)?;
-            let order = witness(rt.alloc(), &history, k, 1_000)?;
-            let w = start.elapsed(&rt)?;
-            let is = order.is_some();
-            let has = order2.is_some();
-            eprintln!(rt;
-                "k {k} threads {threads} calls {n} evidence {has} {e:?} witness {is} {w:?}"
-            )?;
+fn too_young(rt: HostRuntime) -> Result<(), Fail> {
+    let history = reversed(rt.alloc())?;
+    let puts = vec![in rt.alloc(); 0]?;
+    let found = evidence(rt.alloc(), &history, 1)?;
+    assert_eq!(rt; found, Some(Evidence::TooYoung { get: 2, puts }));
+    let order = vec![in rt.alloc(); 0, 1, 2, 3]?;
+    let judgement = judge(rt.alloc(), &history, 2, 10)?;
+    assert_eq!(rt; judgement, Judgement::Legal(order));
+    let bounds = least_k(rt.alloc(), &history, 10)?;
+    assert_eq!(rt; bounds.at_least, 2);
+    assert_eq!(rt; bounds.at_most, Some(2));
+    Ok(())
+}
+
+#[test]
+fn not_empty(rt: HostRuntime) -> Result<(), Fail> {
+    let history = covered(rt.alloc())?;
+    let puts = vec![in rt.alloc(); 0, 1]?;
+    let found = evidence(rt.alloc(), &history, 64)?;
+    assert_eq!(rt; found, Some(Evidence::NotEmpty { empty: 2, puts }));
+    let other = uncovered(rt.alloc())?;
+    assert_eq!(rt; evidence(rt.alloc(), &other, 1)?, None);
+    assert!(rt; witness(rt.alloc(), &other, 1, 0)?.is_some());
+    Ok(())
+}
+
+#[test]
+fn never_put_or_taken_twice(rt: HostRuntime) -> Result<(), Fail> {
+    let with = taken_unfinished(rt.alloc(), true)?;
+    assert!(rt; witness(rt.alloc(), &with, 1, 0)?.is_some());
+    let without = taken_unfinished(rt.alloc(), false)?;
+    let found = evidence(rt.alloc(), &without, 1)?;
+    assert_eq!(rt; found, Some(Evidence::NeverPut(0)));
+    let twice = doubled(rt.alloc())?;
+    let found = evidence(rt.alloc(), &twice, 1)?;
+    assert_eq!(rt; found, Some(Evidence::TakenTwice(2)));
+    Ok(())
+}
+
+#[test]
+fn no_calls(rt: HostRuntime) -> Result<(), Fail> {
+    let history = nothing(rt.alloc())?;
+    let order = vec![in rt.alloc()]?;
+    assert_eq!(rt; judge(rt.alloc(), &history, 1, 0)?, Judgement::Legal(order));
+    let bounds: Bounds = least_k(rt.alloc(), &history, 0)?;
+    assert_eq!(rt; bounds.at_least, 1);
+    assert_eq!(rt; bounds.at_most, Some(1));
+    Ok(())
+}
+
+#[test]
+fn three_calls(rt: HostRuntime) -> Result<(), Fail> {
+    let plain = judged(rt.alloc(), 3, 0, 1, 13_824, 1)?;
+    let relaxed = judged(rt.alloc(), 3, 0, 1, 13_824, 2)?;
+    eprintln!(rt; "{plain:?} {relaxed:?}")?;
+    assert_eq!(rt; plain.wrong, 0);
+    assert_eq!(rt; relaxed.wrong, 0);
+    assert!(rt; plain.undecided < plain.no_order);
+    Ok(())
+}
+
+#[test]
+fn four_calls(rt: HostRuntime) -> Result<(), Fail> {
+    let plain = judged(rt.alloc(), 4, 0, 1, 331_776, 1)?;
+    eprintln!(rt; "{plain:?}")?;
+    assert_eq!(rt; plain.wrong, 0);
+    assert!(rt; plain.undecided < plain.no_order);
+    Ok(())
+}
+
+#[test]
+fn five_to_eight_calls(rt: HostRuntime) -> Result<(), Fail> {
+    let five = judged(rt.alloc(), 5, 0, 61, 130_000, 2)?;
+    let eight = judged(rt.alloc(), 8, 1, 1_000_003, 20_000, 2)?;
+    eprintln!(rt; "{five:?} {eight:?}")?;
+    assert_eq!(rt; five.wrong, 0);
+    assert_eq!(rt; eight.wrong, 0);
+    Ok(())
+}
+
+/// Whether a simulated queue's calls are judged legal, and with one answer spoiled are not.
+fn is_told_apart(
+    alloc: Global,
+    threads: usize,
+    k: u32,
+    seed: u64,
+) -> Result<(bool, bool), RecordFault>
+    requires { (1 ≤ k) × (k ≤ 64) }
+{
+    let calls = simulated(alloc, threads, 20_000, k as usize, seed)?;
+    let history = History::new(calls)?;
+    let legal = match judge(alloc, &history, k, 1_000)? {
+        Judgement::Legal(_) => true,
+        _ => false,
+    };
+    let mut spoiled = history.into_calls();
+    spoil(&mut spoiled);
+    let other = History::new(spoiled)?;
+    let still = match judge(alloc, &other, k, 1_000)? {
+        Judgement::Legal(_) => true,
+        _ => false,
+    };
+    Ok((legal, still))
+}
+
+/// The last call that got an item is told that it got one which no call put.
+fn spoil(calls: &mut Vec<Call>) {
+    for i in (0..calls.len()).rev() {
+        if let Some(end) = calls[i].end {
+            if let Answer::Got(_) = end.answer {
+                calls[i].end = Some(End {
+                    last: end.last,
+                    answer: Answer::Got(16_777_215),
+                });
+                return;
+            }
         }
     }
-    assert_eq!(rt; 1, 0);
+}
+
+#[test]
+fn queues_that_ran(rt: HostRuntime) -> Result<(), Fail> {
+    assert_eq!(rt; is_told_apart(rt.alloc(), 4, 1, 7)?, (true, false));
+    assert_eq!(rt; is_told_apart(rt.alloc(), 8, 1, 8)?, (true, false));
+    assert_eq!(rt; is_told_apart(rt.alloc(), 8, 4, 9)?, (true, false));
+    Ok(())
+}
+
+#[test]
+fn longest_history(rt: HostRuntime) -> Result<(), Fail> {
+    for k in [1u32, 4, 64] {
+        let calls = simulated(rt.alloc(), 8, 65_536, k as usize, 7)?;
+        let history = History::new(calls)?;
+        let start = Instant::now(&rt)?;
+        let found = evidence(rt.alloc(), &history, k)?;
+        let searched = start.elapsed(&rt)?;
+        assert!(rt; found.is_none());
+        let start = Instant::now(&rt)?;
+        let order = witness(rt.alloc(), &history, k, 1_000)?;
+        let walked = start.elapsed(&rt)?;
+        let is_there = order.is_some();
+        eprintln!(rt; "k {k}: evidence {searched:?}, witness {walked:?} {is_there}")?;
+    }
     Ok(())
 }

@@ -14,7 +14,7 @@ use std::alloc::{AllocError, Global};
 use std::collections::VecDeque;
 
 /// How many items are looked at to see how many are got late.
-const MOST_LOOKED_AT: usize = 256;
+const MOST_LOOKED_AT: usize = 1_024;
 
 /// How urgent it is that a put goes, where another is to go: the less the more urgent, by the first field that differs.
 #[derive(Clone, Copy, Debug, PartialEq, Eq)]
@@ -188,10 +188,10 @@ impl Walk {
         let mut late = 0;
         let count = self.items.len();
         for place in count.saturating_sub(MOST_LOOKED_AT)..count {
-            if late < k
-                && place < self.items.len()
-                && step < first_step(calls, plan.partner(self.items[place]))
-            {
+            if late >= k || place >= self.items.len() {
+                return late;
+            }
+            if step < first_step(calls, plan.partner(self.items[place])) {
                 late += 1;
             }
         }
