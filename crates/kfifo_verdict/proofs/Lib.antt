@@ -7,4 +7,5 @@ pub mod Being
 pub mod Staying
 pub mod Covering
 pub mod Younger
+pub mod Skipping
 pub mod Concluding

@@ -1,7 +1,6 @@
 -- Items that are certainly older and there where a single item is got.
-use Rattle.std.proofs.Common.{ℕ, zero, suc, ◌≡◌, ◌≢◌, ◌+◌, ◌<◌, ◌≤◌, ◌↔◌, ◌⊎◌, ◌&&◌, min, Bool, true, false, cond, count_by, leb, List, [], ◌∷◌, ◌++◌, length, take, get_or, add-one, refl, sym, ◌∙◌, ap, subst, inl, inr, arith, length-append}
+use Rattle.std.proofs.Common.{ℕ, zero, suc, ◌≡◌, ◌≢◌, ◌+◌, ◌<◌, ◌≤◌, ◌↔◌, ◌⊎◌, ◌&&◌, min, Bool, true, false, cond, count_by, leb, List, [], ◌∷◌, ◌++◌, length, get_or, add-one, refl, sym, ◌∙◌, ap, subst, inl, inr, arith, length-append}
 use Rattle.std.proofs.lemmas.Bool.{cases_lt, cases_Bool, and_parts, and_from, leb-true, le-leb}
-use Rattle.std.proofs.lemmas.List.{get_or-take, length-take-le}
 use Rattle.kfifo_model.specs.declared.calls.Call.{Call}
 use Rattle.kfifo_model.specs.Lists.{IsIn, Each, EachPair}
 use Rattle.kfifo_model.specs.Histories.{call, does, HasNoRepeats}
@@ -9,7 +8,7 @@ use Rattle.kfifo_model.specs.Validity.{IsHistory}
 use Rattle.kfifo_model.proofs.Lists.{in_append, in_left, in_right, each_at, each_from, pairs_push}
 use Rattle.kfifo_verdict.specs.declared.presences.Presence.{Presence}
 use Rattle.kfifo_verdict.specs.Evidence.{Gets, count_below, IsSingle, IsOlder, IsTooYoung}
-use Rattle.kfifo_verdict.specs.Finding.{IsStart, IsPresence, ArePresences, no_presence, outlast, AreFirst}
+use Rattle.kfifo_verdict.specs.Finding.{IsStart, IsPresence, ArePresences, no_presence, outlast, lasts_at, IsCountedTo, AreFirst}
 use Rattle.kfifo_verdict.specs.Judging.{GotTooYoung}
 use Rattle.kfifo_verdict.proofs.Counting.{count_cons, count_within}
 use Rattle.kfifo_verdict.proofs.Refuting.{put_inside}
@@ -109,19 +108,13 @@ all_first test k (suc n) =
 
 -- ---- what they tell of a call that gets a single item
 
--- the test of the presences before the put
-abbrev pub lasts_at : List Presence → ℕ → ℕ → ℕ → Bool
-lasts_at ps put after p = outlast put after (get_or (take put ps) p no_presence)
-
 passes_older : (h : List Call) (ps : List Presence) (g put after p : ℕ) → ArePresences h (length h) ps → IsStart h (call h g).end after → put < length h → p < put → IsOlder h g put p ↔ (lasts_at ps put after p ≡ true)
 passes_older h ps g put after p are start inside lt =
     let in_p : p < length h = omega (arith, inside, lt) in
     let r = (are.1 p in_p).older g put after inside start in
-    let at = get_or-take put ps p no_presence lt in
-    let P : Presence → Type 0 = λ w. outlast put after w ≡ true in
     let s = get_or ps p no_presence in (
-      λ o. (let b = r.0 o in subst P (sym at) (and_from (leb s.start put) (leb after s.gone) (le-leb s.start put b.0) (le-leb after s.gone b.1))),
-      λ t. (let b = and_parts (leb s.start put) (leb after s.gone) (subst P at t) in r.1 (leb-true s.start put b.0, leb-true after s.gone b.1)),
+      λ o. (let b = r.0 o in and_from (leb s.start put) (leb after s.gone) (le-leb s.start put b.0) (le-leb after s.gone b.1)),
+      λ t. (let b = and_parts (leb s.start put) (leb after s.gone) t in r.1 (leb-true s.start put b.0, leb-true after s.gone b.1)),
     )
 
 -- no more than these are certainly older
@@ -163,32 +156,36 @@ older_counted h ps x g put after are start single gets =
     let f = all_first (lasts_at ps put after) count put in
     (f.0, older_found h ps x g put after count f.0 are start single gets (omega arith) f.1)
 
--- ---- the same, as the code counts over the presences before the put
-
-length_before : (h : List Call) (ps : List Presence) (put : ℕ) → ArePresences h (length h) ps → put < length h → length (take put ps) ≡ put
-length_before h ps put are lt = let size = are.0 in length-take-le put ps (omega (arith, size, lt))
+-- ---- the same, as the code counts
 
 pub young_none : (h : List Call) (ps : List Presence) (g put after k count : ℕ) → IsHistory h → ArePresences h (length h) ps → IsStart h (call h g).end after → (x : ℕ) × IsSingle h x put × Gets h x g × (put < length h)
-    → count ≡ count_below (lasts_at ps put after) (length (take put ps)) → count < k → GotTooYoung k h g → ⊥
+    → IsCountedTo k (count_below (lasts_at ps put after) put) count → count < k → GotTooYoung k h g → ⊥
 young_none h ps g put after k count v are start s counted few young =
-    let e = ap (count_below (lasts_at ps put after)) (length_before h ps put are s.3) in
     let most = no_more_older h ps s.0 g put after k v are start s.1 s.2 young in
-    omega (arith, e, most, counted, few)
+    elim counted [ inl e ↦ omega (arith, e, most, few) | inr b ↦ (let le = b.0 in omega (arith, le, few)) ]
 
 pub young_found : (h : List Call) (ps : List Presence) (g put after k count : ℕ) (found : List ℕ) → ArePresences h (length h) ps → IsStart h (call h g).end after → (x : ℕ) × IsSingle h x put × Gets h x g × (put < length h)
-    → count ≡ count_below (lasts_at ps put after) (length (take put ps)) → k ≤ count → AreFirst (lasts_at ps put after) k (length (take put ps)) found → IsTooYoung k h g found
+    → IsCountedTo k (count_below (lasts_at ps put after) put) count → k ≤ count → AreFirst (lasts_at ps put after) k put found → IsTooYoung k h g found
 young_found h ps g put after k count found are start s counted enough first =
-    let size = length_before h ps put are s.3 in
-    let e = ap (count_below (lasts_at ps put after)) size in
-    let P : ℕ → Type 0 = λ w. AreFirst (lasts_at ps put after) k w found in
-    older_found h ps s.0 g put after k found are start s.1 s.2 (omega (arith, e, counted, enough)) (subst P size first)
+    let all : k ≤ count_below (lasts_at ps put after) put = elim counted [ inl e ↦ omega (arith, e, enough) | inr b ↦ (let le = b.1 in omega (arith, le, enough)) ] in
+    older_found h ps s.0 g put after k found are start s.1 s.2 all first
 
 pub young_count : (h : List Call) (ps : List Presence) (g put after count : ℕ) → IsHistory h → ArePresences h (length h) ps → IsStart h (call h g).end after → (x : ℕ) × IsSingle h x put × Gets h x g × (put < length h)
-    → count ≡ count_below (lasts_at ps put after) (length (take put ps)) → GotTooYoung count h g × ((m : ℕ) → GotTooYoung m h g → m ≤ count) × (count < length h)
+    → IsCountedTo (length h) (count_below (lasts_at ps put after) put) count → GotTooYoung count h g × ((m : ℕ) → GotTooYoung m h g → m ≤ count) × (count < length h)
 young_count h ps g put after count v are start s counted =
-    let e : count ≡ count_below (lasts_at ps put after) put = counted ∙ ap (count_below (lasts_at ps put after)) (length_before h ps put are s.3) in
+    let few = count_few (lasts_at ps put after) put in
+    let inside = s.3 in
+    let e : count ≡ count_below (lasts_at ps put after) put = elim counted [ inl e ↦ e | inr b ↦ (let ge = b.0 in let le = b.1 in absurd (omega (arith, ge, le, few, inside))) ] in
     let P : ℕ → Type 0 = λ w. GotTooYoung w h g in (
       subst P (sym e) (older_counted h ps s.0 g put after are start s.1 s.2),
       λ m young. (let most = no_more_older h ps s.0 g put after m v are start s.1 s.2 young in omega (arith, most, e)),
-      (let few = count_few (lasts_at ps put after) put in let inside = s.3 in omega (arith, few, inside, e)),
+      omega (arith, few, inside, e),
     )
+
+-- the call that gets an item precedes only later calls
+pub starts_later : (h : List Call) (g after : ℕ) → IsHistory h → g < length h → IsStart h (call h g).end after → g < after
+starts_later h g after v inside s =
+    elim (cases_lt g after) [
+      | inl lt ↦ lt
+      | inr le ↦ (let lt = precedes_below h g g v inside ((s.starts g inside).1 le) in absurd (omega (arith, lt)))
+    ]

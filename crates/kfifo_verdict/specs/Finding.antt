@@ -1,5 +1,5 @@
 -- What the search for evidence knows of a history: what its calls do, tallies of their items, and when items are there.
-use Rattle.std.specs.Prelude.{ℕ, ◌≡◌, ◌<◌, ◌≤◌, ◌↔◌, ◌&&◌, leb, min, Bool, true, List, Option, length, slice_index_or, unwrap_or}
+use Rattle.std.specs.Prelude.{ℕ, ◌≡◌, ◌+◌, ◌<◌, ◌≤◌, ◌↔◌, ◌⊎◌, ◌&&◌, leb, min, Bool, true, List, Option, length, slice_index_or, unwrap_or}
 use Rattle.std.specs.Ordering.{nat_cmp}
 use Rattle.std.specs.BTreeMap.{BTreeMap, get}
 use Rattle.kfifo_model.specs.declared.calls.Call.{Call}
@@ -115,6 +115,20 @@ pub record IsBucketed (h : List Call) (ps : List Presence) (n : ℕ) (stays : Li
 -- the item is certainly there from call `put` on, and got by no call below `after`
 abbrev pub outlast : ℕ → ℕ → Presence → Bool
 outlast put after s = leb s.start put && leb after s.gone
+
+-- whether the item of call p is
+abbrev pub lasts_at : List Presence → ℕ → ℕ → ℕ → Bool
+lasts_at ps put after p = outlast put after (slice_index_or ps p no_presence)
+
+-- the number, or no more than it and no fewer than the limit
+abbrev pub IsCountedTo : ℕ → ℕ → ℕ → Type 0
+IsCountedTo limit count result = (result ≡ count) ⊎ ((limit ≤ result) × (result ≤ count))
+
+-- For each call a later one: the items of those between them are gone at call n.
+pub record AreSkips (ps : List Presence) (n : ℕ) (skips : List ℕ) : Type 0 where
+  pub sized : length skips ≡ length ps + 1
+  pub ahead : (i : ℕ) → i < length ps + 1 → (i ≤ slice_index_or skips i 0) × (slice_index_or skips i 0 ≤ length ps)
+  pub gone : (i p : ℕ) → i < length ps + 1 → i ≤ p → p < slice_index_or skips i 0 → (slice_index_or ps p no_presence).gone ≤ n
 
 -- The first k numbers below n that pass the test, or all where they are fewer.
 pub record AreFirst (test : ℕ → Bool) (k n : ℕ) (found : List ℕ) : Type 0 where

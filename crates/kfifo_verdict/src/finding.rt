@@ -1,11 +1,11 @@
 //! The search for evidence.
-ghost use Rattle.std.specs.Prelude.{ℕ, ◌≡◌, ◌<◌, ◌≤◌, ◌↔◌, ◌⊎◌, IsTrue, List, length, slice_index_or, IfOk, OnSome, MatchOption};
+ghost use Rattle.std.specs.Prelude.{ℕ, ◌≡◌, ◌+◌, ◌^◌, ◌<◌, ◌≤◌, ◌↔◌, ◌⊎◌, IsTrue, List, length, slice_index_or, IfOk, OnSome, MatchOption};
 ghost use Rattle.kfifo_model.specs.Histories.{call, effect_of, does, EndsBelow};
 ghost use Rattle.kfifo_model.specs.Relaxed.{Takes, Finds_none};
 ghost use Rattle.kfifo_model.specs.Validity.{IsHistory};
 ghost use Rattle.kfifo_model.specs.Searching.{HasOrder};
 ghost use Rattle.kfifo_verdict.specs.Evidence.{IsNeverPut, IsTakenTwice, IsNotEmpty, IsTooYoung, IsSingle, Gets, count_below};
-ghost use Rattle.kfifo_verdict.specs.Finding.{ArePuts, AreGets, no_presence, ArePresences, IsIndexed, AreStays, IsBucketed, outlast, AreFirst, first_of};
+ghost use Rattle.kfifo_verdict.specs.Finding.{ArePuts, AreGets, no_presence, ArePresences, IsIndexed, AreStays, IsBucketed, outlast, lasts_at, AreSkips, IsCountedTo, AreFirst, first_of};
 ghost use Rattle.kfifo_verdict.specs.Judging.{FoundNotEmpty, GotTooYoung, Never, NeverBefore, HasNoEvidence, IsFirstEvidence};
 
 use crate::deeds::{Deed, deed_of, ends_before, first_after};
@@ -196,14 +196,50 @@ fn outlasts(presence: &Presence, put: usize, after: usize) -> bool
     presence.start <= put && after <= presence.gone
 }
 
-/// How many items are certainly there from call `put` on, and are got by none but calls from `after` on.
-fn count_older(presences: &[Presence], put: usize, after: usize) -> usize
-    ensures { result ≡ count_below (λ p. outlast put after (slice_index_or presences.now p no_presence)) (length presences.now) }
+/// For each call the call itself: no later one is known from which on all items are gone.
+pub(crate) fn no_skips(alloc: Global, count: usize) -> Result<Vec<usize>, AllocError>
+    requires { count < 2 ^ 63 }
+    ensures { IfOk result (λ v. (length v.items ≡ count + 1) × ((i : ℕ) → i < count + 1 → slice_index_or v.items i 0 ≡ i)) }
+{
+    let mut skips = Vec::new(alloc);
+    for n in 0..count + 1 {
+        skips.push(n)?;
+    }
+    Ok(skips)
+}
+
+/// How many items are certainly there from call `put` on and got by no call below `after`, or `limit` if they are no fewer.
+/// Items that are gone at call n are passed over from then on.
+fn count_older(
+    presences: &[Presence],
+    skips: &mut Vec<usize>,
+    n: usize,
+    put: usize,
+    after: usize,
+    limit: usize,
+) -> usize
+    requires skips { AreSkips presences.now n skips.old.items }
+    requires later { n < after }
+    requires inside { put ≤ length presences.now }
+    ensures counted { IsCountedTo limit (count_below (lasts_at presences.now put after) put) result }
+    ensures skips { AreSkips presences.now n skips.new.items }
 {
     let mut count = 0;
-    for presence in presences {
-        if outlasts(presence, put, after) {
-            count += 1;
+    let mut p = 0;
+    while p < put && count < limit {
+        let next = skips[p];
+        if next >= put {
+            return count;
+        }
+        let presence = presences[next];
+        if presence.gone <= n {
+            let rest = skips[next + 1];
+            skips[p] = rest;
+        } else {
+            if outlasts(&presence, put, after) {
+                count += 1;
+            }
+            p = next + 1;
         }
     }
     count
@@ -217,11 +253,12 @@ fn first_older(
     after: usize,
     k: usize,
 ) -> Result<Vec<usize>, AllocError>
-    ensures { IfOk result (λ v. AreFirst (λ p. outlast put after (slice_index_or presences.now p no_presence)) k (length presences.now) v.items) }
+    requires { put ≤ length presences.now }
+    ensures { IfOk result (λ v. AreFirst (lasts_at presences.now put after) k put v.items) }
 {
     let mut puts = Vec::new(alloc);
-    for (p, presence) in presences.iter().enumerate() {
-        if puts.len() < k && outlasts(presence, put, after) {
+    for p in 0..put {
+        if puts.len() < k && outlasts(&presences[p], put, after) {
             puts.push(p)?;
         }
     }
@@ -246,15 +283,25 @@ fn single_put(calls: &[Call], items: &Items, n: usize) -> Option<usize>
 }
 
 /// How many items are certainly older and there at a call, where it got a single item.
-pub(crate) fn older_at(calls: &[Call], items: &Items, n: usize) -> Option<usize>
+pub(crate) fn older_at(
+    calls: &[Call],
+    items: &Items,
+    skips: &mut Vec<usize>,
+    n: usize,
+) -> Option<usize>
     requires history { IsHistory calls.now }
     requires inside { n < length calls.now }
     requires items { IsIndexed calls.now items.now }
-    ensures { MatchOption result ((m : ℕ) → GotTooYoung m calls.now n → ⊥) (λ older. GotTooYoung older calls.now n × ((m : ℕ) → GotTooYoung m calls.now n → m ≤ older) × (older < length calls.now)) }
+    requires skips { AreSkips items.now.presences.items n skips.old.items }
+    ensures older { MatchOption result ((m : ℕ) → GotTooYoung m calls.now n → ⊥) (λ older. GotTooYoung older calls.now n × ((m : ℕ) → GotTooYoung m calls.now n → m ≤ older) × (older < length calls.now)) }
+    ensures skips { AreSkips items.now.presences.items n skips.new.items }
 {
-    let put = single_put(calls, items, n)?;
+    let Some(put) = single_put(calls, items, n) else {
+        return None;
+    };
     let after = first_after(calls, &calls[n]);
-    Some(count_older(&items.presences[..put], put, after))
+    let limit = calls.len();
+    Some(count_older(&items.presences, skips, n, put, after, limit))
 }
 
 /// The puts of k of them.
@@ -262,23 +309,25 @@ fn too_young_at(
     alloc: Global,
     calls: &[Call],
     items: &Items,
+    skips: &mut Vec<usize>,
     n: usize,
     k: usize,
 ) -> Result<Option<Vec<usize>>, AllocError>
     requires history { IsHistory calls.now }
     requires inside { n < length calls.now }
     requires items { IsIndexed calls.now items.now }
-    ensures { IfOk result (λ found. MatchOption found (GotTooYoung k calls.now n → ⊥) (λ puts. IsTooYoung k calls.now n puts.items)) }
+    requires skips { AreSkips items.now.presences.items n skips.old.items }
+    ensures young { IfOk result (λ found. MatchOption found (GotTooYoung k calls.now n → ⊥) (λ puts. IsTooYoung k calls.now n puts.items)) }
+    ensures skips { AreSkips items.now.presences.items n skips.new.items }
 {
     let Some(put) = single_put(calls, items, n) else {
         return Ok(None);
     };
     let after = first_after(calls, &calls[n]);
-    let earlier = &items.presences[..put];
-    if count_older(earlier, put, after) < k {
+    if count_older(&items.presences, skips, n, put, after, k) < k {
         return Ok(None);
     }
-    Ok(Some(first_older(alloc, earlier, put, after, k)?))
+    Ok(Some(first_older(alloc, &items.presences, put, after, k)?))
 }
 
 /// The first call that got a single item while k older ones were there.
@@ -293,8 +342,9 @@ fn too_young(
     ensures { IfOk result (λ found. MatchOption found (Never (GotTooYoung k calls.now))
         (λ e. IsTooYoung k calls.now e.0 e.1.items × NeverBefore (GotTooYoung k calls.now) e.0)) }
 {
+    let mut skips = no_skips(alloc, items.presences.len())?;
     for n in 0..calls.len() {
-        if let Some(puts) = too_young_at(alloc, calls, items, n, k)? {
+        if let Some(puts) = too_young_at(alloc, calls, items, &mut skips, n, k)? {
             return Ok(Some((n, puts)));
         }
     }

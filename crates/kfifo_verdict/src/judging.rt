@@ -3,7 +3,7 @@ ghost use Rattle.std.specs.Prelude.{◌≤◌, IfOk};
 ghost use Rattle.kfifo_model.specs.Validity.{IsHistory};
 ghost use Rattle.kfifo_verdict.specs.Judging.{IsJudgement, IsLowerBound, AreBounds};
 
-use crate::finding::{evidence, older_at};
+use crate::finding::{evidence, no_skips, older_at};
 use crate::presences::Items;
 use crate::verdicts::{Bounds, Judgement};
 use crate::walking::witness;
@@ -31,9 +31,10 @@ fn lower_bound(alloc: Global, calls: &[Call]) -> Result<usize, AllocError>
     ensures { IfOk result (IsLowerBound calls.now) }
 {
     let items = Items::of(alloc, calls)?;
+    let mut skips = no_skips(alloc, items.presences.len())?;
     let mut most = 0;
     for n in 0..calls.len() {
-        if let Some(older) = older_at(calls, &items, n) {
+        if let Some(older) = older_at(calls, &items, &mut skips, n) {
             if most < older {
                 most = older;
             }

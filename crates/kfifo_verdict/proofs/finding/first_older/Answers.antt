@@ -1,5 +1,5 @@
 use Rattle.std.proofs.Common.{List, Bool, ℕ, ◌≡◌, ◌≤◌, ◌<◌, ◌+◌, length, get_or, sym, ◌∙◌, ap, subst, arith}
-use Rattle.kfifo_verdict.specs.Finding.{AreFirst, outlast, no_presence}
+use Rattle.kfifo_verdict.specs.Finding.{AreFirst, lasts_at}
 use Rattle.kfifo_verdict.proofs.Younger.{first_skip, first_full, first_more}
 use Rattle.kfifo_verdict.proofs.finding.first_older.Goals as goal
 use Rattle.kfifo_verdict.proofs.finding.first_older.Goals.{then-len-k+then-outlasts+in_ok-push, else-len-k, else-len-k-via-then-len-k+else-outlasts, else-len-k-via-else-len-k}
@@ -8,7 +8,7 @@ pub loop-p-preserved : goal.loop-p-preserved
 loop-p-preserved c =
     let p = c.loop-p.p in
     let k = c.args.k in
-    let test : ℕ → Bool = λ q. outlast c.args.put c.args.after (get_or c.args.presences.now q no_presence) in
+    let test : ℕ → Bool = λ q. lasts_at c.args.presences.now c.args.put c.args.after q in
     let long = c.len.ensures in
     let P : List ℕ → Type 0 = λ w. AreFirst test k (p + 1) w in
     elim c.if-len-k.branch [
@@ -26,11 +26,3 @@ loop-p-preserved c =
             )
       ])
     ]
-
-pub returns : goal.returns
-returns c =
-    let end = c.loop-p-test.false in
-    let most = c.loop-p.auto.p-end in
-    let all : c.loop-p.p ≡ length c.args.presences.now = omega (arith, end, most) in
-    let P : ℕ → Type 0 = λ w. AreFirst (λ q. outlast c.args.put c.args.after (get_or c.args.presences.now q no_presence)) c.args.k w c.loop-p.puts.items in
-    subst P all c.loop-p.invariant
