@@ -62,17 +62,39 @@ fn coded(alloc: Global, code: u64, count: u32) -> Result<History, RecordFault> {
     History::new(calls)
 }
 
+/// Whether all calls are finished, and no item is put twice or got twice.
+fn is_plain(calls: &[Call]) -> bool {
+    for (n, call) in calls.iter().enumerate() {
+        let Some(end) = call.end else {
+            return false;
+        };
+        for other in calls.iter().take(n) {
+            let same_put = call.op != Op::Dequeue && other.op == call.op;
+            let same_got = match (end.answer, other.end) {
+                (Answer::Got(x), Some(end)) => end.answer == Answer::Got(x),
+                _ => false,
+            };
+            if same_put || same_got {
+                return false;
+            }
+        }
+    }
+    true
+}
+
 /// How many verdicts came of each kind.
 #[derive(Clone, Copy, Debug, PartialEq, Eq)]
 struct Counts {
     legal: u64,
     no_order: u64,
     undecided: u64,
+    /// Of the undecided those whose items are single and whose calls are finished.
+    plain: u64,
     wrong: u64,
 }
 
 /// One more verdict.
-fn count(counts: Counts, judgement: &Judgement, has: bool) -> Counts {
+fn count(counts: Counts, judgement: &Judgement, plain: bool, has: bool) -> Counts {
     let mut more = counts;
     let wrong = match judgement {
         Judgement::Legal(_) => {
@@ -85,6 +107,9 @@ fn count(counts: Counts, judgement: &Judgement, has: bool) -> Counts {
         }
         Judgement::Undecided => {
             more.undecided = more.undecided.wrapping_add(1);
+            if plain {
+                more.plain = more.plain.wrapping_add(1);
+            }
             false
         }
     };
@@ -109,6 +134,7 @@ fn judged(
         legal: 0,
         no_order: 0,
         undecided: 0,
+        plain: 0,
         wrong: 0,
     };
     let mut code = from;
@@ -116,7 +142,8 @@ fn judged(
         if let Ok(history) = coded(alloc, code, calls) {
             if let Ok(has) = has_order(alloc, &history, k) {
                 let judgement = judge(alloc, &history, k, 1_000)?;
-                counts = count(counts, &judgement, has);
+                let plain = is_plain(history.calls());
+                counts = count(counts, &judgement, plain, has);
             }
         }
         code = code.wrapping_add(step);
@@ -384,8 +411,8 @@ fn three_calls(rt: HostRuntime) -> Result<(), Fail> {
     let relaxed = judged(rt.alloc(), 3, 0, 1, 13_824, 2)?;
     eprintln!(rt; "{plain:?} {relaxed:?}")?;
     assert_eq!(rt; plain.wrong, 0);
+    assert_eq!(rt; plain.plain, 0);
     assert_eq!(rt; relaxed.wrong, 0);
-    assert!(rt; plain.undecided < plain.no_order);
     Ok(())
 }
 
@@ -394,7 +421,7 @@ fn four_calls(rt: HostRuntime) -> Result<(), Fail> {
     let plain = judged(rt.alloc(), 4, 0, 1, 331_776, 1)?;
     eprintln!(rt; "{plain:?}")?;
     assert_eq!(rt; plain.wrong, 0);
-    assert!(rt; plain.undecided < plain.no_order);
+    assert_eq!(rt; plain.plain, 0);
     Ok(())
 }
 
