@@ -1,0 +1,11 @@
+pub mod Counting
+pub mod Runs
+pub mod Refuting
+pub mod Moments
+pub mod Telling
+pub mod Being
+pub mod Staying
+pub mod Covering
+pub mod Younger
+pub mod Skipping
+pub mod Concluding

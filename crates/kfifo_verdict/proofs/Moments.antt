@@ -1,0 +1,70 @@
+-- The first steps of a history's calls rise with their numbers.
+use Rattle.std.proofs.Common.{ℕ, zero, suc, ◌≡◌, ◌≢◌, ◌+◌, ◌<◌, ◌≤◌, ◌↔◌, ◌⊎◌, Bool, true, false, leb, List, length, get_or, refl, sym, ◌∙◌, ap, subst, inl, inr, arith, Option, Some, None}
+use Rattle.std.specs.List.Sorted.{IsNonDecreasingBy, IsPartitionPoint}
+use Rattle.std.proofs.lemmas.Bool.{cases_lt, leb-true, leb-false}
+use Rattle.std.proofs.lemmas.List.{get_or_default}
+use Rattle.kfifo_model.specs.declared.calls.Call.{Call}
+use Rattle.kfifo_model.specs.declared.calls.End.{End}
+use Rattle.kfifo_model.specs.Histories.{call, no_call, EndsBelow, Precedes}
+use Rattle.kfifo_model.specs.Validity.{IsHistory, EndsFrom}
+use Rattle.kfifo_verdict.specs.Finding.{first_of, IsStart}
+
+pub rising : (h : List Call) (i j : ℕ) → IsHistory h → i < j → j < length h → first_of h i < first_of h j
+rising h i zero v lt inside = absurd (omega arith)
+rising h i (suc j) v lt inside =
+    let here : j < length h = omega arith in
+    let step = (v (suc j) inside).rises j (let e : j + 1 ≡ suc j = omega arith in e) in
+    elim (cases_lt i j) [
+      | inl below ↦ (let on = rising h i j v below here in omega (arith, on, step))
+      | inr le ↦ (let same : i ≡ j = omega arith in let P : ℕ → Type 0 = λ w. first_of h w < first_of h (suc j) in subst P (sym same) step)
+    ]
+
+pub not_falling : (h : List Call) (i j : ℕ) → IsHistory h → i ≤ j → j < length h → first_of h i ≤ first_of h j
+not_falling h i j v le inside =
+    elim (cases_lt i j) [
+      | inl lt ↦ (let r = rising h i j v lt inside in omega (arith, r))
+      | inr ge ↦ (let same : i ≡ j = omega arith in let e = ap (first_of h) same in omega (arith, e))
+    ]
+
+-- of two calls the one that begins first has the lesser number
+pub sooner : (h : List Call) (i j : ℕ) → IsHistory h → i < length h → first_of h i < first_of h j → i < j
+sooner h i j v inside lt =
+    elim (cases_lt i j) [
+      | inl below ↦ below
+      | inr le ↦ (let r = not_falling h j i v le inside in absurd (omega (arith, r, lt)))
+    ]
+
+pub ends_later : (o : Option End) (a b : ℕ) → a ≤ b → EndsBelow o a → EndsBelow o b
+ends_later (Some end) a b le l = omega arith
+ends_later None a b le l = l
+
+-- a moment that a call reaches is below one that it does not
+pub reached : (o : Option End) (a b : ℕ) → EndsFrom a o → EndsBelow o b → a < b
+reached (Some end) a b f l = omega arith
+reached None a b f l = absurd l
+
+-- a call that precedes another has the lesser number
+pub precedes_below : (h : List Call) (c d : ℕ) → IsHistory h → c < length h → Precedes h c d → c < d
+precedes_below h c d v inside p = sooner h c d v inside (reached (call h c).end (first_of h c) (first_of h d) (v c inside).ends p)
+
+pub by_first : (h : List Call) → IsHistory h → IsNonDecreasingBy (λ c. c.first) h
+by_first h v i j d le inside =
+    let a = ap (λ w. w.first) (get_or_default h i d no_call (let lt : i < length h = omega arith in lt)) in
+    let b = ap (λ w. w.first) (get_or_default h j d no_call inside) in
+    let r = not_falling h i j v le inside in
+    omega (arith, a, b, r)
+
+pub start_found : (h : List Call) (end : End) (i : ℕ) → i ≤ length h → IsPartitionPoint (λ c. leb c.first end.last ≡ true) (λ c. leb c.first end.last ≡ false) h i → IsStart h (Some end) i
+start_found h end i le p = record {
+  bound = le;
+  starts = λ d inside. (
+    λ lt. elim (cases_lt d i) [
+      | inl below ↦ (let t = leb-true (first_of h d) end.last (p.0 d no_call (omega arith) below) in absurd (omega (arith, t, lt)))
+      | inr ge ↦ ge
+    ],
+    λ ge. leb-false (first_of h d) end.last (p.1 d no_call ge inside),
+  );
+}
+
+pub start_none : (h : List Call) → IsStart h None (length h)
+start_none h = record { bound = omega arith; starts = λ d inside. (λ l. absurd l, λ ge. absurd (omega arith)) }

@@ -1,0 +1,80 @@
+-- Evidence that a history has no legal order: a few of its calls because of which each order fails. The four kinds are
+-- those by which Henzinger, Sezgin and Vafeiadis part the ways in which a queue can fail ("Aspect-oriented
+-- linearizability proofs", CONCUR 2013), with k older items in place of one.
+use Rattle.std.specs.Prelude.{ℕ, zero, suc, ◌≡◌, ◌+◌, ◌<◌, ◌≤◌, Bool, cond, List, length}
+use Rattle.kfifo_model.specs.declared.calls.Call.{Call}
+use Rattle.kfifo_model.specs.Lists.{IsIn, Each}
+use Rattle.kfifo_model.specs.Relaxed.{Adds, Takes, Finds_none}
+use Rattle.kfifo_model.specs.Overtaking.{adds, takes}
+use Rattle.kfifo_model.specs.Histories.{call, does, EndsBelow, Precedes, HasNoRepeats}
+use Rattle.kfifo_model.specs.Validity.{EndsFrom}
+
+-- an enqueue of x, Done or unfinished
+abbrev pub Puts : List Call → ℕ → ℕ → Type 0
+Puts h x c = does h c ≡ Adds x
+
+-- a dequeue that was answered Got(x)
+abbrev pub Gets : List Call → ℕ → ℕ → Type 0
+Gets h x c = does h c ≡ Takes x
+
+-- how many numbers below n pass the test
+abbrev pub count_below : (ℕ → Bool) → ℕ → ℕ
+count_below test zero = 0
+count_below test (suc n) = count_below test n + cond (test n) 1 0
+
+abbrev pub puts_of : List Call → ℕ → ℕ
+puts_of h x = count_below (λ c. adds x (does h c)) (length h)
+
+abbrev pub gets_of : List Call → ℕ → ℕ
+gets_of h x = count_below (λ c. takes x (does h c)) (length h)
+
+-- The item x is single: call p alone puts it, and at most one call gets it.
+pub record IsSingle (h : List Call) (x p : ℕ) : Type 0 where
+  pub puts : Puts h x p
+  pub alone : (c : ℕ) → Puts h x c → c ≡ p
+  pub once : (c d : ℕ) → Gets h x c → Gets h x d → c ≡ d
+
+-- The certain presence of the single item that call p puts: after the call's end, and before the call that gets it begins.
+pub record IsCertainlyThere (h : List Call) (p moment : ℕ) : Type 0 where
+  pub item : ℕ
+  pub single : IsSingle h item p
+  pub put : EndsBelow (call h p).end moment
+  pub kept : (g : ℕ) → Gets h item g → moment < (call h g).first
+
+-- a moment of a call, from its first step to its last
+abbrev pub IsMomentOf : List Call → ℕ → ℕ → Type 0
+IsMomentOf h c moment = ((call h c).first ≤ moment) × EndsFrom moment (call h c).end
+
+-- 1: a call gets x, and precedes each call that puts x, if any does
+abbrev pub IsNeverPut : List Call → ℕ → Type 0
+IsNeverPut h get = (x : ℕ) × Gets h x get × ((p : ℕ) → Puts h x p → Precedes h get p)
+
+-- 2: more calls get x than put x, and this is the last of those that get it
+abbrev pub IsTakenTwice : List Call → ℕ → Type 0
+IsTakenTwice h get = (x : ℕ) × Gets h x get × ((g : ℕ) → Gets h x g → g ≤ get) × (puts_of h x < gets_of h x)
+
+-- 3: A call was answered Empty, and at each of its moments the item of one of these puts was certainly there; each of
+-- them is needed at some moment or other of the call.
+pub record IsNotEmpty (h : List Call) (c : ℕ) (puts : List ℕ) : Type 0 where
+  pub empty : does h c ≡ Finds_none
+  pub covered : (moment : ℕ) → IsMomentOf h c moment → (p : ℕ) × IsIn p puts × IsCertainlyThere h p moment
+  pub met : Each (λ p. (moment : ℕ) × IsMomentOf h c moment × IsCertainlyThere h p moment) puts
+  pub distinct : HasNoRepeats puts
+
+-- The single item that p puts is certainly older than what `put` puts, and there at the call `get`: p precedes `put`, and
+-- no call gets the item but one that `get` precedes.
+pub record IsOlder (h : List Call) (get put p : ℕ) : Type 0 where
+  pub item : ℕ
+  pub single : IsSingle h item p
+  pub before : Precedes h p put
+  pub kept : (g : ℕ) → Gets h item g → Precedes h get g
+
+-- 4: A call gets a single item while the items of these k puts are certainly older and there.
+pub record IsTooYoung (k : ℕ) (h : List Call) (get : ℕ) (puts : List ℕ) : Type 0 where
+  pub item : ℕ
+  pub put : ℕ
+  pub gets : Gets h item get
+  pub single : IsSingle h item put
+  pub older : Each (IsOlder h get put) puts
+  pub distinct : HasNoRepeats puts
+  pub count : length puts ≡ k

@@ -1,0 +1,137 @@
+-- What the search for evidence knows of a history: what its calls do, tallies of their items, and when items are there.
+use Rattle.std.specs.Prelude.{ℕ, ◌≡◌, ◌+◌, ◌<◌, ◌≤◌, ◌↔◌, ◌⊎◌, ◌&&◌, leb, min, Bool, true, List, Option, length, slice_index_or, unwrap_or}
+use Rattle.std.specs.Ordering.{nat_cmp}
+use Rattle.std.specs.BTreeMap.{BTreeMap, get}
+use Rattle.kfifo_model.specs.declared.calls.Call.{Call}
+use Rattle.kfifo_model.specs.declared.calls.End.{End}
+use Rattle.kfifo_model.specs.Relaxed.{Effect, Adds, Takes, Finds_none}
+use Rattle.kfifo_model.specs.Overtaking.{adds, takes}
+use Rattle.kfifo_model.specs.Lists.{Each}
+use Rattle.kfifo_model.specs.Histories.{call, does, EndsBelow, HasNoRepeats}
+use Rattle.kfifo_verdict.specs.declared.deeds.Deed.{Deed}
+use Rattle.kfifo_verdict.specs.declared.deeds.Deed.TheVariants.{PutIn, TookOut, FoundNone, Nothing}
+use Rattle.kfifo_verdict.specs.declared.deeds.Side.{Side}
+use Rattle.kfifo_verdict.specs.declared.deeds.Side.TheVariants.{In, Out}
+use Rattle.kfifo_verdict.specs.declared.tallies.Tally.{Tally}
+use Rattle.kfifo_verdict.specs.declared.presences.Presence.{Presence}
+use Rattle.kfifo_verdict.specs.declared.presences.Items.{Items}
+use Rattle.kfifo_verdict.specs.declared.finding.Stay.{Stay}
+use Rattle.kfifo_verdict.specs.Evidence.{count_below, IsCertainlyThere, IsOlder}
+
+abbrev pub IsDeed : Effect → Deed → Type 0
+IsDeed e (PutIn x) = e ≡ Adds x
+IsDeed e (TookOut x) = e ≡ Takes x
+IsDeed e FoundNone = e ≡ Finds_none
+IsDeed e Nothing = ((x : ℕ) → e ≡ Adds x → ⊥) × ((x : ℕ) → e ≡ Takes x → ⊥) × (e ≡ Finds_none → ⊥)
+
+abbrev pub side_effect : Side → ℕ → Effect
+side_effect In x = Adds x
+side_effect Out x = Takes x
+
+-- whether call c is one of the side that has item x
+abbrev pub has_item : Side → List Call → ℕ → ℕ → Bool
+has_item In h x c = adds x (does h c)
+has_item Out h x c = takes x (does h c)
+
+abbrev pub first_of : List Call → ℕ → ℕ
+first_of h c = (call h c).first
+
+-- a call with this end precedes those from this number on, and no others
+pub record IsStart (h : List Call) (end : Option End) (start : ℕ) : Type 0 where
+  pub bound : start ≤ length h
+  pub starts : (d : ℕ) → d < length h → EndsBelow end (first_of h d) ↔ (start ≤ d)
+
+abbrev pub no_tally : Tally
+no_tally = record { count = 0; earliest = 0; last = 0 }
+
+-- The tally of the calls below n that pass the test.
+pub record IsTally (test : ℕ → Bool) (first : ℕ → ℕ) (n : ℕ) (t : Tally) : Type 0 where
+  pub few : t.count ≤ n
+  pub count : t.count ≡ count_below test n
+  pub earliest : (c : ℕ) → c < n → test c ≡ true → t.earliest ≤ first c
+  pub attained : 0 < t.count → (c : ℕ) × (test c ≡ true) × (first c ≡ t.earliest)
+  pub last : (c : ℕ) → c < n → test c ≡ true → (c ≤ t.last) × (0 < t.count)
+  pub passes : 0 < t.count → (t.last < n) × (test t.last ≡ true)
+  pub only : t.count ≡ 1 → (c : ℕ) → c < n → test c ≡ true → c ≡ t.last
+  pub more : 1 < t.count → (c : ℕ) × (c < t.last) × (test c ≡ true)
+
+-- the tallies of all items on a side, of the calls below n
+abbrev pub IsTallied : List Call → Side → ℕ → (ℕ → Tally) → Type 0
+IsTallied h side n look = (x : ℕ) → IsTally (has_item side h x) (first_of h) n (look x)
+
+-- the tally of an item
+abbrev pub tally_in : BTreeMap ℕ Tally → ℕ → Tally
+tally_in m x = unwrap_or (get nat_cmp m x) no_tally
+
+-- the tallies of all puts, and of all gets
+abbrev pub ArePuts : List Call → BTreeMap ℕ Tally → Type 0
+ArePuts h m = IsTallied h In (length h) (tally_in m)
+
+abbrev pub AreGets : List Call → BTreeMap ℕ Tally → Type 0
+AreGets h m = IsTallied h Out (length h) (tally_in m)
+
+-- When the item that call p puts is certainly there, or never.
+pub record IsPresence (h : List Call) (p : ℕ) (s : Presence) : Type 0 where
+  pub there : (c moment : ℕ) → s.start ≤ c → c < s.gone → c < length h → first_of h c ≤ moment → (s.gone < length h → moment < first_of h s.gone) → IsCertainlyThere h p moment
+  pub until : (moment : ℕ) → IsCertainlyThere h p moment → s.gone < length h → moment < first_of h s.gone
+  pub from : (c : ℕ) → c < length h → IsCertainlyThere h p (first_of h c) → (s.start ≤ c) × (c < s.gone)
+  pub older : (g put after : ℕ) → put < length h → IsStart h (call h g).end after → IsOlder h g put p ↔ ((s.start ≤ put) × (after ≤ s.gone))
+
+abbrev pub no_presence : Presence
+no_presence = record { start = 0; gone = 0 }
+
+-- the presences of the calls below n
+abbrev pub ArePresences : List Call → ℕ → List Presence → Type 0
+ArePresences h n ps = (length ps ≡ n) × ((p : ℕ) → p < n → IsPresence h p (slice_index_or ps p no_presence))
+
+-- An item that is certainly there at the beginning of call c, and until when, if there is any such.
+pub record IsStay (h : List Call) (c : ℕ) (s : Stay) : Type 0 where
+  pub there : c < s.gone → (moment : ℕ) → first_of h c ≤ moment → (s.gone < length h → moment < first_of h s.gone) → IsCertainlyThere h s.put moment
+  pub until : c < s.gone → (moment : ℕ) → IsCertainlyThere h s.put moment → s.gone < length h → moment < first_of h s.gone
+
+abbrev pub no_stay : Stay
+no_stay = record { put = 0; gone = 0 }
+
+-- for each call an item that is there as it begins, where any is
+pub record AreStays (h : List Call) (stays : List Stay) : Type 0 where
+  pub sized : length stays ≡ length h
+  pub real : (c : ℕ) → c < length h → IsStay h c (slice_index_or stays c no_stay)
+  pub found : (c p : ℕ) → c < length h → IsCertainlyThere h p (first_of h c) → c < (slice_index_or stays c no_stay).gone
+
+-- the calls by their items
+pub record IsIndexed (h : List Call) (items : Items) : Type 0 where
+  pub puts : ArePuts h items.puts
+  pub gets : AreGets h items.gets
+  pub presences : ArePresences h (length h) items.presences.items
+
+-- Of the items of the puts below n that are certainly there from call c on, and from no earlier one, none is there longer
+-- than the one at place c.
+pub record IsBucketed (h : List Call) (ps : List Presence) (n : ℕ) (stays : List Stay) : Type 0 where
+  pub sized : length stays ≡ length h
+  pub real : (c : ℕ) → c < length h → IsStay h c (slice_index_or stays c no_stay)
+  pub longest : (p c : ℕ) → p < n → c < length h → (slice_index_or ps p no_presence).start ≡ c
+      → (slice_index_or ps p no_presence).gone ≤ (slice_index_or stays c no_stay).gone
+
+-- the item is certainly there from call `put` on, and got by no call below `after`
+abbrev pub outlast : ℕ → ℕ → Presence → Bool
+outlast put after s = leb s.start put && leb after s.gone
+
+-- whether the item of call p is
+abbrev pub lasts_at : List Presence → ℕ → ℕ → ℕ → Bool
+lasts_at ps put after p = outlast put after (slice_index_or ps p no_presence)
+
+-- the number, or no more than it and no fewer than the limit
+abbrev pub IsCountedTo : ℕ → ℕ → ℕ → Type 0
+IsCountedTo limit count result = (result ≡ count) ⊎ ((limit ≤ result) × (result ≤ count))
+
+-- For each call a later one: the items of those between them are gone at call n.
+pub record AreSkips (ps : List Presence) (n : ℕ) (skips : List ℕ) : Type 0 where
+  pub sized : length skips ≡ length ps + 1
+  pub ahead : (i : ℕ) → i < length ps + 1 → (i ≤ slice_index_or skips i 0) × (slice_index_or skips i 0 ≤ length ps)
+  pub gone : (i p : ℕ) → i < length ps + 1 → i ≤ p → p < slice_index_or skips i 0 → (slice_index_or ps p no_presence).gone ≤ n
+
+-- The first k numbers below n that pass the test, or all where they are fewer.
+pub record AreFirst (test : ℕ → Bool) (k n : ℕ) (found : List ℕ) : Type 0 where
+  pub count : length found ≡ min k (count_below test n)
+  pub pass : Each (λ p. (p < n) × (test p ≡ true)) found
+  pub distinct : HasNoRepeats found

@@ -1,0 +1,60 @@
+-- What the calls answer.
+use Rattle.std.specs.Prelude.{ℕ, ◌≡◌, ◌+◌, ◌-◌, ◌<◌, ◌≤◌, List, Option, Some, None}
+use Rattle.kfifo_model.specs.declared.calls.Call.{Call}
+use Rattle.kfifo_model.specs.Histories.{IsLegal}
+use Rattle.kfifo_model.specs.Searching.{HasOrder}
+use Rattle.kfifo_verdict.specs.declared.verdicts.Evidence.{Evidence}
+use Rattle.kfifo_verdict.specs.declared.verdicts.Evidence.TheVariants.{NeverPut, TakenTwice, NotEmpty, TooYoung}
+use Rattle.kfifo_verdict.specs.declared.verdicts.Judgement.{Judgement}
+use Rattle.kfifo_verdict.specs.declared.verdicts.Judgement.TheVariants.{Legal, NoOrder, Undecided}
+use Rattle.kfifo_verdict.specs.declared.verdicts.Bounds.{Bounds}
+use Rattle.kfifo_verdict.specs.Evidence.{IsNeverPut, IsTakenTwice, IsNotEmpty, IsTooYoung}
+
+-- some puts show it of this call
+abbrev pub FoundNotEmpty : List Call → ℕ → Type 0
+FoundNotEmpty h c = (puts : List ℕ) × IsNotEmpty h c puts
+
+abbrev pub GotTooYoung : ℕ → List Call → ℕ → Type 0
+GotTooYoung k h c = (puts : List ℕ) × IsTooYoung k h c puts
+
+-- no call has it
+abbrev pub Never : (ℕ → Type 0) → Type 0
+Never P = (c : ℕ) → P c → ⊥
+
+-- no call before n has it
+abbrev pub NeverBefore : (ℕ → Type 0) → ℕ → Type 0
+NeverBefore P n = (c : ℕ) → c < n → P c → ⊥
+
+-- there is none of the four kinds of evidence
+abbrev pub HasNoEvidence : ℕ → List Call → Type 0
+HasNoEvidence k h = Never (IsNeverPut h) × Never (IsTakenTwice h) × Never (FoundNotEmpty h) × Never (GotTooYoung k h)
+
+-- evidence of the least number that is there, and of that number the one with the least call
+abbrev pub IsFirstEvidence : ℕ → List Call → Evidence → Type 0
+IsFirstEvidence k h (NeverPut get) = IsNeverPut h get × NeverBefore (IsNeverPut h) get
+IsFirstEvidence k h (TakenTwice get) = Never (IsNeverPut h) × IsTakenTwice h get × NeverBefore (IsTakenTwice h) get
+IsFirstEvidence k h (NotEmpty empty puts) =
+    Never (IsNeverPut h) × Never (IsTakenTwice h) × IsNotEmpty h empty puts.items × NeverBefore (FoundNotEmpty h) empty
+IsFirstEvidence k h (TooYoung get puts) =
+    Never (IsNeverPut h) × Never (IsTakenTwice h) × Never (FoundNotEmpty h) × IsTooYoung k h get puts.items × NeverBefore (GotTooYoung k h) get
+
+-- a verdict
+abbrev pub IsJudgement : ℕ → List Call → Judgement → Type 0
+IsJudgement k h (Legal order) = IsLegal k h order.items
+IsJudgement k h (NoOrder found) = IsFirstEvidence k h found × (HasOrder k h → ⊥)
+IsJudgement k h Undecided = HasNoEvidence k h
+
+-- one more than the greatest number of items that are certainly older and there at a get of a single item
+pub record IsLowerBound (h : List Call) (bound : ℕ) : Type 0 where
+  pub positive : 1 ≤ bound
+  pub above : (n c : ℕ) → GotTooYoung n h c → n < bound
+  pub attained : 1 < bound → (c : ℕ) × GotTooYoung (bound - 1) h c
+
+abbrev pub IsUpperBound : List Call → ℕ → Option ℕ → Type 0
+IsUpperBound h low (Some k) = (low ≤ k) × (k ≤ 64) × HasOrder k h
+IsUpperBound h low None = Unit {0}
+
+pub record AreBounds (h : List Call) (b : Bounds) : Type 0 where
+  pub lower : IsLowerBound h b.at_least
+  pub refuted : (k : ℕ) → 1 ≤ k → k < b.at_least → HasOrder k h → ⊥
+  pub upper : IsUpperBound h b.at_least b.at_most

@@ -1,0 +1,384 @@
+//! The search for evidence.
+ghost use Rattle.std.specs.Prelude.{ℕ, ◌≡◌, ◌+◌, ◌^◌, ◌<◌, ◌≤◌, ◌↔◌, ◌⊎◌, IsTrue, List, length, slice_index_or, IfOk, OnSome, MatchOption};
+ghost use Rattle.kfifo_model.specs.Histories.{call, effect_of, does, EndsBelow};
+ghost use Rattle.kfifo_model.specs.Relaxed.{Takes, Finds_none};
+ghost use Rattle.kfifo_model.specs.Validity.{IsHistory};
+ghost use Rattle.kfifo_model.specs.Searching.{HasOrder};
+ghost use Rattle.kfifo_verdict.specs.Evidence.{IsNeverPut, IsTakenTwice, IsNotEmpty, IsTooYoung, IsSingle, Gets, count_below};
+ghost use Rattle.kfifo_verdict.specs.Finding.{ArePuts, AreGets, no_presence, ArePresences, IsIndexed, AreStays, IsBucketed, outlast, lasts_at, AreSkips, IsCountedTo, AreFirst, first_of};
+ghost use Rattle.kfifo_verdict.specs.Judging.{FoundNotEmpty, GotTooYoung, Never, NeverBefore, HasNoEvidence, IsFirstEvidence};
+
+use crate::deeds::{Deed, deed_of, ends_before, first_after};
+use crate::presences::{Items, Presence};
+use crate::tallies::{Tallies, tally_of};
+use crate::verdicts::Evidence;
+use kfifo_model::{Call, History};
+use std::alloc::{AllocError, Global};
+
+/// The put whose item stays longest, and the call until which it does.
+#[derive(Clone, Copy, Debug, PartialEq, Eq)]
+pub(crate) struct Stay {
+    /// The put.
+    pub put: usize,
+    /// The call that gets the item, or the number of calls.
+    pub gone: usize,
+}
+
+/// No stay at all.
+const NO_STAY: Stay = Stay { put: 0, gone: 0 };
+
+/// The longer of two.
+fn longer(a: Stay, b: Stay) -> Stay
+    ensures { ((result ≡ a) × (b.gone ≤ a.gone)) ⊎ ((result ≡ b) × (a.gone ≤ b.gone)) }
+{
+    if a.gone < b.gone { b } else { a }
+}
+
+/// Whether the call got an item before each call that puts it.
+fn is_never_put(calls: &[Call], n: usize, puts: &Tallies) -> bool
+    requires inside { n < length calls.now }
+    requires puts { ArePuts calls.now puts.now }
+    ensures { IsTrue result ↔ IsNeverPut calls.now n }
+{
+    let call = &calls[n];
+    let Deed::TookOut(item) = deed_of(call) else {
+        return false;
+    };
+    let put = tally_of(puts, item);
+    put.count == 0 || ends_before(call, put.earliest)
+}
+
+/// The first call that got an item before each call that puts it.
+fn never_put(calls: &[Call], puts: &Tallies) -> Option<usize>
+    requires { ArePuts calls.now puts.now }
+    ensures { MatchOption result (Never (IsNeverPut calls.now)) (λ n. IsNeverPut calls.now n × NeverBefore (IsNeverPut calls.now) n) }
+{
+    for n in 0..calls.len() {
+        if is_never_put(calls, n, puts) {
+            return Some(n);
+        }
+    }
+    None
+}
+
+/// Whether call n got an item that was got more often than put, as the last that got it.
+fn is_taken_twice(calls: &[Call], n: usize, puts: &Tallies, gets: &Tallies) -> bool
+    requires inside { n < length calls.now }
+    requires puts { ArePuts calls.now puts.now }
+    requires gets { AreGets calls.now gets.now }
+    ensures { IsTrue result ↔ IsTakenTwice calls.now n }
+{
+    let Deed::TookOut(item) = deed_of(&calls[n]) else {
+        return false;
+    };
+    let got = tally_of(gets, item);
+    got.last == n && tally_of(puts, item).count < got.count
+}
+
+/// The first call that got an item which was got more often than put, as the last that got it.
+fn taken_twice(calls: &[Call], puts: &Tallies, gets: &Tallies) -> Option<usize>
+    requires puts { ArePuts calls.now puts.now }
+    requires gets { AreGets calls.now gets.now }
+    ensures { MatchOption result (Never (IsTakenTwice calls.now)) (λ n. IsTakenTwice calls.now n × NeverBefore (IsTakenTwice calls.now) n) }
+{
+    for n in 0..calls.len() {
+        if is_taken_twice(calls, n, puts, gets) {
+            return Some(n);
+        }
+    }
+    None
+}
+
+/// For each call, of the items that are certainly there from that call on the one that stays longest.
+fn stays_from(
+    alloc: Global,
+    calls: &[Call],
+    presences: &[Presence],
+) -> Result<Vec<Stay>, AllocError>
+    requires history { IsHistory calls.now }
+    requires presences { ArePresences calls.now (length calls.now) presences.now }
+    ensures { IfOk result (λ v. IsBucketed calls.now presences.now (length calls.now) v.items) }
+{
+    let mut stays = vec![in alloc; NO_STAY; calls.len()]?;
+    for p in 0..presences.len() {
+        let presence = presences[p];
+        let start = presence.start;
+        if start < stays.len() {
+            let stay = Stay {
+                put: p,
+                gone: presence.gone,
+            };
+            stays[start] = longer(stays[start], stay);
+        }
+    }
+    Ok(stays)
+}
+
+/// For each call, of the items that are certainly there from that call or an earlier one on the one that stays longest.
+fn longest_stays(
+    alloc: Global,
+    calls: &[Call],
+    presences: &[Presence],
+) -> Result<Vec<Stay>, AllocError>
+    requires history { IsHistory calls.now }
+    requires presences { ArePresences calls.now (length calls.now) presences.now }
+    ensures { IfOk result (λ v. AreStays calls.now v.items) }
+{
+    let stays = stays_from(alloc, calls, presences)?;
+    let mut longest = Vec::with_capacity(alloc, stays.len())?;
+    let mut best = NO_STAY;
+    for n in 0..stays.len() {
+        best = longer(best, stays[n]);
+        longest.push(best)?;
+    }
+    Ok(longest)
+}
+
+/// Whether call n is there and begins before a call ends.
+fn reaches(calls: &[Call], from: usize, n: usize) -> bool
+    requires { from < length calls.now }
+    ensures { IsTrue result ↔ ((n < length calls.now) × (EndsBelow (call calls.now from).end (first_of calls.now n) → ⊥)) }
+{
+    n < calls.len() && !ends_before(&calls[from], calls[n].first)
+}
+
+/// Puts of items of which one is certainly there at each moment of a call, or none where there are no such.
+fn cover(
+    alloc: Global,
+    calls: &[Call],
+    stays: &[Stay],
+    empty: usize,
+) -> Result<Option<Vec<usize>>, AllocError>
+    requires history { IsHistory calls.now }
+    requires stays { AreStays calls.now stays.now }
+    requires inside { empty < length calls.now }
+    requires found { does calls.now empty ≡ Finds_none }
+    ensures { IfOk result (λ found. MatchOption found (FoundNotEmpty calls.now empty → ⊥) (λ puts. IsNotEmpty calls.now empty puts.items)) }
+{
+    let mut puts = Vec::new(alloc);
+    let mut n = empty;
+    while reaches(calls, empty, n) {
+        let stay = stays[n];
+        if stay.gone <= n {
+            return Ok(None);
+        }
+        puts.push(stay.put)?;
+        n = stay.gone;
+    }
+    Ok(Some(puts))
+}
+
+/// The first call that was answered Empty while there were items.
+fn not_empty(
+    alloc: Global,
+    calls: &[Call],
+    stays: &[Stay],
+) -> Result<Option<(usize, Vec<usize>)>, AllocError>
+    requires history { IsHistory calls.now }
+    requires stays { AreStays calls.now stays.now }
+    ensures { IfOk result (λ found. MatchOption found (Never (FoundNotEmpty calls.now))
+        (λ e. IsNotEmpty calls.now e.0 e.1.items × NeverBefore (FoundNotEmpty calls.now) e.0)) }
+{
+    for n in 0..calls.len() {
+        if let Deed::FoundNone = deed_of(&calls[n]) {
+            if let Some(puts) = cover(alloc, calls, stays, n)? {
+                return Ok(Some((n, puts)));
+            }
+        }
+    }
+    Ok(None)
+}
+
+/// Whether an item is certainly there from a call on until after another.
+fn outlasts(presence: &Presence, put: usize, after: usize) -> bool
+    ensures { result ≡ outlast put after presence.now }
+{
+    presence.start <= put && after <= presence.gone
+}
+
+/// For each call the call itself: no later one is known from which on all items are gone.
+pub(crate) fn no_skips(alloc: Global, count: usize) -> Result<Vec<usize>, AllocError>
+    requires { count < 2 ^ 63 }
+    ensures { IfOk result (λ v. (length v.items ≡ count + 1) × ((i : ℕ) → i < count + 1 → slice_index_or v.items i 0 ≡ i)) }
+{
+    let mut skips = Vec::new(alloc);
+    for n in 0..count + 1 {
+        skips.push(n)?;
+    }
+    Ok(skips)
+}
+
+/// How many items are certainly there from call `put` on and got by no call below `after`, or `limit` if they are no fewer.
+/// Items that are gone at call n are passed over from then on.
+fn count_older(
+    presences: &[Presence],
+    skips: &mut Vec<usize>,
+    n: usize,
+    put: usize,
+    after: usize,
+    limit: usize,
+) -> usize
+    requires skips { AreSkips presences.now n skips.old.items }
+    requires later { n < after }
+    requires inside { put ≤ length presences.now }
+    ensures counted { IsCountedTo limit (count_below (lasts_at presences.now put after) put) result }
+    ensures skips { AreSkips presences.now n skips.new.items }
+{
+    let mut count = 0;
+    let mut p = 0;
+    while p < put && count < limit {
+        let next = skips[p];
+        if next >= put {
+            return count;
+        }
+        let presence = presences[next];
+        if presence.gone <= n {
+            let rest = skips[next + 1];
+            skips[p] = rest;
+        } else {
+            if outlasts(&presence, put, after) {
+                count += 1;
+            }
+            p = next + 1;
+        }
+    }
+    count
+}
+
+/// The puts of the first k of them.
+fn first_older(
+    alloc: Global,
+    presences: &[Presence],
+    put: usize,
+    after: usize,
+    k: usize,
+) -> Result<Vec<usize>, AllocError>
+    requires { put ≤ length presences.now }
+    ensures { IfOk result (λ v. AreFirst (lasts_at presences.now put after) k put v.items) }
+{
+    let mut puts = Vec::new(alloc);
+    for p in 0..put {
+        if puts.len() < k && outlasts(&presences[p], put, after) {
+            puts.push(p)?;
+        }
+    }
+    Ok(puts)
+}
+
+/// The put of the item that a call got, where the item is single.
+fn single_put(calls: &[Call], items: &Items, n: usize) -> Option<usize>
+    requires inside { n < length calls.now }
+    requires items { IsIndexed calls.now items.now }
+    ensures { MatchOption result ((x p : ℕ) → IsSingle calls.now x p → Gets calls.now x n → ⊥) (λ p. (x : ℕ) × IsSingle calls.now x p × Gets calls.now x n × (p < length calls.now)) }
+{
+    let Deed::TookOut(item) = deed_of(&calls[n]) else {
+        return None;
+    };
+    let put = tally_of(&items.puts, item);
+    if put.count == 1 && tally_of(&items.gets, item).count == 1 {
+        Some(put.last)
+    } else {
+        None
+    }
+}
+
+/// How many items are certainly older and there at a call, where it got a single item.
+pub(crate) fn older_at(
+    calls: &[Call],
+    items: &Items,
+    skips: &mut Vec<usize>,
+    n: usize,
+) -> Option<usize>
+    requires history { IsHistory calls.now }
+    requires inside { n < length calls.now }
+    requires items { IsIndexed calls.now items.now }
+    requires skips { AreSkips items.now.presences.items n skips.old.items }
+    ensures older { MatchOption result ((m : ℕ) → GotTooYoung m calls.now n → ⊥) (λ older. GotTooYoung older calls.now n × ((m : ℕ) → GotTooYoung m calls.now n → m ≤ older) × (older < length calls.now)) }
+    ensures skips { AreSkips items.now.presences.items n skips.new.items }
+{
+    let Some(put) = single_put(calls, items, n) else {
+        return None;
+    };
+    let after = first_after(calls, &calls[n]);
+    let limit = calls.len();
+    Some(count_older(&items.presences, skips, n, put, after, limit))
+}
+
+/// The puts of k of them.
+fn too_young_at(
+    alloc: Global,
+    calls: &[Call],
+    items: &Items,
+    skips: &mut Vec<usize>,
+    n: usize,
+    k: usize,
+) -> Result<Option<Vec<usize>>, AllocError>
+    requires history { IsHistory calls.now }
+    requires inside { n < length calls.now }
+    requires items { IsIndexed calls.now items.now }
+    requires skips { AreSkips items.now.presences.items n skips.old.items }
+    ensures young { IfOk result (λ found. MatchOption found (GotTooYoung k calls.now n → ⊥) (λ puts. IsTooYoung k calls.now n puts.items)) }
+    ensures skips { AreSkips items.now.presences.items n skips.new.items }
+{
+    let Some(put) = single_put(calls, items, n) else {
+        return Ok(None);
+    };
+    let after = first_after(calls, &calls[n]);
+    if count_older(&items.presences, skips, n, put, after, k) < k {
+        return Ok(None);
+    }
+    Ok(Some(first_older(alloc, &items.presences, put, after, k)?))
+}
+
+/// The first call that got a single item while k older ones were there.
+fn too_young(
+    alloc: Global,
+    calls: &[Call],
+    items: &Items,
+    k: usize,
+) -> Result<Option<(usize, Vec<usize>)>, AllocError>
+    requires history { IsHistory calls.now }
+    requires items { IsIndexed calls.now items.now }
+    ensures { IfOk result (λ found. MatchOption found (Never (GotTooYoung k calls.now))
+        (λ e. IsTooYoung k calls.now e.0 e.1.items × NeverBefore (GotTooYoung k calls.now) e.0)) }
+{
+    let mut skips = no_skips(alloc, items.presences.len())?;
+    for n in 0..calls.len() {
+        if let Some(puts) = too_young_at(alloc, calls, items, &mut skips, n, k)? {
+            return Ok(Some((n, puts)));
+        }
+    }
+    Ok(None)
+}
+
+/// The evidence among the calls of a history.
+fn evidence_among(alloc: Global, calls: &[Call], k: usize) -> Result<Option<Evidence>, AllocError>
+    requires { IsHistory calls.now }
+    ensures { IfOk result (λ found. MatchOption found (HasNoEvidence k calls.now) (IsFirstEvidence k calls.now)) }
+{
+    let items = Items::of(alloc, calls)?;
+    if let Some(get) = never_put(calls, &items.puts) {
+        return Ok(Some(Evidence::NeverPut(get)));
+    }
+    if let Some(get) = taken_twice(calls, &items.puts, &items.gets) {
+        return Ok(Some(Evidence::TakenTwice(get)));
+    }
+    let stays = longest_stays(alloc, calls, &items.presences)?;
+    if let Some((empty, puts)) = not_empty(alloc, calls, &stays)? {
+        return Ok(Some(Evidence::NotEmpty { empty, puts }));
+    }
+    if let Some((get, puts)) = too_young(alloc, calls, &items, k)? {
+        return Ok(Some(Evidence::TooYoung { get, puts }));
+    }
+    Ok(None)
+}
+
+/// The evidence that a history has no legal order for a queue that may give any of its k oldest items: of the kinds that
+/// are there the first, and of that kind the one with the least call. None exactly where there is none of the four.
+pub fn evidence(alloc: Global, history: &History, k: u32) -> Result<Option<Evidence>, AllocError>
+    requires { (1 ≤ k) × (k ≤ 64) }
+    ensures first { IfOk result (λ found. MatchOption found (HasNoEvidence k history.now) (IsFirstEvidence k history.now)) }
+    ensures refutes { IfOk result (λ found. OnSome found (HasOrder k history.now → ⊥)) }
+{
+    evidence_among(alloc, history.calls(), k as usize)
+}

@@ -1,0 +1,67 @@
+//! Verdicts, and bounds of k.
+ghost use Rattle.std.specs.Prelude.{◌≤◌, IfOk};
+ghost use Rattle.kfifo_model.specs.Validity.{IsHistory};
+ghost use Rattle.kfifo_verdict.specs.Judging.{IsJudgement, IsLowerBound, AreBounds};
+
+use crate::finding::{evidence, no_skips, older_at};
+use crate::presences::Items;
+use crate::verdicts::{Bounds, Judgement};
+use crate::walking::witness;
+use kfifo_model::{Call, History};
+use std::alloc::{AllocError, Global};
+
+/// A verdict on the history for a queue that may give any of its k oldest items: an order that is legal, found with at
+/// most `tries` choices undone, or evidence that none is, or neither.
+pub fn judge(alloc: Global, history: &History, k: u32, tries: u64) -> Result<Judgement, AllocError>
+    requires { (1 ≤ k) × (k ≤ 64) }
+    ensures { IfOk result (IsJudgement k history.now) }
+{
+    if let Some(found) = evidence(alloc, history, k)? {
+        return Ok(Judgement::NoOrder(found));
+    }
+    match witness(alloc, history, k, tries)? {
+        Some(order) => Ok(Judgement::Legal(order)),
+        None => Ok(Judgement::Undecided),
+    }
+}
+
+/// The least k that the older items at the calls allow.
+fn lower_bound(alloc: Global, calls: &[Call]) -> Result<usize, AllocError>
+    requires { IsHistory calls.now }
+    ensures { IfOk result (IsLowerBound calls.now) }
+{
+    let items = Items::of(alloc, calls)?;
+    let mut skips = no_skips(alloc, items.presences.len())?;
+    let mut most = 0;
+    for n in 0..calls.len() {
+        if let Some(older) = older_at(calls, &items, &mut skips, n) {
+            if most < older {
+                most = older;
+            }
+        }
+    }
+    Ok(most + 1)
+}
+
+/// Between which bounds the least k lies for which the history has a legal order: at least one more than the greatest
+/// number of items that are certainly older and there where a single item is got, and at most the least k from there to
+/// 64 for which `witness` finds an order.
+pub fn least_k(alloc: Global, history: &History, tries: u64) -> Result<Bounds, AllocError>
+    ensures { IfOk result (AreBounds history.now) }
+{
+    let at_least = lower_bound(alloc, history.calls())?;
+    for k in 1..65u32 {
+        if at_least <= k as usize {
+            if let Some(_) = witness(alloc, history, k, tries)? {
+                return Ok(Bounds {
+                    at_least,
+                    at_most: Some(k),
+                });
+            }
+        }
+    }
+    Ok(Bounds {
+        at_least,
+        at_most: None,
+    })
+}

@@ -1,0 +1,94 @@
+//! When the items of puts are certainly there.
+ghost use Rattle.std.specs.Prelude.{ℕ, ◌≡◌, ◌<◌, length, IfOk};
+ghost use Rattle.kfifo_model.specs.Validity.{IsHistory};
+ghost use Rattle.kfifo_verdict.specs.Finding.{ArePuts, AreGets, IsPresence, ArePresences, IsIndexed};
+
+use crate::deeds::{Deed, Side, deed_of, first_after};
+use crate::tallies::{Tallies, tallies, tally_of};
+use kfifo_model::Call;
+use std::alloc::{AllocError, Global};
+
+/// The calls that begin while the item of a put is certainly there: from number `start` on, below number `gone`.
+#[derive(Clone, Copy, Debug, PartialEq, Eq)]
+pub(crate) struct Presence {
+    /// The first call that the put precedes, or the number of calls.
+    pub start: usize,
+    /// The call that gets the item, or the number of calls.
+    pub gone: usize,
+}
+
+/// The calls of a history by their items.
+#[derive(Drop)]
+pub(crate) struct Items {
+    /// Those that put each item.
+    pub puts: Tallies,
+    /// Those that got it.
+    pub gets: Tallies,
+    /// For each call, when the single item that it put is certainly there, or never.
+    pub presences: Vec<Presence>,
+}
+
+/// When the item of a call is certainly there, if it is a single item's put, or never.
+fn presence_of(calls: &[Call], puts: &Tallies, gets: &Tallies, p: usize) -> Presence
+    requires history { IsHistory calls.now }
+    requires inside { p < length calls.now }
+    requires puts { ArePuts calls.now puts.now }
+    requires gets { AreGets calls.now gets.now }
+    ensures { IsPresence calls.now p result }
+{
+    let never = Presence {
+        start: calls.len(),
+        gone: 0,
+    };
+    let Deed::PutIn(item) = deed_of(&calls[p]) else {
+        return never;
+    };
+    let got = tally_of(gets, item);
+    if tally_of(puts, item).count != 1 || got.count > 1 {
+        return never;
+    }
+    Presence {
+        start: first_after(calls, &calls[p]),
+        gone: if got.count == 0 {
+            calls.len()
+        } else {
+            got.last
+        },
+    }
+}
+
+/// When the item of each call is certainly there.
+fn presences(
+    alloc: Global,
+    calls: &[Call],
+    puts: &Tallies,
+    gets: &Tallies,
+) -> Result<Vec<Presence>, AllocError>
+    requires history { IsHistory calls.now }
+    requires puts { ArePuts calls.now puts.now }
+    requires gets { AreGets calls.now gets.now }
+    ensures { IfOk result (λ v. ArePresences calls.now (length calls.now) v.items) }
+{
+    let mut found = Vec::with_capacity(alloc, calls.len())?;
+    for p in 0..calls.len() {
+        found.push(presence_of(calls, puts, gets, p))?;
+    }
+    Ok(found)
+}
+
+impl Items {
+    /// The calls of a history, by their items.
+    pub(crate) fn of(alloc: Global, calls: &[Call]) -> Result<Items, AllocError>
+        requires { IsHistory calls.now }
+        ensures { IfOk result (IsIndexed calls.now) }
+    {
+        let puts = tallies(alloc, calls, Side::In)?;
+        let gets = tallies(alloc, calls, Side::Out)?;
+        let presences = presences(alloc, calls, &puts, &gets)?;
+        Ok(Items {
+            puts,
+            gets,
+            presences,
+        })
+    }
+}

@@ -1,0 +1,44 @@
+//! What can be said of a history.
+
+/// A few calls because of which a history has no legal order. Calls are named by their numbers.
+#[derive(Debug, PartialEq, Eq, Drop)]
+pub enum Evidence {
+    /// 1: this call got an item that no call before its end put.
+    NeverPut(usize),
+    /// 2: this call, the last that got its item, got one that was taken more often than put.
+    TakenTwice(usize),
+    /// 3: this call was answered Empty while there were items.
+    NotEmpty {
+        /// The call.
+        empty: usize,
+        /// The puts of items that cover it, in the order in which they do.
+        puts: Vec<usize>,
+    },
+    /// 4: this call got an item while k older ones were there.
+    TooYoung {
+        /// The call.
+        get: usize,
+        /// The puts of k of them, by rising number.
+        puts: Vec<usize>,
+    },
+}
+
+/// A verdict on a history for one k.
+#[derive(Debug, PartialEq, Eq, Drop)]
+pub enum Judgement {
+    /// This order of the calls is legal.
+    Legal(Vec<usize>),
+    /// No order is legal, because of this.
+    NoOrder(Evidence),
+    /// There is none of the four kinds of evidence, and no order was found.
+    Undecided,
+}
+
+/// Between which bounds the least k lies for which a history has a legal order, if it has one for some k.
+#[derive(Clone, Copy, Debug, PartialEq, Eq)]
+pub struct Bounds {
+    /// The least k is no less, from 1.
+    pub at_least: usize,
+    /// The least k is no greater, from 1 to 64; none where no order was found.
+    pub at_most: Option<u32>,
+}
