@@ -6,7 +6,9 @@ mod commands;
 mod ending;
 mod fault;
 mod options;
+mod picks;
 mod printing;
+mod recording;
 mod report;
 mod sizes;
 mod start;
@@ -15,7 +17,7 @@ mod words;
 
 pub use ending::{Notice, carry_out, end_with_fault, end_with_text};
 pub use fault::Fault;
-pub use options::{CheckOptions, Request, RunOptions};
+pub use options::{CheckOptions, ReplayOptions, Request, RunOptions};
 pub use printing::Printer;
 pub use sizes::Sizes;
 pub use start::{Program, start as start_program};
