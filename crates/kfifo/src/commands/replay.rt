@@ -95,17 +95,19 @@ docs/PROGRAM.md and docs/REPLAY.md, where this program comes from, say more.";
 pub fn command<'a>(alloc: Global) -> Result<Command<'a>, AllocError>
     ensures { IfOk result (IsCommand replay_command) }
 {
-    let picks = options::option(alloc, PICKS)
-        .value_name("PICKS")
-        .help("Whose turn it is: <THREAD> or <THREAD>x<COUNT>, joined by commas [default: none]");
+    let picks = options::option(alloc, PICKS).value_name("PICKS").help(
+        "Whose turn it is: <THREAD> or <THREAD>x<COUNT>, joined by commas [default: none]",
+    );
     let stop = options::option(alloc, STOP)
         .value_name("THREAD")
         .value_parser(value_parser!(u32).range(0..=63))
         .help("Behind the picks, let each other thread go to the end of its script");
-    let points = options::flag(alloc, POINTS)
-        .help("Print the step at which each call takes its place in the order, too");
-    let record = options::flag(alloc, RECORD)
-        .help("Print the record of the calls, for `check` and `measure`, in place of the report");
+    let points = options::flag(alloc, POINTS).help(
+        "Print the step at which each call takes its place in the order, too",
+    );
+    let record = options::flag(alloc, RECORD).help(
+        "Print the record of the calls, for `check` and `measure`, in place of the report",
+    );
     let scripts = Arg::new(alloc, WORDS)
         .value_name("SCRIPT")
         .action(ArgAction::Append)
@@ -129,10 +131,12 @@ pub fn command<'a>(alloc: Global) -> Result<Command<'a>, AllocError>
 pub fn options_of<'a>(matches: &'a ArgMatches<'_>) -> ReplayOptions<'a>
     ensures { GivesReplay (found_of matches.now) result }
 {
+    let given: Option<&'a str> = matches.get_str(PICKS);
+    let picks: &'a str = given.unwrap_or("none");
     ReplayOptions {
         sizes: options::sizes_of(matches),
         turns: options::turns_of(matches),
-        picks: matches.get_str(PICKS).unwrap_or("none"),
+        picks,
         stopped: matches.get_one(STOP),
         points: matches.get_flag(POINTS),
         record: matches.get_flag(RECORD),

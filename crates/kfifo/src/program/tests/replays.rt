@@ -23,7 +23,10 @@ fn prints_reports(rt: HostRuntime) -> Result<(), Fail> {
             "replay --turns 1 --picks 0x6,1x7,0x2 e5:0 e6:1",
             "steps 15\norder 1,0\nworst rank 0\nrollbacks 1\n",
         ),
-        ("replay d", "steps 0\norder none\nworst rank 0\nrollbacks 0\n"),
+        (
+            "replay d",
+            "steps 0\norder none\nworst rank 0\nrollbacks 0\n",
+        ),
         (
             "replay -k 1 --picks 0,1,01x0002,0x2 d d",
             "steps 6\norder 1,0\nworst rank 0\nrollbacks 0\n",
@@ -46,6 +49,10 @@ fn stops_a_thread(rt: HostRuntime) -> Result<(), Fail> {
             "steps 6\norder 1\nworst rank 0\nrollbacks 0\ncompleted 0\n",
         ),
         (
+            "replay --turns 1 --stop 0 --picks 1x7,0x3,2x6,1x4,0,2x3,1x5,2 e5 e6:1,d,d d,d",
+            "steps 30\norder 0,1,2,3,4,5\nworst rank 0\nrollbacks 0\ncompleted 1\n",
+        ),
+        (
             "replay -k 1 --turns 1 --picks 0x4,1x2 --stop 0 --points e5 d",
             "steps 9\norder 0,1\npoints 7,8\nworst rank 0\nrollbacks 0\ncompleted 1\n",
         ),
@@ -61,6 +68,10 @@ fn prints_points(rt: HostRuntime) -> Result<(), Fail> {
         (
             "replay --points --picks 1x7,0x3,2x15,0x11 e5 e6:1 d,d",
             "steps 36\norder 0,2,3,1\npoints 6,15,24,35\nworst rank 0\nrollbacks 1\n",
+        ),
+        (
+            "replay --turns 1 --points --picks 1x7,0x3,2x6,1x4,0,2x3,1x5,2,0 e5 e6:1,d,d d,d",
+            "steps 31\norder 0,1,2,3,4,5\npoints 6,14,15,24,24,28\nworst rank 0\nrollbacks 0\n",
         ),
         (
             "replay --points d",
@@ -127,14 +138,32 @@ fn records_are_measured(rt: HostRuntime) -> Result<(), Fail> {
 #[test]
 fn names_a_refused_pick(rt: HostRuntime) -> Result<(), Fail> {
     for (line, faults) in [
-        ("replay --k 1 --turns 1 --picks 0x10 e7", "kfifo: replay fault 1 at 7\n"),
+        (
+            "replay --k 1 --turns 1 --picks 0x10 e7",
+            "kfifo: replay fault 1 at 7\n",
+        ),
         ("replay --picks 0,2 e1", "kfifo: replay fault 1 at 1\n"),
-        ("replay --picks 0x3,1x3,0 -k 1 d d", "kfifo: replay fault 1 at 6\n"),
-        ("replay --picks 0x2,1x2,64x5 d d", "kfifo: replay fault 1 at 4\n"),
-        ("replay --picks 4294967295 d", "kfifo: replay fault 1 at 0\n"),
+        (
+            "replay --picks 0x3,1x3,0 -k 1 d d",
+            "kfifo: replay fault 1 at 6\n",
+        ),
+        (
+            "replay --picks 0x2,1x2,64x5 d d",
+            "kfifo: replay fault 1 at 4\n",
+        ),
+        (
+            "replay --picks 4294967295 d",
+            "kfifo: replay fault 1 at 0\n",
+        ),
         // A pick is refused before the thread to be stopped.
-        ("replay --picks 2 --stop 2 d d", "kfifo: replay fault 1 at 0\n"),
-        ("replay --picks none --stop 2 d d", "kfifo: replay fault 3\n"),
+        (
+            "replay --picks 2 --stop 2 d d",
+            "kfifo: replay fault 1 at 0\n",
+        ),
+        (
+            "replay --picks none --stop 2 d d",
+            "kfifo: replay fault 3\n",
+        ),
         ("replay --stop 63 d d", "kfifo: replay fault 3\n"),
     ] {
         assert!(rt; run_line(&rt, line)?.is(1, "", faults), "{line}");
@@ -163,7 +192,10 @@ fn refuses_picks(rt: HostRuntime) -> Result<(), Fail> {
         "0x4294967295,0x4294967295",
     ] {
         let line = format!(in rt.alloc(); "replay --picks={picks} d")?;
-        assert!(rt; run_line(&rt, line.as_str())?.is(1, "", "kfifo: picks fault\n"), "{picks}");
+        assert!(rt;
+            run_line(&rt, line.as_str())?.is(1, "", "kfifo: picks fault\n"),
+            "{picks}"
+        );
     }
     Ok(())
 }
