@@ -26,47 +26,33 @@ use Rattle.kfifo_commands.specs.RecordTexts.{call_value, record_value}
 
 -- ---- the text has no float and is not deep
 
-no_float_call : (c : Call) → has_float (call_value c) ≡ false
-no_float_call c = cases c.op c.end
+abbrev IsPlain : Data → Type 0
+IsPlain d = (has_float d ≡ false) × (depth d ≡ 1)
+
+plain_call : (c : Call) → IsPlain (call_value c)
+plain_call c = cases c.op c.end
   where
-    cases : (op : Op) (end : Option End) → has_float (call_value (record { thread = c.thread; op = op; first = c.first; end = end })) ≡ false
-    cases (O.Enqueue item) None = refl
-    cases (O.Enqueue item) (Some end) = refl
-    cases O.Dequeue None = refl
+    answers : (last : ℕ) (answer : Answer) → IsPlain (call_value (record { thread = c.thread; op = O.Dequeue; first = c.first; end = Some (record { last = last; answer = answer }) }))
+    answers last A.Done = (refl, refl)
+    answers last A.Full = (refl, refl)
+    answers last (A.Got item) = (refl, refl)
+    answers last A.Empty = (refl, refl)
+    answers last A.Busy = (refl, refl)
+    answers last A.Worn = (refl, refl)
+
+    cases : (op : Op) (end : Option End) → IsPlain (call_value (record { thread = c.thread; op = op; first = c.first; end = end }))
+    cases (O.Enqueue item) None = (refl, refl)
+    cases (O.Enqueue item) (Some end) = (refl, refl)
+    cases O.Dequeue None = (refl, refl)
     cases O.Dequeue (Some end) = answers end.last end.answer
-      where
-        answers : (last : ℕ) (answer : Answer) → has_float (call_value (record { thread = c.thread; op = O.Dequeue; first = c.first; end = Some (record { last = last; answer = answer }) })) ≡ false
-        answers last A.Done = refl
-        answers last A.Full = refl
-        answers last (A.Got item) = refl
-        answers last A.Empty = refl
-        answers last A.Busy = refl
-        answers last A.Worn = refl
 
 pub no_float : (calls : List Call) → items_have_float (items_of (map call_value calls)) ≡ false
 no_float [] = refl
-no_float (c ∷ calls) = rw (no_float_call c) (no_float calls)
-
-depth_call : (c : Call) → depth (call_value c) ≡ 1
-depth_call c = cases c.op c.end
-  where
-    cases : (op : Op) (end : Option End) → depth (call_value (record { thread = c.thread; op = op; first = c.first; end = end })) ≡ 1
-    cases (O.Enqueue item) None = refl
-    cases (O.Enqueue item) (Some end) = refl
-    cases O.Dequeue None = refl
-    cases O.Dequeue (Some end) = answers end.last end.answer
-      where
-        answers : (last : ℕ) (answer : Answer) → depth (call_value (record { thread = c.thread; op = O.Dequeue; first = c.first; end = Some (record { last = last; answer = answer }) })) ≡ 1
-        answers last A.Done = refl
-        answers last A.Full = refl
-        answers last (A.Got item) = refl
-        answers last A.Empty = refl
-        answers last A.Busy = refl
-        answers last A.Worn = refl
+no_float (c ∷ calls) = rw ((plain_call c).0) (no_float calls)
 
 pub few_levels : (calls : List Call) → items_depth (items_of (map call_value calls)) ≤ 1
 few_levels [] = omega arith
-few_levels (c ∷ calls) = let here = depth_call c in let rest = few_levels calls in omega (arith, here, rest)
+few_levels (c ∷ calls) = let here = (plain_call c).1 in let rest = few_levels calls in omega (arith, here, rest)
 
 -- ---- what an object says
 

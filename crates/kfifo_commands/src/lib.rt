@@ -19,6 +19,7 @@ pub use ending::{Notice, carry_out, end_with_fault, end_with_text};
 pub use fault::Fault;
 pub use options::{CheckOptions, ReplayOptions, Request, RunOptions};
 pub use printing::Printer;
+pub use recording::record_text;
 pub use sizes::Sizes;
 pub use start::{Program, start as start_program};
 pub use status::Status;
