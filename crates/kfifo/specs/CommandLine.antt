@@ -4,7 +4,7 @@ use Rattle.clap.specs.Lexer.{usize_max}
 use Rattle.clap.specs.Faults.{fault_of}
 use Rattle.clap.specs.Kinds.{Kinds}
 use Rattle.clap.specs.Words.{App, Row, Rule, Text, app_of, new_app, new_rule, with_rule, with_subcommand, rows_of, subcommand_of}
-use Rattle.clap.specs.declared.builder.action.ArgAction.TheVariants.{Set, Append}
+use Rattle.clap.specs.declared.builder.action.ArgAction.TheVariants.{Set, Append, SetTrue}
 use Rattle.clap.specs.declared.builder.command.Command.{Command}
 use Rattle.clap.specs.declared.builder.command.Command.TheViews.{out-Command as fields_of}
 use Rattle.clap.specs.declared.builder.value_parser.ValueParser.{ValueParser}
@@ -15,7 +15,11 @@ use Rattle.clap.specs.declared.parser.matches.Found.{Found}
 abbrev pub option : Text → Rule
 option name = record (new_rule name) { long = Some name; action = Some Set }
 
--- the same, where help has a word for the value
+-- the option `--name`, which takes no value
+abbrev pub flag : Text → Rule
+flag name = record (new_rule name) { long = Some name; action = Some SetTrue }
+
+-- the option that takes a value, where help has a word for the value
 abbrev pub text_option : Text → Rule
 text_option name = record (option name) { value_names = 1 }
 
@@ -74,6 +78,15 @@ check_command = with_rule (with_rule (new_app (codes "check"))
 abbrev pub measure_command : App
 measure_command = new_app (codes "measure")
 
+-- the command `replay`
+abbrev pub replay_command : App
+replay_command = with_rule (with_rule (with_rule (with_rule (with_rule (with_turns (with_sizes (new_app (codes "replay"))))
+    (text_option (codes "picks")))
+    (number_option (codes "stop") (small_numbers 0 63)))
+    (flag (codes "points")))
+    (flag (codes "record")))
+    script
+
 -- the program before its commands: its words begin with the first argument, and one has to be a command, or ask for the version
 abbrev pub bare_program : App
 bare_program = record {
@@ -88,7 +101,7 @@ bare_program = record {
 
 -- the program with its commands
 abbrev pub kfifo : App
-kfifo = with_subcommand (with_subcommand (with_subcommand bare_program run_command.top) check_command.top) measure_command.top
+kfifo = with_subcommand (with_subcommand (with_subcommand (with_subcommand bare_program run_command.top) check_command.top) measure_command.top) replay_command.top
 
 -- the command that was named is this one, and its options have these entries
 abbrev pub Names : Option (Text × List Row) → Text → Found → Type 0
@@ -97,6 +110,7 @@ Names command name found = command ≡ Some (name, rows_of found)
 -- none of the commands was named
 abbrev pub NamesNone : Option (Text × List Row) → Type 0
 NamesNone command = (found : Found) → ¬ (Names command (codes "run") found) × ¬ (Names command (codes "check") found) × ¬ (Names command (codes "measure") found)
+    × ¬ (Names command (codes "replay") found)
 
 -- a parse reads this of the command, and no argument of it is global
 abbrev pub IsCommand : App → Command → Type 0

@@ -1,9 +1,10 @@
 -- What the options of a command give.
-use Rattle.std.specs.Prelude.{◌≡◌, ℕ, ◌^◌, ◌<◌, ◌≤◌, List, [], length, Option, Some, None, MatchOption, codes, map, max, min, option_map, unwrap_or}
+use Rattle.std.specs.Prelude.{◌≡◌, ℕ, ◌^◌, ◌<◌, ◌≤◌, Bool, true, false, List, [], length, Option, Some, None, MatchOption, codes, map, max, min, option_map, unwrap_or}
 use Rattle.std.specs.Str.Parse.{digits_value}
 use Rattle.clap.specs.declared.parser.matches.Found.{Found}
 use Rattle.clap.specs.Words.{first_value, matched_of, one_text, raw_values}
 use Rattle.kfifo_commands.specs.declared.options.CheckOptions.{CheckOptions}
+use Rattle.kfifo_commands.specs.declared.options.ReplayOptions.{ReplayOptions}
 use Rattle.kfifo_commands.specs.declared.options.RunOptions.{RunOptions}
 use Rattle.kfifo_commands.specs.declared.sizes.Sizes.{Sizes}
 use Rattle.kfifo_commands.specs.Words.{IsDigits}
@@ -39,6 +40,20 @@ pub record GivesRun (found : Found) (options : RunOptions) : Type 0 where
   pub sizes : GivesSizes found options.sizes
   pub turns : GivesTurns found options.turns
   pub words : map (λ word. word.now) options.words.now ≡ given_words found
+
+-- a flag is on where the command line has it
+abbrev pub GivesFlag : Option (List ℕ) → Bool → Type 0
+GivesFlag text flag = (text ≡ None → flag ≡ false) × (text ≡ Some (codes "true") → flag ≡ true) × (text ≡ Some (codes "false") → flag ≡ false)
+
+-- the options of `replay`
+pub record GivesReplay (found : Found) (options : ReplayOptions) : Type 0 where
+  pub sizes : GivesSizes found options.sizes
+  pub turns : GivesTurns found options.turns
+  pub picks : options.picks.now ≡ unwrap_or (first_value found (codes "picks")) (codes "none")
+  pub stopped : GivesNumber 32 (one_text found (codes "stop")) options.stopped
+  pub points : GivesFlag (one_text found (codes "points")) options.points
+  pub recorded : GivesFlag (one_text found (codes "record")) options.record
+  pub scripts : map (λ script. script.now) options.scripts.now ≡ given_words found
 
 -- the option `--k` of `check`, from 1 to 64
 abbrev pub GivesPlaces : Found → ℕ → Type 0

@@ -8,16 +8,17 @@ use Rattle.clap.specs.declared.parser.matches.Found.{Found}
 use Rattle.kfifo_commands.specs.declared.fault.Fault.{Fault}
 use Rattle.kfifo_commands.specs.declared.fault.Fault.TheVariants.{Memory}
 use Rattle.kfifo_commands.specs.declared.options.Request.{Request}
-use Rattle.kfifo_commands.specs.declared.options.Request.TheVariants.{Run, Check, Measure}
+use Rattle.kfifo_commands.specs.declared.options.Request.TheVariants.{Run, Check, Measure, Replay}
 use Rattle.kfifo_commands.specs.Endings.{IsAnswered, IsRefused, Nothing, Tells, Written}
 use Rattle.kfifo.specs.CommandLine.{Names, NamesNone, kinds, named}
-use Rattle.kfifo.specs.Options.{GivesCheck, GivesRun}
+use Rattle.kfifo.specs.Options.{GivesCheck, GivesReplay, GivesRun}
 
 -- the command that was named, with what its options were given, makes this request
 abbrev pub Requests : Option (Text × List Row) → Request → Type 0
 Requests command (Run options) = (found : Found) × Names command (codes "run") found × GivesRun found options
 Requests command (Check options) = (found : Found) × Names command (codes "check") found × GivesCheck found options
 Requests command Measure = (found : Found) × Names command (codes "measure") found
+Requests command (Replay options) = (found : Found) × Names command (codes "replay") found × GivesReplay found options
 
 -- the words have no fault and make this request
 abbrev pub MakeRequest : List Text → Request → Type 0

@@ -2,4 +2,5 @@
 
 pub mod check;
 pub mod measure;
+pub mod replay;
 pub mod run;

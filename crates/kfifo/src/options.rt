@@ -95,6 +95,14 @@ pub fn turns_of(matches: &ArgMatches<'_>) -> u16
     matches.get_one(TURNS).unwrap_or(DEFAULT_TURNS).max(1)
 }
 
+/// The option `--name`, which takes no value.
+pub fn flag<'a>(alloc: Global, name: &'a str) -> Arg<'a>
+    ensures rule { rule_of result ≡ line.flag name.entry.now }
+    ensures own { result.global ≡ false }
+{
+    Arg::new(alloc, name).long(name).action(ArgAction::SetTrue)
+}
+
 /// The option `--name`, which takes a value.
 pub fn option<'a>(alloc: Global, name: &'a str) -> Arg<'a>
     ensures rule { rule_of result ≡ line.option name.entry.now }

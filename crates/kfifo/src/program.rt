@@ -8,7 +8,7 @@ ghost use Rattle.kfifo_commands.specs.Endings.{Ends, Tells};
 ghost use Rattle.kfifo_commands.specs.Printing.{OnPrinter, OnWriter};
 ghost use Rattle.kfifo_commands.specs.Statuses.{status_number};
 
-use crate::commands::{check, measure, run};
+use crate::commands::{check, measure, replay, run};
 use clap::error::ErrorKind;
 use clap::{ArgMatches, Command, Error};
 use kfifo_commands::{
@@ -28,6 +28,8 @@ Examples:
   kfifo run e7 e8 d   puts 7 and 8 into a queue, takes one, and prints the words of the queue
   kfifo check < record.json
                       says whether a recorded run of a queue has a legal order
+  kfifo replay --picks 0x6,1x7,0x2 --turns 1 e5 e6:1
+                      runs two threads step by step in this order
   kfifo run --help    says how a script is written, and what its options and faults are
 
 Exit status: 0 for an answer; 1 for a fault of the data, a size, the memory, reading or writing; 2 for
@@ -118,6 +120,9 @@ fn request_of<'a>(matches: &'a ArgMatches<'_>) -> Option<Request<'a>>
     if let Some(_) = matches.subcommand_matches(measure::NAME) {
         return Some(Request::Measure);
     }
+    if let Some(options) = matches.subcommand_matches(replay::NAME) {
+        return Some(Request::Replay(replay::options_of(options)));
+    }
     None
 }
 
@@ -145,7 +150,8 @@ fn command<'a>(alloc: Global) -> Result<Command<'a>, AllocError>
         .arg_required_else_help(true)
         .subcommand(run::command(alloc)?)?
         .subcommand(check::command(alloc)?)?
-        .subcommand(measure::command(alloc)?)
+        .subcommand(measure::command(alloc)?)?
+        .subcommand(replay::command(alloc)?)
 }
 
 #[cfg(test)]

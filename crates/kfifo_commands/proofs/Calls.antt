@@ -1,71 +1,36 @@
 -- Where a word is cut: at its first colon, and nowhere else.
-use Rattle.std.proofs.Common.{◌≡◌, ◌≢◌, ℕ, ◌<◌, ◌≤◌, zero, suc, List, [], ◌∷◌, ◌++◌, get_or, EachIndex, inl, inr, arith, refl, sym, ◌∙◌, ◌⊎◌, subst}
+use Rattle.std.proofs.Common.{◌≡◌, ◌≢◌, ℕ, ◌<◌, ◌≤◌, List, [], ◌∷◌, inl, inr, arith, refl, sym, ◌∙◌, subst}
 use Rattle.std.proofs.lemmas.Str.Parse.{not_in_digits}
 use Rattle.kfifo_machine.specs.declared.event.Begin.{Begin}
 use Rattle.kfifo_machine.specs.declared.event.Begin.TheVariants.{Enqueue, Dequeue, Tick}
 use Rattle.kfifo_commands.specs.Words.{Cuts, WritesNumber, WritesStart, WritesEnqueue, WritesDequeue, WritesCall}
+use Rattle.kfifo_commands.proofs.FirstCut.{IsPlain, IsRest, cut_once, plain_cons}
 use Rattle.kfifo_commands.proofs.Numbers.{own}
 
--- no byte is a colon
-abbrev pub IsPlain : List ℕ → Type 0
-IsPlain name = EachIndex name (λ i. get_or name i 0 ≢ 58)
-
--- nothing, or a colon and more
-abbrev pub IsRest : List ℕ → Type 0
-IsRest rest = (rest ≡ []) ⊎ ((more : List ℕ) × (rest ≡ 58 ∷ more))
-
-rest_of_start : (rest : List ℕ) (start : ℕ) → WritesStart rest start → IsRest rest
+rest_of_start : (rest : List ℕ) (start : ℕ) → WritesStart rest start → IsRest 58 rest
 rest_of_start rest start (inl none) = inl none.0
 rest_of_start rest start (inr some) = inr (some.0, some.1)
-
-plain_cons : (x : ℕ) (xs : List ℕ) → x ≢ 58 → IsPlain xs → IsPlain (x ∷ xs)
-plain_cons x xs here there zero lt = here
-plain_cons x xs here there (suc i) lt = there i (omega arith)
-
-plain_tail : (x : ℕ) (xs : List ℕ) → IsPlain (x ∷ xs) → IsPlain xs
-plain_tail x xs h = λ i lt. h (suc i) (omega arith)
-
-plain_head : (x : ℕ) (xs : List ℕ) → IsPlain (x ∷ xs) → x ≢ 58
-plain_head x xs h = h 0 (omega arith)
 
 heads_differ : (x y : ℕ) (xs ys : List ℕ) → x ≢ y → x ∷ xs ≡ y ∷ ys → ⊥
 heads_differ x y xs ys p e = p (cc)
 
--- a rest begins with no plain byte
-not_rest : (x : ℕ) (xs r : List ℕ) → x ≢ 58 → IsRest r → r ≡ x ∷ xs → ⊥
-not_rest x xs r p (inl none) e = let bad : [] ≡ x ∷ xs = sym none ∙ e in cc
-not_rest x xs r p (inr some) e = let same : 58 ∷ some.0 ≡ x ∷ xs = sym some.1 ∙ e in p (cc)
-
--- a word has one cut
-cut_once : (a r b s : List ℕ) → IsPlain a → IsPlain b → IsRest r → IsRest s → a ++ r ≡ b ++ s → (a ≡ b) × (r ≡ s)
-cut_once [] r [] s pa pb ir is e = (refl, e)
-cut_once [] r (y ∷ b) s pa pb ir is e = absurd (not_rest y (b ++ s) r (plain_head y b pb) ir e)
-cut_once (x ∷ a) r [] s pa pb ir is e = absurd (not_rest x (a ++ r) s (plain_head x a pa) is (sym e))
-cut_once (x ∷ a) r (y ∷ b) s pa pb ir is e =
-    let whole : x ∷ (a ++ r) ≡ y ∷ (b ++ s) = e in
-    let tails : a ++ r ≡ b ++ s = cc in
-    let heads : x ≡ y = cc in
-    let rest = cut_once a r b s (plain_tail x a pa) (plain_tail y b pb) ir is tails in
-    let same : a ≡ b = rest.0 in
-    (cc, rest.1)
-
-digits_plain : (number : List ℕ) (n : ℕ) → WritesNumber number n → IsPlain number
+digits_plain : (number : List ℕ) (n : ℕ) → WritesNumber number n → IsPlain 58 number
 digits_plain number n w = not_in_digits own number 58 w.digits (λ h. omega (arith, h.0, h.1))
 
 enqueue_cut : {k item start : ℕ} {word : List ℕ} (w : WritesEnqueue k word item start) → Cuts word (101 ∷ w.number) w.rest
-enqueue_cut w = record { split = w.split; plain = plain_cons 101 w.number (λ e. omega (arith, e)) (digits_plain w.number _ w.item_written) }
+enqueue_cut w = record { split = w.split; plain = plain_cons 58 101 w.number (λ e. omega (arith, e)) (digits_plain w.number _ w.item_written) }
 
 dequeue_cut : {k start : ℕ} {word : List ℕ} (w : WritesDequeue k word start) → Cuts word (100 ∷ []) w.rest
-dequeue_cut w = record { split = w.split; plain = plain_cons 100 [] (λ e. omega (arith, e)) (λ i lt. omega (arith, lt)) }
+dequeue_cut w = record { split = w.split; plain = plain_cons 58 100 [] (λ e. omega (arith, e)) (λ i lt. omega (arith, lt)) }
 
 -- two cuts of a word are one
 same_cut : (word a r b s : List ℕ) (m n : ℕ) → Cuts word a r → Cuts word b s → WritesStart r m → WritesStart s n → (a ≡ b) × (r ≡ s)
-same_cut word a r b s m n p q wr ws = cut_once a r b s p.plain q.plain (rest_of_start r m wr) (rest_of_start s n ws) (sym p.split ∙ q.split)
+same_cut word a r b s m n p q wr ws = cut_once 58 a r b s p.plain q.plain (rest_of_start r m wr) (rest_of_start s n ws) (sym p.split ∙ q.split)
 
 -- behind the first colon stands no number below k, so the word has no start
 pub no_start : (k : ℕ) (word name number : List ℕ) → Cuts word name (58 ∷ number) → ((n : ℕ) → n < k → WritesNumber number n → ⊥) → (a r : List ℕ) (start : ℕ) → Cuts word a r → start < k → WritesStart r start → ⊥
 no_start k word name number cut none a r start other below written =
-    let rests : r ≡ 58 ∷ number = (cut_once a r name (58 ∷ number) other.plain cut.plain (rest_of_start r start written) (inr (number, refl)) (sym other.split ∙ cut.split)).1 in
+    let rests : r ≡ 58 ∷ number = (cut_once 58 a r name (58 ∷ number) other.plain cut.plain (rest_of_start r start written) (inr (number, refl)) (sym other.split ∙ cut.split)).1 in
     elim written [
       | inl w ↦ let bad : [] ≡ 58 ∷ number = sym w.0 ∙ rests in cc
       | inr w ↦ let same : 58 ∷ w.0 ≡ 58 ∷ number = sym w.1 ∙ rests in

@@ -1,8 +1,14 @@
 pub mod Calls
+pub mod Each
+pub mod Feeding
+pub mod FirstCut
+pub mod Groups
 pub mod Numbers
 pub mod Orders
 pub mod Outcomes
+pub mod Recorded
 pub mod Refusals
+pub mod Replaying
 pub mod Reports
 pub mod Scripts
 pub mod Writings

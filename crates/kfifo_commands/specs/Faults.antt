@@ -7,18 +7,21 @@ use Rattle.kfifo_model.specs.FaultNumbers.{fault_number, fault_call}
 use Rattle.kfifo_model.specs.Searching.{search_fault_number}
 use Rattle.kfifo_judge.specs.declared.record.StreamFault.{StreamFault}
 use Rattle.kfifo_judge.specs.declared.record.StreamFault.TheVariants as streams
+use Rattle.kfifo_replay.specs.declared.fault.ReplayFault.{ReplayFault}
+use Rattle.kfifo_replay.specs.declared.fault.ReplayFault.TheVariants as replays
+use Rattle.kfifo_replay.specs.Faults.{replay_fault_number}
 use Rattle.kfifo_commands.specs.declared.fault.Fault.{Fault}
 use Rattle.kfifo_commands.specs.declared.fault.Fault.TheVariants as faults
 use Rattle.kfifo_commands.specs.Lines.{line}
 
--- a number, with that of a call behind it where there is one
-abbrev pub at_call : ℕ → Option ℕ → List ℕ
-at_call number None = decimal number
-at_call number (Some call) = decimal number ++ codes " at call " ++ decimal call
+-- a number, with a place behind it where there is one, and what stands before that
+abbrev pub number_at : List ℕ → ℕ → Option ℕ → List ℕ
+number_at before number None = decimal number
+number_at before number (Some place) = decimal number ++ before ++ decimal place
 
 -- what is said of a fault of a record
 abbrev pub record_fault_text : RecordFault → List ℕ
-record_fault_text fault = at_call (fault_number fault) (fault_call fault)
+record_fault_text fault = number_at (codes " at call ") (fault_number fault) (fault_call fault)
 
 -- the fault of a command, of that of its stream to memory: a failed write is a refused growth
 abbrev pub stream_fault : StreamFault → Fault
@@ -37,11 +40,23 @@ shape_fault_number SegmentsOutOfRange = 2
 shape_fault_number LastOutOfRange = 3
 shape_fault_number ProbesOutOfRange = 4
 
+-- the place of the pick that is refused
+abbrev pub refused_pick : ReplayFault → Option ℕ
+refused_pick (replays.BadPick place) = Some place
+refused_pick replays.Memory = None
+refused_pick replays.BadScript = None
+
+-- what is said of a fault of a replay
+abbrev pub replay_fault_text : ReplayFault → List ℕ
+replay_fault_text fault = number_at (codes " at ") (replay_fault_number fault) (refused_pick fault)
+
 -- what is said of a fault
 abbrev pub fault_text : Fault → List ℕ
 fault_text (faults.Shape fault) = codes "shape fault " ++ decimal (shape_fault_number fault)
 fault_text (faults.Word number) = codes "word fault at " ++ decimal number
 fault_text faults.Order = codes "order fault"
+fault_text faults.Picks = codes "picks fault"
+fault_text (faults.Replay fault) = codes "replay fault " ++ replay_fault_text fault
 fault_text faults.Input = codes "input"
 fault_text faults.NotJson = codes "not json"
 fault_text (faults.Record fault) = codes "record fault " ++ record_fault_text fault
@@ -59,6 +74,6 @@ abbrev pub number_text : List ℕ → Option ℕ → List ℕ
 number_text before None = []
 number_text before (Some number) = before ++ decimal number
 
--- words, with a number behind them and the number of a call behind that, where there are such
-abbrev pub numbered : List ℕ → Option ℕ → Option ℕ → List ℕ
-numbered words number call = (words ++ number_text [] number) ++ number_text (codes " at call ") call
+-- words, with a number behind them, and behind that a place with what stands before it, where there are such
+abbrev pub numbered : List ℕ → Option ℕ → List ℕ → Option ℕ → List ℕ
+numbered words number before place = (words ++ number_text [] number) ++ number_text before place

@@ -2,9 +2,13 @@ pub mod Endings
 pub mod Faults
 pub mod Lines
 pub mod Orders
+pub mod Picks
 pub mod Printing
+pub mod RecordTexts
 pub mod Records
 pub mod Reports
+pub mod Replays
 pub mod Runs
+pub mod Scripts
 pub mod Statuses
 pub mod Words

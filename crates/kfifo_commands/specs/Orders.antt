@@ -3,14 +3,11 @@ use Rattle.std.specs.Prelude.{◌≡◌, ◌==◌, ◌-◌, ◌≤◌, ℕ, ◌�
 use Rattle.std.specs.Char.{is_ascii_whitespace}
 use Rattle.std.specs.List.{prefix_len, slice_split, suffix_len}
 use Rattle.std.specs.Str.{IsUtf8}
-use Rattle.kfifo_commands.specs.Words.{WritesNumber}
+use Rattle.kfifo_commands.specs.Words.{EachWrites, WritesNumber}
 
 -- each part writes the number in its place
 abbrev pub WriteNumbers : List (List ℕ) → List ℕ → Type 0
-WriteNumbers [] [] = Unit {0}
-WriteNumbers [] (number ∷ numbers) = ⊥
-WriteNumbers (part ∷ parts) [] = ⊥
-WriteNumbers (part ∷ parts) (number ∷ numbers) = WritesNumber part number × WriteNumbers parts numbers
+WriteNumbers parts numbers = EachWrites WritesNumber parts numbers
 
 -- the parts of a text between its commas
 abbrev pub comma_parts : List ℕ → List (List ℕ)

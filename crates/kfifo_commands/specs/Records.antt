@@ -6,7 +6,7 @@ use Rattle.kfifo_judge.specs.Check.{IsChecked, IsCheckFault}
 use Rattle.kfifo_judge.specs.Measure.{IsMeasured, IsMeasuringFault}
 use Rattle.kfifo_judge.specs.Streams.{CountsOne}
 use Rattle.kfifo_commands.specs.declared.fault.Fault.{Fault}
-use Rattle.kfifo_commands.specs.declared.fault.Fault.TheVariants.{Shape, Word, Order, Input, NotJson, Record, Search, RepeatedItem, Memory, Output}
+use Rattle.kfifo_commands.specs.declared.fault.Fault.TheVariants.{Shape, Word, Order, Picks, Replay, Input, NotJson, Record, Search, RepeatedItem, Memory, Output}
 use Rattle.kfifo_commands.specs.declared.options.CheckOptions.{CheckOptions}
 use Rattle.kfifo_commands.specs.Faults.{stream_fault}
 use Rattle.kfifo_commands.specs.Orders.{GivesNoOrder, GivesOrder}
@@ -68,6 +68,8 @@ abbrev pub IsCheckRefusal : CheckOptions → Option (List ℕ) → ℕ → ℕ �
 IsCheckRefusal options input before after (Shape fault) = ⊥
 IsCheckRefusal options input before after (Word number) = ⊥
 IsCheckRefusal options input before after Order = IsOrderFault options
+IsCheckRefusal options input before after Picks = ⊥
+IsCheckRefusal options input before after (Replay fault) = ⊥
 IsCheckRefusal options input before after Input = IsUnread input before after
 IsCheckRefusal options input before after NotJson = IsUnchecked options input streams.NotJson
 IsCheckRefusal options input before after (Record fault) = IsUnchecked options input (streams.Record fault)
@@ -87,6 +89,8 @@ abbrev pub IsMeasureRefusal : Option (List ℕ) → ℕ → ℕ → Fault → Ty
 IsMeasureRefusal input before after (Shape fault) = ⊥
 IsMeasureRefusal input before after (Word number) = ⊥
 IsMeasureRefusal input before after Order = ⊥
+IsMeasureRefusal input before after Picks = ⊥
+IsMeasureRefusal input before after (Replay fault) = ⊥
 IsMeasureRefusal input before after Input = IsUnread input before after
 IsMeasureRefusal input before after NotJson = IsOfInput input IsMeasuringFault streams.NotJson
 IsMeasureRefusal input before after (Record fault) = IsOfInput input IsMeasuringFault (streams.Record fault)

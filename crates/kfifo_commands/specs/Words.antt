@@ -22,6 +22,13 @@ pub record Cuts (word name rest : List ℕ) : Type 0 where
   pub split : word ≡ name ++ rest
   pub plain : EachIndex name (λ i. slice_index name i ≢ 58)
 
+-- each text writes the value in its place
+abbrev pub EachWrites : {B : Type 0} → (List ℕ → B → Type 0) → List (List ℕ) → List B → Type 0
+EachWrites Writes [] [] = Unit {0}
+EachWrites Writes [] (value ∷ values) = ⊥
+EachWrites Writes (text ∷ texts) [] = ⊥
+EachWrites Writes (text ∷ texts) (value ∷ values) = Writes text value × EachWrites Writes texts values
+
 -- what stands behind a call names the slot from which it scans: nothing for slot 0, or a colon and a number
 abbrev pub WritesStart : List ℕ → ℕ → Type 0
 WritesStart text start = ((text ≡ []) × (start ≡ 0)) ⊎ ((number : List ℕ) × (text ≡ 58 ∷ number) × WritesNumber number start)

@@ -6,7 +6,7 @@ ghost use Rattle.kfifo_commands.specs.Printing.{Breaks, OnPrinter, Writes};
 ghost use Rattle.kfifo_commands.specs.Records.{ReadsWell};
 ghost use Rattle.kfifo_commands.specs.Statuses.{status_number};
 
-use crate::commands::{check, measure, run};
+use crate::commands::{check, measure, replay, run};
 use crate::fault::Fault;
 use crate::options::Request;
 use crate::printing::Printer;
@@ -115,6 +115,11 @@ fn answer<H: Files, S: Source, W: Write>(
         Request::Measure => {
             let text = measure::answer(alloc, input)?;
             output.print(text.as_slice())?;
+            Ok(Status::Answered)
+        }
+        Request::Replay(options) => {
+            let text = replay::answer(alloc, options)?;
+            output.print(text.as_bytes())?;
             Ok(Status::Answered)
         }
     }

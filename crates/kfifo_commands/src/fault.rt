@@ -1,12 +1,14 @@
 //! What ends a command without its answer.
 ghost use Rattle.std.specs.Prelude.{◌≡◌, ◌++◌, MatchBool, Some, decimal};
-ghost use Rattle.kfifo_commands.specs.declared.fault.Fault.TheVariants.{Memory};
+ghost use Rattle.kfifo_commands.specs.declared.fault.Fault.TheVariants.{Memory, Replay};
 ghost use Rattle.kfifo_commands.specs.Faults.{fault_line, fault_text, numbered, stream_fault};
+ghost use Rattle.kfifo_commands.specs.Faults as replays;
 ghost use Rattle.kfifo_commands.specs.Printing.{Writes, Breaks};
 
 use crate::printing::Printer;
 use kfifo_judge::StreamFault;
 use kfifo_model::{RecordFault, SearchFault};
+use kfifo_replay::ReplayFault;
 use kfifo_words::ShapeFault;
 use std::alloc::{AllocError, AllocFailed};
 use std::fmt;
@@ -23,6 +25,10 @@ pub enum Fault {
     Word(usize),
     /// The value of `--order` is unreadable.
     Order,
+    /// The value of `--picks` is unreadable, or names over 16,777,216 picks.
+    Picks,
+    /// A replay refused its scripts, the thread to be stopped, a pick of all those given, or memory.
+    Replay(ReplayFault),
     /// Reading failed, or over 16,777,216 bytes came.
     Input,
     /// The input is no JSON text, or is not UTF-8.
@@ -56,18 +62,26 @@ impl Fault {
 
     /// What the line of the fault says.
     fn line(self) -> Line
-        ensures { numbered result.words.now result.number result.call ≡ fault_text self }
+        ensures { numbered result.words.now result.number result.before.now result.place ≡ fault_text self }
     {
         match self {
             Fault::Shape(fault) => Line::numbered("shape fault ", fault.number() as usize),
             Fault::Word(number) => Line::numbered("word fault at ", number),
             Fault::Order => Line::plain("order fault"),
+            Fault::Picks => Line::plain("picks fault"),
+            Fault::Replay(fault) => Line {
+                words: "replay fault ",
+                number: Some(fault.number() as usize),
+                before: " at ",
+                place: refused_pick(fault),
+            },
             Fault::Input => Line::plain("input"),
             Fault::NotJson => Line::plain("not json"),
             Fault::Record(fault) => Line {
                 words: "record fault ",
                 number: Some(fault.number() as usize),
-                call: fault.call(),
+                before: " at call ",
+                place: fault.call(),
             },
             Fault::Search(fault) => Line::numbered("search fault ", fault.number() as usize),
             Fault::RepeatedItem => Line::plain("measure fault 2"),
@@ -77,18 +91,30 @@ impl Fault {
     }
 }
 
-/// The line of a fault: words, a number behind them, and the number of a call behind that.
+/// The place of the pick that a replay refuses.
+fn refused_pick(fault: ReplayFault) -> Option<usize>
+    ensures { result ≡ replays.refused_pick fault }
+{
+    match fault {
+        ReplayFault::BadPick(place) => Some(place),
+        ReplayFault::Memory | ReplayFault::BadScript => None,
+    }
+}
+
+/// The line of a fault: words, a number behind them, and behind that the number of a call or the place of a pick, with
+/// what stands before it.
 #[derive(Clone, Copy)]
 struct Line {
     words: &'static str,
     number: Option<usize>,
-    call: Option<usize>,
+    before: &'static str,
+    place: Option<usize>,
 }
 
 impl Line {
     /// Writes the line without its ends, or answers false where a call failed.
     fn tell<F: Write>(self, faults: &mut Printer<'_, F>) -> bool
-        ensures { let text = numbered self.words.now self.number self.call in MatchBool result
+        ensures { let text = numbered self.words.now self.number self.before.now self.place in MatchBool result
             (Writes F.contents faults.old text faults.new) (Breaks F.contents faults.old text faults.new) }
     {
         if !faults.write(self.words.as_bytes()) {
@@ -97,42 +123,45 @@ impl Line {
         if !faults.write_number("", self.number) {
             return false;
         }
-        faults.write_number(" at call ", self.call)
+        faults.write_number(self.before, self.place)
     }
 
     /// Words alone.
     fn plain(words: &'static str) -> Line
-        ensures { numbered result.words.now result.number result.call ≡ words.now }
+        ensures { numbered result.words.now result.number result.before.now result.place ≡ words.now }
     {
         Line {
             words,
             number: None,
-            call: None,
+            before: "",
+            place: None,
         }
     }
 
     /// Words and a number.
     fn numbered(words: &'static str, number: usize) -> Line
-        ensures { numbered result.words.now result.number result.call ≡ words.now ++ decimal number }
+        ensures { numbered result.words.now result.number result.before.now result.place ≡ words.now ++ decimal number }
     {
         Line {
             words,
             number: Some(number),
-            call: None,
+            before: "",
+            place: None,
         }
     }
 }
 
 impl fmt::Display for Line {
-    ghost output = { λ line. Some (numbered line.words.now line.number line.call) };
+    ghost output = { λ line. Some (numbered line.words.now line.number line.before.now line.place) };
 
     fn fmt<W: fmt::Write>(&self, f: &mut fmt::Formatter<W>) -> fmt::Result {
         f.write_str(self.words)?;
         if let Some(number) = self.number {
             write!(f, "{number}")?;
         }
-        match self.call {
-            Some(call) => write!(f, " at call {call}"),
+        let before = self.before;
+        match self.place {
+            Some(place) => write!(f, "{before}{place}"),
             None => Ok(()),
         }
     }
@@ -151,6 +180,14 @@ impl<T: Drop> From<AllocFailed<T>> for Fault {
 
     fn from(_error: AllocFailed<T>) -> Fault {
         Fault::Memory
+    }
+}
+
+impl From<ReplayFault> for Fault {
+    ghost from_gives = { λ given fault. fault ≡ Replay given };
+
+    fn from(fault: ReplayFault) -> Fault {
+        Fault::Replay(fault)
     }
 }
 

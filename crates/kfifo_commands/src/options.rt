@@ -26,6 +26,27 @@ pub struct CheckOptions<'a> {
     pub ghost few_places: { k ≤ 64 },
 }
 
+/// What `replay` is given.
+#[derive(Clone, Copy)]
+pub struct ReplayOptions<'a> {
+    /// The sizes of the queue.
+    pub sizes: Sizes,
+    /// Rounds that a call makes before it answers busy, at least 1.
+    pub turns: u16,
+    /// The picks, as they are written.
+    pub picks: &'a str,
+    /// The thread that makes no event behind the picks, while each other goes to the end of its script; none where
+    /// nobody does.
+    pub stopped: Option<u32>,
+    /// Whether the points of the calls in the order are printed too.
+    pub points: bool,
+    /// Whether the record of the calls is printed in place of the report.
+    pub record: bool,
+    /// The scripts, as they are written.
+    pub scripts: &'a [&'a str],
+    pub ghost some_turns: { 1 ≤ turns },
+}
+
 /// A command with its options.
 #[derive(Clone, Copy)]
 pub enum Request<'a> {
@@ -35,4 +56,6 @@ pub enum Request<'a> {
     Check(CheckOptions<'a>),
     /// Counts how often each item of a record was certainly overtaken.
     Measure,
+    /// Runs scripts on the machine in the order of given picks.
+    Replay(ReplayOptions<'a>),
 }

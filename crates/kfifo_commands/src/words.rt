@@ -1,13 +1,14 @@
 //! Words of the command line: numbers, the calls of a script, and orders.
 ghost use Rattle.std.specs.Prelude.{◌≡◌, ℕ, ◌+◌, ◌^◌, ◌<◌, ◌≤◌, ◌↔◌, ◌⊎◌, IsTrue, List, MatchOption, MatchResult, IfOk, IfErr, length, map};
-ghost use Rattle.kfifo_commands.specs.Words.{Cuts, IsDigits, WritesNumber, WritesStart, WritesCall, WritesCalls, IsFirstUnread};
+ghost use Rattle.kfifo_commands.specs.Words.{Cuts, EachWrites, IsDigits, WritesNumber, WritesStart, WritesCall, WritesCalls, IsFirstUnread};
 ghost use Rattle.kfifo_commands.specs.Orders.{GivesNoOrder, GivesOrder, WriteNumbers, WritesOrder, WritesSpacedOrder, part_of};
+ghost use Rattle.kfifo_commands.specs.Scripts.{IsFirstUnreadScript, WriteScripts, WritesScript, texts_of};
 ghost use Rattle.kfifo_machine.specs.declared.event.Begin.{Begin};
 
 use crate::fault::Fault;
 use kfifo_judge::{FromStd, ReadFault, read_all};
 use kfifo_machine::Begin;
-use std::alloc::Global;
+use std::alloc::{AllocError, Global};
 use std::fs;
 use std::rt::Files;
 
@@ -30,7 +31,7 @@ pub fn read_number(text: &str) -> Option<u64>
 }
 
 /// The number that a text writes, where it is at least `least` and below `limit`.
-fn read_within(text: &str, least: u64, limit: u64) -> Option<u32>
+pub fn read_within(text: &str, least: u64, limit: u64) -> Option<u32>
     requires { limit ≤ 2 ^ 32 }
     ensures { MatchOption result
         ((number : ℕ) → least ≤ number → number < limit → ¬ WritesNumber text.now number)
@@ -91,6 +92,69 @@ pub fn read_calls(alloc: Global, texts: &[&str], k: u32, turns: u16) -> Result<V
         }
     }
     Ok(calls)
+}
+
+/// The scripts that the words write, one each, in their order. The fault names the first word that writes none, or
+/// says that memory is short.
+pub fn read_scripts(
+    alloc: Global,
+    texts: &[&str],
+    k: u32,
+    turns: u16,
+) -> Result<Vec<Vec<Begin>>, Fault>
+    requires { 1 ≤ k }
+    ensures scripts { IfOk result (λ scripts. WriteScripts k turns texts.now (map (λ script. script.items) scripts.items)) }
+    ensures fault { IfErr result (λ fault. (fault ≡ Fault.Memory)
+        ⊎ ((place : ℕ) × (fault ≡ Fault.Word (place + 1)) × IsFirstUnreadScript k turns texts.now place)) }
+{
+    let mut scripts = Vec::with_capacity(alloc, texts.len())?;
+    for (index, text) in texts.iter().enumerate() {
+        let read = read_script(alloc, text, k, turns)?;
+        match read {
+            Some(script) => scripts.push(script)?,
+            None => {
+                let number = index + 1;
+                return Err(Fault::Word(number));
+            }
+        }
+    }
+    Ok(scripts)
+}
+
+/// The calls of a script, that is of words joined by commas; none where one of them writes no call.
+fn read_script(
+    alloc: Global,
+    text: &str,
+    k: u32,
+    turns: u16,
+) -> Result<Option<Vec<Begin>>, AllocError>
+    requires { 1 ≤ k }
+    ensures { IfOk result (λ read. MatchOption read ((script : List Begin) → ¬ WritesScript k turns text.now script)
+        (λ script. WritesScript k turns text.now script.items)) }
+{
+    let parts: Vec<&str> = text.split(',').collect(alloc)?;
+    read_each_call(alloc, parts.as_slice(), k, turns)
+}
+
+/// The calls that the texts write, in their order; none where one of them writes none.
+fn read_each_call(
+    alloc: Global,
+    texts: &[&str],
+    k: u32,
+    turns: u16,
+) -> Result<Option<Vec<Begin>>, AllocError>
+    requires { 1 ≤ k }
+    ensures { IfOk result (λ read. MatchOption read ((calls : List Begin) → ¬ EachWrites (WritesCall k turns) (texts_of texts.now) calls)
+        (λ calls. EachWrites (WritesCall k turns) (texts_of texts.now) calls.items)) }
+{
+    let mut calls = Vec::with_capacity(alloc, texts.len())?;
+    for text in texts {
+        match read_call(text, k, turns) {
+            Some(call) => calls.push(call)?,
+            None => return Ok(None),
+        }
+    }
+    Ok(Some(calls))
 }
 
 /// The order that the value of `--order` gives: the text itself, or behind `@` the path of a file that holds one, of at

@@ -3,6 +3,7 @@
 mod closed;
 mod memory;
 mod records;
+mod replays;
 mod runs;
 mod usage;
 

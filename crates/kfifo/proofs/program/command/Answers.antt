@@ -8,4 +8,5 @@ returns c =
     c.new.ensures.app c.new.ensures.local c.in_ok-bin_name.ensures.0 c.no_binary_name.ensures c.version.ensures c.about.ensures c.after_help.ensures c.subcommand_required.ensures c.arg_required_else_help.ensures in
     let one = adds_command _ _ c.in_ok-subcommand.field-0 _ _ bare c.in_ok-command.ensures c.in_ok-subcommand.ensures in
     let two = adds_command _ _ c.in_ok-subcommand-2.field-0 _ _ one c.in_ok-command-2.ensures c.in_ok-subcommand-2.ensures in
-    IfOk-weaker c.subcommand-3.result _ _ (λ r h. adds_command _ _ r _ _ two c.in_ok-command-3.ensures h) c.subcommand-3.ensures
+    let three = adds_command _ _ c.in_ok-subcommand-3.field-0 _ _ two c.in_ok-command-3.ensures c.in_ok-subcommand-3.ensures in
+    IfOk-weaker c.subcommand-4.result _ _ (λ r h. adds_command _ _ r _ _ three c.in_ok-command-4.ensures h) c.subcommand-4.ensures

@@ -24,3 +24,11 @@ returns-in-Some-subcommand_matches-2-clause-some c =
       found_of found.field-0.now,
       named_as c.args.matches.now (codes "measure") (found_of found.field-0.now) (found.ensures.found.0 refl) found.ensures.rows,
     )
+
+pub returns-in-Some-subcommand_matches-3-clause-some : goal.returns-in-Some-subcommand_matches-3-clause-some
+returns-in-Some-subcommand_matches-3-clause-some c =
+    let found = c.in-Some-subcommand_matches-3 in (
+      found_of found.options.now,
+      named_as c.args.matches.now (codes "replay") (found_of found.options.now) (found.ensures.found.0 refl) found.ensures.rows,
+      c.options_of-in-Some-subcommand_matches-3.ensures,
+    )

@@ -26,7 +26,7 @@ struct Case {
     faults: &'static str,
 }
 
-const CASES: [Case; 3] = [
+const CASES: [Case; 4] = [
     Case {
         words: ["run", "--k", "1", "e7", "d"],
         status: 0,
@@ -46,6 +46,12 @@ const CASES: [Case; 3] = [
         output: "",
         faults: "error: invalid value '0' for '--turns <ROUNDS>': 0 is not in 1..=65535\n\n\
                  For more information, try '--help'.\n",
+    },
+    Case {
+        words: ["replay", "--picks", "0x7", "e7", "d"],
+        status: 0,
+        output: "steps 7\norder 0\nworst rank 0\nrollbacks 0\n",
+        faults: "",
     },
 ];
 
@@ -74,7 +80,8 @@ fn run_case<R: Threads + Files + AllocGlobal>(rt: &R, case: &Case) -> Ended {
     if status == case.status && holds(&output, case.output) && holds(&faults, case.faults) {
         return Ended::AsWanted;
     }
-    if status == 1 && holds(&output, "") && holds(&faults, "kfifo: memory\n") {
+    let is_told = holds(&faults, "kfifo: memory\n") || holds(&faults, "kfifo: replay fault 2\n");
+    if status == 1 && holds(&output, "") && is_told {
         return Ended::Refused;
     }
     Ended::Otherwise
@@ -95,6 +102,11 @@ fn refused_memory_of_an_answer(rt: HostRuntime) {
 #[test]
 fn refused_memory_of_a_fault(rt: HostRuntime) {
     assert!(rt; run_case(&rt, &CASES[1]) != Ended::Otherwise);
+}
+
+#[test]
+fn refused_memory_of_a_replay(rt: HostRuntime) {
+    assert!(rt; run_case(&rt, &CASES[3]) != Ended::Otherwise);
 }
 
 #[test]

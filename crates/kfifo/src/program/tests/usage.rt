@@ -5,7 +5,7 @@ use std::str::from_utf8;
 use std::test::Fail;
 
 /// A command line that asks for help, and what stands in it.
-const HELP: [(&str, [&str; 3]); 12] = [
+const HELP: [(&str, [&str; 3]); 14] = [
     (
         "--help",
         [
@@ -53,6 +53,18 @@ const HELP: [(&str, [&str; 3]); 12] = [
             "--k <PLACES>",
             "--order <CALLS>",
         ],
+    ),
+    (
+        "replay --help",
+        [
+            "Usage: kfifo replay [OPTIONS] <SCRIPT>...\n",
+            "\n  kfifo: replay fault 1 at <P> ",
+            "\nLimits: 64 scripts of 64 calls each, and 16777216 picks.\n",
+        ],
+    ),
+    (
+        "replay -h",
+        ["--picks <PICKS>", "--stop <THREAD>", "--points"],
     ),
     (
         "help measure",

@@ -26,3 +26,11 @@ returns-in_err-print-in-Measure-clause-broken g c = any_err c.from_residual-in_e
   rw (c.in-Measure.is, c.as_slice-in-Measure.ensures.value) (c.in_ok-text-in-Measure.ensures.ok, refl),
   c.in_err-print-in-Measure.ensures.err,
 ))
+
+pub returns-in_err-print-in-Replay-clause-broken : goal.returns-in_err-print-in-Replay-clause-broken
+returns-in_err-print-in-Replay-clause-broken g c = any_err c.from_residual-in_err-print-in-Replay.result _ (λ fault is. (
+  c.as_bytes-in-Replay.result.now,
+  0,
+  rw (c.in-Replay.is, c.as_bytes-in-Replay.ensures.value) (c.in_ok-text-in-Replay.ensures.ok, refl),
+  c.in_err-print-in-Replay.ensures.err,
+))

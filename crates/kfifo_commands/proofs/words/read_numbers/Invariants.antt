@@ -1,6 +1,6 @@
 use Rattle.std.proofs.Common.{take}
 use Rattle.kfifo_commands.specs.Orders.{WriteNumbers, part_of}
-use Rattle.kfifo_commands.proofs.Orders.{texts_by}
+use Rattle.kfifo_commands.proofs.Each.{texts_by}
 use Rattle.kfifo_commands.proofs.words.read_numbers.Given as goal
 
 abbrev pub invariant-loop-text : goal.invariant-loop-text

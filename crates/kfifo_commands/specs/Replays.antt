@@ -1,0 +1,147 @@
+-- What the command `replay` comes to.
+use Rattle.std.specs.Prelude.{◌≡◌, ℕ, ◌+◌, ◌<◌, ◌≤◌, ◌⊎◌, Bool, true, false, List, [], ◌∷◌, ◌++◌, Option, Some, None, IsTrue, codes, decimal, is_some, length}
+use Rattle.std.specs.List.{flat_map}
+use Rattle.kfifo_words.specs.declared.shape.Shape.{Shape}
+use Rattle.kfifo_model.specs.declared.calls.Call.{Call}
+use Rattle.kfifo_machine.specs.declared.event.Begin.{Begin}
+use Rattle.kfifo_replay.specs.declared.fault.ReplayFault.{ReplayFault}
+use Rattle.kfifo_replay.specs.declared.fault.ReplayFault.TheVariants as replays
+use Rattle.kfifo_replay.specs.declared.report.Report.{Report}
+use Rattle.kfifo_replay.specs.Finishing.{Finishes}
+use Rattle.kfifo_replay.specs.Picks.{events_of}
+use Rattle.kfifo_replay.specs.Player.{IsFirstRefused}
+use Rattle.kfifo_replay.specs.Reports.{ArePoints, IsHistoryOf, IsReport}
+use Rattle.kfifo_replay.specs.Scripts.{AreScripts}
+use Rattle.kfifo_commands.specs.declared.fault.Fault.{Fault}
+use Rattle.kfifo_commands.specs.declared.fault.Fault.TheVariants as faults
+use Rattle.kfifo_commands.specs.declared.options.ReplayOptions.{ReplayOptions}
+use Rattle.kfifo_commands.specs.declared.picks.Group.{Group}
+use Rattle.kfifo_commands.specs.Lines.{line}
+use Rattle.kfifo_commands.specs.Picks.{GivesGroups, GivesNoGroups, picks_of}
+use Rattle.kfifo_commands.specs.RecordTexts.{record_text}
+use Rattle.kfifo_commands.specs.Runs.{IsShapeFault, IsShapeOf}
+use Rattle.kfifo_commands.specs.Scripts.{IsFirstUnreadScript, WriteScripts}
+
+-- ---- the lines
+
+-- further numbers, a comma before each
+abbrev pub further : List ℕ → List ℕ
+further numbers = flat_map (λ number. 44 ∷ decimal number) numbers
+
+-- numbers joined by commas, none where there are none
+abbrev pub joined : List ℕ → List ℕ
+joined [] = codes "none"
+joined (number ∷ numbers) = decimal number ++ further numbers
+
+-- a name, and numbers joined by commas
+abbrev pub numbers_line : List ℕ → List ℕ → List ℕ
+numbers_line name numbers = line (name ++ joined numbers)
+
+abbrev pub completed_line : Option ℕ → ℕ → List ℕ
+completed_line None count = []
+completed_line (Some stopped) count = line (codes "completed " ++ decimal count)
+
+abbrev pub first_lines : Report → List ℕ
+first_lines r = line (codes "steps " ++ decimal r.steps) ++ numbers_line (codes "order ") r.order.items
+
+abbrev pub last_lines : Option ℕ → Report → List ℕ
+last_lines stopped r = line (codes "worst rank " ++ decimal r.worst_rank) ++ line (codes "rollbacks " ++ decimal r.rollbacks) ++ completed_line stopped r.completed
+
+-- ---- the answer
+
+-- the line of the points, where it is asked for
+abbrev pub IsPointsLine : Bool → Shape → List (List Begin) → List ℕ → List ℕ → Type 0
+IsPointsLine false shape scripts picks text = text ≡ []
+IsPointsLine true shape scripts picks text = (points : List ℕ) × ArePoints shape scripts picks points × (text ≡ numbers_line (codes "points ") points)
+
+-- the lines of the report of these picks
+pub record IsReportText (points : Bool) (stopped : Option ℕ) (shape : Shape) (scripts : List (List Begin)) (picks text : List ℕ) : Type 0 where
+  pub report : Report
+  pub reported : IsReport shape scripts picks report
+  pub middle : List ℕ
+  pub points_line : IsPointsLine points shape scripts picks middle
+  pub text_is : text ≡ first_lines report ++ middle ++ last_lines stopped report
+
+-- the line of the record of the calls that these picks make
+pub record IsRecordLine (shape : Shape) (scripts : List (List Begin)) (picks text : List ℕ) : Type 0 where
+  pub history : List Call
+  pub made : IsHistoryOf shape scripts picks history
+  pub text_is : text ≡ line (record_text history)
+
+-- the text for these picks: the record where it is asked for, and else the report
+abbrev pub IsReplayText : Bool → Bool → Option ℕ → Shape → List (List Begin) → List ℕ → List ℕ → Type 0
+IsReplayText true points stopped shape scripts picks text = IsRecordLine shape scripts picks text
+IsReplayText false points stopped shape scripts picks text = IsReportText points stopped shape scripts picks text
+
+-- the picks that are made of those given: these, and where a thread is stopped behind them those with which each other thread goes to the end of its script
+abbrev pub Makes : Option ℕ → Shape → List (List Begin) → List ℕ → List ℕ → Type 0
+Makes None shape scripts given made = made ≡ given
+Makes (Some stopped) shape scripts given made = (more : List ℕ) × (made ≡ given ++ more) × (stopped < length scripts) × Finishes stopped shape scripts (length scripts) given more
+
+-- the shape, the scripts and the groups of picks that the options give
+pub record Gives (options : ReplayOptions) (shape : Shape) (scripts : List (List Begin)) (groups : List Group) : Type 0 where
+  pub shape_given : IsShapeOf options.sizes shape
+  pub scripts_given : WriteScripts shape.k options.turns options.scripts.now scripts
+  pub groups_given : GivesGroups options.picks.now groups
+
+-- The answer: the text for the picks that are made of those that the options give
+pub record IsReplayAnswer (options : ReplayOptions) (text : List ℕ) : Type 0 where
+  pub shape : Shape
+  pub scripts : List (List Begin)
+  pub groups : List Group
+  pub given : Gives options shape scripts groups
+  pub made : List ℕ
+  pub makes : Makes options.stopped shape scripts (picks_of groups) made
+  pub is : IsReplayText options.record options.points options.stopped shape scripts made text
+
+-- ---- the refusals
+
+-- the sizes make a shape, and the word with this number is the first that writes no script
+pub record IsScriptFault (options : ReplayOptions) (number : ℕ) : Type 0 where
+  pub shape : Shape
+  pub shape_given : IsShapeOf options.sizes shape
+  pub place : ℕ
+  pub number_is : number ≡ place + 1
+  pub unread : IsFirstUnreadScript shape.k options.turns options.scripts.now place
+
+-- the sizes and the scripts are in order, and the value of the option gives no picks
+pub record IsPicksFault (options : ReplayOptions) : Type 0 where
+  pub shape : Shape
+  pub shape_given : IsShapeOf options.sizes shape
+  pub scripts : List (List Begin)
+  pub scripts_given : WriteScripts shape.k options.turns options.scripts.now scripts
+  pub unread : GivesNoGroups options.picks.now
+
+-- the thread that is to be stopped has no script
+abbrev pub IsUnknown : Option ℕ → List (List Begin) → Type 0
+IsUnknown None scripts = ⊥
+IsUnknown (Some stopped) scripts = length scripts ≤ stopped
+
+-- why a replay refuses: a pick is the first that is refused; or these are no scripts, or all picks are made and the thread to be stopped has no script
+abbrev pub IsRefusal : Option ℕ → Shape → List (List Begin) → List ℕ → ReplayFault → Type 0
+IsRefusal stopped shape scripts picks (replays.BadPick place) = IsFirstRefused shape scripts picks place
+IsRefusal stopped shape scripts picks replays.Memory = Unit {0}
+IsRefusal stopped shape scripts picks replays.BadScript = (AreScripts shape scripts → ⊥) ⊎ (IsTrue (is_some (events_of shape scripts picks)) × IsUnknown stopped scripts)
+
+-- the replay that the options give refuses so
+pub record IsReplayFault (options : ReplayOptions) (fault : ReplayFault) : Type 0 where
+  pub shape : Shape
+  pub scripts : List (List Begin)
+  pub groups : List Group
+  pub given : Gives options shape scripts groups
+  pub refused : IsRefusal options.stopped shape scripts (picks_of groups) fault
+
+-- why there is no answer
+abbrev pub IsReplayRefusal : ReplayOptions → Fault → Type 0
+IsReplayRefusal options (faults.Shape fault) = IsShapeFault options.sizes fault
+IsReplayRefusal options (faults.Word number) = IsScriptFault options number
+IsReplayRefusal options faults.Order = ⊥
+IsReplayRefusal options faults.Picks = IsPicksFault options
+IsReplayRefusal options (faults.Replay fault) = IsReplayFault options fault
+IsReplayRefusal options faults.Input = ⊥
+IsReplayRefusal options faults.NotJson = ⊥
+IsReplayRefusal options (faults.Record fault) = ⊥
+IsReplayRefusal options (faults.Search fault) = ⊥
+IsReplayRefusal options faults.RepeatedItem = ⊥
+IsReplayRefusal options faults.Memory = Unit {0}
+IsReplayRefusal options faults.Output = ⊥

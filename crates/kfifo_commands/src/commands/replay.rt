@@ -1,0 +1,208 @@
+//! The command `replay`: scripts run on the machine in the order of given picks.
+ghost use Rattle.std.specs.Prelude.{◌≡◌, ◌≢◌, ◌⊎◌, ◌≤◌, ◌+◌, ◌++◌, ◌∷◌, [], List, ℕ, IfOk, IfErr, OnOk, map, string_bytes};
+ghost use Rattle.kfifo_words.specs.declared.shape.Shape.{Shape as ShapeData};
+ghost use Rattle.kfifo_machine.specs.declared.event.Begin.{Begin as BeginData};
+ghost use Rattle.kfifo_replay.specs.Player.{StandsFor, Stops};
+ghost use Rattle.kfifo_commands.specs.Picks as picks;
+ghost use Rattle.kfifo_commands.specs.Picks.{count_of, picks_of};
+ghost use Rattle.kfifo_commands.specs.Replays.{IsPointsLine, IsRecordLine, IsRefusal, IsReplayAnswer, IsReplayRefusal, IsReplayText, IsReportText, Makes, first_lines, further, joined, last_lines, numbers_line};
+ghost use Rattle.kfifo_commands.specs.Runs.{IsShapeOf};
+
+use crate::fault::Fault;
+use crate::options::ReplayOptions;
+use crate::picks::{Group, read_picks};
+use crate::recording::record_text;
+use crate::words::read_scripts;
+use kfifo_machine::Begin;
+use kfifo_replay::{Replay, ReplayFault, Report};
+use kfifo_words::Shape;
+use std::alloc::{AllocError, Global};
+use std::fmt::Write;
+
+/// The report of the replay, or the record of its calls.
+pub fn answer(alloc: Global, options: ReplayOptions<'_>) -> Result<String, Fault>
+    ensures ok { IfOk result (λ text. IsReplayAnswer options.entry (string_bytes text)) }
+    ensures err { IfErr result (λ fault. IsReplayRefusal options.entry fault) }
+    ensures silent { IfErr result (λ fault. fault ≢ Fault.Output) }
+{
+    let shape = shape_of(options)?;
+    let scripts = read_scripts(alloc, options.scripts, shape.k(), options.turns)?;
+    let groups = read_picks(alloc, options.picks)?;
+    let replay = play(
+        alloc,
+        shape,
+        scripts.as_slice(),
+        groups.as_slice(),
+        options.stopped,
+    )?;
+    text_of(alloc, &options, &replay)
+}
+
+/// The shape of the sizes.
+fn shape_of(options: ReplayOptions<'_>) -> Result<Shape, Fault>
+    ensures ok { IfOk result (IsShapeOf options.entry.sizes) }
+    ensures err { IfErr result (λ fault. IsReplayRefusal options.entry fault) }
+    ensures silent { IfErr result (λ fault. fault ≢ Fault.Output) }
+{
+    options.sizes.shape().map_err(Fault::Shape)
+}
+
+/// The replay that has made these picks, and has then gone on to the ends of the scripts where a thread is stopped.
+fn play(
+    alloc: Global,
+    shape: Shape,
+    scripts: &[Vec<Begin>],
+    groups: &[Group],
+    stopped: Option<u32>,
+) -> Result<Replay, ReplayFault>
+    requires { count_of groups.now ≤ 16777216 }
+    ensures ok { let own = map (λ script. script.items) scripts.now in
+        IfOk result (λ replay. (made : List ℕ) × Makes stopped shape own (picks_of groups.now) made × StandsFor shape own made replay) }
+    ensures err { IfErr result (IsRefusal stopped shape (map (λ script. script.items) scripts.now) (picks_of groups.now)) }
+{
+    let mut replay = Replay::open(alloc, shape, scripts)?;
+    feed(&mut replay, groups)?;
+    match stopped {
+        Some(thread) => {
+            replay.finish(thread)?;
+            Ok(replay)
+        }
+        None => Ok(replay),
+    }
+}
+
+/// Makes the picks of these groups. The place of a refused pick counts over all of them.
+fn feed(replay: &mut Replay, groups: &[Group]) -> Result<(), ReplayFault>
+    requires few { count_of groups.now ≤ 16777216 }
+    requires stands { (shape : ShapeData) × (scripts : List (List BeginData)) × (earlier : List ℕ) × StandsFor shape scripts earlier replay.old }
+    ensures made { OnOk result ((shape : ShapeData) (scripts : List (List BeginData)) (earlier : List ℕ)
+        → StandsFor shape scripts earlier replay.old → StandsFor shape scripts (earlier ++ picks_of groups.now) replay.new) }
+    ensures refused { IfErr result (λ fault. (shape : ShapeData) (scripts : List (List BeginData)) (earlier : List ℕ)
+        → StandsFor shape scripts earlier replay.old → Stops shape scripts earlier (picks_of groups.now) fault replay.new) }
+{
+    let mut made: usize = 0;
+    for group in groups {
+        match replay.feed_many(group.thread, group.count) {
+            Ok(()) => made += group.count as usize,
+            Err(fault) => return Err(behind(made, fault)),
+        }
+    }
+    Ok(())
+}
+
+/// The fault of picks that stand behind so many.
+fn behind(made: usize, fault: ReplayFault) -> ReplayFault
+    requires { (place : ℕ) → fault ≡ ReplayFault.BadPick place → made + place ≤ 16777216 }
+    ensures { result ≡ picks.behind made fault }
+{
+    match fault {
+        ReplayFault::BadPick(place) => ReplayFault::BadPick(made + place),
+        ReplayFault::Memory => ReplayFault::Memory,
+        ReplayFault::BadScript => ReplayFault::BadScript,
+    }
+}
+
+/// What is printed of a replay.
+fn text_of(alloc: Global, options: &ReplayOptions<'_>, replay: &Replay) -> Result<String, Fault>
+    ensures ok { IfOk result (λ text. (shape : ShapeData) (scripts : List (List BeginData)) (picks : List ℕ) → StandsFor shape scripts picks replay.now
+        → IsReplayText options.now.record options.now.points options.now.stopped shape scripts picks (string_bytes text)) }
+    ensures err { IfErr result (λ fault. (fault ≡ Fault.Memory) ⊎ (fault ≡ Fault.Replay ReplayFault.Memory)) }
+{
+    if options.record {
+        record_of(alloc, replay)
+    } else {
+        report_of(alloc, options, replay)
+    }
+}
+
+/// The line of the record of its calls.
+fn record_of(alloc: Global, replay: &Replay) -> Result<String, Fault>
+    ensures ok { IfOk result (λ text. (shape : ShapeData) (scripts : List (List BeginData)) (picks : List ℕ) → StandsFor shape scripts picks replay.now
+        → IsRecordLine shape scripts picks (string_bytes text)) }
+    ensures err { IfErr result (λ fault. (fault ≡ Fault.Memory) ⊎ (fault ≡ Fault.Replay ReplayFault.Memory)) }
+{
+    let history = replay.history(alloc)?;
+    let mut text = record_text(alloc, &history)?;
+    text.push('\n')?;
+    Ok(text)
+}
+
+/// The lines of its report.
+fn report_of(alloc: Global, options: &ReplayOptions<'_>, replay: &Replay) -> Result<String, Fault>
+    ensures ok { IfOk result (λ text. (shape : ShapeData) (scripts : List (List BeginData)) (picks : List ℕ) → StandsFor shape scripts picks replay.now
+        → IsReportText options.now.points options.now.stopped shape scripts picks (string_bytes text)) }
+    ensures err { IfErr result (λ fault. (fault ≡ Fault.Memory) ⊎ (fault ≡ Fault.Replay ReplayFault.Memory)) }
+{
+    let report = replay.report(alloc)?;
+    let mut text = String::new(alloc);
+    push_first(&mut text, &report)?;
+    push_points(alloc, &mut text, options.points, replay)?;
+    push_last(&mut text, options.stopped, &report)?;
+    Ok(text)
+}
+
+/// Adds the number of steps and the order.
+fn push_first(text: &mut String, report: &Report) -> Result<(), AllocError>
+    ensures { OnOk result (string_bytes text.new ≡ string_bytes text.old ++ first_lines report.now) }
+{
+    let steps = report.steps;
+    writeln!(text, "steps {steps}")?;
+    push_numbers(text, "order ", report.order.as_slice())
+}
+
+/// Adds the line of the points, where it is asked for.
+fn push_points(alloc: Global, text: &mut String, wanted: bool, replay: &Replay) -> Result<(), Fault>
+    ensures ok { OnOk result ((shape : ShapeData) (scripts : List (List BeginData)) (picks : List ℕ) → StandsFor shape scripts picks replay.now
+        → (middle : List ℕ) × IsPointsLine wanted shape scripts picks middle × (string_bytes text.new ≡ string_bytes text.old ++ middle)) }
+    ensures err { IfErr result (λ fault. (fault ≡ Fault.Memory) ⊎ (fault ≡ Fault.Replay ReplayFault.Memory)) }
+{
+    if wanted {
+        let points = replay.points(alloc)?;
+        let places: Vec<usize> = points.iter().map(|point| *point as usize).collect(alloc)?;
+        push_numbers(text, "points ", places.as_slice())?;
+    }
+    Ok(())
+}
+
+/// Adds the other numbers of the report; that of the unfinished enqueues where a thread was stopped.
+fn push_last(text: &mut String, stopped: Option<u32>, report: &Report) -> Result<(), AllocError>
+    ensures { OnOk result (string_bytes text.new ≡ string_bytes text.old ++ last_lines stopped report.now) }
+{
+    let (worst, rollbacks, completed) = (report.worst_rank, report.rollbacks, report.completed);
+    writeln!(text, "worst rank {worst}")?;
+    writeln!(text, "rollbacks {rollbacks}")?;
+    match stopped {
+        Some(_) => writeln!(text, "completed {completed}"),
+        None => Ok(()),
+    }
+}
+
+/// Adds a line of numbers joined by commas, behind a name; `none` where there are no numbers.
+fn push_numbers(text: &mut String, name: &str, numbers: &[usize]) -> Result<(), AllocError>
+    ensures { OnOk result (string_bytes text.new ≡ string_bytes text.old ++ numbers_line name.now numbers.now) }
+{
+    text.push_str(name)?;
+    push_joined(text, numbers)?;
+    text.push('\n')
+}
+
+/// Adds numbers joined by commas, or `none`.
+fn push_joined(text: &mut String, numbers: &[usize]) -> Result<(), AllocError>
+    ensures { OnOk result (string_bytes text.new ≡ string_bytes text.old ++ joined numbers.now) }
+{
+    let Some((first, rest)) = numbers.split_first() else {
+        return text.push_str("none");
+    };
+    write!(text, "{first}")?;
+    push_further(text, rest)
+}
+
+/// Adds further numbers, each behind a comma.
+fn push_further(text: &mut String, numbers: &[usize]) -> Result<(), AllocError>
+    ensures { OnOk result (string_bytes text.new ≡ string_bytes text.old ++ further numbers.now) }
+{
+    for number in numbers {
+        write!(text, ",{number}")?;
+    }
+    Ok(())
+}
