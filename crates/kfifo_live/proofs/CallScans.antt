@@ -1,8 +1,7 @@
 -- The three scans of the two calls.
-use Rattle.std.proofs.Common.{◌≡◌, ◌≢◌, ℕ, ◌+◌, Bool, true, false, refl, sym, ap, arith}
+use Rattle.std.proofs.Common.{◌≡◌, ℕ, sym, ap, arith}
 use Rattle.std.specs.Prelude.{◌==◌, if◌then◌else◌}
 use Rattle.std.proofs.lemmas.Bool.Decides.{nat_tests}
-use Rattle.kfifo_words.specs.declared.shape.Shape.{Shape}
 use Rattle.kfifo_words.specs.Words.{version_of, head_of, tail_of}
 use Rattle.kfifo_model.specs.declared.calls.Answer.TheVariants.{Worn}
 use Rattle.kfifo_machine.specs.declared.place.EnqueuePhase.TheVariants as E
@@ -11,7 +10,7 @@ use Rattle.kfifo_machine.specs.declared.place.Found.{Found}
 use Rattle.kfifo_machine.specs.declared.place.Found.TheVariants.{Slot, Nothing}
 use Rattle.kfifo_machine.specs.declared.place.Next.{Next}
 use Rattle.kfifo_machine.specs.declared.place.Next.TheVariants.{Goes, Answers}
-use Rattle.kfifo_machine.specs.Program.{advance, scan_index}
+use Rattle.kfifo_machine.specs.Program.{scan_index}
 use Rattle.kfifo_live.specs.declared.enqueue.Enqueue.{Enqueue}
 use Rattle.kfifo_live.specs.declared.dequeue.Dequeue.{Dequeue}
 use Rattle.kfifo_live.specs.Rounds.{enqueue_at, dequeue_at}

@@ -1,5 +1,5 @@
 -- A stamped call adds one call to the log, and nothing else.
-use Rattle.std.proofs.Common.{◌≡◌, ◌≢◌, ℕ, suc, ◌+◌, ◌*◌, ◌<◌, ◌≤◌, ◌⊎◌, List, [], ◌∷◌, ◌++◌, length, filter, drop, Option, Some, None, Ok, false, refl, sym, ap, ◌∙◌, subst, inl, inr, arith, append_assoc, cond, length-append}
+use Rattle.std.proofs.Common.{◌≡◌, ◌≢◌, ℕ, ◌+◌, ◌*◌, ◌<◌, ◌≤◌, List, [], ◌∷◌, ◌++◌, length, filter, drop, Option, Some, None, Ok, false, refl, sym, ap, ◌∙◌, subst, inl, inr, arith, append_assoc, cond, length-append}
 use Rattle.std.proofs.Math.ListN.{get_or-append}
 use Rattle.std.proofs.Math.Seq.{drop-append_seam, get_or-append_seam}
 use Rattle.std.proofs.lemmas.Bool.{cases_eq, cases_lt}
@@ -8,13 +8,13 @@ use Rattle.kfifo_words.specs.Ring.{clock_at}
 use Rattle.kfifo_model.specs.declared.calls.Answer.{Answer}
 use Rattle.kfifo_model.specs.declared.calls.Call.{Call}
 use Rattle.kfifo_model.specs.declared.calls.End.{End}
-use Rattle.kfifo_model.specs.declared.calls.Op.{Op}
 use Rattle.kfifo_model.specs.Lists.{Each, EachPair}
 use Rattle.kfifo_model.specs.Histories.{call, no_call, EndsBelow}
 use Rattle.kfifo_machine.specs.declared.event.Begin.{Begin}
 use Rattle.kfifo_machine.specs.declared.event.Begin.TheVariants.{Tick}
 use Rattle.kfifo_machine.specs.declared.event.Event.{Event}
 use Rattle.kfifo_machine.specs.declared.event.Outcome.TheVariants.{Went}
+use Rattle.kfifo_machine.specs.Laws.{IsRefusal, most_events}
 use Rattle.kfifo_machine.specs.Machine.{World, opening, step, ticked, word_at}
 use Rattle.kfifo_machine.specs.Calls.{op_asked}
 use Rattle.kfifo_machine.specs.Runs.{AllGoOn, WholeRun, event, own}
@@ -23,8 +23,8 @@ use Rattle.kfifo_live.specs.declared.view.Opening.{Opening}
 use Rattle.kfifo_live.specs.Schedule.{begins_tick, ticks, world_after}
 use Rattle.kfifo_live.specs.Pass.{Known, IsSame}
 use Rattle.kfifo_live.specs.Promise.{calls_of}
-use Rattle.kfifo_live.specs.Calls.{Makes, added}
-use Rattle.kfifo_live.specs.Stamps.{Draws, HasCalls, IsLog, IsStamped, stamped_call}
+use Rattle.kfifo_live.specs.Calls.{HasCause, LeavesNoItem, Makes, added}
+use Rattle.kfifo_live.specs.Stamps.{Draws, HasCalls, IsLog, IsStamped, MakesStamped, logged_by, stamped_call}
 use Rattle.kfifo_live.proofs.Keeps.{own_same}
 use Rattle.kfifo_live.proofs.Ticks.{clock_is, ticks-append, ticks_of_one}
 use Rattle.kfifo_machine.proofs.OwnCalls.{AddsCall, KeepsCalls, RunAdds, keeps_trans, others_keep, run_adds, tick_keeps}
@@ -352,12 +352,12 @@ module _ (p q r u : Known) (begin : Begin) (answer : Answer) (first last : ℕ) 
     drawn_last = draws_in p.opened p.thread last r u (same.1 ∙ a.same.1) (same.2 ∙ a.same.2) b
 
     -- its log has one call more
-    pub logs_more : IsLog u (log ++ stamped_call p.thread (op_asked begin) first last answer ∷ [])
+    logs_more : IsLog u (log ++ stamped_call p.thread (op_asked begin) first last answer ∷ [])
     logs_more =
         logs_on p.opened p.thread first last begin answer p.seen q.seen r.seen u.seen few no_tick drawn_first run_between drawn_last log p u refl (b.same.1 ∙ same.1 ∙ a.same.1) refl (b.same.2 ∙ same.2 ∙ a.same.2) refl refl room is
 
     -- and it has made two steps more than the run
-    pub two_more : length (own p.thread (added p u)) ≡ length (own q.thread (added q r)) + 2
+    two_more : length (own p.thread (added p u)) ≡ length (own q.thread (added q r)) + 2
     two_more =
         let o = p.opened in
         let t = p.thread in
@@ -376,3 +376,47 @@ module _ (p q r u : Known) (begin : Begin) (answer : Answer) (first last : ℕ) 
 -- a log that is not full has room
 pub has_room : (n m calls len : ℕ) → n ≤ m → m ≡ calls → len ≡ n → len ≢ calls → n < m
 has_room n m calls len le same size ne = elim (cases_lt n m) [ inl less ↦ less | inr ge ↦ absurd (ne (omega arith)) ]
+
+-- What is known of a stamped call: a tick, a run, a tick
+pub record StampedRun (p q r u : Known) (begin : Begin) (answer : Answer) (first last : ℕ) (log : List Call) : Type 0 where
+  pub is : IsLog p log
+  pub room : length log < p.opened.calls
+  pub no_tick : begins_tick (Some begin) ≡ false
+  pub few : p.opened.threads ≤ 64
+  pub draws_first : Draws first p q
+  pub same : IsSame q r
+  pub makes : Makes begin answer q r
+  pub draws_last : Draws last r u
+
+module _ {p q r u : Known} {begin : Begin} {answer : Answer} {first last : ℕ} {log : List Call} (s : StampedRun p q r u begin answer first last log) where
+  -- where its call was logged under the pass's own number, the log is one
+  module _ (thread : ℕ) (items : List Call) (mine : thread ≡ u.thread) (logged : items ≡ log ++ stamped_call thread (op_asked begin) first last answer ∷ []) where
+    added_call : items ≡ log ++ stamped_call p.thread (op_asked begin) first last answer ∷ []
+    added_call = logged ∙ ap (λ (t : ℕ). log ++ stamped_call t (op_asked begin) first last answer ∷ []) (mine ∙ s.draws_last.same.2 ∙ s.same.2 ∙ s.draws_first.same.2)
+
+    pub log_grows : IsLog u items
+    log_grows = subst (IsLog u) (sym added_call) (logs_more p q r u begin answer first last log s.is s.room s.no_tick s.draws_first s.same s.makes s.few s.draws_last)
+
+    pub makes_stamped : HasCause begin answer q r → (IsRefusal answer → LeavesNoItem q r) → MakesStamped begin answer (logged_by p log) (logged_by u items)
+    makes_stamped cause leaves = record {
+      begun = q;
+      ended = r;
+      first = first;
+      last = last;
+      draws_first = s.draws_first;
+      makes = s.makes;
+      cause = cause;
+      leaves_none = leaves;
+      draws_last = s.draws_last;
+      log_is = added_call;
+    }
+
+  -- the pass may make as many calls as before, and its own events are those of the run and two ticks
+  pub calls_same : u.opened.calls ≡ p.opened.calls
+  calls_same = ap (λ (o : Opening). o.calls) (s.draws_last.same.1 ∙ s.same.1 ∙ s.draws_first.same.1)
+
+  pub few_steps_more : length (own q.thread (added q r)) ≤ most_events q.opened.shape begin → length (own p.thread (added p u)) ≤ most_events p.opened.shape begin + 2
+  few_steps_more few =
+      let two = two_more p q r u begin answer first last log s.is s.room s.no_tick s.draws_first s.same s.makes s.few s.draws_last in
+      let shape : most_events q.opened.shape begin ≡ most_events p.opened.shape begin = ap (λ (o : Opening). most_events o.shape begin) s.draws_first.same.1 in
+      omega arith

@@ -1,25 +1,23 @@
 -- The calls of all logs, by their first stamps, are a history: that of the schedule under other numbers and wider stamps. So an
 -- order that is legal for the one is legal for the other.
-use Rattle.std.proofs.Common.{◌≡◌, ◌≢◌, ◌⊎◌, ℕ, zero, suc, ◌+◌, ◌<◌, ◌≤◌, List, [], ◌∷◌, ◌++◌, length, map, get_or, Bool, true, false, Option, Some, None, refl, sym, ap, ◌∙◌, subst, inl, inr, arith, cond, append_assoc, length-append, ne_eqb, ◌-◌}
-use Rattle.std.specs.Prelude.{IsPermutation, ◌==◌, ◌||◌}
+use Rattle.std.proofs.Common.{◌≡◌, ◌≢◌, ◌⊎◌, ℕ, zero, suc, ◌+◌, ◌<◌, ◌≤◌, List, [], ◌∷◌, ◌++◌, length, map, get_or, true, Option, Some, None, refl, sym, ap, ◌∙◌, subst, inl, inr, arith, cond, append_assoc, length-append, ne_eqb, ◌-◌}
+use Rattle.std.specs.Prelude.{IsPermutation, ◌==◌}
 use Rattle.std.specs.List.{All, Contains, list_any}
 use Rattle.std.specs.List.Sorted.{IsNonDecreasingBy}
 use Rattle.std.proofs.lemmas.Bool.{cases_eq, cases_lt}
-use Rattle.std.proofs.lemmas.Bool.Decides.{nat_tests}
 use Rattle.std.proofs.lemmas.List.Elements.{All-append, All-from_get_or, All-get_or, All-head, All-nil, All-tail, Contains-append_left, Contains-append_right, Contains-get_or}
 use Rattle.std.proofs.lemmas.List.Sorted.{All-permutation, Contains-permutation}
 use Rattle.kfifo_words.specs.declared.shape.Shape.{Shape}
-use Rattle.kfifo_model.specs.declared.calls.Answer.{Answer}
 use Rattle.kfifo_model.specs.declared.calls.Call.{Call}
 use Rattle.kfifo_model.specs.declared.calls.End.{End}
 use Rattle.kfifo_model.specs.declared.calls.Op.{Op}
 use Rattle.kfifo_model.specs.Lists.{Each, EachPair}
-use Rattle.kfifo_model.specs.Histories.{call, no_call, EndsBelow, IsLegal, Precedes}
-use Rattle.kfifo_model.specs.Matching.{Bijects, Matches}
+use Rattle.kfifo_model.specs.Histories.{call, no_call, EndsBelow, IsLegal}
+use Rattle.kfifo_model.specs.Matching.{Matches}
 use Rattle.kfifo_model.specs.Measures.{HasDistinctItems, IsDoneEnqueue}
 use Rattle.kfifo_model.specs.Overtaking.{certainly_overtaken}
 use Rattle.kfifo_model.specs.Relaxed.{Wrong, effect}
-use Rattle.kfifo_model.specs.Validity.{Answers, EndInRange, EndsFrom, IsGood, IsHistory, IsInRange, OpInRange}
+use Rattle.kfifo_model.specs.Validity.{Answers, EndInRange, EndsFrom, IsHistory, IsInRange, OpInRange}
 use Rattle.kfifo_model.proofs.Matching.{HasPartners, done_within, match_by, matched_distinct, matched_done, matched_legal, matched_overtaken}
 use Rattle.kfifo_machine.specs.declared.event.Begin.TheVariants.{Tick}
 use Rattle.kfifo_machine.specs.declared.event.Event.{Event}
@@ -36,7 +34,7 @@ use Rattle.kfifo_live.specs.Schedule.{ticks, world_after}
 use Rattle.kfifo_live.specs.Promise.{calls_of}
 use Rattle.kfifo_live.specs.Stamps.{HasCalls, IsStamped, Logged, all_logs, passes_of}
 use Rattle.kfifo_live.proofs.Shuffles.{AnyPair, later, pairs_shuffled}
-use Rattle.kfifo_live.proofs.Ticks.{ticks-append, ticks_of_one}
+use Rattle.kfifo_live.proofs.Ticks.{ticks-append}
 
 -- of two beginnings of one schedule the shorter has no more ticks
 ticks_up_to : (xs a ys b : List Event) → xs ++ a ≡ ys ++ b → length xs ≤ length ys → ticks xs ≤ ticks ys

@@ -1,5 +1,5 @@
 -- The places of the two calls in their rounds, and what a round comes to.
-use Rattle.std.specs.Prelude.{◌≡◌, ℕ, Option, Some, None}
+use Rattle.std.specs.Prelude.{Option, Some, None}
 use Rattle.kfifo_model.specs.declared.calls.Answer.{Answer}
 use Rattle.kfifo_machine.specs.declared.place.EnqueuePhase.{EnqueuePhase}
 use Rattle.kfifo_machine.specs.declared.place.DequeuePhase.{DequeuePhase}

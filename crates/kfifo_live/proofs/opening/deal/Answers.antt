@@ -1,4 +1,4 @@
-use Rattle.std.proofs.Common.{◌≡◌, ◌<◌, ◌≤◌, ◌+◌, ◌++◌, [], ◌∷◌, sym, ◌∙◌, arith}
+use Rattle.std.proofs.Common.{◌≡◌, ◌<◌, ◌+◌, ◌++◌, [], ◌∷◌, sym, ◌∙◌, arith}
 use Rattle.kfifo_live.specs.Pass.{queue_of, known_of}
 use Rattle.kfifo_live.proofs.Opens.{new_passes-snoc, new_pass, cut_first}
 use Rattle.kfifo_live.proofs.opening.deal.Goals as goal
