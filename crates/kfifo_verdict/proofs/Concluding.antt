@@ -1,10 +1,9 @@
 -- What evidence says of orders, and the lower bound of k.
-use Rattle.std.proofs.Common.{ℕ, ◌≡◌, ◌+◌, ◌-◌, ◌<◌, ◌≤◌, ◌⊎◌, List, length, refl, sym, ◌∙◌, ap, subst, inl, inr, arith, Option, Some, None, Result, Ok, Err}
+use Rattle.std.proofs.Common.{ℕ, ◌≡◌, ◌+◌, ◌-◌, ◌<◌, ◌≤◌, ◌⊎◌, List, length, sym, subst, inl, inr, arith, Option, Some, None, Result, Ok, Err}
 use Rattle.std.specs.Result.{IfOk}
 use Rattle.std.specs.Option.{MatchOption, OnSome}
 use Rattle.std.proofs.lemmas.Bool.{cases_lt}
 use Rattle.kfifo_model.specs.declared.calls.Call.{Call}
-use Rattle.kfifo_model.specs.Histories.{IsLegal}
 use Rattle.kfifo_model.specs.Validity.{IsHistory}
 use Rattle.kfifo_model.specs.Searching.{HasOrder}
 use Rattle.kfifo_verdict.specs.declared.verdicts.Evidence.{Evidence}

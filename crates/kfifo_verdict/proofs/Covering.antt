@@ -1,13 +1,12 @@
 -- A chain of items of which one is certainly there at each moment of a call.
-use Rattle.std.proofs.Common.{ℕ, zero, suc, ◌≡◌, ◌≢◌, ◌+◌, ◌<◌, ◌≤◌, ◌↔◌, ◌⊎◌, List, [], ◌∷◌, ◌++◌, length, get_or, refl, sym, ◌∙◌, ap, subst, inl, inr, arith, Option, Some, None}
+use Rattle.std.proofs.Common.{ℕ, ◌≡◌, ◌≢◌, ◌<◌, ◌≤◌, List, [], ◌∷◌, ◌++◌, length, get_or, refl, sym, subst, inl, inr, arith}
 use Rattle.std.proofs.lemmas.Bool.{cases_lt}
 use Rattle.kfifo_model.specs.declared.calls.Call.{Call}
-use Rattle.kfifo_model.specs.declared.calls.End.{End}
-use Rattle.kfifo_model.specs.Lists.{IsIn, Each, EachPair}
+use Rattle.kfifo_model.specs.Lists.{IsIn, Each}
 use Rattle.kfifo_model.specs.Relaxed.{Finds_none}
 use Rattle.kfifo_model.specs.Histories.{call, does, EndsBelow, HasNoRepeats}
-use Rattle.kfifo_model.specs.Validity.{IsHistory, EndsFrom}
-use Rattle.kfifo_model.proofs.Lists.{in_append, in_left, in_right, each_at, each_from, pairs_push}
+use Rattle.kfifo_model.specs.Validity.{IsHistory}
+use Rattle.kfifo_model.proofs.Lists.{in_left, in_right, each_at, each_from, pairs_push}
 use Rattle.kfifo_verdict.specs.declared.finding.Stay.{Stay}
 use Rattle.kfifo_verdict.specs.Evidence.{IsCertainlyThere, IsMomentOf, IsNotEmpty}
 use Rattle.kfifo_verdict.specs.Finding.{first_of, IsStay, no_stay, AreStays}

@@ -1,11 +1,10 @@
 -- Items that are gone are passed over.
-use Rattle.std.proofs.Common.{ℕ, zero, suc, ◌≡◌, ◌≢◌, ◌+◌, ◌<◌, ◌≤◌, ◌⊎◌, ◌&&◌, Bool, true, false, cond, leb, List, length, get_or, set, refl, sym, ◌∙◌, ap, subst, inl, inr, arith, get_or-set_other, get_or-set_same}
+use Rattle.std.proofs.Common.{ℕ, zero, suc, ◌≡◌, ◌≢◌, ◌+◌, ◌<◌, ◌≤◌, Bool, false, cond, leb, List, length, get_or, set, refl, sym, ◌∙◌, ap, subst, inl, inr, arith, get_or-set_other, get_or-set_same}
 use Rattle.std.proofs.lemmas.Bool.{cases_lt, cases_eq, lt-leb, and_right}
 use Rattle.std.proofs.Math.ListN.{length-set}
 use Rattle.kfifo_verdict.specs.declared.presences.Presence.{Presence}
 use Rattle.kfifo_verdict.specs.Evidence.{count_below}
-use Rattle.kfifo_verdict.specs.Finding.{no_presence, outlast, lasts_at, AreSkips, IsCountedTo}
-use Rattle.kfifo_verdict.proofs.Younger.{count_yes, count_no}
+use Rattle.kfifo_verdict.specs.Finding.{no_presence, lasts_at, AreSkips}
 
 pub skips_new : (ps : List Presence) (skips : List ℕ) → length skips ≡ length ps + 1 → ((i : ℕ) → i < length ps + 1 → get_or skips i 0 ≡ i) → AreSkips ps 0 skips
 skips_new ps skips size same = record {

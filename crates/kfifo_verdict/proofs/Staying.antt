@@ -1,5 +1,5 @@
 -- Of the items that are there at a call the one that stays longest.
-use Rattle.std.proofs.Common.{ℕ, zero, suc, ◌≡◌, ◌≢◌, ◌+◌, ◌<◌, ◌≤◌, ◌↔◌, ◌⊎◌, List, [], ◌∷◌, ◌++◌, length, get_or, set, replicate, refl, sym, ◌∙◌, ap, subst, inl, inr, arith, length-append, get_or-set_other, get_or-set_same}
+use Rattle.std.proofs.Common.{ℕ, ◌≡◌, ◌≢◌, ◌+◌, ◌<◌, ◌≤◌, ◌⊎◌, List, [], ◌∷◌, ◌++◌, length, get_or, set, replicate, refl, sym, ◌∙◌, ap, subst, inl, inr, arith, length-append, get_or-set_other, get_or-set_same}
 use Rattle.std.proofs.lemmas.Bool.{cases_lt, cases_eq}
 use Rattle.std.proofs.lemmas.List.{get_or_append_left, get_or-replicate}
 use Rattle.std.proofs.Math.ListN.{length-set}
@@ -8,8 +8,7 @@ use Rattle.kfifo_model.specs.declared.calls.Call.{Call}
 use Rattle.kfifo_model.specs.Validity.{IsHistory}
 use Rattle.kfifo_verdict.specs.declared.presences.Presence.{Presence}
 use Rattle.kfifo_verdict.specs.declared.finding.Stay.{Stay}
-use Rattle.kfifo_verdict.specs.Evidence.{IsCertainlyThere}
-use Rattle.kfifo_verdict.specs.Finding.{first_of, IsPresence, ArePresences, no_presence, IsStay, no_stay, AreStays, IsBucketed}
+use Rattle.kfifo_verdict.specs.Finding.{IsPresence, ArePresences, no_presence, IsStay, no_stay, AreStays, IsBucketed}
 use Rattle.kfifo_verdict.proofs.Refuting.{put_inside}
 use Rattle.kfifo_verdict.proofs.Moments.{not_falling}
 

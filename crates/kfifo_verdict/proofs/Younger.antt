@@ -1,14 +1,14 @@
 -- Items that are certainly older and there where a single item is got.
-use Rattle.std.proofs.Common.{ℕ, zero, suc, ◌≡◌, ◌≢◌, ◌+◌, ◌<◌, ◌≤◌, ◌↔◌, ◌⊎◌, ◌&&◌, min, Bool, true, false, cond, count_by, leb, List, [], ◌∷◌, ◌++◌, length, get_or, add-one, refl, sym, ◌∙◌, ap, subst, inl, inr, arith, length-append}
+use Rattle.std.proofs.Common.{ℕ, zero, suc, ◌≡◌, ◌≢◌, ◌+◌, ◌<◌, ◌≤◌, ◌↔◌, Bool, true, false, cond, count_by, leb, List, [], ◌∷◌, ◌++◌, length, get_or, add-one, refl, sym, ◌∙◌, ap, subst, inl, inr, arith, length-append}
 use Rattle.std.proofs.lemmas.Bool.{cases_lt, cases_Bool, and_parts, and_from, leb-true, le-leb}
 use Rattle.kfifo_model.specs.declared.calls.Call.{Call}
-use Rattle.kfifo_model.specs.Lists.{IsIn, Each, EachPair}
-use Rattle.kfifo_model.specs.Histories.{call, does, HasNoRepeats}
+use Rattle.kfifo_model.specs.Lists.{IsIn, Each}
+use Rattle.kfifo_model.specs.Histories.{call, HasNoRepeats}
 use Rattle.kfifo_model.specs.Validity.{IsHistory}
-use Rattle.kfifo_model.proofs.Lists.{in_append, in_left, in_right, each_at, each_from, pairs_push}
+use Rattle.kfifo_model.proofs.Lists.{in_append, each_at, each_from, pairs_push}
 use Rattle.kfifo_verdict.specs.declared.presences.Presence.{Presence}
 use Rattle.kfifo_verdict.specs.Evidence.{Gets, count_below, IsSingle, IsOlder, IsTooYoung}
-use Rattle.kfifo_verdict.specs.Finding.{IsStart, IsPresence, ArePresences, no_presence, outlast, lasts_at, IsCountedTo, AreFirst}
+use Rattle.kfifo_verdict.specs.Finding.{IsStart, ArePresences, no_presence, lasts_at, IsCountedTo, AreFirst}
 use Rattle.kfifo_verdict.specs.Judging.{GotTooYoung}
 use Rattle.kfifo_verdict.proofs.Counting.{count_cons, count_within}
 use Rattle.kfifo_verdict.proofs.Refuting.{put_inside}
