@@ -104,9 +104,6 @@ never_presence h p s start gone none = record {
 
 -- ---- the presences so far
 
-pub presences_none : (h : List Call) (ps : List Presence) → ps ≡ [] → ArePresences h 0 ps
-presences_none h ps e = (ap length e, λ p lt. absurd (omega arith))
-
 pub presences_more : (h : List Call) (n : ℕ) (ps more : List Presence) (s : Presence) → ArePresences h n ps → IsPresence h n s → more ≡ ps ++ s ∷ [] → ArePresences h (n + 1) more
 presences_more h n ps more s was is e =
     let size = was.0 in

@@ -34,9 +34,6 @@ pub record IsMost (h : List Call) (n most : ℕ) : Type 0 where
   pub attained : 0 < most → (c : ℕ) × GotTooYoung most h c
   pub few : most ≤ length h
 
-pub most_none : (h : List Call) → IsMost h 0 0
-most_none h = record { above = λ m c lt. absurd (omega arith); attained = λ lt. absurd (omega arith); few = omega arith }
-
 pub most_skip : (h : List Call) (n most : ℕ) → IsMost h n most → ((m : ℕ) → GotTooYoung m h n → ⊥) → IsMost h (n + 1) most
 most_skip h n most i none = record {
   above = λ m c lt y. elim (cases_lt c n) [

@@ -65,6 +65,3 @@ start_found h end i le p = record {
     λ ge. leb-false (first_of h d) end.last (p.1 d no_call ge inside),
   );
 }
-
-pub start_none : (h : List Call) → IsStart h None (length h)
-start_none h = record { bound = omega arith; starts = λ d inside. (λ l. absurd l, λ ge. absurd (omega arith)) }

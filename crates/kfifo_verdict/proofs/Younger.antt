@@ -181,11 +181,3 @@ young_count h ps g put after count v are start s counted =
       λ m young. (let most = no_more_older h ps s.0 g put after m v are start s.1 s.2 young in omega (arith, most, e)),
       omega (arith, few, inside, e),
     )
-
--- the call that gets an item precedes only later calls
-pub starts_later : (h : List Call) (g after : ℕ) → IsHistory h → g < length h → IsStart h (call h g).end after → g < after
-starts_later h g after v inside s =
-    elim (cases_lt g after) [
-      | inl lt ↦ lt
-      | inr le ↦ (let lt = precedes_below h g g v inside ((s.starts g inside).1 le) in absurd (omega (arith, lt)))
-    ]
