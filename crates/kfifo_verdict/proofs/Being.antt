@@ -1,17 +1,16 @@
 -- When single items are there.
-use Rattle.std.proofs.Common.{ℕ, zero, suc, ◌≡◌, ◌≢◌, ◌+◌, ◌<◌, ◌≤◌, ◌↔◌, ◌⊎◌, List, [], ◌∷◌, ◌++◌, length, get_or, refl, sym, ◌∙◌, ap, subst, inl, inr, arith, Option, Some, None, length-append}
+use Rattle.std.proofs.Common.{ℕ, ◌≡◌, ◌+◌, ◌<◌, ◌≤◌, ◌↔◌, ◌⊎◌, List, [], ◌∷◌, ◌++◌, length, get_or, sym, ◌∙◌, ap, subst, inl, inr, arith, length-append}
 use Rattle.std.proofs.lemmas.Bool.{cases_lt}
 use Rattle.std.proofs.lemmas.List.{get_or_append_left}
 use Rattle.std.proofs.Math.Seq.{get_or-append_seam}
 use Rattle.kfifo_model.specs.declared.calls.Call.{Call}
 use Rattle.kfifo_model.specs.Relaxed.{Adds}
-use Rattle.kfifo_model.specs.Histories.{call, does, EndsBelow, Precedes}
+use Rattle.kfifo_model.specs.Histories.{call, Precedes}
 use Rattle.kfifo_model.specs.Validity.{IsHistory}
 use Rattle.kfifo_verdict.specs.declared.presences.Presence.{Presence}
 use Rattle.kfifo_verdict.specs.Evidence.{Puts, Gets, IsSingle, IsCertainlyThere, IsOlder}
 use Rattle.kfifo_verdict.specs.Finding.{first_of, IsStart, IsPresence, ArePresences, no_presence}
-use Rattle.kfifo_verdict.proofs.Refuting.{put_inside}
-use Rattle.kfifo_verdict.proofs.Moments.{rising, sooner, ends_later}
+use Rattle.kfifo_verdict.proofs.Moments.{sooner, ends_later}
 use Rattle.kfifo_verdict.proofs.Telling.{got_inside}
 
 -- what is known of a single item
@@ -104,9 +103,6 @@ never_presence h p s start gone none = record {
 }
 
 -- ---- the presences so far
-
-pub presences_none : (h : List Call) (ps : List Presence) → ps ≡ [] → ArePresences h 0 ps
-presences_none h ps e = (ap length e, λ p lt. absurd (omega arith))
 
 pub presences_more : (h : List Call) (n : ℕ) (ps more : List Presence) (s : Presence) → ArePresences h n ps → IsPresence h n s → more ≡ ps ++ s ∷ [] → ArePresences h (n + 1) more
 presences_more h n ps more s was is e =

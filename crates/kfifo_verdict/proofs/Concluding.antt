@@ -1,10 +1,9 @@
 -- What evidence says of orders, and the lower bound of k.
-use Rattle.std.proofs.Common.{ℕ, ◌≡◌, ◌+◌, ◌-◌, ◌<◌, ◌≤◌, ◌⊎◌, List, length, refl, sym, ◌∙◌, ap, subst, inl, inr, arith, Option, Some, None, Result, Ok, Err}
+use Rattle.std.proofs.Common.{ℕ, ◌≡◌, ◌+◌, ◌-◌, ◌<◌, ◌≤◌, ◌⊎◌, List, length, sym, subst, inl, inr, arith, Option, Some, None, Result, Ok, Err}
 use Rattle.std.specs.Result.{IfOk}
 use Rattle.std.specs.Option.{MatchOption, OnSome}
 use Rattle.std.proofs.lemmas.Bool.{cases_lt}
 use Rattle.kfifo_model.specs.declared.calls.Call.{Call}
-use Rattle.kfifo_model.specs.Histories.{IsLegal}
 use Rattle.kfifo_model.specs.Validity.{IsHistory}
 use Rattle.kfifo_model.specs.Searching.{HasOrder}
 use Rattle.kfifo_verdict.specs.declared.verdicts.Evidence.{Evidence}
@@ -34,9 +33,6 @@ pub record IsMost (h : List Call) (n most : ℕ) : Type 0 where
   pub above : (m c : ℕ) → c < n → GotTooYoung m h c → m ≤ most
   pub attained : 0 < most → (c : ℕ) × GotTooYoung most h c
   pub few : most ≤ length h
-
-pub most_none : (h : List Call) → IsMost h 0 0
-most_none h = record { above = λ m c lt. absurd (omega arith); attained = λ lt. absurd (omega arith); few = omega arith }
 
 pub most_skip : (h : List Call) (n most : ℕ) → IsMost h n most → ((m : ℕ) → GotTooYoung m h n → ⊥) → IsMost h (n + 1) most
 most_skip h n most i none = record {

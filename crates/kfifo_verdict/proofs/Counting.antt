@@ -1,9 +1,9 @@
 -- How many numbers of a list, or below a bound, pass a test.
-use Rattle.std.proofs.Common.{ℕ, zero, suc, ◌≡◌, ◌≢◌, ◌+◌, ◌<◌, ◌≤◌, ◌⊎◌, Bool, true, false, cond, count_by, List, [], ◌∷◌, ◌++◌, length, refl, sym, ◌∙◌, ap, subst, inl, inr, arith, length-append}
-use Rattle.std.proofs.lemmas.Bool.{cases_Bool, cases_eq}
+use Rattle.std.proofs.Common.{ℕ, zero, suc, ◌≡◌, ◌≢◌, ◌+◌, ◌<◌, ◌≤◌, Bool, true, cond, count_by, List, [], ◌∷◌, ◌++◌, length, refl, sym, ◌∙◌, ap, subst, inl, inr, arith, length-append}
+use Rattle.std.proofs.lemmas.Bool.{cases_Bool}
 use Rattle.std.proofs.lemmas.List.Sums.{sum_by-cons}
 use Rattle.kfifo_model.specs.Lists.{IsIn, Each, EachPair}
-use Rattle.kfifo_model.proofs.Lists.{in_append, in_left, in_right, in_less, in_more, parted, each_at, each_from, pairs_less, pairs_across, pairs_back, Differ, cases_in}
+use Rattle.kfifo_model.proofs.Lists.{in_append, in_less, in_more, parted, each_at, each_from, pairs_less, pairs_across, pairs_back, Differ, cases_in}
 use Rattle.kfifo_verdict.specs.Evidence.{count_below}
 
 pub count_cons : (t : ℕ → Bool) (x : ℕ) (l : List ℕ) → count_by t (x ∷ l) ≡ cond (t x) 1 0 + count_by t l

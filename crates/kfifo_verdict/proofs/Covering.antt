@@ -1,19 +1,17 @@
 -- A chain of items of which one is certainly there at each moment of a call.
-use Rattle.std.proofs.Common.{ℕ, zero, suc, ◌≡◌, ◌≢◌, ◌+◌, ◌<◌, ◌≤◌, ◌↔◌, ◌⊎◌, List, [], ◌∷◌, ◌++◌, length, get_or, refl, sym, ◌∙◌, ap, subst, inl, inr, arith, Option, Some, None}
+use Rattle.std.proofs.Common.{ℕ, ◌≡◌, ◌≢◌, ◌<◌, ◌≤◌, List, [], ◌∷◌, ◌++◌, length, get_or, refl, sym, subst, inl, inr, arith}
 use Rattle.std.proofs.lemmas.Bool.{cases_lt}
 use Rattle.kfifo_model.specs.declared.calls.Call.{Call}
-use Rattle.kfifo_model.specs.declared.calls.End.{End}
-use Rattle.kfifo_model.specs.Lists.{IsIn, Each, EachPair}
-use Rattle.kfifo_model.specs.Relaxed.{Finds_none}
-use Rattle.kfifo_model.specs.Histories.{call, does, EndsBelow, HasNoRepeats}
-use Rattle.kfifo_model.specs.Validity.{IsHistory, EndsFrom}
-use Rattle.kfifo_model.proofs.Lists.{in_append, in_left, in_right, each_at, each_from, pairs_push}
+use Rattle.kfifo_model.specs.Lists.{IsIn, Each}
+use Rattle.kfifo_model.specs.Histories.{call, EndsBelow, HasNoRepeats}
+use Rattle.kfifo_model.specs.Validity.{IsHistory}
+use Rattle.kfifo_model.proofs.Lists.{in_left, in_right, each_at, each_from, pairs_push}
 use Rattle.kfifo_verdict.specs.declared.finding.Stay.{Stay}
-use Rattle.kfifo_verdict.specs.Evidence.{IsCertainlyThere, IsMomentOf, IsNotEmpty}
+use Rattle.kfifo_verdict.specs.Evidence.{IsCertainlyThere, IsMomentOf}
 use Rattle.kfifo_verdict.specs.Finding.{first_of, IsStay, no_stay, AreStays}
 use Rattle.kfifo_verdict.specs.Judging.{FoundNotEmpty}
 use Rattle.kfifo_verdict.proofs.Refuting.{not_ended}
-use Rattle.kfifo_verdict.proofs.Moments.{rising, not_falling, reached}
+use Rattle.kfifo_verdict.proofs.Moments.{rising, not_falling}
 
 -- the puts cover the moments of call e below the first step of call n, if there is one
 pub record IsChain (h : List Call) (e n : ℕ) (puts : List ℕ) : Type 0 where
@@ -22,19 +20,6 @@ pub record IsChain (h : List Call) (e n : ℕ) (puts : List ℕ) : Type 0 where
   pub met : Each (λ p. (moment : ℕ) × IsMomentOf h e moment × IsCertainlyThere h p moment) puts
   pub distinct : HasNoRepeats puts
   pub gone : Each (λ p. n < length h → (moment : ℕ) → first_of h n ≤ moment → IsCertainlyThere h p moment → ⊥) puts
-
-pub chain_none : (h : List Call) (e : ℕ) (puts : List ℕ) → e < length h → puts ≡ [] → IsChain h e e puts
-chain_none h e puts inside none =
-    let M : List ℕ → Type 0 = λ w. Each (λ p. (moment : ℕ) × IsMomentOf h e moment × IsCertainlyThere h p moment) w in
-    let D : List ℕ → Type 0 = λ w. HasNoRepeats w in
-    let G : List ℕ → Type 0 = λ w. Each (λ p. e < length h → (moment : ℕ) → first_of h e ≤ moment → IsCertainlyThere h p moment → ⊥) w in
-    record {
-      from = omega arith;
-      covered = λ moment le below. let lt = below inside in absurd (omega (arith, le, lt));
-      met = subst M (sym none) tt;
-      distinct = subst D (sym none) tt;
-      gone = subst G (sym none) tt;
-    }
 
 -- call n begins at a moment of call e
 pub moment_here : (h : List Call) (e n : ℕ) → IsHistory h → e ≤ n → n < length h → (EndsBelow (call h e).end (first_of h n) → ⊥) → IsMomentOf h e (first_of h n)
@@ -71,15 +56,6 @@ chain_more h e n puts more s v r inside open_ lt is c =
           each_at (λ q. n < length h → (m : ℕ) → first_of h n ≤ m → IsCertainlyThere h q m → ⊥) p puts c.gone i inside (first_of h n) (omega arith) (subst P (sym same) now)));
       gone = subst G (sym is) (each_push (λ p. s.gone < length h → (m : ℕ) → first_of h s.gone ≤ m → IsCertainlyThere h p m → ⊥) puts s.put old_gone (λ gone_in m le t. let b = r.until lt m t gone_in in absurd (omega (arith, b, le))));
     }
-
--- the call ends before call n begins
-pub chain_all : (h : List Call) (e n : ℕ) (puts : List ℕ) → does h e ≡ Finds_none → (n < length h → EndsBelow (call h e).end (first_of h n)) → IsChain h e n puts → IsNotEmpty h e puts
-chain_all h e n puts is ends c = record {
-  empty = is;
-  covered = λ m at. c.covered m at.0 (λ inside. reached (call h e).end m (first_of h n) at.1 (ends inside));
-  met = c.met;
-  distinct = c.distinct;
-}
 
 -- at the beginning of call n no item is certainly there
 pub chain_broken : (h : List Call) (e n : ℕ) (puts : List ℕ) (stays : List Stay) → IsHistory h → AreStays h stays → n < length h → (EndsBelow (call h e).end (first_of h n) → ⊥) → (get_or stays n no_stay).gone ≤ n → IsChain h e n puts → FoundNotEmpty h e → ⊥

@@ -1,5 +1,5 @@
 -- The first steps of a history's calls rise with their numbers.
-use Rattle.std.proofs.Common.{ℕ, zero, suc, ◌≡◌, ◌≢◌, ◌+◌, ◌<◌, ◌≤◌, ◌↔◌, ◌⊎◌, Bool, true, false, leb, List, length, get_or, refl, sym, ◌∙◌, ap, subst, inl, inr, arith, Option, Some, None}
+use Rattle.std.proofs.Common.{ℕ, zero, suc, ◌≡◌, ◌+◌, ◌<◌, ◌≤◌, true, false, leb, List, length, sym, ap, subst, inl, inr, arith, Option, Some, None}
 use Rattle.std.specs.List.Sorted.{IsNonDecreasingBy, IsPartitionPoint}
 use Rattle.std.proofs.lemmas.Bool.{cases_lt, leb-true, leb-false}
 use Rattle.std.proofs.lemmas.List.{get_or_default}
@@ -65,6 +65,3 @@ start_found h end i le p = record {
     λ ge. leb-false (first_of h d) end.last (p.1 d no_call ge inside),
   );
 }
-
-pub start_none : (h : List Call) → IsStart h None (length h)
-start_none h = record { bound = omega arith; starts = λ d inside. (λ l. absurd l, λ ge. absurd (omega arith)) }

@@ -1,24 +1,23 @@
 -- Each kind of evidence refutes every order.
-use Rattle.std.proofs.Common.{ℕ, zero, suc, ◌≡◌, ◌≢◌, ◌+◌, ◌<◌, ◌≤◌, ◌⊎◌, Bool, true, false, cond, eqb, count_by, List, [], ◌∷◌, ◌++◌, length, map, refl, sym, ◌∙◌, ap, subst, inl, inr, arith, Option, Some, None, slice_get, append_assoc}
-use Rattle.std.specs.List.{remove}
-use Rattle.std.proofs.lemmas.Bool.{cases_Bool, cases_eq, cases_lt, eqb-true}
+use Rattle.std.proofs.Common.{ℕ, ◌≡◌, ◌≢◌, ◌<◌, ◌≤◌, ◌⊎◌, Bool, true, count_by, List, [], ◌∷◌, ◌++◌, length, map, refl, sym, ◌∙◌, ap, subst, inl, inr, arith, Option, Some, None, slice_get}
+use Rattle.std.proofs.lemmas.Bool.{cases_lt, eqb-true}
 use Rattle.std.proofs.lemmas.List.{map-append}
 use Rattle.kfifo_model.specs.declared.calls.Call.{Call}
 use Rattle.kfifo_model.specs.declared.calls.End.{End}
 use Rattle.kfifo_model.specs.declared.calls.Op.{Op}
 use Rattle.kfifo_model.specs.declared.calls.Op.TheVariants.{Enqueue, Dequeue}
-use Rattle.kfifo_model.specs.Lists.{IsIn, Each, EachPair}
+use Rattle.kfifo_model.specs.Lists.{IsIn, EachPair}
 use Rattle.kfifo_model.specs.Relaxed.{Effect, Adds, Takes, Finds_none, Refused, Wrong, Leaves, IsRun}
-use Rattle.kfifo_model.specs.Histories.{call, no_call, does, effect_at, HasEnd, CanStand, IsFinished, EndsBelow, Precedes, HasOnlyCalls, HasEachFinished, KeepsBefore, HasNoRepeats, IsOrder, IsLegal}
+use Rattle.kfifo_model.specs.Histories.{call, does, effect_at, HasEnd, CanStand, IsFinished, EndsBelow, Precedes, IsLegal}
 use Rattle.kfifo_model.specs.Overtaking.{adds, takes}
 use Rattle.kfifo_model.specs.Validity.{IsHistory, EndsFrom}
 use Rattle.kfifo_model.specs.Searching.{HasOrder}
 use Rattle.kfifo_model.proofs.Lists.{in_append, in_left, in_right, parted, each_at, each_from, pairs_back, pairs_front, pairs_across, Differ}
 use Rattle.kfifo_model.proofs.Forgetting.{Has}
 use Rattle.kfifo_model.proofs.Checking.{in_bounds}
-use Rattle.kfifo_verdict.specs.Evidence.{Puts, Gets, count_below, puts_of, gets_of, IsSingle, IsCertainlyThere, IsMomentOf, IsNeverPut, IsTakenTwice, IsNotEmpty, IsOlder, IsTooYoung}
+use Rattle.kfifo_verdict.specs.Evidence.{Puts, Gets, IsSingle, IsNeverPut, IsTakenTwice, IsNotEmpty, IsOlder, IsTooYoung}
 use Rattle.kfifo_verdict.proofs.Counting.{count_cons, count_into, count_within, as_many}
-use Rattle.kfifo_verdict.proofs.Runs.{RunsTo, run_split, runs_split, has_map, into_map, in_get, put_along, came_along, IsBehind, behind_along, place_behind, times, copies, taken_as_often}
+use Rattle.kfifo_verdict.proofs.Runs.{RunsTo, run_split, runs_split, has_map, into_map, in_get, put_along, came_along, IsBehind, behind_along, place_behind, times, taken_as_often}
 
 -- ---- what an effect says of its call
 

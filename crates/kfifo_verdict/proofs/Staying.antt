@@ -1,15 +1,14 @@
 -- Of the items that are there at a call the one that stays longest.
-use Rattle.std.proofs.Common.{ℕ, zero, suc, ◌≡◌, ◌≢◌, ◌+◌, ◌<◌, ◌≤◌, ◌↔◌, ◌⊎◌, List, [], ◌∷◌, ◌++◌, length, get_or, set, replicate, refl, sym, ◌∙◌, ap, subst, inl, inr, arith, length-append, get_or-set_other, get_or-set_same}
+use Rattle.std.proofs.Common.{ℕ, ◌≡◌, ◌≢◌, ◌+◌, ◌<◌, ◌≤◌, ◌⊎◌, List, [], ◌∷◌, ◌++◌, length, get_or, set, refl, sym, ◌∙◌, ap, subst, inl, inr, arith, length-append, get_or-set_other, get_or-set_same}
 use Rattle.std.proofs.lemmas.Bool.{cases_lt, cases_eq}
-use Rattle.std.proofs.lemmas.List.{get_or_append_left, get_or-replicate}
+use Rattle.std.proofs.lemmas.List.{get_or_append_left}
 use Rattle.std.proofs.Math.ListN.{length-set}
 use Rattle.std.proofs.Math.Seq.{get_or-append_seam}
 use Rattle.kfifo_model.specs.declared.calls.Call.{Call}
 use Rattle.kfifo_model.specs.Validity.{IsHistory}
 use Rattle.kfifo_verdict.specs.declared.presences.Presence.{Presence}
 use Rattle.kfifo_verdict.specs.declared.finding.Stay.{Stay}
-use Rattle.kfifo_verdict.specs.Evidence.{IsCertainlyThere}
-use Rattle.kfifo_verdict.specs.Finding.{first_of, IsPresence, ArePresences, no_presence, IsStay, no_stay, AreStays, IsBucketed}
+use Rattle.kfifo_verdict.specs.Finding.{IsPresence, ArePresences, no_presence, IsStay, no_stay, AreStays, IsBucketed}
 use Rattle.kfifo_verdict.proofs.Refuting.{put_inside}
 use Rattle.kfifo_verdict.proofs.Moments.{not_falling}
 
@@ -47,15 +46,6 @@ presence_stays h p c s r le inside = record {
 }
 
 -- ---- the items by the calls from which on they are there
-
-pub bucketed_none : (h : List Call) (ps : List Presence) (stays : List Stay) → stays ≡ replicate (length h) no_stay → length stays ≡ length h → IsBucketed h ps 0 stays
-bucketed_none h ps stays e size = record {
-  sized = size;
-  real = λ c inside.
-      let P : Stay → Type 0 = λ w. IsStay h c w in
-      subst P (sym (ap (λ (l : List Stay). get_or l c no_stay) e ∙ get_or-replicate (length h) c no_stay no_stay inside)) (no_stay_real h c);
-  longest = λ p c lt. absurd (omega arith);
-}
 
 -- the item of call n is there from no call on
 pub bucketed_skip : (h : List Call) (ps : List Presence) (n : ℕ) (stays : List Stay) → IsBucketed h ps n stays → length h ≤ (get_or ps n no_presence).start → IsBucketed h ps (n + 1) stays
@@ -124,15 +114,6 @@ pub record IsLongest (h : List Call) (ps : List Presence) (found : List Stay) (b
   pub best_longest : (p : ℕ) → p < length h → (get_or ps p no_presence).start < n → (get_or ps p no_presence).gone ≤ best.gone
   pub real : (c : ℕ) → c < n → IsStay h c (get_or found c no_stay)
   pub longest : (c p : ℕ) → c < n → p < length h → (get_or ps p no_presence).start ≤ c → (get_or ps p no_presence).gone ≤ (get_or found c no_stay).gone
-
-pub longest_none : (h : List Call) (ps : List Presence) (found : List Stay) (best : Stay) → found ≡ [] → best ≡ no_stay → IsLongest h ps found best 0
-longest_none h ps found best e none = record {
-  sized = ap length e;
-  best_real = λ c le inside. let P : Stay → Type 0 = λ w. IsStay h c w in subst P (sym none) (no_stay_real h c);
-  best_longest = λ p inside lt. absurd (omega arith);
-  real = λ c lt. absurd (omega arith);
-  longest = λ c p lt. absurd (omega arith);
-}
 
 pub longest_more : (h : List Call) (ps : List Presence) (stays found more : List Stay) (best stay next : Stay) (n : ℕ)
     → IsHistory h → IsBucketed h ps (length h) stays → n < length h → stay ≡ get_or stays n no_stay → IsLonger best stay next → more ≡ found ++ next ∷ [] → IsLongest h ps found best n → IsLongest h ps more next (n + 1)

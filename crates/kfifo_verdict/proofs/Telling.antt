@@ -1,19 +1,18 @@
 -- What tallies tell of items.
-use Rattle.std.proofs.Common.{ℕ, zero, suc, ◌≡◌, ◌≢◌, ◌+◌, ◌<◌, ◌≤◌, ◌↔◌, ◌⊎◌, Bool, true, false, cond, eqb, List, length, add-one, refl, sym, ◌∙◌, ap, subst, inl, inr, arith, Option, Some, None}
-use Rattle.std.proofs.lemmas.Bool.{cases_lt, cases_eq, eqb-true, eq-eqb, ne_eqb, false≢true, false_from_ne_true}
+use Rattle.std.proofs.Common.{ℕ, ◌≡◌, ◌≢◌, ◌+◌, ◌<◌, ◌≤◌, Bool, true, false, cond, eqb, List, length, add-one, refl, sym, ◌∙◌, ap, subst, inl, inr, arith}
+use Rattle.std.proofs.lemmas.Bool.{cases_lt, cases_eq, eq-eqb, ne_eqb, false≢true, false_from_ne_true}
 use Rattle.kfifo_model.specs.declared.calls.Call.{Call}
-use Rattle.kfifo_model.specs.Relaxed.{Effect, Adds, Takes, Finds_none, Refused, Wrong}
+use Rattle.kfifo_model.specs.Relaxed.{Effect, Adds, Takes, Finds_none}
 use Rattle.kfifo_model.specs.Overtaking.{adds, takes}
-use Rattle.kfifo_model.specs.Histories.{call, does, EndsBelow, Precedes}
+use Rattle.kfifo_model.specs.Histories.{does}
 use Rattle.kfifo_verdict.specs.declared.deeds.Deed.{Deed}
 use Rattle.kfifo_verdict.specs.declared.deeds.Deed.TheVariants.{PutIn, TookOut, FoundNone, Nothing}
 use Rattle.kfifo_verdict.specs.declared.deeds.Side.{Side}
 use Rattle.kfifo_verdict.specs.declared.deeds.Side.TheVariants.{In, Out}
 use Rattle.kfifo_verdict.specs.declared.tallies.Tally.{Tally}
-use Rattle.kfifo_verdict.specs.Evidence.{Puts, Gets, count_below, puts_of, gets_of, IsSingle, IsNeverPut, IsTakenTwice}
-use Rattle.kfifo_verdict.specs.Finding.{IsDeed, has_item, side_effect, first_of, IsTally, IsTallied, no_tally}
+use Rattle.kfifo_verdict.specs.Evidence.{Puts, Gets, count_below, puts_of, gets_of, IsSingle, IsTakenTwice}
+use Rattle.kfifo_verdict.specs.Finding.{IsDeed, has_item, side_effect, first_of, IsTally, IsTallied}
 use Rattle.kfifo_verdict.proofs.Refuting.{put_inside, got_ended, ended_inside, takes_is, adds_is}
-use Rattle.kfifo_verdict.proofs.Moments.{ends_later}
 
 pub puts_pass : (h : List Call) (x c : ℕ) → Puts h x c → has_item In h x c ≡ true
 puts_pass h x c e = ap (adds x) e ∙ eq-eqb x x refl
@@ -25,18 +24,6 @@ pub got_inside : (h : List Call) (x g : ℕ) → Gets h x g → g < length h
 got_inside h x g e = ended_inside h g (got_ended h x g e)
 
 -- ---- a tally, call by call
-
-pub tally_none : (test : ℕ → Bool) (first : ℕ → ℕ) → IsTally test first 0 no_tally
-tally_none test first = record {
-  few = omega arith;
-  count = refl;
-  earliest = λ c lt t. absurd (omega arith);
-  attained = λ lt. absurd (omega arith);
-  last = λ c lt t. absurd (omega arith);
-  passes = λ lt. absurd (omega arith);
-  only = λ e c lt t. absurd (omega arith);
-  more = λ lt. absurd (omega arith);
-}
 
 below_last : (test : ℕ → Bool) (n c : ℕ) → test n ≡ false → c < n + 1 → test c ≡ true → c < n
 below_last test n c fails lt t =
@@ -145,26 +132,8 @@ put_last h x put ps e = let some : 0 < put.count = omega (arith, e) in adds_is x
 
 -- ---- never put, and taken twice
 
-pub never_from : (h : List Call) (x g : ℕ) (put : Tally) → IsTally (has_item In h x) (first_of h) (length h) put → Gets h x g → (put.count ≡ 0) ⊎ EndsBelow (call h g).end put.earliest → IsNeverPut h g
-never_from h x g put ps is (inl none) = (x, is, λ p e. let some = (ps.last p (put_inside h x p e) (puts_pass h x p e)).1 in absurd (omega (arith, some, none)))
-never_from h x g put ps is (inr before) = (
-  x,
-  is,
-  λ p e. ends_later (call h g).end put.earliest (first_of h p) (ps.earliest p (put_inside h x p e) (puts_pass h x p e)) before,
-)
-
 pub same_item : (h : List Call) (x y g : ℕ) → Gets h x g → Gets h y g → x ≡ y
 same_item h x y g e f = let q : Takes x ≡ Takes y = sym e ∙ f in cc
-
-pub never_tells : (h : List Call) (x g : ℕ) (put : Tally) → IsTally (has_item In h x) (first_of h) (length h) put → Gets h x g → (put.count ≡ 0 → ⊥) → IsNeverPut h g → EndsBelow (call h g).end put.earliest
-never_tells h x g put ps is some never =
-    let positive : 0 < put.count = omega arith in
-    let a = ps.attained positive in
-    let e = same_item h never.0 x g never.1 is in
-    let q = adds_is x (does h a.0) a.1 in
-    let P : ℕ → Type 0 = λ w. Puts h w a.0 in
-    let E : ℕ → Type 0 = λ w. EndsBelow (call h g).end w in
-    subst E a.2 (never.2 a.0 (subst P (sym e) q))
 
 pub twice_from : (h : List Call) (x g : ℕ) (put got : Tally) → IsTally (has_item In h x) (first_of h) (length h) put → IsTally (has_item Out h x) (first_of h) (length h) got → Gets h x g → got.last ≡ g → put.count < got.count → IsTakenTwice h g
 twice_from h x g put got ps gs is last lt =

@@ -1,14 +1,14 @@
 -- Items that are certainly older and there where a single item is got.
-use Rattle.std.proofs.Common.{ℕ, zero, suc, ◌≡◌, ◌≢◌, ◌+◌, ◌<◌, ◌≤◌, ◌↔◌, ◌⊎◌, ◌&&◌, min, Bool, true, false, cond, count_by, leb, List, [], ◌∷◌, ◌++◌, length, get_or, add-one, refl, sym, ◌∙◌, ap, subst, inl, inr, arith, length-append}
+use Rattle.std.proofs.Common.{ℕ, zero, suc, ◌≡◌, ◌≢◌, ◌+◌, ◌<◌, ◌≤◌, ◌↔◌, Bool, true, false, cond, count_by, leb, List, [], ◌∷◌, ◌++◌, length, get_or, add-one, refl, sym, ◌∙◌, ap, subst, inl, inr, arith, length-append}
 use Rattle.std.proofs.lemmas.Bool.{cases_lt, cases_Bool, and_parts, and_from, leb-true, le-leb}
 use Rattle.kfifo_model.specs.declared.calls.Call.{Call}
-use Rattle.kfifo_model.specs.Lists.{IsIn, Each, EachPair}
-use Rattle.kfifo_model.specs.Histories.{call, does, HasNoRepeats}
+use Rattle.kfifo_model.specs.Lists.{IsIn, Each}
+use Rattle.kfifo_model.specs.Histories.{call, HasNoRepeats}
 use Rattle.kfifo_model.specs.Validity.{IsHistory}
-use Rattle.kfifo_model.proofs.Lists.{in_append, in_left, in_right, each_at, each_from, pairs_push}
+use Rattle.kfifo_model.proofs.Lists.{in_append, each_at, each_from, pairs_push}
 use Rattle.kfifo_verdict.specs.declared.presences.Presence.{Presence}
 use Rattle.kfifo_verdict.specs.Evidence.{Gets, count_below, IsSingle, IsOlder, IsTooYoung}
-use Rattle.kfifo_verdict.specs.Finding.{IsStart, IsPresence, ArePresences, no_presence, outlast, lasts_at, IsCountedTo, AreFirst}
+use Rattle.kfifo_verdict.specs.Finding.{IsStart, ArePresences, no_presence, lasts_at, IsCountedTo, AreFirst}
 use Rattle.kfifo_verdict.specs.Judging.{GotTooYoung}
 use Rattle.kfifo_verdict.proofs.Counting.{count_cons, count_within}
 use Rattle.kfifo_verdict.proofs.Refuting.{put_inside}
@@ -181,11 +181,3 @@ young_count h ps g put after count v are start s counted =
       λ m young. (let most = no_more_older h ps s.0 g put after m v are start s.1 s.2 young in omega (arith, most, e)),
       omega (arith, few, inside, e),
     )
-
--- the call that gets an item precedes only later calls
-pub starts_later : (h : List Call) (g after : ℕ) → IsHistory h → g < length h → IsStart h (call h g).end after → g < after
-starts_later h g after v inside s =
-    elim (cases_lt g after) [
-      | inl lt ↦ lt
-      | inr le ↦ (let lt = precedes_below h g g v inside ((s.starts g inside).1 le) in absurd (omega (arith, lt)))
-    ]

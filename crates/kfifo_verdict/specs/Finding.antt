@@ -72,7 +72,8 @@ AreGets h m = IsTallied h Out (length h) (tally_in m)
 
 -- When the item that call p puts is certainly there, or never.
 pub record IsPresence (h : List Call) (p : ℕ) (s : Presence) : Type 0 where
-  pub there : (c moment : ℕ) → s.start ≤ c → c < s.gone → c < length h → first_of h c ≤ moment → (s.gone < length h → moment < first_of h s.gone) → IsCertainlyThere h p moment
+  pub there : (c moment : ℕ) → s.start ≤ c → c < s.gone → c < length h → first_of h c ≤ moment
+      → (s.gone < length h → moment < first_of h s.gone) → IsCertainlyThere h p moment
   pub until : (moment : ℕ) → IsCertainlyThere h p moment → s.gone < length h → moment < first_of h s.gone
   pub from : (c : ℕ) → c < length h → IsCertainlyThere h p (first_of h c) → (s.start ≤ c) × (c < s.gone)
   pub older : (g put after : ℕ) → put < length h → IsStart h (call h g).end after → IsOlder h g put p ↔ ((s.start ≤ put) × (after ≤ s.gone))

@@ -5,7 +5,8 @@ ghost use Rattle.kfifo_model.specs.Relaxed.{Takes, Finds_none};
 ghost use Rattle.kfifo_model.specs.Validity.{IsHistory};
 ghost use Rattle.kfifo_model.specs.Searching.{HasOrder};
 ghost use Rattle.kfifo_verdict.specs.Evidence.{IsNeverPut, IsTakenTwice, IsNotEmpty, IsTooYoung, IsSingle, Gets, count_below};
-ghost use Rattle.kfifo_verdict.specs.Finding.{ArePuts, AreGets, no_presence, ArePresences, IsIndexed, AreStays, IsBucketed, outlast, lasts_at, AreSkips, IsCountedTo, AreFirst, first_of};
+ghost use Rattle.kfifo_verdict.specs.Finding.{ArePuts, AreGets, ArePresences, IsIndexed, AreStays, IsBucketed, outlast, lasts_at};
+ghost use Rattle.kfifo_verdict.specs.Finding.{AreSkips, IsCountedTo, AreFirst, first_of};
 ghost use Rattle.kfifo_verdict.specs.Judging.{FoundNotEmpty, GotTooYoung, Never, NeverBefore, HasNoEvidence, IsFirstEvidence};
 
 use crate::deeds::{Deed, deed_of, ends_before, first_after};
@@ -269,7 +270,8 @@ fn first_older(
 fn single_put(calls: &[Call], items: &Items, n: usize) -> Option<usize>
     requires inside { n < length calls.now }
     requires items { IsIndexed calls.now items.now }
-    ensures { MatchOption result ((x p : ℕ) → IsSingle calls.now x p → Gets calls.now x n → ⊥) (λ p. (x : ℕ) × IsSingle calls.now x p × Gets calls.now x n × (p < length calls.now)) }
+    ensures { MatchOption result ((x p : ℕ) → IsSingle calls.now x p → Gets calls.now x n → ⊥)
+        (λ p. (x : ℕ) × IsSingle calls.now x p × Gets calls.now x n × (p < length calls.now)) }
 {
     let Deed::TookOut(item) = deed_of(&calls[n]) else {
         return None;
@@ -293,7 +295,8 @@ pub(crate) fn older_at(
     requires inside { n < length calls.now }
     requires items { IsIndexed calls.now items.now }
     requires skips { AreSkips items.now.presences.items n skips.old.items }
-    ensures older { MatchOption result ((m : ℕ) → GotTooYoung m calls.now n → ⊥) (λ older. GotTooYoung older calls.now n × ((m : ℕ) → GotTooYoung m calls.now n → m ≤ older) × (older < length calls.now)) }
+    ensures older { MatchOption result ((m : ℕ) → GotTooYoung m calls.now n → ⊥)
+        (λ older. GotTooYoung older calls.now n × ((m : ℕ) → GotTooYoung m calls.now n → m ≤ older) × (older < length calls.now)) }
     ensures skips { AreSkips items.now.presences.items n skips.new.items }
 {
     let Some(put) = single_put(calls, items, n) else {

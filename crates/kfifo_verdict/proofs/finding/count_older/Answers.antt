@@ -1,4 +1,4 @@
-use Rattle.std.proofs.Common.{ℕ, Bool, ◌≡◌, ◌<◌, ◌≤◌, ◌+◌, length, get_or, sym, ◌∙◌, ap, inl, inr, arith}
+use Rattle.std.proofs.Common.{ℕ, Bool, ◌≡◌, ◌<◌, ◌+◌, length, get_or, sym, ◌∙◌, inl, inr, arith}
 use Rattle.std.proofs.lemmas.List.{get_or_default}
 use Rattle.kfifo_verdict.specs.Evidence.{count_below}
 use Rattle.kfifo_verdict.specs.Finding.{lasts_at}

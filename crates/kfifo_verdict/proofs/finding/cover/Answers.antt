@@ -1,5 +1,5 @@
-use Rattle.std.proofs.Common.{arith, refl, length, subst, sym}
-use Rattle.kfifo_verdict.proofs.Covering.{chain_more, chain_all, chain_broken}
+use Rattle.std.proofs.Common.{refl}
+use Rattle.kfifo_verdict.proofs.Covering.{chain_more, chain_broken}
 use Rattle.kfifo_verdict.proofs.finding.cover.Goals as goal
 
 pub returns-then-stay-n : goal.returns-then-stay-n

@@ -1,4 +1,4 @@
-use Rattle.std.proofs.Common.{List, Bool, ℕ, ◌≡◌, ◌≤◌, ◌<◌, ◌+◌, length, get_or, sym, ◌∙◌, ap, subst, arith}
+use Rattle.std.proofs.Common.{List, Bool, ℕ, ◌≤◌, ◌<◌, ◌+◌, length, sym, ap, subst, arith}
 use Rattle.kfifo_verdict.specs.Finding.{AreFirst, lasts_at}
 use Rattle.kfifo_verdict.proofs.Younger.{first_skip, first_full, first_more}
 use Rattle.kfifo_verdict.proofs.finding.first_older.Goals as goal

@@ -1,9 +1,9 @@
-use Rattle.std.proofs.Common.{ℕ, ◌≡◌, ◌≤◌, length, sym, ◌∙◌, ap, subst, arith}
+use Rattle.std.proofs.Common.{ℕ, length, sym, ◌∙◌, ap, subst, arith}
 use Rattle.kfifo_model.specs.Histories.{effect_of}
 use Rattle.kfifo_model.proofs.Checking.{read}
 use Rattle.kfifo_verdict.specs.declared.deeds.Side.TheVariants.{In, Out}
 use Rattle.kfifo_verdict.specs.declared.tallies.Tally.{Tally}
-use Rattle.kfifo_verdict.specs.Evidence.{IsSingle, Gets}
+use Rattle.kfifo_verdict.specs.Evidence.{IsSingle}
 use Rattle.kfifo_verdict.specs.Finding.{IsTally, has_item, first_of}
 use Rattle.kfifo_verdict.proofs.Refuting.{put_inside}
 use Rattle.kfifo_verdict.proofs.Telling.{single_from, single_put_once, single_got_once, got_once, put_last, same_item}

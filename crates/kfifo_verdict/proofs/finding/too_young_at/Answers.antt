@@ -1,4 +1,4 @@
-use Rattle.std.proofs.Common.{List, ℕ, length, sym, subst}
+use Rattle.std.proofs.Common.{List, length, sym, subst}
 use Rattle.kfifo_model.specs.declared.calls.Call.{Call}
 use Rattle.kfifo_model.proofs.Checking.{read}
 use Rattle.kfifo_verdict.specs.declared.presences.Presence.{Presence}

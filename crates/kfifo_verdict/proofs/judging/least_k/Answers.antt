@@ -1,4 +1,4 @@
-use Rattle.std.proofs.Common.{ℕ, List, ◌≤◌, subst, arith}
+use Rattle.std.proofs.Common.{List, ◌≤◌, subst, arith}
 use Rattle.kfifo_model.specs.declared.calls.Call.{Call}
 use Rattle.kfifo_verdict.specs.Judging.{IsLowerBound}
 use Rattle.kfifo_verdict.proofs.Concluding.{bound_refutes}
