@@ -3,6 +3,7 @@
 use crate::fault::Fault;
 use crate::printing::Printer;
 use kfifo_model::{RecordFault, SearchFault};
+use kfifo_replay::ReplayFault;
 use kfifo_words::ShapeFault;
 use std::test::Fail;
 
@@ -18,6 +19,11 @@ fn a_fault_shows_its_line(rt: HostRuntime) -> Result<(), Fail> {
             "record fault 5 at call 7",
         ),
         (Fault::Search(SearchFault::TooLong), "search fault 1"),
+        (
+            Fault::Replay(ReplayFault::BadPick(9)),
+            "replay fault 1 at 9",
+        ),
+        (Fault::Replay(ReplayFault::BadScript), "replay fault 3"),
         (Fault::Memory, "memory"),
     ] {
         let text = format!(in rt.alloc(); "{fault}")?;
