@@ -27,6 +27,7 @@ use Rattle.kfifo_machine.specs.Machine.{World, opening, word_at, place_of, place
 use Rattle.kfifo_machine.specs.Runs.{going}
 use Rattle.kfifo_machine.specs.Places.{IsPlace}
 use Rattle.kfifo_machine.specs.Laws.{counted, count}
+use Rattle.kfifo_machine.proofs.Tokens.{EnqueueKnows, value-emptied, value-filled_with}
 use Rattle.kfifo_machine.proofs.Schedules.{Some-injective, first_made, made_within, stepped}
 use Rattle.kfifo_machine.proofs.Sound.{IsSound, going_place, place_is, step_sound, opening_sound, sound}
 use Rattle.kfifo_live.specs.declared.view.Opening.{Opening}
@@ -35,16 +36,7 @@ use Rattle.kfifo_live.specs.Left.{item_in, items_left}
 use Rattle.kfifo_live.specs.Balance.{times, puts_item, undoes_item, takes_item, puts, undos, takes}
 use Rattle.kfifo_live.proofs.Rotation.{sum, sum-same, sum-change, times_at, times-left}
 
--- what a thread knows of the value of a slot's word that it has read or put
-abbrev pub EnqueueKnows : ℕ → EnqueuePhase → Type 0
-EnqueueKnows item (E.Recheck ends (Slot index seen)) = value_of seen ≡ 0
-EnqueueKnows item (E.Put ends index empty) = value_of empty ≡ 0
-EnqueueKnows item (E.ReloadSlot ends index filled) = value_of filled ≡ item
-EnqueueKnows item (E.ReloadEnds ends index filled) = value_of filled ≡ item
-EnqueueKnows item (E.HoldHead index filled held) = value_of filled ≡ item
-EnqueueKnows item (E.Undo index filled worn) = value_of filled ≡ item
-EnqueueKnows item other = Unit {0}
-
+-- what a dequeue knows of the value of a slot's word that it has read
 abbrev pub DequeueKnows : DequeuePhase → Type 0
 DequeueKnows (D.Recheck ends (Slot index seen)) = value_of seen ≢ 0
 DequeueKnows (D.MoveTail ends index filled) = value_of filled ≢ 0
@@ -58,14 +50,6 @@ Knows (R.Dequeue start left phase) = DequeueKnows phase
 abbrev pub NextKnows : Next → Type 0
 NextKnows (Goes running) = Knows running
 NextKnows (Answers answer) = Unit {0}
-
-value-filled_with : (item empty : ℕ) → item < 16777216 → value_of (filled_with item empty) ≡ item
-unfolding value_of slot_word
-value-filled_with item empty few = omega arith
-
-value-emptied : (filled : ℕ) → value_of (emptied filled) ≡ 0
-unfolding value_of slot_word
-value-emptied filled = omega arith
 
 knows_on : (shape : Shape) (running : Running) (word : ℕ) → IsPlace shape running → Knows running → NextKnows (advance shape running word)
 knows_on shape running word place knows = grind (arith, nat_tests, value-filled_with)

@@ -21,4 +21,5 @@ pub mod Between
 pub mod Counting
 pub mod Lone
 pub mod Floor
+pub mod Tokens
 pub mod OwnCalls

@@ -8,3 +8,4 @@ pub mod Calls
 pub mod Causes
 pub mod Rounds
 pub mod Floor
+pub mod Tokens

@@ -3,6 +3,7 @@ ghost use Rattle.std.specs.Prelude.{◌≡◌, ℕ, ◌<◌, ◌⊎◌, ◌↔�
 ghost use Rattle.kfifo_machine.specs.Machine.{after, IsFirstRefused};
 ghost use Rattle.kfifo_machine.specs.Causes.{FullHasCause, WornHasCause};
 ghost use Rattle.kfifo_machine.specs.Rounds.{BusyHasCause, BusyIsDisturbed};
+ghost use Rattle.kfifo_machine.specs.Tokens.{ItemsAreTokens};
 ghost use Rattle.kfifo_machine.specs.Laws.{NoWrap, FewEvents, LeavesNone, VersionsRise, NoneReturns, OthersLeave};
 
 use crate::fault::RunFault;
@@ -52,6 +53,7 @@ pub fn run(alloc: Global, shape: Shape, threads: u32, events: &[Event]) -> Resul
     ensures worn_has_cause { WornHasCause shape threads }
     ensures busy_has_cause { BusyHasCause shape threads }
     ensures busy_is_disturbed { BusyIsDisturbed shape threads }
+    ensures tokens { ItemsAreTokens shape threads }
 {
     run_events(alloc, shape, threads, events)
 }

@@ -6,6 +6,7 @@ use Rattle.kfifo_machine.proofs.Laws.{versions_rise, none_returns, others_leave}
 use Rattle.kfifo_machine.proofs.Causes.{full_has_cause}
 use Rattle.kfifo_machine.proofs.Wear.{worn_has_cause}
 use Rattle.kfifo_machine.proofs.Losses.{busy_has_cause}
+use Rattle.kfifo_machine.proofs.Tokens.{items_are_tokens}
 use Rattle.kfifo_machine.proofs.Undisturbed.{busy_is_disturbed}
 use Rattle.kfifo_machine.proofs.schedule.run.Goals as goal
 
@@ -38,3 +39,6 @@ returns-clause-busy_has_cause c = busy_has_cause c.args.shape c.args.threads
 
 pub returns-clause-busy_is_disturbed : goal.returns-clause-busy_is_disturbed
 returns-clause-busy_is_disturbed c = busy_is_disturbed c.args.shape c.args.threads
+
+pub returns-clause-tokens : goal.returns-clause-tokens
+returns-clause-tokens c = items_are_tokens c.args.shape c.args.threads
