@@ -6,7 +6,7 @@ use Rattle.std.proofs.lemmas.Bool.Decides.{nat_tests}
 use Rattle.std.proofs.lemmas.Grind.{get_or-set_at}
 use Rattle.std.proofs.lemmas.List.{get_or-set_other}
 use Rattle.kfifo_words.specs.declared.shape.Shape.{Shape}
-use Rattle.kfifo_words.specs.Words.{slot_word, value_of}
+use Rattle.kfifo_words.specs.Words.{value_of}
 use Rattle.kfifo_words.specs.Ring.{clock_at}
 use Rattle.kfifo_machine.specs.declared.event.Begin.{Begin}
 use Rattle.kfifo_machine.specs.declared.event.Begin.TheVariants as B

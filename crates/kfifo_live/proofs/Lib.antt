@@ -8,6 +8,7 @@ pub mod Passes
 pub mod Logs
 pub mod Shuffles
 pub mod Stamping
+pub mod Threads
 pub mod Records
 pub mod Gathered
 pub mod Leftovers

@@ -1,5 +1,5 @@
 -- The logs of all passes, and the passes alone.
-use Rattle.std.proofs.Common.{◌≡◌, ◌≢◌, ℕ, zero, suc, ◌≤◌, Some, List, [], ◌∷◌, ◌++◌, length, refl, sym, ap, ◌∙◌, subst, arith, append_assoc}
+use Rattle.std.proofs.Common.{◌≡◌, ◌≢◌, ℕ, zero, suc, ◌<◌, ◌≤◌, Some, List, [], ◌∷◌, ◌++◌, length, refl, sym, ap, ◌∙◌, subst, arith, append_assoc}
 use Rattle.std.proofs.lemmas.List.{append-nil}
 use Rattle.std.specs.Prelude.{◌==◌, ◌||◌, IsPermutation}
 use Rattle.std.specs.List.{list_any}
@@ -10,6 +10,7 @@ use Rattle.std.specs.declared.vec.IntoIter.{IntoIter}
 use Rattle.kfifo_model.specs.declared.calls.Call.{Call}
 use Rattle.kfifo_model.specs.Lists.{Each, EachPair}
 use Rattle.kfifo_machine.specs.declared.event.Event.{Event}
+use Rattle.kfifo_model.specs.Histories.{call, no_call}
 use Rattle.kfifo_model.specs.Validity.{IsHistory}
 use Rattle.kfifo_machine.specs.Machine.{World, opening}
 use Rattle.kfifo_machine.specs.Runs.{Begins, own}
@@ -19,11 +20,12 @@ use Rattle.kfifo_live.specs.declared.view.Opening.{Opening}
 use Rattle.kfifo_live.specs.Pass.{AllOf, AllSeen, Closes, IsComplete, Known, OpenQueue, new_passes}
 use Rattle.kfifo_live.specs.Promise.{KeepsPromise, calls_of}
 use Rattle.kfifo_live.specs.Schedule.{ticks, world_after}
-use Rattle.kfifo_live.specs.Stamps.{Gathers, HasCalls, IsLog, Logged, all_logs, logged_by, new_logs, passes_of}
+use Rattle.kfifo_live.specs.Stamps.{Gathers, calls_by, HasCalls, IsLog, Logged, all_logs, logged_by, new_logs, passes_of}
 use Rattle.kfifo_live.proofs.Logs.{has_on}
 use Rattle.kfifo_live.proofs.Passes.{keeps_promise}
 use Rattle.kfifo_live.proofs.Shuffles.{all_once}
-use Rattle.kfifo_live.proofs.Stamping.{IsGoodLog, logs_few, logs_history, logs_legal, logs_order, rises, threads_of}
+use Rattle.kfifo_live.proofs.Stamping.{IsGoodLog, log_rises, logs_few, logs_history, logs_legal, logs_order, rises, threads_of}
+use Rattle.kfifo_live.proofs.Threads.{Has, each_by_has, has_of, log_of_thread, pairs_from}
 
 pub any_of : (t : ℕ) (ps : List Logged) → list_any (λ p. p.pass.thread == t) ps ≡ list_any (λ p. p.thread == t) (passes_of ps)
 any_of t [] = refl
@@ -104,6 +106,10 @@ good_logs : (q : OpenQueue) (all : List Event) (here : World) → world_after q.
 good_logs q all here reached few [] is of seen = tt
 good_logs q all here reached few (p ∷ ps) is of seen = (good_log q.opened all here reached few p is.0 of.0.1 seen.0, good_logs q all here reached few ps is.1 of.1 seen.1)
 
+each_mine : (ps : List Logged) → Each (λ p. IsLog p.pass p.log) ps → Each (λ q. Each (λ c. c.thread ≡ q.pass.thread) q.log) ps
+each_mine [] is = tt
+each_mine (p ∷ ps) is = (is.0.mine, each_mine ps is.1)
+
 -- What is gathered when a queue was closed
 module _ (q : OpenQueue) (ps : List Logged) (calls h : List Call) (plain : List Known) (items : List ℕ) (few : q.opened.threads ≤ 64) (passes : plain ≡ passes_of ps) (logs : calls ≡ all_logs ps)
     (are_logs : Each (λ p. IsLog p.pass p.log) ps) (of : AllOf q (passes_of ps)) (complete : IsComplete q.opened.threads (passes_of ps)) (closed : Closes q plain items)
@@ -120,10 +126,19 @@ module _ (q : OpenQueue) (ps : List Logged) (calls h : List Call) (plain : List 
   pub gathered_history : IsHistory h
   gathered_history = logs_history q.opened closed.all closed.world closed.reached few ps h good once complete.each in_order sorted
 
+  rising : (i j : ℕ) → i < j → j < length h → (call h i).first < (call h j).first
+  rising = λ i j lt within. rises q.opened closed.all closed.world closed.reached few ps h good once complete.each in_order sorted i j lt within
+
+  own_log : (p : Logged) → Has p ps → calls_by p.pass.thread h ≡ p.log
+  own_log p there =
+      log_of_thread ps h p there once (each_mine ps are_logs) in_order (pairs_from no_call (λ c d. c.first < d.first) h rising)
+      (log_rises q.opened closed.all closed.world closed.reached few p (has_of (IsGoodLog q.opened closed.all) ps p good there))
+
   pub gathered : Gathers q.opened ps h
   gathered = record {
     each_once = in_order;
-    rising = λ i j lt within. rises q.opened closed.all closed.world closed.reached few ps h good once complete.each in_order sorted i j lt within;
+    rising = rising;
+    each_log = each_by_has (λ p. calls_by p.pass.thread h ≡ p.log) ps own_log;
     order = logs_order q.opened closed.all closed.world closed.reached few ps h good once complete.each in_order sorted;
     legal = logs_legal q.opened closed.all closed.world closed.reached few ps h good once complete.each in_order sorted;
     few_certainly_overtake = logs_few q.opened closed.all closed.world closed.reached few ps h good once complete.each in_order sorted;

@@ -239,6 +239,15 @@ no_return : (end : Option End) (f g : ℕ) → EndsFrom f end → EndsBelow end 
 no_return None f g from below less = below
 no_return (Some end) f g from below less = absurd (omega arith)
 
+first_below : (end : Option End) (f g : ℕ) → EndsFrom f end → EndsBelow end g → f < g
+first_below None f g from below = absurd below
+first_below (Some end) f g from below = omega arith
+
+-- the first stamps of a log rise
+rising_log : (log : List Call) → Each (λ c. EndsFrom c.first c.end) log → EachPair (λ c d. EndsBelow c.end d.first) log → EachPair (λ c d. c.first < d.first) log
+rising_log [] from turn = tt
+rising_log (c ∷ cs) from turn = (each_both (λ d. EndsBelow c.end d.first) (λ d. EndsBelow c.end d.first) (λ d. c.first < d.first) (λ d below same. first_below c.end c.first d.first from.0 below) cs turn.0 turn.0, rising_log cs from.1 turn.1)
+
 turned_pair : (c d : Call) → AreApart c d → AreApart d c
 turned_pair c d a = ((λ same. a.0 (sym same)), λ same. elim (a.1 (sym same)) [ inl x ↦ inr x | inr y ↦ inl y ])
 
@@ -312,6 +321,9 @@ module _ (o : Opening) (all : List Event) (here : World) (reached : world_after 
 
   call_ends : (c : Call) → Logs c → EndsFrom c.first c.end
   call_ends c l = ends_after all c (call (calls_of o all) l.0) (made_history l.0 l.1).ends l.2
+
+  pub log_rises : (p : Logged) → IsGoodLog o all p → EachPair (λ c d. c.first < d.first) p.log
+  log_rises p g = let logs = each_from_all Logs p.log (log_calls p g) in rising_log p.log (each_both Logs Logs (λ c. EndsFrom c.first c.end) (λ c l m. call_ends c l) p.log logs logs) g.in_turn
 
   in_log_pairs : (log : List Call) → Each (λ c. EndsFrom c.first c.end) log → EachPair (λ c d. EndsBelow c.end d.first) log → EachPair AreApart log
   in_log_pairs [] from turn = tt

@@ -1,5 +1,5 @@
 -- Stamped calls: a tick of the clock, one whole run of a call, and a tick again; and what a pass has logged of them.
-use Rattle.std.specs.Prelude.{◌≡◌, ℕ, ◌*◌, ◌<◌, ◌≤◌, List, [], ◌∷◌, ◌++◌, length, Some, Ok, IsPermutation}
+use Rattle.std.specs.Prelude.{◌≡◌, ◌==◌, filter, ℕ, ◌*◌, ◌<◌, ◌≤◌, List, [], ◌∷◌, ◌++◌, length, Some, Ok, IsPermutation}
 use Rattle.kfifo_words.specs.Ring.{clock_at}
 use Rattle.kfifo_model.specs.declared.calls.Answer.{Answer}
 use Rattle.kfifo_model.specs.declared.calls.Call.{Call}
@@ -34,6 +34,10 @@ logged_by pass log = record { pass = pass; log = log }
 abbrev pub all_logs : List Logged → List Call
 all_logs [] = []
 all_logs (p ∷ ps) = p.log ++ all_logs ps
+
+-- the calls of a thread
+abbrev pub calls_by : ℕ → List Call → List Call
+calls_by thread calls = filter (λ c. c.thread == thread) calls
 
 abbrev pub passes_of : List Logged → List Known
 passes_of [] = []
@@ -111,11 +115,12 @@ abbrev pub new_logs : List Known → List Logged
 new_logs [] = []
 new_logs (p ∷ ps) = logged_by p [] ∷ new_logs ps
 
--- What is gathered of a queue: all logged calls by rising first stamps. They are a history of which there is a legal order, and
--- by which alone, where items are distinct, fewer than k overtakings of the item of an enqueue answered Done are certain
+-- What is gathered of a queue: all logged calls by rising first stamps, those of each thread in the order of its log. They are a
+-- history of which there is a legal order, and by which alone, where items are distinct, fewer than k overtakings of the item of an enqueue answered Done are certain
 pub record Gathers (o : Opening) (ps : List Logged) (h : List Call) : Type 0 where
   pub each_once : IsPermutation (all_logs ps) h
   pub rising : (i j : ℕ) → i < j → j < length h → (call h i).first < (call h j).first
+  pub each_log : Each (λ p. calls_by p.pass.thread h ≡ p.log) ps
   pub order : List ℕ
   pub legal : IsLegal o.shape.k h order
   pub few_certainly_overtake : HasDistinctItems h → (c : ℕ) → IsDoneEnqueue h c → certainly_overtaken h c < o.shape.k
