@@ -6,6 +6,7 @@ use Rattle.std.proofs.lemmas.Bool.{cases_eq, cases_lt}
 use Rattle.std.proofs.lemmas.List.{append-nil}
 use Rattle.kfifo_words.specs.Ring.{clock_at}
 use Rattle.kfifo_model.specs.declared.calls.Answer.{Answer}
+use Rattle.kfifo_model.specs.declared.calls.Answer.TheVariants.{Busy}
 use Rattle.kfifo_model.specs.declared.calls.Call.{Call}
 use Rattle.kfifo_model.specs.declared.calls.End.{End}
 use Rattle.kfifo_model.specs.Lists.{Each, EachPair}
@@ -17,32 +18,18 @@ use Rattle.kfifo_machine.specs.declared.event.Outcome.TheVariants.{Went}
 use Rattle.kfifo_machine.specs.Laws.{IsRefusal, most_events}
 use Rattle.kfifo_machine.specs.Machine.{World, opening, step, ticked, word_at}
 use Rattle.kfifo_machine.specs.Calls.{op_asked}
+use Rattle.kfifo_machine.specs.Rounds.{turns_of}
 use Rattle.kfifo_machine.specs.Runs.{AllGoOn, WholeRun, event, own}
 use Rattle.kfifo_machine.proofs.Schedules.{own-append, run_before}
 use Rattle.kfifo_live.specs.declared.view.Opening.{Opening}
 use Rattle.kfifo_live.specs.Schedule.{begins_tick, ticks, world_after}
 use Rattle.kfifo_live.specs.Pass.{Known, IsSame}
 use Rattle.kfifo_live.specs.Promise.{calls_of}
-use Rattle.kfifo_live.specs.Calls.{HasCause, LeavesNoItem, Makes, added}
-use Rattle.kfifo_live.specs.Stamps.{Draws, HasCalls, IsLog, IsStamped, MakesStamped, logged_by, stamped_call}
+use Rattle.kfifo_live.specs.Calls.{HasCause, IsDisturbed, LeavesNoItem, Makes, added}
+use Rattle.kfifo_live.specs.Stamps.{Draws, HasCalls, IsLog, IsLogIn, IsStamped, MakesStamped, logged_by, stamped_call}
 use Rattle.kfifo_live.proofs.Keeps.{own_same}
 use Rattle.kfifo_live.proofs.Ticks.{clock_is, ticks-append, ticks_of_one}
 use Rattle.kfifo_machine.proofs.OwnCalls.{AddsCall, KeepsCalls, RunAdds, keeps_trans, others_keep, run_adds, tick_keeps}
-
--- what is always so of a log, over a plain schedule
-record IsLogIn (o : Opening) (thread : ℕ) (seen : List Event) (log : List Call) : Type 0 where
-  count : ticks (own thread seen) ≡ 2 * length log
-  room : length log ≤ o.calls
-  mine : Each (λ c. c.thread ≡ thread) log
-  in_turn : EachPair (λ c d. EndsBelow c.end d.first) log
-  past : Each (λ c. EndsBelow c.end (ticks seen)) log
-  calls : HasCalls o seen thread log
-
-in_plain : (p : Known) (log : List Call) → IsLog p log → IsLogIn p.opened p.thread p.seen log
-in_plain p log is = record { count = is.count; room = is.room; mine = is.mine; in_turn = is.in_turn; past = is.past; calls = is.calls }
-
-from_plain : (p : Known) (log : List Call) → IsLogIn p.opened p.thread p.seen log → IsLog p log
-from_plain p log is = record { count = is.count; room = is.room; mine = is.mine; in_turn = is.in_turn; past = is.past; calls = is.calls }
 
 -- a longer schedule has the same stamped calls
 pub stamped_on : (new all more : List Event) → new ≡ all ++ more → (c d : Call) → IsStamped all c d → IsStamped new c d
@@ -311,7 +298,7 @@ module _ (o : Opening) (thread first last : ℕ) (begin : Begin) (answer : Answe
       let size : length (log ++ the_call ∷ []) ≡ length log + 1 = length-append log (the_call ∷ []) in
       let Q : Opening × ℕ × List Event → Type 0 = λ x. IsLogIn x.0 x.1 x.2 (log ++ the_call ∷ []) in
       let R : Opening × ℕ × List Event → Type 0 = λ x. IsLogIn x.0 x.1 x.2 log in
-      let old_log = subst R (λ i. (p_opened i, p_thread i, p_seen i)) (in_plain p log is) in
+      let old_log = subst R (λ i. (p_opened i, p_thread i, p_seen i)) (is) in
       let counted : ticks (own thread new) ≡ ticks (own thread old) + 2 =
       (let x = draw_count o thread first old begun a in let y = run_count o thread begin answer begun ended w no_tick in let z = draw_count o thread last ended new b in omega arith) in
       let from = draw_from o thread first old begun a in
@@ -327,7 +314,7 @@ module _ (o : Opening) (thread first last : ℕ) (begin : Begin) (answer : Answe
         past = Each-snoc (λ c. EndsBelow c.end (ticks new)) log the_call (Each-mono _ _ (λ c. ends_later c.end (ticks old) (ticks new) (omega arith)) log old_log.past) (omega arith);
         calls = has_more o new old more goes_on thread log the_call made_call old_log.calls adds refl stamped;
       } in
-      from_plain u (log ++ the_call ∷ []) (subst Q (λ i. (sym u_opened i, sym u_thread i, sym u_seen i)) new_log)
+      (subst Q (λ i. (sym u_opened i, sym u_thread i, sym u_seen i)) new_log)
 
 -- The same of passes, step by step
 module _ (p q r u : Known) (begin : Begin) (answer : Answer) (first last : ℕ) (log : List Call) (is : IsLog p log) (room : length log < p.opened.calls) (no_tick : begins_tick (Some begin) ≡ false)
@@ -397,8 +384,10 @@ module _ {p q r u : Known} {begin : Begin} {answer : Answer} {first last : ℕ} 
     pub log_grows : IsLog u items
     log_grows = subst (IsLog u) (sym added_call) (logs_more p q r u begin answer first last log s.is s.room s.no_tick s.draws_first s.same s.makes s.few s.draws_last)
 
-    pub makes_stamped : HasCause begin answer q r → (IsRefusal answer → LeavesNoItem q r) → MakesStamped begin answer (logged_by p log) (logged_by u items)
-    makes_stamped cause leaves = record {
+    pub makes_stamped : HasCause begin answer q r → (answer ≡ Busy → q.opened.shape.n + 2 ≤ turns_of begin → IsDisturbed q r) → (IsRefusal answer → LeavesNoItem q r)
+        → MakesStamped begin answer (logged_by p log) (logged_by u items)
+    makes_stamped cause disturbed leaves = record {
+      room = s.room;
       begun = q;
       ended = r;
       first = first;
@@ -406,6 +395,7 @@ module _ {p q r u : Known} {begin : Begin} {answer : Answer} {first last : ℕ} 
       draws_first = s.draws_first;
       makes = s.makes;
       cause = cause;
+      disturbed = disturbed;
       leaves_none = leaves;
       draws_last = s.draws_last;
       log_is = added_call;

@@ -1,7 +1,8 @@
 -- Stamped calls: a tick of the clock, one whole run of a call, and a tick again; and what a pass has logged of them.
-use Rattle.std.specs.Prelude.{◌≡◌, ◌==◌, filter, ℕ, ◌*◌, ◌<◌, ◌≤◌, List, [], ◌∷◌, ◌++◌, length, Some, Ok, IsPermutation}
+use Rattle.std.specs.Prelude.{◌≡◌, ◌==◌, ◌+◌, filter, map, ℕ, ◌*◌, ◌<◌, ◌≤◌, List, [], ◌∷◌, ◌++◌, length, Some, Ok, IsPermutation}
 use Rattle.kfifo_words.specs.Ring.{clock_at}
 use Rattle.kfifo_model.specs.declared.calls.Answer.{Answer}
+use Rattle.kfifo_model.specs.declared.calls.Answer.TheVariants.{Busy}
 use Rattle.kfifo_model.specs.declared.calls.Call.{Call}
 use Rattle.kfifo_model.specs.declared.calls.Op.{Op}
 use Rattle.kfifo_model.specs.Lists.{Each, EachPair}
@@ -14,13 +15,14 @@ use Rattle.kfifo_machine.specs.declared.event.Event.{Event}
 use Rattle.kfifo_machine.specs.declared.event.Outcome.TheVariants.{Went}
 use Rattle.kfifo_machine.specs.Machine.{World, step, ticked, word_at}
 use Rattle.kfifo_machine.specs.Calls.{op_asked}
-use Rattle.kfifo_machine.specs.Laws.{IsRefusal}
+use Rattle.kfifo_machine.specs.Laws.{IsRefusal, most_events}
+use Rattle.kfifo_machine.specs.Rounds.{turns_of}
 use Rattle.kfifo_machine.specs.Runs.{event, own}
 use Rattle.kfifo_live.specs.declared.view.Opening.{Opening}
 use Rattle.kfifo_live.specs.Schedule.{ticks, world_after}
 use Rattle.kfifo_live.specs.Promise.{calls_of}
 use Rattle.kfifo_live.specs.Pass.{Known, IsSame}
-use Rattle.kfifo_live.specs.Calls.{Makes, HasCause, LeavesNoItem}
+use Rattle.kfifo_live.specs.Calls.{Makes, HasCause, IsDisturbed, LeavesNoItem, added}
 
 -- a pass, and the calls that it has logged
 pub record Logged : Type 0 where
@@ -30,7 +32,7 @@ pub record Logged : Type 0 where
 abbrev pub logged_by : Known → List Call → Logged
 logged_by pass log = record { pass = pass; log = log }
 
--- the calls of all logs, one log after the other; and the passes alone
+-- the calls of all logs, one log after the other
 abbrev pub all_logs : List Logged → List Call
 all_logs [] = []
 all_logs (p ∷ ps) = p.log ++ all_logs ps
@@ -39,9 +41,9 @@ all_logs (p ∷ ps) = p.log ++ all_logs ps
 abbrev pub calls_by : ℕ → List Call → List Call
 calls_by thread calls = filter (λ c. c.thread == thread) calls
 
+-- the passes alone
 abbrev pub passes_of : List Logged → List Known
-passes_of [] = []
-passes_of (p ∷ ps) = p.pass ∷ passes_of ps
+passes_of ps = map (λ p. p.pass) ps
 
 -- the pass drew this stamp: after events of others the clock had it, and then the pass ticked
 pub record Draws (stamp : ℕ) (old new : Known) : Type 0 where
@@ -61,6 +63,7 @@ stamped_call thread op first last answer = record { thread = thread; op = op; fi
 -- A stamped call: a tick, one whole run of this call with this answer, and a tick; the log has one call more, whose first and
 -- last are what the ticks drew. What is promised of a call is so of its run
 pub record MakesStamped (begin : Begin) (answer : Answer) (old new : Logged) : Type 0 where
+  pub room : length old.log < old.pass.opened.calls
   pub begun : Known
   pub ended : Known
   pub first : ℕ
@@ -68,9 +71,14 @@ pub record MakesStamped (begin : Begin) (answer : Answer) (old new : Logged) : T
   pub draws_first : Draws first old.pass begun
   pub makes : Makes begin answer begun ended
   pub cause : HasCause begin answer begun ended
+  pub disturbed : answer ≡ Busy → begun.opened.shape.n + 2 ≤ turns_of begin → IsDisturbed begun ended
   pub leaves_none : IsRefusal answer → LeavesNoItem begun ended
   pub draws_last : Draws last ended new.pass
   pub log_is : new.log ≡ old.log ++ stamped_call old.pass.thread (op_asked begin) first last answer ∷ []
+
+-- its own events are at most `turns * (2k + 9)`, and the two ticks
+abbrev pub TakesFewStampedSteps : Begin → Known → Known → Type 0
+TakesFewStampedSteps begin old new = length (own old.thread (added old new)) ≤ most_events old.opened.shape begin + 2
 
 -- A logged call is a call of the schedule under other stamps: its first is what a tick drew that stands before the first event
 -- of the call, with no event of the thread between; its last is what a tick drew that stands after the last event
@@ -102,21 +110,24 @@ pub record HasCalls (o : Opening) (all : List Event) (thread : ℕ) (log : List 
 
 -- What is always so of a log: it has the calls of the pass in the schedule that it has seen, each between two ticks of its own,
 -- one after the other, and the pass has made no tick but these
-pub record IsLog (p : Known) (log : List Call) : Type 0 where
-  pub count : ticks (own p.thread p.seen) ≡ 2 * length log
-  pub room : length log ≤ p.opened.calls
-  pub mine : Each (λ c. c.thread ≡ p.thread) log
+pub record IsLogIn (o : Opening) (thread : ℕ) (seen : List Event) (log : List Call) : Type 0 where
+  pub count : ticks (own thread seen) ≡ 2 * length log
+  pub room : length log ≤ o.calls
+  pub mine : Each (λ c. c.thread ≡ thread) log
   pub in_turn : EachPair (λ c d. EndsBelow c.end d.first) log
-  pub past : Each (λ c. EndsBelow c.end (ticks p.seen)) log
-  pub calls : HasCalls p.opened p.seen p.thread log
+  pub past : Each (λ c. EndsBelow c.end (ticks seen)) log
+  pub calls : HasCalls o seen thread log
+
+abbrev pub IsLog : Known → List Call → Type 0
+IsLog p log = IsLogIn p.opened p.thread p.seen log
 
 -- the passes of an opening, whose logs are empty
 abbrev pub new_logs : List Known → List Logged
-new_logs [] = []
-new_logs (p ∷ ps) = logged_by p [] ∷ new_logs ps
+new_logs ps = map (λ p. logged_by p []) ps
 
 -- What is gathered of a queue: all logged calls by rising first stamps, those of each thread in the order of its log. They are a
--- history of which there is a legal order, and by which alone, where items are distinct, fewer than k overtakings of the item of an enqueue answered Done are certain
+-- history of which there is a legal order, and by which alone, where items are distinct, fewer than k overtakings of the item of
+-- an enqueue answered Done are certain
 pub record Gathers (o : Opening) (ps : List Logged) (h : List Call) : Type 0 where
   pub each_once : IsPermutation (all_logs ps) h
   pub rising : (i j : ℕ) → i < j → j < length h → (call h i).first < (call h j).first

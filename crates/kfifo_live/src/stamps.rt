@@ -4,13 +4,11 @@
 //! call, and draws another.
 ghost use Rattle.std.specs.Prelude.{◌≡◌, ◌<◌, ◌≤◌, ◌*◌, ◌+◌, ◌^◌, true, false, IfNone, IfSome, length, vec_capacity};
 ghost use Rattle.kfifo_machine.specs.declared.event.Begin.TheVariants as B;
-ghost use Rattle.kfifo_machine.specs.Laws.{most_events};
 ghost use Rattle.kfifo_machine.specs.Runs.{own};
 ghost use Rattle.kfifo_live.specs.Schedule.{IsSmall, ticks};
-ghost use Rattle.kfifo_live.specs.Calls.{added};
 ghost use Rattle.kfifo_live.specs.Pass.{OpenQueue, IsOf, IsSame};
 ghost use Rattle.kfifo_live.specs.Promise.{KeepsPromise};
-ghost use Rattle.kfifo_live.specs.Stamps.{Draws, IsLog, Logged, MakesStamped, logged_by};
+ghost use Rattle.kfifo_live.specs.Stamps.{Draws, IsLog, Logged, MakesStamped, TakesFewStampedSteps, logged_by};
 
 use crate::queue::{Pass, Queue};
 use crate::rule::DrawStamp;
@@ -120,13 +118,15 @@ impl StampPass {
         requires turns { 1 ≤ turns }
         ensures same { IsSame self.old.pass self.new.pass }
         ensures none { IfNone result ((length self.old.log ≡ self.old.pass.opened.calls) × (self.new ≡ self.old)) }
-        ensures some { IfSome result (λ answer. (length self.old.log < self.old.pass.opened.calls) × MakesStamped (B.Enqueue item start turns) answer self.old self.new) }
-        ensures few_steps { IfSome result (λ answer. length (own self.old.pass.thread (added self.old.pass self.new.pass)) ≤ most_events self.old.pass.opened.shape (B.Enqueue item start turns) + 2) }
+        ensures some { IfSome result (λ answer. MakesStamped (B.Enqueue item start turns) answer self.old self.new) }
+        ensures few_steps { IfSome result (λ answer. TakesFewStampedSteps (B.Enqueue item start turns) self.old.pass self.new.pass) }
         ensures promise { KeepsPromise self.new.pass.opened self.new.pass.seen }
     {
         if self.is_full(queue) {
             return None;
         }
+        // Each stamp is drawn outside the call. Drawn within it, this call could seem to follow or to precede one
+        // that it overlapped, and the record of the run could have no legal order.
         let first = self.pass.draw_stamp(&queue.queue);
         let answer = self.pass.enqueue(&queue.queue, item, start, turns);
         let last = self.pass.draw_stamp(&queue.queue);
@@ -149,13 +149,14 @@ impl StampPass {
         requires turns { 1 ≤ turns }
         ensures same { IsSame self.old.pass self.new.pass }
         ensures none { IfNone result ((length self.old.log ≡ self.old.pass.opened.calls) × (self.new ≡ self.old)) }
-        ensures some { IfSome result (λ answer. (length self.old.log < self.old.pass.opened.calls) × MakesStamped (B.Dequeue start turns) answer self.old self.new) }
-        ensures few_steps { IfSome result (λ answer. length (own self.old.pass.thread (added self.old.pass self.new.pass)) ≤ most_events self.old.pass.opened.shape (B.Dequeue start turns) + 2) }
+        ensures some { IfSome result (λ answer. MakesStamped (B.Dequeue start turns) answer self.old self.new) }
+        ensures few_steps { IfSome result (λ answer. TakesFewStampedSteps (B.Dequeue start turns) self.old.pass self.new.pass) }
         ensures promise { KeepsPromise self.new.pass.opened self.new.pass.seen }
     {
         if self.is_full(queue) {
             return None;
         }
+        // The stamps are drawn outside the call, as in `enqueue`.
         let first = self.pass.draw_stamp(&queue.queue);
         let answer = self.pass.dequeue(&queue.queue, start, turns);
         let last = self.pass.draw_stamp(&queue.queue);

@@ -1,11 +1,8 @@
 -- A stamped call adds one call to the log.
-use Rattle.std.proofs.Common.{◌+◌, ◌<◌, ◌≤◌, length, refl, sym, subst, arith}
+use Rattle.std.proofs.Common.{◌<◌, length, refl, sym, subst, arith}
 use Rattle.kfifo_machine.specs.declared.event.Begin.TheVariants as B
-use Rattle.kfifo_machine.specs.Laws.{most_events}
-use Rattle.kfifo_machine.specs.Runs.{own}
 use Rattle.kfifo_live.specs.Promise.{KeepsPromise}
-use Rattle.kfifo_live.specs.Calls.{added}
-use Rattle.kfifo_live.specs.Stamps.{Logged, MakesStamped, logged_by}
+use Rattle.kfifo_live.specs.Stamps.{Logged, MakesStamped, TakesFewStampedSteps, logged_by}
 use Rattle.kfifo_live.proofs.Logs.{StampedRun, calls_same, few_steps_more, log_grows, makes_stamped, room_left}
 use Rattle.kfifo_live.proofs.stamps.StampPass.enqueue.Goals as goal
 
@@ -38,12 +35,12 @@ invariant_of-self c =
 
 pub returns-clause-some : goal.returns-clause-some
 returns-clause-some c =
-    let made = makes_stamped (stamped c) c.thread.result c.push_reserved.new.self.items c.thread.ensures c.push_reserved.ensures.items c.enqueue-answer.ensures.cause c.enqueue-answer.ensures.leaves_none in
-    (c.is_full.ensures.room c.if-is_full.false, subst (λ (x : Logged). MakesStamped (B.Enqueue c.args.item c.args.start c.args.turns) c.enqueue-answer.result x (logged_by c.draw_stamp-last.new.self c.push_reserved.new.self.items)) c.self.view_is made)
+    let made = makes_stamped (stamped c) c.thread.result c.push_reserved.new.self.items c.thread.ensures c.push_reserved.ensures.items c.enqueue-answer.ensures.cause c.enqueue-answer.ensures.disturbed c.enqueue-answer.ensures.leaves_none in
+    subst (λ (x : Logged). MakesStamped (B.Enqueue c.args.item c.args.start c.args.turns) c.enqueue-answer.result x (logged_by c.draw_stamp-last.new.self c.push_reserved.new.self.items)) c.self.view_is made
 
 pub returns-clause-few_steps : goal.returns-clause-few_steps
 returns-clause-few_steps c =
-    subst (λ (x : Logged). length (own x.pass.thread (added x.pass c.draw_stamp-last.new.self)) ≤ most_events x.pass.opened.shape (B.Enqueue c.args.item c.args.start c.args.turns) + 2) c.self.view_is (few_steps_more (stamped c) c.enqueue-answer.ensures.few_steps)
+    subst (λ (x : Logged). TakesFewStampedSteps (B.Enqueue c.args.item c.args.start c.args.turns) x.pass c.draw_stamp-last.new.self) c.self.view_is (few_steps_more (stamped c) c.enqueue-answer.ensures.few_steps)
 
 pub returns-clause-promise : goal.returns-clause-promise
 returns-clause-promise c = c.draw_stamp-last.ensures.promise
