@@ -258,13 +258,16 @@ turns_more h ps line n last ts more plain are l inside latest s was =
       sized = set_size ts more p g put got (length h) s ∙ size;
       items = λ j lt. elim (cases_eq (place line j).2 p) [
         | inl e ↦ (
-            let P : ℕ → Type 0 = λ w. IsItemTurn h ps line more w n in
-            (n, omega arith, subst P (sym e) (record {
-              inside = inside;
-              is = refl;
-              put = set_put ts more p g put got (length h) s (omega (arith, in_p, size)) (λ in_g. put_no_get h x x p g here.puts (is_got in_g));
-              get = λ in_g. (last, latest, set_got ts more p g put got (length h) s (sym size) in_g);
-            }))
+            let P : ℕ → Type 0 = λ w. IsItemTurn h ps line more w n in (
+              n,
+              omega arith,
+              subst P (sym e) (record {
+                inside = inside;
+                is = refl;
+                put = set_put ts more p g put got (length h) s (omega (arith, in_p, size)) (λ in_g. put_no_get h x x p g here.puts (is_got in_g));
+                get = λ in_g. (last, latest, set_got ts more p g put got (length h) s (sym size) in_g);
+              }),
+            )
             )
         | inr ne ↦ elim (cases_lt j n) [
           | inl below ↦ (
@@ -272,20 +275,26 @@ turns_more h ps line n last ts more plain are l inside latest s was =
               let q = (place line j).2 in
               let u = o.2 in
               let lt_i = o.1 in
-              let there = l.places.real j (0, 0, 0) (omega (arith, below, inside)) in
-              (o.0, omega (arith, lt_i), record {
-                inside = u.inside;
-                is = u.is;
-                put = elsewhere q ne (λ in_g. put_no_get h there.item x q g there.puts (is_got in_g)) ∙ u.put;
-                get = λ in_q.
-                    let w = u.get in_q in
-                    let got_q = gone_got h ps there.item q plain are there.puts in_q in
-                    (w.0, w.1, elsewhere (presence ps q).gone (λ e. put_no_get h x there.item p (presence ps q).gone here.puts got_q (sym e)) (λ in_g e.
-                    let G : ℕ → Type 0 = λ v. Gets h there.item v in
-                    let one = same_item h there.item x g (subst G e got_q) (is_got in_g) in
-                    let U : ℕ → Type 0 = λ v. Puts h v q in
-                    ne ((plain.0 x p here.puts).alone q (subst U one there.puts))) ∙ w.2);
-              })
+              let there = l.places.real j (0, 0, 0) (omega (arith, below, inside)) in (
+                o.0,
+                omega (arith, lt_i),
+                record {
+                  inside = u.inside;
+                  is = u.is;
+                  put = elsewhere q ne (λ in_g. put_no_get h there.item x q g there.puts (is_got in_g)) ∙ u.put;
+                  get = λ in_q.
+                      let w = u.get in_q in
+                      let got_q = gone_got h ps there.item q plain are there.puts in_q in (
+                        w.0,
+                        w.1,
+                        elsewhere (presence ps q).gone (λ e. put_no_get h x there.item p (presence ps q).gone here.puts got_q (sym e)) (λ in_g e.
+                            let G : ℕ → Type 0 = λ v. Gets h there.item v in
+                            let one = same_item h there.item x g (subst G e got_q) (is_got in_g) in
+                            let U : ℕ → Type 0 = λ v. Puts h v q in
+                            ne ((plain.0 x p here.puts).alone q (subst U one there.puts))) ∙ w.2,
+                      );
+                },
+              )
               )
           | inr ge ↦ (let same : j ≡ n = omega (arith, ge, lt) in absurd (ne (ap (λ w. (place line w).2) same)))
         ]

@@ -50,10 +50,13 @@ not_lower : (a b : ℕ × ℕ × ℕ) → lower b a ≡ false → Lex a b
 not_lower a b e =
     elim (first_tells a.0 b.0 (ordering_then (nat_cmp b.1 a.1) (nat_cmp b.2 a.2)) (sym (ap is_lt (then_then (nat_cmp b.0 a.0) (nat_cmp b.1 a.1) (nat_cmp b.2 a.2))) ∙ e)) [
       | inl lt ↦ inl lt
-      | inr p ↦ inr (p.0, elim (first_tells a.1 b.1 (nat_cmp b.2 a.2) p.1) [
-        | inl lt ↦ inl lt
-        | inr q ↦ inr (q.0, last_tells a.2 b.2 q.1)
-      ])
+      | inr p ↦ inr (
+        p.0,
+        elim (first_tells a.1 b.1 (nat_cmp b.2 a.2) p.1) [
+          | inl lt ↦ inl lt
+          | inr q ↦ inr (q.0, last_tells a.2 b.2 q.1)
+        ],
+      )
     ]
 
 lex_self : (a : ℕ × ℕ × ℕ) → Lex a a
@@ -160,10 +163,13 @@ module _ (ts : List Turn) (first sorted : List (ℕ × ℕ × ℕ)) (n : AreNumb
       let ne : c ≢ d = λ e. apart i j lt less (nc ∙ e ∙ sym nd) in
       let here : IsBefore ts c d = elim (line_rises sorted up i j (omega arith) in_j) [
         | inl low ↦ inl (omega (arith, mc, md, low))
-        | inr p ↦ (let e = p.0 in inr (omega (arith, mc, md, e), elim p.1 [
-          | inl low ↦ inl (omega (arith, rc, rd, low))
-          | inr q ↦ (let f = q.0 in let le = q.1 in inr (omega (arith, rc, rd, f), omega (arith, le, ne)))
-        ]))
+        | inr p ↦ (let e = p.0 in inr (
+          omega (arith, mc, md, e),
+          elim p.1 [
+            | inl low ↦ inl (omega (arith, rc, rd, low))
+            | inr q ↦ (let f = q.0 in let le = q.1 in inr (omega (arith, rc, rd, f), omega (arith, le, ne)))
+          ],
+        ))
       ] in
       let P : ℕ → ℕ → Type 0 = λ v w. IsBefore ts v w in
       subst (λ v. P v (get_or (numbers sorted) j 0)) (sym nc) (subst (λ w. P c w) (sym nd) here)

@@ -395,10 +395,10 @@ module _ (h : List Call) (ps : List Presence) (line : List (ℕ × ℕ × ℕ)) 
       let le = before_moment ts p e r in
       let in_i = u.1.inside in
       let out : (j : ℕ) → j ≤ i → ((place line j).0 ≤ m) × ((presence ps (place line j).2).gone ≤ m) = λ j under.
-          let up = lex_due j i under in_i in
-          let in_j : j < length line = omega (arith, under, in_i) in
-          let low : (place line j).0 ≤ m = omega (arith, up, mp, le) in
-          (low, gone_in_gap h ps (place line j) m s (is_place j in_j) gap low) in
+      let up = lex_due j i under in_i in
+      let in_j : j < length line = omega (arith, under, in_i) in
+      let low : (place line j).0 ≤ m = omega (arith, up, mp, le) in
+      (low, gone_in_gap h ps (place line j) m s (is_place j in_j) gap low) in
       let here = (out i (omega arith)).1 in
       let gone = gone_here p i u.1 in
       let m_in = n.inside.1 in

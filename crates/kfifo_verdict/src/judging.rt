@@ -22,15 +22,15 @@ pub fn judge(alloc: Global, history: &History, k: u32, tries: u64) -> Result<Jud
     if let Some(found) = evidence(alloc, history, k)? {
         return Ok(Judgement::NoOrder(found));
     }
-    if let Some(order) = witness(alloc, history, k, tries)? {
-        return Ok(Judgement::Legal(order));
-    }
     if k == 1 {
         if let Some(order) = order_of_plain(alloc, history.calls())? {
             return Ok(Judgement::Legal(order));
         }
     }
-    Ok(Judgement::Undecided)
+    match witness(alloc, history, k, tries)? {
+        Some(order) => Ok(Judgement::Legal(order)),
+        None => Ok(Judgement::Undecided),
+    }
 }
 
 /// The least k that the older items at the calls allow.

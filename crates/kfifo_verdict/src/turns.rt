@@ -131,12 +131,7 @@ fn idle_turns(
 }
 
 /// The turns of all calls, from those of the calls that neither put nor get an item.
-fn with_items(
-    calls: &[Call],
-    presences: &[Presence],
-    line: &[Place],
-    idle: Vec<Turn>,
-) -> Vec<Turn>
+fn with_items(calls: &[Call], presences: &[Presence], line: &[Place], idle: Vec<Turn>) -> Vec<Turn>
     requires history { IsHistory calls.now }
     requires plain { IsPlain calls.now }
     requires presences { ArePresences calls.now (length calls.now) presences.now }
@@ -232,7 +227,10 @@ fn plain_order(alloc: Global, calls: &[Call], items: &Items) -> Result<Vec<usize
 
 /// A legal order for k = 1 of the calls of a history without evidence, where it is plain: each item that is put is single,
 /// and each call has ended. Its time is near linear in the calls.
-pub(crate) fn order_of_plain(alloc: Global, calls: &[Call]) -> Result<Option<Vec<usize>>, AllocError>
+pub(crate) fn order_of_plain(
+    alloc: Global,
+    calls: &[Call],
+) -> Result<Option<Vec<usize>>, AllocError>
     requires history { IsHistory calls.now }
     requires clear { HasNoEvidence 1 calls.now }
     ensures legal { IfOk result (λ found. IfSome found (λ order. IsLegal 1 calls.now order.items)) }

@@ -1,4 +1,4 @@
-use Rattle.std.proofs.Common.{ℕ, List, length, map, sym, ◌∙◌, ap, subst}
+use Rattle.std.proofs.Common.{ℕ, List, sym, ◌∙◌, ap, subst}
 use Rattle.std.proofs.lemmas.Result.{IfOk-weaker}
 use Rattle.kfifo_verdict.specs.Plain.{IsByTurns}
 use Rattle.kfifo_verdict.proofs.Queueing.{numbers, sorted_by_turns}

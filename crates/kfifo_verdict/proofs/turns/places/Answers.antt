@@ -1,7 +1,7 @@
-use Rattle.std.proofs.Common.{ℕ, List, ◌+◌, length, sym, ◌∙◌, ap, subst, refl}
+use Rattle.std.proofs.Common.{ℕ, List, ◌+◌, sym, ◌∙◌, ap, subst, refl}
 use Rattle.kfifo_model.specs.Histories.{effect_of}
 use Rattle.kfifo_model.proofs.Checking.{read}
-use Rattle.kfifo_verdict.specs.Plain.{IsPlace, IsLate, IsDue, presence, ArePlaces}
+use Rattle.kfifo_verdict.specs.Plain.{IsPlace, IsLate, ArePlaces}
 use Rattle.kfifo_verdict.proofs.Lining.{put_deed, start_within, places_skip, places_more}
 use Rattle.kfifo_verdict.proofs.turns.places.Goals as goal
 use Rattle.kfifo_verdict.proofs.turns.places.Goals.{in-PutIn+in_ok-push, in_default}
