@@ -1,14 +1,14 @@
 -- Triples of numbers in order, and calls by their turns.
-use Rattle.std.proofs.Common.{◌≡◌, ◌≢◌, ℕ, zero, suc, ◌+◌, ◌-◌, ◌<◌, ◌≤◌, ◌⊎◌, inl, inr, Bool, false, eqb, refl, sym, ◌∙◌, ap, subst, arith, List, [], ◌∷◌, length, get_or, map, Ordering, Less, Equal, Greater}
+use Rattle.std.proofs.Common.{◌≡◌, ◌≢◌, ℕ, zero, suc, ◌+◌, ◌-◌, ◌<◌, ◌≤◌, ◌⊎◌, inl, inr, false, eqb, refl, sym, ◌∙◌, ap, subst, arith, List, length, get_or, map, Ordering, Less, Equal, Greater}
 use Rattle.std.proofs.lemmas.Bool.{cases_eq, cases_lt, eq-eqb, ne_eqb, false≢true}
 use Rattle.std.proofs.lemmas.List.{get_or-map, get_or_default, length-map}
-use Rattle.std.proofs.lemmas.List.Sorted.{All-permutation, Contains-permutation, IsPermutation-map, length_permutation}
+use Rattle.std.proofs.lemmas.List.Sorted.{All-permutation, Contains-permutation, IsPermutation-map}
 use Rattle.std.proofs.lemmas.Map.Keys.{IsDistinct-IsPermutation, IsDistinct-from_apart, apart_from_distinct}
 use Rattle.std.specs.List.{All, Contains, IsDistinct}
 use Rattle.std.specs.List.Sorted.{IsPermutation, IsSortedBy}
 use Rattle.std.specs.Ordering.{is_lt, nat_cmp, ordering_then}
 use Rattle.std.specs.Cmp.{nat_cmp_is}
-use Rattle.kfifo_model.specs.Lists.{IsIn, EachPair}
+use Rattle.kfifo_model.specs.Lists.{IsIn}
 use Rattle.kfifo_model.proofs.Places.{in_from_place, in_place, pairs_from_places}
 use Rattle.kfifo_verdict.specs.declared.turns.Turn.{Turn}
 use Rattle.kfifo_verdict.specs.Plain.{lower, place, turn, AreNumbered, IsBefore, IsByTurns}

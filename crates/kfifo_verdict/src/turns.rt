@@ -23,7 +23,7 @@ type Place = (usize, usize, usize);
 /// When a call has its turn: at a moment, and of those at one moment by rising rank.
 #[derive(Clone, Copy, Debug, PartialEq, Eq)]
 pub(crate) struct Turn {
-    /// The number of the call as which begins the moment begins.
+    /// The moment: a call's number, for when it begins, or the number of calls, for the end.
     pub moment: usize,
     /// Puts have lower ranks than gets, and gets than other calls.
     pub rank: usize,
