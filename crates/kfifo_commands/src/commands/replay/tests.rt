@@ -50,11 +50,14 @@ fn picks(alloc: Global, rounds: u32) -> Result<String, AllocError> {
 
 /// 64 scripts of enqueues and dequeues in turn, with a space between each two.
 fn scripts(alloc: Global) -> Result<String, AllocError> {
-    let mut text = String::from_str(alloc, "e1,d")?;
-    for thread in 1..64u32 {
-        text.push_str(if thread % 2 == 0 { " e1,d" } else { " d,e1,d" })?;
+    let mut text = String::new(alloc);
+    for thread in 0..64u32 {
+        if thread > 0 {
+            text.push(' ')?;
+        }
+        text.push_str(if thread % 2 == 0 { "e1" } else { "d,e1" })?;
         for _ in 0..30u32 {
-            text.push_str(",e1,d")?;
+            text.push_str(",d,e1")?;
         }
     }
     Ok(text)
