@@ -5,8 +5,8 @@ mod commands;
 mod options;
 mod program;
 
-use crate::program::program;
-use kfifo_commands::{Program, start_program};
+use crate::program::program_showing;
+use kfifo_commands::{Program, Progress, start_program};
 use std::io::{Read, Write};
 use std::process::ExitCode;
 use std::rt::Files;
@@ -17,15 +17,16 @@ use std::thread::Threads;
 struct Kfifo;
 
 impl Program for Kfifo {
-    fn run<T: Threads + Files + AllocGlobal, R: Read, W: Write, F: Write>(
+    fn run<T: Threads + Files + AllocGlobal, R: Read, W: Write, F: Write, P: Progress>(
         &self,
         rt: &T,
         words: &[String],
         input: &mut R,
         output: &mut W,
         faults: &mut F,
+        progress: &mut P,
     ) -> u8 {
-        program(rt, rt.alloc(), words, input, output, faults)
+        program_showing(rt, rt.alloc(), words, input, output, faults, progress)
     }
 }
 

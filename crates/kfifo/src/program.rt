@@ -12,7 +12,8 @@ use crate::commands::{check, measure, replay, run};
 use clap::error::ErrorKind;
 use clap::{ArgMatches, Command, Error};
 use kfifo_commands::{
-    Fault, Notice, Printer, Request, Status, carry_out, end_with_fault, end_with_text,
+    Fault, Notice, Printer, Progress, Request, Silent, Status, carry_out, end_with_fault,
+    end_with_text,
 };
 use kfifo_judge::{FromStd, Source};
 use std::alloc::{AllocError, Global};
@@ -41,6 +42,8 @@ docs/JUDGE.md about records and orders, docs/QUEUE.md about the queue.";
 /// Does all that the program does with `words`, the arguments after the program's name, and gives the
 /// exit status: 0 for an answer, 1 for a fault of the data, of a size, of memory, of reading or of
 /// writing, 2 for a fault of the command line, and 3 where `check` finds no order or one that is not legal.
+///
+/// It says nothing of its progress.
 pub fn program<T: Threads + Files, R: Read, W: Write, F: Write>(
     threads: &T,
     alloc: Global,
@@ -55,21 +58,50 @@ pub fn program<T: Threads + Files, R: Read, W: Write, F: Write>(
         (IsMisuse texts (OnWriter F.contents faults.old faults.new))
         (OnWriter W.contents output.old output.new) (OnWriter F.contents faults.old faults.new) result }
 {
+    program_showing(threads, alloc, words, input, output, faults, &mut Silent)
+}
+
+/// Does what `program` does, and tells the progress how far long work has come. What the progress does with that is
+/// not among what is said of the streams.
+pub fn program_showing<T: Threads + Files, R: Read, W: Write, F: Write, P: Progress>(
+    threads: &T,
+    alloc: Global,
+    words: &[String],
+    input: &mut R,
+    output: &mut W,
+    faults: &mut F,
+    progress: &mut P,
+) -> u8
+    // Std's contract of a reader has no word for a read that fails: so many did.
+    ensures { let texts = map (λ w. string_bytes w) words.now in (failed : ℕ)
+        × Ends (IsPrinted texts (R.remaining input.old) 0 failed) (IsFault texts (R.remaining input.old) 0 failed)
+        (IsMisuse texts (OnWriter F.contents faults.old faults.new))
+        (OnWriter W.contents output.old output.new) (OnWriter F.contents faults.old faults.new) result }
+{
     let mut input = FromStd::new(input);
     let mut output = Printer::new(output);
     let mut faults = Printer::new(faults);
-    perform(alloc, threads, words, &mut input, &mut output, &mut faults)
+    perform(
+        alloc,
+        threads,
+        words,
+        &mut input,
+        &mut output,
+        &mut faults,
+        progress,
+    )
 }
 
 /// The same over a source and printers, which count the calls that failed: the input is at fault, and a text
 /// breaks off, only where one did.
-fn perform<H: Files, S: Source, W: Write, F: Write>(
+fn perform<H: Files, S: Source, W: Write, F: Write, P: Progress>(
     alloc: Global,
     files: &H,
     words: &[String],
     input: &mut S,
     output: &mut Printer<'_, W>,
     faults: &mut Printer<'_, F>,
+    progress: &mut P,
 ) -> u8
     ensures { let texts = map (λ w. string_bytes w) words.now in
         Ends (IsPrinted texts (S.remaining input.old) (S.failed input.old) (S.failed input.new))
@@ -79,7 +111,9 @@ fn perform<H: Files, S: Source, W: Write, F: Write>(
 {
     match parse(alloc, words) {
         Ok(matches) => match request_of(&matches) {
-            Some(request) => carry_out(alloc, files, request, input, output, faults).number(),
+            Some(request) => carry_out(
+                alloc, files, request, input, output, faults, progress,
+            ).number(),
             None => Status::Misused.number(),
         },
         Err(error) => end_with_error(alloc, error, output, faults).number(),

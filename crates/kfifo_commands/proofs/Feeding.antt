@@ -1,6 +1,6 @@
 -- Groups of picks that were fed one after the other.
-use Rattle.std.proofs.Common.{◌≡◌, ℕ, suc, ◌+◌, ◌<◌, ◌≤◌, List, [], ◌∷◌, ◌++◌, length, get_or, take, drop, replicate, sym, ap, subst, ◌∙◌, arith, add-one}
-use Rattle.std.proofs.lemmas.List.{append_assoc, get_or-append-add, get_or_append_left, length-append, length-replicate, append-nil, take-append-drop, take-append-le}
+use Rattle.std.proofs.Common.{◌≡◌, ℕ, suc, ◌+◌, ◌-◌, ◌<◌, ◌≤◌, List, [], ◌∷◌, ◌++◌, length, get_or, take, drop, replicate, sym, ap, subst, ◌∙◌, arith, add-one}
+use Rattle.std.proofs.lemmas.List.{append_assoc, get_or-append-add, get_or_append_left, length-append, length-replicate, replicate-append-replicate, append-nil, take-append-drop, take-append-le}
 use Rattle.std.proofs.lemmas.List.Concat.{flat_map-append, length-flat_map}
 use Rattle.std.proofs.Math.Seq.{drop-cons, take-append-add, take-suc}
 use Rattle.kfifo_words.specs.declared.shape.Shape.{Shape}
@@ -68,6 +68,28 @@ stops_on shape scripts earlier groups i d fault p inside stops =
       count_of (take i groups) + stops.0,
       ap (behind (count_of (take i groups))) stops.1,
       subst (λ n. StopsAt shape scripts earlier (picks_of groups) (n + stops.0) p) sized whole,
+    )
+
+-- a piece of a group behind earlier ones was fed
+pub piece_more : (earlier : List ℕ) (fed piece thread : ℕ) → (earlier ++ replicate fed thread) ++ replicate piece thread ≡ earlier ++ replicate (fed + piece) thread
+piece_more earlier fed piece thread =
+    append_assoc earlier (replicate fed thread) (replicate piece thread) ∙ ap (λ (xs : List ℕ). earlier ++ xs) (replicate-append-replicate fed piece thread)
+
+-- a piece that stops stops its group
+pub piece_stops : (shape : Shape) (scripts : List (List Begin)) (earlier : List ℕ) (fed piece count thread : ℕ) (fault : ReplayFault) (p : Player) → fed + piece ≤ count
+    → Stops shape scripts (earlier ++ replicate fed thread) (replicate piece thread) fault p → Stops shape scripts earlier (replicate count thread) (behind fed fault) p
+piece_stops shape scripts earlier fed piece count thread fault p within stops =
+    let rest = count - (fed + piece) in
+    let counts : fed + (piece + rest) ≡ count = omega (arith, within) in
+    let whole : replicate fed thread ++ (replicate piece thread ++ replicate rest thread) ≡ replicate count thread =
+    ap (λ (xs : List ℕ). replicate fed thread ++ xs) (replicate-append-replicate piece rest thread)
+    ∙ (replicate-append-replicate fed (piece + rest) thread ∙ ap (λ n. replicate n thread) counts) in
+    let at : StopsAt shape scripts earlier (replicate count thread) (length (replicate fed thread) + stops.0) p =
+    subst (λ (xs : List ℕ). StopsAt shape scripts earlier xs (length (replicate fed thread) + stops.0) p) whole
+    (stops_within shape scripts earlier (replicate fed thread) (replicate piece thread) (replicate rest thread) stops.0 p stops.2) in (
+      fed + stops.0,
+      ap (behind fed) stops.1,
+      subst (λ n. StopsAt shape scripts earlier (replicate count thread) (n + stops.0) p) (length-replicate fed thread) at,
     )
 
 -- the place of a pick that is refused is within its group

@@ -1,5 +1,5 @@
 -- Why the commands `check` and `measure` have no answer, and what their answers are.
-use Rattle.std.proofs.Common.{◌≡◌, ◌≢◌, ℕ, List, Option, Some, refl, Result, Ok, Err, IfErr, sym, subst, inl, inr, ◌⊎◌, option_map}
+use Rattle.std.proofs.Common.{◌≡◌, ◌≢◌, ◌≤◌, ℕ, List, length, Option, None, Some, IfSome, refl, Result, Ok, Err, IfErr, sym, subst, inl, inr, ◌⊎◌, option_map}
 use Rattle.kfifo_judge.specs.declared.record.StreamFault.{StreamFault}
 use Rattle.kfifo_judge.specs.declared.record.StreamFault.TheVariants as streams
 use Rattle.kfifo_judge.specs.Check.{IsCheckFault}
@@ -9,7 +9,12 @@ use Rattle.kfifo_commands.specs.declared.fault.Fault.TheVariants.{Memory, Order}
 use Rattle.kfifo_commands.specs.declared.options.CheckOptions.{CheckOptions}
 use Rattle.kfifo_commands.specs.Faults.{stream_fault}
 use Rattle.kfifo_commands.specs.Orders.{GivesNoOrder, GivesOrder}
-use Rattle.kfifo_commands.specs.Records.{IsCheckRefusal, IsMeasureRefusal, IsOfInput, IsOrder, IsStreamFault, GivesSomeOrder, IsUnread}
+use Rattle.kfifo_commands.specs.Records.{IsCheckRefusal, IsInput, IsMeasureRefusal, IsOfInput, IsOrder, IsStreamFault, GivesSomeOrder, IsUnread}
+
+-- bytes that an input of at most 16,777,216 gives are what was read of it
+pub of_short : (input : Option (List ℕ)) (bytes : List ℕ) → IfSome input (λ given. given ≡ bytes) → IfSome input (λ given. length given ≤ 16777216) → IsInput input bytes
+of_short None bytes same short = tt
+of_short (Some given) bytes same short = (same, short)
 
 module _ (input : Option (List ℕ)) (before after : ℕ) where
   module _ (options : CheckOptions) (order : Option (List ℕ)) (ordered : IsOrder options order) where

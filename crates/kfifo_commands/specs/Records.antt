@@ -1,5 +1,5 @@
 -- What the commands `check` and `measure` come to, by their options, their input and its failed reads.
-use Rattle.std.specs.Prelude.{◌≡◌, ◌≢◌, ◌⊎◌, ◌<◌, ℕ, List, Option, Some, None, IfSome, Result, MatchResult, length, option_map}
+use Rattle.std.specs.Prelude.{◌≡◌, ◌≢◌, ◌⊎◌, ◌<◌, ◌≤◌, ℕ, List, Option, Some, None, IfSome, Result, MatchResult, length, option_map}
 use Rattle.kfifo_judge.specs.declared.record.StreamFault.{StreamFault}
 use Rattle.kfifo_judge.specs.declared.record.StreamFault.TheVariants as streams
 use Rattle.kfifo_judge.specs.Check.{IsChecked, IsCheckFault}
@@ -11,9 +11,9 @@ use Rattle.kfifo_commands.specs.declared.options.CheckOptions.{CheckOptions}
 use Rattle.kfifo_commands.specs.Faults.{stream_fault}
 use Rattle.kfifo_commands.specs.Orders.{GivesNoOrder, GivesOrder}
 
--- these are the bytes of the input, where those are known
+-- these are the bytes of the input, where those are known, and they are at most 16,777,216
 abbrev pub IsInput : Option (List ℕ) → List ℕ → Type 0
-IsInput input bytes = IfSome input (λ given. given ≡ bytes)
+IsInput input bytes = IfSome input (λ given. (given ≡ bytes) × (length given ≤ 16777216))
 
 -- the input was not read whole: a read failed, or over 16,777,216 bytes came
 abbrev pub IsUnread : Option (List ℕ) → ℕ → ℕ → Type 0

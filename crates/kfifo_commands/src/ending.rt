@@ -10,6 +10,7 @@ use crate::commands::{check, measure, replay, run};
 use crate::fault::Fault;
 use crate::options::Request;
 use crate::printing::Printer;
+use crate::progress::Progress;
 use crate::status::Status;
 use kfifo_judge::Source;
 use std::alloc::Global;
@@ -27,19 +28,21 @@ pub enum Notice {
 }
 
 /// Does what is requested, and writes its answer or the line of its fault. The order of `check` may stand in a file.
-pub fn carry_out<H: Files, S: Source, W: Write, F: Write>(
+/// `replay` tells the progress how far it has come, and that it has ended before anything is written.
+pub fn carry_out<H: Files, S: Source, W: Write, F: Write, P: Progress>(
     alloc: Global,
     files: &H,
     request: Request<'_>,
     input: &mut S,
     output: &mut Printer<'_, W>,
     faults: &mut Printer<'_, F>,
+    progress: &mut P,
 ) -> Status
     ensures { Ends (IsAnswered request.entry (S.remaining input.old) (S.failed input.old) (S.failed input.new))
         (IsRefused request.entry (S.remaining input.old) (S.failed input.old) (S.failed input.new)) ⊥
         (OnPrinter W.contents output.old output.new) (OnPrinter F.contents faults.old faults.new) (status_number result) }
 {
-    match answer(alloc, files, request, input, output) {
+    match answer(alloc, files, request, input, output, progress) {
         Ok(status) => status,
         Err(fault) => end_with_fault(fault, faults),
     }
@@ -85,12 +88,13 @@ pub fn end_with_text<D: Display + Drop, W: Write, F: Write>(
 }
 
 /// Does what is requested, and prints its answer.
-fn answer<H: Files, S: Source, W: Write>(
+fn answer<H: Files, S: Source, W: Write, P: Progress>(
     alloc: Global,
     files: &H,
     request: Request<'_>,
     input: &mut S,
     output: &mut Printer<'_, W>,
+    progress: &mut P,
 ) -> Result<Status, Fault>
     ensures statuses { IfOk result (λ status. (status ≢ Status.Failed) × (status ≢ Status.Misused)) }
     ensures printed { IfOk result (λ status. (text : List ℕ) × Answers request.entry (S.remaining input.old) text (status_number status)
@@ -118,7 +122,9 @@ fn answer<H: Files, S: Source, W: Write>(
             Ok(Status::Answered)
         }
         Request::Replay(options) => {
-            let text = replay::answer(alloc, options)?;
+            let played = replay::answer(alloc, options, progress);
+            progress.ended();
+            let text = played?;
             output.print(text.as_bytes())?;
             Ok(Status::Answered)
         }

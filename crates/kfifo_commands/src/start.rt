@@ -7,34 +7,41 @@ ghost use Rattle.kfifo_commands.specs.Printing.{OnPrinter};
 use crate::ending::end_with_fault;
 use crate::fault::Fault;
 use crate::printing::Printer;
+use crate::progress::Progress;
 use crate::status::Status;
 use std::env;
 use std::io::{self, ErrorKind, IsTerminal, Read, Write};
 use std::process::ExitCode;
 use std::rt::{Env, Files};
 use std::thread::Threads;
+use std::time::{Clock, Instant};
 
 const NO_TEXT: &str = "error: invalid UTF-8 was detected in one or more arguments\n";
+
+/// Erases the line of the progress.
+const BLANKS: &str = "\r                                \r";
 
 const HINT: &str = "reading from the terminal: end the input by Ctrl-D on a line of its own\n";
 
 /// What a program does with its arguments and its streams.
 pub trait Program {
     /// Does it, and gives the exit status. `rt` is what it may use of the system, and `words` are the arguments after
-    /// the program's name.
-    fn run<T: Threads + Files + AllocGlobal, R: Read, W: Write, F: Write>(
+    /// the program's name. Long work tells the progress how far it has come.
+    fn run<T: Threads + Files + AllocGlobal, R: Read, W: Write, F: Write, P: Progress>(
         &self,
         rt: &T,
         words: &[String],
         input: &mut R,
         output: &mut W,
         faults: &mut F,
+        progress: &mut P,
     ) -> u8;
 }
 
 /// Runs a program on the arguments of this process and its standard streams, and gives its exit status. Where an
-/// argument is not UTF-8, or memory is refused for them, that is told and the program does not run. `rt` is what the
-/// program may use of the system.
+/// argument is not UTF-8, or memory is refused for them, that is told and the program does not run. Where standard
+/// error is a terminal, it shows how far work has come that goes on for over a second. `rt` is what the program may use
+/// of the system.
 pub fn start<T: Threads + Files + AllocGlobal, P: Program>(
     streams: &HostRuntime,
     rt: &T,
@@ -47,7 +54,17 @@ pub fn start<T: Threads + Files + AllocGlobal, P: Program>(
             let reader = streams.stdin();
             let hint = reader.is_terminal().then_some(streams.stderr());
             let mut input = Prompting { reader, hint };
-            program.run(rt, words.as_slice(), &mut input, &mut output, &mut faults)
+            let screen = streams.stderr();
+            let screen = screen.is_terminal().then_some(screen);
+            let mut progress = Showing::new(streams, screen);
+            program.run(
+                rt,
+                words.as_slice(),
+                &mut input,
+                &mut output,
+                &mut faults,
+                &mut progress,
+            )
         }
         Err(error) => end_without_words(&error, &mut Printer::new(&mut faults)),
     };
@@ -91,6 +108,63 @@ impl<R: Read, W: Write + Drop> Read for Prompting<R, W> {
             let _ = faults.write_all(HINT.as_bytes());
         }
         self.reader.read(piece)
+    }
+}
+
+/// Shows how far work has come, on a line of its own that is written anew each time, where there is a screen and a
+/// second has gone by.
+#[derive(Drop)]
+struct Showing<'a, C, W> {
+    clock: &'a C,
+    begun: Option<Instant>,
+    screen: Option<W>,
+    shown: bool,
+}
+
+impl<'a, C: Clock, W: Write> Showing<'a, C, W> {
+    /// Of work that begins now.
+    fn new(clock: &'a C, screen: Option<W>) -> Showing<'a, C, W> {
+        Showing {
+            clock,
+            begun: Instant::now(clock).ok(),
+            screen,
+            shown: false,
+        }
+    }
+
+    /// Whether a second has gone by. Where the clock cannot be read, none has.
+    fn is_due(&self) -> bool {
+        let Some(begun) = self.begun else {
+            return false;
+        };
+        match begun.elapsed(self.clock) {
+            Ok(time) => time.as_secs() >= 1,
+            Err(_) => false,
+        }
+    }
+}
+
+impl<C: Clock, W: Write> Progress for Showing<'_, C, W> {
+    fn told(&mut self, made: u64, all: u64) {
+        if !self.is_due() {
+            return;
+        }
+        if let Some(screen) = &mut self.screen {
+            let percent = made.saturating_mul(100) / all.max(1);
+            // A line that cannot be written changes nothing.
+            let _ = write!(screen, "\rkfifo: {percent} %");
+            self.shown = true;
+        }
+    }
+
+    fn ended(&mut self) {
+        if !self.shown {
+            return;
+        }
+        if let Some(screen) = &mut self.screen {
+            let _ = screen.write_all(BLANKS.as_bytes());
+            self.shown = false;
+        }
     }
 }
 

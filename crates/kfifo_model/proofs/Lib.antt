@@ -11,3 +11,4 @@ pub mod Adding
 pub mod RecordLemmas
 pub mod Indexing
 pub mod Matching
+pub mod Counting

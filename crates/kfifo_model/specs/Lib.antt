@@ -13,3 +13,4 @@ pub mod Searching
 pub mod Records
 pub mod Index
 pub mod Matching
+pub mod Blocks

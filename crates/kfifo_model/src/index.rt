@@ -1,7 +1,7 @@
 //! All certain overtakings of a history, by an index of its items.
 ghost use Rattle.std.specs.Prelude.{ℕ, ◌≡◌, ◌<◌, ◌+◌, ◌↔◌, Bool, true, false, Option, Some, None, List, [], ◌∷◌, length, IsTrue};
 ghost use Rattle.std.specs.Prelude.{IsSome, IfOk, MatchOption, MatchResult, MatchBool, count_by};
-ghost use Rattle.std.specs.List.{filter_map, range_with_len};
+ghost use Rattle.std.specs.List.{filter_map, flat_map, range_with_len};
 ghost use Rattle.std.specs.Ordering.{nat_cmp};
 ghost use Rattle.std.specs.BTreeMap.{get};
 ghost use Rattle.kfifo_model.specs.Histories.{call, does, effect_of};
@@ -11,6 +11,7 @@ ghost use Rattle.kfifo_model.specs.Measures.{IsDoneEnqueue, HasDistinctItems};
 ghost use Rattle.kfifo_model.specs.Index.{kind_effect, IsIndex, HasTwo, rival_of, rivals_below, last_of, is_beaten, done_item};
 ghost use Rattle.kfifo_model.specs.Index.{measured, IsMeasureFault, measure_fault_number};
 
+use crate::blocks::{Block, blocks_of, count_in};
 use crate::calls::{Answer, Call, Op};
 use crate::history::History;
 use crate::measures::{added, taken};
@@ -146,27 +147,6 @@ fn rivals(
     Ok(found)
 }
 
-/// Whether a rival overtakes an item that was put by a call that ended at a step, and got by one that began at another.
-fn beats(last: u64, got: Option<u64>, rival: &Rival) -> bool
-    ensures { result ≡ is_beaten last got rival.now }
-{
-    last < rival.put_first
-        && match got {
-            Some(first) => rival.got_last < first,
-            None => true,
-        }
-}
-
-/// How many rivals overtake it.
-fn count_beats(rivals: &[Rival], last: u64, got: Option<u64>) -> usize
-    ensures { result ≡ count_by (λ r. is_beaten last got r) rivals.now }
-{
-    rivals
-        .iter()
-        .filter(|rival| beats(last, got, rival))
-        .count()
-}
-
 /// The item of a finished enqueue with answer Done.
 fn item_done(call: &Call) -> Option<u32>
     ensures { result ≡ done_item call.now.op call.now.end }
@@ -184,12 +164,13 @@ fn item_done(call: &Call) -> Option<u32>
 fn measure_call(
     n: usize,
     call: &Call,
-    rivals: &[Rival],
+    blocks: &[Block],
     gots: &BTreeMap<u32, u64>,
 ) -> Option<Overtaken>
+    requires { length (flat_map (λ b. b) blocks.now) < 9223372036854775808 }
     ensures { MatchOption result (done_item call.now.op call.now.end ≡ None)
         (λ o. (o.call ≡ n) × (done_item call.now.op call.now.end ≡ Some o.item)
-        × (o.count ≡ count_by (λ r. is_beaten (last_of call.now.end) (get nat_cmp gots.now o.item) r) rivals.now)) }
+        × (o.count ≡ count_by (λ r. is_beaten (last_of call.now.end) (get nat_cmp gots.now o.item) r) (flat_map (λ b. b) blocks.now))) }
 {
     let Some(item) = item_done(call) else {
         return None;
@@ -202,7 +183,7 @@ fn measure_call(
     Some(Overtaken {
         call: n,
         item,
-        count: count_beats(rivals, last, got),
+        count: count_in(blocks, last, got),
     })
 }
 
@@ -217,10 +198,13 @@ fn measure_calls(
     requires gots { IsIndex calls.now Kind.Gots (length calls.now) (λ x. get nat_cmp gots.now x) }
     ensures { IfOk result (λ v. v.items ≡ measured calls.now (length calls.now)) }
 {
-    let rivals = rivals(alloc, calls, puts)?;
+    let mut rivals = rivals(alloc, calls, puts)?;
+    // Blocks of rivals that were put soon after each other: of all blocks one at most is counted one by one.
+    rivals.sort_by_key(|rival| rival.put_first)?;
+    let blocks = blocks_of(alloc, &rivals)?;
     let mut found = Vec::new(alloc);
     for (n, call) in calls.iter().enumerate() {
-        if let Some(overtaken) = measure_call(n, call, &rivals, gots) {
+        if let Some(overtaken) = measure_call(n, call, &blocks, gots) {
             found.push(overtaken)?;
         }
     }
@@ -239,8 +223,7 @@ fn has_done(calls: &[Call]) -> bool
     false
 }
 
-/// The certain overtakings of each item that a finished enqueue put with answer Done, by rising call number. Each
-/// pair of such an enqueue and a dequeue costs one comparison at most.
+/// The certain overtakings of each item that a finished enqueue put with answer Done, by rising call number.
 pub fn measure(alloc: Global, history: &History) -> Result<Vec<Overtaken>, MeasureFault>
     ensures { MatchResult result
         (λ v. (v.items ≡ measured history.now (length history.now)) × ((n : ℕ) → IsDoneEnqueue history.now n → HasDistinctItems history.now))

@@ -2,6 +2,7 @@
 //! goes from a plain queue's.
 #![tactic(auto)]
 
+mod blocks;
 mod calls;
 mod history;
 mod index;

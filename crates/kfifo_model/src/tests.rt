@@ -68,6 +68,27 @@ fn in_turn(alloc: Global, puts: &[u32], gots: &[u32]) -> Result<Vec<Call>, Alloc
     Ok(calls)
 }
 
+/// Items put one after the other and got in the other direction: each is overtaken by all that were put after it.
+#[test]
+fn measures_a_long_record(rt: HostRuntime) -> Result<(), Fail> {
+    let count = 1_600;
+    let mut calls = Vec::new(rt.alloc());
+    for n in 0..count {
+        calls.push(put(0, n + 1, 2 * u64::from(n), 2 * u64::from(n) + 1))?;
+    }
+    for n in 0..count {
+        let step = 2 * u64::from(count + n);
+        calls.push(got(1, count - n, step, step + 1))?;
+    }
+    let history = History::new(calls)?;
+    let measured = measure(rt.alloc(), &history)?;
+    assert_eq!(rt; measured.len(), 1_600);
+    for (n, overtaken) in measured.iter().enumerate() {
+        assert_eq!(rt; (overtaken.call, overtaken.count), (n, 1_599 - n));
+    }
+    Ok(())
+}
+
 #[test]
 fn relaxed_record(rt: HostRuntime) -> Result<(), Fail> {
     let history = History::new(relaxed(rt.alloc())?)?;

@@ -2,7 +2,9 @@
 //! not written to standard output, and that the exit status is the one that was answered.
 #![tactic(auto)]
 
-use kfifo_commands::{Printer, Program, Request, RunOptions, Sizes, carry_out, start_program};
+use kfifo_commands::{
+    Printer, Program, Progress, Request, RunOptions, Sizes, carry_out, start_program,
+};
 use kfifo_judge::FromStd;
 use std::io::{Read, Write};
 use std::process::ExitCode;
@@ -14,13 +16,14 @@ use std::thread::Threads;
 struct Refusal;
 
 impl Program for Refusal {
-    fn run<T: Threads + Files + AllocGlobal, R: Read, W: Write, F: Write>(
+    fn run<T: Threads + Files + AllocGlobal, R: Read, W: Write, F: Write, P: Progress>(
         &self,
         rt: &T,
         _words: &[String],
         input: &mut R,
         output: &mut W,
         faults: &mut F,
+        progress: &mut P,
     ) -> u8 {
         let sizes = Sizes {
             k: 0,
@@ -44,6 +47,7 @@ impl Program for Refusal {
             &mut input,
             &mut output,
             &mut faults,
+            progress,
         )
         .number()
     }

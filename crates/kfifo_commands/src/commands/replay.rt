@@ -1,5 +1,5 @@
 //! The command `replay`: scripts run on the machine in the order of given picks.
-ghost use Rattle.std.specs.Prelude.{◌≡◌, ◌≢◌, ◌⊎◌, ◌≤◌, ◌+◌, ◌++◌, ◌∷◌, [], List, ℕ, IfOk, IfErr, OnOk, map, string_bytes};
+ghost use Rattle.std.specs.Prelude.{◌≡◌, ◌≢◌, ◌⊎◌, ◌≤◌, ◌+◌, ◌++◌, ◌∷◌, [], List, ℕ, IfOk, IfErr, OnOk, map, replicate, string_bytes};
 ghost use Rattle.kfifo_words.specs.declared.shape.Shape.{Shape as ShapeData};
 ghost use Rattle.kfifo_machine.specs.declared.event.Begin.{Begin as BeginData};
 ghost use Rattle.kfifo_replay.specs.Player.{StandsFor, Stops};
@@ -11,6 +11,7 @@ ghost use Rattle.kfifo_commands.specs.Runs.{IsShapeOf};
 use crate::fault::Fault;
 use crate::options::ReplayOptions;
 use crate::picks::{Group, read_picks};
+use crate::progress::{Meter, Progress};
 use crate::recording::record_text;
 use crate::words::read_scripts;
 use kfifo_machine::Begin;
@@ -19,8 +20,12 @@ use kfifo_words::Shape;
 use std::alloc::{AllocError, Global};
 use std::fmt::Write;
 
-/// The report of the replay, or the record of its calls.
-pub fn answer(alloc: Global, options: ReplayOptions<'_>) -> Result<String, Fault>
+/// The report of the replay, or the record of its calls. The progress is told how many of the picks are made.
+pub fn answer<P: Progress>(
+    alloc: Global,
+    options: ReplayOptions<'_>,
+    progress: &mut P,
+) -> Result<String, Fault>
     ensures ok { IfOk result (λ text. IsReplayAnswer options.entry (string_bytes text)) }
     ensures err { IfErr result (λ fault. IsReplayRefusal options.entry fault) }
     ensures silent { IfErr result (λ fault. fault ≢ Fault.Output) }
@@ -34,6 +39,7 @@ pub fn answer(alloc: Global, options: ReplayOptions<'_>) -> Result<String, Fault
         scripts.as_slice(),
         groups.as_slice(),
         options.stopped,
+        progress,
     )?;
     text_of(alloc, &options, &replay)
 }
@@ -48,12 +54,13 @@ fn shape_of(options: ReplayOptions<'_>) -> Result<Shape, Fault>
 }
 
 /// The replay that has made these picks, and has then gone on to the ends of the scripts where a thread is stopped.
-fn play(
+fn play<P: Progress>(
     alloc: Global,
     shape: Shape,
     scripts: &[Vec<Begin>],
     groups: &[Group],
     stopped: Option<u32>,
+    progress: &mut P,
 ) -> Result<Replay, ReplayFault>
     requires { count_of groups.now ≤ 16777216 }
     ensures ok { let own = map (λ script. script.items) scripts.now in
@@ -61,7 +68,8 @@ fn play(
     ensures err { IfErr result (IsRefusal stopped shape (map (λ script. script.items) scripts.now) (picks_of groups.now)) }
 {
     let mut replay = Replay::open(alloc, shape, scripts)?;
-    feed(&mut replay, groups)?;
+    let mut meter = Meter::new(progress, count_picks(groups));
+    feed(&mut replay, groups, &mut meter)?;
     match stopped {
         Some(thread) => {
             replay.finish(thread)?;
@@ -71,8 +79,20 @@ fn play(
     }
 }
 
+/// How many picks the groups are.
+fn count_picks(groups: &[Group]) -> u64
+    requires { count_of groups.now ≤ 16777216 }
+    ensures { result ≡ count_of groups.now }
+{
+    groups.iter().map(|group| u64::from(group.count)).sum()
+}
+
 /// Makes the picks of these groups. The place of a refused pick counts over all of them.
-fn feed(replay: &mut Replay, groups: &[Group]) -> Result<(), ReplayFault>
+fn feed<P: Progress>(
+    replay: &mut Replay,
+    groups: &[Group],
+    meter: &mut Meter<'_, P>,
+) -> Result<(), ReplayFault>
     requires few { count_of groups.now ≤ 16777216 }
     requires stands { (shape : ShapeData) × (scripts : List (List BeginData)) × (earlier : List ℕ) × StandsFor shape scripts earlier replay.old }
     ensures made { OnOk result ((shape : ShapeData) (scripts : List (List BeginData)) (earlier : List ℕ)
@@ -82,10 +102,35 @@ fn feed(replay: &mut Replay, groups: &[Group]) -> Result<(), ReplayFault>
 {
     let mut made: usize = 0;
     for group in groups {
-        match replay.feed_many(group.thread, group.count) {
+        match feed_group(replay, *group, meter) {
             Ok(()) => made += group.count as usize,
             Err(fault) => return Err(behind(made, fault)),
         }
+    }
+    Ok(())
+}
+
+/// Makes the picks of this group piece by piece, and counts them. The place of a refused pick counts over all of them.
+fn feed_group<P: Progress>(
+    replay: &mut Replay,
+    group: Group,
+    meter: &mut Meter<'_, P>,
+) -> Result<(), ReplayFault>
+    requires few { group.count ≤ 16777216 }
+    requires stands { (shape : ShapeData) × (scripts : List (List BeginData)) × (earlier : List ℕ) × StandsFor shape scripts earlier replay.old }
+    ensures made { OnOk result ((shape : ShapeData) (scripts : List (List BeginData)) (earlier : List ℕ)
+        → StandsFor shape scripts earlier replay.old → StandsFor shape scripts (earlier ++ replicate group.count group.thread) replay.new) }
+    ensures refused { IfErr result (λ fault. (shape : ShapeData) (scripts : List (List BeginData)) (earlier : List ℕ)
+        → StandsFor shape scripts earlier replay.old → Stops shape scripts earlier (replicate group.count group.thread) fault replay.new) }
+{
+    let mut fed: u32 = 0;
+    while fed < group.count {
+        let piece = meter.room().min(group.count - fed);
+        match replay.feed_many(group.thread, piece) {
+            Ok(()) => fed += piece,
+            Err(fault) => return Err(behind(fed as usize, fault)),
+        }
+        meter.add(piece);
     }
     Ok(())
 }
@@ -206,3 +251,6 @@ fn push_further(text: &mut String, numbers: &[usize]) -> Result<(), AllocError>
     }
     Ok(())
 }
+
+#[cfg(test)]
+mod tests;

@@ -127,7 +127,7 @@ fn tells_its_version(rt: HostRuntime) -> Result<(), Fail> {
 }
 
 /// A command line at fault, and what its fault says.
-const MISUSES: [(&str, &str); 21] = [
+const MISUSES: [(&str, &str); 24] = [
     ("run", "<WORD>..."),
     ("walk", "unrecognized subcommand 'walk'"),
     ("run --k", "a value is required for '--k <SLOTS>'"),
@@ -152,6 +152,15 @@ const MISUSES: [(&str, &str); 21] = [
     ("measure record.json", "unexpected argument 'record.json'"),
     ("run -d", "unexpected argument '-d'"),
     ("run --k -1 e7", "unexpected argument '-1'"),
+    (
+        "replay --turns 0 d",
+        "invalid value '0' for '--turns <ROUNDS>'",
+    ),
+    (
+        "replay --stop 64 d",
+        "invalid value '64' for '--stop <THREAD>'",
+    ),
+    ("replay --order 0 d", "unexpected argument '--order'"),
 ];
 
 #[test]

@@ -6,7 +6,7 @@ use Rattle.kfifo_commands.specs.Picks.{count_of, picks_of}
 use Rattle.kfifo_commands.proofs.commands.replay.feed.Given as goal
 
 abbrev pub invariant-loop-group : goal.invariant-loop-group
-invariant-loop-group l = record {
+invariant-loop-group g l = record {
   count : l.made ≡ count_of (take l.group-index l.groups);
   stands : (shape : Shape) (scripts : List (List Begin)) (earlier : List ℕ) → StandsFor shape scripts earlier l.fn.replay
       → StandsFor shape scripts (earlier ++ picks_of (take l.group-index l.groups)) l.replay;

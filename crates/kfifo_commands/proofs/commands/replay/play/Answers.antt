@@ -4,7 +4,7 @@ use Rattle.kfifo_commands.specs.Picks.{picks_of}
 use Rattle.kfifo_commands.proofs.commands.replay.play.Goals as goal
 
 pub returns-in_ok-finish-in-Some-clause-ok : goal.returns-in_ok-finish-in-Some-clause-ok
-returns-in_ok-finish-in-Some-clause-ok c =
+returns-in_ok-finish-in-Some-clause-ok g c =
     let own = map (λ script. script.items) c.args.scripts.now in
     let fed = c.in_ok-feed.ensures.made c.args.shape own _ c.in_ok-replay.ensures.opened in
     let finished = c.in_ok-finish-in-Some.ensures.finished c.args.shape own (picks_of c.args.groups.now) fed in
@@ -15,7 +15,7 @@ returns-in_ok-finish-in-Some-clause-ok c =
     )
 
 pub returns-in-None-clause-ok : goal.returns-in-None-clause-ok
-returns-in-None-clause-ok c =
+returns-in-None-clause-ok g c =
     let own = map (λ script. script.items) c.args.scripts.now in
     let fed = c.in_ok-feed.ensures.made c.args.shape own _ c.in_ok-replay.ensures.opened in
     rw c.in-None.is (picks_of c.args.groups.now, refl, fed)

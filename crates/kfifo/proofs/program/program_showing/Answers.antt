@@ -1,6 +1,6 @@
 use Rattle.std.proofs.Common.{rules}
 use Rattle.kfifo.proofs.Printed.{ends_on, misuse_on, on_writer}
-use Rattle.kfifo.proofs.program.program.Goals as goal
+use Rattle.kfifo.proofs.program.program_showing.Goals as goal
 
 pub returns : goal.returns
 returns g c = (

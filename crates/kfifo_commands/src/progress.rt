@@ -1,0 +1,58 @@
+//! Where long work tells how far it has come.
+ghost use Rattle.std.specs.Prelude.{◌≤◌};
+
+/// Who is told how far a work has come. What it does with that is its own: no answer depends on it.
+pub trait Progress {
+    /// So many steps of so many in all are made.
+    fn told(&mut self, made: u64, all: u64);
+
+    /// The work is done, or was given up.
+    fn ended(&mut self);
+}
+
+/// Tells nobody.
+#[derive(Drop)]
+pub struct Silent;
+
+impl Progress for Silent {
+    fn told(&mut self, _made: u64, _all: u64) {}
+
+    fn ended(&mut self) {}
+}
+
+/// The steps that are made between two calls of a progress.
+const PIECE: u32 = 262_144;
+
+/// Counts the steps of a work, and tells each time that 262,144 further ones are made.
+#[derive(Drop)]
+pub struct Meter<'a, P> {
+    progress: &'a mut P,
+    made: u64,
+    all: u64,
+}
+
+impl<'a, P: Progress> Meter<'a, P> {
+    /// Of a work of so many steps in all, of which none is made.
+    pub fn new(progress: &'a mut P, all: u64) -> Meter<'a, P> {
+        Meter {
+            progress,
+            made: 0,
+            all,
+        }
+    }
+
+    /// How many steps can be made before the next call of the progress, at least 1.
+    pub fn room(&self) -> u32
+        ensures { 1 ≤ result }
+    {
+        PIECE - (self.made % u64::from(PIECE)) as u32
+    }
+
+    /// So many further steps are made.
+    pub fn add(&mut self, steps: u32) {
+        self.made = self.made.saturating_add(u64::from(steps));
+        if self.made % u64::from(PIECE) == 0 {
+            self.progress.told(self.made, self.all);
+        }
+    }
+}
