@@ -1,4 +1,6 @@
 //! Verdicts on records, whole and broken off.
+ghost use Rattle.std.specs.Prelude.{◌≤◌};
+
 use crate::{judge_stream, least_stream};
 use kfifo_judge::{FromStd, StreamFault};
 use kfifo_model::RecordFault;
@@ -115,7 +117,9 @@ fn judged(
     k: u32,
     answer: &str,
     status: u8,
-) -> Result<(), Fail> {
+) -> Result<(), Fail>
+    requires { (1 ≤ k) × (k ≤ 64) }
+{
     let mut source = source_of(text, 0);
     let mut sink = sink_with(alloc, 0, 0);
     let found = judge_stream(alloc, &mut source, &mut sink, k, 1_000, true);
