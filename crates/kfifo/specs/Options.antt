@@ -4,6 +4,7 @@ use Rattle.std.specs.Str.Parse.{digits_value}
 use Rattle.clap.specs.declared.parser.matches.Found.{Found}
 use Rattle.clap.specs.Words.{first_value, matched_of, one_text, raw_values}
 use Rattle.kfifo_commands.specs.declared.options.CheckOptions.{CheckOptions}
+use Rattle.kfifo_commands.specs.declared.options.JudgeOptions.{JudgeOptions}
 use Rattle.kfifo_commands.specs.declared.options.ReplayOptions.{ReplayOptions}
 use Rattle.kfifo_commands.specs.declared.options.RunOptions.{RunOptions}
 use Rattle.kfifo_commands.specs.declared.sizes.Sizes.{Sizes}
@@ -55,9 +56,19 @@ pub record GivesReplay (found : Found) (options : ReplayOptions) : Type 0 where
   pub recorded : GivesFlag (one_text found (codes "record")) options.record
   pub scripts : map (λ script. script.now) options.scripts.now ≡ given_words found
 
--- the option `--k` of `check`, from 1 to 64
+-- the option `--k` of those that ask for an order, from 1 to 64
 abbrev pub GivesPlaces : Found → ℕ → Type 0
 GivesPlaces found k = (given : ℕ) × GivesOr 32 (one_text found (codes "k")) 2 given × (k ≡ min (max given 1) 64)
+
+-- the option `--tries`
+abbrev pub GivesTries : Found → ℕ → Type 0
+GivesTries found tries = GivesOr 32 (one_text found (codes "tries")) 1000000 tries
+
+-- the options of `judge`
+pub record GivesJudge (found : Found) (options : JudgeOptions) : Type 0 where
+  pub k : GivesPlaces found options.k
+  pub tries : GivesTries found options.tries
+  pub show : GivesFlag (one_text found (codes "show")) options.show
 
 -- the options of `check`
 pub record GivesCheck (found : Found) (options : CheckOptions) : Type 0 where

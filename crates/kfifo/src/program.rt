@@ -8,7 +8,7 @@ ghost use Rattle.kfifo_commands.specs.Endings.{Ends, Tells};
 ghost use Rattle.kfifo_commands.specs.Printing.{OnPrinter, OnWriter};
 ghost use Rattle.kfifo_commands.specs.Statuses.{status_number};
 
-use crate::commands::{check, measure, replay, run};
+use crate::commands::{check, judge, least, measure, replay, run};
 use clap::error::ErrorKind;
 use clap::{ArgMatches, Command, Error};
 use kfifo_commands::{
@@ -29,19 +29,23 @@ Examples:
   kfifo run e7 e8 d   puts 7 and 8 into a queue, takes one, and prints the words of the queue
   kfifo check < record.json
                       says whether a recorded run of a queue has a legal order
+  kfifo judge < record.json
+                      the same of a record of any length, with the reason
   kfifo replay --picks 0x6,1x7,0x2 --turns 1 e5 e6:1
                       runs two threads step by step in this order
   kfifo run --help    says how a script is written, and what its options and faults are
 
 Exit status: 0 for an answer; 1 for a fault of the data, a size, the memory, reading or writing; 2 for
-a fault of the command line; 3 where `check` finds no order, or an order that is not legal.
+a fault of the command line; 3 where a record has no order, or its order is not legal; 4 where `judge`
+cannot say.
 
 The documents, where this program comes from: README.md begins; docs/PROGRAM.md is about the commands,
 docs/JUDGE.md about records and orders, docs/QUEUE.md about the queue.";
 
 /// Does all that the program does with `words`, the arguments after the program's name, and gives the
 /// exit status: 0 for an answer, 1 for a fault of the data, of a size, of memory, of reading or of
-/// writing, 2 for a fault of the command line, and 3 where `check` finds no order or one that is not legal.
+/// writing, 2 for a fault of the command line, 3 where a record has no order or its order is not legal, and 4 where
+/// nothing can be said of it.
 ///
 /// It says nothing of its progress.
 pub fn program<T: Threads + Files, R: Read, W: Write, F: Write>(
@@ -157,6 +161,12 @@ fn request_of<'a>(matches: &'a ArgMatches<'_>) -> Option<Request<'a>>
     if let Some(options) = matches.subcommand_matches(replay::NAME) {
         return Some(Request::Replay(replay::options_of(options)));
     }
+    if let Some(options) = matches.subcommand_matches(judge::NAME) {
+        return Some(Request::Judge(judge::options_of(options)));
+    }
+    if let Some(options) = matches.subcommand_matches(least::NAME) {
+        return Some(Request::Least(least::options_of(options)));
+    }
     None
 }
 
@@ -185,7 +195,9 @@ fn command<'a>(alloc: Global) -> Result<Command<'a>, AllocError>
         .subcommand(run::command(alloc)?)?
         .subcommand(check::command(alloc)?)?
         .subcommand(measure::command(alloc)?)?
-        .subcommand(replay::command(alloc)?)
+        .subcommand(replay::command(alloc)?)?
+        .subcommand(judge::command(alloc)?)?
+        .subcommand(least::command(alloc)?)
 }
 
 #[cfg(test)]

@@ -6,6 +6,7 @@ pub mod Picks
 pub mod Printing
 pub mod RecordTexts
 pub mod Records
+pub mod Verdicts
 pub mod Reports
 pub mod Replays
 pub mod Runs

@@ -6,7 +6,7 @@ ghost use Rattle.kfifo_commands.specs.Printing.{Breaks, OnPrinter, Writes};
 ghost use Rattle.kfifo_commands.specs.Records.{ReadsWell};
 ghost use Rattle.kfifo_commands.specs.Statuses.{status_number};
 
-use crate::commands::{check, measure, replay, run};
+use crate::commands::{check, judge, least, measure, replay, run};
 use crate::fault::Fault;
 use crate::options::Request;
 use crate::printing::Printer;
@@ -127,6 +127,16 @@ fn answer<H: Files, S: Source, W: Write, P: Progress>(
             let text = played?;
             output.print(text.as_bytes())?;
             Ok(Status::Answered)
+        }
+        Request::Judge(options) => {
+            let (text, status) = judge::answer(alloc, options, input)?;
+            output.print(text.as_slice())?;
+            Ok(status)
+        }
+        Request::Least(options) => {
+            let (text, status) = least::answer(alloc, options, input)?;
+            output.print(text.as_slice())?;
+            Ok(status)
         }
     }
 }

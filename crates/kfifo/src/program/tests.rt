@@ -6,6 +6,7 @@ mod records;
 mod replays;
 mod runs;
 mod usage;
+mod verdicts;
 
 use crate::program::program;
 use std::alloc::{AllocError, Global};
