@@ -1,0 +1,8 @@
+//! Records of real runs: scripts of calls, each run by a thread of its own on one queue.
+#![tactic(auto)]
+
+mod gate;
+mod running;
+
+pub use gate::{Gate, OpenGate};
+pub use running::record_scripts;
