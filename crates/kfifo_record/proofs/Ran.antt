@@ -1,12 +1,13 @@
 -- From calls that passes made in turn to the record of the run.
-use Rattle.std.proofs.Common.{◌≡◌, ◌<◌, ◌≤◌, ◌+◌, ◌⊎◌, ℕ, zero, suc, List, [], ◌∷◌, ◌++◌, length, map, get_or, Bool, true, false, refl, sym, ap, ◌∙◌, subst, inl, inr, arith, cond, ne_eqb, eq-eqb, All, zero-add, max}
+use Rattle.std.proofs.Common.{◌≡◌, ◌<◌, ◌≤◌, ◌+◌, ◌⊎◌, ℕ, zero, suc, List, [], ◌∷◌, ◌++◌, length, map, get_or, Bool, true, false, refl, sym, ap, ◌∙◌, subst, inl, inr, arith, cond, ne_eqb, eq-eqb, All, zero-add, max, length-append, ◌*◌, suc-mul}
 use Rattle.std.specs.Prelude.{◌==◌, ◌||◌, IsPermutation, IsSome}
 use Rattle.std.specs.List.{fold, list_any}
-use Rattle.std.proofs.lemmas.List.Sorted.{All-permutation}
+use Rattle.std.proofs.lemmas.List.Sorted.{All-permutation, length_permutation}
 use Rattle.std.proofs.lemmas.Bool.{cases_lt}
-use Rattle.std.proofs.lemmas.List.{get_or_past}
+use Rattle.std.proofs.lemmas.List.{get_or_past, length-map}
 use Rattle.kfifo_words.specs.declared.shape.Shape.{Shape}
 use Rattle.kfifo_model.specs.declared.calls.Call.{Call}
+use Rattle.kfifo_model.specs.declared.calls.Op.{Op}
 use Rattle.kfifo_model.specs.Lists.{Each}
 use Rattle.kfifo_machine.specs.declared.event.Begin.{Begin}
 use Rattle.kfifo_machine.specs.Calls.{op_asked}
@@ -227,6 +228,32 @@ own_ops q scripts ps h ran logs same thread (inr past) =
     ap (λ calls. map (λ (c : Call). c.op) calls) (calls_of_none thread h (each_as (λ c. c.thread < length scripts) (λ c. c.thread < thread) h (λ c less. omega (arith, less, past))
     (shuffled (λ c. c.thread < length scripts) (all_logs ps) h same (subst (λ (n : ℕ). Each (λ c. c.thread < n) (all_logs ps)) (zero-add (length scripts)) (below q 0 scripts ps ran)))))
     ∙ sym (ap (map op_asked) (get_or_past scripts thread [] past))
+
+-- ---- how many they are
+
+logged : (q : OpenQueue) (first : ℕ) (scripts : List (List Begin)) (ps : List Logged) (most room : ℕ) → EachRan q first scripts ps → fold (λ a (script : List Begin). max a (length script)) most scripts ≤ room
+    → length (all_logs ps) ≤ length scripts * room
+logged q first [] [] most room ran few = omega arith
+logged q first [] (p ∷ ps) most room ran few = absurd ran
+logged q first (script ∷ scripts) [] most room ran few = absurd ran
+logged q first (script ∷ scripts) (p ∷ ps) most room ran few =
+    let rest = logged q (suc first) scripts ps (max most (length script)) room ran.1 few in
+    let here : length p.log ≡ length script = sym (length-map p.log (λ (c : Call). c.op)) ∙ ap (λ (ops : List Op). length ops) ran.0.ops ∙ length-map script op_asked in
+    let short : length script ≤ room = let more = at_least (max most (length script)) scripts in omega (arith, more, few) in
+    let all = length-append p.log (all_logs ps) in
+    let step : suc (length scripts) * room ≡ length scripts * room + room = suc-mul (length scripts) room in
+    omega (arith, rest, here, short, all, step)
+
+pub few_calls : (shape : Shape) (scripts : List (List Begin)) (q : OpenQueue) (olds ps : List Logged) (h : List Call) → IsOpenFor shape scripts q olds → EachMakes scripts olds ps → Gathers q.opened ps h
+    → ((length scripts ≡ 0) ⊎ (64 < length scripts) → ⊥) → ((0 < length scripts) × (length scripts ≤ 64) × (1024 < longest scripts) → ⊥) → length h ≤ 65536
+few_calls shape scripts q olds ps h opened made gathers no_other no_more =
+    let threads : length scripts ≤ 64 = elim (cases_lt 64 (length scripts)) [ inl more ↦ absurd (no_other (inr more)) | inr few ↦ few ] in
+    let some : 0 < length scripts = elim (cases_lt 0 (length scripts)) [ inl more ↦ more | inr few ↦ absurd (no_other (inl (omega (arith, few)))) ] in
+    let calls : longest scripts ≤ 1024 = elim (cases_lt 1024 (longest scripts)) [ inl more ↦ absurd (no_more (some, threads, more)) | inr few ↦ few ] in
+    let ran = ran_by shape scripts q olds ps opened made in
+    let all = logged q 0 scripts ps 0 1024 ran calls in
+    let same = length_permutation (all_logs ps) h gathers.each_once in
+    omega (arith, all, same, threads)
 
 -- The record
 pub recorded : (shape : Shape) (scripts : List (List Begin)) (q : OpenQueue) (fresh ps : List Logged) (h : List Call) → IsOpenFor shape scripts q fresh → EachMakes scripts fresh ps → Gathers q.opened ps h → IsRecord shape scripts h

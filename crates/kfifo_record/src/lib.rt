@@ -2,7 +2,11 @@
 #![tactic(auto)]
 
 mod gate;
+mod repeating;
 mod running;
+#[cfg(test)]
+mod tests;
 
 pub use gate::{Gate, OpenGate};
+pub use repeating::{first_over, repeat_scripts};
 pub use running::record_scripts;

@@ -13,7 +13,8 @@ use std::alloc::{AllocError, Global};
 use std::thread::{Threads, map_vec};
 
 /// The record of a run of scripts on one queue of this shape: script t is run by a thread of its own, with pass t, call
-/// by call. The history has the calls of all threads by rising first stamps, those of thread t being script t in its order.
+/// by call. The history has the calls of all threads by rising first stamps, those of thread t being script t in its order: at most 65,536 in all, as
+/// many as a record may have.
 ///
 /// Before call number c of script t, from 1, its worker passes `gate` with t and c. One of the workers is the
 /// calling thread; where no thread can be made, scripts run one after the other. It returns where the gate's calls return.
@@ -29,6 +30,7 @@ pub fn record_scripts<R: Threads + Sync, G: Gate + Sync>(
 ) -> Result<History, OpenFault>
     requires { AreScripts shape (scripts_in scripts.now) }
     ensures ok { IfOk result (λ history. IsRecord shape (scripts_in scripts.now) history) }
+    ensures few { IfOk result (λ history. length history ≤ 65536) }
     ensures threads { IsErrOf result ThreadsOutOfRange ↔ ((length scripts.now ≡ 0) ⊎ (64 < length scripts.now)) }
     ensures calls { IsErrOf result CallsOutOfRange ↔ ((0 < length scripts.now) × (length scripts.now ≤ 64) × (1024 < longest (scripts_in scripts.now))) }
 {
