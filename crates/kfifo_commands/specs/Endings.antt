@@ -3,9 +3,10 @@ use Rattle.std.specs.Prelude.{◌≡◌, ◌≢◌, ◌⊎◌, ◌≤◌, ℕ, L
 use Rattle.kfifo_commands.specs.declared.fault.Fault.{Fault}
 use Rattle.kfifo_commands.specs.declared.fault.Fault.TheVariants.{Input}
 use Rattle.kfifo_commands.specs.declared.options.Request.{Request}
-use Rattle.kfifo_commands.specs.declared.options.Request.TheVariants.{Run, Check, Measure, Replay}
+use Rattle.kfifo_commands.specs.declared.options.Request.TheVariants.{Run, Check, Measure, Replay, Record}
 use Rattle.kfifo_commands.specs.Faults.{fault_line}
 use Rattle.kfifo_commands.specs.Records.{IsCheck, IsCheckRefusal, IsMeasure, IsMeasureRefusal}
+use Rattle.kfifo_commands.specs.RealRuns.{IsRealRun, IsRealRunRefusal}
 use Rattle.kfifo_commands.specs.Replays.{IsReplayAnswer, IsReplayRefusal}
 use Rattle.kfifo_commands.specs.Runs.{IsRunAnswer, IsRunRefusal}
 
@@ -15,6 +16,7 @@ Answers (Run options) input text status = IsRunAnswer options text × (status �
 Answers (Check options) input text status = IsCheck options input text status
 Answers Measure input text status = IsMeasure input text × (status ≡ 0)
 Answers (Replay options) input text status = IsReplayAnswer options text × (status ≡ 0)
+Answers (Record options) input text status = IsRealRun options text × (status ≡ 0)
 
 -- the same, and no read failed
 abbrev pub IsAnswered : Request → Option (List ℕ) → ℕ → ℕ → List ℕ → ℕ → Type 0
@@ -26,6 +28,7 @@ IsCause (Run options) input before after fault = IsRunRefusal options fault
 IsCause (Check options) input before after fault = IsCheckRefusal options input before after fault
 IsCause Measure input before after fault = IsMeasureRefusal input before after fault
 IsCause (Replay options) input before after fault = IsReplayRefusal options fault
+IsCause (Record options) input before after fault = IsRealRunRefusal options fault
 
 -- the same, and no read failed but where that is the fault
 abbrev pub IsRefused : Request → Option (List ℕ) → ℕ → ℕ → Fault → Type 0

@@ -6,7 +6,7 @@ ghost use Rattle.kfifo_commands.specs.Printing.{Breaks, OnPrinter, Writes};
 ghost use Rattle.kfifo_commands.specs.Records.{ReadsWell};
 ghost use Rattle.kfifo_commands.specs.Statuses.{status_number};
 
-use crate::commands::{check, measure, replay, run};
+use crate::commands::{check, measure, record, replay, run};
 use crate::fault::Fault;
 use crate::options::Request;
 use crate::printing::Printer;
@@ -16,6 +16,7 @@ use std::alloc::Global;
 use std::fmt::Display;
 use std::io::Write;
 use std::rt::Files;
+use std::thread::Threads;
 
 /// Why a text is written in place of an answer.
 #[derive(Clone, Copy, PartialEq, Eq, Debug)]
@@ -26,10 +27,11 @@ pub enum Notice {
     Misuse,
 }
 
-/// Does what is requested, and writes its answer or the line of its fault. The order of `check` may stand in a file.
-pub fn carry_out<H: Files, S: Source, W: Write, F: Write>(
+/// Does what is requested, and writes its answer or the line of its fault. The order of `check` may stand in a file,
+/// and `record` starts threads: `rt` may do both.
+pub fn carry_out<H: Threads + Files + Sync, S: Source, W: Write, F: Write>(
     alloc: Global,
-    files: &H,
+    rt: &H,
     request: Request<'_>,
     input: &mut S,
     output: &mut Printer<'_, W>,
@@ -39,7 +41,7 @@ pub fn carry_out<H: Files, S: Source, W: Write, F: Write>(
         (IsRefused request.entry (S.remaining input.old) (S.failed input.old) (S.failed input.new)) ⊥
         (OnPrinter W.contents output.old output.new) (OnPrinter F.contents faults.old faults.new) (status_number result) }
 {
-    match answer(alloc, files, request, input, output) {
+    match answer(alloc, rt, request, input, output) {
         Ok(status) => status,
         Err(fault) => end_with_fault(fault, faults),
     }
@@ -85,9 +87,9 @@ pub fn end_with_text<D: Display + Drop, W: Write, F: Write>(
 }
 
 /// Does what is requested, and prints its answer.
-fn answer<H: Files, S: Source, W: Write>(
+fn answer<H: Threads + Files + Sync, S: Source, W: Write>(
     alloc: Global,
-    files: &H,
+    rt: &H,
     request: Request<'_>,
     input: &mut S,
     output: &mut Printer<'_, W>,
@@ -108,7 +110,7 @@ fn answer<H: Files, S: Source, W: Write>(
             Ok(Status::Answered)
         }
         Request::Check(options) => {
-            let (text, status) = check::answer(alloc, files, options, input)?;
+            let (text, status) = check::answer(alloc, rt, options, input)?;
             output.print(text.as_slice())?;
             Ok(status)
         }
@@ -119,6 +121,11 @@ fn answer<H: Files, S: Source, W: Write>(
         }
         Request::Replay(options) => {
             let text = replay::answer(alloc, options)?;
+            output.print(text.as_bytes())?;
+            Ok(Status::Answered)
+        }
+        Request::Record(options) => {
+            let text = record::answer(rt, alloc, options)?;
             output.print(text.as_bytes())?;
             Ok(Status::Answered)
         }

@@ -47,6 +47,21 @@ pub struct ReplayOptions<'a> {
     pub ghost some_turns: { 1 ≤ turns },
 }
 
+/// What `record` is given.
+#[derive(Clone, Copy)]
+pub struct RecordOptions<'a> {
+    /// The sizes of the queue.
+    pub sizes: Sizes,
+    /// Rounds that a call makes before it answers busy, at least 1.
+    pub turns: u16,
+    /// How often the calls of each script are made over, at least 1.
+    pub repeat: u32,
+    /// The scripts, as they are written.
+    pub scripts: &'a [&'a str],
+    pub ghost some_turns: { 1 ≤ turns },
+    pub ghost some_repetitions: { 1 ≤ repeat },
+}
+
 /// A command with its options.
 #[derive(Clone, Copy)]
 pub enum Request<'a> {
@@ -58,4 +73,6 @@ pub enum Request<'a> {
     Measure,
     /// Runs scripts on the machine in the order of given picks.
     Replay(ReplayOptions<'a>),
+    /// Runs each script on a thread of its own, and records the calls.
+    Record(RecordOptions<'a>),
 }

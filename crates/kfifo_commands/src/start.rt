@@ -22,7 +22,7 @@ const HINT: &str = "reading from the terminal: end the input by Ctrl-D on a line
 pub trait Program {
     /// Does it, and gives the exit status. `rt` is what it may use of the system, and `words` are the arguments after
     /// the program's name.
-    fn run<T: Threads + Files + AllocGlobal, R: Read, W: Write, F: Write>(
+    fn run<T: Threads + Files + AllocGlobal + Sync, R: Read, W: Write, F: Write>(
         &self,
         rt: &T,
         words: &[String],
@@ -35,7 +35,7 @@ pub trait Program {
 /// Runs a program on the arguments of this process and its standard streams, and gives its exit status. Where an
 /// argument is not UTF-8, or memory is refused for them, that is told and the program does not run. `rt` is what the
 /// program may use of the system.
-pub fn start<T: Threads + Files + AllocGlobal, P: Program>(
+pub fn start<T: Threads + Files + AllocGlobal + Sync, P: Program>(
     streams: &HostRuntime,
     rt: &T,
     program: &P,
