@@ -2,5 +2,6 @@
 
 pub mod check;
 pub mod measure;
+pub mod record;
 pub mod replay;
 pub mod run;

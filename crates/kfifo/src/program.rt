@@ -8,7 +8,7 @@ ghost use Rattle.kfifo_commands.specs.Endings.{Ends, Tells};
 ghost use Rattle.kfifo_commands.specs.Printing.{OnPrinter, OnWriter};
 ghost use Rattle.kfifo_commands.specs.Statuses.{status_number};
 
-use crate::commands::{check, measure, replay, run};
+use crate::commands::{check, measure, record, replay, run};
 use clap::error::ErrorKind;
 use clap::{ArgMatches, Command, Error};
 use kfifo_commands::{
@@ -30,6 +30,8 @@ Examples:
                       says whether a recorded run of a queue has a legal order
   kfifo replay --picks 0x6,1x7,0x2 --turns 1 e5 e6:1
                       runs two threads step by step in this order
+  kfifo record e1,e2,d e3,d,d | kfifo check
+                      runs two real threads, and says whether the record has a legal order
   kfifo run --help    says how a script is written, and what its options and faults are
 
 Exit status: 0 for an answer; 1 for a fault of the data, a size, the memory, reading or writing; 2 for
@@ -41,7 +43,7 @@ docs/JUDGE.md about records and orders, docs/QUEUE.md about the queue.";
 /// Does all that the program does with `words`, the arguments after the program's name, and gives the
 /// exit status: 0 for an answer, 1 for a fault of the data, of a size, of memory, of reading or of
 /// writing, 2 for a fault of the command line, and 3 where `check` finds no order or one that is not legal.
-pub fn program<T: Threads + Files, R: Read, W: Write, F: Write>(
+pub fn program<T: Threads + Files + Sync, R: Read, W: Write, F: Write>(
     threads: &T,
     alloc: Global,
     words: &[String],
@@ -63,9 +65,9 @@ pub fn program<T: Threads + Files, R: Read, W: Write, F: Write>(
 
 /// The same over a source and printers, which count the calls that failed: the input is at fault, and a text
 /// breaks off, only where one did.
-fn perform<H: Files, S: Source, W: Write, F: Write>(
+fn perform<H: Threads + Files + Sync, S: Source, W: Write, F: Write>(
     alloc: Global,
-    files: &H,
+    rt: &H,
     words: &[String],
     input: &mut S,
     output: &mut Printer<'_, W>,
@@ -79,7 +81,7 @@ fn perform<H: Files, S: Source, W: Write, F: Write>(
 {
     match parse(alloc, words) {
         Ok(matches) => match request_of(&matches) {
-            Some(request) => carry_out(alloc, files, request, input, output, faults).number(),
+            Some(request) => carry_out(alloc, rt, request, input, output, faults).number(),
             None => Status::Misused.number(),
         },
         Err(error) => end_with_error(alloc, error, output, faults).number(),
@@ -123,6 +125,9 @@ fn request_of<'a>(matches: &'a ArgMatches<'_>) -> Option<Request<'a>>
     if let Some(options) = matches.subcommand_matches(replay::NAME) {
         return Some(Request::Replay(replay::options_of(options)));
     }
+    if let Some(options) = matches.subcommand_matches(record::NAME) {
+        return Some(Request::Record(record::options_of(options)));
+    }
     None
 }
 
@@ -151,7 +156,8 @@ fn command<'a>(alloc: Global) -> Result<Command<'a>, AllocError>
         .subcommand(run::command(alloc)?)?
         .subcommand(check::command(alloc)?)?
         .subcommand(measure::command(alloc)?)?
-        .subcommand(replay::command(alloc)?)
+        .subcommand(replay::command(alloc)?)?
+        .subcommand(record::command(alloc)?)
 }
 
 #[cfg(test)]

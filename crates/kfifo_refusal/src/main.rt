@@ -14,7 +14,7 @@ use std::thread::Threads;
 struct Refusal;
 
 impl Program for Refusal {
-    fn run<T: Threads + Files + AllocGlobal, R: Read, W: Write, F: Write>(
+    fn run<T: Threads + Files + AllocGlobal + Sync, R: Read, W: Write, F: Write>(
         &self,
         rt: &T,
         _words: &[String],
