@@ -101,6 +101,12 @@ judge_command = with_rule (with_tries (with_places (new_app (codes "judge")))) (
 abbrev pub least_command : App
 least_command = with_tries (new_app (codes "least"))
 
+-- the command `record`
+abbrev pub record_command : App
+record_command = with_rule (with_rule (with_turns (with_sizes (new_app (codes "record"))))
+    (default_option (codes "repeat") (small_numbers 1 1024) (codes "1")))
+    script
+
 -- the program before its commands: its words begin with the first argument, and one has to be a command, or ask for the version
 abbrev pub bare_program : App
 bare_program = record {
@@ -115,8 +121,8 @@ bare_program = record {
 
 -- the program with its commands
 abbrev pub kfifo : App
-kfifo = with_subcommand (with_subcommand (with_subcommand (with_subcommand (with_subcommand (with_subcommand bare_program
-    run_command.top) check_command.top) measure_command.top) replay_command.top) judge_command.top) least_command.top
+kfifo = with_subcommand (with_subcommand (with_subcommand (with_subcommand (with_subcommand (with_subcommand (with_subcommand bare_program
+    run_command.top) check_command.top) measure_command.top) replay_command.top) judge_command.top) least_command.top) record_command.top
 
 -- the command that was named is this one, and its options have these entries
 abbrev pub Names : Option (Text × List Row) → Text → Found → Type 0
@@ -126,6 +132,7 @@ Names command name found = command ≡ Some (name, rows_of found)
 abbrev pub NamesNone : Option (Text × List Row) → Type 0
 NamesNone command = (found : Found) → ¬ (Names command (codes "run") found) × ¬ (Names command (codes "check") found) × ¬ (Names command (codes "measure") found)
     × ¬ (Names command (codes "replay") found) × ¬ (Names command (codes "judge") found) × ¬ (Names command (codes "least") found)
+    × ¬ (Names command (codes "record") found)
 
 -- a parse reads this of the command, and no argument of it is global
 abbrev pub IsCommand : App → Command → Type 0

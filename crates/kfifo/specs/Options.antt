@@ -5,6 +5,7 @@ use Rattle.clap.specs.declared.parser.matches.Found.{Found}
 use Rattle.clap.specs.Words.{first_value, matched_of, one_text, raw_values}
 use Rattle.kfifo_commands.specs.declared.options.CheckOptions.{CheckOptions}
 use Rattle.kfifo_commands.specs.declared.options.JudgeOptions.{JudgeOptions}
+use Rattle.kfifo_commands.specs.declared.options.RecordOptions.{RecordOptions}
 use Rattle.kfifo_commands.specs.declared.options.ReplayOptions.{ReplayOptions}
 use Rattle.kfifo_commands.specs.declared.options.RunOptions.{RunOptions}
 use Rattle.kfifo_commands.specs.declared.sizes.Sizes.{Sizes}
@@ -54,6 +55,17 @@ pub record GivesReplay (found : Found) (options : ReplayOptions) : Type 0 where
   pub stopped : GivesNumber 32 (one_text found (codes "stop")) options.stopped
   pub points : GivesFlag (one_text found (codes "points")) options.points
   pub recorded : GivesFlag (one_text found (codes "record")) options.record
+  pub scripts : map (λ script. script.now) options.scripts.now ≡ given_words found
+
+-- how often scripts are made over, at least once
+abbrev pub GivesTimes : Found → ℕ → Type 0
+GivesTimes found times = (given : ℕ) × GivesOr 32 (one_text found (codes "repeat")) 1 given × (times ≡ max given 1)
+
+-- the options of `record`
+pub record GivesRecord (found : Found) (options : RecordOptions) : Type 0 where
+  pub sizes : GivesSizes found options.sizes
+  pub turns : GivesTurns found options.turns
+  pub times : GivesTimes found options.repeat
   pub scripts : map (λ script. script.now) options.scripts.now ≡ given_words found
 
 -- the option `--k` of those that ask for an order, from 1 to 64

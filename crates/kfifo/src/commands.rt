@@ -4,5 +4,6 @@ pub mod check;
 pub mod judge;
 pub mod least;
 pub mod measure;
+pub mod record;
 pub mod replay;
 pub mod run;

@@ -3,9 +3,10 @@ use Rattle.std.specs.Prelude.{◌≡◌, ◌≢◌, ◌⊎◌, ◌≤◌, ℕ, L
 use Rattle.kfifo_commands.specs.declared.fault.Fault.{Fault}
 use Rattle.kfifo_commands.specs.declared.fault.Fault.TheVariants.{Input}
 use Rattle.kfifo_commands.specs.declared.options.Request.{Request}
-use Rattle.kfifo_commands.specs.declared.options.Request.TheVariants.{Run, Check, Measure, Replay, Judge, Least}
+use Rattle.kfifo_commands.specs.declared.options.Request.TheVariants.{Run, Check, Measure, Replay, Judge, Least, Record}
 use Rattle.kfifo_commands.specs.Faults.{fault_line}
 use Rattle.kfifo_commands.specs.Records.{IsCheck, IsCheckRefusal, IsMeasure, IsMeasureRefusal}
+use Rattle.kfifo_commands.specs.RealRuns.{IsRealRun, IsRealRunRefusal}
 use Rattle.kfifo_commands.specs.Replays.{IsReplayAnswer, IsReplayRefusal}
 use Rattle.kfifo_commands.specs.Runs.{IsRunAnswer, IsRunRefusal}
 use Rattle.kfifo_commands.specs.Verdicts.{IsJudge, IsLeast, IsVerdictRefusal}
@@ -18,6 +19,7 @@ Answers Measure input text status = IsMeasure input text × (status ≡ 0)
 Answers (Replay options) input text status = IsReplayAnswer options text × (status ≡ 0)
 Answers (Judge options) input text status = IsJudge options input text status
 Answers (Least options) input text status = IsLeast input text status
+Answers (Record options) input text status = IsRealRun options text × (status ≡ 0)
 
 -- the same, and no read failed
 abbrev pub IsAnswered : Request → Option (List ℕ) → ℕ → ℕ → List ℕ → ℕ → Type 0
@@ -31,6 +33,7 @@ IsCause Measure input before after fault = IsMeasureRefusal input before after f
 IsCause (Replay options) input before after fault = IsReplayRefusal options fault
 IsCause (Judge options) input before after fault = IsVerdictRefusal input before after fault
 IsCause (Least options) input before after fault = IsVerdictRefusal input before after fault
+IsCause (Record options) input before after fault = IsRealRunRefusal options fault
 
 -- the same, and no read failed but where that is the fault
 abbrev pub IsRefused : Request → Option (List ℕ) → ℕ → ℕ → Fault → Type 0

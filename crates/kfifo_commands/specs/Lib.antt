@@ -4,6 +4,7 @@ pub mod Lines
 pub mod Orders
 pub mod Picks
 pub mod Printing
+pub mod RealRuns
 pub mod RecordTexts
 pub mod Records
 pub mod Verdicts

@@ -67,6 +67,21 @@ pub struct LeastOptions {
     pub tries: u64,
 }
 
+/// What `record` is given.
+#[derive(Clone, Copy)]
+pub struct RecordOptions<'a> {
+    /// The sizes of the queue.
+    pub sizes: Sizes,
+    /// Rounds that a call makes before it answers busy, at least 1.
+    pub turns: u16,
+    /// How often the calls of each script are made over, at least 1.
+    pub repeat: u32,
+    /// The scripts, as they are written.
+    pub scripts: &'a [&'a str],
+    pub ghost some_turns: { 1 ≤ turns },
+    pub ghost some_repetitions: { 1 ≤ repeat },
+}
+
 /// A command with its options.
 #[derive(Clone, Copy)]
 pub enum Request<'a> {
@@ -82,4 +97,6 @@ pub enum Request<'a> {
     Judge(JudgeOptions),
     /// Says between which bounds the least k of a record lies.
     Least(LeastOptions),
+    /// Runs each script on a thread of its own, and records the calls.
+    Record(RecordOptions<'a>),
 }

@@ -11,4 +11,5 @@ returns c =
     let three = adds_command _ _ c.in_ok-subcommand-3.field-0 _ _ two c.in_ok-command-3.ensures c.in_ok-subcommand-3.ensures in
     let four = adds_command _ _ c.in_ok-subcommand-4.field-0 _ _ three c.in_ok-command-4.ensures c.in_ok-subcommand-4.ensures in
     let five = adds_command _ _ c.in_ok-subcommand-5.field-0 _ _ four c.in_ok-command-5.ensures c.in_ok-subcommand-5.ensures in
-    IfOk-weaker c.subcommand-6.result _ _ (λ r h. adds_command _ _ r _ _ five c.in_ok-command-6.ensures h) c.subcommand-6.ensures
+    let six = adds_command _ _ c.in_ok-subcommand-6.field-0 _ _ five c.in_ok-command-6.ensures c.in_ok-subcommand-6.ensures in
+    IfOk-weaker c.subcommand-7.result _ _ (λ r h. adds_command _ _ r _ _ six c.in_ok-command-7.ensures h) c.subcommand-7.ensures

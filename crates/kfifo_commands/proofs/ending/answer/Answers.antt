@@ -50,3 +50,11 @@ returns-in_err-print-in-Least-clause-broken g c = any_err c.from_residual-in_err
   rw (c.in-Least.is, c.as_slice-in-Least.ensures.value) c.in_ok-text-in-Least.ensures.ok,
   c.in_err-print-in-Least.ensures.err,
 ))
+
+pub returns-in_err-print-in-Record-clause-broken : goal.returns-in_err-print-in-Record-clause-broken
+returns-in_err-print-in-Record-clause-broken g c = any_err c.from_residual-in_err-print-in-Record.result _ (λ fault is. (
+  c.as_bytes-in-Record.result.now,
+  0,
+  rw (c.in-Record.is, c.as_bytes-in-Record.ensures.value) (c.in_ok-text-in-Record.ensures.ok, refl),
+  c.in_err-print-in-Record.ensures.err,
+))
