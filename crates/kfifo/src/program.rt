@@ -69,7 +69,7 @@ pub fn program<T: Threads + Files + Sync, R: Read, W: Write, F: Write>(
 
 /// Does what `program` does, and tells the progress how far long work has come. What the progress does with that is
 /// not among what is said of the streams.
-pub fn program_showing<T: Threads + Files, R: Read, W: Write, F: Write, P: Progress>(
+pub fn program_showing<T: Threads + Files + Sync, R: Read, W: Write, F: Write, P: Progress>(
     threads: &T,
     alloc: Global,
     words: &[String],
