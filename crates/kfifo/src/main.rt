@@ -17,7 +17,7 @@ use std::thread::Threads;
 struct Kfifo;
 
 impl Program for Kfifo {
-    fn run<T: Threads + Files + AllocGlobal, R: Read, W: Write, F: Write, P: Progress>(
+    fn run<T: Threads + Files + AllocGlobal + Sync, R: Read, W: Write, F: Write, P: Progress>(
         &self,
         rt: &T,
         words: &[String],

@@ -18,7 +18,9 @@ mod words;
 
 pub use ending::{Notice, carry_out, end_with_fault, end_with_text};
 pub use fault::Fault;
-pub use options::{CheckOptions, ReplayOptions, Request, RunOptions};
+pub use options::{
+    CheckOptions, JudgeOptions, LeastOptions, RecordOptions, ReplayOptions, Request, RunOptions,
+};
 pub use printing::Printer;
 pub use progress::{Progress, Silent};
 pub use recording::record_text;

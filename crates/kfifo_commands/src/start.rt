@@ -27,7 +27,7 @@ const HINT: &str = "reading from the terminal: end the input by Ctrl-D on a line
 pub trait Program {
     /// Does it, and gives the exit status. `rt` is what it may use of the system, and `words` are the arguments after
     /// the program's name. Long work tells the progress how far it has come.
-    fn run<T: Threads + Files + AllocGlobal, R: Read, W: Write, F: Write, P: Progress>(
+    fn run<T: Threads + Files + AllocGlobal + Sync, R: Read, W: Write, F: Write, P: Progress>(
         &self,
         rt: &T,
         words: &[String],
@@ -42,7 +42,7 @@ pub trait Program {
 /// argument is not UTF-8, or memory is refused for them, that is told and the program does not run. Where standard
 /// error is a terminal, it shows how far work has come that goes on for over a second. `rt` is what the program may use
 /// of the system.
-pub fn start<T: Threads + Files + AllocGlobal, P: Program>(
+pub fn start<T: Threads + Files + AllocGlobal + Sync, P: Program>(
     streams: &HostRuntime,
     rt: &T,
     program: &P,

@@ -16,7 +16,7 @@ use std::thread::Threads;
 struct Refusal;
 
 impl Program for Refusal {
-    fn run<T: Threads + Files + AllocGlobal, R: Read, W: Write, F: Write, P: Progress>(
+    fn run<T: Threads + Files + AllocGlobal + Sync, R: Read, W: Write, F: Write, P: Progress>(
         &self,
         rt: &T,
         _words: &[String],
