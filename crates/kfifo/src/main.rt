@@ -6,29 +6,28 @@ mod options;
 mod program;
 
 use crate::program::program;
-use kfifo_commands::{Program, start_program};
-use std::io::{Read, Write};
+use kfifo_commands::{Started, start_program};
 use std::process::ExitCode;
-use std::rt::Files;
-use std::thread::Threads;
-
-/// The program.
-#[derive(Drop)]
-struct Kfifo;
-
-impl Program for Kfifo {
-    fn run<T: Threads + Files + AllocGlobal + Sync, R: Read, W: Write, F: Write>(
-        &self,
-        rt: &T,
-        words: &[String],
-        input: &mut R,
-        output: &mut W,
-        faults: &mut F,
-    ) -> u8 {
-        program(rt, rt.alloc(), words, input, output, faults)
-    }
-}
 
 fn main(rt: HostRuntime) -> ExitCode {
-    start_program(&rt, &rt, &Kfifo)
+    let status = match start_program(&rt) {
+        Ok(start) => {
+            let Started {
+                words,
+                mut input,
+                mut output,
+                mut faults,
+            } = start;
+            program(
+                &rt,
+                rt.alloc(),
+                words.as_slice(),
+                &mut input,
+                &mut output,
+                &mut faults,
+            )
+        }
+        Err(status) => status,
+    };
+    ExitCode::from(status)
 }

@@ -21,5 +21,5 @@ pub use options::{CheckOptions, RecordOptions, ReplayOptions, Request, RunOption
 pub use printing::Printer;
 pub use recording::record_text;
 pub use sizes::Sizes;
-pub use start::{Program, start as start_program};
+pub use start::{Prompting, Started, start as start_program};
 pub use status::Status;
