@@ -25,5 +25,5 @@ pub use printing::Printer;
 pub use progress::{Progress, Silent};
 pub use recording::record_text;
 pub use sizes::Sizes;
-pub use start::{Program, start as start_program};
+pub use start::{Prompting, Showing, Started, start as start_program};
 pub use status::Status;
