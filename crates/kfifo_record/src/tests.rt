@@ -359,7 +359,7 @@ fn long_records_overtake_little(rt: HostRuntime) -> Result<(), Fail> {
     Ok(())
 }
 
-/// Holds whichever one request for memory fails, and fails where a call always gives up.
+/// Holds whichever one request of the recording for memory fails, and fails where a call always gives up.
 #[test]
 fn refused_memory(rt: HostRuntime) -> Result<(), Fail> {
     let shape = Shape::new(2, 2, LAST)?;
