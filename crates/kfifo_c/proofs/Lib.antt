@@ -1,0 +1,3 @@
+mod HeldValues
+mod Passes
+mod Values
