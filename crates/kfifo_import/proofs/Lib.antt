@@ -1,0 +1,3 @@
+pub mod Ending
+pub mod Points
+pub mod Stamps
