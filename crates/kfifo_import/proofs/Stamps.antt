@@ -8,7 +8,7 @@ use Rattle.kfifo_model.specs.declared.calls.End.{End}
 use Rattle.kfifo_model.specs.declared.calls.Call.{Call}
 use Rattle.kfifo_model.specs.Histories.{call, no_call, HasEnd, EndsBelow, Precedes}
 use Rattle.kfifo_model.specs.Validity.{EndsFrom}
-use Rattle.kfifo_import.specs.Stamping.{AnswersAlike, AreRanks, AreSortedEnds, AreStamped, HaveBegun, HaveEnded, IsEndStamp, IsRestamped, IsStampOf, end_at, first_at, last_in, last_of, moments}
+use Rattle.kfifo_import.specs.Stamping.{AnswersAlike, AreRanks, AreSortedEnds, AreStamped, AreStampedTo, HaveBegun, HaveEnded, IsEndStamp, IsRestamped, IsStampOf, end_at, first_at, last_in, last_of, moments}
 
 -- ---- ends as numbers
 
@@ -113,8 +113,8 @@ module _ (l h : List Call) (ends ranks : List ℕ) (sorted : AreSortedEnds l end
       let s = are d small in
       let p = placed l (get_or ranks c 0) (end_at l c) (end_at h c) has (are c (inside c has)).end in
       let r = less (first_at l d) (last_of l c) (get_or ranks c 0) p.begun s.ended d
-        (λ le. (let x = s.have_ended.1.1 (get_or ranks c 0) 0 le at.0 in rw at.1 at x))
-        (λ db. p.have_begun.1.0 d no_call (omega arith) db) lt in
+      (λ le. (let x = s.have_ended.1.1 (get_or ranks c 0) 0 le at.0 in rw at.1 at x))
+      (λ db. p.have_begun.1.0 d no_call (omega arith) db) lt in
       omega (arith, r, p.last, s.first)
 
   begins_first : (c d : ℕ) → HasEnd (end_at l c) → d < length l → first_at l d ≤ last_of l c → first_at h d < last_of h c
@@ -123,8 +123,8 @@ module _ (l h : List Call) (ends ranks : List ℕ) (sorted : AreSortedEnds l end
       let s = are d small in
       let p = placed l (get_or ranks c 0) (end_at l c) (end_at h c) has (are c (inside c has)).end in
       let r = more (first_at l d) (last_of l c) (get_or ranks c 0) p.begun s.ended d
-        (λ re. (let x = s.have_ended.1.0 (get_or ranks c 0) 0 (omega arith) re in rw at.1 at x))
-        (λ bd. p.have_begun.1.1 d no_call bd small) le in
+      (λ re. (let x = s.have_ended.1.0 (get_or ranks c 0) 0 (omega arith) re in rw at.1 at x))
+      (λ bd. p.have_begun.1.1 d no_call bd small) le in
       omega (arith, r, p.last, s.first)
 
   same : (c : ℕ) → c < length l → AnswersAlike (end_at l c) (end_at h c)
@@ -174,18 +174,18 @@ module _ (l h : List Call) (ends ranks : List ℕ) (sorted : AreSortedEnds l end
         omega (arith, e, s.first, t.first);
     before = λ c d small low. (
       λ p. let x = below_is (end_at l c) (first_at l d) p in
-      is_below (end_at h c) (first_at h d) (has_then (end_at l c) (end_at h c) (same c small) x.0) (ends_first c d x.0 low x.1),
+          is_below (end_at h c) (first_at h d) (has_then (end_at l c) (end_at h c) (same c small) x.0) (ends_first c d x.0 low x.1),
       λ p. let x = below_is (end_at h c) (first_at h d) p in
-      let has = had_then (end_at l c) (end_at h c) (same c small) x.0 in
-      is_below (end_at l c) (first_at l d) has (elim (cases_lt (last_of l c) (first_at l d)) [
-        | inl lt ↦ lt
-        | inr ge ↦ (let y = begins_first c d has low ge in absurd (omega (arith, y, x.1)))
-      ]),
+          let has = had_then (end_at l c) (end_at h c) (same c small) x.0 in
+          is_below (end_at l c) (first_at l d) has (elim (cases_lt (last_of l c) (first_at l d)) [
+            | inl lt ↦ lt
+            | inr ge ↦ (let y = begins_first c d has low ge in absurd (omega (arith, y, x.1)))
+          ]),
     );
     after = λ c d small low f. is_from (end_at h c) (first_at h d + 1) (λ ended.
-      let has = had_then (end_at l c) (end_at h c) (same c small) ended in
-      let y = begins_first c d has low (from_is (end_at l c) (first_at l d) has f) in
-      omega (arith, y));
+        let has = had_then (end_at l c) (end_at h c) (same c small) ended in
+        let y = begins_first c d has low (from_is (end_at l c) (first_at l d) has f) in
+        omega (arith, y));
     end = ends_sooner;
     apart = ends_apart;
     begin_below = λ n lt. (let s = are n lt in omega (arith, s.first, s.have_ended.0, sorted.are.count));
@@ -194,3 +194,9 @@ module _ (l h : List Call) (ends ranks : List ℕ) (sorted : AreSortedEnds l end
         let p = placed l (get_or ranks n 0) (end_at l n) (end_at h n) has (are n (inside n has)).end in
         omega (arith, at.0, p.last, p.have_begun.0, sorted.are.count);
   }
+
+-- all calls with their stamps
+pub all_stamped : (l found : List Call) (ends ranks : List ℕ) (n : ℕ) → length l ≡ n → AreSortedEnds l ends → AreRanks ends ranks (length l) (length ends) → IsNonDecreasingBy (λ c. c.first) l
+    → AreStampedTo l ends ranks n found → AreStamped l found
+all_stamped l found ends ranks n same sorted ranked by_first to =
+    are_stamped l found ends ranks sorted ranked (to.sized ∙ sym same) by_first (λ m lt. to.each m (omega (arith, same)))

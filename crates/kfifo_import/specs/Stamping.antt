@@ -77,6 +77,7 @@ pub record AreSortedEnds (l : List Call) (ends : List ℕ) : Type 0 where
 -- of the numbers that stand before a place, each one's rank is a place where it stands
 pub record AreRanks (ends ranks : List ℕ) (count place : ℕ) : Type 0 where
   pub sized : length ranks ≡ count
+  pub small : All (λ rank. rank ≤ length ends) ranks
   pub below : (q d : ℕ) → q < place → slice_index_or ranks (slice_index_or ends q d) d < length ends
   pub there : (q d : ℕ) → q < place → slice_index_or ends (slice_index_or ranks (slice_index_or ends q d) d) d ≡ slice_index_or ends q d
 
@@ -101,3 +102,8 @@ pub record IsStampOf (l : List Call) (ends ranks : List ℕ) (n : ℕ) (c s : Ca
   pub have_ended : HaveEnded l ends c.first ended
   pub first : s.first ≡ n + ended
   pub end : IsEndStamp l (slice_index_or ranks n 0) c.end s.end
+
+-- the calls before n have their stamps
+pub record AreStampedTo (l : List Call) (ends ranks : List ℕ) (n : ℕ) (found : List Call) : Type 0 where
+  pub sized : length found ≡ n
+  pub each : (m : ℕ) → m < n → IsStampOf l ends ranks m (call l m) (call found m)

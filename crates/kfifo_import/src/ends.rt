@@ -8,7 +8,7 @@ use kfifo_model::{Call, End};
 use std::alloc::{AllocError, Global};
 
 /// When the call with this number ended, 0 where it has not.
-pub fn last_at(calls: &[Call], number: usize) -> u64
+pub(crate) fn last_at(calls: &[Call], number: usize) -> u64
     ensures { result ≡ last_time (call calls.now number) }
 {
     match calls.get(number) {
@@ -41,7 +41,7 @@ fn finished(alloc: Global, calls: &[Call]) -> Result<Vec<usize>, AllocError>
 }
 
 /// The finished calls, by rising last time.
-pub fn sorted_ends(alloc: Global, calls: &[Call]) -> Result<Vec<usize>, AllocError>
+pub(crate) fn sorted_ends(alloc: Global, calls: &[Call]) -> Result<Vec<usize>, AllocError>
     ensures { IfOk result (λ ends. AreSortedEnds calls.now ends.items) }
 {
     let mut ends = finished(alloc, calls)?;
@@ -50,7 +50,11 @@ pub fn sorted_ends(alloc: Global, calls: &[Call]) -> Result<Vec<usize>, AllocErr
 }
 
 /// The place of each finished call among the ends, 0 for the others.
-pub fn ranks_of(alloc: Global, ends: &[usize], count: usize) -> Result<Vec<usize>, AllocError>
+pub(crate) fn ranks_of(
+    alloc: Global,
+    ends: &[usize],
+    count: usize,
+) -> Result<Vec<usize>, AllocError>
     requires { All (λ number. number < count) ends.now }
     ensures { IfOk result (λ ranks. AreRanks ends.now ranks.items count (length ends.now)) }
 {

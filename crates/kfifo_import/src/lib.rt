@@ -1,9 +1,8 @@
 //! Logs of queues, and the records that they give.
 #![tactic(auto)]
 
-pub mod ends;
-pub mod stamping;
+mod ends;
+mod log;
+mod stamping;
 
-
-
-
+pub use log::{ImportFault, Line, record_of};

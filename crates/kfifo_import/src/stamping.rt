@@ -32,12 +32,10 @@ fn end_stamp(calls: &[Call], rank: usize, end: Option<End>) -> Option<End>
     match end {
         Some(end) => {
             let begun = begun_by(calls, end.last);
-            Some(
-                End {
-                    last: (rank + begun) as u64,
-                    answer: end.answer,
-                },
-            )
+            Some(End {
+                last: (rank + begun) as u64,
+                answer: end.answer,
+            })
         }
         None => None,
     }
@@ -51,13 +49,7 @@ fn rank_at(ranks: &[usize], number: usize) -> usize
 }
 
 /// The call, which has this number, with stamps.
-fn stamp(
-    calls: &[Call],
-    ends: &[usize],
-    ranks: &[usize],
-    number: usize,
-    call: &Call,
-) -> Call
+fn stamp(calls: &[Call], ends: &[usize], ranks: &[usize], number: usize, call: &Call) -> Call
     requires few { (number < 2 ^ 32) × (length calls.now < 2 ^ 32) × (length ends.now < 2 ^ 32) × (slice_index_or ranks.now number 0 < 2 ^ 32) }
     requires by_first { IsNonDecreasingBy (λ c. c.first) calls.now }
     requires by_last { IsNonDecreasingBy (λ n. last_of calls.now n) ends.now }
@@ -71,4 +63,19 @@ fn stamp(
         first: (number + ended) as u64,
         end: end_stamp(calls, rank, call.end),
     }
+}
+
+/// The calls, which begin by rising time, with stamps.
+pub(crate) fn stamped(alloc: Global, calls: &[Call]) -> Result<Vec<Call>, AllocError>
+    requires few { length calls.now < 2 ^ 31 }
+    requires by_first { IsNonDecreasingBy (λ c. c.first) calls.now }
+    ensures { IfOk result (λ found. AreStamped calls.now found.items) }
+{
+    let ends = sorted_ends(alloc, calls)?;
+    let ranks = ranks_of(alloc, ends.as_slice(), calls.len())?;
+    let mut found = Vec::with_capacity(alloc, calls.len())?;
+    for (number, call) in calls.iter().enumerate() {
+        found.push(stamp(calls, ends.as_slice(), ranks.as_slice(), number, call))?;
+    }
+    Ok(found)
 }
