@@ -16,7 +16,7 @@ calls_rise lines rise i j d le inside =
     let e : Line = record { number = 0; call = d } in
     let a : get_or (calls_of lines) i d ≡ (get_or lines i e).call = get_or-map (λ (x : Line). x.call) lines i e in
     let b : get_or (calls_of lines) j d ≡ (get_or lines j e).call = get_or-map (λ (x : Line). x.call) lines j e in
-    let small : length (calls_of lines) ≡ length lines = length-map (λ (x : Line). x.call) lines in
+    let small : length (calls_of lines) ≡ length lines = length-map lines (λ (x : Line). x.call) in
     rw (a, b) (rise i j e le (omega (arith, small)))
 
 pub refused : (lines sorted : List Line) (calls : List Call) (found : RecordFault) → AreByFirst lines sorted → AreStamped (calls_of sorted) calls → IsFault calls found
