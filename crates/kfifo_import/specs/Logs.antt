@@ -8,7 +8,7 @@ use Rattle.kfifo_model.specs.declared.history.RecordFault.TheVariants as records
 use Rattle.kfifo_model.specs.Histories.{no_call}
 use Rattle.kfifo_model.specs.Validity.{IsFault, IsHistory}
 use Rattle.kfifo_import.specs.declared.log.ImportFault.{ImportFault}
-use Rattle.kfifo_import.specs.declared.log.ImportFault.TheVariants.{TooMany, NumberOutOfRange, WrongAnswer, EndsEarly, Overlap, Memory}
+use Rattle.kfifo_import.specs.declared.log.ImportFault.TheVariants.{Csv, TooMany, NotACall, NumberOutOfRange, WrongAnswer, EndsEarly, Overlap, Memory}
 use Rattle.kfifo_import.specs.declared.log.Line.{Line}
 use Rattle.kfifo_import.specs.Stamping.{AreStamped}
 
@@ -57,9 +57,11 @@ pub record IsFaultyLog (lines : List Line) (fault : ImportFault) : Type 0 where
   pub first : IsFault calls found
   pub is : fault ≡ import_fault sorted found
 
--- why a log has no record
+-- why a log has no record. Faults of texts come before
 abbrev pub IsImportFault : List Line → ImportFault → Type 0
+IsImportFault lines (Csv n) = ⊥
 IsImportFault lines TooMany = 65536 < length lines
+IsImportFault lines (NotACall n) = ⊥
 IsImportFault lines (NumberOutOfRange n) = IsFaultyLog lines (NumberOutOfRange n)
 IsImportFault lines (WrongAnswer n) = IsFaultyLog lines (WrongAnswer n)
 IsImportFault lines (EndsEarly n) = IsFaultyLog lines (EndsEarly n)

@@ -4,5 +4,10 @@
 mod ends;
 mod log;
 mod stamping;
+mod table;
 
 pub use log::{ImportFault, Line, record_of};
+pub use table::import_text;
+
+#[cfg(test)]
+mod tests;

@@ -5,7 +5,7 @@ ghost use Rattle.kfifo_import.specs.Logs.{AreByFirst, IsImportFault, IsRecordOfL
 
 use crate::stamping::stamped;
 use kfifo_model::{Call, History, MOST_CALLS, RecordFault};
-use std::alloc::{AllocError, Global};
+use std::alloc::{AllocError, AllocFailed, Global};
 use thiserror::Error;
 
 /// A line of a log.
@@ -20,9 +20,15 @@ pub struct Line {
 /// Why a log gives no record. A fault of one call carries the number of its line.
 #[derive(Clone, Copy, Debug, PartialEq, Eq, Error)]
 pub enum ImportFault {
+    /// The line does not have the fields of the header, or the header lacks one.
+    #[error("line {0} does not have the fields of the header, or is a header that lacks one of thread, op, item, first, last and answer")]
+    Csv(u64),
     /// Record fault 2: there are over 65,536 calls.
     #[error("the log has over 65,536 calls")]
     TooMany,
+    /// Record fault 3: a field is missing or not allowed there, a number is not whole, or the operation is unknown.
+    #[error("line {0} is no call: thread, op and first; item in an enq and where the answer is got; last and answer both or neither; op enq or deq; whole numbers")]
+    NotACall(u64),
     /// Record fault 4: the thread is not 0 to 63, or an item not 1 to 2^24 - 1.
     #[error("line {0} has a thread that is not 0 to 63 or an item that is not 1 to 16,777,215")]
     NumberOutOfRange(u64),
@@ -46,6 +52,16 @@ impl From<AllocError> for ImportFault {
     ghost from_gives = { λ _ fault. fault ≡ Memory };
 
     fn from(_: AllocError) -> ImportFault {
+        ImportFault::Memory
+    }
+}
+
+impl<T: Drop> From<AllocFailed<T>> for ImportFault {
+    ghost use Rattle.kfifo_import.specs.declared.log.ImportFault.TheVariants.{Memory};
+
+    ghost from_gives = { λ _ fault. fault ≡ Memory };
+
+    fn from(_failed: AllocFailed<T>) -> ImportFault {
         ImportFault::Memory
     }
 }
