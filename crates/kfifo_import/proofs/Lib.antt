@@ -1,0 +1,4 @@
+pub mod Ending
+pub mod Points
+pub mod Stamps
+pub mod Logs

@@ -1,0 +1,69 @@
+-- The records of logs, and why a log has none.
+use Rattle.std.specs.Prelude.{ℕ, ◌≡◌, ◌<◌, ◌≤◌, List, length, map, slice_index_or}
+use Rattle.std.specs.List.Sorted.{IsNonDecreasingBy, IsPermutation, IsStableByKey}
+use Rattle.std.specs.Ordering.{nat_cmp}
+use Rattle.kfifo_model.specs.declared.calls.Call.{Call}
+use Rattle.kfifo_model.specs.declared.history.RecordFault.{RecordFault}
+use Rattle.kfifo_model.specs.declared.history.RecordFault.TheVariants as records
+use Rattle.kfifo_model.specs.Histories.{no_call}
+use Rattle.kfifo_model.specs.Validity.{IsFault, IsHistory}
+use Rattle.kfifo_import.specs.declared.log.ImportFault.{ImportFault}
+use Rattle.kfifo_import.specs.declared.log.ImportFault.TheVariants.{Csv, TooMany, NotACall, NumberOutOfRange, WrongAnswer, EndsEarly, Overlap, Memory}
+use Rattle.kfifo_import.specs.declared.log.Line.{Line}
+use Rattle.kfifo_import.specs.Stamping.{AreStamped}
+
+abbrev pub first_time : Line → ℕ
+first_time line = line.call.first
+
+abbrev pub calls_of : List Line → List Call
+calls_of lines = map (λ line. line.call) lines
+
+-- the number of the line at a place, 0 past the last one
+abbrev pub line_number : List Line → ℕ → ℕ
+line_number lines place = (slice_index_or lines place (record { number = 0; call = no_call })).number
+
+-- The lines by rising first time, of equal ones the earlier first.
+pub record AreByFirst (lines sorted : List Line) : Type 0 where
+  pub moved : IsPermutation lines sorted
+  pub rise : IsNonDecreasingBy first_time sorted
+  pub stable : IsStableByKey first_time nat_cmp lines sorted
+
+-- The history is the record of the log: its calls by rising first time, with stamps.
+pub record IsRecordOfLog (lines : List Line) (h : List Call) : Type 0 where
+  pub sorted : List Line
+  pub by_first : AreByFirst lines sorted
+  pub stamped : AreStamped (calls_of sorted) h
+  pub valid : IsHistory h
+
+-- a fault of the record, at the line of its call
+abbrev pub import_fault : List Line → RecordFault → ImportFault
+import_fault lines (records.NumberOutOfRange n) = NumberOutOfRange (line_number lines n)
+import_fault lines (records.WrongAnswer n) = WrongAnswer (line_number lines n)
+import_fault lines (records.EndsEarly n) = EndsEarly (line_number lines n)
+import_fault lines (records.Overlap n) = Overlap (line_number lines n)
+import_fault lines records.TooMany = TooMany
+import_fault lines records.NotAList = Memory
+import_fault lines (records.NotACall n) = Memory
+import_fault lines (records.OutOfOrder n) = Memory
+import_fault lines records.Memory = Memory
+
+-- The first fault of the calls with stamps, at its line.
+pub record IsFaultyLog (lines : List Line) (fault : ImportFault) : Type 0 where
+  pub sorted : List Line
+  pub by_first : AreByFirst lines sorted
+  pub calls : List Call
+  pub stamped : AreStamped (calls_of sorted) calls
+  pub found : RecordFault
+  pub first : IsFault calls found
+  pub is : fault ≡ import_fault sorted found
+
+-- why a log has no record. Faults of texts come before
+abbrev pub IsImportFault : List Line → ImportFault → Type 0
+IsImportFault lines (Csv n) = ⊥
+IsImportFault lines TooMany = 65536 < length lines
+IsImportFault lines (NotACall n) = ⊥
+IsImportFault lines (NumberOutOfRange n) = IsFaultyLog lines (NumberOutOfRange n)
+IsImportFault lines (WrongAnswer n) = IsFaultyLog lines (WrongAnswer n)
+IsImportFault lines (EndsEarly n) = IsFaultyLog lines (EndsEarly n)
+IsImportFault lines (Overlap n) = IsFaultyLog lines (Overlap n)
+IsImportFault lines Memory = length lines ≤ 65536

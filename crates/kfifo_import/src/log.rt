@@ -1,0 +1,130 @@
+//! Logs of calls, whose steps are times of a clock.
+ghost use Rattle.std.specs.Prelude.{◌≡◌, IfOk, MatchResult};
+ghost use Rattle.kfifo_import.specs.Logs as specs;
+ghost use Rattle.kfifo_import.specs.Logs.{AreByFirst, IsImportFault, IsRecordOfLog, import_fault, line_number};
+
+use crate::stamping::stamped;
+use kfifo_model::{Call, History, MOST_CALLS, RecordFault};
+use std::alloc::{AllocError, AllocFailed, Global};
+use thiserror::Error;
+
+/// A line of a log.
+#[derive(Clone, Copy, Debug, PartialEq, Eq)]
+pub struct Line {
+    /// The number of the line in its file.
+    pub number: u64,
+    /// The call. Its first and last step are times, which need not be distinct.
+    pub call: Call,
+}
+
+/// Why a log gives no record. A fault of one call carries the number of its line.
+#[derive(Clone, Copy, Debug, PartialEq, Eq, Error)]
+pub enum ImportFault {
+    /// The line does not have the fields of the header, or the header lacks one.
+    #[error("line {0} does not have the fields of the header, or is a header that lacks one of thread, op, item, first, last and answer")]
+    Csv(u64),
+    /// Record fault 2: there are over 65,536 calls.
+    #[error("the log has over 65,536 calls")]
+    TooMany,
+    /// Record fault 3: a field is missing or not allowed there, a number is not whole, or the operation is unknown.
+    #[error("line {0} is no call: thread, op and first; item in an enq and where the answer is got; last and answer both or neither; op enq or deq; whole numbers")]
+    NotACall(u64),
+    /// Record fault 4: the thread is not 0 to 63, or an item not 1 to 2^24 - 1.
+    #[error("line {0} has a thread that is not 0 to 63 or an item that is not 1 to 16,777,215")]
+    NumberOutOfRange(u64),
+    /// Record fault 5: the answer is none of the operation's.
+    #[error("line {0} has an answer that is none of its operation's: done, full, busy or worn of an enqueue, got, empty, busy or worn of a dequeue")]
+    WrongAnswer(u64),
+    /// Record fault 6: the last time is less than the first.
+    #[error("line {0} has a last time below its first")]
+    EndsEarly(u64),
+    /// Record fault 8: an earlier call of the thread is unfinished, or ends at this first time or later.
+    #[error("line {0} begins before an earlier call of its thread has ended, or at the same time")]
+    Overlap(u64),
+    /// An allocation failed.
+    #[error("out of memory")]
+    Memory,
+}
+
+impl From<AllocError> for ImportFault {
+    ghost use Rattle.kfifo_import.specs.declared.log.ImportFault.TheVariants.{Memory};
+
+    ghost from_gives = { λ _ fault. fault ≡ Memory };
+
+    fn from(_: AllocError) -> ImportFault {
+        ImportFault::Memory
+    }
+}
+
+impl<T: Drop> From<AllocFailed<T>> for ImportFault {
+    ghost use Rattle.kfifo_import.specs.declared.log.ImportFault.TheVariants.{Memory};
+
+    ghost from_gives = { λ _ fault. fault ≡ Memory };
+
+    fn from(_failed: AllocFailed<T>) -> ImportFault {
+        ImportFault::Memory
+    }
+}
+
+/// The number of the line at this place, 0 past the last one.
+fn number_at(lines: &[Line], place: usize) -> u64
+    ensures { result ≡ line_number lines.now place }
+{
+    lines.get(place).map_or(0, |line| line.number)
+}
+
+/// The fault of the record as one of the log, whose lines are by rising first time.
+fn fault_of(lines: &[Line], fault: RecordFault) -> ImportFault
+    ensures { result ≡ import_fault lines.now fault }
+{
+    match fault {
+        RecordFault::NumberOutOfRange(place) => {
+            ImportFault::NumberOutOfRange(number_at(lines, place))
+        }
+        RecordFault::WrongAnswer(place) => ImportFault::WrongAnswer(number_at(lines, place)),
+        RecordFault::EndsEarly(place) => ImportFault::EndsEarly(number_at(lines, place)),
+        RecordFault::Overlap(place) => ImportFault::Overlap(number_at(lines, place)),
+        RecordFault::TooMany => ImportFault::TooMany,
+        RecordFault::NotAList
+        | RecordFault::NotACall(_)
+        | RecordFault::OutOfOrder(_)
+        | RecordFault::Memory => ImportFault::Memory,
+    }
+}
+
+/// The lines by rising first time, of equal ones the earlier first.
+fn by_first(lines: Vec<Line>) -> Result<Vec<Line>, AllocError>
+    ensures { IfOk result (λ sorted. AreByFirst lines.items sorted.items) }
+{
+    let mut lines = lines;
+    lines.sort_by_key(|line| line.call.first)?;
+    Ok(lines)
+}
+
+/// The calls of the lines.
+fn calls_of(alloc: Global, lines: &[Line]) -> Result<Vec<Call>, AllocError>
+    ensures { IfOk result (λ calls. calls.items ≡ specs.calls_of lines.now) }
+{
+    lines.iter().map(|line| line.call).collect(alloc)
+}
+
+/// The record of a log: its calls by rising first time, of equal ones the earlier line first, with stamps in place of
+/// times. Stamps are the places of the calls' beginnings and ends by rising time, where at one time beginnings come before
+/// ends. So a call precedes another in the record exactly where its last time is less than the other's first.
+///
+/// Refused: TooMany of over 65,536 lines; else the first fault of the record, at the line of its call; Memory where an
+/// allocation failed.
+pub fn record_of(alloc: Global, lines: Vec<Line>) -> Result<History, ImportFault>
+    ensures { MatchResult result (IsRecordOfLog lines.items) (IsImportFault lines.items) }
+{
+    if lines.len() > MOST_CALLS {
+        return Err(ImportFault::TooMany);
+    }
+    let lines = by_first(lines)?;
+    let calls = calls_of(alloc, lines.as_slice())?;
+    let found = stamped(alloc, calls.as_slice())?;
+    match History::new(found) {
+        Ok(history) => Ok(history),
+        Err(fault) => Err(fault_of(lines.as_slice(), fault)),
+    }
+}
