@@ -55,6 +55,14 @@ with_sizes app = with_rule (with_rule (with_rule (with_rule app
 abbrev pub with_turns : App → App
 with_turns app = with_rule app (default_option (codes "turns") (small_numbers 1 65535) (codes "2"))
 
+-- the option `--k` of those that ask for an order
+abbrev pub with_places : App → App
+with_places app = with_rule app (places_option 1 64)
+
+-- the option of the choices that a search may undo
+abbrev pub with_tries : App → App
+with_tries app = with_rule app (default_option (codes "tries") (small_numbers 0 4294967295) (codes "1000000"))
+
 -- the words of a script, at least one
 abbrev pub script : Rule
 script = record (new_rule (codes "words")) {
@@ -70,9 +78,7 @@ run_command = with_rule (with_turns (with_sizes (new_app (codes "run")))) script
 
 -- the command `check`
 abbrev pub check_command : App
-check_command = with_rule (with_rule (new_app (codes "check"))
-    (places_option 1 64))
-    (text_option (codes "order"))
+check_command = with_rule (with_places (new_app (codes "check"))) (text_option (codes "order"))
 
 -- the command `measure`
 abbrev pub measure_command : App
@@ -85,6 +91,20 @@ replay_command = with_rule (with_rule (with_rule (with_rule (with_rule (with_tur
     (number_option (codes "stop") (small_numbers 0 63)))
     (flag (codes "points")))
     (flag (codes "record")))
+    script
+
+-- the command `judge`
+abbrev pub judge_command : App
+judge_command = with_rule (with_tries (with_places (new_app (codes "judge")))) (flag (codes "show"))
+
+-- the command `least`
+abbrev pub least_command : App
+least_command = with_tries (new_app (codes "least"))
+
+-- the command `record`
+abbrev pub record_command : App
+record_command = with_rule (with_rule (with_turns (with_sizes (new_app (codes "record"))))
+    (default_option (codes "repeat") (small_numbers 1 1024) (codes "1")))
     script
 
 -- the program before its commands: its words begin with the first argument, and one has to be a command, or ask for the version
@@ -101,7 +121,8 @@ bare_program = record {
 
 -- the program with its commands
 abbrev pub kfifo : App
-kfifo = with_subcommand (with_subcommand (with_subcommand (with_subcommand bare_program run_command.top) check_command.top) measure_command.top) replay_command.top
+kfifo = with_subcommand (with_subcommand (with_subcommand (with_subcommand (with_subcommand (with_subcommand (with_subcommand bare_program
+    run_command.top) check_command.top) measure_command.top) replay_command.top) judge_command.top) least_command.top) record_command.top
 
 -- the command that was named is this one, and its options have these entries
 abbrev pub Names : Option (Text × List Row) → Text → Found → Type 0
@@ -110,7 +131,8 @@ Names command name found = command ≡ Some (name, rows_of found)
 -- none of the commands was named
 abbrev pub NamesNone : Option (Text × List Row) → Type 0
 NamesNone command = (found : Found) → ¬ (Names command (codes "run") found) × ¬ (Names command (codes "check") found) × ¬ (Names command (codes "measure") found)
-    × ¬ (Names command (codes "replay") found)
+    × ¬ (Names command (codes "replay") found) × ¬ (Names command (codes "judge") found) × ¬ (Names command (codes "least") found)
+    × ¬ (Names command (codes "record") found)
 
 -- a parse reads this of the command, and no argument of it is global
 abbrev pub IsCommand : App → Command → Type 0

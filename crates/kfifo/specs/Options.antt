@@ -4,6 +4,8 @@ use Rattle.std.specs.Str.Parse.{digits_value}
 use Rattle.clap.specs.declared.parser.matches.Found.{Found}
 use Rattle.clap.specs.Words.{first_value, matched_of, one_text, raw_values}
 use Rattle.kfifo_commands.specs.declared.options.CheckOptions.{CheckOptions}
+use Rattle.kfifo_commands.specs.declared.options.JudgeOptions.{JudgeOptions}
+use Rattle.kfifo_commands.specs.declared.options.RecordOptions.{RecordOptions}
 use Rattle.kfifo_commands.specs.declared.options.ReplayOptions.{ReplayOptions}
 use Rattle.kfifo_commands.specs.declared.options.RunOptions.{RunOptions}
 use Rattle.kfifo_commands.specs.declared.sizes.Sizes.{Sizes}
@@ -55,9 +57,30 @@ pub record GivesReplay (found : Found) (options : ReplayOptions) : Type 0 where
   pub recorded : GivesFlag (one_text found (codes "record")) options.record
   pub scripts : map (λ script. script.now) options.scripts.now ≡ given_words found
 
--- the option `--k` of `check`, from 1 to 64
+-- how often scripts are made over, at least once
+abbrev pub GivesTimes : Found → ℕ → Type 0
+GivesTimes found times = (given : ℕ) × GivesOr 32 (one_text found (codes "repeat")) 1 given × (times ≡ max given 1)
+
+-- the options of `record`
+pub record GivesRecord (found : Found) (options : RecordOptions) : Type 0 where
+  pub sizes : GivesSizes found options.sizes
+  pub turns : GivesTurns found options.turns
+  pub times : GivesTimes found options.repeat
+  pub scripts : map (λ script. script.now) options.scripts.now ≡ given_words found
+
+-- the option `--k` of those that ask for an order, from 1 to 64
 abbrev pub GivesPlaces : Found → ℕ → Type 0
 GivesPlaces found k = (given : ℕ) × GivesOr 32 (one_text found (codes "k")) 2 given × (k ≡ min (max given 1) 64)
+
+-- the option `--tries`
+abbrev pub GivesTries : Found → ℕ → Type 0
+GivesTries found tries = GivesOr 32 (one_text found (codes "tries")) 1000000 tries
+
+-- the options of `judge`
+pub record GivesJudge (found : Found) (options : JudgeOptions) : Type 0 where
+  pub k : GivesPlaces found options.k
+  pub tries : GivesTries found options.tries
+  pub show : GivesFlag (one_text found (codes "show")) options.show
 
 -- the options of `check`
 pub record GivesCheck (found : Found) (options : CheckOptions) : Type 0 where

@@ -6,30 +6,30 @@ mod options;
 mod program;
 
 use crate::program::program_showing;
-use kfifo_commands::{Program, Progress, start_program};
-use std::io::{Read, Write};
+use kfifo_commands::{Started, start_program};
 use std::process::ExitCode;
-use std::rt::Files;
-use std::thread::Threads;
-
-/// The program.
-#[derive(Drop)]
-struct Kfifo;
-
-impl Program for Kfifo {
-    fn run<T: Threads + Files + AllocGlobal, R: Read, W: Write, F: Write, P: Progress>(
-        &self,
-        rt: &T,
-        words: &[String],
-        input: &mut R,
-        output: &mut W,
-        faults: &mut F,
-        progress: &mut P,
-    ) -> u8 {
-        program_showing(rt, rt.alloc(), words, input, output, faults, progress)
-    }
-}
 
 fn main(rt: HostRuntime) -> ExitCode {
-    start_program(&rt, &rt, &Kfifo)
+    let status = match start_program(&rt) {
+        Ok(start) => {
+            let Started {
+                words,
+                mut input,
+                mut output,
+                mut faults,
+                mut progress,
+            } = start;
+            program_showing(
+                &rt,
+                rt.alloc(),
+                words.as_slice(),
+                &mut input,
+                &mut output,
+                &mut faults,
+                &mut progress,
+            )
+        }
+        Err(status) => status,
+    };
+    ExitCode::from(status)
 }

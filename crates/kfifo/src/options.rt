@@ -3,7 +3,7 @@ ghost use Rattle.std.specs.Prelude.{◌≡◌, ◌≤◌, false, IfOk};
 ghost use Rattle.clap.specs.Words.{app_of, found_of, one_text, rule_of};
 ghost use Rattle.clap.specs.declared.builder.command.Command.TheViews.{out-Command as fields_of};
 ghost use Rattle.kfifo.specs.CommandLine as line;
-ghost use Rattle.kfifo.specs.Options.{GivesOr, GivesSizes, GivesTurns};
+ghost use Rattle.kfifo.specs.Options.{GivesOr, GivesPlaces, GivesSizes, GivesTries, GivesTurns};
 
 use clap::{Arg, ArgAction, ArgMatches, Command, value_parser};
 use kfifo_commands::Sizes;
@@ -19,6 +19,8 @@ const PROBES: &str = "probes";
 
 const TURNS: &str = "turns";
 
+const TRIES: &str = "tries";
+
 const DEFAULT_K: u32 = 2;
 
 const DEFAULT_SEGMENTS: u32 = 2;
@@ -26,6 +28,8 @@ const DEFAULT_SEGMENTS: u32 = 2;
 const DEFAULT_LAST: u64 = 1_099_511_627_775;
 
 const DEFAULT_TURNS: u16 = 2;
+
+const DEFAULT_TRIES: u32 = 1_000_000;
 
 /// The sizes that the options give.
 pub fn sizes_of(matches: &ArgMatches<'_>) -> Sizes
@@ -93,6 +97,46 @@ pub fn turns_of(matches: &ArgMatches<'_>) -> u16
     ensures given { GivesTurns (found_of matches.now) result }
 {
     matches.get_one(TURNS).unwrap_or(DEFAULT_TURNS).max(1)
+}
+
+/// Adds the option `--k` of those that ask for an order, 1 to 64.
+pub fn with_places<'a>(alloc: Global, command: Command<'a>) -> Result<Command<'a>, AllocError>
+    ensures { IfOk result (λ c. (app_of c ≡ line.with_places (app_of command.entry)) × ((fields_of c).has_globals ≡ (fields_of command.entry).has_globals)) }
+{
+    let k = option(alloc, K)
+        .value_name("PLACES")
+        .value_parser(value_parser!(u32).range(1..=64))
+        .default_value("2")
+        .short('k')
+        .help("A dequeue takes one of the k oldest items, 1 to 64");
+    command.arg(k)
+}
+
+/// The option `--k` of those that ask for an order, 1 to 64: the option admits no other.
+pub fn places_of(matches: &ArgMatches<'_>) -> u32
+    ensures given { GivesPlaces (found_of matches.now) result }
+    ensures range { (1 ≤ result) × (result ≤ 64) }
+{
+    count_of(matches, K, DEFAULT_K).max(1).min(64)
+}
+
+/// Adds the option `--tries`.
+pub fn with_tries<'a>(alloc: Global, command: Command<'a>) -> Result<Command<'a>, AllocError>
+    ensures { IfOk result (λ c. (app_of c ≡ line.with_tries (app_of command.entry)) × ((fields_of c).has_globals ≡ (fields_of command.entry).has_globals)) }
+{
+    let tries = option(alloc, TRIES)
+        .value_name("NUMBER")
+        .value_parser(value_parser!(u32))
+        .default_value("1000000")
+        .help("How many choices the search for an order may undo before it gives up");
+    command.arg(tries)
+}
+
+/// The choices that a search may undo.
+pub fn tries_of(matches: &ArgMatches<'_>) -> u64
+    ensures { GivesTries (found_of matches.now) result }
+{
+    u64::from(count_of(matches, TRIES, DEFAULT_TRIES))
 }
 
 /// The option `--name`, which takes no value.

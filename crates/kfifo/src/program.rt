@@ -8,7 +8,7 @@ ghost use Rattle.kfifo_commands.specs.Endings.{Ends, Tells};
 ghost use Rattle.kfifo_commands.specs.Printing.{OnPrinter, OnWriter};
 ghost use Rattle.kfifo_commands.specs.Statuses.{status_number};
 
-use crate::commands::{check, measure, replay, run};
+use crate::commands::{check, judge, least, measure, record, replay, run};
 use clap::error::ErrorKind;
 use clap::{ArgMatches, Command, Error};
 use kfifo_commands::{
@@ -29,22 +29,28 @@ Examples:
   kfifo run e7 e8 d   puts 7 and 8 into a queue, takes one, and prints the words of the queue
   kfifo check < record.json
                       says whether a recorded run of a queue has a legal order
+  kfifo judge < record.json
+                      the same of a record of any length, with the reason
   kfifo replay --picks 0x6,1x7,0x2 --turns 1 e5 e6:1
                       runs two threads step by step in this order
+  kfifo record e1,e2,d e3,d,d | kfifo check
+                      runs two real threads, and says whether the record has a legal order
   kfifo run --help    says how a script is written, and what its options and faults are
 
 Exit status: 0 for an answer; 1 for a fault of the data, a size, the memory, reading or writing; 2 for
-a fault of the command line; 3 where `check` finds no order, or an order that is not legal.
+a fault of the command line; 3 where a record has no order, or its order is not legal; 4 where `judge`
+cannot say.
 
 The documents, where this program comes from: README.md begins; docs/PROGRAM.md is about the commands,
 docs/JUDGE.md about records and orders, docs/QUEUE.md about the queue.";
 
 /// Does all that the program does with `words`, the arguments after the program's name, and gives the
 /// exit status: 0 for an answer, 1 for a fault of the data, of a size, of memory, of reading or of
-/// writing, 2 for a fault of the command line, and 3 where `check` finds no order or one that is not legal.
+/// writing, 2 for a fault of the command line, 3 where a record has no order or its order is not legal, and 4 where
+/// nothing can be said of it.
 ///
 /// It says nothing of its progress.
-pub fn program<T: Threads + Files, R: Read, W: Write, F: Write>(
+pub fn program<T: Threads + Files + Sync, R: Read, W: Write, F: Write>(
     threads: &T,
     alloc: Global,
     words: &[String],
@@ -63,7 +69,7 @@ pub fn program<T: Threads + Files, R: Read, W: Write, F: Write>(
 
 /// Does what `program` does, and tells the progress how far long work has come. What the progress does with that is
 /// not among what is said of the streams.
-pub fn program_showing<T: Threads + Files, R: Read, W: Write, F: Write, P: Progress>(
+pub fn program_showing<T: Threads + Files + Sync, R: Read, W: Write, F: Write, P: Progress>(
     threads: &T,
     alloc: Global,
     words: &[String],
@@ -94,9 +100,9 @@ pub fn program_showing<T: Threads + Files, R: Read, W: Write, F: Write, P: Progr
 
 /// The same over a source and printers, which count the calls that failed: the input is at fault, and a text
 /// breaks off, only where one did.
-fn perform<H: Files, S: Source, W: Write, F: Write, P: Progress>(
+fn perform<H: Threads + Files + Sync, S: Source, W: Write, F: Write, P: Progress>(
     alloc: Global,
-    files: &H,
+    rt: &H,
     words: &[String],
     input: &mut S,
     output: &mut Printer<'_, W>,
@@ -112,7 +118,7 @@ fn perform<H: Files, S: Source, W: Write, F: Write, P: Progress>(
     match parse(alloc, words) {
         Ok(matches) => match request_of(&matches) {
             Some(request) => carry_out(
-                alloc, files, request, input, output, faults, progress,
+                alloc, rt, request, input, output, faults, progress,
             ).number(),
             None => Status::Misused.number(),
         },
@@ -157,6 +163,15 @@ fn request_of<'a>(matches: &'a ArgMatches<'_>) -> Option<Request<'a>>
     if let Some(options) = matches.subcommand_matches(replay::NAME) {
         return Some(Request::Replay(replay::options_of(options)));
     }
+    if let Some(options) = matches.subcommand_matches(judge::NAME) {
+        return Some(Request::Judge(judge::options_of(options)));
+    }
+    if let Some(options) = matches.subcommand_matches(least::NAME) {
+        return Some(Request::Least(least::options_of(options)));
+    }
+    if let Some(options) = matches.subcommand_matches(record::NAME) {
+        return Some(Request::Record(record::options_of(options)));
+    }
     None
 }
 
@@ -185,7 +200,10 @@ fn command<'a>(alloc: Global) -> Result<Command<'a>, AllocError>
         .subcommand(run::command(alloc)?)?
         .subcommand(check::command(alloc)?)?
         .subcommand(measure::command(alloc)?)?
-        .subcommand(replay::command(alloc)?)
+        .subcommand(replay::command(alloc)?)?
+        .subcommand(judge::command(alloc)?)?
+        .subcommand(least::command(alloc)?)?
+        .subcommand(record::command(alloc)?)
 }
 
 #[cfg(test)]

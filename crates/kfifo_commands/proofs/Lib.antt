@@ -11,4 +11,5 @@ pub mod Refusals
 pub mod Replaying
 pub mod Reports
 pub mod Scripts
+pub mod RealRunning
 pub mod Writings

@@ -1,15 +1,17 @@
--- Why the commands `check` and `measure` have no answer, and what their answers are.
+-- Why the commands that read a record have no answer, and what their answers are.
 use Rattle.std.proofs.Common.{◌≡◌, ◌≢◌, ◌≤◌, ℕ, List, length, Option, None, Some, IfSome, refl, Result, Ok, Err, IfErr, sym, subst, inl, inr, ◌⊎◌, option_map}
 use Rattle.kfifo_judge.specs.declared.record.StreamFault.{StreamFault}
 use Rattle.kfifo_judge.specs.declared.record.StreamFault.TheVariants as streams
 use Rattle.kfifo_judge.specs.Check.{IsCheckFault}
 use Rattle.kfifo_judge.specs.Measure.{IsMeasuringFault}
+use Rattle.kfifo_judge.specs.TextFaults.{IsTextFault}
 use Rattle.kfifo_commands.specs.declared.fault.Fault.{Fault}
 use Rattle.kfifo_commands.specs.declared.fault.Fault.TheVariants.{Memory, Order}
 use Rattle.kfifo_commands.specs.declared.options.CheckOptions.{CheckOptions}
 use Rattle.kfifo_commands.specs.Faults.{stream_fault}
 use Rattle.kfifo_commands.specs.Orders.{GivesNoOrder, GivesOrder}
 use Rattle.kfifo_commands.specs.Records.{IsCheckRefusal, IsInput, IsMeasureRefusal, IsOfInput, IsOrder, IsStreamFault, GivesSomeOrder, IsUnread}
+use Rattle.kfifo_commands.specs.Verdicts.{IsVerdictRefusal}
 
 -- bytes that an input of at most 16,777,216 gives are what was read of it
 pub of_short : (input : Option (List ℕ)) (bytes : List ℕ) → IfSome input (λ given. given ≡ bytes) → IfSome input (λ given. length given ≤ 16777216) → IsInput input bytes
@@ -53,6 +55,21 @@ module _ (input : Option (List ℕ)) (before after : ℕ) where
   -- a fault of the stream of `measure` is a refusal
   pub measure_refused : (fault : Fault) → IsStreamFault input before after IsMeasuringFault fault → IsMeasureRefusal input before after fault
   measure_refused fault f = subst (λ f. IsMeasureRefusal input before after f) (sym f.1) (unmeasured f.0 f.2 f.3)
+
+  unjudged : (given : StreamFault) → (given ≡ streams.Input → IsUnread input before after)
+      → (given ≢ streams.Input → given ≢ streams.Output → given ≢ streams.Memory → IsOfInput input IsTextFault given)
+      → IsVerdictRefusal input before after (stream_fault given)
+  unjudged streams.Input unread h = unread refl
+  unjudged streams.NotJson unread h = h (λ e. cc) (λ e. cc) (λ e. cc)
+  unjudged (streams.Record f) unread h = h (λ e. cc) (λ e. cc) (λ e. cc)
+  unjudged (streams.Search f) unread h = let x = h (λ e. cc) (λ e. cc) (λ e. cc) in x.2
+  unjudged streams.RepeatedItem unread h = let x = h (λ e. cc) (λ e. cc) (λ e. cc) in x.2
+  unjudged streams.Memory unread h = tt
+  unjudged streams.Output unread h = tt
+
+  -- a fault of the streams of `judge` and `least` is a refusal
+  pub verdict_refused : (fault : Fault) → IsStreamFault input before after IsTextFault fault → IsVerdictRefusal input before after fault
+  verdict_refused fault f = subst (λ f. IsVerdictRefusal input before after f) (sym f.1) (unjudged f.0 f.2 f.3)
 
   -- a text that writes no order is a refusal
   pub order_refused : (options : CheckOptions) (text : List ℕ) (fault : Fault) → option_map (λ t. t.now) options.order ≡ Some text

@@ -7,6 +7,7 @@ use Rattle.kfifo_model.specs.FaultNumbers.{fault_number, fault_call}
 use Rattle.kfifo_model.specs.Searching.{search_fault_number}
 use Rattle.kfifo_judge.specs.declared.record.StreamFault.{StreamFault}
 use Rattle.kfifo_judge.specs.declared.record.StreamFault.TheVariants as streams
+use Rattle.kfifo_live.specs.Faults.{open_fault_number}
 use Rattle.kfifo_replay.specs.declared.fault.ReplayFault.{ReplayFault}
 use Rattle.kfifo_replay.specs.declared.fault.ReplayFault.TheVariants as replays
 use Rattle.kfifo_replay.specs.Faults.{replay_fault_number}
@@ -57,6 +58,7 @@ fault_text (faults.Word number) = codes "word fault at " ++ decimal number
 fault_text faults.Order = codes "order fault"
 fault_text faults.Picks = codes "picks fault"
 fault_text (faults.Replay fault) = codes "replay fault " ++ replay_fault_text fault
+fault_text (faults.Open fault) = codes "open fault " ++ decimal (open_fault_number fault)
 fault_text faults.Input = codes "input"
 fault_text faults.NotJson = codes "not json"
 fault_text (faults.Record fault) = codes "record fault " ++ record_fault_text fault

@@ -4,8 +4,10 @@ pub mod Lines
 pub mod Orders
 pub mod Picks
 pub mod Printing
+pub mod RealRuns
 pub mod RecordTexts
 pub mod Records
+pub mod Verdicts
 pub mod Reports
 pub mod Replays
 pub mod Runs

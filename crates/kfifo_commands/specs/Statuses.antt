@@ -1,7 +1,7 @@
 -- The exit status.
 use Rattle.std.specs.Prelude.{ℕ}
 use Rattle.kfifo_commands.specs.declared.status.Status.{Status}
-use Rattle.kfifo_commands.specs.declared.status.Status.TheVariants.{Answered, Failed, Misused, Unordered}
+use Rattle.kfifo_commands.specs.declared.status.Status.TheVariants.{Answered, Failed, Misused, Unordered, Undecided}
 
 -- the exit status as a number
 abbrev pub status_number : Status → ℕ
@@ -9,3 +9,4 @@ status_number Answered = 0
 status_number Failed = 1
 status_number Misused = 2
 status_number Unordered = 3
+status_number Undecided = 4

@@ -1,6 +1,9 @@
 //! The commands, one module for each: what it answers.
 
 pub mod check;
+pub mod judge;
+pub mod least;
 pub mod measure;
+pub mod record;
 pub mod replay;
 pub mod run;

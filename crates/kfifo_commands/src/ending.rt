@@ -6,7 +6,7 @@ ghost use Rattle.kfifo_commands.specs.Printing.{Breaks, OnPrinter, Writes};
 ghost use Rattle.kfifo_commands.specs.Records.{ReadsWell};
 ghost use Rattle.kfifo_commands.specs.Statuses.{status_number};
 
-use crate::commands::{check, measure, replay, run};
+use crate::commands::{check, judge, least, measure, record, replay, run};
 use crate::fault::Fault;
 use crate::options::Request;
 use crate::printing::Printer;
@@ -17,6 +17,7 @@ use std::alloc::Global;
 use std::fmt::Display;
 use std::io::Write;
 use std::rt::Files;
+use std::thread::Threads;
 
 /// Why a text is written in place of an answer.
 #[derive(Clone, Copy, PartialEq, Eq, Debug)]
@@ -27,11 +28,12 @@ pub enum Notice {
     Misuse,
 }
 
-/// Does what is requested, and writes its answer or the line of its fault. The order of `check` may stand in a file.
-/// `replay` tells the progress how far it has come, and that it has ended before anything is written.
-pub fn carry_out<H: Files, S: Source, W: Write, F: Write, P: Progress>(
+/// Does what is requested, and writes its answer or the line of its fault. The order of `check` may stand in a file,
+/// and `record` starts threads: `rt` may do both. `replay` tells the progress how far it has come, and that it has
+/// ended before anything is written.
+pub fn carry_out<H: Threads + Files + Sync, S: Source, W: Write, F: Write, P: Progress>(
     alloc: Global,
-    files: &H,
+    rt: &H,
     request: Request<'_>,
     input: &mut S,
     output: &mut Printer<'_, W>,
@@ -42,7 +44,7 @@ pub fn carry_out<H: Files, S: Source, W: Write, F: Write, P: Progress>(
         (IsRefused request.entry (S.remaining input.old) (S.failed input.old) (S.failed input.new)) ⊥
         (OnPrinter W.contents output.old output.new) (OnPrinter F.contents faults.old faults.new) (status_number result) }
 {
-    match answer(alloc, files, request, input, output, progress) {
+    match answer(alloc, rt, request, input, output, progress) {
         Ok(status) => status,
         Err(fault) => end_with_fault(fault, faults),
     }
@@ -88,9 +90,9 @@ pub fn end_with_text<D: Display + Drop, W: Write, F: Write>(
 }
 
 /// Does what is requested, and prints its answer.
-fn answer<H: Files, S: Source, W: Write, P: Progress>(
+fn answer<H: Threads + Files + Sync, S: Source, W: Write, P: Progress>(
     alloc: Global,
-    files: &H,
+    rt: &H,
     request: Request<'_>,
     input: &mut S,
     output: &mut Printer<'_, W>,
@@ -112,7 +114,7 @@ fn answer<H: Files, S: Source, W: Write, P: Progress>(
             Ok(Status::Answered)
         }
         Request::Check(options) => {
-            let (text, status) = check::answer(alloc, files, options, input)?;
+            let (text, status) = check::answer(alloc, rt, options, input)?;
             output.print(text.as_slice())?;
             Ok(status)
         }
@@ -125,6 +127,21 @@ fn answer<H: Files, S: Source, W: Write, P: Progress>(
             let played = replay::answer(alloc, options, progress);
             progress.ended();
             let text = played?;
+            output.print(text.as_bytes())?;
+            Ok(Status::Answered)
+        }
+        Request::Judge(options) => {
+            let (text, status) = judge::answer(alloc, options, input)?;
+            output.print(text.as_slice())?;
+            Ok(status)
+        }
+        Request::Least(options) => {
+            let (text, status) = least::answer(alloc, options, input)?;
+            output.print(text.as_slice())?;
+            Ok(status)
+        }
+        Request::Record(options) => {
+            let text = record::answer(rt, alloc, options)?;
             output.print(text.as_bytes())?;
             Ok(Status::Answered)
         }

@@ -1,12 +1,13 @@
 //! What ends a command without its answer.
 ghost use Rattle.std.specs.Prelude.{◌≡◌, ◌++◌, MatchBool, Some, decimal};
-ghost use Rattle.kfifo_commands.specs.declared.fault.Fault.TheVariants.{Memory, Replay};
+ghost use Rattle.kfifo_commands.specs.declared.fault.Fault.TheVariants.{Memory, Open, Replay};
 ghost use Rattle.kfifo_commands.specs.Faults.{fault_line, fault_text, numbered, stream_fault};
 ghost use Rattle.kfifo_commands.specs.Faults as replays;
 ghost use Rattle.kfifo_commands.specs.Printing.{Writes, Breaks};
 
 use crate::printing::Printer;
 use kfifo_judge::StreamFault;
+use kfifo_live::OpenFault;
 use kfifo_model::{RecordFault, SearchFault};
 use kfifo_replay::ReplayFault;
 use kfifo_words::ShapeFault;
@@ -29,6 +30,8 @@ pub enum Fault {
     Picks,
     /// A replay refused its scripts, the thread to be stopped, a pick of all those given, or memory.
     Replay(ReplayFault),
+    /// `record` was refused its queue.
+    Open(OpenFault),
     /// Reading failed, or over 16,777,216 bytes came.
     Input,
     /// The input is no JSON text, or is not UTF-8.
@@ -75,6 +78,7 @@ impl Fault {
                 before: " at ",
                 place: refused_pick(fault),
             },
+            Fault::Open(fault) => Line::numbered("open fault ", fault.number() as usize),
             Fault::Input => Line::plain("input"),
             Fault::NotJson => Line::plain("not json"),
             Fault::Record(fault) => Line {
@@ -188,6 +192,14 @@ impl From<ReplayFault> for Fault {
 
     fn from(fault: ReplayFault) -> Fault {
         Fault::Replay(fault)
+    }
+}
+
+impl From<OpenFault> for Fault {
+    ghost from_gives = { λ given fault. fault ≡ Open given };
+
+    fn from(fault: OpenFault) -> Fault {
+        Fault::Open(fault)
     }
 }
 

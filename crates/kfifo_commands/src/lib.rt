@@ -18,10 +18,12 @@ mod words;
 
 pub use ending::{Notice, carry_out, end_with_fault, end_with_text};
 pub use fault::Fault;
-pub use options::{CheckOptions, ReplayOptions, Request, RunOptions};
+pub use options::{
+    CheckOptions, JudgeOptions, LeastOptions, RecordOptions, ReplayOptions, Request, RunOptions,
+};
 pub use printing::Printer;
 pub use progress::{Progress, Silent};
 pub use recording::record_text;
 pub use sizes::Sizes;
-pub use start::{Program, start as start_program};
+pub use start::{Prompting, Showing, Started, start as start_program};
 pub use status::Status;

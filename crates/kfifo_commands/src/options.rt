@@ -47,6 +47,41 @@ pub struct ReplayOptions<'a> {
     pub ghost some_turns: { 1 ≤ turns },
 }
 
+/// What `judge` is given.
+#[derive(Clone, Copy)]
+pub struct JudgeOptions {
+    /// A dequeue takes one of the k oldest items, 1 to 64.
+    pub k: u32,
+    /// How many choices the search for an order may undo.
+    pub tries: u64,
+    /// Whether the order that was found is printed too.
+    pub show: bool,
+    pub ghost some_places: { 1 ≤ k },
+    pub ghost few_places: { k ≤ 64 },
+}
+
+/// What `least` is given.
+#[derive(Clone, Copy)]
+pub struct LeastOptions {
+    /// How many choices each search for an order may undo.
+    pub tries: u64,
+}
+
+/// What `record` is given.
+#[derive(Clone, Copy)]
+pub struct RecordOptions<'a> {
+    /// The sizes of the queue.
+    pub sizes: Sizes,
+    /// Rounds that a call makes before it answers busy, at least 1.
+    pub turns: u16,
+    /// How often the calls of each script are made over, at least 1.
+    pub repeat: u32,
+    /// The scripts, as they are written.
+    pub scripts: &'a [&'a str],
+    pub ghost some_turns: { 1 ≤ turns },
+    pub ghost some_repetitions: { 1 ≤ repeat },
+}
+
 /// A command with its options.
 #[derive(Clone, Copy)]
 pub enum Request<'a> {
@@ -58,4 +93,10 @@ pub enum Request<'a> {
     Measure,
     /// Runs scripts on the machine in the order of given picks.
     Replay(ReplayOptions<'a>),
+    /// Gives a verdict on a record of any length.
+    Judge(JudgeOptions),
+    /// Says between which bounds the least k of a record lies.
+    Least(LeastOptions),
+    /// Runs each script on a thread of its own, and records the calls.
+    Record(RecordOptions<'a>),
 }

@@ -11,9 +11,7 @@ use crate::progress::Progress;
 use crate::status::Status;
 use std::env;
 use std::io::{self, ErrorKind, IsTerminal, Read, Write};
-use std::process::ExitCode;
-use std::rt::{Env, Files};
-use std::thread::Threads;
+use std::rt::{Env, Stderr, Stdin, Stdout};
 use std::time::{Clock, Instant};
 
 const NO_TEXT: &str = "error: invalid UTF-8 was detected in one or more arguments\n";
@@ -23,52 +21,40 @@ const BLANKS: &str = "\r                                \r";
 
 const HINT: &str = "reading from the terminal: end the input by Ctrl-D on a line of its own\n";
 
-/// What a program does with its arguments and its streams.
-pub trait Program {
-    /// Does it, and gives the exit status. `rt` is what it may use of the system, and `words` are the arguments after
-    /// the program's name. Long work tells the progress how far it has come.
-    fn run<T: Threads + Files + AllocGlobal, R: Read, W: Write, F: Write, P: Progress>(
-        &self,
-        rt: &T,
-        words: &[String],
-        input: &mut R,
-        output: &mut W,
-        faults: &mut F,
-        progress: &mut P,
-    ) -> u8;
+/// What a program is started with.
+#[derive(Drop)]
+pub struct Started<'a> {
+    /// The arguments after the program's name.
+    pub words: Vec<String>,
+    /// Standard input. Before the first read from a terminal a hint is written to standard error.
+    pub input: Prompting<Stdin, Stderr>,
+    /// Standard output.
+    pub output: Stdout,
+    /// Standard error.
+    pub faults: Stderr,
+    /// Shows on standard error, where that is a terminal, how far work has come that goes on for over a second.
+    pub progress: Showing<'a, HostRuntime, Stderr>,
 }
 
-/// Runs a program on the arguments of this process and its standard streams, and gives its exit status. Where an
-/// argument is not UTF-8, or memory is refused for them, that is told and the program does not run. Where standard
-/// error is a terminal, it shows how far work has come that goes on for over a second. `rt` is what the program may use
-/// of the system.
-pub fn start<T: Threads + Files + AllocGlobal, P: Program>(
-    streams: &HostRuntime,
-    rt: &T,
-    program: &P,
-) -> ExitCode {
-    let mut output = streams.stdout();
+/// What this process was started with. Where an argument is not UTF-8, or memory is refused for them, that is told, and
+/// the exit status is answered.
+pub fn start(streams: &HostRuntime) -> Result<Started<'_>, u8> {
     let mut faults = streams.stderr();
-    let status = match arguments(streams) {
-        Ok(words) => {
-            let reader = streams.stdin();
-            let hint = reader.is_terminal().then_some(streams.stderr());
-            let mut input = Prompting { reader, hint };
-            let screen = streams.stderr();
-            let screen = screen.is_terminal().then_some(screen);
-            let mut progress = Showing::new(streams, screen);
-            program.run(
-                rt,
-                words.as_slice(),
-                &mut input,
-                &mut output,
-                &mut faults,
-                &mut progress,
-            )
-        }
-        Err(error) => end_without_words(&error, &mut Printer::new(&mut faults)),
+    let words = match arguments(streams) {
+        Ok(words) => words,
+        Err(error) => return Err(end_without_words(&error, &mut Printer::new(&mut faults))),
     };
-    ExitCode::from(status)
+    let reader = streams.stdin();
+    let hint = reader.is_terminal().then_some(streams.stderr());
+    let screen = streams.stderr();
+    let screen = screen.is_terminal().then_some(screen);
+    Ok(Started {
+        words,
+        input: Prompting { reader, hint },
+        output: streams.stdout(),
+        faults,
+        progress: Showing::new(streams, screen),
+    })
 }
 
 /// The arguments after the program's name.
@@ -94,7 +80,7 @@ fn end_without_words<F: Write>(error: &io::Error, faults: &mut Printer<'_, F>) -
 
 /// A reader that says before its first read that it waits, where a hint is to be written.
 #[derive(Drop)]
-struct Prompting<R, W> {
+pub struct Prompting<R, W> {
     reader: R,
     hint: Option<W>,
 }
@@ -114,7 +100,7 @@ impl<R: Read, W: Write + Drop> Read for Prompting<R, W> {
 /// Shows how far work has come, on a line of its own that is written anew each time, where there is a screen and a
 /// second has gone by.
 #[derive(Drop)]
-struct Showing<'a, C, W> {
+pub struct Showing<'a, C, W> {
     clock: &'a C,
     begun: Option<Instant>,
     screen: Option<W>,

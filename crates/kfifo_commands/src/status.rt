@@ -13,6 +13,8 @@ pub enum Status {
     Misused = 2,
     /// A record has no order, or its order is not legal.
     Unordered = 3,
+    /// Nothing can be said of a record.
+    Undecided = 4,
 }
 
 impl Status {

@@ -9,15 +9,9 @@ use Rattle.kfifo_model.specs.Histories.{call, Precedes}
 use Rattle.kfifo_model.specs.Validity.{IsHistory}
 use Rattle.kfifo_verdict.specs.declared.presences.Presence.{Presence}
 use Rattle.kfifo_verdict.specs.Evidence.{Puts, Gets, IsSingle, IsCertainlyThere, IsOlder}
-use Rattle.kfifo_verdict.specs.Finding.{first_of, IsStart, IsPresence, ArePresences, no_presence}
+use Rattle.kfifo_verdict.specs.Finding.{first_of, IsStart, IsKnown, IsPresence, ArePresences, no_presence}
 use Rattle.kfifo_verdict.proofs.Moments.{sooner, ends_later}
 use Rattle.kfifo_verdict.proofs.Telling.{got_inside}
-
--- what is known of a single item
-pub record IsKnown (h : List Call) (x p : ℕ) (s : Presence) : Type 0 where
-  pub single : IsSingle h x p
-  pub start : IsStart h (call h p).end s.start
-  pub gone : ((s.gone ≡ length h) × ((g : ℕ) → Gets h x g → ⊥)) ⊎ Gets h x s.gone
 
 pub same_put : (h : List Call) (x y p : ℕ) → Puts h x p → Puts h y p → x ≡ y
 same_put h x y p e f = let q : Adds x ≡ Adds y = sym e ∙ f in cc
@@ -92,6 +86,8 @@ known_presence h x p s v k = record {
   until = known_kept h x p s k;
   from = known_from h x p s v k;
   older = known_older h x p s k;
+  known = λ y t. let P : ℕ → Type 0 = λ w. IsKnown h w p s in subst P (same_put h x y p k.single.puts t.puts) k;
+  real = λ some. (x, k.single.puts);
 }
 
 pub never_presence : (h : List Call) (p : ℕ) (s : Presence) → s.start ≡ length h → s.gone ≡ 0 → ((x : ℕ) → IsSingle h x p → ⊥) → IsPresence h p s
@@ -100,6 +96,8 @@ never_presence h p s start gone none = record {
   until = λ moment t inside. absurd (none t.item t.single);
   from = λ c inside t. absurd (none t.item t.single);
   older = λ g put after inside a. (λ o. absurd (none o.item o.single), λ r. let f = r.0 in absurd (omega (arith, f, start, inside)));
+  known = λ x t. absurd (none x t);
+  real = λ some. absurd (omega (arith, some, gone));
 }
 
 -- ---- the presences so far

@@ -9,3 +9,7 @@ pub mod Covering
 pub mod Younger
 pub mod Skipping
 pub mod Concluding
+pub mod Serving
+pub mod Queueing
+pub mod Turning
+pub mod Lining

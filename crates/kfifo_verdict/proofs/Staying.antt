@@ -8,7 +8,7 @@ use Rattle.kfifo_model.specs.declared.calls.Call.{Call}
 use Rattle.kfifo_model.specs.Validity.{IsHistory}
 use Rattle.kfifo_verdict.specs.declared.presences.Presence.{Presence}
 use Rattle.kfifo_verdict.specs.declared.finding.Stay.{Stay}
-use Rattle.kfifo_verdict.specs.Finding.{IsPresence, ArePresences, no_presence, IsStay, no_stay, AreStays, IsBucketed}
+use Rattle.kfifo_verdict.specs.Finding.{IsPresence, ArePresences, no_presence, IsStay, no_stay, AreStays, AreLongest, IsBucketed}
 use Rattle.kfifo_verdict.proofs.Refuting.{put_inside}
 use Rattle.kfifo_verdict.proofs.Moments.{not_falling}
 
@@ -27,6 +27,17 @@ longer_left a b s (inr p) = let e = ap (λ w. w.gone) p.0 in let le = p.1 in ome
 pub longer_right : (a b s : Stay) → IsLonger a b s → b.gone ≤ s.gone
 longer_right a b s (inl p) = let e = ap (λ w. w.gone) p.0 in let le = p.1 in omega (arith, e, le)
 longer_right a b s (inr p) = let e = ap (λ w. w.gone) p.0 in omega (arith, e)
+
+-- an item that is there from call c or an earlier one on and stays so long
+abbrev pub IsHeld : List Call → List Presence → ℕ → Stay → Type 0
+IsHeld h ps c s = (q : ℕ) × (q < length h) × ((get_or ps q no_presence).start ≤ c) × ((get_or ps q no_presence).gone ≡ s.gone)
+
+pub longer_held : (h : List Call) (ps : List Presence) (c : ℕ) (a b s : Stay) → IsLonger a b s → (0 < a.gone → IsHeld h ps c a) → (0 < b.gone → IsHeld h ps c b) → 0 < s.gone → IsHeld h ps c s
+longer_held h ps c a b s (inl p) ha hb = let P : Stay → Type 0 = λ w. 0 < w.gone → IsHeld h ps c w in subst P (sym p.0) ha
+longer_held h ps c a b s (inr p) ha hb = let P : Stay → Type 0 = λ w. 0 < w.gone → IsHeld h ps c w in subst P (sym p.0) hb
+
+held_later : (h : List Call) (ps : List Presence) (c d : ℕ) (s : Stay) → c ≤ d → IsHeld h ps c s → IsHeld h ps d s
+held_later h ps c d s le o = let up = o.2 in (o.0, o.1, omega (arith, up, le), o.3)
 
 pub no_stay_real : (h : List Call) (c : ℕ) → IsStay h c no_stay
 no_stay_real h c = record { there = λ lt. absurd (omega arith); until = λ lt. absurd (omega arith) }
@@ -56,12 +67,13 @@ bucketed_skip h ps n stays b past = record {
     | inl below ↦ b.longest p c below inside e
     | inr le ↦ (let same : p ≡ n = omega (arith, le, lt) in let q = ap (λ w. (get_or ps w no_presence).start) same in absurd (omega (arith, q, e, inside, past)))
   ];
+  held = b.held;
 }
 
 pub bucketed_more : (h : List Call) (ps : List Presence) (n start : ℕ) (stays more : List Stay) (was stay : Stay)
-    → IsBucketed h ps n stays → IsPresence h n (get_or ps n no_presence) → start ≡ (get_or ps n no_presence).start → start < length h
+    → IsBucketed h ps n stays → IsPresence h n (get_or ps n no_presence) → start ≡ (get_or ps n no_presence).start → start < length h → n < length h
     → was ≡ get_or stays start no_stay → IsLonger was (record { put = n; gone = (get_or ps n no_presence).gone }) stay → more ≡ set stays start stay → IsBucketed h ps (n + 1) more
-bucketed_more h ps n start stays more was stay b r is inside at longer e =
+bucketed_more h ps n start stays more was stay b r is inside inside_n at longer e =
     let size = b.sized in
     let here : start < length stays = omega (arith, size, inside) in
     let at_start : get_or more start no_stay ≡ stay = ap (λ (l : List Stay). get_or l start no_stay) e ∙ rw get_or-set_same refl in
@@ -104,6 +116,17 @@ bucketed_more h ps n start stays more was stay b r is inside at longer e =
             ]
             )
       ];
+      held = λ c lt some. elim (cases_eq c start) [
+        | inl same ↦ (
+            let now = ap (λ w. (get_or more w no_stay).gone) same ∙ ap (λ w. w.gone) at_start in
+            let H : Stay → Type 0 = λ w. 0 < w.gone → IsHeld h ps start w in
+            let a = ap (λ w. w.gone) at in
+            let old : H was = λ up. let o = b.held start inside (omega (arith, up, a)) in (o.0, o.1, o.2, o.3 ∙ sym a) in
+            let o = longer_held h ps start was (record { put = n; gone = (get_or ps n no_presence).gone }) stay longer old (λ up. (n, inside_n, omega (arith, is), refl)) (omega (arith, some, now)) in
+            (o.0, o.1, (let le = o.2 in omega (arith, le, same)), o.3 ∙ sym now)
+            )
+        | inr ne ↦ (let a = ap (λ w. w.gone) (elsewhere c ne) in let o = b.held c lt (omega (arith, some, a)) in (o.0, o.1, o.2, o.3 ∙ sym a))
+      ];
     }
 
 -- ---- the longest so far
@@ -114,6 +137,8 @@ pub record IsLongest (h : List Call) (ps : List Presence) (found : List Stay) (b
   pub best_longest : (p : ℕ) → p < length h → (get_or ps p no_presence).start < n → (get_or ps p no_presence).gone ≤ best.gone
   pub real : (c : ℕ) → c < n → IsStay h c (get_or found c no_stay)
   pub longest : (c p : ℕ) → c < n → p < length h → (get_or ps p no_presence).start ≤ c → (get_or ps p no_presence).gone ≤ (get_or found c no_stay).gone
+  pub best_held : 0 < best.gone → (c : ℕ) × (c < n) × IsHeld h ps c best
+  pub held : (c : ℕ) → c < n → 0 < (get_or found c no_stay).gone → IsHeld h ps c (get_or found c no_stay)
 
 pub longest_more : (h : List Call) (ps : List Presence) (stays found more : List Stay) (best stay next : Stay) (n : ℕ)
     → IsHistory h → IsBucketed h ps (length h) stays → n < length h → stay ≡ get_or stays n no_stay → IsLonger best stay next → more ≡ found ++ next ∷ [] → IsLongest h ps found best n → IsLongest h ps more next (n + 1)
@@ -130,6 +155,8 @@ longest_more h ps stays found more best stay next n v b inside at longer e l =
     let before : (c : ℕ) → c < n → get_or more c no_stay ≡ get_or found c no_stay = λ c lt. ap (λ (l : List Stay). get_or l c no_stay) e ∙ get_or_append_left found (next ∷ []) no_stay c (let i : c < length found = omega (arith, size, lt) in i) in
     let last : get_or more n no_stay ≡ next = ap (λ (l : List Stay). get_or l n no_stay) e ∙ (ap (λ w. get_or (found ++ next ∷ []) w no_stay) (sym size) ∙ get_or-append_seam found next [] no_stay) in
     let length_more = ap length e in
+    let K : Stay → Type 0 = λ w. 0 < w.gone → IsHeld h ps n w in
+    let new_held : K next = longer_held h ps n best stay next longer (λ up. let o = l.best_held up in let lt = o.1 in held_later h ps o.0 n best (omega (arith, lt)) o.2) (subst K (sym at) (b.held n inside)) in
     record {
       sized = omega (arith, length_more, length-append found (next ∷ []), size);
       best_real = λ c le lt. stay_later h n c next v (omega (arith, le)) lt here;
@@ -148,6 +175,16 @@ longest_more h ps stays found more best stay next n v b inside at longer e l =
             omega (arith, le, a, z)
             )
       ];
+      best_held = λ up. (n, omega arith, new_held up);
+      held = λ c lt. elim (cases_lt c n) [
+        | inl below ↦ (let P : Stay → Type 0 = λ w. 0 < w.gone → IsHeld h ps c w in subst P (sym (before c below)) (l.held c below))
+        | inr ge ↦ (
+            let same : c ≡ n = omega (arith, ge, lt) in
+            let P : Stay → Type 0 = λ w. 0 < w.gone → IsHeld h ps n w in
+            let R : ℕ → Type 0 = λ w. 0 < (get_or more w no_stay).gone → IsHeld h ps w (get_or more w no_stay) in
+            subst R (sym same) (subst P (sym last) new_held)
+            )
+      ];
     }
 
 pub longest_all : (h : List Call) (ps : List Presence) (found : List Stay) (best : Stay) (n : ℕ) → ArePresences h (length h) ps → IsLongest h ps found best n → n ≡ length h → AreStays h found
@@ -161,3 +198,13 @@ longest_all h ps found best n are l e = record {
       let ge = f.1 in
       omega (arith, le, ge);
 }
+
+pub longest_held : (h : List Call) (ps : List Presence) (found : List Stay) (best : Stay) (n : ℕ) → ArePresences h (length h) ps → IsLongest h ps found best n → n ≡ length h → AreLongest ps found
+longest_held h ps found best n are l e =
+    let size = are.0 in
+    let all = l.sized in
+    record {
+      sized = omega (arith, size, all, e);
+      longest = λ c p lt in_p from. l.longest c p (omega (arith, lt, size, e)) (omega (arith, in_p, size)) from;
+      held = λ c lt some. let o = l.held c (omega (arith, lt, size, e)) some in let in_q = o.1 in (o.0, omega (arith, in_q, size), o.2, o.3);
+    }

@@ -16,7 +16,10 @@ use Rattle.kfifo_verdict.specs.declared.tallies.Tally.{Tally}
 use Rattle.kfifo_verdict.specs.declared.presences.Presence.{Presence}
 use Rattle.kfifo_verdict.specs.declared.presences.Items.{Items}
 use Rattle.kfifo_verdict.specs.declared.finding.Stay.{Stay}
-use Rattle.kfifo_verdict.specs.Evidence.{count_below, IsCertainlyThere, IsOlder}
+use Rattle.kfifo_verdict.specs.declared.finding.Covered.{Covered}
+use Rattle.kfifo_verdict.specs.declared.finding.Covered.TheVariants.{Whole, Gap}
+use Rattle.kfifo_verdict.specs.Evidence.{Puts, Gets, count_below, IsSingle, IsCertainlyThere, IsNotEmpty, IsOlder}
+use Rattle.kfifo_verdict.specs.Judging.{FoundNotEmpty}
 
 abbrev pub IsDeed : Effect → Deed → Type 0
 IsDeed e (PutIn x) = e ≡ Adds x
@@ -70,6 +73,12 @@ ArePuts h m = IsTallied h In (length h) (tally_in m)
 abbrev pub AreGets : List Call → BTreeMap ℕ Tally → Type 0
 AreGets h m = IsTallied h Out (length h) (tally_in m)
 
+-- Of a single item: its put, the first call that the put precedes, and the call that gets it, or the number of calls.
+pub record IsKnown (h : List Call) (x p : ℕ) (s : Presence) : Type 0 where
+  pub single : IsSingle h x p
+  pub start : IsStart h (call h p).end s.start
+  pub gone : ((s.gone ≡ length h) × ((g : ℕ) → Gets h x g → ⊥)) ⊎ Gets h x s.gone
+
 -- When the item that call p puts is certainly there, or never.
 pub record IsPresence (h : List Call) (p : ℕ) (s : Presence) : Type 0 where
   pub there : (c moment : ℕ) → s.start ≤ c → c < s.gone → c < length h → first_of h c ≤ moment
@@ -77,6 +86,8 @@ pub record IsPresence (h : List Call) (p : ℕ) (s : Presence) : Type 0 where
   pub until : (moment : ℕ) → IsCertainlyThere h p moment → s.gone < length h → moment < first_of h s.gone
   pub from : (c : ℕ) → c < length h → IsCertainlyThere h p (first_of h c) → (s.start ≤ c) × (c < s.gone)
   pub older : (g put after : ℕ) → put < length h → IsStart h (call h g).end after → IsOlder h g put p ↔ ((s.start ≤ put) × (after ≤ s.gone))
+  pub known : (x : ℕ) → IsSingle h x p → IsKnown h x p s
+  pub real : 0 < s.gone → (x : ℕ) × Puts h x p
 
 abbrev pub no_presence : Presence
 no_presence = record { start = 0; gone = 0 }
@@ -99,6 +110,18 @@ pub record AreStays (h : List Call) (stays : List Stay) : Type 0 where
   pub real : (c : ℕ) → c < length h → IsStay h c (slice_index_or stays c no_stay)
   pub found : (c p : ℕ) → c < length h → IsCertainlyThere h p (first_of h c) → c < (slice_index_or stays c no_stay).gone
 
+-- for each call the time until which the longest item stays that is there from it or an earlier one on
+pub record AreLongest (ps : List Presence) (stays : List Stay) : Type 0 where
+  pub sized : length stays ≡ length ps
+  pub longest : (c p : ℕ) → c < length ps → p < length ps → (slice_index_or ps p no_presence).start ≤ c → (slice_index_or ps p no_presence).gone ≤ (slice_index_or stays c no_stay).gone
+  pub held : (c : ℕ) → c < length ps → 0 < (slice_index_or stays c no_stay).gone
+      → (q : ℕ) × (q < length ps) × ((slice_index_or ps q no_presence).start ≤ c) × ((slice_index_or ps q no_presence).gone ≡ (slice_index_or stays c no_stay).gone)
+
+-- Whether items are certainly there at each moment of call e, or at the beginning of call n none is.
+abbrev pub IsCovered : List Call → List Stay → ℕ → Covered → Type 0
+IsCovered h stays e (Whole puts) = IsNotEmpty h e puts.items
+IsCovered h stays e (Gap n) = (FoundNotEmpty h e → ⊥) × (e ≤ n) × (n < length h) × (EndsBelow (call h e).end (first_of h n) → ⊥) × ((slice_index_or stays n no_stay).gone ≤ n)
+
 -- the calls by their items
 pub record IsIndexed (h : List Call) (items : Items) : Type 0 where
   pub puts : ArePuts h items.puts
@@ -112,6 +135,8 @@ pub record IsBucketed (h : List Call) (ps : List Presence) (n : ℕ) (stays : Li
   pub real : (c : ℕ) → c < length h → IsStay h c (slice_index_or stays c no_stay)
   pub longest : (p c : ℕ) → p < n → c < length h → (slice_index_or ps p no_presence).start ≡ c
       → (slice_index_or ps p no_presence).gone ≤ (slice_index_or stays c no_stay).gone
+  pub held : (c : ℕ) → c < length h → 0 < (slice_index_or stays c no_stay).gone
+      → (q : ℕ) × (q < length h) × ((slice_index_or ps q no_presence).start ≤ c) × ((slice_index_or ps q no_presence).gone ≡ (slice_index_or stays c no_stay).gone)
 
 -- the item is certainly there from call `put` on, and got by no call below `after`
 abbrev pub outlast : ℕ → ℕ → Presence → Bool

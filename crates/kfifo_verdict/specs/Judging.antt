@@ -1,14 +1,14 @@
 -- What the calls answer.
-use Rattle.std.specs.Prelude.{ℕ, ◌-◌, ◌<◌, ◌≤◌, List, Option, Some, None}
+use Rattle.std.specs.Prelude.{ℕ, ◌-◌, ◌<◌, ◌≤◌, List, Option, Some, None, length}
 use Rattle.kfifo_model.specs.declared.calls.Call.{Call}
-use Rattle.kfifo_model.specs.Histories.{IsLegal}
+use Rattle.kfifo_model.specs.Histories.{IsFinished, IsLegal}
 use Rattle.kfifo_model.specs.Searching.{HasOrder}
 use Rattle.kfifo_verdict.specs.declared.verdicts.Evidence.{Evidence}
 use Rattle.kfifo_verdict.specs.declared.verdicts.Evidence.TheVariants.{NeverPut, TakenTwice, NotEmpty, TooYoung}
 use Rattle.kfifo_verdict.specs.declared.verdicts.Judgement.{Judgement}
 use Rattle.kfifo_verdict.specs.declared.verdicts.Judgement.TheVariants.{Legal, NoOrder, Undecided}
 use Rattle.kfifo_verdict.specs.declared.verdicts.Bounds.{Bounds}
-use Rattle.kfifo_verdict.specs.Evidence.{IsNeverPut, IsTakenTwice, IsNotEmpty, IsTooYoung}
+use Rattle.kfifo_verdict.specs.Evidence.{Puts, IsSingle, IsNeverPut, IsTakenTwice, IsNotEmpty, IsTooYoung}
 
 -- some puts show it of this call
 abbrev pub FoundNotEmpty : List Call → ℕ → Type 0
@@ -38,11 +38,21 @@ IsFirstEvidence k h (NotEmpty empty puts) =
 IsFirstEvidence k h (TooYoung get puts) =
     Never (IsNeverPut h) × Never (IsTakenTwice h) × Never (FoundNotEmpty h) × IsTooYoung k h get puts.items × NeverBefore (GotTooYoung k h) get
 
+-- each item that is put is single, and each call has ended
+abbrev pub IsPlain : List Call → Type 0
+IsPlain h = ((x p : ℕ) → Puts h x p → IsSingle h x p) × ((c : ℕ) → c < length h → IsFinished h c)
+
 -- a verdict
 abbrev pub IsJudgement : ℕ → List Call → Judgement → Type 0
 IsJudgement k h (Legal order) = IsLegal k h order.items
 IsJudgement k h (NoOrder found) = IsFirstEvidence k h found × (HasOrder k h → ⊥)
 IsJudgement k h Undecided = HasNoEvidence k h
+
+-- the verdict says whether there is a legal order
+abbrev pub IsDecided : Judgement → Type 0
+IsDecided (Legal order) = Unit {0}
+IsDecided (NoOrder found) = Unit {0}
+IsDecided Undecided = ⊥
 
 -- one more than the greatest number of items that are certainly older and there at a get of a single item
 pub record IsLowerBound (h : List Call) (bound : ℕ) : Type 0 where

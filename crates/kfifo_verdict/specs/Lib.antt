@@ -1,3 +1,4 @@
 pub mod Evidence
 pub mod Finding
 pub mod Judging
+pub mod Plain

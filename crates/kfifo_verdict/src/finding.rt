@@ -5,7 +5,7 @@ ghost use Rattle.kfifo_model.specs.Relaxed.{Takes, Finds_none};
 ghost use Rattle.kfifo_model.specs.Validity.{IsHistory};
 ghost use Rattle.kfifo_model.specs.Searching.{HasOrder};
 ghost use Rattle.kfifo_verdict.specs.Evidence.{IsNeverPut, IsTakenTwice, IsNotEmpty, IsTooYoung, IsSingle, Gets, count_below};
-ghost use Rattle.kfifo_verdict.specs.Finding.{ArePuts, AreGets, ArePresences, IsIndexed, AreStays, IsBucketed, outlast, lasts_at};
+ghost use Rattle.kfifo_verdict.specs.Finding.{ArePuts, AreGets, ArePresences, IsIndexed, AreStays, AreLongest, IsBucketed, IsCovered, outlast, lasts_at};
 ghost use Rattle.kfifo_verdict.specs.Finding.{AreSkips, IsCountedTo, AreFirst, first_of};
 ghost use Rattle.kfifo_verdict.specs.Judging.{FoundNotEmpty, GotTooYoung, Never, NeverBefore, HasNoEvidence, IsFirstEvidence};
 
@@ -116,14 +116,15 @@ fn stays_from(
 }
 
 /// For each call, of the items that are certainly there from that call or an earlier one on the one that stays longest.
-fn longest_stays(
+pub(crate) fn longest_stays(
     alloc: Global,
     calls: &[Call],
     presences: &[Presence],
 ) -> Result<Vec<Stay>, AllocError>
     requires history { IsHistory calls.now }
     requires presences { ArePresences calls.now (length calls.now) presences.now }
-    ensures { IfOk result (λ v. AreStays calls.now v.items) }
+    ensures stays { IfOk result (λ v. AreStays calls.now v.items) }
+    ensures longest { IfOk result (λ v. AreLongest presences.now v.items) }
 {
     let stays = stays_from(alloc, calls, presences)?;
     let mut longest = Vec::with_capacity(alloc, stays.len())?;
@@ -143,30 +144,39 @@ fn reaches(calls: &[Call], from: usize, n: usize) -> bool
     n < calls.len() && !ends_before(&calls[from], calls[n].first)
 }
 
-/// Puts of items of which one is certainly there at each moment of a call, or none where there are no such.
-fn cover(
+/// Whether items are certainly there throughout a call.
+#[derive(Debug, PartialEq, Eq, Drop)]
+pub(crate) enum Covered {
+    /// At each moment of the call the item of one of these puts is.
+    Whole(Vec<usize>),
+    /// None is as this call begins, which is a moment of the call.
+    Gap(usize),
+}
+
+/// Puts of items of which one is certainly there at each moment of a call, or a moment at which none is.
+pub(crate) fn cover(
     alloc: Global,
     calls: &[Call],
     stays: &[Stay],
     empty: usize,
-) -> Result<Option<Vec<usize>>, AllocError>
+) -> Result<Covered, AllocError>
     requires history { IsHistory calls.now }
     requires stays { AreStays calls.now stays.now }
     requires inside { empty < length calls.now }
     requires found { does calls.now empty ≡ Finds_none }
-    ensures { IfOk result (λ found. MatchOption found (FoundNotEmpty calls.now empty → ⊥) (λ puts. IsNotEmpty calls.now empty puts.items)) }
+    ensures { IfOk result (IsCovered calls.now stays.now empty) }
 {
     let mut puts = Vec::new(alloc);
     let mut n = empty;
     while reaches(calls, empty, n) {
         let stay = stays[n];
         if stay.gone <= n {
-            return Ok(None);
+            return Ok(Covered::Gap(n));
         }
         puts.push(stay.put)?;
         n = stay.gone;
     }
-    Ok(Some(puts))
+    Ok(Covered::Whole(puts))
 }
 
 /// The first call that was answered Empty while there were items.
@@ -182,7 +192,7 @@ fn not_empty(
 {
     for n in 0..calls.len() {
         if let Deed::FoundNone = deed_of(&calls[n]) {
-            if let Some(puts) = cover(alloc, calls, stays, n)? {
+            if let Covered::Whole(puts) = cover(alloc, calls, stays, n)? {
                 return Ok(Some((n, puts)));
             }
         }

@@ -1,23 +1,31 @@
 //! Verdicts, and bounds of k.
-ghost use Rattle.std.specs.Prelude.{◌≤◌, IfOk};
+ghost use Rattle.std.specs.Prelude.{◌≡◌, ◌≤◌, IfOk};
 ghost use Rattle.kfifo_model.specs.Validity.{IsHistory};
-ghost use Rattle.kfifo_verdict.specs.Judging.{IsJudgement, IsLowerBound, AreBounds};
+ghost use Rattle.kfifo_verdict.specs.Judging.{IsJudgement, IsPlain, IsDecided, IsLowerBound, AreBounds};
 
 use crate::finding::{evidence, no_skips, older_at};
 use crate::presences::Items;
+use crate::turns::order_of_plain;
 use crate::verdicts::{Bounds, Judgement};
 use crate::walking::witness;
 use kfifo_model::{Call, History};
 use std::alloc::{AllocError, Global};
 
 /// A verdict on the history for a queue that may give any of its k oldest items: an order that is legal, found with at
-/// most `tries` choices undone, or evidence that none is, or neither.
+/// most `tries` choices undone, or evidence that none is, or neither. With k = 1, where each item that is put is put by one
+/// call and got by at most one, and each call has ended, it is never neither, whatever `tries` is.
 pub fn judge(alloc: Global, history: &History, k: u32, tries: u64) -> Result<Judgement, AllocError>
     requires { (1 ≤ k) × (k ≤ 64) }
-    ensures { IfOk result (IsJudgement k history.now) }
+    ensures judgement { IfOk result (IsJudgement k history.now) }
+    ensures complete { k ≡ 1 → IsPlain history.now → IfOk result IsDecided }
 {
     if let Some(found) = evidence(alloc, history, k)? {
         return Ok(Judgement::NoOrder(found));
+    }
+    if k == 1 {
+        if let Some(order) = order_of_plain(alloc, history.calls())? {
+            return Ok(Judgement::Legal(order));
+        }
     }
     match witness(alloc, history, k, tries)? {
         Some(order) => Ok(Judgement::Legal(order)),

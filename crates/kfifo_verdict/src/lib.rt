@@ -7,6 +7,7 @@ mod judging;
 mod pairing;
 mod presences;
 mod tallies;
+mod turns;
 mod verdicts;
 mod walking;
 

@@ -275,6 +275,18 @@ impl Simulation {
         Ok(())
     }
 
+    /// The calls that have begun end.
+    fn end_all(&mut self, k: usize) -> Result<(), AllocError> {
+        for thread in 0..self.current.len() {
+            for _ in 0..2 {
+                if thread < self.current.len() && self.current[thread].is_some() {
+                    self.step(thread, k, 0)?;
+                }
+            }
+        }
+        Ok(())
+    }
+
     fn into_calls(self) -> Vec<Call> {
         let Simulation { calls, .. } = self;
         calls
@@ -295,6 +307,42 @@ fn simulated(
         simulation.step(thread, k, limit)?;
     }
     Ok(simulation.into_calls())
+}
+
+/// The same with all calls finished, on a queue that gives its oldest item.
+fn finished(
+    alloc: Global,
+    threads: usize,
+    limit: usize,
+    seed: u64,
+) -> Result<Vec<Call>, AllocError> {
+    let mut simulation = Simulation::new(alloc, threads, seed)?;
+    for _ in 0..limit.saturating_mul(3) {
+        let thread = simulation.draw(threads);
+        simulation.step(thread, 1, limit)?;
+    }
+    simulation.end_all(1)?;
+    Ok(simulation.into_calls())
+}
+
+/// Two puts that overlap, of which the item of the second is got before that of the first is called for.
+fn crossed(alloc: Global) -> Result<History, RecordFault> {
+    let mut calls = Vec::new(alloc);
+    calls.push(put(0, 1, 0, 10))?;
+    calls.push(put(1, 2, 1, 9))?;
+    calls.push(got(2, 2, 2, 3))?;
+    calls.push(got(2, 1, 11, 12))?;
+    History::new(calls)
+}
+
+/// An Empty that fits only between the get of one item and the put of another.
+fn between(alloc: Global) -> Result<History, RecordFault> {
+    let mut calls = Vec::new(alloc);
+    calls.push(put(0, 1, 0, 1))?;
+    calls.push(empty(1, 2, 9))?;
+    calls.push(got(2, 1, 4, 7))?;
+    calls.push(put(0, 2, 5, 6))?;
+    History::new(calls)
 }
 
 /// Three calls after each other: item 2 is got before item 1, which was put before it.
@@ -378,6 +426,19 @@ fn not_empty(rt: HostRuntime) -> Result<(), Fail> {
     let other = uncovered(rt.alloc())?;
     assert_eq!(rt; evidence(rt.alloc(), &other, 1)?, None);
     assert!(rt; witness(rt.alloc(), &other, 1, 0)?.is_some());
+    Ok(())
+}
+
+#[test]
+fn plain_orders(rt: HostRuntime) -> Result<(), Fail> {
+    let history = crossed(rt.alloc())?;
+    let order = vec![in rt.alloc(); 1, 0, 2, 3]?;
+    let judgement = judge(rt.alloc(), &history, 1, 0)?;
+    assert_eq!(rt; judgement, Judgement::Legal(order));
+    let other = between(rt.alloc())?;
+    let order = vec![in rt.alloc(); 0, 2, 1, 3]?;
+    let judgement = judge(rt.alloc(), &other, 1, 0)?;
+    assert_eq!(rt; judgement, Judgement::Legal(order));
     Ok(())
 }
 
@@ -480,6 +541,24 @@ fn queues_that_ran(rt: HostRuntime) -> Result<(), Fail> {
     assert_eq!(rt; is_told_apart(rt.alloc(), 4, 1, 7)?, (true, false));
     assert_eq!(rt; is_told_apart(rt.alloc(), 8, 1, 8)?, (true, false));
     assert_eq!(rt; is_told_apart(rt.alloc(), 8, 4, 9)?, (true, false));
+    Ok(())
+}
+
+#[test]
+fn longest_plain_history(rt: HostRuntime) -> Result<(), Fail> {
+    for threads in [1usize, 8, 64] {
+        let calls = finished(rt.alloc(), threads, 65_536, 7)?;
+        let history = History::new(calls)?;
+        let start = Instant::now(&rt)?;
+        let judgement = judge(rt.alloc(), &history, 1, 0)?;
+        let judged = start.elapsed(&rt)?;
+        let is_legal = match judgement {
+            Judgement::Legal(_) => true,
+            _ => false,
+        };
+        assert!(rt; is_legal);
+        eprintln!(rt; "threads {threads}: judge {judged:?}")?;
+    }
     Ok(())
 }
 

@@ -1,22 +1,18 @@
 //! The command `check`: whether a record has a legal order, or whether a given order of it is legal.
-ghost use Rattle.std.specs.Prelude.{◌≡◌, ◌≤◌, IfOk};
+ghost use Rattle.std.specs.Prelude.{IfOk};
 ghost use Rattle.clap.specs.Words.{found_of};
 ghost use Rattle.kfifo.specs.CommandLine.{IsCommand, check_command};
-ghost use Rattle.kfifo.specs.Options.{GivesCheck, GivesPlaces};
+ghost use Rattle.kfifo.specs.Options.{GivesCheck};
 
 use crate::options;
-use clap::{ArgMatches, Command, value_parser};
+use clap::{ArgMatches, Command};
 use kfifo_commands::CheckOptions;
 use std::alloc::{AllocError, Global};
 
 /// The name of the command.
 pub const NAME: &str = "check";
 
-const K: &str = "k";
-
 const ORDER: &str = "order";
-
-const DEFAULT_K: u32 = 2;
 
 const EXAMPLES: &str = "\
 Examples:
@@ -83,21 +79,14 @@ docs/JUDGE.md and docs/PROGRAM.md, where this program comes from, say more.";
 pub fn command<'a>(alloc: Global) -> Result<Command<'a>, AllocError>
     ensures { IfOk result (IsCommand check_command) }
 {
-    let k = options::option(alloc, K)
-        .value_name("PLACES")
-        .value_parser(value_parser!(u32).range(1..=64))
-        .default_value("2")
-        .short('k')
-        .help("A dequeue takes one of the k oldest items, 1 to 64");
     let order = options::option(alloc, ORDER).value_name("CALLS").help(
         "The order to judge: call numbers joined by commas, none for the empty order, or @FILE",
     );
-    Command::new(alloc, NAME)
+    let command = Command::new(alloc, NAME)
         .about("Reads a record of calls, and says whether an order of them is legal")
         .after_help(EXAMPLES)
-        .after_long_help(DETAILS)
-        .arg(k)?
-        .arg(order)
+        .after_long_help(DETAILS);
+    options::with_places(alloc, command)?.arg(order)
 }
 
 /// What the options give.
@@ -105,15 +94,7 @@ pub fn options_of<'a>(matches: &'a ArgMatches<'_>) -> CheckOptions<'a>
     ensures { GivesCheck (found_of matches.now) result }
 {
     CheckOptions {
-        k: places_of(matches),
+        k: options::places_of(matches),
         order: matches.get_str(ORDER),
     }
-}
-
-/// The option `--k`, 1 to 64: the option admits no other.
-fn places_of(matches: &ArgMatches<'_>) -> u32
-    ensures given { GivesPlaces (found_of matches.now) result }
-    ensures range { (1 ≤ result) × (result ≤ 64) }
-{
-    options::count_of(matches, K, DEFAULT_K).max(1).min(64)
 }

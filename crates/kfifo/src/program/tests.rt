@@ -2,10 +2,12 @@
 
 mod closed;
 mod memory;
+mod recorded;
 mod records;
 mod replays;
 mod runs;
 mod usage;
+mod verdicts;
 
 use crate::program::program;
 use std::alloc::{AllocError, Global};
@@ -40,7 +42,7 @@ fn words(alloc: Global, texts: &[&str]) -> Result<Vec<String>, AllocError> {
 }
 
 /// Runs the program on these words and this input.
-fn run_from<R: Threads + Files + AllocGlobal, I: Read>(
+fn run_from<R: Threads + Files + AllocGlobal + Sync, I: Read>(
     rt: &R,
     texts: &[&str],
     input: &mut I,
@@ -58,17 +60,23 @@ fn run_from<R: Threads + Files + AllocGlobal, I: Read>(
 }
 
 /// Runs the program on these words and no input.
-fn run_words<R: Threads + Files + AllocGlobal>(rt: &R, texts: &[&str]) -> Result<Told, AllocError> {
+fn run_words<R: Threads + Files + AllocGlobal + Sync>(
+    rt: &R,
+    texts: &[&str],
+) -> Result<Told, AllocError> {
     run_from(rt, texts, &mut io::empty())
 }
 
 /// Runs the program on a line of words with a space between each two.
-fn run_line<R: Threads + Files + AllocGlobal>(rt: &R, line: &str) -> Result<Told, AllocError> {
+fn run_line<R: Threads + Files + AllocGlobal + Sync>(
+    rt: &R,
+    line: &str,
+) -> Result<Told, AllocError> {
     run_on(rt, line, "")
 }
 
 /// Runs the program on a line of words, and a text as its input.
-fn run_on<R: Threads + Files + AllocGlobal>(
+fn run_on<R: Threads + Files + AllocGlobal + Sync>(
     rt: &R,
     line: &str,
     text: &str,

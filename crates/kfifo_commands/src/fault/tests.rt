@@ -2,6 +2,7 @@
 
 use crate::fault::Fault;
 use crate::printing::Printer;
+use kfifo_live::OpenFault;
 use kfifo_model::{RecordFault, SearchFault};
 use kfifo_replay::ReplayFault;
 use kfifo_words::ShapeFault;
@@ -24,6 +25,7 @@ fn a_fault_shows_its_line(rt: HostRuntime) -> Result<(), Fail> {
             "replay fault 1 at 9",
         ),
         (Fault::Replay(ReplayFault::BadScript), "replay fault 3"),
+        (Fault::Open(OpenFault::CallsOutOfRange), "open fault 4"),
         (Fault::Memory, "memory"),
     ] {
         let text = format!(in rt.alloc(); "{fault}")?;

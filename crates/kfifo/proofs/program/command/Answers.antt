@@ -9,4 +9,7 @@ returns c =
     let one = adds_command _ _ c.in_ok-subcommand.field-0 _ _ bare c.in_ok-command.ensures c.in_ok-subcommand.ensures in
     let two = adds_command _ _ c.in_ok-subcommand-2.field-0 _ _ one c.in_ok-command-2.ensures c.in_ok-subcommand-2.ensures in
     let three = adds_command _ _ c.in_ok-subcommand-3.field-0 _ _ two c.in_ok-command-3.ensures c.in_ok-subcommand-3.ensures in
-    IfOk-weaker c.subcommand-4.result _ _ (λ r h. adds_command _ _ r _ _ three c.in_ok-command-4.ensures h) c.subcommand-4.ensures
+    let four = adds_command _ _ c.in_ok-subcommand-4.field-0 _ _ three c.in_ok-command-4.ensures c.in_ok-subcommand-4.ensures in
+    let five = adds_command _ _ c.in_ok-subcommand-5.field-0 _ _ four c.in_ok-command-5.ensures c.in_ok-subcommand-5.ensures in
+    let six = adds_command _ _ c.in_ok-subcommand-6.field-0 _ _ five c.in_ok-command-6.ensures c.in_ok-subcommand-6.ensures in
+    IfOk-weaker c.subcommand-7.result _ _ (λ r h. adds_command _ _ r _ _ six c.in_ok-command-7.ensures h) c.subcommand-7.ensures

@@ -32,3 +32,27 @@ returns-in-Some-subcommand_matches-3-clause-some c =
       named_as c.args.matches.now (codes "replay") (found_of found.options.now) (found.ensures.found.0 refl) found.ensures.rows,
       c.options_of-in-Some-subcommand_matches-3.ensures,
     )
+
+pub returns-in-Some-subcommand_matches-4-clause-some : goal.returns-in-Some-subcommand_matches-4-clause-some
+returns-in-Some-subcommand_matches-4-clause-some c =
+    let found = c.in-Some-subcommand_matches-4 in (
+      found_of found.options.now,
+      named_as c.args.matches.now (codes "judge") (found_of found.options.now) (found.ensures.found.0 refl) found.ensures.rows,
+      c.options_of-in-Some-subcommand_matches-4.ensures,
+    )
+
+pub returns-in-Some-subcommand_matches-5-clause-some : goal.returns-in-Some-subcommand_matches-5-clause-some
+returns-in-Some-subcommand_matches-5-clause-some c =
+    let found = c.in-Some-subcommand_matches-5 in (
+      found_of found.options.now,
+      named_as c.args.matches.now (codes "least") (found_of found.options.now) (found.ensures.found.0 refl) found.ensures.rows,
+      c.options_of-in-Some-subcommand_matches-5.ensures,
+    )
+
+pub returns-in-Some-subcommand_matches-6-clause-some : goal.returns-in-Some-subcommand_matches-6-clause-some
+returns-in-Some-subcommand_matches-6-clause-some c =
+    let found = c.in-Some-subcommand_matches-6 in (
+      found_of found.options.now,
+      named_as c.args.matches.now (codes "record") (found_of found.options.now) (found.ensures.found.0 refl) found.ensures.rows,
+      c.options_of-in-Some-subcommand_matches-6.ensures,
+    )

@@ -90,7 +90,7 @@ impl Write for Stopped {
 }
 
 /// The status of a run with these writers.
-fn status_of<R: Threads + Files + AllocGlobal, W: Write, F: Write>(
+fn status_of<R: Threads + Files + AllocGlobal + Sync, W: Write, F: Write>(
     rt: &R,
     texts: &[&str],
     output: &mut W,

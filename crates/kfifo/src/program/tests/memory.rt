@@ -63,7 +63,7 @@ enum Ended {
     Otherwise,
 }
 
-fn run_case<R: Threads + Files + AllocGlobal>(rt: &R, case: &Case) -> Ended {
+fn run_case<R: Threads + Files + AllocGlobal + Sync>(rt: &R, case: &Case) -> Ended {
     let Ok(words) = words(rt.alloc(), case.words.as_slice()) else {
         return Ended::Refused;
     };

@@ -34,3 +34,27 @@ returns-in_err-print-in-Replay-clause-broken g c = any_err c.from_residual-in_er
   rw (c.in-Replay.is, c.as_bytes-in-Replay.ensures.value) (c.in_ok-text-in-Replay.ensures.ok, refl),
   c.in_err-print-in-Replay.ensures.err,
 ))
+
+pub returns-in_err-print-in-Judge-clause-broken : goal.returns-in_err-print-in-Judge-clause-broken
+returns-in_err-print-in-Judge-clause-broken g c = any_err c.from_residual-in_err-print-in-Judge.result _ (λ fault is. (
+  c.as_slice-in-Judge.result.now,
+  status_number c.in_ok-text-in-Judge.status,
+  rw (c.in-Judge.is, c.as_slice-in-Judge.ensures.value) c.in_ok-text-in-Judge.ensures.ok,
+  c.in_err-print-in-Judge.ensures.err,
+))
+
+pub returns-in_err-print-in-Least-clause-broken : goal.returns-in_err-print-in-Least-clause-broken
+returns-in_err-print-in-Least-clause-broken g c = any_err c.from_residual-in_err-print-in-Least.result _ (λ fault is. (
+  c.as_slice-in-Least.result.now,
+  status_number c.in_ok-text-in-Least.status,
+  rw (c.in-Least.is, c.as_slice-in-Least.ensures.value) c.in_ok-text-in-Least.ensures.ok,
+  c.in_err-print-in-Least.ensures.err,
+))
+
+pub returns-in_err-print-in-Record-clause-broken : goal.returns-in_err-print-in-Record-clause-broken
+returns-in_err-print-in-Record-clause-broken g c = any_err c.from_residual-in_err-print-in-Record.result _ (λ fault is. (
+  c.as_bytes-in-Record.result.now,
+  0,
+  rw (c.in-Record.is, c.as_bytes-in-Record.ensures.value) (c.in_ok-text-in-Record.ensures.ok, refl),
+  c.in_err-print-in-Record.ensures.err,
+))

@@ -1,7 +1,7 @@
 use Rattle.std.proofs.Common.{◌≡◌, ◌<◌, length, ◌∙◌, arith}
 use Rattle.std.proofs.lemmas.List.{get_or_default}
 use Rattle.kfifo_verdict.specs.Finding.{no_stay}
-use Rattle.kfifo_verdict.proofs.Staying.{longest_more, longest_all}
+use Rattle.kfifo_verdict.proofs.Staying.{longest_more, longest_all, longest_held}
 use Rattle.kfifo_verdict.proofs.finding.longest_stays.Goals as goal
 
 pub loop-n-preserved : goal.loop-n-preserved
@@ -18,11 +18,20 @@ loop-n-preserved c =
     longest_more h c.args.presences.now stays c.loop-n.longest.items c.push.new.self.items c.loop-n.best c.index.result.now c.longer-best.result n c.requires.history b inside
     (c.index.ensures ∙ get_or_default stays n _ no_stay here) c.longer-best.ensures c.in_ok-push.ensures.items c.loop-n.invariant
 
-pub returns : goal.returns
-returns c =
+pub returns-clause-stays : goal.returns-clause-stays
+returns-clause-stays c =
     let size = c.in_ok-stays.ensures.sized in
     let end = c.len-n-end.ensures in
     let test = c.loop-n-test.false in
     let most = c.loop-n.auto.n-end in
     let all : c.loop-n.n ≡ length c.args.calls.now = omega (arith, size, end, test, most) in
     longest_all c.args.calls.now c.args.presences.now c.loop-n.longest.items c.loop-n.best c.loop-n.n c.requires.presences c.loop-n.invariant all
+
+pub returns-clause-longest : goal.returns-clause-longest
+returns-clause-longest c =
+    let size = c.in_ok-stays.ensures.sized in
+    let end = c.len-n-end.ensures in
+    let test = c.loop-n-test.false in
+    let most = c.loop-n.auto.n-end in
+    let all : c.loop-n.n ≡ length c.args.calls.now = omega (arith, size, end, test, most) in
+    longest_held c.args.calls.now c.args.presences.now c.loop-n.longest.items c.loop-n.best c.loop-n.n c.requires.presences c.loop-n.invariant all

@@ -1,0 +1,76 @@
+//! The command `record`: scripts, each run by a thread of its own, and the record of the run.
+ghost use Rattle.std.specs.Prelude.{◌≡◌, ◌≢◌, ◌⊎◌, ◌≤◌, ◌+◌, ℕ, IfOk, IfErr, length, string_bytes};
+ghost use Rattle.kfifo_judge.specs.Inputs.{IsRecordText};
+ghost use Rattle.kfifo_model.specs.declared.calls.Call.{Call};
+ghost use Rattle.kfifo_record.specs.Repeats.{IsFirstOver, all_repeated, last_shift};
+ghost use Rattle.kfifo_record.specs.Scripts.{AreScripts, scripts_in};
+ghost use Rattle.kfifo_commands.specs.Lines.{line};
+ghost use Rattle.kfifo_commands.specs.RealRuns.{IsRealRun, IsRealRunRefusal};
+ghost use Rattle.kfifo_commands.specs.RecordTexts as texts;
+ghost use Rattle.kfifo_commands.specs.Runs.{IsShapeOf};
+
+use crate::fault::Fault;
+use crate::options::RecordOptions;
+use crate::recording::record_text;
+use crate::words::read_scripts;
+use kfifo_machine::Begin;
+use kfifo_model::History;
+use kfifo_record::{OpenGate, first_over, record_scripts, repeat_scripts};
+use kfifo_words::Shape;
+use std::alloc::{AllocError, Global};
+use std::thread::Threads;
+
+/// The line of the record of a run. `threads` is the permission to start threads.
+pub fn answer<R: Threads + Sync>(
+    threads: &R,
+    alloc: Global,
+    options: RecordOptions<'_>,
+) -> Result<String, Fault>
+    ensures ok { IfOk result (λ text. IsRealRun options.entry (string_bytes text)) }
+    ensures err { IfErr result (λ fault. IsRealRunRefusal options.entry fault) }
+    ensures silent { IfErr result (λ fault. fault ≢ Fault.Output) }
+{
+    let shape = shape_of(options)?;
+    let once = read_scripts(alloc, options.scripts, shape.k(), options.turns)?;
+    let scripts = repeat(alloc, once.as_slice(), options.repeat)?;
+    let history = record_scripts(threads, alloc, shape, scripts.as_slice(), &OpenGate)?;
+    let text = line_of(alloc, &history)?;
+    Ok(text)
+}
+
+/// The shape of the sizes.
+fn shape_of(options: RecordOptions<'_>) -> Result<Shape, Fault>
+    ensures ok { IfOk result (IsShapeOf options.entry.sizes) }
+    ensures err { IfErr result (λ fault. IsRealRunRefusal options.entry fault) }
+    ensures silent { IfErr result (λ fault. fault ≢ Fault.Output) }
+{
+    options.sizes.shape().map_err(Fault::Shape)
+}
+
+/// The scripts made so many times over, with items of their own each time.
+fn repeat(alloc: Global, scripts: &[Vec<Begin>], count: u32) -> Result<Vec<Vec<Begin>>, Fault>
+    requires { 1 ≤ count }
+    ensures ok { let own = scripts_in scripts.now in IfOk result (λ made. scripts_in made.items ≡ all_repeated count own) }
+    ensures range { (shape : _) → AreScripts shape (scripts_in scripts.now) → IfOk result (λ made. AreScripts shape (scripts_in made.items)) }
+    ensures err { let own = scripts_in scripts.now in IfErr result (λ fault. (fault ≡ Fault.Memory)
+        ⊎ ((place : ℕ) × (fault ≡ Fault.Word (place + 1)) × IsFirstOver (last_shift count own) own place)) }
+{
+    match first_over(scripts, count) {
+        Some(place) => Err(Fault::Word(place + 1)),
+        None => {
+            let made = repeat_scripts(alloc, scripts, count)?;
+            Ok(made)
+        }
+    }
+}
+
+/// The line of the record of a history.
+fn line_of(alloc: Global, history: &History) -> Result<String, AllocError>
+    requires { length history.now ≤ 65536 }
+    ensures line { IfOk result (λ text. string_bytes text ≡ line (texts.record_text history.now)) }
+    ensures read_back { IfOk result (λ text. IsRecordText (texts.record_text history.now) history.now) }
+{
+    let mut text = record_text(alloc, history)?;
+    text.push('\n')?;
+    Ok(text)
+}

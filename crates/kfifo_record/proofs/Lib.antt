@@ -1,0 +1,3 @@
+pub mod Turns
+pub mod Ran
+pub mod Repeated

@@ -1,0 +1,64 @@
+-- Calls that a pass makes in turn, and what its log then has.
+use Rattle.std.proofs.Common.{◌≡◌, ◌<◌, ◌+◌, ℕ, suc, take, get_or, length-append, arith, List, [], ◌∷◌, ◌++◌, length, map, refl, sym, ap, ◌∙◌, append_assoc, append-nil, subst}
+use Rattle.std.specs.Prelude.{IsSome}
+use Rattle.std.proofs.Math.Seq.{take-suc}
+use Rattle.kfifo_model.specs.declared.calls.Call.{Call}
+use Rattle.kfifo_model.specs.Lists.{Each}
+use Rattle.kfifo_machine.specs.declared.event.Begin.{Begin}
+use Rattle.kfifo_machine.specs.Calls.{op_asked}
+use Rattle.kfifo_live.specs.Pass.{IsSame, Known}
+use Rattle.kfifo_live.specs.Stamps.{Logged, stamped_call}
+use Rattle.kfifo_record.specs.Scripts.{MakesInTurn, MakesOne}
+
+-- one more call
+pub makes_more : (script : List Begin) (begin : Begin) (old middle new : Logged) → MakesInTurn script old middle → MakesOne begin middle new → MakesInTurn (script ++ begin ∷ []) old new
+makes_more [] begin old middle new none one = (new, subst (λ (p : Logged). MakesOne begin p new) none one, refl)
+makes_more (first ∷ script) begin old middle new made one = (made.0, made.1, makes_more script begin made.0 middle new made.2 one)
+
+-- so the calls of a script up to a place, and the one at it
+pub turn : (script : List Begin) (i : ℕ) (d : Begin) (old middle new : Logged) → i < length script → MakesInTurn (take i script) old middle → MakesOne (get_or script i d) middle new
+    → MakesInTurn (take (i + 1) script) old new
+turn script i d old middle new less made one =
+    let e : i + 1 ≡ suc i = omega arith in
+    subst (λ (s : List Begin). MakesInTurn s old new) (sym (ap (λ (n : ℕ). take n script) e ∙ take-suc script i d less)) (makes_more (take i script) (get_or script i d) old middle new made one)
+
+-- and the log has one more
+pub longer : (begin : Begin) (middle new : Logged) (n : ℕ) → MakesOne begin middle new → length middle.log ≡ n → length new.log ≡ n + 1
+longer begin middle new n one is =
+    ap (λ (log : List Call). length log) one.1.1.log_is ∙ length-append middle.log _ ∙ ap (λ (m : ℕ). m + 1) is
+
+-- what the log has then: a call more for each of the script
+pub record Grown (script : List Begin) (old new : Logged) : Type 0 where
+  pub calls : List Call
+  pub log_is : new.log ≡ old.log ++ calls
+  pub ops : map (λ (c : Call). c.op) calls ≡ map op_asked script
+  pub mine : Each (λ c. c.thread ≡ old.pass.thread) calls
+  pub ended : Each (λ c. IsSome c.end) calls
+  pub same : IsSame old.pass new.pass
+
+pub then_same : (p q r : Known) → IsSame p q → IsSame q r → IsSame p r
+then_same p q r a b = (b.0 ∙ a.0, b.1 ∙ a.1, b.2 ∙ a.2)
+
+pub grown : (script : List Begin) (old new : Logged) → MakesInTurn script old new → Grown script old new
+grown [] old new made = record {
+  calls = [];
+  log_is = ap (λ (p : Logged). p.log) made ∙ sym (append-nil old.log);
+  ops = refl;
+  mine = tt;
+  ended = tt;
+  same = (ap (λ (p : Logged). p.pass.table) made, ap (λ (p : Logged). p.pass.opened) made, ap (λ (p : Logged). p.pass.thread) made);
+}
+grown (begin ∷ script) old new made =
+    let next = made.0 in
+    let same = made.1.0 in
+    let stamped = made.1.1.1 in
+    let later = grown script next new made.2 in
+    let call = stamped_call old.pass.thread (op_asked begin) stamped.first stamped.last made.1.1.0 in
+    record {
+      calls = call ∷ later.calls;
+      log_is = later.log_is ∙ ap (λ log. log ++ later.calls) stamped.log_is ∙ append_assoc old.log (call ∷ []) later.calls;
+      ops = ap (λ ops. op_asked begin ∷ ops) later.ops;
+      mine = (refl, subst (λ (thread : ℕ). Each (λ c. c.thread ≡ thread) later.calls) same.2 later.mine);
+      ended = (refl, later.ended);
+      same = then_same old.pass next.pass new.pass same later.same;
+    }

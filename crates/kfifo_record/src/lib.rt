@@ -1,0 +1,12 @@
+//! Records of real runs: scripts of calls, each run by a thread of its own on one queue.
+#![tactic(auto)]
+
+mod gate;
+mod repeating;
+mod running;
+#[cfg(test)]
+mod tests;
+
+pub use gate::{Gate, OpenGate};
+pub use repeating::{first_over, repeat_scripts};
+pub use running::record_scripts;

@@ -1,0 +1,22 @@
+use Rattle.std.proofs.Common.{ℕ, List, length, sym, subst}
+use Rattle.std.proofs.lemmas.Result.{IfOk-weaker}
+use Rattle.kfifo_verdict.specs.declared.presences.Presence.{Presence}
+use Rattle.kfifo_verdict.specs.declared.turns.Turn.{Turn}
+use Rattle.kfifo_verdict.specs.Finding.{ArePresences}
+use Rattle.kfifo_verdict.specs.Plain.{IsLine, AreTurns}
+use Rattle.kfifo_verdict.proofs.Turning.{IsScene, legal_by_turns}
+use Rattle.kfifo_verdict.proofs.turns.plain_order.Goals as goal
+
+pub returns : goal.returns
+returns c =
+    let h = c.args.calls.now in
+    let ps = c.as_slice-presences.result.now in
+    let line = c.as_slice-line.result.now in
+    let ts = c.as_slice-3.result.now in
+    let P : List Presence → Type 0 = λ w. ArePresences h (length h) w in
+    let L : List (ℕ × ℕ × ℕ) → Type 0 = λ w. IsLine h ps w in
+    let T : List Turn → Type 0 = λ w. AreTurns h ps line (length line) w in
+    let scene : IsScene h ps = record { history = c.requires.history; plain = c.requires.plain; are = subst P (sym c.as_slice-presences.ensures.value) c.requires.items.presences; clear = c.requires.clear } in
+    let is_line = subst L (sym c.as_slice-line.ensures.value) c.in_ok-places.ensures in
+    let turns = subst T (sym c.as_slice-3.ensures.value) c.with_items-turns.ensures in
+    IfOk-weaker c.by_turns.result _ _ (λ order b. legal_by_turns h ps line ts scene is_line turns order.items b) c.by_turns.ensures

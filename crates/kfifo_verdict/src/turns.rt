@@ -1,0 +1,245 @@
+//! A legal order of the calls of a plain history for k = 1.
+//!
+//! Moments are numbers of calls. Each item goes in as late as it may: its put may not end before, nor its get, nor the put of
+//! an item whose get begins after that get. The items stand in line by these moments, and each goes out as soon as its get
+//! has begun and those before it are out. So the list is empty as each call begins at which no item is certainly there.
+ghost use Rattle.std.specs.Prelude.{ℕ, ◌≡◌, ◌+◌, ◌<◌, ◌≤◌, ◌↔◌, ◌^◌, IsTrue, List, length, map, slice_index_or, IfOk, IfSome, IsSome};
+ghost use Rattle.kfifo_model.specs.Histories.{IsLegal};
+ghost use Rattle.kfifo_model.specs.Validity.{IsHistory};
+ghost use Rattle.kfifo_verdict.specs.Finding.{ArePresences, AreStays, AreLongest, IsIndexed};
+ghost use Rattle.kfifo_verdict.specs.Judging.{HasNoEvidence, IsPlain};
+ghost use Rattle.kfifo_verdict.specs.Plain.{presence, IsLate, IsDue, ArePlaces, IsLine, AreIdle, AreTurns, AreNumbered, IsByTurns};
+
+use crate::deeds::{Deed, deed_of, first_after};
+use crate::finding::{Covered, Stay, cover, longest_stays};
+use crate::presences::{Items, Presence};
+use crate::tallies::tally_of;
+use kfifo_model::Call;
+use std::alloc::{AllocError, Global};
+
+/// The place of an item in the line: by when it has to be in, by when out, and its put.
+type Place = (usize, usize, usize);
+
+/// When a call has its turn: at a moment, and of those at one moment by rising rank.
+#[derive(Clone, Copy, Debug, PartialEq, Eq)]
+pub(crate) struct Turn {
+    /// The number of the call as which begins the moment begins.
+    pub moment: usize,
+    /// Puts have lower ranks than gets, and gets than other calls.
+    pub rank: usize,
+}
+
+/// The first call that the get of an item precedes, or one past the end of all calls where none gets it.
+fn late_of(calls: &[Call], gone: usize) -> usize
+    requires { IsHistory calls.now }
+    ensures { IsLate calls.now gone result }
+{
+    if gone < calls.len() {
+        first_after(calls, &calls[gone])
+    } else {
+        calls.len() + 1
+    }
+}
+
+/// The call that gets the item of a put, or the number of calls.
+fn gone_of(presences: &[Presence], put: usize) -> usize
+    requires { put < length presences.now }
+    ensures { result ≡ (presence presences.now put).gone }
+{
+    presences[put].gone
+}
+
+/// By when the item of put p has to be in, if it has to be out by `late`.
+fn due_of(presences: &[Presence], stays: &[Stay], p: usize, late: usize) -> usize
+    requires longest { AreLongest presences.now stays.now }
+    requires inside { p < length presences.now }
+    requires late { 0 < late }
+    requires bound { (presence presences.now p).start ≤ length presences.now }
+    ensures { IsDue presences.now p late result }
+{
+    let next = stays.partition_point(|stay| stay.gone < late);
+    presences[p].start.min(late).min(next)
+}
+
+/// The places of all items.
+fn places(
+    alloc: Global,
+    calls: &[Call],
+    presences: &[Presence],
+    stays: &[Stay],
+) -> Result<Vec<Place>, AllocError>
+    requires history { IsHistory calls.now }
+    requires plain { IsPlain calls.now }
+    requires presences { ArePresences calls.now (length calls.now) presences.now }
+    requires longest { AreLongest presences.now stays.now }
+    ensures { IfOk result (λ places. ArePlaces calls.now presences.now (length calls.now) places.items) }
+{
+    let mut places = Vec::new(alloc);
+    for p in 0..calls.len() {
+        if let Deed::PutIn(_) = deed_of(&calls[p]) {
+            let late = late_of(calls, gone_of(presences, p));
+            places.push((due_of(presences, stays, p, late), late, p))?;
+        }
+    }
+    Ok(places)
+}
+
+/// The items by their places.
+fn line_of(
+    alloc: Global,
+    calls: &[Call],
+    presences: &[Presence],
+    stays: &[Stay],
+) -> Result<Vec<Place>, AllocError>
+    requires history { IsHistory calls.now }
+    requires plain { IsPlain calls.now }
+    requires presences { ArePresences calls.now (length calls.now) presences.now }
+    requires longest { AreLongest presences.now stays.now }
+    ensures { IfOk result (λ line. IsLine calls.now presences.now line.items) }
+{
+    let mut line = places(alloc, calls, presences, stays)?;
+    line.sort_unstable();
+    Ok(line)
+}
+
+/// A turn for each call, as if all neither put nor got an item: an Empty as a call begins at which no item is certainly there.
+fn idle_turns(
+    alloc: Global,
+    calls: &[Call],
+    presences: &[Presence],
+    stays: &[Stay],
+    rank: usize,
+) -> Result<Vec<Turn>, AllocError>
+    requires history { IsHistory calls.now }
+    requires stays { AreStays calls.now stays.now }
+    requires longest { AreLongest presences.now stays.now }
+    requires sized { length presences.now ≡ length calls.now }
+    requires clear { HasNoEvidence 1 calls.now }
+    ensures { IfOk result (λ turns. AreIdle calls.now presences.now rank (length calls.now) turns.items) }
+{
+    let mut turns = Vec::with_capacity(alloc, calls.len())?;
+    for n in 0..calls.len() {
+        let mut moment = n;
+        if let Deed::FoundNone = deed_of(&calls[n]) {
+            if let Covered::Gap(gap) = cover(alloc, calls, stays, n)? {
+                moment = gap;
+            }
+        }
+        turns.push(Turn { moment, rank })?;
+    }
+    Ok(turns)
+}
+
+/// The turns of all calls, from those of the calls that neither put nor get an item.
+fn with_items(calls: &[Call], presences: &[Presence], line: &[Place], idle: Vec<Turn>) -> Vec<Turn>
+    requires history { IsHistory calls.now }
+    requires plain { IsPlain calls.now }
+    requires presences { ArePresences calls.now (length calls.now) presences.now }
+    requires line { IsLine calls.now presences.now line.now }
+    requires idle { AreIdle calls.now presences.now (length line.now + length line.now) (length calls.now) idle.items }
+    ensures { AreTurns calls.now presences.now line.now (length line.now) result.items }
+{
+    let mut turns = idle;
+    let mut latest: usize = 0;
+    for i in 0..line.len() {
+        let (due, _, put) = line[i];
+        let gone = gone_of(presences, put);
+        latest = latest.max(due).max(gone);
+        turns[put] = Turn {
+            moment: due,
+            rank: i,
+        };
+        if gone < turns.len() {
+            turns[gone] = Turn {
+                moment: latest,
+                rank: line.len() + i,
+            };
+        }
+    }
+    turns
+}
+
+/// The turns with their calls.
+fn numbered(alloc: Global, turns: &[Turn]) -> Result<Vec<Place>, AllocError>
+    ensures { IfOk result (λ numbered. AreNumbered turns.now (length turns.now) numbered.items) }
+{
+    let mut numbered = Vec::with_capacity(alloc, turns.len())?;
+    for n in 0..turns.len() {
+        numbered.push((turns[n].moment, turns[n].rank, n))?;
+    }
+    Ok(numbered)
+}
+
+/// The last numbers of triples.
+fn calls_of(alloc: Global, numbered: &[Place]) -> Result<Vec<usize>, AllocError>
+    ensures { IfOk result (λ calls. calls.items ≡ map (λ t. t.2) numbered.now) }
+{
+    numbered
+        .iter()
+        .map(|(_moment, _rank, call)| *call)
+        .collect(alloc)
+}
+
+/// The calls by their turns.
+fn by_turns(alloc: Global, turns: &[Turn]) -> Result<Vec<usize>, AllocError>
+    ensures { IfOk result (λ order. IsByTurns turns.now order.items) }
+{
+    let mut numbered = numbered(alloc, turns)?;
+    numbered.sort_unstable();
+    calls_of(alloc, numbered.as_slice())
+}
+
+/// Whether each item that is put is single, and each call has ended.
+fn is_plain(calls: &[Call], items: &Items) -> bool
+    requires { IsIndexed calls.now items.now }
+    ensures { IsTrue result ↔ IsPlain calls.now }
+{
+    for n in 0..calls.len() {
+        if calls[n].end.is_none() {
+            return false;
+        }
+        if let Deed::PutIn(item) = deed_of(&calls[n]) {
+            if tally_of(&items.puts, item).count != 1 || tally_of(&items.gets, item).count > 1 {
+                return false;
+            }
+        }
+    }
+    true
+}
+
+/// A legal order for k = 1 of the calls of a plain history without evidence.
+fn plain_order(alloc: Global, calls: &[Call], items: &Items) -> Result<Vec<usize>, AllocError>
+    requires history { IsHistory calls.now }
+    requires items { IsIndexed calls.now items.now }
+    requires plain { IsPlain calls.now }
+    requires clear { HasNoEvidence 1 calls.now }
+    ensures { IfOk result (λ order. IsLegal 1 calls.now order.items) }
+{
+    let presences = items.presences.as_slice();
+    let stays = longest_stays(alloc, calls, presences)?;
+    let places = line_of(alloc, calls, presences, stays.as_slice())?;
+    let line = places.as_slice();
+    let rank = line.len() + line.len();
+    let idle = idle_turns(alloc, calls, presences, stays.as_slice(), rank)?;
+    let turns = with_items(calls, presences, line, idle);
+    by_turns(alloc, turns.as_slice())
+}
+
+/// A legal order for k = 1 of the calls of a history without evidence, where it is plain: each item that is put is single,
+/// and each call has ended. Its time is near linear in the calls.
+pub(crate) fn order_of_plain(
+    alloc: Global,
+    calls: &[Call],
+) -> Result<Option<Vec<usize>>, AllocError>
+    requires history { IsHistory calls.now }
+    requires clear { HasNoEvidence 1 calls.now }
+    ensures legal { IfOk result (λ found. IfSome found (λ order. IsLegal 1 calls.now order.items)) }
+    ensures complete { IsPlain calls.now → IfOk result (λ found. IsSome found) }
+{
+    let items = Items::of(alloc, calls)?;
+    if is_plain(calls, &items) {
+        Ok(Some(plain_order(alloc, calls, &items)?))
+    } else {
+        Ok(None)
+    }
+}
