@@ -1,5 +1,5 @@
 //! What C calls.
-ghost use Rattle.std.specs.Prelude.{◌≡◌, None};
+ghost use Rattle.std.specs.Prelude.{◌≡◌, None, is_some, IsNone};
 ghost use Rattle.kfifo_live.specs.Pass.{AllOf};
 
 use crate::handle::Handle;
@@ -137,7 +137,10 @@ pub extern "C" fn kfifo_c_enqueue(
     item: u32,
     start: u32,
     turns: u16,
-) -> u32 {
+) -> u32
+    ensures stays { is_some pass.new.held.value ≡ is_some pass.old.held.value }
+    ensures closed { IsNone pass.old.held.value → result ≡ 6 }
+{
     let Some(mut seat) = pass.take(alloc) else {
         return BAD_CALL;
     };
@@ -157,7 +160,10 @@ pub extern "C" fn kfifo_c_dequeue(
     item: &mut u32,
     start: u32,
     turns: u16,
-) -> u32 {
+) -> u32
+    ensures stays { is_some pass.new.held.value ≡ is_some pass.old.held.value }
+    ensures closed { IsNone pass.old.held.value → result ≡ 6 }
+{
     let Some(mut seat) = pass.take(alloc) else {
         return BAD_CALL;
     };
