@@ -126,6 +126,6 @@ int main(void) {
     for (size_t k = 0; k < 4; k++)
         for (size_t n = 0; n < 4; n++)
             for (uint32_t threads = 1; threads <= MOST; threads *= 2) run(ks[k], rings[n], threads == 2 ? 1 : ks[k], threads);
-    printf("%s\n", failed ? "the queue for C fails" : "48 shapes: each item came out once");
+    printf("%s\n", failed ? "the queue for C fails" : "16 shapes, 1, 2 and 4 threads: each item came out once");
     return failed;
 }

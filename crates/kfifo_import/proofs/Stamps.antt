@@ -1,14 +1,13 @@
 -- Stamps stand as the times do.
-use Rattle.std.proofs.Common.{ℕ, zero, suc, [], ◌∷◌, ◌≡◌, ◌≢◌, ◌+◌, ◌<◌, ◌≤◌, ◌↔◌, ◌⊎◌, List, Option, Some, None, length, get_or, count_by, is_some, sym, ◌∙◌, ap, subst, refl, inl, inr, arith}
-use Rattle.std.specs.List.{Contains}
+use Rattle.std.proofs.Common.{ℕ, zero, suc, [], ◌∷◌, ◌≡◌, ◌≢◌, ◌+◌, ◌<◌, ◌≤◌, List, Option, Some, None, length, get_or, sym, ◌∙◌, ap, subst, refl, inl, inr, arith}
 use Rattle.std.specs.List.Sorted.{IsNonDecreasingBy}
-use Rattle.std.proofs.lemmas.Bool.{cases_lt, cases_eq}
+use Rattle.std.proofs.lemmas.Bool.{cases_lt}
 use Rattle.std.proofs.lemmas.List.{get_or_default}
 use Rattle.kfifo_model.specs.declared.calls.End.{End}
 use Rattle.kfifo_model.specs.declared.calls.Call.{Call}
-use Rattle.kfifo_model.specs.Histories.{call, no_call, HasEnd, EndsBelow, Precedes}
+use Rattle.kfifo_model.specs.Histories.{call, no_call, HasEnd, EndsBelow}
 use Rattle.kfifo_model.specs.Validity.{EndsFrom}
-use Rattle.kfifo_import.specs.Stamping.{AnswersAlike, AreRanks, AreSortedEnds, AreStamped, AreStampedTo, HaveBegun, HaveEnded, IsEndStamp, IsRestamped, IsStampOf, end_at, first_at, last_in, last_of, moments}
+use Rattle.kfifo_import.specs.Stamping.{AnswersAlike, AreRanks, AreSortedEnds, AreStamped, AreStampedTo, HaveBegun, HaveEnded, IsEndStamp, IsStampOf, end_at, first_at, last_in, last_of}
 
 -- ---- ends as numbers
 

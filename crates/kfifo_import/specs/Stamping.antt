@@ -1,11 +1,10 @@
 -- Stamps for the calls of a log, whose steps are times: the places of their beginnings and ends.
-use Rattle.std.specs.Prelude.{ℕ, ◌≡◌, ◌≢◌, ◌+◌, ◌<◌, ◌≤◌, ◌↔◌, ◌⊎◌, List, Option, Some, None, length, slice_index_or, count_by, is_some, take}
+use Rattle.std.specs.Prelude.{ℕ, ◌≡◌, ◌≢◌, ◌+◌, ◌<◌, ◌≤◌, ◌↔◌, List, Option, Some, None, length, slice_index_or, count_by, is_some, take}
 use Rattle.std.specs.List.{All, Contains}
 use Rattle.std.specs.List.Sorted.{IsNonDecreasingBy, IsPartitionPoint}
-use Rattle.kfifo_model.specs.declared.calls.Answer.{Answer}
 use Rattle.kfifo_model.specs.declared.calls.End.{End}
 use Rattle.kfifo_model.specs.declared.calls.Call.{Call}
-use Rattle.kfifo_model.specs.Histories.{call, HasEnd, EndsBelow, Precedes}
+use Rattle.kfifo_model.specs.Histories.{call, HasEnd, Precedes}
 use Rattle.kfifo_model.specs.Validity.{EndsFrom}
 
 -- the last step or time of a call, 0 of an unfinished one

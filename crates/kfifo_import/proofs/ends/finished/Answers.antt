@@ -1,6 +1,6 @@
 use Rattle.std.proofs.Common.{rules, sym, ◌∙◌, ◌≡◌, true, false, is_some}
 use Rattle.std.specs.Result.{is_ok}
-use Rattle.kfifo_import.specs.Stamping.{AreEndsTo, end_at}
+use Rattle.kfifo_import.specs.Stamping.{end_at}
 use Rattle.kfifo_import.proofs.Ending.{no_end, one_end}
 use Rattle.kfifo_import.proofs.ends.finished.Goals as goal
 use Rattle.kfifo_import.proofs.ends.finished.Goals.{then-has_ended+in_ok-push, else-has_ended}

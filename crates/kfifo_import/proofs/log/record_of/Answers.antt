@@ -1,4 +1,4 @@
-use Rattle.std.proofs.Common.{rules, ap, arith, length, ◌≡◌, ◌≤◌, ◌<◌, ◌∙◌}
+use Rattle.std.proofs.Common.{rules, ap, arith, length, ◌≡◌, ◌≤◌, ◌∙◌}
 use Rattle.std.proofs.lemmas.List.{length-map}
 use Rattle.std.proofs.lemmas.List.Sorted.{length_permutation}
 use Rattle.kfifo_import.specs.declared.log.Line.{Line}

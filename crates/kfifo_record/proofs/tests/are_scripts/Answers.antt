@@ -1,5 +1,5 @@
 -- What holds of each list holds of each in the list of lists.
-use Rattle.std.proofs.Common.{rules, All, List, Vec, Global, length, ℕ, ◌<◌}
+use Rattle.std.proofs.Common.{rules, All, List, Vec, Global}
 use Rattle.std.proofs.lemmas.List.Elements.{All-map}
 use Rattle.kfifo_machine.specs.declared.event.Begin.{Begin}
 use Rattle.kfifo_record.specs.Scripts.{IsCall}
