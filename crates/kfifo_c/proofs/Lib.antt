@@ -1,3 +1,0 @@
-mod HeldValues
-mod Passes
-mod Values
