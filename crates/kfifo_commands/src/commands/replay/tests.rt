@@ -12,6 +12,7 @@ use std::fmt::Write;
 use std::io;
 use std::rt::Files;
 use std::test::Fail;
+use std::thread::Threads;
 
 /// Notes what it is told.
 #[derive(Drop)]
@@ -64,7 +65,10 @@ fn scripts(alloc: Global) -> Result<String, AllocError> {
 }
 
 /// What is told of a replay of so many rounds, which has to give its answer.
-fn notes_of<R: Files + AllocGlobal>(rt: &R, rounds: u32) -> Result<Option<Notes>, AllocError> {
+fn notes_of<R: Threads + Files + AllocGlobal + Sync>(
+    rt: &R,
+    rounds: u32,
+) -> Result<Option<Notes>, AllocError> {
     let alloc = rt.alloc();
     let picks = picks(alloc, rounds)?;
     let line = scripts(alloc)?;
