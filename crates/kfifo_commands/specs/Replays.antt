@@ -1,9 +1,9 @@
 -- What the command `replay` comes to.
 use Rattle.std.specs.Prelude.{◌≡◌, ℕ, ◌+◌, ◌<◌, ◌≤◌, ◌⊎◌, Bool, true, false, List, [], ◌∷◌, ◌++◌, Option, Some, None, IsTrue, codes, decimal, is_some, length}
-use Rattle.std.specs.List.{flat_map}
 use Rattle.kfifo_words.specs.declared.shape.Shape.{Shape}
 use Rattle.kfifo_model.specs.declared.calls.Call.{Call}
 use Rattle.kfifo_machine.specs.declared.event.Begin.{Begin}
+use Rattle.kfifo_explain.specs.Numbers.{numbers_line}
 use Rattle.kfifo_replay.specs.declared.fault.ReplayFault.{ReplayFault}
 use Rattle.kfifo_replay.specs.declared.fault.ReplayFault.TheVariants as replays
 use Rattle.kfifo_replay.specs.declared.report.Report.{Report}
@@ -23,19 +23,6 @@ use Rattle.kfifo_commands.specs.Runs.{IsShapeFault, IsShapeOf}
 use Rattle.kfifo_commands.specs.Scripts.{IsFirstUnreadScript, WriteScripts}
 
 -- ---- the lines
-
--- further numbers, a comma before each
-abbrev pub further : List ℕ → List ℕ
-further numbers = flat_map (λ number. 44 ∷ decimal number) numbers
-
--- numbers joined by commas, none where there are none
-abbrev pub joined : List ℕ → List ℕ
-joined [] = codes "none"
-joined (number ∷ numbers) = decimal number ++ further numbers
-
--- a name, and numbers joined by commas
-abbrev pub numbers_line : List ℕ → List ℕ → List ℕ
-numbers_line name numbers = line (name ++ joined numbers)
 
 abbrev pub completed_line : Option ℕ → ℕ → List ℕ
 completed_line None count = []

@@ -37,6 +37,11 @@ const TAKEN_TWICE: &str = r#"[{"thread":0,"op":"enq","item":3,"first":0,"last":1
 const UNFINISHED: &str =
     r#"[{"thread":0,"op":"enq","item":3,"first":0},{"thread":1,"op":"deq","first":1,"last":7,"answer":"got","item":3}]"#;
 
+/// An item that is put twice, and an Empty behind it: no evidence speaks of such an item, and there is no order.
+const PUT_TWICE: &str = r#"[{"thread":0,"op":"enq","item":1,"first":0,"last":1,"answer":"done"},
+{"thread":0,"op":"enq","item":1,"first":2,"last":3,"answer":"done"},
+{"thread":1,"op":"deq","first":4,"last":5,"answer":"empty"}]"#;
+
 /// Gives bytes a few at a time, and fails at one of its calls.
 #[derive(Drop)]
 struct Pieces<'a> {
@@ -156,6 +161,7 @@ fn judges(rt: HostRuntime) -> Result<(), Fail> {
     judged(&rt, rt.alloc(), NEVER_PUT, 1, never, 3)?;
     let twice = "no order\ncall 2 got item 3, which was taken more often than put\n";
     judged(&rt, rt.alloc(), TAKEN_TWICE, 1, twice, 3)?;
+    judged(&rt, rt.alloc(), PUT_TWICE, 1, "undecided\n", 4)?;
     judged(
         &rt,
         rt.alloc(),

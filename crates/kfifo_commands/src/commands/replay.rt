@@ -5,7 +5,7 @@ ghost use Rattle.kfifo_machine.specs.declared.event.Begin.{Begin as BeginData};
 ghost use Rattle.kfifo_replay.specs.Player.{StandsFor, Stops};
 ghost use Rattle.kfifo_commands.specs.Picks as picks;
 ghost use Rattle.kfifo_commands.specs.Picks.{count_of, picks_of};
-ghost use Rattle.kfifo_commands.specs.Replays.{IsPointsLine, IsRecordLine, IsRefusal, IsReplayAnswer, IsReplayRefusal, IsReplayText, IsReportText, Makes, first_lines, further, joined, last_lines, numbers_line};
+ghost use Rattle.kfifo_commands.specs.Replays.{IsPointsLine, IsRecordLine, IsRefusal, IsReplayAnswer, IsReplayRefusal, IsReplayText, IsReportText, Makes, first_lines, last_lines};
 ghost use Rattle.kfifo_commands.specs.Runs.{IsShapeOf};
 
 use crate::fault::Fault;
@@ -14,6 +14,7 @@ use crate::picks::{Group, read_picks};
 use crate::progress::{Meter, Progress};
 use crate::recording::record_text;
 use crate::words::read_scripts;
+use kfifo_explain::push_numbers;
 use kfifo_machine::Begin;
 use kfifo_replay::{Replay, ReplayFault, Report};
 use kfifo_words::Shape;
@@ -220,36 +221,6 @@ fn push_last(text: &mut String, stopped: Option<u32>, report: &Report) -> Result
         Some(_) => writeln!(text, "completed {completed}"),
         None => Ok(()),
     }
-}
-
-/// Adds a line of numbers joined by commas, behind a name; `none` where there are no numbers.
-fn push_numbers(text: &mut String, name: &str, numbers: &[usize]) -> Result<(), AllocError>
-    ensures { OnOk result (string_bytes text.new ≡ string_bytes text.old ++ numbers_line name.now numbers.now) }
-{
-    text.push_str(name)?;
-    push_joined(text, numbers)?;
-    text.push('\n')
-}
-
-/// Adds numbers joined by commas, or `none`.
-fn push_joined(text: &mut String, numbers: &[usize]) -> Result<(), AllocError>
-    ensures { OnOk result (string_bytes text.new ≡ string_bytes text.old ++ joined numbers.now) }
-{
-    let Some((first, rest)) = numbers.split_first() else {
-        return text.push_str("none");
-    };
-    write!(text, "{first}")?;
-    push_further(text, rest)
-}
-
-/// Adds further numbers, each behind a comma.
-fn push_further(text: &mut String, numbers: &[usize]) -> Result<(), AllocError>
-    ensures { OnOk result (string_bytes text.new ≡ string_bytes text.old ++ further numbers.now) }
-{
-    for number in numbers {
-        write!(text, ",{number}")?;
-    }
-    Ok(())
 }
 
 #[cfg(test)]

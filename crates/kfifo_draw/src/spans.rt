@@ -1,0 +1,52 @@
+//! Where calls begin and end among each other.
+use kfifo_model::Call;
+use std::alloc::{AllocError, Global};
+
+/// From where to where a call reaches: places among all beginnings and ends by rising step, where at one step beginnings
+/// come before ends, and ends at one step have one place.
+#[derive(Clone, Copy, Debug, PartialEq, Eq)]
+pub(crate) struct Span {
+    /// The place of the beginning.
+    pub from: usize,
+    /// The place of the end; none of an unfinished call.
+    pub to: Option<usize>,
+}
+
+/// The steps at which calls end, each once, by rising number.
+fn end_steps(alloc: Global, calls: &[Call]) -> Result<Vec<u64>, AllocError> {
+    let mut steps = Vec::new(alloc);
+    for call in calls {
+        if let Some(end) = call.end {
+            steps.push(end.last)?;
+        }
+    }
+    steps.sort_unstable();
+    steps.dedup();
+    Ok(steps)
+}
+
+/// The place of an end at this step: behind the beginnings up to it and the ends before it.
+fn end_place(calls: &[Call], ends: &[u64], step: u64) -> usize {
+    let begun = calls.partition_point(|call| call.first <= step);
+    let ended = ends.partition_point(|last| *last < step);
+    begun.saturating_add(ended)
+}
+
+/// The span of the call with this number.
+fn span_of(calls: &[Call], ends: &[u64], number: usize, call: &Call) -> Span {
+    let ended = ends.partition_point(|last| *last < call.first);
+    Span {
+        from: number.saturating_add(ended),
+        to: call.end.map(|end| end_place(calls, ends, end.last)),
+    }
+}
+
+/// The spans of a history's calls, by their numbers.
+pub(crate) fn spans_of(alloc: Global, calls: &[Call]) -> Result<Vec<Span>, AllocError> {
+    let ends = end_steps(alloc, calls)?;
+    let mut spans = Vec::with_capacity(alloc, calls.len())?;
+    for (number, call) in calls.iter().enumerate() {
+        spans.push(span_of(calls, ends.as_slice(), number, call))?;
+    }
+    Ok(spans)
+}
