@@ -107,6 +107,14 @@ record_command = with_rule (with_rule (with_turns (with_sizes (new_app (codes "r
     (default_option (codes "repeat") (small_numbers 1 1024) (codes "1")))
     script
 
+-- the command `import`
+abbrev pub import_command : App
+import_command = new_app (codes "import")
+
+-- the command `draw`
+abbrev pub draw_command : App
+draw_command = with_rule (with_rule (with_places (new_app (codes "draw"))) (text_option (codes "order"))) (flag (codes "text"))
+
 -- the program before its commands: its words begin with the first argument, and one has to be a command, or ask for the version
 abbrev pub bare_program : App
 bare_program = record {
@@ -121,8 +129,8 @@ bare_program = record {
 
 -- the program with its commands
 abbrev pub kfifo : App
-kfifo = with_subcommand (with_subcommand (with_subcommand (with_subcommand (with_subcommand (with_subcommand (with_subcommand bare_program
-    run_command.top) check_command.top) measure_command.top) replay_command.top) judge_command.top) least_command.top) record_command.top
+kfifo = with_subcommand (with_subcommand (with_subcommand (with_subcommand (with_subcommand (with_subcommand (with_subcommand (with_subcommand (with_subcommand bare_program
+    run_command.top) check_command.top) measure_command.top) replay_command.top) judge_command.top) least_command.top) record_command.top) import_command.top) draw_command.top
 
 -- the command that was named is this one, and its options have these entries
 abbrev pub Names : Option (Text × List Row) → Text → Found → Type 0
@@ -132,7 +140,7 @@ Names command name found = command ≡ Some (name, rows_of found)
 abbrev pub NamesNone : Option (Text × List Row) → Type 0
 NamesNone command = (found : Found) → ¬ (Names command (codes "run") found) × ¬ (Names command (codes "check") found) × ¬ (Names command (codes "measure") found)
     × ¬ (Names command (codes "replay") found) × ¬ (Names command (codes "judge") found) × ¬ (Names command (codes "least") found)
-    × ¬ (Names command (codes "record") found)
+    × ¬ (Names command (codes "record") found) × ¬ (Names command (codes "import") found) × ¬ (Names command (codes "draw") found)
 
 -- a parse reads this of the command, and no argument of it is global
 abbrev pub IsCommand : App → Command → Type 0

@@ -4,6 +4,7 @@ use Rattle.std.specs.Str.Parse.{digits_value}
 use Rattle.clap.specs.declared.parser.matches.Found.{Found}
 use Rattle.clap.specs.Words.{first_value, matched_of, one_text, raw_values}
 use Rattle.kfifo_commands.specs.declared.options.CheckOptions.{CheckOptions}
+use Rattle.kfifo_commands.specs.declared.options.DrawOptions.{DrawOptions}
 use Rattle.kfifo_commands.specs.declared.options.JudgeOptions.{JudgeOptions}
 use Rattle.kfifo_commands.specs.declared.options.RecordOptions.{RecordOptions}
 use Rattle.kfifo_commands.specs.declared.options.ReplayOptions.{ReplayOptions}
@@ -86,3 +87,8 @@ pub record GivesJudge (found : Found) (options : JudgeOptions) : Type 0 where
 pub record GivesCheck (found : Found) (options : CheckOptions) : Type 0 where
   pub k : GivesPlaces found options.k
   pub order : option_map (λ text. text.now) options.order ≡ first_value found (codes "order")
+
+-- the options of `draw`
+pub record GivesDraw (found : Found) (options : DrawOptions) : Type 0 where
+  pub check : GivesCheck found options.check
+  pub text : GivesFlag (one_text found (codes "text")) options.text

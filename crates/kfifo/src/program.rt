@@ -8,7 +8,7 @@ ghost use Rattle.kfifo_commands.specs.Endings.{Ends, Tells};
 ghost use Rattle.kfifo_commands.specs.Printing.{OnPrinter, OnWriter};
 ghost use Rattle.kfifo_commands.specs.Statuses.{status_number};
 
-use crate::commands::{check, judge, least, measure, record, replay, run};
+use crate::commands::{check, draw, import, judge, least, measure, record, replay, run};
 use clap::error::ErrorKind;
 use clap::{ArgMatches, Command, Error};
 use kfifo_commands::{
@@ -29,8 +29,12 @@ Examples:
   kfifo run e7 e8 d   puts 7 and 8 into a queue, takes one, and prints the words of the queue
   kfifo check < record.json
                       says whether a recorded run of a queue has a legal order
+  kfifo import < log.csv > record.json
+                      makes a record of a log of your own queue
   kfifo judge < record.json
-                      the same of a record of any length, with the reason
+                      the same as `check` of a record of any length, with the reason
+  kfifo draw < record.json > run.svg
+                      draws a record, a lane for each thread
   kfifo replay --picks 0x6,1x7,0x2 --turns 1 e5 e6:1
                       runs two threads step by step in this order
   kfifo record e1,e2,d e3,d,d | kfifo check
@@ -172,6 +176,12 @@ fn request_of<'a>(matches: &'a ArgMatches<'_>) -> Option<Request<'a>>
     if let Some(options) = matches.subcommand_matches(record::NAME) {
         return Some(Request::Record(record::options_of(options)));
     }
+    if let Some(_) = matches.subcommand_matches(import::NAME) {
+        return Some(Request::Import);
+    }
+    if let Some(options) = matches.subcommand_matches(draw::NAME) {
+        return Some(Request::Draw(draw::options_of(options)));
+    }
     None
 }
 
@@ -203,7 +213,9 @@ fn command<'a>(alloc: Global) -> Result<Command<'a>, AllocError>
         .subcommand(replay::command(alloc)?)?
         .subcommand(judge::command(alloc)?)?
         .subcommand(least::command(alloc)?)?
-        .subcommand(record::command(alloc)?)
+        .subcommand(record::command(alloc)?)?
+        .subcommand(import::command(alloc)?)?
+        .subcommand(draw::command(alloc)?)
 }
 
 #[cfg(test)]

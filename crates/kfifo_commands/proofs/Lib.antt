@@ -13,3 +13,4 @@ pub mod Reports
 pub mod Scripts
 pub mod RealRunning
 pub mod Writings
+pub mod Drawing

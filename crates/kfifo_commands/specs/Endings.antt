@@ -3,8 +3,10 @@ use Rattle.std.specs.Prelude.{◌≡◌, ◌≢◌, ◌⊎◌, ◌≤◌, ℕ, L
 use Rattle.kfifo_commands.specs.declared.fault.Fault.{Fault}
 use Rattle.kfifo_commands.specs.declared.fault.Fault.TheVariants.{Input}
 use Rattle.kfifo_commands.specs.declared.options.Request.{Request}
-use Rattle.kfifo_commands.specs.declared.options.Request.TheVariants.{Run, Check, Measure, Replay, Judge, Least, Record}
+use Rattle.kfifo_commands.specs.declared.options.Request.TheVariants.{Run, Check, Measure, Replay, Judge, Least, Record, Import, Draw}
 use Rattle.kfifo_commands.specs.Faults.{fault_line}
+use Rattle.kfifo_commands.specs.Imports.{IsImport, IsImportRefusal}
+use Rattle.kfifo_commands.specs.Pictures.{IsDraw, IsDrawRefusal}
 use Rattle.kfifo_commands.specs.Records.{IsCheck, IsCheckRefusal, IsMeasure, IsMeasureRefusal}
 use Rattle.kfifo_commands.specs.RealRuns.{IsRealRun, IsRealRunRefusal}
 use Rattle.kfifo_commands.specs.Replays.{IsReplayAnswer, IsReplayRefusal}
@@ -20,6 +22,8 @@ Answers (Replay options) input text status = IsReplayAnswer options text × (sta
 Answers (Judge options) input text status = IsJudge options input text status
 Answers (Least options) input text status = IsLeast input text status
 Answers (Record options) input text status = IsRealRun options text × (status ≡ 0)
+Answers Import input text status = IsImport input text × (status ≡ 0)
+Answers (Draw options) input text status = IsDraw options input × (status ≡ 0)
 
 -- the same, and no read failed
 abbrev pub IsAnswered : Request → Option (List ℕ) → ℕ → ℕ → List ℕ → ℕ → Type 0
@@ -34,6 +38,8 @@ IsCause (Replay options) input before after fault = IsReplayRefusal options faul
 IsCause (Judge options) input before after fault = IsVerdictRefusal input before after fault
 IsCause (Least options) input before after fault = IsVerdictRefusal input before after fault
 IsCause (Record options) input before after fault = IsRealRunRefusal options fault
+IsCause Import input before after fault = IsImportRefusal input before after fault
+IsCause (Draw options) input before after fault = IsDrawRefusal options input before after fault
 
 -- the same, and no read failed but where that is the fault
 abbrev pub IsRefused : Request → Option (List ℕ) → ℕ → ℕ → Fault → Type 0

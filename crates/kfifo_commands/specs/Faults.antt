@@ -7,6 +7,10 @@ use Rattle.kfifo_model.specs.FaultNumbers.{fault_number, fault_call}
 use Rattle.kfifo_model.specs.Searching.{search_fault_number}
 use Rattle.kfifo_judge.specs.declared.record.StreamFault.{StreamFault}
 use Rattle.kfifo_judge.specs.declared.record.StreamFault.TheVariants as streams
+use Rattle.kfifo_draw.specs.declared.picture.DrawFault.{DrawFault}
+use Rattle.kfifo_draw.specs.declared.picture.DrawFault.TheVariants as pictures
+use Rattle.kfifo_import.specs.declared.log.ImportFault.{ImportFault}
+use Rattle.kfifo_import.specs.declared.log.ImportFault.TheVariants as logs
 use Rattle.kfifo_live.specs.Faults.{open_fault_number}
 use Rattle.kfifo_replay.specs.declared.fault.ReplayFault.{ReplayFault}
 use Rattle.kfifo_replay.specs.declared.fault.ReplayFault.TheVariants as replays
@@ -33,6 +37,37 @@ stream_fault (streams.Search fault) = faults.Search fault
 stream_fault streams.RepeatedItem = faults.RepeatedItem
 stream_fault streams.Memory = faults.Memory
 stream_fault streams.Output = faults.Memory
+
+-- the fault of a command, of that of a log
+abbrev pub log_fault : ImportFault → Fault
+log_fault (logs.Csv n) = faults.Import (logs.Csv n)
+log_fault logs.TooMany = faults.Import logs.TooMany
+log_fault (logs.NotACall n) = faults.Import (logs.NotACall n)
+log_fault (logs.NumberOutOfRange n) = faults.Import (logs.NumberOutOfRange n)
+log_fault (logs.WrongAnswer n) = faults.Import (logs.WrongAnswer n)
+log_fault (logs.EndsEarly n) = faults.Import (logs.EndsEarly n)
+log_fault (logs.Overlap n) = faults.Import (logs.Overlap n)
+log_fault logs.Memory = faults.Memory
+
+-- the fault of a command, of that of a picture
+abbrev pub picture_fault : DrawFault → Fault
+picture_fault pictures.TooMany = faults.TooManyDrawn
+picture_fault pictures.Memory = faults.Memory
+
+-- the number of a record's fault and the line of a log that has it
+abbrev pub at_line_text : ℕ → ℕ → List ℕ
+at_line_text number line = number_at (codes " at line ") number (Some line)
+
+-- what is said of a fault of a log: a fault of a record has its number
+abbrev pub import_fault_text : ImportFault → List ℕ
+import_fault_text (logs.Csv n) = codes "csv fault at line " ++ decimal n
+import_fault_text logs.TooMany = codes "record fault " ++ decimal 2
+import_fault_text (logs.NotACall n) = codes "record fault " ++ at_line_text 3 n
+import_fault_text (logs.NumberOutOfRange n) = codes "record fault " ++ at_line_text 4 n
+import_fault_text (logs.WrongAnswer n) = codes "record fault " ++ at_line_text 5 n
+import_fault_text (logs.EndsEarly n) = codes "record fault " ++ at_line_text 6 n
+import_fault_text (logs.Overlap n) = codes "record fault " ++ at_line_text 8 n
+import_fault_text logs.Memory = codes "memory"
 
 -- the number of a fault of the sizes
 abbrev pub shape_fault_number : ShapeFault → ℕ
@@ -64,6 +99,8 @@ fault_text faults.NotJson = codes "not json"
 fault_text (faults.Record fault) = codes "record fault " ++ record_fault_text fault
 fault_text (faults.Search fault) = codes "search fault " ++ decimal (search_fault_number fault)
 fault_text faults.RepeatedItem = codes "measure fault 2"
+fault_text (faults.Import fault) = import_fault_text fault
+fault_text faults.TooManyDrawn = codes "draw fault 1"
 fault_text faults.Memory = codes "memory"
 fault_text faults.Output = codes "output"
 

@@ -1,8 +1,10 @@
 pub mod Endings
 pub mod Faults
+pub mod Imports
 pub mod Lines
 pub mod Orders
 pub mod Picks
+pub mod Pictures
 pub mod Printing
 pub mod RealRuns
 pub mod RecordTexts

@@ -74,5 +74,7 @@ IsRealRunRefusal options faults.NotJson = ⊥
 IsRealRunRefusal options (faults.Record fault) = ⊥
 IsRealRunRefusal options (faults.Search fault) = ⊥
 IsRealRunRefusal options faults.RepeatedItem = ⊥
+IsRealRunRefusal options (faults.Import fault) = ⊥
+IsRealRunRefusal options faults.TooManyDrawn = ⊥
 IsRealRunRefusal options faults.Memory = Unit {0}
 IsRealRunRefusal options faults.Output = ⊥

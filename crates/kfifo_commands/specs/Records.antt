@@ -6,7 +6,7 @@ use Rattle.kfifo_judge.specs.Check.{IsChecked, IsCheckFault}
 use Rattle.kfifo_judge.specs.Measure.{IsMeasured, IsMeasuringFault}
 use Rattle.kfifo_judge.specs.Streams.{CountsOne}
 use Rattle.kfifo_commands.specs.declared.fault.Fault.{Fault}
-use Rattle.kfifo_commands.specs.declared.fault.Fault.TheVariants.{Shape, Word, Order, Picks, Replay, Open, Input, NotJson, Record, Search, RepeatedItem, Memory, Output}
+use Rattle.kfifo_commands.specs.declared.fault.Fault.TheVariants.{Shape, Word, Order, Picks, Replay, Open, Input, NotJson, Record, Search, RepeatedItem, Import, TooManyDrawn, Memory, Output}
 use Rattle.kfifo_commands.specs.declared.options.CheckOptions.{CheckOptions}
 use Rattle.kfifo_commands.specs.Faults.{stream_fault}
 use Rattle.kfifo_commands.specs.Orders.{GivesNoOrder, GivesOrder}
@@ -76,6 +76,8 @@ IsCheckRefusal options input before after NotJson = IsUnchecked options input st
 IsCheckRefusal options input before after (Record fault) = IsUnchecked options input (streams.Record fault)
 IsCheckRefusal options input before after (Search fault) = IsUnchecked options input (streams.Search fault)
 IsCheckRefusal options input before after RepeatedItem = ⊥
+IsCheckRefusal options input before after (Import fault) = ⊥
+IsCheckRefusal options input before after TooManyDrawn = ⊥
 IsCheckRefusal options input before after Memory = Unit {0}
 IsCheckRefusal options input before after Output = ⊥
 
@@ -98,5 +100,7 @@ IsMeasureRefusal input before after NotJson = IsOfInput input IsMeasuringFault s
 IsMeasureRefusal input before after (Record fault) = IsOfInput input IsMeasuringFault (streams.Record fault)
 IsMeasureRefusal input before after (Search fault) = ⊥
 IsMeasureRefusal input before after RepeatedItem = IsOfInput input IsMeasuringFault streams.RepeatedItem
+IsMeasureRefusal input before after (Import fault) = ⊥
+IsMeasureRefusal input before after TooManyDrawn = ⊥
 IsMeasureRefusal input before after Memory = Unit {0}
 IsMeasureRefusal input before after Output = ⊥

@@ -131,5 +131,7 @@ IsReplayRefusal options faults.NotJson = ⊥
 IsReplayRefusal options (faults.Record fault) = ⊥
 IsReplayRefusal options (faults.Search fault) = ⊥
 IsReplayRefusal options faults.RepeatedItem = ⊥
+IsReplayRefusal options (faults.Import fault) = ⊥
+IsReplayRefusal options faults.TooManyDrawn = ⊥
 IsReplayRefusal options faults.Memory = Unit {0}
 IsReplayRefusal options faults.Output = ⊥

@@ -5,7 +5,7 @@ use Rattle.kfifo_words.specs.declared.fault.ShapeFault.{ShapeFault}
 use Rattle.kfifo_words.specs.Sizes.{fault_of}
 use Rattle.kfifo_machine.specs.declared.event.Begin.{Begin}
 use Rattle.kfifo_commands.specs.declared.fault.Fault.{Fault}
-use Rattle.kfifo_commands.specs.declared.fault.Fault.TheVariants.{Shape as AtShape, Word, Order, Picks, Replay, Open, Input, NotJson, Record, Search, RepeatedItem, Memory, Output}
+use Rattle.kfifo_commands.specs.declared.fault.Fault.TheVariants.{Shape as AtShape, Word, Order, Picks, Replay, Open, Input, NotJson, Record, Search, RepeatedItem, Import, TooManyDrawn, Memory, Output}
 use Rattle.kfifo_commands.specs.declared.options.RunOptions.{RunOptions}
 use Rattle.kfifo_commands.specs.declared.sizes.Sizes.{Sizes}
 use Rattle.kfifo_commands.specs.Reports.{IsReport}
@@ -51,5 +51,7 @@ IsRunRefusal options NotJson = ⊥
 IsRunRefusal options (Record fault) = ⊥
 IsRunRefusal options (Search fault) = ⊥
 IsRunRefusal options RepeatedItem = ⊥
+IsRunRefusal options (Import fault) = ⊥
+IsRunRefusal options TooManyDrawn = ⊥
 IsRunRefusal options Memory = Unit {0}
 IsRunRefusal options Output = ⊥

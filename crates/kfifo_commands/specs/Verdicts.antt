@@ -5,7 +5,7 @@ use Rattle.kfifo_judge.specs.TextFaults.{IsTextFault}
 use Rattle.kfifo_explain.specs.Bounds.{IsBounded}
 use Rattle.kfifo_explain.specs.Judgements.{IsJudged}
 use Rattle.kfifo_commands.specs.declared.fault.Fault.{Fault}
-use Rattle.kfifo_commands.specs.declared.fault.Fault.TheVariants.{Shape, Word, Order, Picks, Replay, Open, Input, NotJson, Record, Search, RepeatedItem, Memory, Output}
+use Rattle.kfifo_commands.specs.declared.fault.Fault.TheVariants.{Shape, Word, Order, Picks, Replay, Open, Input, NotJson, Record, Search, RepeatedItem, Import, TooManyDrawn, Memory, Output}
 use Rattle.kfifo_commands.specs.declared.options.JudgeOptions.{JudgeOptions}
 use Rattle.kfifo_commands.specs.Records.{IsInput, IsOfInput, IsUnread}
 
@@ -34,5 +34,7 @@ IsVerdictRefusal input before after NotJson = IsOfInput input IsTextFault stream
 IsVerdictRefusal input before after (Record fault) = IsOfInput input IsTextFault (streams.Record fault)
 IsVerdictRefusal input before after (Search fault) = ⊥
 IsVerdictRefusal input before after RepeatedItem = ⊥
+IsVerdictRefusal input before after (Import fault) = ⊥
+IsVerdictRefusal input before after TooManyDrawn = ⊥
 IsVerdictRefusal input before after Memory = Unit {0}
 IsVerdictRefusal input before after Output = ⊥

@@ -1,6 +1,8 @@
 //! The commands, one module for each: what it answers.
 
 pub mod check;
+pub mod draw;
+pub mod import;
 pub mod judge;
 pub mod least;
 pub mod measure;

@@ -6,7 +6,7 @@ ghost use Rattle.kfifo_commands.specs.Printing.{Breaks, OnPrinter, Writes};
 ghost use Rattle.kfifo_commands.specs.Records.{ReadsWell};
 ghost use Rattle.kfifo_commands.specs.Statuses.{status_number};
 
-use crate::commands::{check, judge, least, measure, record, replay, run};
+use crate::commands::{check, draw, import, judge, least, measure, record, replay, run};
 use crate::fault::Fault;
 use crate::options::Request;
 use crate::printing::Printer;
@@ -28,8 +28,8 @@ pub enum Notice {
     Misuse,
 }
 
-/// Does what is requested, and writes its answer or the line of its fault. The order of `check` may stand in a file,
-/// and `record` starts threads: `rt` may do both. `replay` tells the progress how far it has come, and that it has
+/// Does what is requested, and writes its answer or the line of its fault. The order of `check` and `draw` may stand in a
+/// file, and `record` starts threads: `rt` may do both. `replay` tells the progress how far it has come, and that it has
 /// ended before anything is written.
 pub fn carry_out<H: Threads + Files + Sync, S: Source, W: Write, F: Write, P: Progress>(
     alloc: Global,
@@ -142,6 +142,16 @@ fn answer<H: Threads + Files + Sync, S: Source, W: Write, P: Progress>(
         }
         Request::Record(options) => {
             let text = record::answer(rt, alloc, options)?;
+            output.print(text.as_bytes())?;
+            Ok(Status::Answered)
+        }
+        Request::Import => {
+            let text = import::answer(alloc, input)?;
+            output.print(text.as_bytes())?;
+            Ok(Status::Answered)
+        }
+        Request::Draw(options) => {
+            let text = draw::answer(alloc, rt, options, input)?;
             output.print(text.as_bytes())?;
             Ok(Status::Answered)
         }

@@ -1,11 +1,13 @@
 //! What ends a command without its answer.
-ghost use Rattle.std.specs.Prelude.{◌≡◌, ◌++◌, MatchBool, Some, decimal};
+ghost use Rattle.std.specs.Prelude.{◌≡◌, ◌++◌, MatchBool, Some, codes, decimal};
 ghost use Rattle.kfifo_commands.specs.declared.fault.Fault.TheVariants.{Memory, Open, Replay};
-ghost use Rattle.kfifo_commands.specs.Faults.{fault_line, fault_text, numbered, stream_fault};
+ghost use Rattle.kfifo_commands.specs.Faults.{at_line_text, fault_line, fault_text, import_fault_text, log_fault, numbered, picture_fault, stream_fault};
 ghost use Rattle.kfifo_commands.specs.Faults as replays;
 ghost use Rattle.kfifo_commands.specs.Printing.{Writes, Breaks};
 
 use crate::printing::Printer;
+use kfifo_draw::DrawFault;
+use kfifo_import::ImportFault;
 use kfifo_judge::StreamFault;
 use kfifo_live::OpenFault;
 use kfifo_model::{RecordFault, SearchFault};
@@ -42,6 +44,10 @@ pub enum Fault {
     Search(SearchFault),
     /// An item is repeated, so that overtakings are not counted.
     RepeatedItem,
+    /// The input is no log in CSV, or one that gives no record.
+    Import(ImportFault),
+    /// There are more calls than a picture may have.
+    TooManyDrawn,
     /// A growth was refused.
     Memory,
     /// Writing an answer failed. No line is printed for it.
@@ -89,6 +95,8 @@ impl Fault {
             },
             Fault::Search(fault) => Line::numbered("search fault ", fault.number() as usize),
             Fault::RepeatedItem => Line::plain("measure fault 2"),
+            Fault::Import(fault) => log_line(fault),
+            Fault::TooManyDrawn => Line::plain("draw fault 1"),
             Fault::Memory => Line::plain("memory"),
             Fault::Output => Line::plain("output"),
         }
@@ -102,6 +110,22 @@ fn refused_pick(fault: ReplayFault) -> Option<usize>
     match fault {
         ReplayFault::BadPick(place) => Some(place),
         ReplayFault::Memory | ReplayFault::BadScript => None,
+    }
+}
+
+/// What the line of a log's fault says.
+fn log_line(fault: ImportFault) -> Line
+    ensures { numbered result.words.now result.number result.before.now result.place ≡ import_fault_text fault }
+{
+    match fault {
+        ImportFault::Csv(line) => Line::numbered("csv fault at line ", line as usize),
+        ImportFault::TooMany => Line::numbered("record fault ", 2),
+        ImportFault::NotACall(line) => Line::at_line(3, line),
+        ImportFault::NumberOutOfRange(line) => Line::at_line(4, line),
+        ImportFault::WrongAnswer(line) => Line::at_line(5, line),
+        ImportFault::EndsEarly(line) => Line::at_line(6, line),
+        ImportFault::Overlap(line) => Line::at_line(8, line),
+        ImportFault::Memory => Line::plain("memory"),
     }
 }
 
@@ -139,6 +163,18 @@ impl Line {
             number: None,
             before: "",
             place: None,
+        }
+    }
+
+    /// A fault of a record with this number, at a line of a log.
+    fn at_line(number: usize, line: u64) -> Line
+        ensures { numbered result.words.now result.number result.before.now result.place ≡ codes "record fault " ++ at_line_text number line }
+    {
+        Line {
+            words: "record fault ",
+            number: Some(number),
+            before: " at line ",
+            place: Some(line as usize),
         }
     }
 
@@ -200,6 +236,28 @@ impl From<OpenFault> for Fault {
 
     fn from(fault: OpenFault) -> Fault {
         Fault::Open(fault)
+    }
+}
+
+impl From<ImportFault> for Fault {
+    ghost from_gives = { λ given fault. fault ≡ log_fault given };
+
+    fn from(fault: ImportFault) -> Fault {
+        match fault {
+            ImportFault::Memory => Fault::Memory,
+            _ => Fault::Import(fault),
+        }
+    }
+}
+
+impl From<DrawFault> for Fault {
+    ghost from_gives = { λ given fault. fault ≡ picture_fault given };
+
+    fn from(fault: DrawFault) -> Fault {
+        match fault {
+            DrawFault::TooMany => Fault::TooManyDrawn,
+            DrawFault::Memory => Fault::Memory,
+        }
     }
 }
 

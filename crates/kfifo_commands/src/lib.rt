@@ -5,6 +5,7 @@
 mod commands;
 mod ending;
 mod fault;
+mod input;
 mod options;
 mod picks;
 mod printing;
@@ -19,7 +20,8 @@ mod words;
 pub use ending::{Notice, carry_out, end_with_fault, end_with_text};
 pub use fault::Fault;
 pub use options::{
-    CheckOptions, JudgeOptions, LeastOptions, RecordOptions, ReplayOptions, Request, RunOptions,
+    CheckOptions, DrawOptions, JudgeOptions, LeastOptions, RecordOptions, ReplayOptions, Request,
+    RunOptions,
 };
 pub use printing::Printer;
 pub use progress::{Progress, Silent};

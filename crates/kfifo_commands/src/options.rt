@@ -67,6 +67,15 @@ pub struct LeastOptions {
     pub tries: u64,
 }
 
+/// What `draw` is given.
+#[derive(Clone, Copy)]
+pub struct DrawOptions<'a> {
+    /// The order that is drawn too, and the k of its verdict, as `check` is given them; no order to draw the calls alone.
+    pub check: CheckOptions<'a>,
+    /// Whether the picture is one of characters.
+    pub text: bool,
+}
+
 /// What `record` is given.
 #[derive(Clone, Copy)]
 pub struct RecordOptions<'a> {
@@ -99,4 +108,8 @@ pub enum Request<'a> {
     Least(LeastOptions),
     /// Runs each script on a thread of its own, and records the calls.
     Record(RecordOptions<'a>),
+    /// Gives the record of a log in CSV.
+    Import,
+    /// Draws a record.
+    Draw(DrawOptions<'a>),
 }

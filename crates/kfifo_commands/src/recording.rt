@@ -4,6 +4,7 @@ ghost use Rattle.serde_json.specs.View.{view};
 ghost use Rattle.serde_json.specs.Written.{compact_text};
 ghost use Rattle.kfifo_judge.specs.Inputs.{IsRecordText};
 ghost use Rattle.kfifo_model.specs.declared.calls.Call.{Call};
+ghost use Rattle.kfifo_commands.specs.Lines.{line};
 ghost use Rattle.kfifo_commands.specs.RecordTexts as words;
 
 use kfifo_model::{Answer, Call, End, History, Op};
@@ -17,6 +18,17 @@ pub fn record_text(alloc: Global, history: &History) -> Result<String, AllocErro
     ensures read_back { IfOk result (λ text. length history.now ≤ 65536 → IsRecordText (string_bytes text) history.now) }
 {
     record_value(alloc, history.calls())?.to_string(alloc)
+}
+
+/// The line of the record of a history of as many calls as a record may have.
+pub fn record_line(alloc: Global, history: &History) -> Result<String, AllocError>
+    requires { length history.now ≤ 65536 }
+    ensures line { IfOk result (λ text. string_bytes text ≡ line (words.record_text history.now)) }
+    ensures read_back { IfOk result (λ text. IsRecordText (words.record_text history.now) history.now) }
+{
+    let mut text = record_text(alloc, history)?;
+    text.push('\n')?;
+    Ok(text)
 }
 
 /// The array of these calls.

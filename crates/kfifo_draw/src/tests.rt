@@ -60,17 +60,39 @@ fn drawn(
     Ok(draw(alloc, &history, style, k, order)?)
 }
 
+/// Two calls that overlap, the second of which gets the item of the first.
+fn handed_over() -> [Call; 2] {
+    [
+        done(0, Op::Enqueue(7), 2, 6, Answer::Done),
+        done(1, Op::Dequeue, 4, 9, Answer::Got(7)),
+    ]
+}
+
+/// An order, and how the calls of each kind look with it.
+const ORDERED: [(&[usize], &str); 7] = [
+    (&[0, 1, 2, 3, 4, 5], "fails at call 1: fault 5 not a run at 1\n"),
+    (&[0, 2, 3, 4, 1, 5], "fails at call 1: fault 4 breaks before\n"),
+    (&[1, 0, 2, 3, 4], "fails at call 5: fault 3 leaves out\n"),
+    (&[1, 0, 6], "fails at call 6: fault 2 not a call\n"),
+    (&[1, 0, 8], "fails: fault 2 not a call\n"),
+    (&[1, 0, 2, 0], "fails at call 0: fault 1 repeats\n"),
+    (&[1, 0, 2, 3, 7, 4, 5], "is legal\n"),
+];
+
 #[test]
 fn shows(rt: HostRuntime) -> Result<(), Fail> {
     let kinds = all_kinds();
     let text = drawn(rt.alloc(), kinds.as_slice(), Style::Text, 1, None)?;
     println!(rt; "{text}")?;
-    let text = drawn(rt.alloc(), kinds.as_slice(), Style::Text, 1, Some(&[0, 2, 3, 4, 1, 5]))?;
+    for (order, words) in ORDERED {
+        let text = drawn(rt.alloc(), kinds.as_slice(), Style::Text, 1, Some(order))?;
+        println!(rt; "{text} {words}")?;
+    }
+    let text = drawn(rt.alloc(), handed_over().as_slice(), Style::Svg, 1, None)?;
     println!(rt; "{text}")?;
-    let text = drawn(rt.alloc(), kinds.as_slice(), Style::Svg, 1, None)?;
+    let text = drawn(rt.alloc(), [].as_slice(), Style::Svg, 1, None)?;
     println!(rt; "{text}")?;
     let text = drawn(rt.alloc(), kinds.as_slice(), Style::Svg, 1, Some(&[0, 2, 3, 4, 1, 5]))?;
-    println!(rt; "{text}")
-        ?;
+    println!(rt; "{text}")?;
     Ok(())
 }

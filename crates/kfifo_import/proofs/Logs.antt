@@ -1,14 +1,15 @@
 -- The calls of a log's lines, and the faults of logs.
-use Rattle.std.proofs.Common.{◌≡◌, ◌<◌, List, length, get_or, subst, refl, arith}
+use Rattle.std.proofs.Common.{◌≡◌, ◌∙◌, ◌<◌, ◌≤◌, List, IfOk, MatchResult, Result, Ok, Err, length, get_or, subst, refl, arith}
 use Rattle.std.specs.List.Sorted.{IsNonDecreasingBy}
 use Rattle.std.proofs.lemmas.List.{length-map}
+use Rattle.std.proofs.lemmas.List.Sorted.{length_permutation}
 use Rattle.std.proofs.Math.ListN.{get_or-map}
 use Rattle.kfifo_model.specs.declared.calls.Call.{Call}
 use Rattle.kfifo_model.specs.declared.history.RecordFault.{RecordFault}
 use Rattle.kfifo_model.specs.declared.history.RecordFault.TheVariants as records
 use Rattle.kfifo_model.specs.Validity.{IsFault}
 use Rattle.kfifo_import.specs.declared.log.Line.{Line}
-use Rattle.kfifo_import.specs.Logs.{AreByFirst, IsImportFault, calls_of, first_time, import_fault}
+use Rattle.kfifo_import.specs.Logs.{AreByFirst, IsImportFault, IsRecordOfLog, calls_of, first_time, import_fault}
 use Rattle.kfifo_import.specs.Stamping.{AreStamped}
 
 pub calls_rise : (lines : List Line) → IsNonDecreasingBy first_time lines → IsNonDecreasingBy (λ c. c.first) (calls_of lines)
@@ -30,3 +31,16 @@ refused lines sorted calls records.NotAList b s f = absurd f
 refused lines sorted calls records.TooMany b s f = absurd f
 refused lines sorted calls (records.NotACall n) b s f = absurd f
 refused lines sorted calls records.Memory b s f = absurd f
+
+-- the record of a log is not longer than a record may be
+pub few_calls : (lines : List Line) (h : List Call) → IsRecordOfLog lines h → length h ≤ 65536
+few_calls lines h r =
+    let moved = length_permutation lines r.sorted r.by_first.moved in
+    let mapped = length-map r.sorted (λ (x : Line). x.call) in
+    let sized : length h ≡ length lines = r.stamped.sized ∙ (mapped ∙ moved) in
+    let few = r.few in
+    omega (arith, sized, few)
+
+pub few_ok : {E : Type 0} (lines : List Line) (P : E → Type 0) (r : Result (List Call) E) → MatchResult r (IsRecordOfLog lines) P → IfOk r (λ h. length h ≤ 65536)
+few_ok lines P (Ok h) m = few_calls lines h m
+few_ok lines P (Err e) m = tt

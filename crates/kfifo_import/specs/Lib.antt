@@ -1,2 +1,3 @@
 pub mod Stamping
 pub mod Logs
+pub mod Tables

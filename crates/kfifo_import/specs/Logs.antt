@@ -28,8 +28,9 @@ pub record AreByFirst (lines sorted : List Line) : Type 0 where
   pub rise : IsNonDecreasingBy first_time sorted
   pub stable : IsStableByKey first_time nat_cmp lines sorted
 
--- The history is the record of the log: its calls by rising first time, with stamps.
+-- The history is the record of the log, which has at most 65,536 lines: its calls by rising first time, with stamps.
 pub record IsRecordOfLog (lines : List Line) (h : List Call) : Type 0 where
+  pub few : length lines ≤ 65536
   pub sorted : List Line
   pub by_first : AreByFirst lines sorted
   pub stamped : AreStamped (calls_of sorted) h

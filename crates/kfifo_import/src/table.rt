@@ -1,7 +1,6 @@
 //! Logs as tables of comma-separated fields.
-ghost use Rattle.std.specs.Prelude.{List, IfOk};
-ghost use Rattle.kfifo_import.specs.declared.log.Line.{Line as LineData};
-ghost use Rattle.kfifo_import.specs.Logs.{IsRecordOfLog};
+ghost use Rattle.std.specs.Prelude.{◌≤◌, IfErr, IfOk, MatchResult, length};
+ghost use Rattle.kfifo_import.specs.Tables.{IsImported, IsTextFault, IsUnimported};
 
 use crate::log::{ImportFault, Line, record_of};
 use csv::{ByteRecord, ErrorKind, ReaderBuilder};
@@ -127,7 +126,9 @@ fn line_of(row: &ByteRecord) -> u64 {
 }
 
 /// What an error of the reader says of the text.
-fn fault_of(kind: &ErrorKind) -> ImportFault {
+fn fault_of(kind: &ErrorKind) -> ImportFault
+    ensures { IsTextFault result }
+{
     match kind {
         ErrorKind::UnequalLengths { pos: Some(pos), .. } => ImportFault::Csv(pos.line),
         ErrorKind::OutOfMemory | ErrorKind::Io(_) => ImportFault::Memory,
@@ -136,7 +137,9 @@ fn fault_of(kind: &ErrorKind) -> ImportFault {
 }
 
 /// The lines of a table with a header.
-fn lines_of(alloc: Global, text: &[u8]) -> Result<Vec<Line>, ImportFault> {
+fn lines_of(alloc: Global, text: &[u8]) -> Result<Vec<Line>, ImportFault>
+    ensures { IfErr result IsTextFault }
+{
     let reader = ReaderBuilder::new()
         .has_headers(false)
         .from_reader(alloc, text);
@@ -170,7 +173,9 @@ fn lines_of(alloc: Global, text: &[u8]) -> Result<Vec<Line>, ImportFault> {
 ///
 /// Refused: first what a line itself has wrong, by lines: Csv, NotACall, and TooMany at line 65,537; then as by `record_of`.
 pub fn import_text(alloc: Global, text: &[u8]) -> Result<History, ImportFault>
-    ensures { IfOk result (λ history. (lines : List LineData) × IsRecordOfLog lines history) }
+    ensures record { MatchResult result (IsImported text.now) (IsUnimported text.now) }
+    ensures few { IfOk result (λ history. length history ≤ 65536) }
 {
-    record_of(alloc, lines_of(alloc, text)?)
+    let lines = lines_of(alloc, text)?;
+    record_of(alloc, lines)
 }

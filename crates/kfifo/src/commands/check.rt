@@ -12,7 +12,8 @@ use std::alloc::{AllocError, Global};
 /// The name of the command.
 pub const NAME: &str = "check";
 
-const ORDER: &str = "order";
+/// The name of the option that gives an order.
+pub const ORDER: &str = "order";
 
 const EXAMPLES: &str = "\
 Examples:

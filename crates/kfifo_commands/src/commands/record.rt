@@ -1,23 +1,18 @@
 //! The command `record`: scripts, each run by a thread of its own, and the record of the run.
-ghost use Rattle.std.specs.Prelude.{◌≡◌, ◌≢◌, ◌⊎◌, ◌≤◌, ◌+◌, ℕ, IfOk, IfErr, length, string_bytes};
-ghost use Rattle.kfifo_judge.specs.Inputs.{IsRecordText};
-ghost use Rattle.kfifo_model.specs.declared.calls.Call.{Call};
+ghost use Rattle.std.specs.Prelude.{◌≡◌, ◌≢◌, ◌⊎◌, ◌≤◌, ◌+◌, ℕ, IfOk, IfErr, string_bytes};
 ghost use Rattle.kfifo_record.specs.Repeats.{IsFirstOver, all_repeated, last_shift};
 ghost use Rattle.kfifo_record.specs.Scripts.{AreScripts, scripts_in};
-ghost use Rattle.kfifo_commands.specs.Lines.{line};
 ghost use Rattle.kfifo_commands.specs.RealRuns.{IsRealRun, IsRealRunRefusal};
-ghost use Rattle.kfifo_commands.specs.RecordTexts as texts;
 ghost use Rattle.kfifo_commands.specs.Runs.{IsShapeOf};
 
 use crate::fault::Fault;
 use crate::options::RecordOptions;
-use crate::recording::record_text;
+use crate::recording::record_line;
 use crate::words::read_scripts;
 use kfifo_machine::Begin;
-use kfifo_model::History;
 use kfifo_record::{OpenGate, first_over, record_scripts, repeat_scripts};
 use kfifo_words::Shape;
-use std::alloc::{AllocError, Global};
+use std::alloc::Global;
 use std::thread::Threads;
 
 /// The line of the record of a run. `threads` is the permission to start threads.
@@ -34,7 +29,7 @@ pub fn answer<R: Threads + Sync>(
     let once = read_scripts(alloc, options.scripts, shape.k(), options.turns)?;
     let scripts = repeat(alloc, once.as_slice(), options.repeat)?;
     let history = record_scripts(threads, alloc, shape, scripts.as_slice(), &OpenGate)?;
-    let text = line_of(alloc, &history)?;
+    let text = record_line(alloc, &history)?;
     Ok(text)
 }
 
@@ -62,15 +57,4 @@ fn repeat(alloc: Global, scripts: &[Vec<Begin>], count: u32) -> Result<Vec<Vec<B
             Ok(made)
         }
     }
-}
-
-/// The line of the record of a history.
-fn line_of(alloc: Global, history: &History) -> Result<String, AllocError>
-    requires { length history.now ≤ 65536 }
-    ensures line { IfOk result (λ text. string_bytes text ≡ line (texts.record_text history.now)) }
-    ensures read_back { IfOk result (λ text. IsRecordText (texts.record_text history.now) history.now) }
-{
-    let mut text = record_text(alloc, history)?;
-    text.push('\n')?;
-    Ok(text)
 }

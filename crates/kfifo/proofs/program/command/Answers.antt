@@ -12,4 +12,6 @@ returns c =
     let four = adds_command _ _ c.in_ok-subcommand-4.field-0 _ _ three c.in_ok-command-4.ensures c.in_ok-subcommand-4.ensures in
     let five = adds_command _ _ c.in_ok-subcommand-5.field-0 _ _ four c.in_ok-command-5.ensures c.in_ok-subcommand-5.ensures in
     let six = adds_command _ _ c.in_ok-subcommand-6.field-0 _ _ five c.in_ok-command-6.ensures c.in_ok-subcommand-6.ensures in
-    IfOk-weaker c.subcommand-7.result _ _ (λ r h. adds_command _ _ r _ _ six c.in_ok-command-7.ensures h) c.subcommand-7.ensures
+    let seven = adds_command _ _ c.in_ok-subcommand-7.field-0 _ _ six c.in_ok-command-7.ensures c.in_ok-subcommand-7.ensures in
+    let eight = adds_command _ _ c.in_ok-subcommand-8.field-0 _ _ seven c.in_ok-command-8.ensures c.in_ok-subcommand-8.ensures in
+    IfOk-weaker c.subcommand-9.result _ _ (λ r h. adds_command _ _ r _ _ eight c.in_ok-command-9.ensures h) c.subcommand-9.ensures

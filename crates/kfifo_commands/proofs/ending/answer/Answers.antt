@@ -58,3 +58,19 @@ returns-in_err-print-in-Record-clause-broken g c = any_err c.from_residual-in_er
   rw (c.in-Record.is, c.as_bytes-in-Record.ensures.value) (c.in_ok-text-in-Record.ensures.ok, refl),
   c.in_err-print-in-Record.ensures.err,
 ))
+
+pub returns-in_err-print-in-Import-clause-broken : goal.returns-in_err-print-in-Import-clause-broken
+returns-in_err-print-in-Import-clause-broken g c = any_err c.from_residual-in_err-print-in-Import.result _ (λ fault is. (
+  c.as_bytes-in-Import.result.now,
+  0,
+  rw (c.in-Import.is, c.as_bytes-in-Import.ensures.value) (c.in_ok-text-in-Import.ensures.ok, refl),
+  c.in_err-print-in-Import.ensures.err,
+))
+
+pub returns-in_err-print-in-Draw-clause-broken : goal.returns-in_err-print-in-Draw-clause-broken
+returns-in_err-print-in-Draw-clause-broken g c = any_err c.from_residual-in_err-print-in-Draw.result _ (λ fault is. (
+  c.as_bytes-in-Draw.result.now,
+  0,
+  rw c.in-Draw.is (c.in_ok-text-in-Draw.ensures.ok, refl),
+  c.in_err-print-in-Draw.ensures.err,
+))
