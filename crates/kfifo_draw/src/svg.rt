@@ -11,12 +11,15 @@ use std::fmt::Write;
 const COLUMN: usize = 8;
 /// The room at the left, for the numbers of the threads, and that at the right.
 const LEFT: usize = 96;
+
 const RIGHT: usize = 16;
 /// The room above the lanes, for what is said of the whole.
 const TOP: usize = 60;
 /// The height of a lane, that of a bar, and how far a bar stands below the top of its lane.
 const LANE: usize = 36;
+
 const BAR: usize = 24;
+
 const INSET: usize = 6;
 /// The room below the lanes, for the key.
 const BOTTOM: usize = 56;
@@ -116,7 +119,9 @@ fn outline_of(call: &Call, bar: &Bar, lane: usize, width: usize) -> Outline {
         width.saturating_sub(RIGHT)
     } else {
         // Two bars that follow each other leave a gap.
-        column_left(bar.right).saturating_add(COLUMN).saturating_sub(2)
+        column_left(bar.right)
+            .saturating_add(COLUMN)
+            .saturating_sub(2)
     };
     Outline {
         x,
@@ -147,12 +152,7 @@ fn push_call(
 }
 
 /// Adds the lane of a thread, at this place from above.
-fn push_lane(
-    text: &mut String,
-    lane: usize,
-    thread: u32,
-    width: usize,
-) -> Result<(), AllocError> {
+fn push_lane(text: &mut String, lane: usize, thread: u32, width: usize) -> Result<(), AllocError> {
     let top = lane_top(lane);
     let (inner, height) = (width.saturating_sub(8), LANE.saturating_sub(2));
     let middle = top.saturating_add(22);
@@ -225,7 +225,10 @@ pub(crate) fn svg_picture(
 ) -> Result<String, AllocError> {
     let mut text = String::new(alloc);
     let drawn = layout.columns.saturating_mul(COLUMN);
-    let width = drawn.saturating_add(LEFT).saturating_add(RIGHT).max(LEAST_WIDTH);
+    let width = drawn
+        .saturating_add(LEFT)
+        .saturating_add(RIGHT)
+        .max(LEAST_WIDTH);
     let below = lane_top(layout.threads.len());
     push_beginning(&mut text, width, below.saturating_add(BOTTOM))?;
     push_heading(&mut text, calls.len(), layout.threads.len(), marks)?;

@@ -66,9 +66,11 @@ docs/JUDGE.md and docs/PROGRAM.md, where this program comes from, say more.";
 pub fn command<'a>(alloc: Global) -> Result<Command<'a>, AllocError>
     ensures { IfOk result (IsCommand draw_command) }
 {
-    let order = options::option(alloc, check::ORDER).value_name("CALLS").help(
-        "An order to draw, too: call numbers joined by commas, none for the empty order, or @FILE",
-    );
+    let order = options::option(alloc, check::ORDER)
+        .value_name("CALLS")
+        .help(
+            "An order to draw, too: call numbers joined by commas, none for the empty order, or @FILE",
+        );
     let text = options::flag(alloc, TEXT).help("Draw with characters, a lane a line");
     let command = Command::new(alloc, NAME)
         .about("Reads a record of calls, and prints a picture of it")

@@ -2,6 +2,7 @@
 
 use crate::fault::Fault;
 use crate::printing::Printer;
+use kfifo_import::ImportFault;
 use kfifo_live::OpenFault;
 use kfifo_model::{RecordFault, SearchFault};
 use kfifo_replay::ReplayFault;
@@ -26,6 +27,17 @@ fn a_fault_shows_its_line(rt: HostRuntime) -> Result<(), Fail> {
         ),
         (Fault::Replay(ReplayFault::BadScript), "replay fault 3"),
         (Fault::Open(OpenFault::CallsOutOfRange), "open fault 4"),
+        (Fault::Import(ImportFault::Csv(3)), "csv fault at line 3"),
+        (Fault::Import(ImportFault::TooMany), "record fault 2"),
+        (
+            Fault::Import(ImportFault::NotACall(9)),
+            "record fault 3 at line 9",
+        ),
+        (
+            Fault::Import(ImportFault::Overlap(10)),
+            "record fault 8 at line 10",
+        ),
+        (Fault::TooManyDrawn, "draw fault 1"),
         (Fault::Memory, "memory"),
     ] {
         let text = format!(in rt.alloc(); "{fault}")?;

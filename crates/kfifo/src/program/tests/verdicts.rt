@@ -35,7 +35,11 @@ fn makes_a_record_of_a_log(rt: HostRuntime) -> Result<(), Fail> {
         r#"[{"answer":"done","first":0,"item":7,"last":2,"op":"enq","thread":0},{"answer":"got","first":1,"item":7,"last":3,"op":"deq","thread":1}]"#;
     let line = format!(in rt.alloc(); "{record}\n")?;
     assert!(rt; told.is(0, line.as_str(), ""));
-    let told = run_on(&rt, "import", "op,thread,item,first,last,answer\nenq,0,7,10\n")?;
+    let told = run_on(
+        &rt,
+        "import",
+        "op,thread,item,first,last,answer\nenq,0,7,10\n",
+    )?;
     assert!(rt; told.is(1, "", "kfifo: csv fault at line 2\n"));
     Ok(())
 }
