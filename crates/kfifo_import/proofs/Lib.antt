@@ -2,3 +2,4 @@ pub mod Ending
 pub mod Points
 pub mod Stamps
 pub mod Logs
+pub mod Rows

@@ -1,3 +1,4 @@
 pub mod Stamping
 pub mod Logs
 pub mod Tables
+pub mod Fields

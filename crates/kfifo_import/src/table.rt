@@ -1,6 +1,8 @@
 //! Logs as tables of comma-separated fields.
-ghost use Rattle.std.specs.Prelude.{◌≤◌, IfErr, IfOk, MatchResult, length};
-ghost use Rattle.kfifo_import.specs.Tables.{IsImported, IsTextFault, IsUnimported};
+ghost use Rattle.std.specs.Prelude.{◌≡◌, ◌≤◌, ◌↔◌, ◌++◌, ◌∷◌, [], ℕ, List, IfErr, IfOk, IfSome, IsTrue, None, OnOk, Some, MatchResult, length, option_map};
+ghost use Rattle.csv.specs.Records.{field_at, fields_of};
+ghost use Rattle.kfifo_import.specs.Fields.{Gives, GivesText, HasColumns, IsAnswer, IsCallOf, IsDigits, IsEnd, IsOp, IsPutAnswer, IsTakeAnswer, WritesSmall, WritesWhole};
+ghost use Rattle.kfifo_import.specs.Tables.{Holds, IsImported, IsTextFault, IsUnimported, ReadsLog};
 
 use crate::log::{ImportFault, Line, record_of};
 use csv::{ByteRecord, ErrorKind, ReaderBuilder};
@@ -18,8 +20,10 @@ struct Columns {
     answer: usize,
 }
 
-/// The place of the field with this name in the header.
-fn place_of(header: &ByteRecord, name: &[u8]) -> Option<usize> {
+/// The place of a field with this name in the header.
+fn place_of(header: &ByteRecord, name: &[u8]) -> Option<usize>
+    ensures { IfSome result (λ place. field_at (fields_of header.now) place ≡ Some name.now) }
+{
     for place in 0..header.len() {
         if header.get(place) == Some(name) {
             return Some(place);
@@ -29,7 +33,9 @@ fn place_of(header: &ByteRecord, name: &[u8]) -> Option<usize> {
 }
 
 /// The places of the six fields, if the header has them.
-fn columns_of(header: &ByteRecord) -> Option<Columns> {
+fn columns_of(header: &ByteRecord) -> Option<Columns>
+    ensures { IfSome result (HasColumns (fields_of header.now)) }
+{
     Some(Columns {
         thread: place_of(header, b"thread")?,
         op: place_of(header, b"op")?,
@@ -41,77 +47,154 @@ fn columns_of(header: &ByteRecord) -> Option<Columns> {
 }
 
 /// The field at a place, none where it is empty.
-fn field(row: &ByteRecord, place: usize) -> Option<&[u8]> {
+fn field(row: &ByteRecord, place: usize) -> Option<&[u8]>
+    ensures { GivesText (field_at (fields_of row.now) place) (option_map (λ t. t.now) result) }
+{
     match row.get(place) {
         Some(text) if !text.is_empty() => Some(text),
         _ => None,
     }
 }
 
+/// Whether each byte is a decimal digit.
+fn is_digits(text: &[u8]) -> bool
+    ensures { IsTrue result ↔ IsDigits text.now }
+{
+    text.iter().all(|byte| byte.is_ascii_digit())
+}
+
 /// The whole number that digits write.
-fn whole(text: &[u8]) -> Option<u64> {
-    if !text.iter().all(|byte| byte.is_ascii_digit()) {
+fn whole(text: &[u8]) -> Option<u64>
+    ensures { IfSome result (WritesWhole text.now) }
+{
+    if !is_digits(text) {
         return None;
     }
-    match str::from_utf8(text) {
-        Ok(digits) => digits.parse().ok(),
-        Err(_) => None,
+    let Ok(digits) = str::from_utf8(text) else {
+        return None;
+    };
+    digits.parse().ok()
+}
+
+/// The same as a number of 32 bits; one that is too great is out of every range.
+fn small(text: &[u8]) -> Option<u32>
+    ensures { IfSome result (WritesSmall text.now) }
+{
+    let number = whole(text)?;
+    if number < 4_294_967_295 {
+        Some(number as u32)
+    } else {
+        Some(4_294_967_295)
     }
 }
 
-/// The number as one of 32 bits; one that is too great is out of every range.
-fn clamped(number: u64) -> u32 {
-    u32::try_from(number).unwrap_or(u32::MAX)
+/// The item in this field, none where it is empty; none at all where it is no number.
+fn item_in(row: &ByteRecord, place: usize) -> Option<Option<u32>>
+    ensures { IfSome result (Gives WritesSmall (field_at (fields_of row.now) place)) }
+{
+    match field(row, place) {
+        Some(text) => Some(Some(small(text)?)),
+        None => Some(None),
+    }
+}
+
+/// The time in this field, none where it is empty; none at all where it is no number.
+fn time_in(row: &ByteRecord, place: usize) -> Option<Option<u64>>
+    ensures { IfSome result (Gives WritesWhole (field_at (fields_of row.now) place)) }
+{
+    match field(row, place) {
+        Some(text) => Some(Some(whole(text)?)),
+        None => Some(None),
+    }
+}
+
+/// The operation.
+fn op_of(text: &[u8], item: Option<u32>) -> Option<Op>
+    ensures { IfSome result (IsOp text.now item) }
+{
+    if text == b"enq".as_slice() {
+        Some(Op::Enqueue(item?))
+    } else if text == b"deq".as_slice() {
+        Some(Op::Dequeue)
+    } else {
+        None
+    }
 }
 
 /// The answer of an enqueue; another text is an answer that no enqueue has.
-fn put_answer(text: &[u8]) -> Answer {
-    match text {
-        b"done" => Answer::Done,
-        b"full" => Answer::Full,
-        b"busy" => Answer::Busy,
-        b"worn" => Answer::Worn,
-        _ => Answer::Empty,
+fn put_answer(text: &[u8]) -> Answer
+    ensures { IsPutAnswer text.now result }
+{
+    if text == b"done".as_slice() {
+        Answer::Done
+    } else if text == b"full".as_slice() {
+        Answer::Full
+    } else if text == b"busy".as_slice() {
+        Answer::Busy
+    } else if text == b"worn".as_slice() {
+        Answer::Worn
+    } else {
+        Answer::Empty
     }
 }
 
-/// The answer of a dequeue with this item; another text is an answer that no dequeue has. None where the item is there
-/// without the answer `got`, or the other way round.
-fn take_answer(text: &[u8], item: Option<u32>) -> Option<Answer> {
-    match (text, item) {
-        (b"got", Some(item)) => Some(Answer::Got(item)),
-        (b"got", None) | (_, Some(_)) => None,
-        (b"empty", None) => Some(Answer::Empty),
-        (b"busy", None) => Some(Answer::Busy),
-        (b"worn", None) => Some(Answer::Worn),
-        (_, None) => Some(Answer::Done),
+/// The answer of a dequeue that got nothing; another text is an answer that no dequeue has.
+fn take_answer(text: &[u8]) -> Answer
+    ensures { IsTakeAnswer text.now None result }
+{
+    if text == b"empty".as_slice() {
+        Answer::Empty
+    } else if text == b"busy".as_slice() {
+        Answer::Busy
+    } else if text == b"worn".as_slice() {
+        Answer::Worn
+    } else {
+        Answer::Done
+    }
+}
+
+/// The answer of a call. None where a dequeue has an item without the answer `got`, or the other way round.
+fn answer_of(op: Op, text: &[u8], item: Option<u32>) -> Option<Answer>
+    ensures { IfSome result (IsAnswer op text.now item) }
+{
+    match (op, item) {
+        (Op::Enqueue(_), _) => Some(put_answer(text)),
+        (Op::Dequeue, Some(item)) if text == b"got".as_slice() => Some(Answer::Got(item)),
+        (Op::Dequeue, Some(_)) => None,
+        (Op::Dequeue, None) if text == b"got".as_slice() => None,
+        (Op::Dequeue, None) => Some(take_answer(text)),
+    }
+}
+
+/// The end of a call; none at all where one of its two fields is empty and the other is not, or an unfinished dequeue has an item.
+fn end_of(
+    op: Op,
+    last: Option<u64>,
+    answer: Option<&[u8]>,
+    item: Option<u32>,
+) -> Option<Option<End>>
+    ensures { IfSome result (IsEnd op last (option_map (λ t. t.now) answer.entry) item) }
+{
+    match (last, answer) {
+        (Some(last), Some(text)) => {
+            let answer = answer_of(op, text, item)?;
+            Some(Some(End { last, answer }))
+        }
+        (None, None) if op != Op::Dequeue || item.is_none() => Some(None),
+        _ => None,
     }
 }
 
 /// The call of a line, or none where the line is no call.
-fn call_of(row: &ByteRecord, columns: &Columns) -> Option<Call> {
-    let thread = clamped(whole(field(row, columns.thread)?)?);
+fn call_of(row: &ByteRecord, columns: &Columns) -> Option<Call>
+    ensures { IfSome result (IsCallOf columns.now (fields_of row.now)) }
+{
+    let thread = small(field(row, columns.thread)?)?;
     let first = whole(field(row, columns.first)?)?;
-    let item = match field(row, columns.item) {
-        Some(text) => Some(clamped(whole(text)?)),
-        None => None,
-    };
-    let last = match field(row, columns.last) {
-        Some(text) => Some(whole(text)?),
-        None => None,
-    };
-    let (op, answer) = match (field(row, columns.op)?, field(row, columns.answer)) {
-        (b"enq", None) => (Op::Enqueue(item?), None),
-        (b"enq", Some(text)) => (Op::Enqueue(item?), Some(put_answer(text))),
-        (b"deq", None) if item.is_none() => (Op::Dequeue, None),
-        (b"deq", Some(text)) => (Op::Dequeue, Some(take_answer(text, item)?)),
-        _ => return None,
-    };
-    let end = match (last, answer) {
-        (Some(last), Some(answer)) => Some(End { last, answer }),
-        (None, None) => None,
-        _ => return None,
-    };
+    let item = item_in(row, columns.item)?;
+    let last = time_in(row, columns.last)?;
+    let op = op_of(field(row, columns.op)?, item)?;
+    let end = end_of(op, last, field(row, columns.answer), item)?;
     Some(Call {
         thread,
         op,
@@ -136,33 +219,57 @@ fn fault_of(kind: &ErrorKind) -> ImportFault
     }
 }
 
+/// What was read of a table so far.
+#[derive(Drop)]
+struct Table {
+    /// Where the fields stand, once the header was read.
+    columns: Option<Columns>,
+    /// The lines below the header.
+    lines: Vec<Line>,
+}
+
+impl Table {
+    /// Takes in the next row: the header, and then lines.
+    fn take(&mut self, row: &ByteRecord) -> Result<(), ImportFault>
+        ensures ok { OnOk result ((rows : List (List (List ℕ))) → Holds rows self.old.columns self.old.lines.items
+            → Holds (rows ++ fields_of row.now ∷ []) self.new.columns self.new.lines.items) }
+        ensures err { IfErr result IsTextFault }
+    {
+        let number = line_of(row);
+        let Some(columns) = self.columns else {
+            let columns = columns_of(row).ok_or(ImportFault::Csv(number))?;
+            self.columns = Some(columns);
+            return Ok(());
+        };
+        if self.lines.len() >= MOST_CALLS {
+            return Err(ImportFault::TooMany);
+        }
+        let call = call_of(row, &columns).ok_or(ImportFault::NotACall(number))?;
+        self.lines.push(Line { number, call })?;
+        Ok(())
+    }
+}
+
 /// The lines of a table with a header.
 fn lines_of(alloc: Global, text: &[u8]) -> Result<Vec<Line>, ImportFault>
-    ensures { IfErr result IsTextFault }
+    ensures ok { IfOk result (λ lines. ReadsLog text.now lines.items) }
+    ensures err { IfErr result IsTextFault }
 {
     let reader = ReaderBuilder::new()
         .has_headers(false)
         .from_reader(alloc, text);
-    let mut header = None;
-    let mut lines = Vec::new(alloc);
+    let mut table = Table {
+        columns: None,
+        lines: Vec::new(alloc),
+    };
     for row in reader.into_byte_records() {
-        let row = match row {
-            Ok(row) => row,
+        match row {
+            Ok(row) => table.take(&row)?,
             Err(error) => return Err(fault_of(error.kind())),
-        };
-        let number = line_of(&row);
-        let Some(columns) = header else {
-            header = Some(columns_of(&row).ok_or(ImportFault::Csv(number))?);
-            continue;
-        };
-        if lines.len() >= MOST_CALLS {
-            return Err(ImportFault::TooMany);
         }
-        let call = call_of(&row, &columns).ok_or(ImportFault::NotACall(number))?;
-        lines.push(Line { number, call })?;
     }
-    match header {
-        Some(_) => Ok(lines),
+    match table.columns {
+        Some(_) => Ok(table.lines),
         None => Err(ImportFault::Csv(1)),
     }
 }

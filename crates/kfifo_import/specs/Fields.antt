@@ -1,0 +1,102 @@
+-- The fields of a log's lines.
+use Rattle.std.specs.Prelude.{◌≡◌, ℕ, ◌≤◌, List, [], ◌∷◌, Option, Some, None, EachIndex, codes, length, min, slice_index}
+use Rattle.std.specs.Int.{IsInRange}
+use Rattle.std.specs.Str.Parse.{digits_value}
+use Rattle.csv.specs.Records.{field_at}
+use Rattle.kfifo_model.specs.declared.calls.Answer.{Answer}
+use Rattle.kfifo_model.specs.declared.calls.Answer.TheVariants.{Done, Full, Got, Empty, Busy, Worn}
+use Rattle.kfifo_model.specs.declared.calls.Call.{Call}
+use Rattle.kfifo_model.specs.declared.calls.End.{End}
+use Rattle.kfifo_model.specs.declared.calls.Op.{Op}
+use Rattle.kfifo_model.specs.declared.calls.Op.TheVariants.{Enqueue, Dequeue}
+use Rattle.kfifo_import.specs.declared.table.Columns.{Columns}
+
+-- the header has each field at its place
+pub record HasColumns (names : List (List ℕ)) (columns : Columns) : Type 0 where
+  pub thread : field_at names columns.thread ≡ Some (codes "thread")
+  pub op : field_at names columns.op ≡ Some (codes "op")
+  pub item : field_at names columns.item ≡ Some (codes "item")
+  pub first : field_at names columns.first ≡ Some (codes "first")
+  pub last : field_at names columns.last ≡ Some (codes "last")
+  pub answer : field_at names columns.answer ≡ Some (codes "answer")
+
+-- each byte is a decimal digit
+abbrev pub IsDigits : List ℕ → Type 0
+IsDigits text = EachIndex text (λ i. IsInRange 48 57 (slice_index text i))
+
+-- decimal digits write this number
+pub record WritesWhole (text : List ℕ) (number : ℕ) : Type 0 where
+  pub some : 1 ≤ length text
+  pub digits : IsDigits text
+  pub value : number ≡ digits_value 10 text
+
+-- the same, where a number of over 32 bits, which is out of every range, is taken as the greatest of 32 bits
+abbrev pub WritesSmall : List ℕ → ℕ → Type 0
+WritesSmall text number = (whole : ℕ) × WritesWhole text whole × (number ≡ min whole 4294967295)
+
+-- a field that does not apply is empty, or is not there
+abbrev pub DoesNotApply : Option (List ℕ) → Type 0
+DoesNotApply None = Unit {0}
+DoesNotApply (Some text) = text ≡ []
+
+-- the text of a field, none where it does not apply
+abbrev pub GivesText : Option (List ℕ) → Option (List ℕ) → Type 0
+GivesText given None = DoesNotApply given
+GivesText given (Some text) = given ≡ Some text
+
+-- the number of a field, none where it does not apply
+abbrev pub Gives : (List ℕ → ℕ → Type 0) → Option (List ℕ) → Option ℕ → Type 0
+Gives Writes given None = DoesNotApply given
+Gives Writes given (Some number) = (text : List ℕ) × (given ≡ Some text) × Writes text number
+
+-- the text of an operation, beside the item
+abbrev pub IsOp : List ℕ → Option ℕ → Op → Type 0
+IsOp text item (Enqueue x) = (text ≡ codes "enq") × (item ≡ Some x)
+IsOp text item Dequeue = text ≡ codes "deq"
+
+-- the text of an enqueue's answer; Empty, which no enqueue answers, stands for other texts
+abbrev pub IsPutAnswer : List ℕ → Answer → Type 0
+IsPutAnswer text Done = text ≡ codes "done"
+IsPutAnswer text Full = text ≡ codes "full"
+IsPutAnswer text (Got x) = ⊥
+IsPutAnswer text Empty = Unit {0}
+IsPutAnswer text Busy = text ≡ codes "busy"
+IsPutAnswer text Worn = text ≡ codes "worn"
+
+-- the text of a dequeue's answer, beside the item; Done, which no dequeue answers, stands for other texts
+abbrev pub IsTakeAnswer : List ℕ → Option ℕ → Answer → Type 0
+IsTakeAnswer text item Done = item ≡ None
+IsTakeAnswer text item Full = ⊥
+IsTakeAnswer text item (Got x) = (text ≡ codes "got") × (item ≡ Some x)
+IsTakeAnswer text item Empty = (text ≡ codes "empty") × (item ≡ None)
+IsTakeAnswer text item Busy = (text ≡ codes "busy") × (item ≡ None)
+IsTakeAnswer text item Worn = (text ≡ codes "worn") × (item ≡ None)
+
+abbrev pub IsAnswer : Op → List ℕ → Option ℕ → Answer → Type 0
+IsAnswer (Enqueue x) text item answer = IsPutAnswer text answer
+IsAnswer Dequeue text item answer = IsTakeAnswer text item answer
+
+-- an unfinished dequeue has no item
+abbrev pub IsUnfinished : Op → Option ℕ → Type 0
+IsUnfinished (Enqueue x) item = Unit {0}
+IsUnfinished Dequeue item = item ≡ None
+
+-- a call ends where it has a last time and an answer, and is unfinished where it has neither
+abbrev pub IsEnd : Op → Option ℕ → Option (List ℕ) → Option ℕ → Option End → Type 0
+IsEnd op last answer item (Some end) = (text : List ℕ) × (last ≡ Some end.last) × (answer ≡ Some text) × IsAnswer op text item end.answer
+IsEnd op last answer item None = (last ≡ None) × (answer ≡ None) × IsUnfinished op item
+
+-- The fields of a line are those of the call, whose steps are times.
+pub record IsCallOf (columns : Columns) (fields : List (List ℕ)) (c : Call) : Type 0 where
+  pub thread : Gives WritesSmall (field_at fields columns.thread) (Some c.thread)
+  pub first : Gives WritesWhole (field_at fields columns.first) (Some c.first)
+  pub item : Option ℕ
+  pub item_given : Gives WritesSmall (field_at fields columns.item) item
+  pub last : Option ℕ
+  pub last_given : Gives WritesWhole (field_at fields columns.last) last
+  pub op_text : List ℕ
+  pub op_given : field_at fields columns.op ≡ Some op_text
+  pub op : IsOp op_text item c.op
+  pub answer : Option (List ℕ)
+  pub answer_given : GivesText (field_at fields columns.answer) answer
+  pub end : IsEnd c.op last answer item c.end
