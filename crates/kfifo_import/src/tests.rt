@@ -122,3 +122,48 @@ fn refuses(rt: HostRuntime) -> Result<(), Fail> {
     }
     Ok(())
 }
+
+/// A byte order mark, line ends of two bytes, fields in quotation marks, and each answer that changes nothing.
+const QUOTED: &str =
+    "\u{feff}thread,op,item,first,last,answer\r\n\"3\",\"enq\",\"007\",5,6,\"full\"\r\n3,enq,7,7,8,busy\r\n3,enq,7,9,10,worn\r\n3,deq,,11,12,busy\r\n3,deq,\"\",13,14,worn\r\n";
+
+/// A call of thread 3 that was answered so.
+fn refused(op: Op, first: u64, answer: Answer) -> Call {
+    Call {
+        thread: 3,
+        op,
+        first,
+        end: Some(End {
+            last: first.saturating_add(1),
+            answer,
+        }),
+    }
+}
+
+#[test]
+fn reads_csv(rt: HostRuntime) -> Result<(), Fail> {
+    let history = import_text(rt.alloc(), QUOTED.as_bytes())?;
+    let expected = [
+        refused(Op::Enqueue(7), 0, Answer::Full),
+        refused(Op::Enqueue(7), 2, Answer::Busy),
+        refused(Op::Enqueue(7), 4, Answer::Worn),
+        refused(Op::Dequeue, 6, Answer::Busy),
+        refused(Op::Dequeue, 8, Answer::Worn),
+    ];
+    assert!(rt; history.calls() == expected.as_slice());
+    Ok(())
+}
+
+/// Holds with each allocation failing in turn: what is answered after a refusal is the record.
+#[test]
+fn refused_memory(rt: HostRuntime) -> Result<(), Fail> {
+    let history = match import_text(rt.alloc(), TOUCHING.as_bytes()) {
+        Ok(history) => history,
+        Err(fault) => {
+            assert_eq!(rt; fault, ImportFault::Memory);
+            import_text(rt.alloc(), TOUCHING.as_bytes())?
+        }
+    };
+    assert_eq!(rt; history.calls().len(), 4);
+    Ok(())
+}
