@@ -1,5 +1,5 @@
 -- A look at the schedule, and views that are cut in two or put together, keep the rule.
-use Rattle.std.proofs.Common.{◌≡◌, ◌≢◌, ◌⊎◌, ℕ, zero, suc, ◌+◌, ◌-◌, ◌<◌, ◌≤◌, List, [], ◌∷◌, ◌++◌, length, set, get_or, replicate, ◌*◌, take, drop, true, false, refl, sym, ap, ◌∙◌, subst, inl, inr, ⊎_elim, arith, cond, eq-eqb, ne_eqb, nat_eq, nat_le}
+use Rattle.std.proofs.Common.{◌≡◌, ◌≢◌, ◌⊎◌, ℕ, zero, suc, ◌+◌, ◌-◌, ◌<◌, ◌≤◌, List, [], ◌∷◌, ◌++◌, length, set, get_or, replicate, ◌*◌, take, drop, true, false, refl, sym, ap, ◌∙◌, subst, inl, inr, ⊎_elim, Option, arith, cond, eq-eqb, ne_eqb, nat_eq, nat_le}
 use Rattle.std.specs.Prelude.{slice_index, slice_set}
 use Rattle.std.proofs.lemmas.List.{append-nil, set-get_or}
 use Rattle.std.proofs.lemmas.Bool.Decides.{nat_tests}
@@ -12,47 +12,61 @@ use Rattle.kfifo_machine.specs.Machine.{opening}
 use Rattle.kfifo_live.specs.declared.view.Opening.{Opening}
 use Rattle.kfifo_live.specs.declared.view.Part.{Part}
 use Rattle.kfifo_live.specs.declared.view.View.{View}
-use Rattle.kfifo_live.specs.Schedule.{part, view_of, fresh, first_view, thread_of, seen_of, with_seen, more_in, IsSeated, AllBegin, Owns, Fits, OneSchedule, FewTicks, both_parts}
+use Rattle.kfifo_live.specs.Schedule.{Gifts, part, view_of, fresh, first_view, thread_of, seen_of, gifts_of, with_seen, more_in, IsSeated, AllBegin, AllGiven, Owns, Fits, OneSchedule, FewTicks, both_parts}
 use Rattle.kfifo_live.specs.Step.{Looks}
 use Rattle.kfifo_live.proofs.Keeps.{adds, fits_set}
 
 -- a look, at a view with these parts
-looks_at : {S : Type 0} (o : Opening) (s : State S View) (id thread : ℕ) (seen : List Event) (more : List Part) (i : ℕ)
-    → OneSchedule o s.words s.views → get_elem? s.views id ≡ some (view_of o (part thread seen ∷ more))
-    → (w : View) × OneSchedule o (slice_set s.words i (slice_index s.words i)) (set s.views id w) × Looks i (slice_index s.words i) (view_of o (part thread seen ∷ more)) w
-looks_at o s id thread seen more i kept at =
+looks_at : {T : Type 0} (o : Opening) (s : State (Option T) (View T)) (id thread : ℕ) (seen : List Event) (gifts : Gifts T) (more : List (Part T)) (i : ℕ)
+    → OneSchedule o s.words s.views → get_elem? s.views id ≡ some (view_of o (part thread seen gifts ∷ more))
+    → (w : View T) × OneSchedule o (slice_set s.words i (slice_index s.words i)) (set s.views id w) × Looks i (slice_index s.words i) (view_of o (part thread seen gifts ∷ more)) w
+looks_at {T} o s id thread seen gifts more i kept at =
     let words : slice_set s.words i (slice_index s.words i) ≡ kept.world.words = set-get_or s.words i 0 ∙ kept.words_are in
-    let k = adds o s.words (slice_set s.words i (slice_index s.words i)) s.views id thread seen more kept at [] (λ u apart. refl) kept.world refl words (subst (FewTicks o) (sym (append-nil kept.all)) kept.few_ticks) in
-    let mine = kept.fit id (view_of o (part thread seen ∷ more)) at in (
-      view_of o (part thread kept.all ∷ more),
-      subst (λ (es : List Event). OneSchedule o (slice_set s.words i (slice_index s.words i)) (set s.views id (view_of o (part thread es ∷ more)))) (append-nil kept.all) k,
-      record { all = kept.all; world = kept.world; reached = kept.runs; word_is = ap (λ ws. get_or ws i 0) kept.words_are; begin = mine.begin; afterwards = refl },
+    let k = adds o s.words (slice_set s.words i (slice_index s.words i)) s.views id thread seen gifts more kept at [] [] (λ u apart. refl) kept.world refl words (subst (FewTicks o) (sym (append-nil kept.all)) kept.few_ticks) in
+    let mine = kept.fit id (view_of o (part thread seen gifts ∷ more)) at in (
+      view_of o (part thread kept.all kept.gifts ∷ more),
+      subst (λ (x : List Event × Gifts T). OneSchedule o (slice_set s.words i (slice_index s.words i)) (set s.views id (view_of o (part thread x.0 x.1 ∷ more)))) (λ j. (append-nil kept.all j, append-nil kept.gifts j)) k,
+      record { all = kept.all; gifts = kept.gifts; world = kept.world; reached = kept.runs; word_is = ap (λ ws. get_or ws i 0) kept.words_are; begin = mine.begin; given = mine.given; afterwards = refl },
     )
 
-pub looks : {S : Type 0} (o : Opening) (slots id : ℕ) (me : Me S View) (i : ℕ) → IsSeated me.0
-    → Allows (λ (s : State S View). OneSchedule o s.words s.views) slots id me i (λ n. n) (λ found w. Looks i found me.0 w.0 × (w.1 ≡ me.1))
-looks {S} o slots id me i seated s kept homes at fits =
+pub looks : {T : Type 0} (o : Opening) (slots id : ℕ) (me : Me (Option T) (View T)) (i : ℕ) → IsSeated me.0
+    → Allows (λ (s : State (Option T) (View T)). OneSchedule o s.words s.views) slots id me i (λ n. n) (λ found w. Looks i found me.0 w.0 × (w.1 ≡ me.1))
+looks {T} o slots id me i seated s kept homes at fits =
     let v = me.0 in
     let opened = (kept.fit id v at).opened in
-    let P : View → Type 0 = λ x. (w : View) × OneSchedule o (slice_set s.words i (slice_index s.words i)) (set s.views id w) × Looks i (slice_index s.words i) x w in
-    let Q : Opening → Type 0 = λ x. OneSchedule x s.words s.views → (w : View) × OneSchedule x (slice_set s.words i (slice_index s.words i)) (set s.views id w) × Looks i (slice_index s.words i) (with_seen v (seen_of v)) w in
-    let got : P (with_seen v (seen_of v)) = subst Q opened (λ k. looks_at v.opened s id (thread_of v) (seen_of v) (more_in v.parts) i k (at ∙ ap some seated)) kept in
+    let P : View T → Type 0 = λ x. (w : View T) × OneSchedule o (slice_set s.words i (slice_index s.words i)) (set s.views id w) × Looks i (slice_index s.words i) x w in
+    let Q : Opening → Type 0 = λ x. OneSchedule x s.words s.views → (w : View T) × OneSchedule x (slice_set s.words i (slice_index s.words i)) (set s.views id w) × Looks i (slice_index s.words i) (with_seen v (seen_of v) (gifts_of v)) w in
+    let got : P (with_seen v (seen_of v) (gifts_of v)) = subst Q opened (λ k. looks_at v.opened s id (thread_of v) (seen_of v) (gifts_of v) (more_in v.parts) i k (at ∙ ap some seated)) kept in
     let put = subst P (sym seated) got in
     (put.0, keeps, tt, put.1, (put.2, refl))
 
-AllBegin-append : (xs ys : List Part) (all : List Event) → AllBegin xs all → AllBegin ys all → AllBegin (xs ++ ys) all
+AllBegin-append : {T : Type 0} (xs ys : List (Part T)) (all : List Event) → AllBegin xs all → AllBegin ys all → AllBegin (xs ++ ys) all
 AllBegin-append [] ys all a b = b
 AllBegin-append (x ∷ xs) ys all a b = (a.0, AllBegin-append xs ys all a.1 b)
 
-AllBegin-take : (n : ℕ) (xs : List Part) (all : List Event) → AllBegin xs all → AllBegin (take n xs) all
+AllBegin-take : {T : Type 0} (n : ℕ) (xs : List (Part T)) (all : List Event) → AllBegin xs all → AllBegin (take n xs) all
 AllBegin-take zero xs all a = tt
 AllBegin-take (suc n) [] all a = tt
 AllBegin-take (suc n) (x ∷ xs) all a = (a.0, AllBegin-take n xs all a.1)
 
-AllBegin-drop : (n : ℕ) (xs : List Part) (all : List Event) → AllBegin xs all → AllBegin (drop n xs) all
+AllBegin-drop : {T : Type 0} (n : ℕ) (xs : List (Part T)) (all : List Event) → AllBegin xs all → AllBegin (drop n xs) all
 AllBegin-drop zero xs all a = a
 AllBegin-drop (suc n) [] all a = tt
 AllBegin-drop (suc n) (x ∷ xs) all a = AllBegin-drop n xs all a.1
+
+AllGiven-append : {T : Type 0} (xs ys : List (Part T)) (gifts : Gifts T) → AllGiven xs gifts → AllGiven ys gifts → AllGiven (xs ++ ys) gifts
+AllGiven-append [] ys gifts a b = b
+AllGiven-append (x ∷ xs) ys gifts a b = (a.0, AllGiven-append xs ys gifts a.1 b)
+
+AllGiven-take : {T : Type 0} (n : ℕ) (xs : List (Part T)) (gifts : Gifts T) → AllGiven xs gifts → AllGiven (take n xs) gifts
+AllGiven-take zero xs gifts a = tt
+AllGiven-take (suc n) [] gifts a = tt
+AllGiven-take (suc n) (x ∷ xs) gifts a = (a.0, AllGiven-take n xs gifts a.1)
+
+AllGiven-drop : {T : Type 0} (n : ℕ) (xs : List (Part T)) (gifts : Gifts T) → AllGiven xs gifts → AllGiven (drop n xs) gifts
+AllGiven-drop zero xs gifts a = a
+AllGiven-drop (suc n) [] gifts a = tt
+AllGiven-drop (suc n) (x ∷ xs) gifts a = AllGiven-drop n xs gifts a.1
 
 -- the seat `from` gives its parts from the k-th on to the seat `to`, where they follow the first m
 abbrev pub passed_on : ℕ → ℕ → ℕ → ℕ → ℕ × ℕ → ℕ × ℕ
@@ -71,28 +85,28 @@ passed_kept from k to m at lt =
     ap (λ b. cond b (cond (nat_le k at) (to, m + (at - k)) (from, at)) (from, at)) (eq-eqb from from refl)
     ∙ ap (λ b. cond b (to, m + (at - k)) (from, at)) (let t : nat_le k at ≡ false = grind (arith, nat_tests) in t)
 
-module _ (owner : ℕ → ℕ × ℕ) (from k to m : ℕ) where
-  owns_other : (seat at : ℕ) (ps : List Part) → seat ≢ from → Owns owner seat at ps → Owns (λ t. passed_on from k to m (owner t)) seat at ps
+module _ {T : Type 0} (owner : ℕ → ℕ × ℕ) (from k to m : ℕ) where
+  owns_other : (seat at : ℕ) (ps : List (Part T)) → seat ≢ from → Owns owner seat at ps → Owns (λ t. passed_on from k to m (owner t)) seat at ps
   owns_other seat at [] apart o = tt
   owns_other seat at (p ∷ ps) apart o = (ap (passed_on from k to m) o.0 ∙ passed_other from k to m seat at apart, owns_other seat (suc at) ps apart o.1)
 
-  owns_first : (at n : ℕ) (ps : List Part) → at + n ≤ k → Owns owner from at ps → Owns (λ t. passed_on from k to m (owner t)) from at (take n ps)
+  owns_first : (at n : ℕ) (ps : List (Part T)) → at + n ≤ k → Owns owner from at ps → Owns (λ t. passed_on from k to m (owner t)) from at (take n ps)
   owns_first at zero ps le o = tt
   owns_first at (suc n) [] le o = tt
   owns_first at (suc n) (p ∷ ps) le o = (ap (passed_on from k to m) o.0 ∙ passed_kept from k to m at (omega arith), owns_first (suc at) n ps (omega arith) o.1)
 
-  owns_given : (at : ℕ) (ps : List Part) → k ≤ at → Owns owner from at ps → Owns (λ t. passed_on from k to m (owner t)) to (m + (at - k)) ps
+  owns_given : (at : ℕ) (ps : List (Part T)) → k ≤ at → Owns owner from at ps → Owns (λ t. passed_on from k to m (owner t)) to (m + (at - k)) ps
   owns_given at [] le o = tt
   owns_given at (p ∷ ps) le o =
       let n : m + (suc at - k) ≡ suc (m + (at - k)) = omega arith in
       (ap (passed_on from k to m) o.0 ∙ passed_here from k to m at le, subst (λ (x : ℕ). Owns (λ t. passed_on from k to m (owner t)) to x ps) n (owns_given (suc at) ps (omega arith) o.1))
 
-owns_drop : (owner : ℕ → ℕ × ℕ) (seat at n : ℕ) (ps : List Part) → n ≤ length ps → Owns owner seat at ps → Owns owner seat (at + n) (drop n ps)
+owns_drop : {T : Type 0} (owner : ℕ → ℕ × ℕ) (seat at n : ℕ) (ps : List (Part T)) → n ≤ length ps → Owns owner seat at ps → Owns owner seat (at + n) (drop n ps)
 owns_drop owner seat at zero ps le o = subst (λ (x : ℕ). Owns owner seat x ps) (let e : at ≡ at + 0 = omega arith in e) o
 owns_drop owner seat at (suc n) [] le o = tt
 owns_drop owner seat at (suc n) (p ∷ ps) le o = subst (λ (x : ℕ). Owns owner seat x (drop n ps)) (let e : suc at + n ≡ at + suc n = omega arith in e) (owns_drop owner seat (suc at) n ps (omega arith) o.1)
 
-Owns-append : (owner : ℕ → ℕ × ℕ) (seat at : ℕ) (xs ys : List Part) → Owns owner seat at xs → Owns owner seat (at + length xs) ys → Owns owner seat at (xs ++ ys)
+Owns-append : {T : Type 0} (owner : ℕ → ℕ × ℕ) (seat at : ℕ) (xs ys : List (Part T)) → Owns owner seat at xs → Owns owner seat (at + length xs) ys → Owns owner seat at (xs ++ ys)
 Owns-append owner seat at [] ys a b = subst (λ (x : ℕ). Owns owner seat x ys) (let e : at + 0 ≡ at = omega arith in e) b
 Owns-append owner seat at (x ∷ xs) ys a b = (a.0, Owns-append owner seat (suc at) xs ys a.1 (subst (λ (n : ℕ). Owns owner seat n ys) (let e : at + length (x ∷ xs) ≡ suc at + length xs = omega arith in e) b))
 
@@ -113,20 +127,21 @@ length_set (x ∷ xs) zero a = refl
 length_set (x ∷ xs) (suc i) a = ap suc (length_set xs i a)
 
 -- a seat keeps its first n parts, and a new seat has the others
-pub cuts : {S : Type 0} (o : Opening) (id : ℕ) (v : View) (n : ℕ) → n ≤ length v.parts
-    → Splits (λ (s : State S View). OneSchedule o s.words s.views) id v (view_of v.opened (take n v.parts)) (view_of v.opened (drop n v.parts))
-cuts o id v n le s kept at =
+pub cuts : {T : Type 0} (o : Opening) (id : ℕ) (v : View T) (n : ℕ) → n ≤ length v.parts
+    → Splits (λ (s : State (Option T) (View T)). OneSchedule o s.words s.views) id v (view_of v.opened (take n v.parts)) (view_of v.opened (drop n v.parts))
+cuts {T} o id v n le s kept at =
     let mine = kept.fit id v at in
     let left = view_of v.opened (take n v.parts) in
     let right = view_of v.opened (drop n v.parts) in
     let new = length s.views in
     let inside : id < new = at_within s.views id v at in
     let owner = λ (t : ℕ). passed_on id n new 0 (kept.owner t) in
-    let at_left : Fits o kept.all owner id left = record { opened = mine.opened; begin = AllBegin-take n v.parts kept.all mine.begin; owns = owns_first kept.owner id n new 0 0 n v.parts (omega arith) mine.owns } in
+    let at_left : Fits o kept.all kept.gifts owner id left = record { opened = mine.opened; begin = AllBegin-take n v.parts kept.all mine.begin; given = AllGiven-take n v.parts kept.gifts mine.given; owns = owns_first kept.owner id n new 0 0 n v.parts (omega arith) mine.owns } in
     let given = owns_given kept.owner id n new 0 (0 + n) (drop n v.parts) (omega arith) (owns_drop kept.owner id 0 n v.parts le mine.owns) in
-    let at_right : Fits o kept.all owner new right = record { opened = mine.opened; begin = AllBegin-drop n v.parts kept.all mine.begin; owns = subst (λ (x : ℕ). Owns owner new x (drop n v.parts)) (let e : 0 + (0 + n - n) ≡ 0 = omega arith in e) given } in
+    let at_right : Fits o kept.all kept.gifts owner new right = record { opened = mine.opened; begin = AllBegin-drop n v.parts kept.all mine.begin; given = AllGiven-drop n v.parts kept.gifts mine.given; owns = subst (λ (x : ℕ). Owns owner new x (drop n v.parts)) (let e : 0 + (0 + n - n) ≡ 0 = omega arith in e) given } in
     record {
       all = kept.all;
+      gifts = kept.gifts;
       world = kept.world;
       owner = owner;
       runs = kept.runs;
@@ -135,18 +150,18 @@ cuts o id v n le s kept at =
       fit = λ j u e.
           ⊎_elim
           (λ (x : get_elem? (set s.views id left) j ≡ some u).
-          fits_set o kept.all owner s.views id left
-          (λ i y apart f. let theirs = kept.fit i y f in record { opened = theirs.opened; begin = theirs.begin; owns = owns_other kept.owner id n new 0 i 0 y.parts apart theirs.owns })
+          fits_set o kept.all kept.gifts owner s.views id left
+          (λ i y apart f. let theirs = kept.fit i y f in record { opened = theirs.opened; begin = theirs.begin; given = theirs.given; owns = owns_other kept.owner id n new 0 i 0 y.parts apart theirs.owns })
           at_left j u x)
           (λ (x : (j ≡ length (set s.views id left)) × (right ≡ u)).
-          subst (λ (y : ℕ × View). Fits o kept.all owner y.0 y.1) (λ k. (sym (x.0 ∙ length_set s.views id left) k, x.1 k)) at_right)
+          subst (λ (y : ℕ × View T). Fits o kept.all kept.gifts owner y.0 y.1) (λ k. (sym (x.0 ∙ length_set s.views id left) k, x.1 k)) at_right)
           (at_end (set s.views id left) right u j e);
     }
 
 -- a seat takes the parts of another
-pub gathers : {S : Type 0} (o : Opening) (id : ℕ) (v : View) (other : ℕ) (w : View) (opened : Opening) → opened ≡ v.opened
-    → Joins (λ (s : State S View). OneSchedule o s.words s.views) id v other w (both_parts v w) (view_of opened [])
-gathers o id v other w opened same s kept at apart there =
+pub gathers : {T : Type 0} (o : Opening) (id : ℕ) (v : View T) (other : ℕ) (w : View T) (opened : Opening) → opened ≡ v.opened
+    → Joins (λ (s : State (Option T) (View T)). OneSchedule o s.words s.views) id v other w (both_parts v w) (view_of opened [])
+gathers {T} o id v other w opened same s kept at apart there =
     let mine = kept.fit id v at in
     let both = both_parts v w in
     let m = length v.parts in
@@ -155,48 +170,55 @@ gathers o id v other w opened same s kept at apart there =
     let theirs = kept.fit other w theirs_at in
     let owner = λ (t : ℕ). passed_on other 0 id m (kept.owner t) in
     let given = owns_given kept.owner other 0 id m 0 w.parts (omega arith) theirs.owns in
-    let at_both : Fits o kept.all owner id both = record {
+    let at_both : Fits o kept.all kept.gifts owner id both = record {
       opened = mine.opened;
       begin = AllBegin-append v.parts w.parts kept.all mine.begin theirs.begin;
+      given = AllGiven-append v.parts w.parts kept.gifts mine.given theirs.given;
       owns = Owns-append owner id 0 v.parts w.parts (owns_other kept.owner other 0 id m id 0 v.parts (λ e. apart (sym e)) mine.owns) (subst (λ (x : ℕ). Owns owner id x w.parts) (let e : m + (0 - 0) ≡ 0 + m = omega arith in e) given);
     } in
-    let at_other : Fits o kept.all owner other (view_of opened []) = record { opened = same ∙ mine.opened; begin = tt; owns = tt } in
+    let at_other : Fits o kept.all kept.gifts owner other (view_of opened []) = record { opened = same ∙ mine.opened; begin = tt; given = tt; owns = tt } in
     record {
       all = kept.all;
+      gifts = kept.gifts;
       world = kept.world;
       owner = owner;
       runs = kept.runs;
       words_are = kept.words_are;
       few_ticks = kept.few_ticks;
-      fit = λ j u e. fits_set o kept.all owner (set s.views id both) other (view_of opened [])
-          (λ i y not_other f. fits_at o kept.all owner s.views id both other
-          (λ i y not_id not_other f. let they = kept.fit i y f in record { opened = they.opened; begin = they.begin; owns = owns_other kept.owner other 0 id m i 0 y.parts not_other they.owns })
+      fit = λ j u e. fits_set o kept.all kept.gifts owner (set s.views id both) other (view_of opened [])
+          (λ i y not_other f. fits_at o kept.all kept.gifts owner s.views id both other
+          (λ i y not_id not_other f. let they = kept.fit i y f in record { opened = they.opened; begin = they.begin; given = they.given; owns = owns_other kept.owner other 0 id m i 0 y.parts not_other they.owns })
           at_both i y not_other f)
           at_other j u e;
     }
   where
-    fits_at : (o : Opening) (all : List Event) (owner : ℕ → ℕ × ℕ) (views : List View) (id : ℕ) (both : View) (other : ℕ)
-        → ((i : ℕ) (y : View) → i ≢ id → i ≢ other → get_elem? views i ≡ some y → Fits o all owner i y)
-        → Fits o all owner id both → (i : ℕ) (y : View) → i ≢ other → get_elem? (set views id both) i ≡ some y → Fits o all owner i y
-    fits_at o all owner views id both other others mine i y apart e =
+    fits_at : {T : Type 0} (o : Opening) (all : List Event) (gifts : Gifts T) (owner : ℕ → ℕ × ℕ) (views : List (View T)) (id : ℕ) (both : View T) (other : ℕ)
+        → ((i : ℕ) (y : View T) → i ≢ id → i ≢ other → get_elem? views i ≡ some y → Fits o all gifts owner i y)
+        → Fits o all gifts owner id both → (i : ℕ) (y : View T) → i ≢ other → get_elem? (set views id both) i ≡ some y → Fits o all gifts owner i y
+    fits_at {T} o all gifts owner views id both other others mine i y apart e =
         ⊎_elim
-        (λ (x : (i ≡ id) × (both ≡ y)). subst (λ (z : ℕ × View). Fits o all owner z.0 z.1) (λ k. (sym x.0 k, x.1 k)) mine)
+        (λ (x : (i ≡ id) × (both ≡ y)). subst (λ (z : ℕ × View T). Fits o all gifts owner z.0 z.1) (λ k. (sym x.0 k, x.1 k)) mine)
         (λ (x : (i ≢ id) × (get_elem? views i ≡ some y)). others i y x.0 apart x.1)
         (at_set views id i both y e)
 
 -- the opening
-fresh_begin : (first count : ℕ) → AllBegin (fresh first count) []
-fresh_begin first zero = tt
-fresh_begin first (suc count) = (record { rest = []; goes_on = refl; no_own = refl }, fresh_begin (suc first) count)
+fresh_begin : (T : Type 0) (first count : ℕ) → AllBegin {T = T} (fresh first count) []
+fresh_begin T first zero = tt
+fresh_begin T first (suc count) = (record { rest = []; goes_on = refl; no_own = refl }, fresh_begin T (suc first) count)
 
-fresh_owns : (first count : ℕ) → Owns (λ t. (0, t)) 0 first (fresh first count)
-fresh_owns first zero = tt
-fresh_owns first (suc count) = (refl, fresh_owns (suc first) count)
+fresh_given : (T : Type 0) (first count : ℕ) → AllGiven {T = T} (fresh first count) []
+fresh_given T first zero = tt
+fresh_given T first (suc count) = (([], refl), fresh_given T (suc first) count)
 
-pub opens : (o : Opening) (words : List ℕ) → words ≡ replicate (2 + o.shape.n * o.shape.k) 0 → OneSchedule o words (first_view o ∷ [])
+fresh_owns : (T : Type 0) (first count : ℕ) → Owns {T = T} (λ t. (0, t)) 0 first (fresh first count)
+fresh_owns T first zero = tt
+fresh_owns T first (suc count) = (refl, fresh_owns T (suc first) count)
+
+pub opens : {T : Type 0} (o : Opening) (words : List ℕ) → words ≡ replicate (2 + o.shape.n * o.shape.k) 0 → OneSchedule {T = T} o words (first_view o ∷ [])
 unfolding opening
-opens o words is = record {
+opens {T} o words is = record {
   all = [];
+  gifts = [];
   world = opening o.shape o.threads;
   owner = λ t. (0, t);
   runs = refl;
@@ -205,6 +227,6 @@ opens o words is = record {
   fit = one;
 }
   where
-    one : (seat : ℕ) (v : View) → get_elem? (first_view o ∷ []) seat ≡ some v → Fits o [] (λ t. (0, t)) seat v
-    one zero v e = subst (Fits o [] (λ t. (0, t)) 0) (some-injective _ _ e) record { opened = refl; begin = fresh_begin 0 o.threads; owns = fresh_owns 0 o.threads }
+    one : (seat : ℕ) (v : View T) → get_elem? (first_view o ∷ []) seat ≡ some v → Fits o [] [] (λ t. (0, t)) seat v
+    one zero v e = subst (Fits o [] [] (λ t. (0, t)) 0) (some-injective _ _ e) record { opened = refl; begin = fresh_begin T 0 o.threads; given = fresh_given T 0 o.threads; owns = fresh_owns T 0 o.threads }
     one (suc seat) v e = absurd (some-ne-none v (sym e))

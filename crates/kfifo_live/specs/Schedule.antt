@@ -1,11 +1,11 @@
 -- The one schedule of a running queue, and what each seat of its table has seen of it.
-use Rattle.std.specs.Prelude.{◌≡◌, ℕ, zero, suc, ◌*◌, ◌≤◌, Bool, true, false, List, [], ◌∷◌, Option, Some, take, drop, length, filter, ◌++◌}
+use Rattle.std.specs.Prelude.{◌≡◌, ℕ, zero, suc, ◌*◌, ◌≤◌, Bool, true, false, List, [], ◌∷◌, Option, Some, None, take, drop, length, filter, ◌++◌}
 use Rattle.std.proofs.Common.{lit<, lit≤}
 use mathlib.Core.Option.{some}
 use lib.ListN.{get_elem?}
 use Rattle.kfifo_words.specs.declared.shape.Shape.{Shape}
 use Rattle.kfifo_machine.specs.declared.event.Begin.{Begin}
-use Rattle.kfifo_machine.specs.declared.event.Begin.TheVariants.{Tick}
+use Rattle.kfifo_machine.specs.declared.event.Begin.TheVariants.{Enqueue, Tick}
 use Rattle.kfifo_machine.specs.declared.event.Event.{Event}
 use Rattle.kfifo_machine.specs.Machine.{World, after}
 use Rattle.kfifo_machine.specs.Runs.{Begins, own}
@@ -20,11 +20,26 @@ stamped_opening shape threads calls = record { shape = shape; threads = threads;
 abbrev pub opening : Shape → ℕ → Opening
 opening shape threads = stamped_opening shape threads 0
 
-abbrev pub part : ℕ → List Event → Part
-part thread seen = record { thread = thread; seen = seen }
+-- for each enqueue that begins in a schedule, in turn, its item beside what it carries
+abbrev pub Gifts : Type 0 → Type 0
+Gifts T = List (ℕ × Option T)
 
-abbrev pub view_of : Opening → List Part → View
-view_of o parts = record { opened = o; parts = parts }
+module _ {T : Type 0} where
+  abbrev pub part : ℕ → List Event → Gifts T → Part T
+  part thread seen gifts = record { thread = thread; seen = seen; gifts = gifts }
+
+  abbrev pub view_of : Opening → List (Part T) → View T
+  view_of o parts = record { opened = o; parts = parts }
+
+  -- what a thread carries: the value of the slot that it has taken last
+  abbrev pub carried : List (ℕ × Option T) → Option T
+  carried [] = None
+  carried (x ∷ xs) = x.1
+
+  -- what the first step of an enqueue adds
+  abbrev pub gift : Option Begin → List (ℕ × Option T) → Gifts T
+  gift (Some (Enqueue item start turns)) held = (item, carried held) ∷ []
+  gift begin held = []
 
 -- the world after a schedule of an opening
 abbrev pub world_after : Opening → List Event → Option World
@@ -46,74 +61,96 @@ ticks events = length (filter (λ e. begins_tick e.begin) events)
 abbrev pub FewTicks : Opening → List Event → Type 0
 FewTicks o all = (thread : ℕ) → ticks (own thread all) ≤ 2 * o.calls
 
--- threads first, first + 1, .. that have seen nothing
-abbrev pub fresh : ℕ → ℕ → List Part
-fresh first zero = []
-fresh first (suc count) = part first [] ∷ fresh (suc first) count
+module _ {T : Type 0} where
+  -- threads first, first + 1, .. that have seen nothing
+  abbrev pub fresh : ℕ → ℕ → List (Part T)
+  fresh first zero = []
+  fresh first (suc count) = part first [] [] ∷ fresh (suc first) count
 
--- the seat of an opening may act for every thread
-abbrev pub first_view : Opening → View
-first_view o = view_of o (fresh 0 o.threads)
+  -- the seat of an opening may act for every thread
+  abbrev pub first_view : Opening → View T
+  first_view o = view_of o (fresh 0 o.threads)
 
--- what each part has seen is a beginning of the schedule, which has no own event of it after that beginning
-abbrev pub AllBegin : List Part → List Event → Type 0
-AllBegin [] all = Unit {0}
-AllBegin (p ∷ ps) all = Begins p.thread p.seen all × AllBegin ps all
+  -- what each part has seen is a beginning of the schedule, which has no own event of it after that beginning
+  abbrev pub AllBegin : List (Part T) → List Event → Type 0
+  AllBegin [] all = Unit {0}
+  AllBegin (p ∷ ps) all = Begins p.thread p.seen all × AllBegin ps all
 
--- each thread is acted for by one seat, at one place of its parts
-abbrev pub Owns : (ℕ → ℕ × ℕ) → ℕ → ℕ → List Part → Type 0
-Owns owner seat at [] = Unit {0}
-Owns owner seat at (p ∷ ps) = (owner p.thread ≡ (seat, at)) × Owns owner seat (suc at) ps
+  -- and its gifts are the first of all
+  abbrev pub AllGiven : List (Part T) → Gifts T → Type 0
+  AllGiven [] gifts = Unit {0}
+  AllGiven (p ∷ ps) gifts = ((more : Gifts T) × (gifts ≡ p.gifts ++ more)) × AllGiven ps gifts
 
-pub record Fits (o : Opening) (all : List Event) (owner : ℕ → ℕ × ℕ) (seat : ℕ) (v : View) : Type 0 where
-  pub opened : v.opened ≡ o
-  pub begin : AllBegin v.parts all
-  pub owns : Owns owner seat 0 v.parts
+  -- each thread is acted for by one seat, at one place of its parts
+  abbrev pub Owns : (ℕ → ℕ × ℕ) → ℕ → ℕ → List (Part T) → Type 0
+  Owns owner seat at [] = Unit {0}
+  Owns owner seat at (p ∷ ps) = (owner p.thread ≡ (seat, at)) × Owns owner seat (suc at) ps
 
--- One schedule: the words of the table are those after it, what each seat has seen of its threads is a beginning of it with
--- all their events, and the clock has ticked so seldom that it is not spent
-pub record OneSchedule (o : Opening) (words : List ℕ) (views : List View) : Type 0 where
-  pub all : List Event
-  pub world : World
-  pub owner : ℕ → ℕ × ℕ
-  pub runs : world_after o all ≡ Some world
-  pub words_are : words ≡ world.words
-  pub few_ticks : FewTicks o all
-  pub fit : (seat : ℕ) (v : View) → get_elem? views seat ≡ some v → Fits o all owner seat v
+  pub record Fits (o : Opening) (all : List Event) (gifts : Gifts T) (owner : ℕ → ℕ × ℕ) (seat : ℕ) (v : View T) : Type 0 where
+    pub opened : v.opened ≡ o
+    pub begin : AllBegin v.parts all
+    pub given : AllGiven v.parts gifts
+    pub owns : Owns owner seat 0 v.parts
 
--- the first part's thread, what was seen by it, and the other parts
-abbrev pub thread_in : List Part → ℕ
-thread_in [] = 0
-thread_in (p ∷ ps) = p.thread
+  -- One schedule: the words of the table are those after it, what each seat has seen of its threads is a beginning of it with
+  -- all their events, and the clock has ticked so seldom that it is not spent
+  pub record OneSchedule (o : Opening) (words : List ℕ) (views : List (View T)) : Type 0 where
+    pub all : List Event
+    pub gifts : Gifts T
+    pub world : World
+    pub owner : ℕ → ℕ × ℕ
+    pub runs : world_after o all ≡ Some world
+    pub words_are : words ≡ world.words
+    pub few_ticks : FewTicks o all
+    pub fit : (seat : ℕ) (v : View T) → get_elem? views seat ≡ some v → Fits o all gifts owner seat v
 
-abbrev pub seen_in : List Part → List Event
-seen_in [] = []
-seen_in (p ∷ ps) = p.seen
+  -- the first part's thread, what was seen by it, and the other parts
+  abbrev pub thread_in : List (Part T) → ℕ
+  thread_in [] = 0
+  thread_in (p ∷ ps) = p.thread
 
-abbrev pub more_in : List Part → List Part
-more_in [] = []
-more_in (p ∷ ps) = ps
+  abbrev pub seen_in : List (Part T) → List Event
+  seen_in [] = []
+  seen_in (p ∷ ps) = p.seen
 
-abbrev pub thread_of : View → ℕ
-thread_of v = thread_in v.parts
+  abbrev pub gifts_in : List (Part T) → Gifts T
+  gifts_in [] = []
+  gifts_in (p ∷ ps) = p.gifts
 
-abbrev pub seen_of : View → List Event
-seen_of v = seen_in v.parts
+  abbrev pub more_in : List (Part T) → List (Part T)
+  more_in [] = []
+  more_in (p ∷ ps) = ps
 
--- the view whose first part has seen this
-abbrev pub with_seen : View → List Event → View
-with_seen v seen = view_of v.opened (part (thread_in v.parts) seen ∷ more_in v.parts)
+  abbrev pub thread_of : View T → ℕ
+  thread_of v = thread_in v.parts
 
--- it has a first part
-abbrev pub IsSeated : View → Type 0
-IsSeated v = v ≡ with_seen v (seen_of v)
+  abbrev pub seen_of : View T → List Event
+  seen_of v = seen_in v.parts
 
--- a view with no parts, and two views put together
-abbrev pub no_part : View → View
-no_part v = view_of v.opened []
+  abbrev pub gifts_of : View T → Gifts T
+  gifts_of v = gifts_in v.parts
 
-abbrev pub both_parts : View → View → View
-both_parts v w = view_of v.opened (v.parts ++ w.parts)
+  -- the view whose first part has seen this
+  abbrev pub with_seen : View T → List Event → Gifts T → View T
+  with_seen v seen gifts = view_of v.opened (part (thread_in v.parts) seen gifts ∷ more_in v.parts)
+
+  -- it has a first part
+  abbrev pub IsSeated : View T → Type 0
+  IsSeated v = v ≡ with_seen v (seen_of v) (gifts_of v)
+
+  -- a view with no parts, and two views put together
+  abbrev pub no_part : View T → View T
+  no_part v = view_of v.opened []
+
+  abbrev pub both_parts : View T → View T → View T
+  both_parts v w = view_of v.opened (v.parts ++ w.parts)
+
+  -- a view cut in two: the first part, and the others
+  abbrev pub first_part : View T → View T
+  first_part v = view_of v.opened (take 1 v.parts)
+
+  abbrev pub other_parts : View T → View T
+  other_parts v = view_of v.opened (drop 1 v.parts)
 
 -- any opening, for a seat that is spent
 abbrev pub small_opening : Opening
@@ -134,10 +171,3 @@ small_opening =
       few_probes = lit≤ tt;
     }
     1
-
--- a view cut in two: the first part, and the others
-abbrev pub first_part : View → View
-first_part v = view_of v.opened (take 1 v.parts)
-
-abbrev pub other_parts : View → View
-other_parts v = view_of v.opened (drop 1 v.parts)

@@ -17,8 +17,8 @@ use std::alloc::{AllocError, Global};
 /// A pass for each thread, which has seen nothing.
 fn deal(
     alloc: Global,
-    shared: &Words,
-    mut seat: ThreadSeat,
+    shared: &Words<()>,
+    mut seat: ThreadSeat<()>,
     threads: u32,
 ) -> Result<Vec<Pass>, AllocError>
     requires table { (seat.table_id ≡ shared.now.table_id) × (0 < shared.now.table_id.words) }

@@ -1,4 +1,6 @@
 //! What the seats of a table know. No value of `Part` or `View` is ever made: they live in proofs alone.
+//!
+//! `T` is what the slots of the table may carry, a payload. A plain queue has no slot, and its `T` is `()`.
 use crate::rule::QueueRule;
 use atomic_table::{Seat, Shared};
 use kfifo_machine::Event;
@@ -6,10 +8,10 @@ use kfifo_words::Shape;
 use std::collections::LinkedList;
 
 /// The words of a queue, which its threads share.
-pub type Words = Shared<(), View, Opening, QueueRule>;
+pub type Words<T> = Shared<Option<T>, View<T>, Opening, QueueRule>;
 
 /// What a thread makes its steps with.
-pub type ThreadSeat = Seat<(), View>;
+pub type ThreadSeat<T> = Seat<Option<T>, View<T>>;
 
 /// What a queue was opened with.
 #[derive(Clone, Copy)]
@@ -23,17 +25,19 @@ pub struct Opening {
 }
 
 /// What was seen of the schedule on behalf of a thread.
-pub struct Part {
+pub struct Part<T> {
     /// The thread.
     pub thread: u32,
     /// A beginning of the schedule, with all events of the thread.
     pub seen: LinkedList<Event>,
+    /// For each enqueue that begins in it, in turn, its item and what the slot held that its thread had taken last.
+    pub gifts: LinkedList<(u32, Option<T>)>,
 }
 
 /// The threads that a seat may act for.
-pub struct View {
+pub struct View<T> {
     /// The opening of the queue.
     pub opened: Opening,
     /// A part for each thread.
-    pub parts: LinkedList<Part>,
+    pub parts: LinkedList<Part<T>>,
 }

@@ -5,7 +5,7 @@ use Rattle.kfifo_live.proofs.Whole.{stepped, within_table}
 use Rattle.kfifo_live.proofs.ring.Ring.exchange.Goals as goal
 
 pub compare_exchange-found-requires : goal.compare_exchange-found-requires
-compare_exchange-found-requires c =
+compare_exchange-found-requires g c =
     let a = c.requires in
     let s = a.stands in (
       s.of.table,
@@ -15,4 +15,4 @@ compare_exchange-found-requires c =
     )
 
 pub returns : goal.returns
-returns c = stepped c.compare_exchange-found.ensures.0 c.compare_exchange-found.ensures.2.0 c.compare_exchange-found.ensures.2.1 c.of_bits.ensures
+returns g c = stepped c.compare_exchange-found.ensures.0 c.compare_exchange-found.ensures.2.0 c.compare_exchange-found.ensures.2.1 c.of_bits.ensures
