@@ -8,35 +8,47 @@ use lib.ListN.{get_elem?}
 use Rattle.atomic_table.specs.Table.{State, keeps, Me, Allows, Splits, Joins}
 use Rattle.atomic_table.proofs.Lists.{at_set}
 use Rattle.kfifo_machine.specs.declared.event.Event.{Event}
-use Rattle.kfifo_machine.specs.Machine.{opening}
+use Rattle.kfifo_words.specs.Ring.{clock_at}
+use Rattle.kfifo_machine.specs.declared.place.Running.{Running}
+use Rattle.kfifo_machine.specs.Machine.{opening, word_at, place_of}
 use Rattle.kfifo_live.specs.declared.view.Opening.{Opening}
 use Rattle.kfifo_live.specs.declared.view.Part.{Part}
 use Rattle.kfifo_live.specs.declared.view.View.{View}
-use Rattle.kfifo_live.specs.Schedule.{Gifts, part, view_of, fresh, first_view, thread_of, seen_of, gifts_of, with_seen, more_in, IsSeated, AllBegin, AllGiven, Owns, Fits, OneSchedule, FewTicks, both_parts}
+use Rattle.kfifo_live.specs.Schedule.{part, view_of, fresh, first_view, thread_of, seen_of, gifts_of, hand_of, with_seen, more_in, IsSeated, AllBegin, AllGiven, AllHands, Owns, Fits, OneSchedule, FewTicks, both_parts}
+use Rattle.kfifo_live.specs.Hands.{Gifts, Homes, Where, Home, HandFits, SlotsFit}
+use Rattle.kfifo_live.specs.declared.view.Hand.{Hand}
 use Rattle.kfifo_live.specs.Step.{Looks}
-use Rattle.kfifo_live.proofs.Keeps.{adds, fits_set}
+use Rattle.kfifo_live.proofs.Keeps.{Tokens, adds, fits_set}
 
 -- a look, at a view with these parts
-looks_at : {T : Type 0} (o : Opening) (s : State (Option T) (View T)) (id thread : ℕ) (seen : List Event) (gifts : Gifts T) (more : List (Part T)) (i : ℕ)
-    → OneSchedule o s.words s.views → get_elem? s.views id ≡ some (view_of o (part thread seen gifts ∷ more))
-    → (w : View T) × OneSchedule o (slice_set s.words i (slice_index s.words i)) (set s.views id w) × Looks i (slice_index s.words i) (view_of o (part thread seen gifts ∷ more)) w
-looks_at {T} o s id thread seen gifts more i kept at =
+looks_at : {T : Type 0} (o : Opening) (s : State (Option T) (View T)) (id thread : ℕ) (seen : List Event) (gifts : Gifts T) (hand : Hand T) (more : List (Part T)) (i : ℕ)
+    → OneSchedule o s.words s.homes s.views → get_elem? s.views id ≡ some (view_of o (part thread seen gifts hand ∷ more))
+    → (w : View T) × OneSchedule o (slice_set s.words i (slice_index s.words i)) s.homes (set s.views id w) × Looks i (slice_index s.words i) (view_of o (part thread seen gifts hand ∷ more)) w
+looks_at {T} o s id thread seen gifts hand more i kept at =
     let words : slice_set s.words i (slice_index s.words i) ≡ kept.world.words = set-get_or s.words i 0 ∙ kept.words_are in
-    let k = adds o s.words (slice_set s.words i (slice_index s.words i)) s.views id thread seen gifts more kept at [] [] (λ u apart. refl) kept.world refl words (subst (FewTicks o) (sym (append-nil kept.all)) kept.few_ticks) in
-    let mine = kept.fit id (view_of o (part thread seen gifts ∷ more)) at in (
-      view_of o (part thread kept.all kept.gifts ∷ more),
-      subst (λ (x : List Event × Gifts T). OneSchedule o (slice_set s.words i (slice_index s.words i)) (set s.views id (view_of o (part thread x.0 x.1 ∷ more)))) (λ j. (append-nil kept.all j, append-nil kept.gifts j)) k,
+    let tokens : Tokens o s.homes s.homes s.views s.words kept kept.world (kept.gifts ++ []) thread hand = record {
+      at_now = kept.at;
+      slots = λ some_tokens. subst (λ (g : Gifts T). SlotsFit (clock_at o.shape.k o.shape.n) (word_at kept.world) kept.at g s.homes) (sym (append-nil kept.gifts)) (kept.slots some_tokens);
+      own = λ some_tokens.
+          subst (λ (g : Gifts T). HandFits (word_at kept.world) (place_of kept.world thread) kept.at g s.homes thread hand) (sym (append-nil kept.gifts))
+          (kept.hands some_tokens id (view_of o (part thread seen gifts hand ∷ more)) at).0;
+      others = λ some_tokens u other ne fits. subst (λ (g : Gifts T). HandFits (word_at kept.world) (place_of kept.world u) kept.at g s.homes u other) (sym (append-nil kept.gifts)) fits;
+    } in
+    let k = adds o s.words (slice_set s.words i (slice_index s.words i)) s.homes s.homes s.views id thread seen gifts hand hand more kept at [] [] (λ u apart. refl) kept.world refl words (subst (FewTicks o) (sym (append-nil kept.all)) kept.few_ticks) tokens in
+    let mine = kept.fit id (view_of o (part thread seen gifts hand ∷ more)) at in (
+      view_of o (part thread kept.all kept.gifts hand ∷ more),
+      subst (λ (x : List Event × Gifts T). OneSchedule o (slice_set s.words i (slice_index s.words i)) s.homes (set s.views id (view_of o (part thread x.0 x.1 hand ∷ more)))) (λ j. (append-nil kept.all j, append-nil kept.gifts j)) k,
       record { all = kept.all; gifts = kept.gifts; world = kept.world; reached = kept.runs; word_is = ap (λ ws. get_or ws i 0) kept.words_are; begin = mine.begin; given = mine.given; afterwards = refl },
     )
 
 pub looks : {T : Type 0} (o : Opening) (slots id : ℕ) (me : Me (Option T) (View T)) (i : ℕ) → IsSeated me.0
-    → Allows (λ (s : State (Option T) (View T)). OneSchedule o s.words s.views) slots id me i (λ n. n) (λ found w. Looks i found me.0 w.0 × (w.1 ≡ me.1))
+    → Allows (λ (s : State (Option T) (View T)). OneSchedule o s.words s.homes s.views) slots id me i (λ n. n) (λ found w. Looks i found me.0 w.0 × (w.1 ≡ me.1))
 looks {T} o slots id me i seated s kept homes at fits =
     let v = me.0 in
     let opened = (kept.fit id v at).opened in
-    let P : View T → Type 0 = λ x. (w : View T) × OneSchedule o (slice_set s.words i (slice_index s.words i)) (set s.views id w) × Looks i (slice_index s.words i) x w in
-    let Q : Opening → Type 0 = λ x. OneSchedule x s.words s.views → (w : View T) × OneSchedule x (slice_set s.words i (slice_index s.words i)) (set s.views id w) × Looks i (slice_index s.words i) (with_seen v (seen_of v) (gifts_of v)) w in
-    let got : P (with_seen v (seen_of v) (gifts_of v)) = subst Q opened (λ k. looks_at v.opened s id (thread_of v) (seen_of v) (gifts_of v) (more_in v.parts) i k (at ∙ ap some seated)) kept in
+    let P : View T → Type 0 = λ x. (w : View T) × OneSchedule o (slice_set s.words i (slice_index s.words i)) s.homes (set s.views id w) × Looks i (slice_index s.words i) x w in
+    let Q : Opening → Type 0 = λ x. OneSchedule x s.words s.homes s.views → (w : View T) × OneSchedule x (slice_set s.words i (slice_index s.words i)) s.homes (set s.views id w) × Looks i (slice_index s.words i) (with_seen v (seen_of v) (gifts_of v) (hand_of v)) w in
+    let got : P (with_seen v (seen_of v) (gifts_of v) (hand_of v)) = subst Q opened (λ k. looks_at v.opened s id (thread_of v) (seen_of v) (gifts_of v) (hand_of v) (more_in v.parts) i k (at ∙ ap some seated)) kept in
     let put = subst P (sym seated) got in
     (put.0, keeps, tt, put.1, (put.2, refl))
 
@@ -67,6 +79,23 @@ AllGiven-drop : {T : Type 0} (n : ℕ) (xs : List (Part T)) (gifts : Gifts T) �
 AllGiven-drop zero xs gifts a = a
 AllGiven-drop (suc n) [] gifts a = tt
 AllGiven-drop (suc n) (x ∷ xs) gifts a = AllGiven-drop n xs gifts a.1
+
+AllHands-append : {T : Type 0} (words : ℕ → ℕ) (place : ℕ → Option Running) (at : ℕ → Where) (gifts : Gifts T) (homes : Homes T) (xs ys : List (Part T))
+    → AllHands words place at gifts homes xs → AllHands words place at gifts homes ys → AllHands words place at gifts homes (xs ++ ys)
+AllHands-append words place at gifts homes [] ys a b = b
+AllHands-append words place at gifts homes (x ∷ xs) ys a b = (a.0, AllHands-append words place at gifts homes xs ys a.1 b)
+
+AllHands-take : {T : Type 0} (words : ℕ → ℕ) (place : ℕ → Option Running) (at : ℕ → Where) (gifts : Gifts T) (homes : Homes T) (n : ℕ) (xs : List (Part T))
+    → AllHands words place at gifts homes xs → AllHands words place at gifts homes (take n xs)
+AllHands-take words place at gifts homes zero xs a = tt
+AllHands-take words place at gifts homes (suc n) [] a = tt
+AllHands-take words place at gifts homes (suc n) (x ∷ xs) a = (a.0, AllHands-take words place at gifts homes n xs a.1)
+
+AllHands-drop : {T : Type 0} (words : ℕ → ℕ) (place : ℕ → Option Running) (at : ℕ → Where) (gifts : Gifts T) (homes : Homes T) (n : ℕ) (xs : List (Part T))
+    → AllHands words place at gifts homes xs → AllHands words place at gifts homes (drop n xs)
+AllHands-drop words place at gifts homes zero xs a = a
+AllHands-drop words place at gifts homes (suc n) [] a = tt
+AllHands-drop words place at gifts homes (suc n) (x ∷ xs) a = AllHands-drop words place at gifts homes n xs a.1
 
 -- the seat `from` gives its parts from the k-th on to the seat `to`, where they follow the first m
 abbrev pub passed_on : ℕ → ℕ → ℕ → ℕ → ℕ × ℕ → ℕ × ℕ
@@ -128,7 +157,7 @@ length_set (x ∷ xs) (suc i) a = ap suc (length_set xs i a)
 
 -- a seat keeps its first n parts, and a new seat has the others
 pub cuts : {T : Type 0} (o : Opening) (id : ℕ) (v : View T) (n : ℕ) → n ≤ length v.parts
-    → Splits (λ (s : State (Option T) (View T)). OneSchedule o s.words s.views) id v (view_of v.opened (take n v.parts)) (view_of v.opened (drop n v.parts))
+    → Splits (λ (s : State (Option T) (View T)). OneSchedule o s.words s.homes s.views) id v (view_of v.opened (take n v.parts)) (view_of v.opened (drop n v.parts))
 cuts {T} o id v n le s kept at =
     let mine = kept.fit id v at in
     let left = view_of v.opened (take n v.parts) in
@@ -156,11 +185,24 @@ cuts {T} o id v n le s kept at =
           (λ (x : (j ≡ length (set s.views id left)) × (right ≡ u)).
           subst (λ (y : ℕ × View T). Fits o kept.all kept.gifts owner y.0 y.1) (λ k. (sym (x.0 ∙ length_set s.views id left) k, x.1 k)) at_right)
           (at_end (set s.views id left) right u j e);
+      at = kept.at;
+      slots = kept.slots;
+      hands = λ some_tokens j u e.
+          let all = kept.hands some_tokens id v at in
+          let P : View T → Type 0 = λ x. AllHands (word_at kept.world) (place_of kept.world) kept.at kept.gifts s.homes x.parts in
+          ⊎_elim
+          (λ (x : get_elem? (set s.views id left) j ≡ some u).
+          ⊎_elim
+          (λ (y : (j ≡ id) × (left ≡ u)). subst P y.1 (AllHands-take (word_at kept.world) (place_of kept.world) kept.at kept.gifts s.homes n v.parts all))
+          (λ (y : (j ≢ id) × (get_elem? s.views j ≡ some u)). kept.hands some_tokens j u y.1)
+          (at_set s.views id j left u x))
+          (λ (x : (j ≡ length (set s.views id left)) × (right ≡ u)). subst P x.1 (AllHands-drop (word_at kept.world) (place_of kept.world) kept.at kept.gifts s.homes n v.parts all))
+          (at_end (set s.views id left) right u j e);
     }
 
 -- a seat takes the parts of another
 pub gathers : {T : Type 0} (o : Opening) (id : ℕ) (v : View T) (other : ℕ) (w : View T) (opened : Opening) → opened ≡ v.opened
-    → Joins (λ (s : State (Option T) (View T)). OneSchedule o s.words s.views) id v other w (both_parts v w) (view_of opened [])
+    → Joins (λ (s : State (Option T) (View T)). OneSchedule o s.words s.homes s.views) id v other w (both_parts v w) (view_of opened [])
 gathers {T} o id v other w opened same s kept at apart there =
     let mine = kept.fit id v at in
     let both = both_parts v w in
@@ -190,6 +232,19 @@ gathers {T} o id v other w opened same s kept at apart there =
           (λ i y not_id not_other f. let they = kept.fit i y f in record { opened = they.opened; begin = they.begin; given = they.given; owns = owns_other kept.owner other 0 id m i 0 y.parts not_other they.owns })
           at_both i y not_other f)
           at_other j u e;
+      at = kept.at;
+      slots = kept.slots;
+      hands = λ some_tokens j u e.
+          let P : View T → Type 0 = λ x. AllHands (word_at kept.world) (place_of kept.world) kept.at kept.gifts s.homes x.parts in
+          ⊎_elim
+          (λ (x : (j ≡ other) × (view_of opened [] ≡ u)). subst P x.1 tt)
+          (λ (x : (j ≢ other) × (get_elem? (set s.views id both) j ≡ some u)).
+          ⊎_elim
+          (λ (y : (j ≡ id) × (both ≡ u)).
+          subst P y.1 (AllHands-append (word_at kept.world) (place_of kept.world) kept.at kept.gifts s.homes v.parts w.parts (kept.hands some_tokens id v at) (kept.hands some_tokens other w theirs_at)))
+          (λ (y : (j ≢ id) × (get_elem? s.views j ≡ some u)). kept.hands some_tokens j u y.1)
+          (at_set s.views id j both u x.1))
+          (at_set (set s.views id both) other j (view_of opened []) u e);
     }
   where
     fits_at : {T : Type 0} (o : Opening) (all : List Event) (gifts : Gifts T) (owner : ℕ → ℕ × ℕ) (views : List (View T)) (id : ℕ) (both : View T) (other : ℕ)
@@ -202,21 +257,21 @@ gathers {T} o id v other w opened same s kept at apart there =
         (at_set views id i both y e)
 
 -- the opening
-fresh_begin : (T : Type 0) (first count : ℕ) → AllBegin {T = T} (fresh first count) []
-fresh_begin T first zero = tt
-fresh_begin T first (suc count) = (record { rest = []; goes_on = refl; no_own = refl }, fresh_begin T (suc first) count)
+fresh_begin : (T : Type 0) (tokens first count : ℕ) → AllBegin {T = T} (fresh tokens first count) []
+fresh_begin T tokens first zero = tt
+fresh_begin T tokens first (suc count) = (record { rest = []; goes_on = refl; no_own = refl }, fresh_begin T tokens (suc first) count)
 
-fresh_given : (T : Type 0) (first count : ℕ) → AllGiven {T = T} (fresh first count) []
-fresh_given T first zero = tt
-fresh_given T first (suc count) = (([], refl), fresh_given T (suc first) count)
+fresh_given : (T : Type 0) (tokens first count : ℕ) → AllGiven {T = T} (fresh tokens first count) []
+fresh_given T tokens first zero = tt
+fresh_given T tokens first (suc count) = (([], refl), fresh_given T tokens (suc first) count)
 
-fresh_owns : (T : Type 0) (first count : ℕ) → Owns {T = T} (λ t. (0, t)) 0 first (fresh first count)
-fresh_owns T first zero = tt
-fresh_owns T first (suc count) = (refl, fresh_owns T (suc first) count)
+fresh_owns : (T : Type 0) (tokens first count : ℕ) → Owns {T = T} (λ t. (0, t)) 0 first (fresh tokens first count)
+fresh_owns T tokens first zero = tt
+fresh_owns T tokens first (suc count) = (refl, fresh_owns T tokens (suc first) count)
 
-pub opens : {T : Type 0} (o : Opening) (words : List ℕ) → words ≡ replicate (2 + o.shape.n * o.shape.k) 0 → OneSchedule {T = T} o words (first_view o ∷ [])
+pub opens : {T : Type 0} (o : Opening) (words : List ℕ) → words ≡ replicate (2 + o.shape.n * o.shape.k) 0 → o.tokens ≡ 0 → OneSchedule {T = T} o words [] (first_view o ∷ [])
 unfolding opening
-opens {T} o words is = record {
+opens {T} o words is none_there = record {
   all = [];
   gifts = [];
   world = opening o.shape o.threads;
@@ -225,8 +280,11 @@ opens {T} o words is = record {
   words_are = is;
   few_ticks = λ thread. omega arith;
   fit = one;
+  at = λ token. Home 0 0;
+  slots = λ some_tokens. absurd (omega arith);
+  hands = λ some_tokens seat v e. absurd (omega arith);
 }
   where
     one : (seat : ℕ) (v : View T) → get_elem? (first_view o ∷ []) seat ≡ some v → Fits o [] [] (λ t. (0, t)) seat v
-    one zero v e = subst (Fits o [] [] (λ t. (0, t)) 0) (some-injective _ _ e) record { opened = refl; begin = fresh_begin T 0 o.threads; given = fresh_given T 0 o.threads; owns = fresh_owns T 0 o.threads }
+    one zero v e = subst (Fits o [] [] (λ t. (0, t)) 0) (some-injective _ _ e) record { opened = refl; begin = fresh_begin T o.tokens 0 o.threads; given = fresh_given T o.tokens 0 o.threads; owns = fresh_owns T o.tokens 0 o.threads }
     one (suc seat) v e = absurd (some-ne-none v (sym e))

@@ -39,7 +39,7 @@ pass_begins {T} thread me p all is same_thread same_seen b =
 pub closes : {T : Type 0} (q : OpenQueue) (ps : List Known) (items table_words : List ℕ) (slots : List (Option T)) (key : Opening) (id : ℕ) (v w : View T) (rest : List Known) (last : Known)
     → key ≡ q.opened → ps ≡ rest ++ last ∷ [] → IsGathered v rest w
     → ((all : List Event) → AllBegin v.parts all → Begins last.thread last.seen all)
-    → q.opened.threads ≤ 64 → items ≡ items_left q.opened.shape table_words → Final (Seen (λ (s : State (Option T) (View T)). OneSchedule key s.words s.views) id w) table_words slots → Closes q ps items
+    → q.opened.threads ≤ 64 → items ≡ items_left q.opened.shape table_words → Final (Seen (λ (s : State (Option T) (View T)). OneSchedule key s.words s.homes s.views) id w) table_words slots → Closes q ps items
 closes q ps items table_words slots key id v w rest last opened ps_are gathered of_last few same f =
     let kept = f.1.0 in
     let parts = (kept.fit id w f.1.1).begin in
@@ -57,7 +57,7 @@ closes q ps items table_words slots key id v w rest last opened ps_are gathered 
     }
 
 -- the ends word of a closed table names segments
-pub final_head : {T : Type 0} (slots : List (Option T)) (words : List ℕ) (o : Opening) (id : ℕ) (w : View T) → Final (Seen (λ (s : State (Option T) (View T)). OneSchedule o s.words s.views) id w) words slots → head_of (get_or words 0 0) < o.shape.n
+pub final_head : {T : Type 0} (slots : List (Option T)) (words : List ℕ) (o : Opening) (id : ℕ) (w : View T) → Final (Seen (λ (s : State (Option T) (View T)). OneSchedule o s.words s.homes s.views) id w) words slots → head_of (get_or words 0 0) < o.shape.n
 unfolding word_at
 final_head slots words o id w f =
     let kept = f.1.0 in

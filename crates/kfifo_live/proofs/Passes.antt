@@ -17,9 +17,11 @@ use Rattle.kfifo_machine.proofs.Schedules.{after-snoc, own-append, run_on, same_
 use Rattle.kfifo_live.specs.declared.view.Opening.{Opening}
 use Rattle.kfifo_live.specs.declared.view.Part.{Part}
 use Rattle.kfifo_live.specs.declared.view.View.{View}
-use Rattle.kfifo_live.specs.Schedule.{Gifts, gifts_of, IsSmall, part, view_of, world_after, thread_in, thread_of, more_in, seen_of, with_seen, AllBegin, first_part, other_parts, no_part, both_parts}
+use Rattle.kfifo_live.specs.Hands.{Gifts, carrying}
+use Rattle.kfifo_live.specs.declared.view.Hand.{Hand}
+use Rattle.kfifo_live.specs.Schedule.{gifts_of, hand_of, hand_in, stamped_opening, IsSmall, part, view_of, world_after, thread_in, thread_of, more_in, seen_of, with_seen, AllBegin, first_part, other_parts, no_part, both_parts}
 use Rattle.kfifo_live.specs.Step.{IsAt, DrawsStamp, Looks, Leads, Runs}
-use Rattle.kfifo_live.specs.Pass.{Known, StartsWith, IsPass, known_of, Finds}
+use Rattle.kfifo_live.specs.Pass.{Known, OpenQueue, queue_of, StartsWith, IsPass, known_of, Finds}
 use Rattle.kfifo_live.specs.Promise.{KeepsPromise}
 use Rattle.kfifo_live.specs.Calls.{Makes}
 use Rattle.kfifo_live.specs.Stamps.{Draws}
@@ -47,23 +49,24 @@ few_same : {T : Type 0} (v w : View T) (parts : List (Part T)) → w ≡ view_of
 few_same {T} v w parts is few = subst IsSmall (sym (ap (λ (x : View T). x.opened) is)) few
 
 passes_on : {T : Type 0} (thread : ℕ) (old new : Me (Option T) (View T)) (all : List Event) (gifts : Gifts T) (end : World) → IsPass thread old
-    → new.0 ≡ view_of old.0.opened (part thread all gifts ∷ []) → new.1 ≡ [] → Begins thread (seen_of old.0) all → world_after old.0.opened all ≡ Some end → IsPass thread new
-passes_on thread old new all gifts end p is held b there =
+    → new.0 ≡ view_of old.0.opened (part thread all gifts (hand_of old.0) ∷ []) → new.1 ≡ [] → Begins thread (seen_of old.0) all → world_after old.0.opened all ≡ Some end → IsPass thread new
+passes_on {T} thread old new all gifts end p is held b there =
     let same = pass_thread thread old p in
     let within = subst (λ (t : ℕ). t < length p.idle.here.places) same p.idle.within in
     let place = ap (λ t. place_of p.idle.here t) (sym same) ∙ p.idle.place_is in
     let on = idle_on old.0.opened thread (seen_of old.0) all p.idle.here end p.idle.reached within place b there in
-    let idle : IsAt None (view_of old.0.opened (part thread all gifts ∷ [])) = record { here = end; seated = refl; reached = there; within = on.0; place_is = on.1 } in
-    record { alone = ap (λ v. v.parts) is ∙ (λ i. part thread (sym (ap seen_of is) i) (sym (ap gifts_of is) i) ∷ []); held = held; idle = subst (IsAt None) (sym is) idle; few = few_same old.0 new.0 (part thread all gifts ∷ []) is p.few }
+    let idle : IsAt None (view_of old.0.opened (part thread all gifts (hand_of old.0) ∷ []), new.1) =
+    record { here = end; seated = refl; reached = there; within = on.0; place_is = on.1; carries = (p.idle.carries.0, held ∙ sym p.held ∙ p.idle.carries.1) } in
+    record { alone = ap (λ v. v.parts) is ∙ (λ i. part thread (sym (ap seen_of is) i) (sym (ap gifts_of is) i) (sym (ap hand_of is) i) ∷ []); held = held; idle = subst (λ (x : View T). IsAt None (x, new.1)) (sym is) idle; few = few_same old.0 new.0 (part thread all gifts _ ∷ []) is p.few }
 
-alone_with : {T : Type 0} (thread : ℕ) (old : Me (Option T) (View T)) (all : List Event) (gifts : Gifts T) → IsPass thread old → with_seen old.0 all gifts ≡ view_of old.0.opened (part thread all gifts ∷ [])
-alone_with {T} thread old all gifts p = ap (λ (ps : List (Part T)). view_of old.0.opened (part (thread_in ps) all gifts ∷ more_in ps)) p.alone
+alone_with : {T : Type 0} (thread : ℕ) (old : Me (Option T) (View T)) (all : List Event) (gifts : Gifts T) (hand : Hand T) → IsPass thread old → with_seen old.0 all gifts hand ≡ view_of old.0.opened (part thread all gifts hand ∷ [])
+alone_with {T} thread old all gifts hand p = ap (λ (ps : List (Part T)). view_of old.0.opened (part (thread_in ps) all gifts hand ∷ more_in ps)) p.alone
 
 -- after a look
 pub looked : {T : Type 0} (thread index word : ℕ) (old new : Me (Option T) (View T)) → IsPass thread old → new.1 ≡ old.1 → Looks index word old.0 new.0 → IsPass thread new
 looked {T} thread index word old new p held l =
     let b = subst (λ (ps : List (Part T)). AllBegin ps l.all) p.alone l.begin in
-    passes_on thread old new l.all l.gifts l.world p (l.afterwards ∙ alone_with thread old l.all l.gifts p) (held ∙ p.held) b.0 l.reached
+    passes_on thread old new l.all l.gifts l.world p (l.afterwards ∙ alone_with thread old l.all l.gifts (hand_of old.0) p) (held ∙ p.held) b.0 l.reached
 
 -- and what the look found
 pub finds : {T : Type 0} (table table' : TableId) (thread index word : ℕ) (old new : Me (Option T) (View T)) → IsPass thread old → Looks index word old.0 new.0
@@ -79,45 +82,51 @@ finds {T} table table' thread index word old new p l =
       word_is = l.word_is;
     }
 
+-- a pass of a plain queue has no tokens
+pub no_tokens : {T : Type 0} {table : TableId} {thread : ℕ} (v : View T) {p : Known} {q : OpenQueue} {shape : Shape} {threads calls : ℕ} {of : TableId} → known_of table thread v ≡ p → p.opened ≡ q.opened
+    → queue_of of (stamped_opening shape threads calls) ≡ q → v.opened.tokens ≡ 0
+no_tokens v pass opened queue = ap (λ (k : Known). k.opened.tokens) pass ∙ ap (λ (o : Opening). o.tokens) opened ∙ sym (ap (λ (q : OpenQueue). q.opened.tokens) queue)
+
 -- after a call
 pub called : {T : Type 0} (begin : Begin) (answer : Answer) (thread : ℕ) (old new : Me (Option T) (View T)) → IsPass thread old
-    → new.1 ≡ old.1 → Leads (Some begin) old (Answers answer) new → IsPass thread new
-called begin answer thread old new p slots l =
+    → old.0.opened.tokens ≡ 0 → Leads (Some begin) old (Answers answer) new → IsPass thread new
+called begin answer thread old new p none_there l =
     let all = (seen_of old.0 ++ l.between) ++ l.last ∷ [] in
     let gifts = gifts_of old.0 ++ l.given in
-    let is : new.0 ≡ view_of old.0.opened (part thread all gifts ∷ []) = l.now ∙ alone_with thread old all gifts p in
+    let is : new.0 ≡ view_of old.0.opened (part thread all gifts l.hand ∷ []) = l.now ∙ alone_with thread old all gifts l.hand p in
     record {
-      alone = ap (λ v. v.parts) is ∙ (λ i. part thread (sym (ap seen_of is) i) (sym (ap gifts_of is) i) ∷ []);
-      held = slots ∙ p.held;
+      alone = ap (λ v. v.parts) is ∙ (λ i. part thread (sym (ap seen_of is) i) (sym (ap gifts_of is) i) (sym (ap hand_of is) i) ∷ []);
+      held = l.carries ∙ ap (λ (n : ℕ). carrying n l.hand.out l.hand.payload) none_there;
       idle = at_next (Some begin) old new (Answers answer) l;
-      few = few_same old.0 new.0 (part thread all gifts ∷ []) is p.few;
+      few = few_same old.0 new.0 (part thread all gifts _ ∷ []) is p.few;
     }
 
 -- after a tick
 pub drawn : {T : Type 0} (stamp thread : ℕ) (old new : Me (Option T) (View T)) → IsPass thread old → new.1 ≡ old.1 → DrawsStamp old.0 stamp new.0 → IsPass thread new
-drawn stamp thread old new p slots d =
+drawn {T} stamp thread old new p slots d =
     let v = old.0 in
     let t = thread_of v in
     let shape = v.opened.shape in
     let all = (seen_of v ++ d.between) ++ event t (Some Tick) ∷ [] in
     let gifts = gifts_of v ++ d.given in
-    let is : new.0 ≡ view_of v.opened (part thread all gifts ∷ []) = d.afterwards ∙ alone_with thread old all gifts p in
+    let is : new.0 ≡ view_of v.opened (part thread all gifts (hand_of v) ∷ []) = d.afterwards ∙ alone_with thread old all gifts (hand_of v) p in
     let onward : run shape (Some p.idle.here) d.between ≡ Some d.here = sym (run_on shape (Some (opening shape v.opened.threads)) p.idle.here (seen_of v) d.between p.idle.reached) ∙ d.reached in
     let still = still_threads shape p.idle.here d.here d.between onward in
     let there : place_of d.here t ≡ None = same_place shape p.idle.here d.here d.between t d.others onward ∙ p.idle.place_is in
     let size = length-ticked shape d.here in
-    let at : IsAt None (with_seen v all gifts) = record {
+    let at : IsAt None (with_seen v all gifts (hand_of v), new.1) = record {
       here = ticked shape d.here;
       seated = refl;
       reached = after-snoc shape v.opened.threads (seen_of v ++ d.between) d.here (event t (Some Tick)) d.reached ∙ ap world_of d.made;
       within = let w = p.idle.within in omega arith;
       place_is = tick_leaves shape d.here t ∙ there;
+      carries = (p.idle.carries.0, slots ∙ p.idle.carries.1);
     } in
     record {
-      alone = ap (λ v. v.parts) is ∙ (λ i. part thread (sym (ap seen_of is) i) (sym (ap gifts_of is) i) ∷ []);
+      alone = ap (λ v. v.parts) is ∙ (λ i. part thread (sym (ap seen_of is) i) (sym (ap gifts_of is) i) (sym (ap hand_of is) i) ∷ []);
       held = slots ∙ p.held;
-      idle = subst (IsAt None) (sym d.afterwards) at;
-      few = few_same old.0 new.0 (part thread all gifts ∷ []) is p.few;
+      idle = subst (λ (x : View T). IsAt None (x, new.1)) (sym d.afterwards) at;
+      few = few_same old.0 new.0 (part thread all gifts _ ∷ []) is p.few;
     }
 
 -- and what it drew
@@ -154,18 +163,18 @@ made call answer thread old new now p is runs =
 pub met : {T : Type 0} (thread word found : ℕ) (old new : Me (Option T) (View T)) (other both seen : View T) → IsPass thread old → new.1 ≡ old.1
     → both ≡ both_parts old.0 other → Looks word found both seen → new.0 ≡ first_part seen → IsPass thread new
 met {T} thread word found old new other both seen p held is l kept =
-    let parts : both.parts ≡ part thread (seen_of old.0) (gifts_of old.0) ∷ other.parts = ap (λ v. v.parts) is ∙ ap (λ (ps : List (Part T)). ps ++ other.parts) p.alone in
+    let parts : both.parts ≡ part thread (seen_of old.0) (gifts_of old.0) (hand_of old.0) ∷ other.parts = ap (λ v. v.parts) is ∙ ap (λ (ps : List (Part T)). ps ++ other.parts) p.alone in
     let b = subst (λ (ps : List (Part T)). AllBegin ps l.all) parts l.begin in
     let opened : both.opened ≡ old.0.opened = ap (λ v. v.opened) is in
     passes_on thread old new l.all l.gifts l.world p
-    (kept ∙ ap first_part l.afterwards ∙ (λ i. view_of (opened i) (part (thread_in (parts i)) l.all l.gifts ∷ [])))
+    (kept ∙ ap first_part l.afterwards ∙ (λ i. view_of (opened i) (part (thread_in (parts i)) l.all l.gifts (hand_in (parts i)) ∷ [])))
     (held ∙ p.held) b.0 (ap (λ (o : Opening). world_after o l.all) (sym opened) ∙ l.reached)
 
 -- the parts that were put behind a pass's own for a look come back as they were
-pub returned : {T : Type 0} (thread : ℕ) (old : Me (Option T) (View T)) (lent both seen rest back : View T) (all : List Event) (gifts : Gifts T) → IsPass thread old → both ≡ both_parts old.0 lent → seen ≡ with_seen both all gifts → rest ≡ other_parts seen
+pub returned : {T : Type 0} (thread : ℕ) (old : Me (Option T) (View T)) (lent both seen rest back : View T) (all : List Event) (gifts : Gifts T) (hand : Hand T) → IsPass thread old → both ≡ both_parts old.0 lent → seen ≡ with_seen both all gifts hand → rest ≡ other_parts seen
     → back ≡ both_parts (no_part lent) rest → back ≡ lent
-returned {T} thread old lent both seen rest back all gifts p both_is seen_is rest_is back_is =
-    let behind : both.parts ≡ part thread (seen_of old.0) (gifts_of old.0) ∷ lent.parts = ap (λ (v : View T). v.parts) both_is ∙ ap (λ (ps : List (Part T)). ps ++ lent.parts) p.alone in
+returned {T} thread old lent both seen rest back all gifts hand p both_is seen_is rest_is back_is =
+    let behind : both.parts ≡ part thread (seen_of old.0) (gifts_of old.0) (hand_of old.0) ∷ lent.parts = ap (λ (v : View T). v.parts) both_is ∙ ap (λ (ps : List (Part T)). ps ++ lent.parts) p.alone in
     let parts : rest.parts ≡ lent.parts = ap (λ (v : View T). v.parts) (rest_is ∙ ap other_parts seen_is) ∙ ap more_in behind in
     back_is ∙ ap (λ (ps : List (Part T)). view_of lent.opened ps) parts
 
@@ -174,7 +183,7 @@ pub both_begin : {T : Type 0} (whole both : View T) (thread other : ℕ) (old : 
     → IsPass thread old → IsPass other mine → whole ≡ old.0 → both ≡ both_parts mine.0 whole → (l : Looks index word both seen)
     → Begins thread (seen_of old.0) l.all × Begins other (seen_of mine.0) l.all
 both_begin {T} whole both thread other old mine index word seen p q is put l =
-    let parts : both.parts ≡ part other (seen_of mine.0) (gifts_of mine.0) ∷ (part thread (seen_of old.0) (gifts_of old.0) ∷ []) =
+    let parts : both.parts ≡ part other (seen_of mine.0) (gifts_of mine.0) (hand_of mine.0) ∷ (part thread (seen_of old.0) (gifts_of old.0) (hand_of old.0) ∷ []) =
     ap (λ (v : View T). v.parts) put ∙ (λ i. q.alone i ++ (ap (λ (v : View T). v.parts) is ∙ p.alone) i) in
     let b = subst (λ (ps : List (Part T)). AllBegin ps l.all) parts l.begin in
     (b.1.0, b.0)

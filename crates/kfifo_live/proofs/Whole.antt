@@ -20,7 +20,8 @@ use Rattle.kfifo_machine.proofs.Places.{found_by, in_table}
 use Rattle.kfifo_machine.proofs.Schedules.{after-snoc, own-append, run_on, same_place, steps_on}
 use Rattle.kfifo_machine.proofs.Sound.{sound, place_is}
 use Rattle.kfifo_live.specs.declared.view.View.{View}
-use Rattle.kfifo_live.specs.Schedule.{gift, world_after, thread_of, seen_of, gifts_of, with_seen}
+use Rattle.kfifo_live.specs.Hands.{gift, Carries}
+use Rattle.kfifo_live.specs.Schedule.{world_after, thread_of, seen_of, gifts_of, with_seen}
 use Rattle.kfifo_live.specs.declared.ring.Ring.{Ring}
 use Rattle.kfifo_live.specs.Step.{IsAt, Steps, IsOwnRun, Leads, IsSeatOf, Rests, Stands, Awaits, Runs, Comes, Stepped, Onward}
 use Rattle.kfifo_live.proofs.Keeps.{own_same}
@@ -51,7 +52,7 @@ unfolding moved
 length-moved shape world thread running = length-set world.places thread (place_after (advance shape running (found shape world running)))
 
 -- a step is made from where its thread stood
-steps_from : {T : Type 0} (begin : Option Begin) (place : Option Running) (running : Running) (me : Me (Option T) (View T)) (word : ℕ) (new : Me (Option T) (View T)) → IsAt place me.0 → (s : Steps begin me word new)
+steps_from : {T : Type 0} (begin : Option Begin) (place : Option Running) (running : Running) (me : Me (Option T) (View T)) (word : ℕ) (new : Me (Option T) (View T)) → IsAt place me → (s : Steps begin me word new)
     → going me.0.opened.shape place begin ≡ Some running → s.from ≡ running
 steps_from begin place running me word new stood s from =
     let v = me.0 in
@@ -64,7 +65,7 @@ steps_from begin place running me word new stood s from =
     Some-injective x y e = cc
 
 -- one step
-pub one_step : {T : Type 0} (begin : Option Begin) (place : Option Running) (running : Running) (me : Me (Option T) (View T)) (word : ℕ) (new : Me (Option T) (View T)) (next : Next) → IsAt place me.0 → Steps begin me word new
+pub one_step : {T : Type 0} (begin : Option Begin) (place : Option Running) (running : Running) (me : Me (Option T) (View T)) (word : ℕ) (new : Me (Option T) (View T)) (next : Next) → IsAt place me → Steps begin me word new
     → going me.0.opened.shape place begin ≡ Some running → advance me.0.opened.shape running word ≡ next → Leads begin me next new
 one_step begin place running me word new next stood s from is =
     let v = me.0 in
@@ -80,7 +81,9 @@ one_step begin place running me word new next stood s from is =
       given = s.given ++ gift begin me.1;
       before = s.here;
       here = moved shape s.here t s.from;
-      now = s.afterwards ∙ ap (with_seen v ((seen_of v ++ s.between) ++ e ∷ [])) (append_assoc (gifts_of v) s.given (gift begin me.1));
+      hand = s.hand;
+      now = s.afterwards ∙ ap (λ g. with_seen v ((seen_of v ++ s.between) ++ e ∷ []) g s.hand) (append_assoc (gifts_of v) s.given (gift begin me.1));
+      carries = s.carries;
       last_own = refl;
       own_run = subst (λ (es : List Event). IsOwnRun t begin es) (sym own_are) (one_own t begin);
       reached = s.reached;
@@ -97,7 +100,7 @@ reached_here begin v next w l = after-snoc v.0.opened.shape v.0.opened.threads (
 pub more_steps : {T : Type 0} (begin : Option Begin) (old mid new : Me (Option T) (View T)) (running : Running) (next : Next) → Leads begin old (Goes running) mid → Leads None mid next new → Leads begin old next new
 more_steps {T} begin old mid new running next a b = from_there (subst (λ (y : View T). Leads None (y, mid.1) next new) a.now b)
   where
-    from_there : Leads None (with_seen old.0 ((seen_of old.0 ++ a.between) ++ a.last ∷ []) (gifts_of old.0 ++ a.given), mid.1) next new → Leads begin old next new
+    from_there : Leads None (with_seen old.0 ((seen_of old.0 ++ a.between) ++ a.last ∷ []) (gifts_of old.0 ++ a.given) a.hand, mid.1) next new → Leads begin old next new
     from_there b =
         let v = old.0 in
         let t = thread_of v in
@@ -112,7 +115,9 @@ more_steps {T} begin old mid new running next a b = from_there (subst (λ (y : V
           given = a.given ++ b.given;
           before = b.before;
           here = b.here;
-          now = b.now ∙ (λ i. with_seen v (upto i ++ b.last ∷ []) (append_assoc (gifts_of v) a.given b.given i));
+          hand = b.hand;
+          now = b.now ∙ (λ i. with_seen v (upto i ++ b.last ∷ []) (append_assoc (gifts_of v) a.given b.given i) b.hand);
+          carries = b.carries;
           last_own = b.last_own;
           own_run = subst (λ (es : List Event). IsOwnRun t begin es) (sym own_are) (IsOwnRun-append t begin _ _ a.own_run b.own_run);
           reached = ap (λ es. world_after v.opened es) (sym upto) ∙ b.reached;
@@ -122,17 +127,22 @@ more_steps {T} begin old mid new running next a b = from_there (subst (λ (y : V
         }
 
 -- where the steps of a call have led it, its thread is
-pub at_next : {T : Type 0} (begin : Option Begin) (old new : Me (Option T) (View T)) (next : Next) → Leads begin old next new → IsAt (place_after next) new.0
-at_next begin old new next l =
+pub at_next : {T : Type 0} (begin : Option Begin) (old new : Me (Option T) (View T)) (next : Next) → Leads begin old next new → IsAt (place_after next) new
+at_next {T} begin old new next l =
     let v = old.0 in
-    let there : IsAt (place_after next) (with_seen v ((seen_of v ++ l.between) ++ l.last ∷ []) (gifts_of v ++ l.given)) = record {
+    let there : IsAt (place_after next) (with_seen v ((seen_of v ++ l.between) ++ l.last ∷ []) (gifts_of v ++ l.given) l.hand, new.1) = record {
       here = l.here;
       seated = refl;
       reached = reached_here begin old next new l;
       within = l.within;
       place_is = l.place;
+      carries = carries_at next;
     } in
-    subst (IsAt (place_after next)) (sym l.now) there
+    subst (λ (x : View T). IsAt (place_after next) (x, new.1)) (sym l.now) there
+  where
+    carries_at : (next : Next) → Carries (place_after next) old.0.opened.tokens l.hand new.1
+    carries_at (Goes running) = l.carries
+    carries_at (Answers answer) = (l.hand.payload, l.carries)
 
 -- and from the first step on they are a whole run
 pub whole : {T : Type 0} (call : Begin) (v w : Me (Option T) (View T)) (answer : Answer) → Leads (Some call) v (Answers answer) w → WholeRun v.0.opened.shape v.0.opened.threads (thread_of v.0) call answer (seen_of v.0) (seen_of w.0)
@@ -149,8 +159,8 @@ whole call v w answer l = record {
 }
 
 -- a place at which a thread is, is one
-is_place : {T : Type 0} (place : Running) (v : View T) → IsAt (Some place) v → IsPlace v.opened.shape place
-is_place place v a = place_is v.opened.shape a.here (thread_of v) place (sound v.opened.shape v.opened.threads (seen_of v) a.here a.reached) a.place_is
+is_place : {T : Type 0} (place : Running) (v : Me (Option T) (View T)) → IsAt (Some place) v → IsPlace v.0.opened.shape place
+is_place place v a = place_is v.0.opened.shape a.here (thread_of v.0) place (sound v.0.opened.shape v.0.opened.threads (seen_of v.0) a.here a.reached) a.place_is
 
 -- what a step finds in a sound world
 found_sound : {T : Type 0} (begin : Option Begin) (me : Me (Option T) (View T)) (word : ℕ) (w : Me (Option T) (View T)) → (s : Steps begin me word w) → IsFoundBy me.0.opened.shape s.from word
@@ -164,7 +174,6 @@ found_sound begin me word w s =
 pub runs_on : {T : Type 0} {begin : Option Begin} {old mid new : Seat (Option T) (View T)} {place : Running} {next : Next} → Runs begin old (Goes place) mid → Comes mid next new → Runs begin old next new
 runs_on {T} {begin} {old} {mid} {new} {place} {next} a b = record {
   same_table = b.same_table ∙ a.same_table;
-  same_slots = b.same_slots ∙ a.same_slots;
   leads = more_steps begin old.me mid.me new.me place next a.leads b.leads;
 }
 
@@ -180,16 +189,15 @@ module _ {T : Type 0} {ring : Ring T} where
   stands_on {begin} {old} {new} {place} of runs =
       let there = at_next begin old.me new.me (Goes place) runs.leads in
       let seat = seat_on begin (Goes place) of runs in
-      record { of = seat; at = there; is_place = subst (λ (s : Shape). IsPlace s place) seat.sizes (is_place place new.me.0 there) }
+      record { of = seat; at = there; is_place = subst (λ (s : Shape). IsPlace s place) seat.sizes (is_place place new.me there) }
 
   -- what the table tells of a step
-  pub stepped : {old new : Seat (Option T) (View T)} {found word : ℕ} → new.table_id ≡ old.table_id → Steps None old.me found new.me → new.me.1 ≡ old.me.1 → word ≡ found → Stepped ring old word new
-  stepped {old} {new} {found} {word} table steps slots is =
+  pub stepped : {old new : Seat (Option T) (View T)} {found word : ℕ} → new.table_id ≡ old.table_id → Steps None old.me found new.me → word ≡ found → Stepped ring old word new
+  stepped {old} {new} {found} {word} table steps is =
       let step : Steps None old.me word new.me = subst (λ (n : ℕ). Steps None old.me n new.me) (sym is) steps in
       record {
         comes = λ place stands. record {
           same_table = table;
-          same_slots = slots;
           leads = one_step None (Some place) place old.me word new.me _ stands.at step refl (ap (λ (x : Shape). advance x place word) stands.of.sizes);
         };
         sound = λ place stands.
@@ -199,14 +207,13 @@ module _ {T : Type 0} {ring : Ring T} where
       }
 
   -- and of the first step of a call
-  pub begun : {old new : Seat (Option T) (View T)} {picked begin : Begin} {found word : ℕ} → Rests ring old → picked ≡ begin → new.table_id ≡ old.table_id → Steps (Some picked) old.me found new.me → new.me.1 ≡ old.me.1 → word ≡ found
+  pub begun : {old new : Seat (Option T) (View T)} {picked begin : Begin} {found word : ℕ} → Rests ring (Some begin) old → picked ≡ begin → new.table_id ≡ old.table_id → Steps (Some picked) old.me found new.me → word ≡ found
       → (place : Running) → going ring.shape.now None (Some begin) ≡ Some place → Runs (Some begin) old (advance ring.shape.now place word) new
-  begun {old} {new} {picked} {begin} {found} {word} rests same table steps slots is place from =
+  begun {old} {new} {picked} {begin} {found} {word} rests same table steps is place from =
       let step : Steps (Some begin) old.me word new.me = subst (λ (x : Begin × ℕ). Steps (Some x.0) old.me x.1 new.me) (λ i. (same i, sym is i)) steps in
       let from' = ap (λ (x : Shape). going x None (Some begin)) rests.of.sizes ∙ from in
       record {
         same_table = table;
-        same_slots = slots;
         leads = one_step (Some begin) None place old.me word new.me _ rests.idle step from' (ap (λ (x : Shape). advance x place word) rests.of.sizes);
       }
 

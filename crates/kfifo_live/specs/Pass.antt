@@ -8,7 +8,7 @@ use Rattle.kfifo_machine.specs.Machine.{World, word_at}
 use Rattle.kfifo_machine.specs.Runs.{Begins}
 use Rattle.kfifo_live.specs.declared.view.Opening.{Opening}
 use Rattle.kfifo_live.specs.declared.view.View.{View}
-use Rattle.kfifo_live.specs.Schedule.{IsSmall, part, world_after, seen_of, gifts_of, AllBegin}
+use Rattle.kfifo_live.specs.Schedule.{IsSmall, part, world_after, seen_of, gifts_of, hand_of, AllBegin}
 use Rattle.kfifo_live.specs.Left.{items_left}
 use Rattle.kfifo_live.specs.Promise.{KeepsPromise}
 use Rattle.kfifo_live.specs.Balance.{times, puts, undos, takes}
@@ -35,9 +35,9 @@ known_of table thread v = record { table = table; opened = v.opened; thread = th
 -- what is always so of a pass: it acts for its thread alone, which is in no call, its seat holds no slot, and its queue was
 -- opened for few threads and stamped calls
 pub record IsPass {T : Type 0} (thread : ℕ) (me : Me (Option T) (View T)) : Type 0 where
-  pub alone : me.0.parts ≡ part thread (seen_of me.0) (gifts_of me.0) ∷ []
+  pub alone : me.0.parts ≡ part thread (seen_of me.0) (gifts_of me.0) (hand_of me.0) ∷ []
   pub held : me.1 ≡ []
-  pub idle : IsAt None me.0
+  pub idle : IsAt None me
   pub few : IsSmall me.0.opened
 
 -- after the empty schedule each word of the opening is 0

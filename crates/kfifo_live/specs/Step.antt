@@ -18,7 +18,9 @@ use Rattle.kfifo_machine.specs.Runs.{event, own, going, AllGoOn, BeginsOnce}
 use Rattle.kfifo_machine.specs.Places.{IsPlace, IsFoundBy}
 use Rattle.kfifo_live.specs.declared.ring.Ring.{Ring}
 use Rattle.kfifo_live.specs.declared.view.View.{View}
-use Rattle.kfifo_live.specs.Schedule.{Gifts, gift, world_after, AllBegin, AllGiven, thread_of, seen_of, gifts_of, with_seen, IsSeated}
+use Rattle.kfifo_live.specs.Schedule.{world_after, AllBegin, AllGiven, thread_of, seen_of, gifts_of, hand_of, with_seen, IsSeated}
+use Rattle.kfifo_live.specs.declared.view.Hand.{Hand}
+use Rattle.kfifo_live.specs.Hands.{Gifts, gift, move, hand_after, begun_hand, carrying, Carries, BeginsWith}
 
 -- the own events of a call in progress begin nothing; those of a call from its first step on begin it once
 abbrev pub IsOwnRun : ℕ → Option Begin → List Event → Type 0
@@ -27,12 +29,13 @@ IsOwnRun thread (Some call) events = BeginsOnce thread call events
 
 module _ {T : Type 0} where
   -- the thread has seen a schedule after which it is at this place in a call, or in none
-  pub record IsAt (place : Option Running) (v : View T) : Type 0 where
+  pub record IsAt (place : Option Running) (v : Me (Option T) (View T)) : Type 0 where
     pub here : World
-    pub seated : IsSeated v
-    pub reached : world_after v.opened (seen_of v) ≡ Some here
-    pub within : thread_of v < length here.places
-    pub place_is : place_of here (thread_of v) ≡ place
+    pub seated : IsSeated v.0
+    pub reached : world_after v.0.opened (seen_of v.0) ≡ Some here
+    pub within : thread_of v.0 < length here.places
+    pub place_is : place_of here (thread_of v.0) ≡ place
+    pub carries : Carries place v.0.opened.tokens (hand_of v.0) v.1
 
   -- One atomic step of the first part's thread, which begins this call or goes on with its own: events of others, after
   -- which it finds this word, and then its own event
@@ -46,7 +49,10 @@ module _ {T : Type 0} where
     pub within : thread_of v.0 < length here.places
     pub goes : going v.0.opened.shape (place_of here (thread_of v.0)) begin ≡ Some from
     pub word_is : word ≡ found v.0.opened.shape here from
-    pub afterwards : w.0 ≡ with_seen v.0 ((seen_of v.0 ++ between) ++ event (thread_of v.0) begin ∷ []) ((gifts_of v.0 ++ given) ++ gift begin v.1)
+    pub hand : Hand T
+    pub hand_is : hand ≡ hand_after (move from word) ((gifts_of v.0 ++ given) ++ gift begin v.1) (begun_hand begin v.1 (hand_of v.0))
+    pub afterwards : w.0 ≡ with_seen v.0 ((seen_of v.0 ++ between) ++ event (thread_of v.0) begin ∷ []) ((gifts_of v.0 ++ given) ++ gift begin v.1) hand
+    pub carries : w.1 ≡ carrying v.0.opened.tokens hand.out hand.payload
 
   -- A tick of the first part's thread, which is in no call: events of others, after which it finds this stamp on the clock,
   -- and then its own tick
@@ -58,7 +64,7 @@ module _ {T : Type 0} where
     pub reached : world_after v.opened (seen_of v ++ between) ≡ Some here
     pub stamp_is : stamp ≡ word_at here (clock_at v.opened.shape.k v.opened.shape.n)
     pub made : step v.opened.shape here (event (thread_of v) (Some Tick)) ≡ Ok (ticked v.opened.shape here, Went)
-    pub afterwards : w ≡ with_seen v ((seen_of v ++ between) ++ event (thread_of v) (Some Tick) ∷ []) (gifts_of v ++ given)
+    pub afterwards : w ≡ with_seen v ((seen_of v ++ between) ++ event (thread_of v) (Some Tick) ∷ []) (gifts_of v ++ given) (hand_of v)
 
   -- a look at a word, which is no event: the schedule so far was seen
   pub record Looks (index word : ℕ) (v w : View T) : Type 0 where
@@ -69,7 +75,7 @@ module _ {T : Type 0} where
     pub word_is : word ≡ get_or world.words index 0
     pub begin : AllBegin v.parts all
     pub given : AllGiven v.parts gifts
-    pub afterwards : w ≡ with_seen v all gifts
+    pub afterwards : w ≡ with_seen v all gifts (hand_of v)
 
   -- Steps of one call, from its first where it begins here: events of others and own ones, the last of them own, after which
   -- the call goes on from the next place or has answered
@@ -79,7 +85,9 @@ module _ {T : Type 0} where
     pub given : Gifts T
     pub before : World
     pub here : World
-    pub now : w.0 ≡ with_seen v.0 ((seen_of v.0 ++ between) ++ last ∷ []) (gifts_of v.0 ++ given)
+    pub hand : Hand T
+    pub now : w.0 ≡ with_seen v.0 ((seen_of v.0 ++ between) ++ last ∷ []) (gifts_of v.0 ++ given) hand
+    pub carries : w.1 ≡ carrying v.0.opened.tokens hand.out hand.payload
     pub last_own : last.thread ≡ thread_of v.0
     pub own_run : IsOwnRun (thread_of v.0) begin (own (thread_of v.0) (between ++ last ∷ []))
     pub reached : world_after v.0.opened (seen_of v.0 ++ between) ≡ Some before
@@ -100,15 +108,16 @@ module _ {T : Type 0} where
     pub size : ring.words.now.table_id.words ≡ 2 + ring.shape.now.n * ring.shape.now.k
     pub sizes : seat.me.0.opened.shape ≡ ring.shape.now
 
-  -- its thread is in no call
-  pub record Rests (ring : Ring T) (seat : Seat (Option T) (View T)) : Type 0 where
+  -- its thread is in no call, and may begin this one
+  pub record Rests (ring : Ring T) (begin : Option Begin) (seat : Seat (Option T) (View T)) : Type 0 where
     pub of : IsSeatOf ring seat
-    pub idle : IsAt None seat.me.0
+    pub idle : IsAt None seat.me
+    pub begins : 0 < seat.me.0.opened.tokens → BeginsWith begin (hand_of seat.me.0) seat.me.1
 
   -- its thread is at this place in its call
   pub record Stands (ring : Ring T) (seat : Seat (Option T) (View T)) (place : Running) : Type 0 where
     pub of : IsSeatOf ring seat
-    pub at : IsAt (Some place) seat.me.0
+    pub at : IsAt (Some place) seat.me
     pub is_place : IsPlace ring.shape.now place
 
   -- its thread makes this step next
@@ -120,7 +129,6 @@ module _ {T : Type 0} where
   -- steps of a call, from its first where it begins here, led from one moment of the seat to another
   pub record Runs (begin : Option Begin) (old : Seat (Option T) (View T)) (next : Next) (new : Seat (Option T) (View T)) : Type 0 where
     pub same_table : new.table_id ≡ old.table_id
-    pub same_slots : new.me.1 ≡ old.me.1
     pub leads : Leads begin old.me next new.me
 
   -- the same of a call in progress

@@ -139,7 +139,7 @@ impl<T> Ring<'_, T> {
     pub(crate) fn dequeue(self, seat: &mut ThreadSeat<T>, start: u32, turns: u16) -> Answer
         requires start { start < self.shape.now.k }
         requires turns { 1 ≤ turns }
-        requires rests { Rests self seat.old }
+        requires rests { Rests self (Some (Begin.Dequeue start turns)) seat.old }
         ensures { Runs (Some (Begin.Dequeue start turns)) seat.old (Next.Answers result) seat.new }
     {
         let mut ends = self.begin::<Brand>(seat, Begin::Dequeue { start, turns });

@@ -247,7 +247,7 @@ impl<T> Ring<'_, T> {
         requires item { (1 ≤ item) × (item < 2 ^ 24) }
         requires start { start < self.shape.now.k }
         requires turns { 1 ≤ turns }
-        requires rests { Rests self seat.old }
+        requires rests { Rests self (Some (Begin.Enqueue item start turns)) seat.old }
         ensures { Runs (Some (Begin.Enqueue item start turns)) seat.old (Next.Answers result) seat.new }
     {
         let mut ends = self.begin::<Brand>(seat, Begin::Enqueue { item, start, turns });

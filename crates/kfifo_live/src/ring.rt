@@ -65,7 +65,7 @@ impl<T> Ring<'_, T> {
     #[inline(always)]
     pub(crate) fn begin<C: BegunCall>(self, seat: &mut ThreadSeat<T>, begin: Begin) -> Ends
         requires picked { C.begin ≡ begin }
-        requires rests { Rests self seat.old }
+        requires rests { Rests self (Some begin) seat.old }
         requires first { BeginsAtEnds self.shape.now begin }
         ensures { (place : Running) → going self.entry.shape.now None (Some begin) ≡ Some place → Runs (Some begin) seat.old (advance self.entry.shape.now place result) seat.new }
     {

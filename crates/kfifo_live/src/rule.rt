@@ -11,11 +11,12 @@ use atomic_table::{Join, Play, Split, TableRule};
 use std::marker::{Brand, PhantomData};
 
 /// The rule, or invariant, of the table: there is one schedule; the words are those after it, each seat
-/// has seen a beginning of it with all events of its threads, and the clock has ticked seldom.
+/// has seen a beginning of it with all events of its threads, and the clock has ticked seldom. Where the
+/// queue has tokens, each is in one place, and its slot holds what was last put with it.
 pub struct QueueRule;
 
 impl<T> TableRule<Option<T>, View<T>, Opening> for QueueRule {
-    ghost holds = { λ o s. OneSchedule o s.words s.views };
+    ghost holds = { λ o s. OneSchedule o s.words s.homes s.views };
 
     ghost first = { first_view };
 }
@@ -35,14 +36,14 @@ pub struct FirstStep<C: BegunCall> {
 }
 
 impl<T, C: BegunCall> Play<Option<T>, View<T>> for FirstStep<C> {
-    ghost then = { λ s v found w. Steps (Some C.begin) v found w × (w.1 ≡ v.1) };
+    ghost then = { λ s v found w. Steps (Some C.begin) v found w };
 }
 
 /// A later step of a call.
 pub struct NextStep;
 
 impl<T> Play<Option<T>, View<T>> for NextStep {
-    ghost then = { λ s v found w. Steps None v found w × (w.1 ≡ v.1) };
+    ghost then = { λ s v found w. Steps None v found w };
 }
 
 /// A tick of the clock.

@@ -22,6 +22,18 @@ pub struct Opening {
     pub threads: u32,
     /// How many stamped calls each of them may make: none of a plain queue.
     pub calls: u32,
+    /// How many tokens each of them begins with, each of which names a slot: none of a plain queue.
+    pub tokens: u32,
+}
+
+/// The tokens of a thread.
+pub struct Hand<T> {
+    /// Those whose slots are at home.
+    pub at_home: LinkedList<u32>,
+    /// The one whose slot is out with the thread's seat, or 0.
+    pub out: u32,
+    /// What that slot holds, in a call.
+    pub payload: Option<T>,
 }
 
 /// What was seen of the schedule on behalf of a thread.
@@ -32,6 +44,8 @@ pub struct Part<T> {
     pub seen: LinkedList<Event>,
     /// For each enqueue that begins in it, in turn, its item and what the slot held that its thread had taken last.
     pub gifts: LinkedList<(u32, Option<T>)>,
+    /// Its tokens.
+    pub hand: Hand<T>,
 }
 
 /// The threads that a seat may act for.
