@@ -262,7 +262,7 @@ opening_know shape threads t r at = absurd (let e : None ≡ Some r = sym (get_o
 pub know_after : (o : Opening) (all : List Event) (world : World) → world_after o all ≡ Some world → AllKnow world
 know_after o all world is = know_along o.shape (opening o.shape o.threads) world all (opening_sound o.shape o.threads) (opening_know o.shape o.threads) is
 
-value-zero : value_of 0 ≡ 0
+pub value-zero : value_of 0 ≡ 0
 unfolding value_of
 value-zero = refl
 

@@ -1,23 +1,26 @@
 -- A look at the schedule, and views that are cut in two or put together, keep the rule.
-use Rattle.std.proofs.Common.{◌≡◌, ◌≢◌, ◌⊎◌, ℕ, zero, suc, ◌+◌, ◌-◌, ◌<◌, ◌≤◌, List, [], ◌∷◌, ◌++◌, length, set, get_or, replicate, ◌*◌, take, drop, true, false, refl, sym, ap, ◌∙◌, subst, inl, inr, ⊎_elim, Option, arith, cond, eq-eqb, ne_eqb, nat_eq, nat_le}
+use Rattle.std.proofs.Common.{map, mul-le-mul_right, suc-mul, None, nat_lt, ◌≡◌, ◌≢◌, ◌⊎◌, ℕ, zero, suc, ◌+◌, ◌-◌, ◌<◌, ◌≤◌, List, [], ◌∷◌, ◌++◌, length, set, get_or, replicate, ◌*◌, take, drop, true, false, refl, sym, ap, ◌∙◌, subst, inl, inr, ⊎_elim, Option, arith, cond, eq-eqb, ne_eqb, nat_eq, nat_le}
 use Rattle.std.specs.Prelude.{slice_index, slice_set}
 use Rattle.std.proofs.lemmas.List.{append-nil, set-get_or}
+use Rattle.std.proofs.lemmas.Bool.{cases_eq}
 use Rattle.std.proofs.lemmas.Bool.Decides.{nat_tests}
 use mathlib.Core.Option.{some, some-ne-none, some-injective}
 use lib.ListN.{get_elem?}
 use Rattle.atomic_table.specs.Table.{State, keeps, Me, Allows, Splits, Joins}
 use Rattle.atomic_table.proofs.Lists.{at_set}
 use Rattle.kfifo_machine.specs.declared.event.Event.{Event}
+use Rattle.kfifo_words.specs.Words.{value_of}
 use Rattle.kfifo_words.specs.Ring.{clock_at}
 use Rattle.kfifo_machine.specs.declared.place.Running.{Running}
 use Rattle.kfifo_machine.specs.Machine.{opening, word_at, place_of}
 use Rattle.kfifo_live.specs.declared.view.Opening.{Opening}
 use Rattle.kfifo_live.specs.declared.view.Part.{Part}
 use Rattle.kfifo_live.specs.declared.view.View.{View}
-use Rattle.kfifo_live.specs.Schedule.{part, view_of, fresh, first_view, thread_of, seen_of, gifts_of, hand_of, with_seen, more_in, IsSeated, AllBegin, AllGiven, AllHands, Owns, Fits, OneSchedule, FewTicks, both_parts}
-use Rattle.kfifo_live.specs.Hands.{Gifts, Homes, Where, Home, HandFits, SlotsFit}
+use Rattle.kfifo_live.specs.Schedule.{part, view_of, count_up, first_hand, fresh, first_view, thread_of, seen_of, gifts_of, hand_of, with_seen, more_in, IsSeated, AllBegin, AllGiven, AllHands, Owns, Fits, OneSchedule, FewTicks, both_parts}
+use Rattle.kfifo_live.specs.Hands.{Gifts, Homes, Where, Home, AllHome, CallFits, HandFits, SlotsFit}
 use Rattle.kfifo_live.specs.declared.view.Hand.{Hand}
 use Rattle.kfifo_live.specs.Step.{Looks}
+use Rattle.kfifo_live.proofs.Balance.{value-zero}
 use Rattle.kfifo_live.proofs.Keeps.{Tokens, adds, fits_set}
 
 -- a look, at a view with these parts
@@ -269,9 +272,75 @@ fresh_owns : (T : Type 0) (tokens first count : ℕ) → Owns {T = T} (λ t. (0,
 fresh_owns T tokens first zero = tt
 fresh_owns T tokens first (suc count) = (refl, fresh_owns T tokens (suc first) count)
 
-pub opens : {T : Type 0} (o : Opening) (words : List ℕ) → words ≡ replicate (2 + o.shape.n * o.shape.k) 0 → o.tokens ≡ 0 → OneSchedule {T = T} o words [] (first_view o ∷ [])
-unfolding opening
-opens {T} o words is none_there = record {
+-- where the tokens of an opening are: those of thread t are t * tokens + 1 to (t + 1) * tokens
+at_open : ℕ → ℕ → ℕ → Where
+at_open tokens zero x = Home 0 0
+at_open tokens (suc thread) x = cond (nat_lt (thread * tokens) x) (Home thread (suc thread * tokens - x)) (at_open tokens thread x)
+
+at_thread : (tokens count thread x : ℕ) → thread < count → thread * tokens < x → x ≤ suc thread * tokens → at_open tokens count x ≡ Home thread (suc thread * tokens - x)
+unfolding at_open
+at_thread tokens zero thread x within above below = absurd (omega arith)
+at_thread tokens (suc count) thread x within above below =
+    elim (cases_eq thread count) [
+      | inl same ↦
+          let here : nat_lt (count * tokens) x ≡ true = (let more : count * tokens < x = subst (λ (t : ℕ). t * tokens < x) same above in grind (arith, nat_tests)) in
+          ap (λ b. cond b (Home count (suc count * tokens - x)) (at_open tokens count x)) here ∙ ap (λ (t : ℕ). Home t (suc t * tokens - x)) (sym same)
+      | inr other ↦
+          let up = mul-le-mul_right tokens (let le : suc thread ≤ count = omega arith in le) in
+          let not_here : nat_lt (count * tokens) x ≡ false = (let less : x ≤ count * tokens = omega (arith, up, below) in grind (arith, nat_tests)) in
+          ap (λ b. cond b (Home count (suc count * tokens - x)) (at_open tokens count x)) not_here ∙ at_thread tokens count thread x (omega arith) above below
+    ]
+
+home_at : {T : Type 0} (n k : ℕ) → k < n → get_elem? (map some (replicate {A = Option T} n None)) k ≡ some (some None)
+home_at zero k less = absurd (omega arith)
+home_at (suc n) zero less = refl
+home_at (suc n) (suc k) less = home_at n k (omega arith)
+
+length-count_up : (first n : ℕ) → length (count_up first n) ≡ n
+length-count_up first zero = refl
+length-count_up first (suc n) = ap suc (length-count_up (suc first) n)
+
+idle_open : (n t : ℕ) → get_or (replicate {A = Option Running} n None) t None ≡ None
+idle_open zero t = refl
+idle_open (suc n) zero = refl
+idle_open (suc n) (suc t) = idle_open n t
+
+module _ (T : Type 0) (o : Opening) where
+  abbrev homes_open : Homes T
+  homes_open = map some (replicate {A = Option T} (o.threads * o.tokens) None)
+
+  tokens_open : (thread first n : ℕ) → thread < o.threads → first + n ≡ suc thread * o.tokens + 1 → thread * o.tokens < first → AllHome (at_open o.tokens o.threads) homes_open thread (count_up first n)
+  tokens_open thread first zero within is above = tt
+  tokens_open thread first (suc n) within is above =
+      let up = mul-le-mul_right o.tokens (let le : suc thread ≤ o.threads = omega arith in le) in
+      let below : first ≤ suc thread * o.tokens = omega (arith, is) in
+      let behind : suc thread * o.tokens - first ≡ length (count_up (suc first) n) = (let e = length-count_up (suc first) n in omega (arith, is, e)) in (
+        (
+          (omega (arith, above)),
+          at_thread o.tokens o.threads thread first within above below ∙ ap (Home thread) behind,
+          (None, home_at {T = T} (o.threads * o.tokens) (first - 1) (omega (arith, up, below, above))),
+        ),
+        tokens_open thread (suc first) n within (omega (arith, is)) (omega (arith, above)),
+      )
+
+  hands_open : (words : ℕ → ℕ) (first count : ℕ) → first + count ≡ o.threads → AllHands words (place_of (opening o.shape o.threads)) (at_open o.tokens o.threads) [] homes_open (fresh o.tokens first count)
+  unfolding opening place_of
+  hands_open words first zero all = tt
+  hands_open words first (suc count) all = (
+    record {
+      home = tokens_open first (first * o.tokens + 1) o.tokens (omega (arith, all)) (let e : suc first * o.tokens ≡ first * o.tokens + o.tokens = suc-mul-of first o.tokens in omega (arith, e)) (omega arith);
+      out = λ some_out. absurd (some_out refl);
+      stands = subst (CallFits words [] (first_hand o.tokens first)) (sym (idle_open o.threads first)) tt;
+    },
+    hands_open words (suc first) count (omega (arith, all)),
+  )
+    where
+      suc-mul-of : (m n : ℕ) → suc m * n ≡ m * n + n
+      suc-mul-of m n = omega (arith, suc-mul m n)
+
+pub opens : {T : Type 0} (o : Opening) (words : List ℕ) → words ≡ replicate (2 + o.shape.n * o.shape.k) 0 → OneSchedule {T = T} o words (homes_open T o) (first_view o ∷ [])
+unfolding opening word_at
+opens {T} o words is = record {
   all = [];
   gifts = [];
   world = opening o.shape o.threads;
@@ -280,11 +349,32 @@ opens {T} o words is none_there = record {
   words_are = is;
   few_ticks = λ thread. omega arith;
   fit = one;
-  at = λ token. Home 0 0;
-  slots = λ some_tokens. absurd (omega arith);
-  hands = λ some_tokens seat v e. absurd (omega arith);
+  at = at_open o.tokens o.threads;
+  slots = λ some_tokens i above below filled. absurd (filled (ap value_of (zero_at (2 + o.shape.n * o.shape.k) i) ∙ value-zero));
+  hands = λ some_tokens. all_hands;
 }
   where
+    zero_at : (n i : ℕ) → get_or {A = ℕ} (replicate n 0) i 0 ≡ 0
+    zero_at zero i = refl
+    zero_at (suc n) zero = refl
+    zero_at (suc n) (suc i) = zero_at n i
+
+    all_hands : (seat : ℕ) (v : View T) → get_elem? (first_view o ∷ []) seat ≡ some v
+        → AllHands (word_at (opening o.shape o.threads)) (place_of (opening o.shape o.threads)) (at_open o.tokens o.threads) [] (homes_open T o) v.parts
+    all_hands zero v e =
+        subst (λ (x : View T). AllHands (word_at (opening o.shape o.threads)) (place_of (opening o.shape o.threads)) (at_open o.tokens o.threads) [] (homes_open T o) x.parts) (some-injective _ _ e)
+        (hands_open T o (word_at (opening o.shape o.threads)) 0 o.threads (omega arith))
+    all_hands (suc seat) v e = absurd (some-ne-none v (sym e))
+
     one : (seat : ℕ) (v : View T) → get_elem? (first_view o ∷ []) seat ≡ some v → Fits o [] [] (λ t. (0, t)) seat v
     one zero v e = subst (Fits o [] [] (λ t. (0, t)) 0) (some-injective _ _ e) record { opened = refl; begin = fresh_begin T o.tokens 0 o.threads; given = fresh_given T o.tokens 0 o.threads; owns = fresh_owns T o.tokens 0 o.threads }
     one (suc seat) v e = absurd (some-ne-none v (sym e))
+
+-- with no tokens there are no slots
+pub opens_plain : {T : Type 0} (o : Opening) (words : List ℕ) → words ≡ replicate (2 + o.shape.n * o.shape.k) 0 → o.tokens ≡ 0 → OneSchedule {T = T} o words [] (first_view o ∷ [])
+opens_plain {T} o words is none_there =
+    let no_slots : o.threads * o.tokens ≡ 0 = ap (λ (n : ℕ). o.threads * n) none_there ∙ times_zero o.threads in
+    subst (λ (n : ℕ). OneSchedule {T = T} o words (map some (replicate {A = Option T} n None)) (first_view o ∷ [])) no_slots (opens o words is)
+  where
+    times_zero : (n : ℕ) → n * 0 ≡ 0
+    times_zero n = omega arith
