@@ -64,7 +64,7 @@ may_begun_knows : (begin : Begin) (running : Running) (may : Bool) → cond may 
 may_begun_knows begin running true is = begun_knows begin running is
 may_begun_knows begin running false is = absurd (cc)
 
-going_knows : (shape : Shape) (place : Option Running) (begin : Option Begin) (running : Running) → ((r : Running) → place ≡ Some r → Knows r) → going shape place begin ≡ Some running → Knows running
+pub going_knows : (shape : Shape) (place : Option Running) (begin : Option Begin) (running : Running) → ((r : Running) → place ≡ Some r → Knows r) → going shape place begin ≡ Some running → Knows running
 going_knows shape None None running old is = absurd (cc)
 going_knows shape None (Some begin) running old is = may_begun_knows begin running (may_begin shape begin) is
 going_knows shape (Some r) None running old is = old running is
@@ -243,6 +243,12 @@ run_balance x shape here there (e ∷ es) sound know is =
         → count shape moves (Some here) (e ∷ es) ≡ counted shape moves here (going shape (place_of here e.thread) e.begin) + count shape moves (Some next) es
     split moves next outcome made = rw made refl
 
+know_along : (shape : Shape) (here there : World) (events : List Event) → IsSound shape here → AllKnow here → run shape (Some here) events ≡ Some there → AllKnow there
+know_along shape here there [] sound know is = subst AllKnow (Some-injective here there is) know
+know_along shape here there (e ∷ es) sound know is =
+    let m = first_made shape here e there es is in
+    know_along shape m.0 there es (step_sound shape here e m.0 m.1.0 sound m.1.1.0) (step_balance 0 shape here e m.0 m.1.0 sound know m.1.1.0).0 m.1.1.1
+
 get_or-replicate : {X : Type 0} (n i : ℕ) (d : X) → get_or (replicate n d) i d ≡ d
 get_or-replicate zero i d = refl
 get_or-replicate (suc n) zero d = refl
@@ -252,7 +258,11 @@ opening_know : (shape : Shape) (threads : ℕ) → AllKnow (opening shape thread
 unfolding opening place_of
 opening_know shape threads t r at = absurd (let e : None ≡ Some r = sym (get_or-replicate threads t None) ∙ at in cc)
 
-value-zero : value_of 0 ≡ 0
+-- after every schedule each thread knows so
+pub know_after : (o : Opening) (all : List Event) (world : World) → world_after o all ≡ Some world → AllKnow world
+know_after o all world is = know_along o.shape (opening o.shape o.threads) world all (opening_sound o.shape o.threads) (opening_know o.shape o.threads) is
+
+pub value-zero : value_of 0 ≡ 0
 unfolding value_of
 value-zero = refl
 

@@ -1,58 +1,104 @@
 -- A look at the schedule, and views that are cut in two or put together, keep the rule.
-use Rattle.std.proofs.Common.{◌≡◌, ◌≢◌, ◌⊎◌, ℕ, zero, suc, ◌+◌, ◌-◌, ◌<◌, ◌≤◌, List, [], ◌∷◌, ◌++◌, length, set, get_or, replicate, ◌*◌, take, drop, true, false, refl, sym, ap, ◌∙◌, subst, inl, inr, ⊎_elim, arith, cond, eq-eqb, ne_eqb, nat_eq, nat_le}
+use Rattle.std.proofs.Common.{map, mul-le-mul_right, suc-mul, None, nat_lt, ◌≡◌, ◌≢◌, ◌⊎◌, ℕ, zero, suc, ◌+◌, ◌-◌, ◌<◌, ◌≤◌, List, [], ◌∷◌, ◌++◌, length, set, get_or, replicate, ◌*◌, take, drop, true, false, refl, sym, ap, ◌∙◌, subst, inl, inr, ⊎_elim, Option, arith, cond, eq-eqb, ne_eqb, nat_eq, nat_le}
 use Rattle.std.specs.Prelude.{slice_index, slice_set}
 use Rattle.std.proofs.lemmas.List.{append-nil, set-get_or}
+use Rattle.std.proofs.lemmas.Bool.{cases_eq}
 use Rattle.std.proofs.lemmas.Bool.Decides.{nat_tests}
 use mathlib.Core.Option.{some, some-ne-none, some-injective}
 use lib.ListN.{get_elem?}
 use Rattle.atomic_table.specs.Table.{State, keeps, Me, Allows, Splits, Joins}
 use Rattle.atomic_table.proofs.Lists.{at_set}
 use Rattle.kfifo_machine.specs.declared.event.Event.{Event}
-use Rattle.kfifo_machine.specs.Machine.{opening}
+use Rattle.kfifo_words.specs.Words.{value_of}
+use Rattle.kfifo_words.specs.Ring.{clock_at}
+use Rattle.kfifo_machine.specs.declared.place.Running.{Running}
+use Rattle.kfifo_machine.specs.Machine.{opening, word_at, place_of}
 use Rattle.kfifo_live.specs.declared.view.Opening.{Opening}
 use Rattle.kfifo_live.specs.declared.view.Part.{Part}
 use Rattle.kfifo_live.specs.declared.view.View.{View}
-use Rattle.kfifo_live.specs.Schedule.{part, view_of, fresh, first_view, thread_of, seen_of, with_seen, more_in, IsSeated, AllBegin, Owns, Fits, OneSchedule, FewTicks, both_parts}
+use Rattle.kfifo_live.specs.Schedule.{part, view_of, count_up, first_hand, fresh, first_view, thread_of, seen_of, gifts_of, hand_of, with_seen, more_in, IsSeated, AllBegin, AllGiven, AllHands, Owns, Fits, OneSchedule, FewTicks, both_parts}
+use Rattle.kfifo_live.specs.Hands.{Gifts, Homes, Where, Home, AllHome, CallFits, HandFits, SlotsFit}
+use Rattle.kfifo_live.specs.declared.view.Hand.{Hand}
 use Rattle.kfifo_live.specs.Step.{Looks}
-use Rattle.kfifo_live.proofs.Keeps.{adds, fits_set}
+use Rattle.kfifo_live.proofs.Balance.{value-zero}
+use Rattle.kfifo_live.proofs.Keeps.{Tokens, adds, fits_set}
 
 -- a look, at a view with these parts
-looks_at : {S : Type 0} (o : Opening) (s : State S View) (id thread : ℕ) (seen : List Event) (more : List Part) (i : ℕ)
-    → OneSchedule o s.words s.views → get_elem? s.views id ≡ some (view_of o (part thread seen ∷ more))
-    → (w : View) × OneSchedule o (slice_set s.words i (slice_index s.words i)) (set s.views id w) × Looks i (slice_index s.words i) (view_of o (part thread seen ∷ more)) w
-looks_at o s id thread seen more i kept at =
+looks_at : {T : Type 0} (o : Opening) (s : State (Option T) (View T)) (id thread : ℕ) (seen : List Event) (gifts : Gifts T) (hand : Hand T) (more : List (Part T)) (i : ℕ)
+    → OneSchedule o s.words s.homes s.views → get_elem? s.views id ≡ some (view_of o (part thread seen gifts hand ∷ more))
+    → (w : View T) × OneSchedule o (slice_set s.words i (slice_index s.words i)) s.homes (set s.views id w) × Looks i (slice_index s.words i) (view_of o (part thread seen gifts hand ∷ more)) w
+looks_at {T} o s id thread seen gifts hand more i kept at =
     let words : slice_set s.words i (slice_index s.words i) ≡ kept.world.words = set-get_or s.words i 0 ∙ kept.words_are in
-    let k = adds o s.words (slice_set s.words i (slice_index s.words i)) s.views id thread seen more kept at [] (λ u apart. refl) kept.world refl words (subst (FewTicks o) (sym (append-nil kept.all)) kept.few_ticks) in
-    let mine = kept.fit id (view_of o (part thread seen ∷ more)) at in (
-      view_of o (part thread kept.all ∷ more),
-      subst (λ (es : List Event). OneSchedule o (slice_set s.words i (slice_index s.words i)) (set s.views id (view_of o (part thread es ∷ more)))) (append-nil kept.all) k,
-      record { all = kept.all; world = kept.world; reached = kept.runs; word_is = ap (λ ws. get_or ws i 0) kept.words_are; begin = mine.begin; afterwards = refl },
+    let tokens : Tokens o s.homes s.homes s.views s.words kept kept.world (kept.gifts ++ []) thread hand = record {
+      at_now = kept.at;
+      slots = λ some_tokens. subst (λ (g : Gifts T). SlotsFit (clock_at o.shape.k o.shape.n) (word_at kept.world) kept.at g s.homes) (sym (append-nil kept.gifts)) (kept.slots some_tokens);
+      own = λ some_tokens.
+          subst (λ (g : Gifts T). HandFits (word_at kept.world) (place_of kept.world thread) kept.at g s.homes thread hand) (sym (append-nil kept.gifts))
+          (kept.hands some_tokens id (view_of o (part thread seen gifts hand ∷ more)) at).0;
+      others = λ some_tokens u other ne fits. subst (λ (g : Gifts T). HandFits (word_at kept.world) (place_of kept.world u) kept.at g s.homes u other) (sym (append-nil kept.gifts)) fits;
+    } in
+    let k = adds o s.words (slice_set s.words i (slice_index s.words i)) s.homes s.homes s.views id thread seen gifts hand hand more kept at [] [] (λ u apart. refl) kept.world refl words (subst (FewTicks o) (sym (append-nil kept.all)) kept.few_ticks) tokens in
+    let mine = kept.fit id (view_of o (part thread seen gifts hand ∷ more)) at in (
+      view_of o (part thread kept.all kept.gifts hand ∷ more),
+      subst (λ (x : List Event × Gifts T). OneSchedule o (slice_set s.words i (slice_index s.words i)) s.homes (set s.views id (view_of o (part thread x.0 x.1 hand ∷ more)))) (λ j. (append-nil kept.all j, append-nil kept.gifts j)) k,
+      record { all = kept.all; gifts = kept.gifts; world = kept.world; reached = kept.runs; word_is = ap (λ ws. get_or ws i 0) kept.words_are; begin = mine.begin; given = mine.given; afterwards = refl },
     )
 
-pub looks : {S : Type 0} (o : Opening) (slots id : ℕ) (me : Me S View) (i : ℕ) → IsSeated me.0
-    → Allows (λ (s : State S View). OneSchedule o s.words s.views) slots id me i (λ n. n) (λ found w. Looks i found me.0 w.0 × (w.1 ≡ me.1))
-looks {S} o slots id me i seated s kept homes at fits =
+pub looks : {T : Type 0} (o : Opening) (slots id : ℕ) (me : Me (Option T) (View T)) (i : ℕ) → IsSeated me.0
+    → Allows (λ (s : State (Option T) (View T)). OneSchedule o s.words s.homes s.views) slots id me i (λ n. n) (λ found w. Looks i found me.0 w.0 × (w.1 ≡ me.1))
+looks {T} o slots id me i seated s kept homes at fits =
     let v = me.0 in
     let opened = (kept.fit id v at).opened in
-    let P : View → Type 0 = λ x. (w : View) × OneSchedule o (slice_set s.words i (slice_index s.words i)) (set s.views id w) × Looks i (slice_index s.words i) x w in
-    let Q : Opening → Type 0 = λ x. OneSchedule x s.words s.views → (w : View) × OneSchedule x (slice_set s.words i (slice_index s.words i)) (set s.views id w) × Looks i (slice_index s.words i) (with_seen v (seen_of v)) w in
-    let got : P (with_seen v (seen_of v)) = subst Q opened (λ k. looks_at v.opened s id (thread_of v) (seen_of v) (more_in v.parts) i k (at ∙ ap some seated)) kept in
+    let P : View T → Type 0 = λ x. (w : View T) × OneSchedule o (slice_set s.words i (slice_index s.words i)) s.homes (set s.views id w) × Looks i (slice_index s.words i) x w in
+    let Q : Opening → Type 0 = λ x. OneSchedule x s.words s.homes s.views → (w : View T) × OneSchedule x (slice_set s.words i (slice_index s.words i)) s.homes (set s.views id w) × Looks i (slice_index s.words i) (with_seen v (seen_of v) (gifts_of v) (hand_of v)) w in
+    let got : P (with_seen v (seen_of v) (gifts_of v) (hand_of v)) = subst Q opened (λ k. looks_at v.opened s id (thread_of v) (seen_of v) (gifts_of v) (hand_of v) (more_in v.parts) i k (at ∙ ap some seated)) kept in
     let put = subst P (sym seated) got in
     (put.0, keeps, tt, put.1, (put.2, refl))
 
-AllBegin-append : (xs ys : List Part) (all : List Event) → AllBegin xs all → AllBegin ys all → AllBegin (xs ++ ys) all
+AllBegin-append : {T : Type 0} (xs ys : List (Part T)) (all : List Event) → AllBegin xs all → AllBegin ys all → AllBegin (xs ++ ys) all
 AllBegin-append [] ys all a b = b
 AllBegin-append (x ∷ xs) ys all a b = (a.0, AllBegin-append xs ys all a.1 b)
 
-AllBegin-take : (n : ℕ) (xs : List Part) (all : List Event) → AllBegin xs all → AllBegin (take n xs) all
+AllBegin-take : {T : Type 0} (n : ℕ) (xs : List (Part T)) (all : List Event) → AllBegin xs all → AllBegin (take n xs) all
 AllBegin-take zero xs all a = tt
 AllBegin-take (suc n) [] all a = tt
 AllBegin-take (suc n) (x ∷ xs) all a = (a.0, AllBegin-take n xs all a.1)
 
-AllBegin-drop : (n : ℕ) (xs : List Part) (all : List Event) → AllBegin xs all → AllBegin (drop n xs) all
+AllBegin-drop : {T : Type 0} (n : ℕ) (xs : List (Part T)) (all : List Event) → AllBegin xs all → AllBegin (drop n xs) all
 AllBegin-drop zero xs all a = a
 AllBegin-drop (suc n) [] all a = tt
 AllBegin-drop (suc n) (x ∷ xs) all a = AllBegin-drop n xs all a.1
+
+AllGiven-append : {T : Type 0} (xs ys : List (Part T)) (gifts : Gifts T) → AllGiven xs gifts → AllGiven ys gifts → AllGiven (xs ++ ys) gifts
+AllGiven-append [] ys gifts a b = b
+AllGiven-append (x ∷ xs) ys gifts a b = (a.0, AllGiven-append xs ys gifts a.1 b)
+
+AllGiven-take : {T : Type 0} (n : ℕ) (xs : List (Part T)) (gifts : Gifts T) → AllGiven xs gifts → AllGiven (take n xs) gifts
+AllGiven-take zero xs gifts a = tt
+AllGiven-take (suc n) [] gifts a = tt
+AllGiven-take (suc n) (x ∷ xs) gifts a = (a.0, AllGiven-take n xs gifts a.1)
+
+AllGiven-drop : {T : Type 0} (n : ℕ) (xs : List (Part T)) (gifts : Gifts T) → AllGiven xs gifts → AllGiven (drop n xs) gifts
+AllGiven-drop zero xs gifts a = a
+AllGiven-drop (suc n) [] gifts a = tt
+AllGiven-drop (suc n) (x ∷ xs) gifts a = AllGiven-drop n xs gifts a.1
+
+AllHands-append : {T : Type 0} (words : ℕ → ℕ) (place : ℕ → Option Running) (at : ℕ → Where) (gifts : Gifts T) (homes : Homes T) (xs ys : List (Part T))
+    → AllHands words place at gifts homes xs → AllHands words place at gifts homes ys → AllHands words place at gifts homes (xs ++ ys)
+AllHands-append words place at gifts homes [] ys a b = b
+AllHands-append words place at gifts homes (x ∷ xs) ys a b = (a.0, AllHands-append words place at gifts homes xs ys a.1 b)
+
+AllHands-take : {T : Type 0} (words : ℕ → ℕ) (place : ℕ → Option Running) (at : ℕ → Where) (gifts : Gifts T) (homes : Homes T) (n : ℕ) (xs : List (Part T))
+    → AllHands words place at gifts homes xs → AllHands words place at gifts homes (take n xs)
+AllHands-take words place at gifts homes zero xs a = tt
+AllHands-take words place at gifts homes (suc n) [] a = tt
+AllHands-take words place at gifts homes (suc n) (x ∷ xs) a = (a.0, AllHands-take words place at gifts homes n xs a.1)
+
+AllHands-drop : {T : Type 0} (words : ℕ → ℕ) (place : ℕ → Option Running) (at : ℕ → Where) (gifts : Gifts T) (homes : Homes T) (n : ℕ) (xs : List (Part T))
+    → AllHands words place at gifts homes xs → AllHands words place at gifts homes (drop n xs)
+AllHands-drop words place at gifts homes zero xs a = a
+AllHands-drop words place at gifts homes (suc n) [] a = tt
+AllHands-drop words place at gifts homes (suc n) (x ∷ xs) a = AllHands-drop words place at gifts homes n xs a.1
 
 -- the seat `from` gives its parts from the k-th on to the seat `to`, where they follow the first m
 abbrev pub passed_on : ℕ → ℕ → ℕ → ℕ → ℕ × ℕ → ℕ × ℕ
@@ -71,28 +117,28 @@ passed_kept from k to m at lt =
     ap (λ b. cond b (cond (nat_le k at) (to, m + (at - k)) (from, at)) (from, at)) (eq-eqb from from refl)
     ∙ ap (λ b. cond b (to, m + (at - k)) (from, at)) (let t : nat_le k at ≡ false = grind (arith, nat_tests) in t)
 
-module _ (owner : ℕ → ℕ × ℕ) (from k to m : ℕ) where
-  owns_other : (seat at : ℕ) (ps : List Part) → seat ≢ from → Owns owner seat at ps → Owns (λ t. passed_on from k to m (owner t)) seat at ps
+module _ {T : Type 0} (owner : ℕ → ℕ × ℕ) (from k to m : ℕ) where
+  owns_other : (seat at : ℕ) (ps : List (Part T)) → seat ≢ from → Owns owner seat at ps → Owns (λ t. passed_on from k to m (owner t)) seat at ps
   owns_other seat at [] apart o = tt
   owns_other seat at (p ∷ ps) apart o = (ap (passed_on from k to m) o.0 ∙ passed_other from k to m seat at apart, owns_other seat (suc at) ps apart o.1)
 
-  owns_first : (at n : ℕ) (ps : List Part) → at + n ≤ k → Owns owner from at ps → Owns (λ t. passed_on from k to m (owner t)) from at (take n ps)
+  owns_first : (at n : ℕ) (ps : List (Part T)) → at + n ≤ k → Owns owner from at ps → Owns (λ t. passed_on from k to m (owner t)) from at (take n ps)
   owns_first at zero ps le o = tt
   owns_first at (suc n) [] le o = tt
   owns_first at (suc n) (p ∷ ps) le o = (ap (passed_on from k to m) o.0 ∙ passed_kept from k to m at (omega arith), owns_first (suc at) n ps (omega arith) o.1)
 
-  owns_given : (at : ℕ) (ps : List Part) → k ≤ at → Owns owner from at ps → Owns (λ t. passed_on from k to m (owner t)) to (m + (at - k)) ps
+  owns_given : (at : ℕ) (ps : List (Part T)) → k ≤ at → Owns owner from at ps → Owns (λ t. passed_on from k to m (owner t)) to (m + (at - k)) ps
   owns_given at [] le o = tt
   owns_given at (p ∷ ps) le o =
       let n : m + (suc at - k) ≡ suc (m + (at - k)) = omega arith in
       (ap (passed_on from k to m) o.0 ∙ passed_here from k to m at le, subst (λ (x : ℕ). Owns (λ t. passed_on from k to m (owner t)) to x ps) n (owns_given (suc at) ps (omega arith) o.1))
 
-owns_drop : (owner : ℕ → ℕ × ℕ) (seat at n : ℕ) (ps : List Part) → n ≤ length ps → Owns owner seat at ps → Owns owner seat (at + n) (drop n ps)
+owns_drop : {T : Type 0} (owner : ℕ → ℕ × ℕ) (seat at n : ℕ) (ps : List (Part T)) → n ≤ length ps → Owns owner seat at ps → Owns owner seat (at + n) (drop n ps)
 owns_drop owner seat at zero ps le o = subst (λ (x : ℕ). Owns owner seat x ps) (let e : at ≡ at + 0 = omega arith in e) o
 owns_drop owner seat at (suc n) [] le o = tt
 owns_drop owner seat at (suc n) (p ∷ ps) le o = subst (λ (x : ℕ). Owns owner seat x (drop n ps)) (let e : suc at + n ≡ at + suc n = omega arith in e) (owns_drop owner seat (suc at) n ps (omega arith) o.1)
 
-Owns-append : (owner : ℕ → ℕ × ℕ) (seat at : ℕ) (xs ys : List Part) → Owns owner seat at xs → Owns owner seat (at + length xs) ys → Owns owner seat at (xs ++ ys)
+Owns-append : {T : Type 0} (owner : ℕ → ℕ × ℕ) (seat at : ℕ) (xs ys : List (Part T)) → Owns owner seat at xs → Owns owner seat (at + length xs) ys → Owns owner seat at (xs ++ ys)
 Owns-append owner seat at [] ys a b = subst (λ (x : ℕ). Owns owner seat x ys) (let e : at + 0 ≡ at = omega arith in e) b
 Owns-append owner seat at (x ∷ xs) ys a b = (a.0, Owns-append owner seat (suc at) xs ys a.1 (subst (λ (n : ℕ). Owns owner seat n ys) (let e : at + length (x ∷ xs) ≡ suc at + length xs = omega arith in e) b))
 
@@ -113,20 +159,21 @@ length_set (x ∷ xs) zero a = refl
 length_set (x ∷ xs) (suc i) a = ap suc (length_set xs i a)
 
 -- a seat keeps its first n parts, and a new seat has the others
-pub cuts : {S : Type 0} (o : Opening) (id : ℕ) (v : View) (n : ℕ) → n ≤ length v.parts
-    → Splits (λ (s : State S View). OneSchedule o s.words s.views) id v (view_of v.opened (take n v.parts)) (view_of v.opened (drop n v.parts))
-cuts o id v n le s kept at =
+pub cuts : {T : Type 0} (o : Opening) (id : ℕ) (v : View T) (n : ℕ) → n ≤ length v.parts
+    → Splits (λ (s : State (Option T) (View T)). OneSchedule o s.words s.homes s.views) id v (view_of v.opened (take n v.parts)) (view_of v.opened (drop n v.parts))
+cuts {T} o id v n le s kept at =
     let mine = kept.fit id v at in
     let left = view_of v.opened (take n v.parts) in
     let right = view_of v.opened (drop n v.parts) in
     let new = length s.views in
     let inside : id < new = at_within s.views id v at in
     let owner = λ (t : ℕ). passed_on id n new 0 (kept.owner t) in
-    let at_left : Fits o kept.all owner id left = record { opened = mine.opened; begin = AllBegin-take n v.parts kept.all mine.begin; owns = owns_first kept.owner id n new 0 0 n v.parts (omega arith) mine.owns } in
+    let at_left : Fits o kept.all kept.gifts owner id left = record { opened = mine.opened; begin = AllBegin-take n v.parts kept.all mine.begin; given = AllGiven-take n v.parts kept.gifts mine.given; owns = owns_first kept.owner id n new 0 0 n v.parts (omega arith) mine.owns } in
     let given = owns_given kept.owner id n new 0 (0 + n) (drop n v.parts) (omega arith) (owns_drop kept.owner id 0 n v.parts le mine.owns) in
-    let at_right : Fits o kept.all owner new right = record { opened = mine.opened; begin = AllBegin-drop n v.parts kept.all mine.begin; owns = subst (λ (x : ℕ). Owns owner new x (drop n v.parts)) (let e : 0 + (0 + n - n) ≡ 0 = omega arith in e) given } in
+    let at_right : Fits o kept.all kept.gifts owner new right = record { opened = mine.opened; begin = AllBegin-drop n v.parts kept.all mine.begin; given = AllGiven-drop n v.parts kept.gifts mine.given; owns = subst (λ (x : ℕ). Owns owner new x (drop n v.parts)) (let e : 0 + (0 + n - n) ≡ 0 = omega arith in e) given } in
     record {
       all = kept.all;
+      gifts = kept.gifts;
       world = kept.world;
       owner = owner;
       runs = kept.runs;
@@ -135,18 +182,31 @@ cuts o id v n le s kept at =
       fit = λ j u e.
           ⊎_elim
           (λ (x : get_elem? (set s.views id left) j ≡ some u).
-          fits_set o kept.all owner s.views id left
-          (λ i y apart f. let theirs = kept.fit i y f in record { opened = theirs.opened; begin = theirs.begin; owns = owns_other kept.owner id n new 0 i 0 y.parts apart theirs.owns })
+          fits_set o kept.all kept.gifts owner s.views id left
+          (λ i y apart f. let theirs = kept.fit i y f in record { opened = theirs.opened; begin = theirs.begin; given = theirs.given; owns = owns_other kept.owner id n new 0 i 0 y.parts apart theirs.owns })
           at_left j u x)
           (λ (x : (j ≡ length (set s.views id left)) × (right ≡ u)).
-          subst (λ (y : ℕ × View). Fits o kept.all owner y.0 y.1) (λ k. (sym (x.0 ∙ length_set s.views id left) k, x.1 k)) at_right)
+          subst (λ (y : ℕ × View T). Fits o kept.all kept.gifts owner y.0 y.1) (λ k. (sym (x.0 ∙ length_set s.views id left) k, x.1 k)) at_right)
+          (at_end (set s.views id left) right u j e);
+      at = kept.at;
+      slots = kept.slots;
+      hands = λ some_tokens j u e.
+          let all = kept.hands some_tokens id v at in
+          let P : View T → Type 0 = λ x. AllHands (word_at kept.world) (place_of kept.world) kept.at kept.gifts s.homes x.parts in
+          ⊎_elim
+          (λ (x : get_elem? (set s.views id left) j ≡ some u).
+          ⊎_elim
+          (λ (y : (j ≡ id) × (left ≡ u)). subst P y.1 (AllHands-take (word_at kept.world) (place_of kept.world) kept.at kept.gifts s.homes n v.parts all))
+          (λ (y : (j ≢ id) × (get_elem? s.views j ≡ some u)). kept.hands some_tokens j u y.1)
+          (at_set s.views id j left u x))
+          (λ (x : (j ≡ length (set s.views id left)) × (right ≡ u)). subst P x.1 (AllHands-drop (word_at kept.world) (place_of kept.world) kept.at kept.gifts s.homes n v.parts all))
           (at_end (set s.views id left) right u j e);
     }
 
 -- a seat takes the parts of another
-pub gathers : {S : Type 0} (o : Opening) (id : ℕ) (v : View) (other : ℕ) (w : View) (opened : Opening) → opened ≡ v.opened
-    → Joins (λ (s : State S View). OneSchedule o s.words s.views) id v other w (both_parts v w) (view_of opened [])
-gathers o id v other w opened same s kept at apart there =
+pub gathers : {T : Type 0} (o : Opening) (id : ℕ) (v : View T) (other : ℕ) (w : View T) (opened : Opening) → opened ≡ v.opened
+    → Joins (λ (s : State (Option T) (View T)). OneSchedule o s.words s.homes s.views) id v other w (both_parts v w) (view_of opened [])
+gathers {T} o id v other w opened same s kept at apart there =
     let mine = kept.fit id v at in
     let both = both_parts v w in
     let m = length v.parts in
@@ -155,56 +215,166 @@ gathers o id v other w opened same s kept at apart there =
     let theirs = kept.fit other w theirs_at in
     let owner = λ (t : ℕ). passed_on other 0 id m (kept.owner t) in
     let given = owns_given kept.owner other 0 id m 0 w.parts (omega arith) theirs.owns in
-    let at_both : Fits o kept.all owner id both = record {
+    let at_both : Fits o kept.all kept.gifts owner id both = record {
       opened = mine.opened;
       begin = AllBegin-append v.parts w.parts kept.all mine.begin theirs.begin;
+      given = AllGiven-append v.parts w.parts kept.gifts mine.given theirs.given;
       owns = Owns-append owner id 0 v.parts w.parts (owns_other kept.owner other 0 id m id 0 v.parts (λ e. apart (sym e)) mine.owns) (subst (λ (x : ℕ). Owns owner id x w.parts) (let e : m + (0 - 0) ≡ 0 + m = omega arith in e) given);
     } in
-    let at_other : Fits o kept.all owner other (view_of opened []) = record { opened = same ∙ mine.opened; begin = tt; owns = tt } in
+    let at_other : Fits o kept.all kept.gifts owner other (view_of opened []) = record { opened = same ∙ mine.opened; begin = tt; given = tt; owns = tt } in
     record {
       all = kept.all;
+      gifts = kept.gifts;
       world = kept.world;
       owner = owner;
       runs = kept.runs;
       words_are = kept.words_are;
       few_ticks = kept.few_ticks;
-      fit = λ j u e. fits_set o kept.all owner (set s.views id both) other (view_of opened [])
-          (λ i y not_other f. fits_at o kept.all owner s.views id both other
-          (λ i y not_id not_other f. let they = kept.fit i y f in record { opened = they.opened; begin = they.begin; owns = owns_other kept.owner other 0 id m i 0 y.parts not_other they.owns })
+      fit = λ j u e. fits_set o kept.all kept.gifts owner (set s.views id both) other (view_of opened [])
+          (λ i y not_other f. fits_at o kept.all kept.gifts owner s.views id both other
+          (λ i y not_id not_other f. let they = kept.fit i y f in record { opened = they.opened; begin = they.begin; given = they.given; owns = owns_other kept.owner other 0 id m i 0 y.parts not_other they.owns })
           at_both i y not_other f)
           at_other j u e;
+      at = kept.at;
+      slots = kept.slots;
+      hands = λ some_tokens j u e.
+          let P : View T → Type 0 = λ x. AllHands (word_at kept.world) (place_of kept.world) kept.at kept.gifts s.homes x.parts in
+          ⊎_elim
+          (λ (x : (j ≡ other) × (view_of opened [] ≡ u)). subst P x.1 tt)
+          (λ (x : (j ≢ other) × (get_elem? (set s.views id both) j ≡ some u)).
+          ⊎_elim
+          (λ (y : (j ≡ id) × (both ≡ u)).
+          subst P y.1 (AllHands-append (word_at kept.world) (place_of kept.world) kept.at kept.gifts s.homes v.parts w.parts (kept.hands some_tokens id v at) (kept.hands some_tokens other w theirs_at)))
+          (λ (y : (j ≢ id) × (get_elem? s.views j ≡ some u)). kept.hands some_tokens j u y.1)
+          (at_set s.views id j both u x.1))
+          (at_set (set s.views id both) other j (view_of opened []) u e);
     }
   where
-    fits_at : (o : Opening) (all : List Event) (owner : ℕ → ℕ × ℕ) (views : List View) (id : ℕ) (both : View) (other : ℕ)
-        → ((i : ℕ) (y : View) → i ≢ id → i ≢ other → get_elem? views i ≡ some y → Fits o all owner i y)
-        → Fits o all owner id both → (i : ℕ) (y : View) → i ≢ other → get_elem? (set views id both) i ≡ some y → Fits o all owner i y
-    fits_at o all owner views id both other others mine i y apart e =
+    fits_at : {T : Type 0} (o : Opening) (all : List Event) (gifts : Gifts T) (owner : ℕ → ℕ × ℕ) (views : List (View T)) (id : ℕ) (both : View T) (other : ℕ)
+        → ((i : ℕ) (y : View T) → i ≢ id → i ≢ other → get_elem? views i ≡ some y → Fits o all gifts owner i y)
+        → Fits o all gifts owner id both → (i : ℕ) (y : View T) → i ≢ other → get_elem? (set views id both) i ≡ some y → Fits o all gifts owner i y
+    fits_at {T} o all gifts owner views id both other others mine i y apart e =
         ⊎_elim
-        (λ (x : (i ≡ id) × (both ≡ y)). subst (λ (z : ℕ × View). Fits o all owner z.0 z.1) (λ k. (sym x.0 k, x.1 k)) mine)
+        (λ (x : (i ≡ id) × (both ≡ y)). subst (λ (z : ℕ × View T). Fits o all gifts owner z.0 z.1) (λ k. (sym x.0 k, x.1 k)) mine)
         (λ (x : (i ≢ id) × (get_elem? views i ≡ some y)). others i y x.0 apart x.1)
         (at_set views id i both y e)
 
 -- the opening
-fresh_begin : (first count : ℕ) → AllBegin (fresh first count) []
-fresh_begin first zero = tt
-fresh_begin first (suc count) = (record { rest = []; goes_on = refl; no_own = refl }, fresh_begin (suc first) count)
+fresh_begin : (T : Type 0) (tokens first count : ℕ) → AllBegin {T = T} (fresh tokens first count) []
+fresh_begin T tokens first zero = tt
+fresh_begin T tokens first (suc count) = (record { rest = []; goes_on = refl; no_own = refl }, fresh_begin T tokens (suc first) count)
 
-fresh_owns : (first count : ℕ) → Owns (λ t. (0, t)) 0 first (fresh first count)
-fresh_owns first zero = tt
-fresh_owns first (suc count) = (refl, fresh_owns (suc first) count)
+fresh_given : (T : Type 0) (tokens first count : ℕ) → AllGiven {T = T} (fresh tokens first count) []
+fresh_given T tokens first zero = tt
+fresh_given T tokens first (suc count) = (([], refl), fresh_given T tokens (suc first) count)
 
-pub opens : (o : Opening) (words : List ℕ) → words ≡ replicate (2 + o.shape.n * o.shape.k) 0 → OneSchedule o words (first_view o ∷ [])
-unfolding opening
-opens o words is = record {
+fresh_owns : (T : Type 0) (tokens first count : ℕ) → Owns {T = T} (λ t. (0, t)) 0 first (fresh tokens first count)
+fresh_owns T tokens first zero = tt
+fresh_owns T tokens first (suc count) = (refl, fresh_owns T tokens (suc first) count)
+
+-- where the tokens of an opening are: those of thread t are t * tokens + 1 to (t + 1) * tokens
+at_open : ℕ → ℕ → ℕ → Where
+at_open tokens zero x = Home 0 0
+at_open tokens (suc thread) x = cond (nat_lt (thread * tokens) x) (Home thread (suc thread * tokens - x)) (at_open tokens thread x)
+
+at_thread : (tokens count thread x : ℕ) → thread < count → thread * tokens < x → x ≤ suc thread * tokens → at_open tokens count x ≡ Home thread (suc thread * tokens - x)
+unfolding at_open
+at_thread tokens zero thread x within above below = absurd (omega arith)
+at_thread tokens (suc count) thread x within above below =
+    elim (cases_eq thread count) [
+      | inl same ↦
+          let here : nat_lt (count * tokens) x ≡ true = (let more : count * tokens < x = subst (λ (t : ℕ). t * tokens < x) same above in grind (arith, nat_tests)) in
+          ap (λ b. cond b (Home count (suc count * tokens - x)) (at_open tokens count x)) here ∙ ap (λ (t : ℕ). Home t (suc t * tokens - x)) (sym same)
+      | inr other ↦
+          let up = mul-le-mul_right tokens (let le : suc thread ≤ count = omega arith in le) in
+          let not_here : nat_lt (count * tokens) x ≡ false = (let less : x ≤ count * tokens = omega (arith, up, below) in grind (arith, nat_tests)) in
+          ap (λ b. cond b (Home count (suc count * tokens - x)) (at_open tokens count x)) not_here ∙ at_thread tokens count thread x (omega arith) above below
+    ]
+
+home_at : {T : Type 0} (n k : ℕ) → k < n → get_elem? (map some (replicate {A = Option T} n None)) k ≡ some (some None)
+home_at zero k less = absurd (omega arith)
+home_at (suc n) zero less = refl
+home_at (suc n) (suc k) less = home_at n k (omega arith)
+
+length-count_up : (first n : ℕ) → length (count_up first n) ≡ n
+length-count_up first zero = refl
+length-count_up first (suc n) = ap suc (length-count_up (suc first) n)
+
+idle_open : (n t : ℕ) → get_or (replicate {A = Option Running} n None) t None ≡ None
+idle_open zero t = refl
+idle_open (suc n) zero = refl
+idle_open (suc n) (suc t) = idle_open n t
+
+module _ (T : Type 0) (o : Opening) where
+  abbrev homes_open : Homes T
+  homes_open = map some (replicate {A = Option T} (o.threads * o.tokens) None)
+
+  tokens_open : (thread first n : ℕ) → thread < o.threads → first + n ≡ suc thread * o.tokens + 1 → thread * o.tokens < first → AllHome (at_open o.tokens o.threads) homes_open thread (count_up first n)
+  tokens_open thread first zero within is above = tt
+  tokens_open thread first (suc n) within is above =
+      let up = mul-le-mul_right o.tokens (let le : suc thread ≤ o.threads = omega arith in le) in
+      let below : first ≤ suc thread * o.tokens = omega (arith, is) in
+      let behind : suc thread * o.tokens - first ≡ length (count_up (suc first) n) = (let e = length-count_up (suc first) n in omega (arith, is, e)) in (
+        (
+          (omega (arith, above)),
+          at_thread o.tokens o.threads thread first within above below ∙ ap (Home thread) behind,
+          (None, home_at {T = T} (o.threads * o.tokens) (first - 1) (omega (arith, up, below, above))),
+        ),
+        tokens_open thread (suc first) n within (omega (arith, is)) (omega (arith, above)),
+      )
+
+  hands_open : (words : ℕ → ℕ) (first count : ℕ) → first + count ≡ o.threads → AllHands words (place_of (opening o.shape o.threads)) (at_open o.tokens o.threads) [] homes_open (fresh o.tokens first count)
+  unfolding opening place_of
+  hands_open words first zero all = tt
+  hands_open words first (suc count) all = (
+    record {
+      home = tokens_open first (first * o.tokens + 1) o.tokens (omega (arith, all)) (let e : suc first * o.tokens ≡ first * o.tokens + o.tokens = suc-mul-of first o.tokens in omega (arith, e)) (omega arith);
+      out = λ some_out. absurd (some_out refl);
+      stands = subst (CallFits words [] (first_hand o.tokens first)) (sym (idle_open o.threads first)) tt;
+    },
+    hands_open words (suc first) count (omega (arith, all)),
+  )
+    where
+      suc-mul-of : (m n : ℕ) → suc m * n ≡ m * n + n
+      suc-mul-of m n = omega (arith, suc-mul m n)
+
+pub opens : {T : Type 0} (o : Opening) (words : List ℕ) → words ≡ replicate (2 + o.shape.n * o.shape.k) 0 → OneSchedule {T = T} o words (homes_open T o) (first_view o ∷ [])
+unfolding opening word_at
+opens {T} o words is = record {
   all = [];
+  gifts = [];
   world = opening o.shape o.threads;
   owner = λ t. (0, t);
   runs = refl;
   words_are = is;
   few_ticks = λ thread. omega arith;
   fit = one;
+  at = at_open o.tokens o.threads;
+  slots = λ some_tokens i above below filled. absurd (filled (ap value_of (zero_at (2 + o.shape.n * o.shape.k) i) ∙ value-zero));
+  hands = λ some_tokens. all_hands;
 }
   where
-    one : (seat : ℕ) (v : View) → get_elem? (first_view o ∷ []) seat ≡ some v → Fits o [] (λ t. (0, t)) seat v
-    one zero v e = subst (Fits o [] (λ t. (0, t)) 0) (some-injective _ _ e) record { opened = refl; begin = fresh_begin 0 o.threads; owns = fresh_owns 0 o.threads }
+    zero_at : (n i : ℕ) → get_or {A = ℕ} (replicate n 0) i 0 ≡ 0
+    zero_at zero i = refl
+    zero_at (suc n) zero = refl
+    zero_at (suc n) (suc i) = zero_at n i
+
+    all_hands : (seat : ℕ) (v : View T) → get_elem? (first_view o ∷ []) seat ≡ some v
+        → AllHands (word_at (opening o.shape o.threads)) (place_of (opening o.shape o.threads)) (at_open o.tokens o.threads) [] (homes_open T o) v.parts
+    all_hands zero v e =
+        subst (λ (x : View T). AllHands (word_at (opening o.shape o.threads)) (place_of (opening o.shape o.threads)) (at_open o.tokens o.threads) [] (homes_open T o) x.parts) (some-injective _ _ e)
+        (hands_open T o (word_at (opening o.shape o.threads)) 0 o.threads (omega arith))
+    all_hands (suc seat) v e = absurd (some-ne-none v (sym e))
+
+    one : (seat : ℕ) (v : View T) → get_elem? (first_view o ∷ []) seat ≡ some v → Fits o [] [] (λ t. (0, t)) seat v
+    one zero v e = subst (Fits o [] [] (λ t. (0, t)) 0) (some-injective _ _ e) record { opened = refl; begin = fresh_begin T o.tokens 0 o.threads; given = fresh_given T o.tokens 0 o.threads; owns = fresh_owns T o.tokens 0 o.threads }
     one (suc seat) v e = absurd (some-ne-none v (sym e))
+
+-- with no tokens there are no slots
+pub opens_plain : {T : Type 0} (o : Opening) (words : List ℕ) → words ≡ replicate (2 + o.shape.n * o.shape.k) 0 → o.tokens ≡ 0 → OneSchedule {T = T} o words [] (first_view o ∷ [])
+opens_plain {T} o words is none_there =
+    let no_slots : o.threads * o.tokens ≡ 0 = ap (λ (n : ℕ). o.threads * n) none_there ∙ times_zero o.threads in
+    subst (λ (n : ℕ). OneSchedule {T = T} o words (map some (replicate {A = Option T} n None)) (first_view o ∷ [])) no_slots (opens o words is)
+  where
+    times_zero : (n : ℕ) → n * 0 ≡ 0
+    times_zero n = omega arith

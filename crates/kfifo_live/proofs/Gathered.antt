@@ -1,5 +1,5 @@
 -- The seats of all passes, put together.
-use Rattle.std.proofs.Common.{◌≡◌, ℕ, zero, suc, ◌+◌, List, [], ◌∷◌, ◌++◌, Some, take, get_or, ◌<◌, ◌≤◌, sym, ap, ◌∙◌, subst, arith}
+use Rattle.std.proofs.Common.{◌≡◌, ℕ, zero, suc, ◌+◌, List, [], ◌∷◌, ◌++◌, Option, Some, take, get_or, ◌<◌, ◌≤◌, sym, ap, ◌∙◌, subst, arith}
 use mathlib.Core.Option.{some, some-ne-none, some-injective}
 use lib.ListN.{get_elem?}
 use Rattle.atomic_table.specs.Table.{Me, State, Final, Seen}
@@ -26,20 +26,20 @@ pub all_seen_push : (ps : List Known) (p : Known) (all : List Event) → AllSeen
 all_seen_push [] p all s b = (b, tt)
 all_seen_push (x ∷ ps) p all s b = (s.0, all_seen_push ps p all s.1 b)
 
-pub all_begin_parts : (xs ys : List Part) (all : List Event) → AllBegin (xs ++ ys) all → AllBegin xs all × AllBegin ys all
+pub all_begin_parts : {T : Type 0} (xs ys : List (Part T)) (all : List Event) → AllBegin (xs ++ ys) all → AllBegin xs all × AllBegin ys all
 all_begin_parts [] ys all b = (tt, b)
 all_begin_parts (x ∷ xs) ys all b = let r = all_begin_parts xs ys all b.1 in ((b.0, r.0), r.1)
 
 -- the one part of a pass
-pub pass_begins : (thread : ℕ) (me : Me (Unit {0}) View) (p : Known) (all : List Event) → IsPass thread me → p.thread ≡ thread → p.seen ≡ seen_of me.0 → AllBegin me.0.parts all → Begins p.thread p.seen all
-pass_begins thread me p all is same_thread same_seen b =
-    let one = subst (λ (ps : List Part). AllBegin ps all) is.alone b in
+pub pass_begins : {T : Type 0} (thread : ℕ) (me : Me (Option T) (View T)) (p : Known) (all : List Event) → IsPass thread me → p.thread ≡ thread → p.seen ≡ seen_of me.0 → AllBegin me.0.parts all → Begins p.thread p.seen all
+pass_begins {T} thread me p all is same_thread same_seen b =
+    let one = subst (λ (ps : List (Part T)). AllBegin ps all) is.alone b in
     subst (λ (x : ℕ × List Event). Begins x.0 x.1 all) (λ i. (sym same_thread i, sym same_seen i)) one.0
 
-pub closes : (q : OpenQueue) (ps : List Known) (items table_words : List ℕ) (slots : List (Unit {0})) (key : Opening) (id : ℕ) (v w : View) (rest : List Known) (last : Known)
+pub closes : {T : Type 0} (q : OpenQueue) (ps : List Known) (items table_words : List ℕ) (slots : List (Option T)) (key : Opening) (id : ℕ) (v w : View T) (rest : List Known) (last : Known)
     → key ≡ q.opened → ps ≡ rest ++ last ∷ [] → IsGathered v rest w
     → ((all : List Event) → AllBegin v.parts all → Begins last.thread last.seen all)
-    → q.opened.threads ≤ 64 → items ≡ items_left q.opened.shape table_words → Final (Seen (λ (s : State (Unit {0}) View). OneSchedule key s.words s.views) id w) table_words slots → Closes q ps items
+    → q.opened.threads ≤ 64 → items ≡ items_left q.opened.shape table_words → Final (Seen (λ (s : State (Option T) (View T)). OneSchedule key s.words s.homes s.views) id w) table_words slots → Closes q ps items
 closes q ps items table_words slots key id v w rest last opened ps_are gathered of_last few same f =
     let kept = f.1.0 in
     let parts = (kept.fit id w f.1.1).begin in
@@ -57,7 +57,7 @@ closes q ps items table_words slots key id v w rest last opened ps_are gathered 
     }
 
 -- the ends word of a closed table names segments
-pub final_head : (slots : List (Unit {0})) (words : List ℕ) (o : Opening) (id : ℕ) (w : View) → Final (Seen (λ (s : State (Unit {0}) View). OneSchedule o s.words s.views) id w) words slots → head_of (get_or words 0 0) < o.shape.n
+pub final_head : {T : Type 0} (slots : List (Option T)) (words : List ℕ) (o : Opening) (id : ℕ) (w : View T) → Final (Seen (λ (s : State (Option T) (View T)). OneSchedule o s.words s.homes s.views) id w) words slots → head_of (get_or words 0 0) < o.shape.n
 unfolding word_at
 final_head slots words o id w f =
     let kept = f.1.0 in

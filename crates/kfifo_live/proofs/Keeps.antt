@@ -6,7 +6,7 @@ use Rattle.std.proofs.lemmas.Bool.{lt-ltb}
 use mathlib.Core.Option.{some}
 use lib.ListN.{get_elem?}
 use prog.Atomic.{either}
-use Rattle.atomic_table.specs.Table.{State, keeps, Me, Allows}
+use Rattle.atomic_table.specs.Table.{Act, State, Valid, homes_after, carried_after, keeps, Me, Allows}
 use Rattle.atomic_table.proofs.Lists.{at_set}
 use Rattle.kfifo_words.specs.declared.shape.Shape.{Shape}
 use Rattle.kfifo_words.specs.Ring.{clock_at}
@@ -25,8 +25,11 @@ use Rattle.kfifo_machine.proofs.Schedules.{run_on, own-append, same_place, still
 use Rattle.kfifo_live.specs.declared.view.Opening.{Opening}
 use Rattle.kfifo_live.specs.declared.view.Part.{Part}
 use Rattle.kfifo_live.specs.declared.view.View.{View}
-use Rattle.kfifo_live.specs.Schedule.{part, view_of, world_after, AllBegin, Owns, Fits, OneSchedule, FewTicks, IsSmall, ticks, thread_of, seen_of, more_in, with_seen}
+use Rattle.kfifo_live.specs.Schedule.{part, view_of, world_after, AllBegin, AllGiven, AllHands, Owns, Fits, OneSchedule, FewTicks, IsSmall, ticks, thread_of, seen_of, gifts_of, hand_of, more_in, with_seen}
 use Rattle.kfifo_live.specs.Step.{IsAt, Steps, DrawsStamp}
+use Rattle.kfifo_live.specs.Hands.{Gifts, Homes, Where, gift, move, hand_after, begun_hand, Carries, BeginsWith, HandFits, SlotsFit}
+use Rattle.kfifo_live.specs.declared.view.Hand.{Hand}
+use Rattle.kfifo_live.proofs.Turned.{turned}
 use Rattle.kfifo_live.proofs.Ticks.{clock_below, few_more, few_tick, no_tick}
 
 -- a longer schedule, with nothing more of the thread
@@ -41,7 +44,7 @@ begins_whole : (thread : ℕ) (all : List Event) → Begins thread all all
 begins_whole thread all = record { rest = []; goes_on = sym (append-nil all); no_own = refl }
 
 -- the parts whose threads are not the one that made the new events
-all_begin_on : (owner : ℕ → ℕ × ℕ) (seat at : ℕ) (parts : List Part) (all more : List Event) (thread : ℕ)
+all_begin_on : {T : Type 0} (owner : ℕ → ℕ × ℕ) (seat at : ℕ) (parts : List (Part T)) (all more : List Event) (thread : ℕ)
     → ((u : ℕ) → u ≢ thread → own u more ≡ [])
     → ((k : ℕ) → at ≤ k → owner thread ≢ (seat, k))
     → Owns owner seat at parts → AllBegin parts all → AllBegin parts (all ++ more)
@@ -51,38 +54,65 @@ all_begin_on owner seat at (p ∷ ps) all more thread others apart owns begin = 
   all_begin_on owner seat (suc at) ps all more thread others (λ k le. apart k (omega arith)) owns.1 begin.1,
 )
 
+-- longer gifts
+all_given_on : {T : Type 0} (parts : List (Part T)) (gifts more : Gifts T) → AllGiven parts gifts → AllGiven parts (gifts ++ more)
+all_given_on [] gifts more g = tt
+all_given_on (p ∷ ps) gifts more g = ((g.0.0 ++ more, ap (λ xs. xs ++ more) g.0.1 ∙ append_assoc p.gifts g.0.0 more), all_given_on ps gifts more g.1)
+
 -- what a seat knows at another place of the list, or at its own
-pub fits_set : (o : Opening) (all : List Event) (owner : ℕ → ℕ × ℕ) (views : List View) (id : ℕ) (w : View)
-    → ((j : ℕ) (u : View) → j ≢ id → get_elem? views j ≡ some u → Fits o all owner j u)
-    → Fits o all owner id w → (j : ℕ) (u : View) → get_elem? (set views id w) j ≡ some u → Fits o all owner j u
-fits_set o all owner views id w others mine j u e =
+pub fits_set : {T : Type 0} (o : Opening) (all : List Event) (gifts : Gifts T) (owner : ℕ → ℕ × ℕ) (views : List (View T)) (id : ℕ) (w : View T)
+    → ((j : ℕ) (u : View T) → j ≢ id → get_elem? views j ≡ some u → Fits o all gifts owner j u)
+    → Fits o all gifts owner id w → (j : ℕ) (u : View T) → get_elem? (set views id w) j ≡ some u → Fits o all gifts owner j u
+fits_set {T} o all gifts owner views id w others mine j u e =
     ⊎_elim
-    (λ (x : (j ≡ id) × (w ≡ u)). subst (λ (y : ℕ × View). Fits o all owner y.0 y.1) (λ i. (sym x.0 i, x.1 i)) mine)
+    (λ (x : (j ≡ id) × (w ≡ u)). subst (λ (y : ℕ × View T). Fits o all gifts owner y.0 y.1) (λ i. (sym x.0 i, x.1 i)) mine)
     (λ (x : (j ≢ id) × (get_elem? views j ≡ some u)). others j u x.0 x.1)
     (at_set views id j w u e)
 
+-- the hands of the parts whose threads are not the one that made the step
+module _ {T : Type 0} (w v : ℕ → ℕ) (place later : ℕ → Option Running) (at at_now : ℕ → Where) (gifts gifts_now : Gifts T) (homes homes_now : Homes T) (thread : ℕ)
+    (others : (u : ℕ) (hand : Hand T) → u ≢ thread → HandFits w (place u) at gifts homes u hand → HandFits v (later u) at_now gifts_now homes_now u hand) where
+  pub all_hands_on : (owner : ℕ → ℕ × ℕ) (seat first : ℕ) (parts : List (Part T)) → ((k : ℕ) → first ≤ k → owner thread ≢ (seat, k)) → Owns owner seat first parts
+      → AllHands w place at gifts homes parts → AllHands v later at_now gifts_now homes_now parts
+  all_hands_on owner seat first [] apart owns hands = tt
+  all_hands_on owner seat first (p ∷ ps) apart owns hands = (
+    others p.thread p.hand (λ same. apart first (omega arith) (ap owner (sym same) ∙ owns.0)) hands.0,
+    all_hands_on owner seat (suc first) ps (λ k le. apart k (omega arith)) owns.1 hands.1,
+  )
+
+-- what becomes of the tokens in a step of a thread: where they are, what the slots' words name, and all hands
+pub record Tokens {T : Type 0} (o : Opening) (homes homes_now : Homes T) (views : List (View T)) (words : List ℕ) (kept : OneSchedule o words homes views) (end : World) (gifts : Gifts T) (thread : ℕ) (hand : Hand T) : Type 0 where
+  pub at_now : ℕ → Where
+  pub slots : 0 < o.tokens → SlotsFit (clock_at o.shape.k o.shape.n) (word_at end) at_now gifts homes_now
+  pub own : 0 < o.tokens → HandFits (word_at end) (place_of end thread) at_now gifts homes_now thread hand
+  pub others : 0 < o.tokens → (u : ℕ) (other : Hand T) → u ≢ thread → HandFits (word_at kept.world) (place_of kept.world u) kept.at kept.gifts homes u other
+      → HandFits (word_at end) (place_of end u) at_now gifts homes_now u other
+
 -- The one lemma of all steps: the seat's first thread has seen the schedule so far, and then adds what is its own
-pub adds : (o : Opening) (words after_words : List ℕ) (views : List View) (id : ℕ) (thread : ℕ) (seen : List Event) (more : List Part)
-    → (kept : OneSchedule o words views) → get_elem? views id ≡ some (view_of o (part thread seen ∷ more))
-    → (tail : List Event) → ((u : ℕ) → u ≢ thread → own u tail ≡ [])
+pub adds : {T : Type 0} (o : Opening) (words after_words : List ℕ) (homes homes_now : Homes T) (views : List (View T)) (id : ℕ) (thread : ℕ) (seen : List Event) (gifts : Gifts T) (hand hand_now : Hand T) (more : List (Part T))
+    → (kept : OneSchedule o words homes views) → get_elem? views id ≡ some (view_of o (part thread seen gifts hand ∷ more))
+    → (tail : List Event) (given : Gifts T) → ((u : ℕ) → u ≢ thread → own u tail ≡ [])
     → (end : World) → run o.shape (Some kept.world) tail ≡ Some end → after_words ≡ end.words → FewTicks o (kept.all ++ tail)
-    → OneSchedule o after_words (set views id (view_of o (part thread (kept.all ++ tail) ∷ more)))
-adds o words after_words views id thread seen more kept at tail others end runs words_are few =
-    let mine = kept.fit id (view_of o (part thread seen ∷ more)) at in
+    → Tokens o homes homes_now views words kept end (kept.gifts ++ given) thread hand_now
+    → OneSchedule o after_words homes_now (set views id (view_of o (part thread (kept.all ++ tail) (kept.gifts ++ given) hand_now ∷ more)))
+adds {T} o words after_words homes homes_now views id thread seen gifts hand hand_now more kept at tail given others end runs words_are few tokens =
+    let mine = kept.fit id (view_of o (part thread seen gifts hand ∷ more)) at in
     let owned : kept.owner thread ≡ (id, 0) = mine.owns.0 in
     record {
       all = kept.all ++ tail;
+      gifts = kept.gifts ++ given;
       world = end;
       owner = kept.owner;
       runs = run_on o.shape (Some (opening o.shape o.threads)) kept.world kept.all tail kept.runs ∙ runs;
       words_are = words_are;
       few_ticks = few;
-      fit = fits_set o (kept.all ++ tail) kept.owner views id (view_of o (part thread (kept.all ++ tail) ∷ more))
+      fit = fits_set o (kept.all ++ tail) (kept.gifts ++ given) kept.owner views id (view_of o (part thread (kept.all ++ tail) (kept.gifts ++ given) hand_now ∷ more))
           (λ j u apart e.
           let theirs = kept.fit j u e in
           record {
             opened = theirs.opened;
             begin = all_begin_on kept.owner j 0 u.parts kept.all tail thread others (λ k le same. apart (ap (λ (x : ℕ × ℕ). x.0) (sym same ∙ owned))) theirs.owns theirs.begin;
+            given = all_given_on u.parts kept.gifts given theirs.given;
             owns = theirs.owns;
           })
           record {
@@ -91,8 +121,21 @@ adds o words after_words views id thread seen more kept at tail others end runs 
               begins_whole thread (kept.all ++ tail),
               all_begin_on kept.owner id 1 more kept.all tail thread others (λ k le same. let e : k ≡ 0 = ap (λ (x : ℕ × ℕ). x.1) (sym same ∙ owned) in absurd (omega arith)) mine.owns.1 mine.begin.1,
             );
+            given = (([], sym (append-nil (kept.gifts ++ given))), all_given_on more kept.gifts given mine.given.1);
             owns = mine.owns;
           };
+      at = tokens.at_now;
+      slots = tokens.slots;
+      hands = λ some_tokens j u e.
+          let on = λ (seat first : ℕ) (parts : List (Part T)). all_hands_on (word_at kept.world) (word_at end) (place_of kept.world) (place_of end) kept.at tokens.at_now kept.gifts (kept.gifts ++ given) homes homes_now thread (tokens.others some_tokens) kept.owner seat first parts in
+          let all_mine = kept.hands some_tokens id (view_of o (part thread seen gifts hand ∷ more)) at in
+          ⊎_elim
+          (λ (x : (j ≡ id) × (view_of o (part thread (kept.all ++ tail) (kept.gifts ++ given) hand_now ∷ more) ≡ u)).
+          subst (λ (y : View T). AllHands (word_at end) (place_of end) tokens.at_now (kept.gifts ++ given) homes_now y.parts) x.1
+          (tokens.own some_tokens, on id 1 more (λ k le same. let e : k ≡ 0 = ap (λ (x : ℕ × ℕ). x.1) (sym same ∙ owned) in absurd (omega arith)) mine.owns.1 all_mine.1))
+          (λ (x : (j ≢ id) × (get_elem? views j ≡ some u)).
+          on j 0 u.parts (λ k le same. x.0 (ap (λ (z : ℕ × ℕ). z.0) (sym same ∙ owned))) (kept.fit j u x.1).owns (kept.hands some_tokens j u x.1))
+          (at_set views id j (view_of o (part thread (kept.all ++ tail) (kept.gifts ++ given) hand_now ∷ more)) u e);
     }
 
 pub own_other : (thread u : ℕ) (begin : Option Begin) → u ≢ thread → own u (event thread begin ∷ []) ≡ []
@@ -124,13 +167,16 @@ unfolding found word_at
 found-is shape world running i is = ap (λ j. get_or world.words j 0) (sym is)
 
 -- the step of a thread which is at this place once it has seen this
-goes_at : {S : Type 0} (o : Opening) (s : State S View) (id : ℕ) (thread : ℕ) (seen : List Event) (more : List Part) (place : Option Running) (here : World)
+goes_at : {T : Type 0} (o : Opening) (s : State (Option T) (View T)) (id : ℕ) (thread : ℕ) (seen : List Event) (gifts : Gifts T) (hand : Hand T) (more : List (Part T)) (held : List (ℕ × Option T)) (place : Option Running) (here : World)
     → world_after o seen ≡ Some here → thread < length here.places → place_of here thread ≡ place → (begin : Option Begin) (running : Running) → going o.shape place begin ≡ Some running
-    → (i : ℕ) → accessed (access o.shape running) ≡ i → (f : ℕ → ℕ) → ((n : ℕ) → f n ≡ written (access o.shape running) n)
-    → OneSchedule o s.words s.views → get_elem? s.views id ≡ some (view_of o (part thread seen ∷ more))
-    → (w : View) × OneSchedule o (slice_set s.words i (f (slice_index s.words i))) (set s.views id w) × Steps begin (view_of o (part thread seen ∷ more)) (slice_index s.words i) w
-goes_at o s id thread seen more place here reached within stood begin running from i word f same kept at =
-    let mine = kept.fit id (view_of o (part thread seen ∷ more)) at in
+    → (i : ℕ) → accessed (access o.shape running) ≡ i → (f : ℕ → ℕ) → ((n : ℕ) → f n ≡ written (access o.shape running) n) → Carries place o.tokens hand held → (0 < o.tokens → BeginsWith begin hand held)
+    → OneSchedule o s.words s.homes s.views → get_elem? s.views id ≡ some (view_of o (part thread seen gifts hand ∷ more))
+    → (w : View T) × (a : Act (Option T)) × Valid s.homes held a × OneSchedule o (slice_set s.words i (f (slice_index s.words i))) (homes_after s.homes held a) (set s.views id w)
+    × Steps begin (view_of o (part thread seen gifts hand ∷ more), held) (slice_index s.words i) (w, carried_after held a)
+goes_at {T} o s id thread seen gifts hand more held place here reached within stood begin running from i word f same carries begins kept at =
+    let mine = kept.fit id (view_of o (part thread seen gifts hand ∷ more)) at in
+    let g = mine.given.0 in
+    let new = gift begin held in
     let b = mine.begin.0 in
     let e = event thread begin in
     let arrived : world_after o (seen ++ b.rest) ≡ Some kept.world = ap (λ es. world_after o es) (sym b.goes_on) ∙ kept.runs in
@@ -142,46 +188,62 @@ goes_at o s id thread seen more place here reached within stood begin running fr
     let end = moved o.shape kept.world thread running in
     let new_words : slice_set s.words i (f (slice_index s.words i)) ≡ end.words =
     (λ k. slice_set (kept.words_are k) i (same (slice_index (kept.words_are k) i) k)) ∙ sym (words-moved o.shape kept.world thread running i word) in
-    let w = view_of o (part thread ((seen ++ b.rest) ++ e ∷ []) ∷ more) in
-    let w' = view_of o (part thread (kept.all ++ e ∷ []) ∷ more) in
-    let is_w : w' ≡ w = ap (λ (es : List Event). view_of o (part thread (es ++ e ∷ []) ∷ more)) b.goes_on in
+    let found_is : slice_index s.words i ≡ found o.shape kept.world running = ap (λ ws. slice_index ws i) kept.words_are ∙ found-is o.shape kept.world running i word in
+    let hand_at = λ (all_gifts : Gifts T) (n : ℕ). hand_after (move running n) (all_gifts ++ new) (begun_hand begin held hand) in
+    let t = turned o kept.all kept.world kept.at kept.gifts s.homes thread place begin running hand held kept.runs inside still_there from kept.slots
+    (λ some_tokens. subst (λ (p : Option Running). HandFits (word_at kept.world) p kept.at kept.gifts s.homes thread hand) still_there (kept.hands some_tokens id (view_of o (part thread seen gifts hand ∷ more)) at).0) carries begins o.tokens refl in
+    let hand_now = hand_at kept.gifts (found o.shape kept.world running) in
+    let same_hand : hand_now ≡ hand_at (gifts ++ g.0) (slice_index s.words i) = λ j. hand_at (g.1 j) (sym found_is j) in
+    let w = view_of o (part thread ((seen ++ b.rest) ++ e ∷ []) ((gifts ++ g.0) ++ new) hand_now ∷ more) in
+    let w' = view_of o (part thread (kept.all ++ e ∷ []) (kept.gifts ++ new) hand_now ∷ more) in
+    let is_w : w' ≡ w = λ j. view_of o (part thread (b.goes_on j ++ e ∷ []) (g.1 j ++ new) hand_now ∷ more) in
+    let homes = homes_after s.homes held t.act in
+    let tokens : Tokens o s.homes homes s.views s.words kept end (kept.gifts ++ new) thread hand_now = record { at_now = t.at_now; slots = t.slots; own = t.own; others = t.others } in
     let made : run o.shape (Some kept.world) (e ∷ []) ≡ Some end = ap world_of (steps_on o.shape kept.world e running inside now) in
-    let k = adds o s.words (slice_set s.words i (f (slice_index s.words i))) s.views id thread seen more kept at (e ∷ []) (λ u apart. own_other thread u begin apart) end made new_words
-    (few_more o kept.all e (no_tick o.shape place begin running from) kept.few_ticks) in (
+    let k = adds o s.words (slice_set s.words i (f (slice_index s.words i))) s.homes homes s.views id thread seen gifts hand hand_now more kept at (e ∷ []) new (λ u apart. own_other thread u begin apart) end made new_words
+    (few_more o kept.all e (no_tick o.shape place begin running from) kept.few_ticks) tokens in (
       w,
-      subst (λ (x : View). OneSchedule o (slice_set s.words i (f (slice_index s.words i))) (set s.views id x)) is_w k,
+      t.act,
+      t.valid,
+      subst (λ (x : View T). OneSchedule o (slice_set s.words i (f (slice_index s.words i))) homes (set s.views id x)) is_w k,
       record {
         between = b.rest;
+        given = g.0;
         here = kept.world;
         from = running;
         others = b.no_own;
         reached = arrived;
         within = inside;
         goes = now;
-        word_is = ap (λ ws. slice_index ws i) kept.words_are ∙ found-is o.shape kept.world running i word;
+        word_is = found_is;
+        hand = hand_now;
+        hand_is = same_hand;
         afterwards = refl;
+        carries = t.carries;
       },
     )
 
 -- One lemma for all kinds of step, whether they load or exchange: the word becomes what the machine writes
-pub goes : {S : Type 0} (o : Opening) (slots id : ℕ) (me : Me S View) (place : Option Running) → IsAt place me.0
+pub goes : {T : Type 0} (o : Opening) (slots id : ℕ) (me : Me (Option T) (View T)) (place : Option Running) → IsAt place me
     → (begin : Option Begin) (running : Running) (shape : Shape) → me.0.opened.shape ≡ shape → going shape place begin ≡ Some running
-    → (a : Access) → access shape running ≡ a → (f : ℕ → ℕ) → ((n : ℕ) → f n ≡ written a n)
-    → Allows (λ (s : State S View). OneSchedule o s.words s.views) slots id me (accessed a) f (λ found w. Steps begin me.0 found w.0 × (w.1 ≡ me.1))
-goes {S} o slots id me place stood begin running shape sizes from a is f writes s kept homes at fits =
+    → (a : Access) → access shape running ≡ a → (f : ℕ → ℕ) → ((n : ℕ) → f n ≡ written a n) → (0 < me.0.opened.tokens → BeginsWith begin (hand_of me.0) me.1)
+    → Allows (λ (s : State (Option T) (View T)). OneSchedule o s.words s.homes s.views) slots id me (accessed a) f (λ found w. Steps begin me found w)
+goes {T} o slots id me place stood begin running shape sizes from a is f writes begins s kept homes at fits =
     let v = me.0 in
     let i = accessed a in
     let opened = (kept.fit id v at).opened in
     let from' : going v.opened.shape place begin ≡ Some running = ap (λ (x : Shape). going x place begin) sizes ∙ from in
     let touch : access v.opened.shape running ≡ a = ap (λ (x : Shape). access x running) sizes ∙ is in
     let writes' : (n : ℕ) → f n ≡ written (access v.opened.shape running) n = λ n. writes n ∙ ap (λ (x : Access). written x n) (sym touch) in
-    let v' = with_seen v (seen_of v) in
-    let P : View → Type 0 = λ x. (w : View) × OneSchedule o (slice_set s.words i (f (slice_index s.words i))) (set s.views id w) × Steps begin x (slice_index s.words i) w in
-    let Q : Opening → Type 0 = λ x. OneSchedule x s.words s.views → (w : View) × OneSchedule x (slice_set s.words i (f (slice_index s.words i))) (set s.views id w) × Steps begin v' (slice_index s.words i) w in
+    let v' = with_seen v (seen_of v) (gifts_of v) (hand_of v) in
+    let P : View T → Type 0 = λ x. (w : View T) × (a : Act (Option T)) × Valid s.homes me.1 a × OneSchedule o (slice_set s.words i (f (slice_index s.words i))) (homes_after s.homes me.1 a) (set s.views id w)
+    × Steps begin (x, me.1) (slice_index s.words i) (w, carried_after me.1 a) in
+    let Q : Opening → Type 0 = λ x. OneSchedule x s.words s.homes s.views → (w : View T) × (a : Act (Option T)) × Valid s.homes me.1 a × OneSchedule x (slice_set s.words i (f (slice_index s.words i))) (homes_after s.homes me.1 a) (set s.views id w)
+    × Steps begin (v', me.1) (slice_index s.words i) (w, carried_after me.1 a) in
     let got : P v' = subst Q opened
-    (λ k. goes_at v.opened s id (thread_of v) (seen_of v) (more_in v.parts) place stood.here stood.reached stood.within stood.place_is begin running from' i (ap accessed touch) f writes' k (at ∙ ap some stood.seated)) kept in
+    (λ k. goes_at v.opened s id (thread_of v) (seen_of v) (gifts_of v) (hand_of v) (more_in v.parts) me.1 place stood.here stood.reached stood.within stood.place_is begin running from' i (ap accessed touch) f writes' stood.carries begins k (at ∙ ap some stood.seated)) kept in
     let put = subst P (sym stood.seated) got in
-    (put.0, keeps, tt, put.1, (put.2, refl))
+    put
 
 -- the words after a tick
 ticked_words : (shape : Shape) (world : World) → word_at world (clock_at shape.k shape.n) ≤ 131072
@@ -206,13 +268,14 @@ ticks_on shape world thread within idle few =
     ∙ ap (λ b. cond b (Err ClockSpent) (Ok (ticked shape world, Went))) (ne_eqb (word_at world (clock_at shape.k shape.n)) 18446744073709551615 (λ e. absurd (omega arith)))
 
 -- a tick of an idle thread that may tick once more
-draws_at : {S : Type 0} (o : Opening) (s : State S View) (id : ℕ) (thread : ℕ) (seen : List Event) (more : List Part) (here : World)
-    → world_after o seen ≡ Some here → thread < length here.places → place_of here thread ≡ None → IsSmall o → ticks (own thread seen) < 2 * o.calls
-    → OneSchedule o s.words s.views → get_elem? s.views id ≡ some (view_of o (part thread seen ∷ more))
-    → (w : View) × OneSchedule o (slice_set s.words (clock_at o.shape.k o.shape.n) ((slice_index s.words (clock_at o.shape.k o.shape.n) + 1) % 2 ^ 64)) (set s.views id w)
-    × DrawsStamp (view_of o (part thread seen ∷ more)) (slice_index s.words (clock_at o.shape.k o.shape.n)) w
-draws_at o s id thread seen more here reached within idle small room kept at =
-    let mine = kept.fit id (view_of o (part thread seen ∷ more)) at in
+draws_at : {T : Type 0} (o : Opening) (s : State (Option T) (View T)) (id : ℕ) (thread : ℕ) (seen : List Event) (gifts : Gifts T) (hand : Hand T) (more : List (Part T)) (here : World)
+    → world_after o seen ≡ Some here → thread < length here.places → place_of here thread ≡ None → IsSmall o → ticks (own thread seen) < 2 * o.calls → o.tokens ≡ 0
+    → OneSchedule o s.words s.homes s.views → get_elem? s.views id ≡ some (view_of o (part thread seen gifts hand ∷ more))
+    → (w : View T) × OneSchedule o (slice_set s.words (clock_at o.shape.k o.shape.n) ((slice_index s.words (clock_at o.shape.k o.shape.n) + 1) % 2 ^ 64)) s.homes (set s.views id w)
+    × DrawsStamp (view_of o (part thread seen gifts hand ∷ more)) (slice_index s.words (clock_at o.shape.k o.shape.n)) w
+draws_at {T} o s id thread seen gifts hand more here reached within idle small room none_there kept at =
+    let mine = kept.fit id (view_of o (part thread seen gifts hand ∷ more)) at in
+    let g = mine.given.0 in
     let b = mine.begin.0 in
     let e = event thread (Some Tick) in
     let clock = clock_at o.shape.k o.shape.n in
@@ -224,18 +287,21 @@ draws_at o s id thread seen more here reached within idle small room kept at =
     let few = clock_below o kept.all kept.world small.0 small.1 kept.few_ticks kept.runs in
     let new_words : slice_set s.words clock ((slice_index s.words clock + 1) % 2 ^ 64) ≡ (ticked o.shape kept.world).words =
     (λ k. slice_set (kept.words_are k) clock ((slice_index (kept.words_are k) clock + 1) % 2 ^ 64)) ∙ ticked_words o.shape kept.world few in
-    let w = view_of o (part thread ((seen ++ b.rest) ++ e ∷ []) ∷ more) in
-    let w' = view_of o (part thread (kept.all ++ e ∷ []) ∷ more) in
-    let is_w : w' ≡ w = ap (λ (es : List Event). view_of o (part thread (es ++ e ∷ []) ∷ more)) b.goes_on in
+    let w = view_of o (part thread ((seen ++ b.rest) ++ e ∷ []) (gifts ++ g.0) hand ∷ more) in
+    let w' = view_of o (part thread (kept.all ++ e ∷ []) (kept.gifts ++ []) hand ∷ more) in
+    let is_w : w' ≡ w = λ j. view_of o (part thread (b.goes_on j ++ e ∷ []) ((append-nil kept.gifts ∙ g.1) j) hand ∷ more) in
+    let tokens : Tokens o s.homes s.homes s.views s.words kept (ticked o.shape kept.world) (kept.gifts ++ []) thread hand =
+    record { at_now = kept.at; slots = λ some_tokens. absurd (omega arith); own = λ some_tokens. absurd (omega arith); others = λ some_tokens u other ne fits. absurd (omega arith) } in
     let made : run o.shape (Some kept.world) (e ∷ []) ≡ Some (ticked o.shape kept.world) = ap world_of (ticks_on o.shape kept.world thread inside still_idle few) in
     let own_all : own thread kept.all ≡ own thread seen = ap (own thread) b.goes_on ∙ own-append thread seen b.rest ∙ ap (λ es. own thread seen ++ es) b.no_own ∙ append-nil (own thread seen) in
     let room_left : ticks (own thread kept.all) < 2 * o.calls = subst (λ (es : List Event). ticks es < 2 * o.calls) (sym own_all) room in
-    let k = adds o s.words (slice_set s.words clock ((slice_index s.words clock + 1) % 2 ^ 64)) s.views id thread seen more kept at (e ∷ []) (λ u apart. own_other thread u (Some Tick) apart) (ticked o.shape kept.world) made new_words
-    (few_tick o kept.all e room_left kept.few_ticks) in (
+    let k = adds o s.words (slice_set s.words clock ((slice_index s.words clock + 1) % 2 ^ 64)) s.homes s.homes s.views id thread seen gifts hand hand more kept at (e ∷ []) [] (λ u apart. own_other thread u (Some Tick) apart) (ticked o.shape kept.world) made new_words
+    (few_tick o kept.all e room_left kept.few_ticks) tokens in (
       w,
-      subst (λ (x : View). OneSchedule o (slice_set s.words clock ((slice_index s.words clock + 1) % 2 ^ 64)) (set s.views id x)) is_w k,
+      subst (λ (x : View T). OneSchedule o (slice_set s.words clock ((slice_index s.words clock + 1) % 2 ^ 64)) s.homes (set s.views id x)) is_w k,
       record {
         between = b.rest;
+        given = g.0;
         here = kept.world;
         others = b.no_own;
         reached = arrived;
@@ -246,19 +312,19 @@ draws_at o s id thread seen more here reached within idle small room kept at =
     )
 
 -- The tick keeps the rule
-pub draws : {S : Type 0} (o : Opening) (slots id : ℕ) (me : Me S View) (clock : ℕ) → clock ≡ clock_at me.0.opened.shape.k me.0.opened.shape.n → IsAt None me.0 → IsSmall me.0.opened
+pub draws : {T : Type 0} (o : Opening) (slots id : ℕ) (me : Me (Option T) (View T)) (clock : ℕ) → clock ≡ clock_at me.0.opened.shape.k me.0.opened.shape.n → IsAt None me → me.0.opened.tokens ≡ 0 → IsSmall me.0.opened
     → ticks (own (thread_of me.0) (seen_of me.0)) < 2 * me.0.opened.calls
-    → Allows (λ (s : State S View). OneSchedule o s.words s.views) slots id me clock (λ n. (n + 1) % 2 ^ 64) (λ found w. DrawsStamp me.0 found w.0 × (w.1 ≡ me.1))
-draws {S} o slots id me clock clock_is stood small room s kept homes at fits =
+    → Allows (λ (s : State (Option T) (View T)). OneSchedule o s.words s.homes s.views) slots id me clock (λ n. (n + 1) % 2 ^ 64) (λ found w. DrawsStamp me.0 found w.0 × (w.1 ≡ me.1))
+draws {T} o slots id me clock clock_is stood none_there small room s kept homes at fits =
     let v = me.0 in
     let opened = (kept.fit id v at).opened in
-    let v' = with_seen v (seen_of v) in
+    let v' = with_seen v (seen_of v) (gifts_of v) (hand_of v) in
     let i = clock_at v.opened.shape.k v.opened.shape.n in
-    let P : View → Type 0 = λ x. (w : View) × OneSchedule o (slice_set s.words i ((slice_index s.words i + 1) % 2 ^ 64)) (set s.views id w) × DrawsStamp x (slice_index s.words i) w in
-    let Q : Opening → Type 0 = λ x. OneSchedule x s.words s.views → (w : View) × OneSchedule x (slice_set s.words i ((slice_index s.words i + 1) % 2 ^ 64)) (set s.views id w) × DrawsStamp v' (slice_index s.words i) w in
+    let P : View T → Type 0 = λ x. (w : View T) × OneSchedule o (slice_set s.words i ((slice_index s.words i + 1) % 2 ^ 64)) s.homes (set s.views id w) × DrawsStamp x (slice_index s.words i) w in
+    let Q : Opening → Type 0 = λ x. OneSchedule x s.words s.homes s.views → (w : View T) × OneSchedule x (slice_set s.words i ((slice_index s.words i + 1) % 2 ^ 64)) s.homes (set s.views id w) × DrawsStamp v' (slice_index s.words i) w in
     let got : P v' = subst Q opened
-    (λ k. draws_at v.opened s id (thread_of v) (seen_of v) (more_in v.parts) stood.here stood.reached stood.within stood.place_is small room k (at ∙ ap some stood.seated)) kept in
-    let R : ℕ → Type 0 = λ j. (w : View) × OneSchedule o (slice_set s.words j ((slice_index s.words j + 1) % 2 ^ 64)) (set s.views id w) × DrawsStamp v (slice_index s.words j) w in
+    (λ k. draws_at v.opened s id (thread_of v) (seen_of v) (gifts_of v) (hand_of v) (more_in v.parts) stood.here stood.reached stood.within stood.place_is small room none_there k (at ∙ ap some stood.seated)) kept in
+    let R : ℕ → Type 0 = λ j. (w : View T) × OneSchedule o (slice_set s.words j ((slice_index s.words j + 1) % 2 ^ 64)) s.homes (set s.views id w) × DrawsStamp v (slice_index s.words j) w in
     let put = subst R (sym clock_is) (subst P (sym stood.seated) got) in
     (put.0, keeps, tt, put.1, (put.2, refl))
 

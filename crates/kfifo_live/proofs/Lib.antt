@@ -1,3 +1,5 @@
+pub mod Hands
+pub mod Turned
 pub mod Ticks
 pub mod Keeps
 pub mod Cuts

@@ -6,15 +6,16 @@ use Rattle.kfifo_machine.specs.declared.place.Running.{Running}
 use Rattle.kfifo_machine.specs.Machine.{World, opening, place_of, word_at}
 use Rattle.kfifo_live.specs.declared.view.Opening.{Opening}
 use Rattle.kfifo_live.specs.declared.view.View.{View}
-use Rattle.kfifo_live.specs.Schedule.{IsSmall, part, view_of, fresh, seen_of, first_part, other_parts}
+use Rattle.kfifo_live.specs.Schedule.{IsSmall, part, view_of, fresh, first_hand, seen_of, gifts_of, hand_of, first_part, other_parts}
+use Rattle.kfifo_live.specs.Hands.{carrying}
 use Rattle.kfifo_live.specs.Step.{IsAt}
 use Rattle.kfifo_live.specs.Pass.{OpenQueue, AllOf, new_passes, IsPass, IsZeroed}
 
-pub fresh_more : (first count : ℕ) → first < count → fresh first (count - first) ≡ part first [] ∷ fresh (first + 1) (count - (first + 1))
-fresh_more first count lt =
+pub fresh_more : {T : Type 0} (tokens first count : ℕ) → first < count → fresh {T = T} tokens first (count - first) ≡ part first [] [] (first_hand tokens first) ∷ fresh tokens (first + 1) (count - (first + 1))
+fresh_more tokens first count lt =
     let n : count - first ≡ suc (count - (first + 1)) = omega arith in
     let m : suc first ≡ first + 1 = omega arith in
-    ap (fresh first) n ∙ ap (λ (k : ℕ). part first [] ∷ fresh k (count - (first + 1))) m
+    ap (fresh tokens first) n ∙ ap (λ (k : ℕ). part first [] [] (first_hand tokens first) ∷ fresh tokens k (count - (first + 1))) m
 
 pub new_passes-snoc : (q : OpenQueue) (first n : ℕ) → new_passes q first (n + 1) ≡ new_passes q first n ++ record { table = q.table; opened = q.opened; thread = first + n; seen = [] } ∷ []
 new_passes-snoc q first zero = ap (λ (k : ℕ). record { table = q.table; opened = q.opened; thread = k; seen = [] } ∷ []) (let e : first ≡ first + zero = omega arith in e)
@@ -36,17 +37,23 @@ inside : (o : Opening) (thread : ℕ) → thread < o.threads → thread < length
 unfolding opening
 inside o thread lt = let idle : Option Running = None in let n = length-replicate o.threads idle in omega (arith, lt, n)
 
-pub new_pass : (o : Opening) (thread : ℕ) (me : Me (Unit {0}) View) → thread < o.threads → IsSmall o → me.0 ≡ view_of o (part thread [] ∷ []) → me.1 ≡ [] → IsPass thread me
-new_pass o thread me lt few is held =
-    let idle : IsAt None (view_of o (part thread [] ∷ [])) = record { here = opening o.shape o.threads; seated = refl; reached = refl; within = inside o thread lt; place_is = idle_at o thread } in
-    record { alone = ap (λ v. v.parts) is ∙ ap (λ es. part thread es ∷ []) (sym (ap seen_of is)); held = held; idle = subst (IsAt None) (sym is) idle; few = subst (λ (v : View). IsSmall v.opened) (sym is) few }
+-- no slot is held where no token is out
+no_slot : {T : Type 0} (tokens : ℕ) (payload : Option T) → carrying tokens 0 payload ≡ []
+no_slot zero payload = refl
+no_slot (suc tokens) payload = refl
+
+pub new_pass : {T : Type 0} (o : Opening) (thread : ℕ) (me : Me (Option T) (View T)) → thread < o.threads → IsSmall o → me.0 ≡ view_of o (part thread [] [] (first_hand o.tokens thread) ∷ []) → me.1 ≡ [] → IsPass thread me
+new_pass {T} o thread me lt few is held =
+    let v = view_of o (part thread [] [] (first_hand o.tokens thread) ∷ []) in
+    let idle : IsAt None (v, me.1) = record { here = opening o.shape o.threads; seated = refl; reached = refl; within = inside o thread lt; place_is = idle_at o thread; carries = (None, held ∙ sym (no_slot o.tokens None)) } in
+    record { alone = ap (λ v. v.parts) is ∙ (λ i. part thread (sym (ap seen_of is) i) (sym (ap gifts_of is) i) (sym (ap hand_of is) i) ∷ []); held = held; idle = subst (λ (x : View T). IsAt None (x, me.1)) (sym is) idle; few = subst (λ (v : View T). IsSmall v.opened) (sym is) few }
 
 -- the first part is cut off
-pub cut_first : (o : Opening) (first count : ℕ) (v left right : View) → first < count → v ≡ view_of o (fresh first (count - first)) → left ≡ first_part v → right ≡ other_parts v
-    → (left ≡ view_of o (part first [] ∷ [])) × (right ≡ view_of o (fresh (first + 1) (count - (first + 1)))) × (1 < length v.parts + 1)
-cut_first o first count v left right lt is l r =
-    let v' = is ∙ ap (view_of o) (fresh_more first count lt) in
-    let n = ap (λ (x : View). length x.parts) v' in
+pub cut_first : {T : Type 0} (o : Opening) (first count : ℕ) (v left right : View T) → first < count → v ≡ view_of o (fresh o.tokens first (count - first)) → left ≡ first_part v → right ≡ other_parts v
+    → (left ≡ view_of o (part first [] [] (first_hand o.tokens first) ∷ [])) × (right ≡ view_of o (fresh o.tokens (first + 1) (count - (first + 1)))) × (1 < length v.parts + 1)
+cut_first {T} o first count v left right lt is l r =
+    let v' = is ∙ ap (view_of o) (fresh_more o.tokens first count lt) in
+    let n = ap (λ (x : View T). length x.parts) v' in
     (l ∙ ap first_part v', r ∙ ap other_parts v', omega (arith, n))
 
 -- the words of an opening

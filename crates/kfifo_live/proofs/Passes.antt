@@ -1,5 +1,5 @@
 -- A pass that has seen more is still in no call.
-use Rattle.std.proofs.Common.{◌≡◌, ℕ, ◌<◌, ◌≤◌, List, [], ◌∷◌, ◌++◌, length, Some, None, refl, sym, ap, ◌∙◌, subst, arith, append_assoc}
+use Rattle.std.proofs.Common.{◌≡◌, ℕ, ◌<◌, ◌≤◌, List, [], ◌∷◌, ◌++◌, length, Option, Some, None, refl, sym, ap, ◌∙◌, subst, arith, append_assoc}
 use Rattle.std.proofs.lemmas.List.{append-nil}
 use Rattle.atomic_table.specs.Table.{Me}
 use Rattle.atomic_table.specs.Seated.{TableId}
@@ -17,9 +17,11 @@ use Rattle.kfifo_machine.proofs.Schedules.{after-snoc, own-append, run_on, same_
 use Rattle.kfifo_live.specs.declared.view.Opening.{Opening}
 use Rattle.kfifo_live.specs.declared.view.Part.{Part}
 use Rattle.kfifo_live.specs.declared.view.View.{View}
-use Rattle.kfifo_live.specs.Schedule.{IsSmall, part, view_of, world_after, thread_in, thread_of, more_in, seen_of, with_seen, AllBegin, first_part, other_parts, no_part, both_parts}
+use Rattle.kfifo_live.specs.Hands.{Gifts, carrying}
+use Rattle.kfifo_live.specs.declared.view.Hand.{Hand}
+use Rattle.kfifo_live.specs.Schedule.{gifts_of, hand_of, hand_in, stamped_opening, IsSmall, part, view_of, world_after, thread_in, thread_of, more_in, seen_of, with_seen, AllBegin, first_part, other_parts, no_part, both_parts}
 use Rattle.kfifo_live.specs.Step.{IsAt, DrawsStamp, Looks, Leads, Runs}
-use Rattle.kfifo_live.specs.Pass.{Known, StartsWith, IsPass, known_of, Finds}
+use Rattle.kfifo_live.specs.Pass.{Known, OpenQueue, queue_of, StartsWith, IsPass, known_of, Finds}
 use Rattle.kfifo_live.specs.Promise.{KeepsPromise}
 use Rattle.kfifo_live.specs.Calls.{Makes}
 use Rattle.kfifo_live.specs.Stamps.{Draws}
@@ -31,7 +33,7 @@ unfolding ticked
 length-ticked shape world = refl
 
 -- a pass acts for its thread
-pub pass_thread : (thread : ℕ) (me : Me (Unit {0}) View) → IsPass thread me → thread_of me.0 ≡ thread
+pub pass_thread : {T : Type 0} (thread : ℕ) (me : Me (Option T) (View T)) → IsPass thread me → thread_of me.0 ≡ thread
 pass_thread thread me p = ap thread_in p.alone
 
 -- its thread is idle after others' events
@@ -43,34 +45,35 @@ idle_on o thread seen all here end reached within idle b there =
     (omega (arith, within, still), same_place o.shape here end b.rest thread b.no_own onward ∙ idle)
 
 -- its opening is as small as before
-few_same : (v w : View) (parts : List Part) → w ≡ view_of v.opened parts → IsSmall v.opened → IsSmall w.opened
-few_same v w parts is few = subst IsSmall (sym (ap (λ (x : View). x.opened) is)) few
+few_same : {T : Type 0} (v w : View T) (parts : List (Part T)) → w ≡ view_of v.opened parts → IsSmall v.opened → IsSmall w.opened
+few_same {T} v w parts is few = subst IsSmall (sym (ap (λ (x : View T). x.opened) is)) few
 
-passes_on : (thread : ℕ) (old new : Me (Unit {0}) View) (all : List Event) (end : World) → IsPass thread old
-    → new.0 ≡ view_of old.0.opened (part thread all ∷ []) → new.1 ≡ [] → Begins thread (seen_of old.0) all → world_after old.0.opened all ≡ Some end → IsPass thread new
-passes_on thread old new all end p is held b there =
+passes_on : {T : Type 0} (thread : ℕ) (old new : Me (Option T) (View T)) (all : List Event) (gifts : Gifts T) (end : World) → IsPass thread old
+    → new.0 ≡ view_of old.0.opened (part thread all gifts (hand_of old.0) ∷ []) → new.1 ≡ [] → Begins thread (seen_of old.0) all → world_after old.0.opened all ≡ Some end → IsPass thread new
+passes_on {T} thread old new all gifts end p is held b there =
     let same = pass_thread thread old p in
     let within = subst (λ (t : ℕ). t < length p.idle.here.places) same p.idle.within in
     let place = ap (λ t. place_of p.idle.here t) (sym same) ∙ p.idle.place_is in
     let on = idle_on old.0.opened thread (seen_of old.0) all p.idle.here end p.idle.reached within place b there in
-    let idle : IsAt None (view_of old.0.opened (part thread all ∷ [])) = record { here = end; seated = refl; reached = there; within = on.0; place_is = on.1 } in
-    record { alone = ap (λ v. v.parts) is ∙ ap (λ es. part thread es ∷ []) (sym (ap seen_of is)); held = held; idle = subst (IsAt None) (sym is) idle; few = few_same old.0 new.0 (part thread all ∷ []) is p.few }
+    let idle : IsAt None (view_of old.0.opened (part thread all gifts (hand_of old.0) ∷ []), new.1) =
+    record { here = end; seated = refl; reached = there; within = on.0; place_is = on.1; carries = (p.idle.carries.0, held ∙ sym p.held ∙ p.idle.carries.1) } in
+    record { alone = ap (λ v. v.parts) is ∙ (λ i. part thread (sym (ap seen_of is) i) (sym (ap gifts_of is) i) (sym (ap hand_of is) i) ∷ []); held = held; idle = subst (λ (x : View T). IsAt None (x, new.1)) (sym is) idle; few = few_same old.0 new.0 (part thread all gifts _ ∷ []) is p.few }
 
-alone_with : (thread : ℕ) (old : Me (Unit {0}) View) (all : List Event) → IsPass thread old → with_seen old.0 all ≡ view_of old.0.opened (part thread all ∷ [])
-alone_with thread old all p = ap (λ (ps : List Part). view_of old.0.opened (part (thread_in ps) all ∷ more_in ps)) p.alone
+alone_with : {T : Type 0} (thread : ℕ) (old : Me (Option T) (View T)) (all : List Event) (gifts : Gifts T) (hand : Hand T) → IsPass thread old → with_seen old.0 all gifts hand ≡ view_of old.0.opened (part thread all gifts hand ∷ [])
+alone_with {T} thread old all gifts hand p = ap (λ (ps : List (Part T)). view_of old.0.opened (part (thread_in ps) all gifts hand ∷ more_in ps)) p.alone
 
 -- after a look
-pub looked : (thread index word : ℕ) (old new : Me (Unit {0}) View) → IsPass thread old → new.1 ≡ old.1 → Looks index word old.0 new.0 → IsPass thread new
-looked thread index word old new p held l =
-    let b = subst (λ (ps : List Part). AllBegin ps l.all) p.alone l.begin in
-    passes_on thread old new l.all l.world p (l.afterwards ∙ alone_with thread old l.all p) (held ∙ p.held) b.0 l.reached
+pub looked : {T : Type 0} (thread index word : ℕ) (old new : Me (Option T) (View T)) → IsPass thread old → new.1 ≡ old.1 → Looks index word old.0 new.0 → IsPass thread new
+looked {T} thread index word old new p held l =
+    let b = subst (λ (ps : List (Part T)). AllBegin ps l.all) p.alone l.begin in
+    passes_on thread old new l.all l.gifts l.world p (l.afterwards ∙ alone_with thread old l.all l.gifts (hand_of old.0) p) (held ∙ p.held) b.0 l.reached
 
 -- and what the look found
-pub finds : (table table' : TableId) (thread index word : ℕ) (old new : Me (Unit {0}) View) → IsPass thread old → Looks index word old.0 new.0
+pub finds : {T : Type 0} (table table' : TableId) (thread index word : ℕ) (old new : Me (Option T) (View T)) → IsPass thread old → Looks index word old.0 new.0
     → Finds (known_of table thread old.0) (known_of table' thread new.0) index word
 unfolding word_at
-finds table table' thread index word old new p l =
-    let b = subst (λ (ps : List Part). AllBegin ps l.all) p.alone l.begin in
+finds {T} table table' thread index word old new p l =
+    let b = subst (λ (ps : List (Part T)). AllBegin ps l.all) p.alone l.begin in
     let seen : seen_of new.0 ≡ l.all = ap seen_of l.afterwards in
     record {
       others = subst (λ (es : List Event). Begins thread (seen_of old.0) es) (sym seen) b.0;
@@ -79,49 +82,57 @@ finds table table' thread index word old new p l =
       word_is = l.word_is;
     }
 
+-- a pass of a plain queue has no tokens
+pub no_tokens : {T : Type 0} {table : TableId} {thread : ℕ} (v : View T) {p : Known} {q : OpenQueue} {shape : Shape} {threads calls : ℕ} {of : TableId} → known_of table thread v ≡ p → p.opened ≡ q.opened
+    → queue_of of (stamped_opening shape threads calls) ≡ q → v.opened.tokens ≡ 0
+no_tokens v pass opened queue = ap (λ (k : Known). k.opened.tokens) pass ∙ ap (λ (o : Opening). o.tokens) opened ∙ sym (ap (λ (q : OpenQueue). q.opened.tokens) queue)
+
 -- after a call
-pub called : (begin : Begin) (answer : Answer) (thread : ℕ) (old new : Me (Unit {0}) View) → IsPass thread old
-    → new.1 ≡ old.1 → Leads (Some begin) old.0 (Answers answer) new.0 → IsPass thread new
-called begin answer thread old new p slots l =
+pub called : {T : Type 0} (begin : Begin) (answer : Answer) (thread : ℕ) (old new : Me (Option T) (View T)) → IsPass thread old
+    → old.0.opened.tokens ≡ 0 → Leads (Some begin) old (Answers answer) new → IsPass thread new
+called begin answer thread old new p none_there l =
     let all = (seen_of old.0 ++ l.between) ++ l.last ∷ [] in
-    let is : new.0 ≡ view_of old.0.opened (part thread all ∷ []) = l.now ∙ alone_with thread old all p in
+    let gifts = gifts_of old.0 ++ l.given in
+    let is : new.0 ≡ view_of old.0.opened (part thread all gifts l.hand ∷ []) = l.now ∙ alone_with thread old all gifts l.hand p in
     record {
-      alone = ap (λ v. v.parts) is ∙ ap (λ es. part thread es ∷ []) (sym (ap seen_of is));
-      held = slots ∙ p.held;
-      idle = at_next (Some begin) old.0 new.0 (Answers answer) l;
-      few = few_same old.0 new.0 (part thread all ∷ []) is p.few;
+      alone = ap (λ v. v.parts) is ∙ (λ i. part thread (sym (ap seen_of is) i) (sym (ap gifts_of is) i) (sym (ap hand_of is) i) ∷ []);
+      held = l.carries ∙ ap (λ (n : ℕ). carrying n l.hand.out l.hand.payload) none_there;
+      idle = at_next (Some begin) old new (Answers answer) l;
+      few = few_same old.0 new.0 (part thread all gifts _ ∷ []) is p.few;
     }
 
 -- after a tick
-pub drawn : (stamp thread : ℕ) (old new : Me (Unit {0}) View) → IsPass thread old → new.1 ≡ old.1 → DrawsStamp old.0 stamp new.0 → IsPass thread new
-drawn stamp thread old new p slots d =
+pub drawn : {T : Type 0} (stamp thread : ℕ) (old new : Me (Option T) (View T)) → IsPass thread old → new.1 ≡ old.1 → DrawsStamp old.0 stamp new.0 → IsPass thread new
+drawn {T} stamp thread old new p slots d =
     let v = old.0 in
     let t = thread_of v in
     let shape = v.opened.shape in
     let all = (seen_of v ++ d.between) ++ event t (Some Tick) ∷ [] in
-    let is : new.0 ≡ view_of v.opened (part thread all ∷ []) = d.afterwards ∙ alone_with thread old all p in
+    let gifts = gifts_of v ++ d.given in
+    let is : new.0 ≡ view_of v.opened (part thread all gifts (hand_of v) ∷ []) = d.afterwards ∙ alone_with thread old all gifts (hand_of v) p in
     let onward : run shape (Some p.idle.here) d.between ≡ Some d.here = sym (run_on shape (Some (opening shape v.opened.threads)) p.idle.here (seen_of v) d.between p.idle.reached) ∙ d.reached in
     let still = still_threads shape p.idle.here d.here d.between onward in
     let there : place_of d.here t ≡ None = same_place shape p.idle.here d.here d.between t d.others onward ∙ p.idle.place_is in
     let size = length-ticked shape d.here in
-    let at : IsAt None (with_seen v all) = record {
+    let at : IsAt None (with_seen v all gifts (hand_of v), new.1) = record {
       here = ticked shape d.here;
       seated = refl;
       reached = after-snoc shape v.opened.threads (seen_of v ++ d.between) d.here (event t (Some Tick)) d.reached ∙ ap world_of d.made;
       within = let w = p.idle.within in omega arith;
       place_is = tick_leaves shape d.here t ∙ there;
+      carries = (p.idle.carries.0, slots ∙ p.idle.carries.1);
     } in
     record {
-      alone = ap (λ v. v.parts) is ∙ ap (λ es. part thread es ∷ []) (sym (ap seen_of is));
+      alone = ap (λ v. v.parts) is ∙ (λ i. part thread (sym (ap seen_of is) i) (sym (ap gifts_of is) i) (sym (ap hand_of is) i) ∷ []);
       held = slots ∙ p.held;
-      idle = subst (IsAt None) (sym d.afterwards) at;
-      few = few_same old.0 new.0 (part thread all ∷ []) is p.few;
+      idle = subst (λ (x : View T). IsAt None (x, new.1)) (sym d.afterwards) at;
+      few = few_same old.0 new.0 (part thread all gifts _ ∷ []) is p.few;
     }
 
 -- and what it drew
-pub draws_known : (stamp thread : ℕ) (old new : Seat (Unit {0}) View) (now : Known) → IsPass thread old.me → known_of old.table_id thread old.me.0 ≡ now → new.table_id ≡ old.table_id
+pub draws_known : {T : Type 0} (stamp thread : ℕ) (old new : Seat (Option T) (View T)) (now : Known) → IsPass thread old.me → known_of old.table_id thread old.me.0 ≡ now → new.table_id ≡ old.table_id
     → DrawsStamp old.me.0 stamp new.me.0 → Draws stamp now (known_of new.table_id thread new.me.0)
-draws_known stamp thread old new now p is table d =
+draws_known {T} stamp thread old new now p is table d =
     let v = old.me.0 in
     let of_pass = subst (λ (t : ℕ). Draws stamp (known_of old.table_id t v) (known_of new.table_id t new.me.0)) (pass_thread thread old.me p) at_thread in
     subst (λ (k : Known). Draws stamp k (known_of new.table_id thread new.me.0)) is of_pass
@@ -134,47 +145,47 @@ draws_known stamp thread old new now p is table d =
       reached = d.reached;
       stamp_is = d.stamp_is;
       made = d.made;
-      same = (table, ap (λ (x : View). x.opened) d.afterwards, refl);
+      same = (table, ap (λ (x : View T). x.opened) d.afterwards, refl);
       new_is = ap seen_of d.afterwards;
     }
 
 -- and what was new to it is one whole run
-pub made : (call : Begin) (answer : Answer) (thread : ℕ) (old new : Seat (Unit {0}) View) (now : Known) → IsPass thread old.me → known_of old.table_id thread old.me.0 ≡ now
+pub made : {T : Type 0} (call : Begin) (answer : Answer) (thread : ℕ) (old new : Seat (Option T) (View T)) (now : Known) → IsPass thread old.me → known_of old.table_id thread old.me.0 ≡ now
     → Runs (Some call) old (Answers answer) new → Makes call answer now (known_of new.table_id thread new.me.0)
 made call answer thread old new now p is runs =
-    let run = whole call old.me.0 new.me.0 answer runs.leads in
+    let run = whole call old.me new.me answer runs.leads in
     let o = old.me.0.opened in
     let of_thread : WholeRun o.shape o.threads thread call answer (seen_of old.me.0) (seen_of new.me.0) =
     subst (λ (t : ℕ). WholeRun o.shape o.threads t call answer (seen_of old.me.0) (seen_of new.me.0)) (pass_thread thread old.me p) run in
     subst (λ (k : Known). Makes call answer k (known_of new.table_id thread new.me.0)) is of_thread
 
 -- after a look with another's parts beside its own, which it then gives back
-pub met : (thread word found : ℕ) (old new : Me (Unit {0}) View) (other both seen : View) → IsPass thread old → new.1 ≡ old.1
+pub met : {T : Type 0} (thread word found : ℕ) (old new : Me (Option T) (View T)) (other both seen : View T) → IsPass thread old → new.1 ≡ old.1
     → both ≡ both_parts old.0 other → Looks word found both seen → new.0 ≡ first_part seen → IsPass thread new
-met thread word found old new other both seen p held is l kept =
-    let parts : both.parts ≡ part thread (seen_of old.0) ∷ other.parts = ap (λ v. v.parts) is ∙ ap (λ (ps : List Part). ps ++ other.parts) p.alone in
-    let b = subst (λ (ps : List Part). AllBegin ps l.all) parts l.begin in
+met {T} thread word found old new other both seen p held is l kept =
+    let parts : both.parts ≡ part thread (seen_of old.0) (gifts_of old.0) (hand_of old.0) ∷ other.parts = ap (λ v. v.parts) is ∙ ap (λ (ps : List (Part T)). ps ++ other.parts) p.alone in
+    let b = subst (λ (ps : List (Part T)). AllBegin ps l.all) parts l.begin in
     let opened : both.opened ≡ old.0.opened = ap (λ v. v.opened) is in
-    passes_on thread old new l.all l.world p
-    (kept ∙ ap first_part l.afterwards ∙ (λ i. view_of (opened i) (part (thread_in (parts i)) l.all ∷ [])))
+    passes_on thread old new l.all l.gifts l.world p
+    (kept ∙ ap first_part l.afterwards ∙ (λ i. view_of (opened i) (part (thread_in (parts i)) l.all l.gifts (hand_in (parts i)) ∷ [])))
     (held ∙ p.held) b.0 (ap (λ (o : Opening). world_after o l.all) (sym opened) ∙ l.reached)
 
 -- the parts that were put behind a pass's own for a look come back as they were
-pub returned : (thread : ℕ) (old : Me (Unit {0}) View) (lent both seen rest back : View) (all : List Event) → IsPass thread old → both ≡ both_parts old.0 lent → seen ≡ with_seen both all → rest ≡ other_parts seen
+pub returned : {T : Type 0} (thread : ℕ) (old : Me (Option T) (View T)) (lent both seen rest back : View T) (all : List Event) (gifts : Gifts T) (hand : Hand T) → IsPass thread old → both ≡ both_parts old.0 lent → seen ≡ with_seen both all gifts hand → rest ≡ other_parts seen
     → back ≡ both_parts (no_part lent) rest → back ≡ lent
-returned thread old lent both seen rest back all p both_is seen_is rest_is back_is =
-    let behind : both.parts ≡ part thread (seen_of old.0) ∷ lent.parts = ap (λ (v : View). v.parts) both_is ∙ ap (λ (ps : List Part). ps ++ lent.parts) p.alone in
-    let parts : rest.parts ≡ lent.parts = ap (λ (v : View). v.parts) (rest_is ∙ ap other_parts seen_is) ∙ ap more_in behind in
-    back_is ∙ ap (λ (ps : List Part). view_of lent.opened ps) parts
+returned {T} thread old lent both seen rest back all gifts hand p both_is seen_is rest_is back_is =
+    let behind : both.parts ≡ part thread (seen_of old.0) (gifts_of old.0) (hand_of old.0) ∷ lent.parts = ap (λ (v : View T). v.parts) both_is ∙ ap (λ (ps : List (Part T)). ps ++ lent.parts) p.alone in
+    let parts : rest.parts ≡ lent.parts = ap (λ (v : View T). v.parts) (rest_is ∙ ap other_parts seen_is) ∙ ap more_in behind in
+    back_is ∙ ap (λ (ps : List (Part T)). view_of lent.opened ps) parts
 
 -- a look at the schedule with the parts of two passes: each has seen a beginning of it with all its own events
-pub both_begin : (whole both : View) (thread other : ℕ) (old : Me (Unit {0}) View) (mine : Me (Unit {0}) View) (index word : ℕ) (seen : View)
+pub both_begin : {T : Type 0} (whole both : View T) (thread other : ℕ) (old : Me (Option T) (View T)) (mine : Me (Option T) (View T)) (index word : ℕ) (seen : View T)
     → IsPass thread old → IsPass other mine → whole ≡ old.0 → both ≡ both_parts mine.0 whole → (l : Looks index word both seen)
     → Begins thread (seen_of old.0) l.all × Begins other (seen_of mine.0) l.all
-both_begin whole both thread other old mine index word seen p q is put l =
-    let parts : both.parts ≡ part other (seen_of mine.0) ∷ (part thread (seen_of old.0) ∷ []) =
-    ap (λ (v : View). v.parts) put ∙ (λ i. q.alone i ++ (ap (λ (v : View). v.parts) is ∙ p.alone) i) in
-    let b = subst (λ (ps : List Part). AllBegin ps l.all) parts l.begin in
+both_begin {T} whole both thread other old mine index word seen p q is put l =
+    let parts : both.parts ≡ part other (seen_of mine.0) (gifts_of mine.0) (hand_of mine.0) ∷ (part thread (seen_of old.0) (gifts_of old.0) (hand_of old.0) ∷ []) =
+    ap (λ (v : View T). v.parts) put ∙ (λ i. q.alone i ++ (ap (λ (v : View T). v.parts) is ∙ p.alone) i) in
+    let b = subst (λ (ps : List (Part T)). AllBegin ps l.all) parts l.begin in
     (b.1.0, b.0)
 
 -- a schedule that one pass had seen, and that begins with what the other has seen, has no own event of the other beyond
@@ -209,5 +220,5 @@ keeps_promise o seen here few reached = record {
 }
 
 -- so does what a pass has seen
-pub promised : (thread : ℕ) (me : Me (Unit {0}) View) → IsPass thread me → KeepsPromise me.0.opened (seen_of me.0)
+pub promised : {T : Type 0} (thread : ℕ) (me : Me (Option T) (View T)) → IsPass thread me → KeepsPromise me.0.opened (seen_of me.0)
 promised thread me p = keeps_promise me.0.opened (seen_of me.0) p.idle.here p.few.0 p.idle.reached

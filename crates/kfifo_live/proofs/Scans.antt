@@ -1,5 +1,5 @@
 -- The slots of a segment that a scan looks at, in the two rows in which they stand side by side.
-use Rattle.std.proofs.Common.{◌≡◌, ◌≢◌, ℕ, ◌+◌, ◌-◌, ◌*◌, ◌%◌, ◌^◌, ◌<◌, ◌≤◌, ap, subst, ◌∙◌, sym, refl, arith, Bool, true, false, cond, eq-eqb, ne_eqb}
+use Rattle.std.proofs.Common.{◌≡◌, ◌≢◌, ℕ, ◌+◌, ◌-◌, ◌*◌, ◌%◌, ◌^◌, ◌<◌, ◌≤◌, ap, subst, ◌∙◌, sym, refl, arith, Option, Bool, true, false, cond, eq-eqb, ne_eqb}
 use Rattle.std.specs.Prelude.{◌==◌}
 use Rattle.std.proofs.lemmas.Bool.Decides.{nat_tests}
 use Rattle.std.proofs.Math.Nat.{mod-eq_of_lt, add-mod_left, mul-le-mul_right}
@@ -114,8 +114,8 @@ pub row_left : {shape : Shape} {stops : ℕ → Bool} {first count : ℕ} → (r
 row_left {shape} {stops} {first} {count} row less = ap (λ b. cond b (row.scan.leads Nothing) (Goes (row.scan.looking (row.offset + count)))) (ne_eqb (row.offset + count) row.limit (λ same. omega arith))
 
 -- before the first slot of a row the scan stands at it
-pub onward_first : {S : Type 0} {ring : Ring} {stops : ℕ → Bool} {seat : Seat S View} {first count : ℕ} → (row : Row ring.shape.now stops first count) → Stands ring seat (row.scan.looking row.offset)
+pub onward_first : {T : Type 0} {ring : Ring T} {stops : ℕ → Bool} {seat : Seat (Option T) (View T)} {first count : ℕ} → (row : Row ring.shape.now stops first count) → Stands ring seat (row.scan.looking row.offset)
     → Onward ring seat (row.scan.looking (row.offset + (first - first))) seat
-onward_first {S} {ring} {stops} {seat} {first} row stands =
+onward_first {T} {ring} {stops} {seat} {first} row stands =
     let e : row.offset ≡ row.offset + (first - first) = omega arith in
     onward_here (subst (λ (n : ℕ). Stands ring seat (row.scan.looking n)) e stands)

@@ -2,6 +2,7 @@
 use Rattle.std.proofs.Common.{◌≡◌, ℕ, ◌<◌, List, [], ◌∷◌, ◌++◌, length, Option, Some, None, Ok, refl, sym, ap, ◌∙◌, subst, append_assoc, arith}
 use Rattle.std.proofs.lemmas.List.{length-set}
 use Rattle.std.proofs.lemmas.Grind.{get_or-set_at}
+use Rattle.atomic_table.specs.Table.{Me}
 use Rattle.atomic_table.specs.declared.shared.Seat.{Seat}
 use Rattle.kfifo_words.specs.declared.shape.Shape.{Shape}
 use Rattle.kfifo_model.specs.declared.calls.Answer.{Answer}
@@ -19,7 +20,8 @@ use Rattle.kfifo_machine.proofs.Places.{found_by, in_table}
 use Rattle.kfifo_machine.proofs.Schedules.{after-snoc, own-append, run_on, same_place, steps_on}
 use Rattle.kfifo_machine.proofs.Sound.{sound, place_is}
 use Rattle.kfifo_live.specs.declared.view.View.{View}
-use Rattle.kfifo_live.specs.Schedule.{world_after, thread_of, seen_of, with_seen}
+use Rattle.kfifo_live.specs.Hands.{gift, Carries}
+use Rattle.kfifo_live.specs.Schedule.{world_after, thread_of, seen_of, gifts_of, with_seen}
 use Rattle.kfifo_live.specs.declared.ring.Ring.{Ring}
 use Rattle.kfifo_live.specs.Step.{IsAt, Steps, IsOwnRun, Leads, IsSeatOf, Rests, Stands, Awaits, Runs, Comes, Stepped, Onward}
 use Rattle.kfifo_live.proofs.Keeps.{own_same}
@@ -50,9 +52,10 @@ unfolding moved
 length-moved shape world thread running = length-set world.places thread (place_after (advance shape running (found shape world running)))
 
 -- a step is made from where its thread stood
-steps_from : (begin : Option Begin) (place : Option Running) (running : Running) (v : View) (word : ℕ) (w : View) → IsAt place v → (s : Steps begin v word w)
-    → going v.opened.shape place begin ≡ Some running → s.from ≡ running
-steps_from begin place running v word w stood s from =
+steps_from : {T : Type 0} (begin : Option Begin) (place : Option Running) (running : Running) (me : Me (Option T) (View T)) (word : ℕ) (new : Me (Option T) (View T)) → IsAt place me → (s : Steps begin me word new)
+    → going me.0.opened.shape place begin ≡ Some running → s.from ≡ running
+steps_from begin place running me word new stood s from =
+    let v = me.0 in
     let t = thread_of v in
     let onward : run v.opened.shape (Some stood.here) s.between ≡ Some s.here = sym (run_on v.opened.shape (Some (opening v.opened.shape v.opened.threads)) stood.here (seen_of v) s.between stood.reached) ∙ s.reached in
     let there : place_of s.here t ≡ place = same_place v.opened.shape stood.here s.here s.between t s.others onward ∙ stood.place_is in
@@ -62,21 +65,25 @@ steps_from begin place running v word w stood s from =
     Some-injective x y e = cc
 
 -- one step
-pub one_step : (begin : Option Begin) (place : Option Running) (running : Running) (v : View) (word : ℕ) (w : View) (next : Next) → IsAt place v → Steps begin v word w
-    → going v.opened.shape place begin ≡ Some running → advance v.opened.shape running word ≡ next → Leads begin v next w
-one_step begin place running v word w next stood s from is =
+pub one_step : {T : Type 0} (begin : Option Begin) (place : Option Running) (running : Running) (me : Me (Option T) (View T)) (word : ℕ) (new : Me (Option T) (View T)) (next : Next) → IsAt place me → Steps begin me word new
+    → going me.0.opened.shape place begin ≡ Some running → advance me.0.opened.shape running word ≡ next → Leads begin me next new
+one_step begin place running me word new next stood s from is =
+    let v = me.0 in
     let t = thread_of v in
     let shape = v.opened.shape in
     let e = event t begin in
-    let same : s.from ≡ running = steps_from begin place running v word w stood s from in
+    let same : s.from ≡ running = steps_from begin place running me word new stood s from in
     let come : advance shape s.from (found shape s.here s.from) ≡ next = ap (λ n. advance shape s.from n) (sym s.word_is) ∙ ap (λ (r : Running). advance shape r word) same ∙ is in
     let own_are : own t (s.between ++ e ∷ []) ≡ e ∷ [] = own-append t s.between (e ∷ []) ∙ (λ i. s.others i ++ own_same t begin i) in
     record {
       between = s.between;
       last = e;
+      given = s.given ++ gift begin me.1;
       before = s.here;
       here = moved shape s.here t s.from;
-      now = s.afterwards;
+      hand = s.hand;
+      now = s.afterwards ∙ ap (λ g. with_seen v ((seen_of v ++ s.between) ++ e ∷ []) g s.hand) (append_assoc (gifts_of v) s.given (gift begin me.1));
+      carries = s.carries;
       last_own = refl;
       own_run = subst (λ (es : List Event). IsOwnRun t begin es) (sym own_are) (one_own t begin);
       reached = s.reached;
@@ -86,15 +93,16 @@ one_step begin place running v word w next stood s from is =
     }
 
 -- the world after the steps
-reached_here : (begin : Option Begin) (v : View) (next : Next) (w : View) → (l : Leads begin v next w) → world_after v.opened ((seen_of v ++ l.between) ++ l.last ∷ []) ≡ Some l.here
-reached_here begin v next w l = after-snoc v.opened.shape v.opened.threads (seen_of v ++ l.between) l.before l.last l.reached ∙ ap world_of l.made
+reached_here : {T : Type 0} (begin : Option Begin) (v : Me (Option T) (View T)) (next : Next) (w : Me (Option T) (View T)) → (l : Leads begin v next w) → world_after v.0.opened ((seen_of v.0 ++ l.between) ++ l.last ∷ []) ≡ Some l.here
+reached_here begin v next w l = after-snoc v.0.opened.shape v.0.opened.threads (seen_of v.0 ++ l.between) l.before l.last l.reached ∙ ap world_of l.made
 
 -- steps, and then more of the same call
-pub more_steps : (begin : Option Begin) (v w x : View) (running : Running) (next : Next) → Leads begin v (Goes running) w → Leads None w next x → Leads begin v next x
-more_steps begin v w x running next a b = from_there (subst (λ (y : View). Leads None y next x) a.now b)
+pub more_steps : {T : Type 0} (begin : Option Begin) (old mid new : Me (Option T) (View T)) (running : Running) (next : Next) → Leads begin old (Goes running) mid → Leads None mid next new → Leads begin old next new
+more_steps {T} begin old mid new running next a b = from_there (subst (λ (y : View T). Leads None (y, mid.1) next new) a.now b)
   where
-    from_there : Leads None (with_seen v ((seen_of v ++ a.between) ++ a.last ∷ [])) next x → Leads begin v next x
+    from_there : Leads None (with_seen old.0 ((seen_of old.0 ++ a.between) ++ a.last ∷ []) (gifts_of old.0 ++ a.given) a.hand, mid.1) next new → Leads begin old next new
     from_there b =
+        let v = old.0 in
         let t = thread_of v in
         let between = (a.between ++ a.last ∷ []) ++ b.between in
         let upto : ((seen_of v ++ a.between) ++ a.last ∷ []) ++ b.between ≡ seen_of v ++ between =
@@ -104,9 +112,12 @@ more_steps begin v w x running next a b = from_there (subst (λ (y : View). Lead
         record {
           between = between;
           last = b.last;
+          given = a.given ++ b.given;
           before = b.before;
           here = b.here;
-          now = b.now ∙ ap (λ es. with_seen v (es ++ b.last ∷ [])) upto;
+          hand = b.hand;
+          now = b.now ∙ (λ i. with_seen v (upto i ++ b.last ∷ []) (append_assoc (gifts_of v) a.given b.given i) b.hand);
+          carries = b.carries;
           last_own = b.last_own;
           own_run = subst (λ (es : List Event). IsOwnRun t begin es) (sym own_are) (IsOwnRun-append t begin _ _ a.own_run b.own_run);
           reached = ap (λ es. world_after v.opened es) (sym upto) ∙ b.reached;
@@ -116,19 +127,25 @@ more_steps begin v w x running next a b = from_there (subst (λ (y : View). Lead
         }
 
 -- where the steps of a call have led it, its thread is
-pub at_next : (begin : Option Begin) (v w : View) (next : Next) → Leads begin v next w → IsAt (place_after next) w
-at_next begin v w next l =
-    let there : IsAt (place_after next) (with_seen v ((seen_of v ++ l.between) ++ l.last ∷ [])) = record {
+pub at_next : {T : Type 0} (begin : Option Begin) (old new : Me (Option T) (View T)) (next : Next) → Leads begin old next new → IsAt (place_after next) new
+at_next {T} begin old new next l =
+    let v = old.0 in
+    let there : IsAt (place_after next) (with_seen v ((seen_of v ++ l.between) ++ l.last ∷ []) (gifts_of v ++ l.given) l.hand, new.1) = record {
       here = l.here;
       seated = refl;
-      reached = reached_here begin v next w l;
+      reached = reached_here begin old next new l;
       within = l.within;
       place_is = l.place;
+      carries = carries_at next;
     } in
-    subst (IsAt (place_after next)) (sym l.now) there
+    subst (λ (x : View T). IsAt (place_after next) (x, new.1)) (sym l.now) there
+  where
+    carries_at : (next : Next) → Carries (place_after next) old.0.opened.tokens l.hand new.1
+    carries_at (Goes running) = l.carries
+    carries_at (Answers answer) = (l.hand.payload, l.carries)
 
 -- and from the first step on they are a whole run
-pub whole : (call : Begin) (v w : View) (answer : Answer) → Leads (Some call) v (Answers answer) w → WholeRun v.opened.shape v.opened.threads (thread_of v) call answer (seen_of v) (seen_of w)
+pub whole : {T : Type 0} (call : Begin) (v w : Me (Option T) (View T)) (answer : Answer) → Leads (Some call) v (Answers answer) w → WholeRun v.0.opened.shape v.0.opened.threads (thread_of v.0) call answer (seen_of v.0) (seen_of w.0)
 whole call v w answer l = record {
   between = l.between;
   last = l.last;
@@ -142,98 +159,96 @@ whole call v w answer l = record {
 }
 
 -- a place at which a thread is, is one
-is_place : (place : Running) (v : View) → IsAt (Some place) v → IsPlace v.opened.shape place
-is_place place v a = place_is v.opened.shape a.here (thread_of v) place (sound v.opened.shape v.opened.threads (seen_of v) a.here a.reached) a.place_is
+is_place : {T : Type 0} (place : Running) (v : Me (Option T) (View T)) → IsAt (Some place) v → IsPlace v.0.opened.shape place
+is_place place v a = place_is v.0.opened.shape a.here (thread_of v.0) place (sound v.0.opened.shape v.0.opened.threads (seen_of v.0) a.here a.reached) a.place_is
 
 -- what a step finds in a sound world
-found_sound : (begin : Option Begin) (v : View) (word : ℕ) (w : View) → (s : Steps begin v word w) → IsFoundBy v.opened.shape s.from word
+found_sound : {T : Type 0} (begin : Option Begin) (me : Me (Option T) (View T)) (word : ℕ) (w : Me (Option T) (View T)) → (s : Steps begin me word w) → IsFoundBy me.0.opened.shape s.from word
 unfolding found word_at
-found_sound begin v word w s =
+found_sound begin me word w s =
+    let v = me.0 in
     let here = sound v.opened.shape v.opened.threads (seen_of v ++ s.between) s.here s.reached in
     subst (λ (n : ℕ). IsFoundBy v.opened.shape s.from n) (sym s.word_is) (found_by v.opened.shape s.here.words s.here.places s.from here)
 
 -- steps of a call, and then more of it
-pub runs_on : {S : Type 0} {begin : Option Begin} {old mid new : Seat S View} {place : Running} {next : Next} → Runs begin old (Goes place) mid → Comes mid next new → Runs begin old next new
-runs_on {S} {begin} {old} {mid} {new} {place} {next} a b = record {
+pub runs_on : {T : Type 0} {begin : Option Begin} {old mid new : Seat (Option T) (View T)} {place : Running} {next : Next} → Runs begin old (Goes place) mid → Comes mid next new → Runs begin old next new
+runs_on {T} {begin} {old} {mid} {new} {place} {next} a b = record {
   same_table = b.same_table ∙ a.same_table;
-  same_slots = b.same_slots ∙ a.same_slots;
-  leads = more_steps begin old.me.0 mid.me.0 new.me.0 place next a.leads b.leads;
+  leads = more_steps begin old.me mid.me new.me place next a.leads b.leads;
 }
 
-pub comes_as : {S : Type 0} {begin : Option Begin} {old new : Seat S View} {next later : Next} → Runs begin old next new → next ≡ later → Runs begin old later new
-comes_as {S} {begin} {old} {new} runs is = subst (λ (n : Next). Runs begin old n new) is runs
+pub comes_as : {T : Type 0} {begin : Option Begin} {old new : Seat (Option T) (View T)} {next later : Next} → Runs begin old next new → next ≡ later → Runs begin old later new
+comes_as {T} {begin} {old} {new} runs is = subst (λ (n : Next). Runs begin old n new) is runs
 
-module _ {S : Type 0} {ring : Ring} where
-  seat_on : {old new : Seat S View} (begin : Option Begin) (next : Next) → IsSeatOf ring old → Runs begin old next new → IsSeatOf ring new
-  seat_on begin next of runs = record { table = runs.same_table ∙ of.table; size = of.size; sizes = ap (λ (v : View). v.opened.shape) runs.leads.now ∙ of.sizes }
+module _ {T : Type 0} {ring : Ring T} where
+  seat_on : {old new : Seat (Option T) (View T)} (begin : Option Begin) (next : Next) → IsSeatOf ring old → Runs begin old next new → IsSeatOf ring new
+  seat_on begin next of runs = record { table = runs.same_table ∙ of.table; size = of.size; sizes = ap (λ (v : View T). v.opened.shape) runs.leads.now ∙ of.sizes }
 
   -- where steps of a call led the thread, it stands
-  pub stands_on : {begin : Option Begin} {old new : Seat S View} {place : Running} → IsSeatOf ring old → Runs begin old (Goes place) new → Stands ring new place
+  pub stands_on : {begin : Option Begin} {old new : Seat (Option T) (View T)} {place : Running} → IsSeatOf ring old → Runs begin old (Goes place) new → Stands ring new place
   stands_on {begin} {old} {new} {place} of runs =
-      let there = at_next begin old.me.0 new.me.0 (Goes place) runs.leads in
+      let there = at_next begin old.me new.me (Goes place) runs.leads in
       let seat = seat_on begin (Goes place) of runs in
-      record { of = seat; at = there; is_place = subst (λ (s : Shape). IsPlace s place) seat.sizes (is_place place new.me.0 there) }
+      record { of = seat; at = there; is_place = subst (λ (s : Shape). IsPlace s place) seat.sizes (is_place place new.me there) }
 
   -- what the table tells of a step
-  pub stepped : {old new : Seat S View} {found word : ℕ} → new.table_id ≡ old.table_id → Steps None old.me.0 found new.me.0 → new.me.1 ≡ old.me.1 → word ≡ found → Stepped ring old word new
-  stepped {old} {new} {found} {word} table steps slots is =
-      let step : Steps None old.me.0 word new.me.0 = subst (λ (n : ℕ). Steps None old.me.0 n new.me.0) (sym is) steps in
+  pub stepped : {old new : Seat (Option T) (View T)} {found word : ℕ} → new.table_id ≡ old.table_id → Steps None old.me found new.me → word ≡ found → Stepped ring old word new
+  stepped {old} {new} {found} {word} table steps is =
+      let step : Steps None old.me word new.me = subst (λ (n : ℕ). Steps None old.me n new.me) (sym is) steps in
       record {
         comes = λ place stands. record {
           same_table = table;
-          same_slots = slots;
-          leads = one_step None (Some place) place old.me.0 word new.me.0 _ stands.at step refl (ap (λ (x : Shape). advance x place word) stands.of.sizes);
+          leads = one_step None (Some place) place old.me word new.me _ stands.at step refl (ap (λ (x : Shape). advance x place word) stands.of.sizes);
         };
         sound = λ place stands.
             subst (λ (x : Shape × Running). IsFoundBy x.0 x.1 word)
-            (λ i. (stands.of.sizes i, steps_from None (Some place) place old.me.0 word new.me.0 stands.at step refl i))
-            (found_sound None old.me.0 word new.me.0 step);
+            (λ i. (stands.of.sizes i, steps_from None (Some place) place old.me word new.me stands.at step refl i))
+            (found_sound None old.me word new.me step);
       }
 
   -- and of the first step of a call
-  pub begun : {old new : Seat S View} {picked begin : Begin} {found word : ℕ} → Rests ring old → picked ≡ begin → new.table_id ≡ old.table_id → Steps (Some picked) old.me.0 found new.me.0 → new.me.1 ≡ old.me.1 → word ≡ found
+  pub begun : {old new : Seat (Option T) (View T)} {picked begin : Begin} {found word : ℕ} → Rests ring (Some begin) old → picked ≡ begin → new.table_id ≡ old.table_id → Steps (Some picked) old.me found new.me → word ≡ found
       → (place : Running) → going ring.shape.now None (Some begin) ≡ Some place → Runs (Some begin) old (advance ring.shape.now place word) new
-  begun {old} {new} {picked} {begin} {found} {word} rests same table steps slots is place from =
-      let step : Steps (Some begin) old.me.0 word new.me.0 = subst (λ (x : Begin × ℕ). Steps (Some x.0) old.me.0 x.1 new.me.0) (λ i. (same i, sym is i)) steps in
+  begun {old} {new} {picked} {begin} {found} {word} rests same table steps is place from =
+      let step : Steps (Some begin) old.me word new.me = subst (λ (x : Begin × ℕ). Steps (Some x.0) old.me x.1 new.me) (λ i. (same i, sym is i)) steps in
       let from' = ap (λ (x : Shape). going x None (Some begin)) rests.of.sizes ∙ from in
       record {
         same_table = table;
-        same_slots = slots;
-        leads = one_step (Some begin) None place old.me.0 word new.me.0 _ rests.idle step from' (ap (λ (x : Shape). advance x place word) rests.of.sizes);
+        leads = one_step (Some begin) None place old.me word new.me _ rests.idle step from' (ap (λ (x : Shape). advance x place word) rests.of.sizes);
       }
 
   -- the step that a place asks for
-  pub awaits : {seat : Seat S View} {place : Running} {next : Access} → Stands ring seat place → access ring.shape.now place ≡ next → Awaits ring seat next
+  pub awaits : {seat : Seat (Option T) (View T)} {place : Running} {next : Access} → Stands ring seat place → access ring.shape.now place ≡ next → Awaits ring seat next
   awaits {seat} {place} stands is = record { place = place; stands = stands; next_is = is }
 
   -- the step from where the thread stood, and where it leads
-  pub comes : {old new : Seat S View} {place : Running} {word : ℕ} {next : Next} → Stands ring old place → Stepped ring old word new → advance ring.shape.now place word ≡ next → Comes old next new
+  pub comes : {old new : Seat (Option T) (View T)} {place : Running} {word : ℕ} {next : Next} → Stands ring old place → Stepped ring old word new → advance ring.shape.now place word ≡ next → Comes old next new
   comes {old} {new} {place} stands stepped is = subst (λ (n : Next). Comes old n new) is (stepped.comes place stands)
 
-  pub goes_to : {old new : Seat S View} {place later : Running} {word : ℕ} → Stands ring old place → Stepped ring old word new → advance ring.shape.now place word ≡ Goes later → Stands ring new later
+  pub goes_to : {old new : Seat (Option T) (View T)} {place later : Running} {word : ℕ} → Stands ring old place → Stepped ring old word new → advance ring.shape.now place word ≡ Goes later → Stands ring new later
   goes_to stands stepped is = stands_on stands.of (comes stands stepped is)
 
   -- and what follows it
-  pub comes_by : {old mid new : Seat S View} {place : Running} {word : ℕ} {next : Next} (later : Running) → Stands ring old place → Stepped ring old word mid → advance ring.shape.now place word ≡ Goes later
+  pub comes_by : {old mid new : Seat (Option T) (View T)} {place : Running} {word : ℕ} {next : Next} (later : Running) → Stands ring old place → Stepped ring old word mid → advance ring.shape.now place word ≡ Goes later
       → Comes mid next new → Comes old next new
   comes_by later stands stepped is more = runs_on (comes stands stepped is) more
 
   -- where the thread stands, it has come from there
-  pub onward_here : {seat : Seat S View} {place : Running} → Stands ring seat place → Onward ring seat place seat
+  pub onward_here : {seat : Seat (Option T) (View T)} {place : Running} → Stands ring seat place → Onward ring seat place seat
   onward_here stands = record { stands = stands; so_far = λ next later more. more }
 
   -- and a step leads on
-  pub onward_step : {old mid new : Seat S View} {place later : Running} {word : ℕ} → Onward ring old place mid → Stepped ring mid word new → advance ring.shape.now place word ≡ Goes later → Onward ring old later new
+  pub onward_step : {old mid new : Seat (Option T) (View T)} {place later : Running} {word : ℕ} → Onward ring old place mid → Stepped ring mid word new → advance ring.shape.now place word ≡ Goes later → Onward ring old later new
   onward_step on stepped is = record {
     stands = goes_to on.stands stepped is;
     so_far = λ next last more. on.so_far next last (runs_on (comes on.stands stepped is) more);
   }
 
-  pub onward_comes : {old mid new : Seat S View} {place : Running} {word : ℕ} {next : Next} → Onward ring old place mid → Stepped ring mid word new → advance ring.shape.now place word ≡ next → Comes old next new
+  pub onward_comes : {old mid new : Seat (Option T) (View T)} {place : Running} {word : ℕ} {next : Next} → Onward ring old place mid → Stepped ring mid word new → advance ring.shape.now place word ≡ next → Comes old next new
   onward_comes {old} {mid} {new} {place} {word} {next} on stepped is = on.so_far next new (comes on.stands stepped is)
 
   -- the next step's word is one of the table
-  pub within_table : {seat : Seat S View} {next : Access} → (a : Awaits ring seat next) → accessed next < ring.words.now.table_id.words
+  pub within_table : {seat : Seat (Option T) (View T)} {next : Access} → (a : Awaits ring seat next) → accessed next < ring.words.now.table_id.words
   within_table {seat} {next} a =
       let below = in_table ring.shape.now a.place a.stands.is_place in
       let same = ap accessed a.next_is in

@@ -1,3 +1,4 @@
+pub mod Hands
 pub mod Schedule
 pub mod Step
 pub mod Scans

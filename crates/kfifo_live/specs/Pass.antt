@@ -1,5 +1,5 @@
 -- A queue and its passes, as callers see them.
-use Rattle.std.specs.Prelude.{◌<◌, ◌≡◌, ℕ, zero, suc, List, [], ◌∷◌, Some, None, ◌+◌, ◌++◌, length, true, ◌==◌}
+use Rattle.std.specs.Prelude.{◌<◌, ◌≡◌, ℕ, zero, suc, List, [], ◌∷◌, Option, Some, None, ◌+◌, ◌++◌, length, true, ◌==◌}
 use Rattle.std.specs.List.{list_any}
 use Rattle.atomic_table.specs.Table.{Me}
 use Rattle.atomic_table.specs.Seated.{TableId}
@@ -8,7 +8,7 @@ use Rattle.kfifo_machine.specs.Machine.{World, word_at}
 use Rattle.kfifo_machine.specs.Runs.{Begins}
 use Rattle.kfifo_live.specs.declared.view.Opening.{Opening}
 use Rattle.kfifo_live.specs.declared.view.View.{View}
-use Rattle.kfifo_live.specs.Schedule.{IsSmall, part, world_after, seen_of, AllBegin}
+use Rattle.kfifo_live.specs.Schedule.{IsSmall, part, world_after, seen_of, gifts_of, hand_of, AllBegin}
 use Rattle.kfifo_live.specs.Left.{items_left}
 use Rattle.kfifo_live.specs.Promise.{KeepsPromise}
 use Rattle.kfifo_live.specs.Balance.{times, puts, undos, takes}
@@ -29,15 +29,15 @@ pub record Known : Type 0 where
 abbrev pub queue_of : TableId → Opening → OpenQueue
 queue_of table o = record { table = table; opened = o }
 
-abbrev pub known_of : TableId → ℕ → View → Known
+abbrev pub known_of : {T : Type 0} → TableId → ℕ → View T → Known
 known_of table thread v = record { table = table; opened = v.opened; thread = thread; seen = seen_of v }
 
 -- what is always so of a pass: it acts for its thread alone, which is in no call, its seat holds no slot, and its queue was
 -- opened for few threads and stamped calls
-pub record IsPass (thread : ℕ) (me : Me (Unit {0}) View) : Type 0 where
-  pub alone : me.0.parts ≡ part thread (seen_of me.0) ∷ []
+pub record IsPass {T : Type 0} (thread : ℕ) (me : Me (Option T) (View T)) : Type 0 where
+  pub alone : me.0.parts ≡ part thread (seen_of me.0) (gifts_of me.0) (hand_of me.0) ∷ []
   pub held : me.1 ≡ []
-  pub idle : IsAt None me.0
+  pub idle : IsAt None me
   pub few : IsSmall me.0.opened
 
 -- after the empty schedule each word of the opening is 0
@@ -84,7 +84,7 @@ pub record IsComplete (threads : ℕ) (ps : List Known) : Type 0 where
   pub each : (thread : ℕ) → thread < threads → list_any (λ p. p.thread == thread) ps ≡ true
 
 -- the view w has the parts of v, and what was seen by these passes: a schedule which all parts begin, they have all seen
-pub record IsGathered (v : View) (ps : List Known) (w : View) : Type 0 where
+pub record IsGathered {T : Type 0} (v : View T) (ps : List Known) (w : View T) : Type 0 where
   pub opened : w.opened ≡ v.opened
   pub all_seen : (all : List Event) → AllBegin w.parts all → AllBegin v.parts all × AllSeen ps all
 

@@ -1,30 +1,35 @@
 -- The one schedule of a running queue, and what each seat of its table has seen of it.
-use Rattle.std.specs.Prelude.{◌≡◌, ℕ, zero, suc, ◌*◌, ◌≤◌, Bool, true, false, List, [], ◌∷◌, Option, Some, take, drop, length, filter, ◌++◌}
+use Rattle.std.specs.Prelude.{◌≡◌, ℕ, zero, suc, ◌+◌, ◌*◌, ◌<◌, ◌≤◌, Bool, true, false, List, [], ◌∷◌, Option, Some, None, take, drop, length, filter, ◌++◌}
 use Rattle.std.proofs.Common.{lit<, lit≤}
 use mathlib.Core.Option.{some}
 use lib.ListN.{get_elem?}
 use Rattle.kfifo_words.specs.declared.shape.Shape.{Shape}
+use Rattle.kfifo_words.specs.Ring.{clock_at}
 use Rattle.kfifo_machine.specs.declared.event.Begin.{Begin}
 use Rattle.kfifo_machine.specs.declared.event.Begin.TheVariants.{Tick}
 use Rattle.kfifo_machine.specs.declared.event.Event.{Event}
-use Rattle.kfifo_machine.specs.Machine.{World, after}
+use Rattle.kfifo_machine.specs.declared.place.Running.{Running}
+use Rattle.kfifo_machine.specs.Machine.{World, after, word_at, place_of}
 use Rattle.kfifo_machine.specs.Runs.{Begins, own}
 use Rattle.kfifo_live.specs.declared.view.Opening.{Opening}
+use Rattle.kfifo_live.specs.declared.view.Hand.{Hand}
 use Rattle.kfifo_live.specs.declared.view.Part.{Part}
 use Rattle.kfifo_live.specs.declared.view.View.{View}
+use Rattle.kfifo_live.specs.Hands.{Gifts, Homes, Where, HandFits, SlotsFit}
 
 -- the opening of a stamped queue, and that of a plain one, in which no call is stamped
 abbrev pub stamped_opening : Shape → ℕ → ℕ → Opening
-stamped_opening shape threads calls = record { shape = shape; threads = threads; calls = calls }
+stamped_opening shape threads calls = record { shape = shape; threads = threads; calls = calls; tokens = 0 }
 
 abbrev pub opening : Shape → ℕ → Opening
 opening shape threads = stamped_opening shape threads 0
 
-abbrev pub part : ℕ → List Event → Part
-part thread seen = record { thread = thread; seen = seen }
+module _ {T : Type 0} where
+  abbrev pub part : ℕ → List Event → Gifts T → Hand T → Part T
+  part thread seen gifts hand = record { thread = thread; seen = seen; gifts = gifts; hand = hand }
 
-abbrev pub view_of : Opening → List Part → View
-view_of o parts = record { opened = o; parts = parts }
+  abbrev pub view_of : Opening → List (Part T) → View T
+  view_of o parts = record { opened = o; parts = parts }
 
 -- the world after a schedule of an opening
 abbrev pub world_after : Opening → List Event → Option World
@@ -46,74 +51,123 @@ ticks events = length (filter (λ e. begins_tick e.begin) events)
 abbrev pub FewTicks : Opening → List Event → Type 0
 FewTicks o all = (thread : ℕ) → ticks (own thread all) ≤ 2 * o.calls
 
--- threads first, first + 1, .. that have seen nothing
-abbrev pub fresh : ℕ → ℕ → List Part
-fresh first zero = []
-fresh first (suc count) = part first [] ∷ fresh (suc first) count
+-- first, first + 1, ..
+abbrev pub count_up : ℕ → ℕ → List ℕ
+count_up first zero = []
+count_up first (suc count) = first ∷ count_up (suc first) count
 
--- the seat of an opening may act for every thread
-abbrev pub first_view : Opening → View
-first_view o = view_of o (fresh 0 o.threads)
+module _ {T : Type 0} where
+  -- what a thread holds at the opening, with so many tokens a thread
+  abbrev pub first_hand : ℕ → ℕ → Hand T
+  first_hand tokens thread = record { at_home = count_up (thread * tokens + 1) tokens; out = 0; payload = None }
 
--- what each part has seen is a beginning of the schedule, which has no own event of it after that beginning
-abbrev pub AllBegin : List Part → List Event → Type 0
-AllBegin [] all = Unit {0}
-AllBegin (p ∷ ps) all = Begins p.thread p.seen all × AllBegin ps all
+  -- threads first, first + 1, .. that have seen nothing
+  abbrev pub fresh : ℕ → ℕ → ℕ → List (Part T)
+  fresh tokens first zero = []
+  fresh tokens first (suc count) = part first [] [] (first_hand tokens first) ∷ fresh tokens (suc first) count
 
--- each thread is acted for by one seat, at one place of its parts
-abbrev pub Owns : (ℕ → ℕ × ℕ) → ℕ → ℕ → List Part → Type 0
-Owns owner seat at [] = Unit {0}
-Owns owner seat at (p ∷ ps) = (owner p.thread ≡ (seat, at)) × Owns owner seat (suc at) ps
+  -- the seat of an opening may act for every thread
+  abbrev pub first_view : Opening → View T
+  first_view o = view_of o (fresh o.tokens 0 o.threads)
 
-pub record Fits (o : Opening) (all : List Event) (owner : ℕ → ℕ × ℕ) (seat : ℕ) (v : View) : Type 0 where
-  pub opened : v.opened ≡ o
-  pub begin : AllBegin v.parts all
-  pub owns : Owns owner seat 0 v.parts
+  -- what each part has seen is a beginning of the schedule, which has no own event of it after that beginning
+  abbrev pub AllBegin : List (Part T) → List Event → Type 0
+  AllBegin [] all = Unit {0}
+  AllBegin (p ∷ ps) all = Begins p.thread p.seen all × AllBegin ps all
 
--- One schedule: the words of the table are those after it, what each seat has seen of its threads is a beginning of it with
--- all their events, and the clock has ticked so seldom that it is not spent
-pub record OneSchedule (o : Opening) (words : List ℕ) (views : List View) : Type 0 where
-  pub all : List Event
-  pub world : World
-  pub owner : ℕ → ℕ × ℕ
-  pub runs : world_after o all ≡ Some world
-  pub words_are : words ≡ world.words
-  pub few_ticks : FewTicks o all
-  pub fit : (seat : ℕ) (v : View) → get_elem? views seat ≡ some v → Fits o all owner seat v
+  -- and its gifts are the first of all
+  abbrev pub AllGiven : List (Part T) → Gifts T → Type 0
+  AllGiven [] gifts = Unit {0}
+  AllGiven (p ∷ ps) gifts = ((more : Gifts T) × (gifts ≡ p.gifts ++ more)) × AllGiven ps gifts
 
--- the first part's thread, what was seen by it, and the other parts
-abbrev pub thread_in : List Part → ℕ
-thread_in [] = 0
-thread_in (p ∷ ps) = p.thread
+  -- each thread has its tokens
+  abbrev pub AllHands : (ℕ → ℕ) → (ℕ → Option Running) → (ℕ → Where) → Gifts T → Homes T → List (Part T) → Type 0
+  AllHands words place at gifts homes [] = Unit {0}
+  AllHands words place at gifts homes (p ∷ ps) = HandFits words (place p.thread) at gifts homes p.thread p.hand × AllHands words place at gifts homes ps
 
-abbrev pub seen_in : List Part → List Event
-seen_in [] = []
-seen_in (p ∷ ps) = p.seen
+  -- each thread is acted for by one seat, at one place of its parts
+  abbrev pub Owns : (ℕ → ℕ × ℕ) → ℕ → ℕ → List (Part T) → Type 0
+  Owns owner seat at [] = Unit {0}
+  Owns owner seat at (p ∷ ps) = (owner p.thread ≡ (seat, at)) × Owns owner seat (suc at) ps
 
-abbrev pub more_in : List Part → List Part
-more_in [] = []
-more_in (p ∷ ps) = ps
+  pub record Fits (o : Opening) (all : List Event) (gifts : Gifts T) (owner : ℕ → ℕ × ℕ) (seat : ℕ) (v : View T) : Type 0 where
+    pub opened : v.opened ≡ o
+    pub begin : AllBegin v.parts all
+    pub given : AllGiven v.parts gifts
+    pub owns : Owns owner seat 0 v.parts
 
-abbrev pub thread_of : View → ℕ
-thread_of v = thread_in v.parts
+  -- One schedule: the words of the table are those after it, what each seat has seen of its threads is a beginning of it with
+  -- all their events, and the clock has ticked so seldom that it is not spent. Where there are tokens, each is in one place
+  pub record OneSchedule (o : Opening) (words : List ℕ) (homes : Homes T) (views : List (View T)) : Type 0 where
+    pub all : List Event
+    pub gifts : Gifts T
+    pub world : World
+    pub owner : ℕ → ℕ × ℕ
+    pub runs : world_after o all ≡ Some world
+    pub words_are : words ≡ world.words
+    pub few_ticks : FewTicks o all
+    pub fit : (seat : ℕ) (v : View T) → get_elem? views seat ≡ some v → Fits o all gifts owner seat v
+    pub at : ℕ → Where
+    pub slots : 0 < o.tokens → SlotsFit (clock_at o.shape.k o.shape.n) (word_at world) at gifts homes
+    pub hands : 0 < o.tokens → (seat : ℕ) (v : View T) → get_elem? views seat ≡ some v → AllHands (word_at world) (place_of world) at gifts homes v.parts
 
-abbrev pub seen_of : View → List Event
-seen_of v = seen_in v.parts
+  -- the first part's thread, what was seen by it, and the other parts
+  abbrev pub thread_in : List (Part T) → ℕ
+  thread_in [] = 0
+  thread_in (p ∷ ps) = p.thread
 
--- the view whose first part has seen this
-abbrev pub with_seen : View → List Event → View
-with_seen v seen = view_of v.opened (part (thread_in v.parts) seen ∷ more_in v.parts)
+  abbrev pub seen_in : List (Part T) → List Event
+  seen_in [] = []
+  seen_in (p ∷ ps) = p.seen
 
--- it has a first part
-abbrev pub IsSeated : View → Type 0
-IsSeated v = v ≡ with_seen v (seen_of v)
+  abbrev pub gifts_in : List (Part T) → Gifts T
+  gifts_in [] = []
+  gifts_in (p ∷ ps) = p.gifts
 
--- a view with no parts, and two views put together
-abbrev pub no_part : View → View
-no_part v = view_of v.opened []
+  abbrev pub no_hand : Hand T
+  no_hand = record { at_home = []; out = 0; payload = None }
 
-abbrev pub both_parts : View → View → View
-both_parts v w = view_of v.opened (v.parts ++ w.parts)
+  abbrev pub hand_in : List (Part T) → Hand T
+  hand_in [] = no_hand
+  hand_in (p ∷ ps) = p.hand
+
+  abbrev pub more_in : List (Part T) → List (Part T)
+  more_in [] = []
+  more_in (p ∷ ps) = ps
+
+  abbrev pub thread_of : View T → ℕ
+  thread_of v = thread_in v.parts
+
+  abbrev pub seen_of : View T → List Event
+  seen_of v = seen_in v.parts
+
+  abbrev pub gifts_of : View T → Gifts T
+  gifts_of v = gifts_in v.parts
+
+  abbrev pub hand_of : View T → Hand T
+  hand_of v = hand_in v.parts
+
+  -- the view whose first part has seen this, and has this hand
+  abbrev pub with_seen : View T → List Event → Gifts T → Hand T → View T
+  with_seen v seen gifts hand = view_of v.opened (part (thread_in v.parts) seen gifts hand ∷ more_in v.parts)
+
+  -- it has a first part
+  abbrev pub IsSeated : View T → Type 0
+  IsSeated v = v ≡ with_seen v (seen_of v) (gifts_of v) (hand_of v)
+
+  -- a view with no parts, and two views put together
+  abbrev pub no_part : View T → View T
+  no_part v = view_of v.opened []
+
+  abbrev pub both_parts : View T → View T → View T
+  both_parts v w = view_of v.opened (v.parts ++ w.parts)
+
+  -- a view cut in two: the first part, and the others
+  abbrev pub first_part : View T → View T
+  first_part v = view_of v.opened (take 1 v.parts)
+
+  abbrev pub other_parts : View T → View T
+  other_parts v = view_of v.opened (drop 1 v.parts)
 
 -- any opening, for a seat that is spent
 abbrev pub small_opening : Opening
@@ -134,10 +188,3 @@ small_opening =
       few_probes = lit≤ tt;
     }
     1
-
--- a view cut in two: the first part, and the others
-abbrev pub first_part : View → View
-first_part v = view_of v.opened (take 1 v.parts)
-
-abbrev pub other_parts : View → View
-other_parts v = view_of v.opened (drop 1 v.parts)

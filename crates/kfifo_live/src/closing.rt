@@ -41,7 +41,7 @@ fn is_complete(passes: &[Pass], threads: u32) -> bool
 /// The words of a table that is closed.
 fn read_words(
     alloc: Global,
-    closed: &Closed<(), Global>,
+    closed: &Closed<Option<()>, Global>,
     count: usize,
 ) -> Result<Vec<u64>, AllocError>
     requires { (slots_len closed.now.words ≡ count) × IsFull closed.now.words × (length (slots_items closed.now.words) ≡ count) }
@@ -77,7 +77,7 @@ fn read_items(alloc: Global, shape: &Shape, words: &[u64]) -> Result<Vec<u32>, A
 }
 
 /// A seat with the parts of all passes.
-fn gather_all(shared: &Words, mut seat: ThreadSeat, mut passes: Vec<Pass>) -> ThreadSeat
+fn gather_all(shared: &Words<()>, mut seat: ThreadSeat<()>, mut passes: Vec<Pass>) -> ThreadSeat<()>
     requires table { (seat.table_id ≡ shared.now.table_id) × (0 < shared.now.table_id.words) }
     requires of { AllOf (queue_of seat.table_id seat.me.0.opened) passes.items }
     ensures table { result.table_id ≡ seat.table_id }
@@ -88,7 +88,7 @@ fn gather_all(shared: &Words, mut seat: ThreadSeat, mut passes: Vec<Pass>) -> Th
             thread: _,
             seat: other,
         } = pass;
-        gather::<Brand>(shared, &mut seat, other);
+        gather::<_, Brand>(shared, &mut seat, other);
     }
     seat
 }

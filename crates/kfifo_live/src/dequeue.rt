@@ -11,20 +11,34 @@ use crate::view::ThreadSeat;
 use kfifo_machine::{Begin, DequeuePhase, Found, Next};
 use kfifo_model::Answer;
 use kfifo_words::{Ends, Word};
+use std::alloc::AllocError;
 use std::marker::Brand;
 
 /// A dequeue in one of its rounds. `left` counts the rounds that are left, this one among them.
-#[derive(Clone, Copy)]
-pub(crate) struct Dequeue<'a> {
-    ring: Ring<'a>,
+pub(crate) struct Dequeue<'a, T> {
+    ring: Ring<'a, T>,
     start: u32,
     left: u16,
 }
 
-impl Dequeue<'_> {
+impl<'a, T> Clone for Dequeue<'a, T> {
+    fn clone(&self) -> Result<Dequeue<'a, T>, AllocError> {
+        Ok(*self)
+    }
+}
+
+impl<'a, T> Copy for Dequeue<'a, T> {}
+
+impl<T> Dequeue<'_, T> {
     /// Takes the item out of a filled slot.
     #[inline(always)]
-    fn take(self, seat: &mut ThreadSeat, ends: Ends, index: usize, filled: Word) -> Option<Answer>
+    fn take(
+        self,
+        seat: &mut ThreadSeat<T>,
+        ends: Ends,
+        index: usize,
+        filled: Word,
+    ) -> Option<Answer>
         requires { Stands self.ring seat.old (dequeue_at self (DequeuePhase.Take ends index filled)) }
         ensures { Comes seat.old (dequeue_round self.entry result) seat.new }
     {
@@ -40,7 +54,7 @@ impl Dequeue<'_> {
     #[inline(always)]
     fn close_segment(
         self,
-        seat: &mut ThreadSeat,
+        seat: &mut ThreadSeat<T>,
         ends: Ends,
         index: usize,
         filled: Word,
@@ -58,7 +72,7 @@ impl Dequeue<'_> {
     #[inline(always)]
     fn empty_slot(
         self,
-        seat: &mut ThreadSeat,
+        seat: &mut ThreadSeat<T>,
         ends: Ends,
         index: usize,
         filled: Word,
@@ -83,7 +97,7 @@ impl Dequeue<'_> {
 
     /// Goes on from a head's segment in which no slot was filled, if head and tail stand as before.
     #[inline(always)]
-    fn leave_segment(self, seat: &mut ThreadSeat, ends: Ends) -> Option<Answer>
+    fn leave_segment(self, seat: &mut ThreadSeat<T>, ends: Ends) -> Option<Answer>
         requires { Stands self.ring seat.old (dequeue_at self (DequeuePhase.Recheck ends Found.Nothing)) }
         ensures { Comes seat.old (dequeue_round self.entry result) seat.new }
     {
@@ -104,7 +118,7 @@ impl Dequeue<'_> {
 
     /// One round, after its first load of the ends word. None where it is lost.
     #[inline(always)]
-    fn round(self, seat: &mut ThreadSeat, ends: Ends) -> Option<Answer>
+    fn round(self, seat: &mut ThreadSeat<T>, ends: Ends) -> Option<Answer>
         requires { Stands self.ring seat.old (dequeue_at self (DequeuePhase.ScanHead ends 0)) }
         ensures { Comes seat.old (dequeue_round self.entry result) seat.new }
     {
@@ -119,13 +133,13 @@ impl Dequeue<'_> {
     }
 }
 
-impl Ring<'_> {
+impl<T> Ring<'_, T> {
     /// Takes one of the oldest items.
     #[inline(always)]
-    pub(crate) fn dequeue(self, seat: &mut ThreadSeat, start: u32, turns: u16) -> Answer
+    pub(crate) fn dequeue(self, seat: &mut ThreadSeat<T>, start: u32, turns: u16) -> Answer
         requires start { start < self.shape.now.k }
         requires turns { 1 ≤ turns }
-        requires rests { Rests self seat.old }
+        requires rests { Rests self (Some (Begin.Dequeue start turns)) seat.old }
         ensures { Runs (Some (Begin.Dequeue start turns)) seat.old (Next.Answers result) seat.new }
     {
         let mut ends = self.begin::<Brand>(seat, Begin::Dequeue { start, turns });

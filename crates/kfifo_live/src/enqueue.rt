@@ -11,21 +11,35 @@ use crate::view::ThreadSeat;
 use kfifo_machine::{Begin, EnqueuePhase, Found, Next};
 use kfifo_model::Answer;
 use kfifo_words::{Ends, Word};
+use std::alloc::AllocError;
 use std::marker::Brand;
 
 /// An enqueue in one of its rounds. `left` counts the rounds that are left, this one among them.
-#[derive(Clone, Copy)]
-pub(crate) struct Enqueue<'a> {
-    ring: Ring<'a>,
+pub(crate) struct Enqueue<'a, T> {
+    ring: Ring<'a, T>,
     item: u32,
     start: u32,
     left: u16,
 }
 
-impl Enqueue<'_> {
+impl<'a, T> Clone for Enqueue<'a, T> {
+    fn clone(&self) -> Result<Enqueue<'a, T>, AllocError> {
+        Ok(*self)
+    }
+}
+
+impl<'a, T> Copy for Enqueue<'a, T> {}
+
+impl<T> Enqueue<'_, T> {
     /// Takes the item out again.
     #[inline(always)]
-    fn undo(self, seat: &mut ThreadSeat, index: usize, filled: Word, worn: bool) -> Option<Answer>
+    fn undo(
+        self,
+        seat: &mut ThreadSeat<T>,
+        index: usize,
+        filled: Word,
+        worn: bool,
+    ) -> Option<Answer>
         requires { Stands self.ring seat.old (enqueue_at self (EnqueuePhase.Undo index filled worn)) }
         ensures { Comes seat.old (enqueue_round self.entry result) seat.new }
     {
@@ -42,7 +56,7 @@ impl Enqueue<'_> {
     #[inline(always)]
     fn hold_head(
         self,
-        seat: &mut ThreadSeat,
+        seat: &mut ThreadSeat<T>,
         ends: Ends,
         index: usize,
         filled: Word,
@@ -62,7 +76,13 @@ impl Enqueue<'_> {
 
     /// Sees to it that the head will not pass the item, or takes the item out again.
     #[inline(always)]
-    fn settle(self, seat: &mut ThreadSeat, ends: Ends, index: usize, filled: Word) -> Option<Answer>
+    fn settle(
+        self,
+        seat: &mut ThreadSeat<T>,
+        ends: Ends,
+        index: usize,
+        filled: Word,
+    ) -> Option<Answer>
         requires { Stands self.ring seat.old (enqueue_at self (EnqueuePhase.ReloadEnds ends index filled)) }
         ensures { Comes seat.old (enqueue_round self.entry result) seat.new }
     {
@@ -88,7 +108,7 @@ impl Enqueue<'_> {
 
     /// Puts the item into an empty slot.
     #[inline(always)]
-    fn put(self, seat: &mut ThreadSeat, ends: Ends, index: usize, empty: Word) -> Option<Answer>
+    fn put(self, seat: &mut ThreadSeat<T>, ends: Ends, index: usize, empty: Word) -> Option<Answer>
         requires { Stands self.ring seat.old (enqueue_at self (EnqueuePhase.Put ends index empty)) }
         ensures { Comes seat.old (enqueue_round self.entry result) seat.new }
     {
@@ -103,7 +123,7 @@ impl Enqueue<'_> {
     #[inline(always)]
     fn see_put(
         self,
-        seat: &mut ThreadSeat,
+        seat: &mut ThreadSeat<T>,
         ends: Ends,
         index: usize,
         filled: Word,
@@ -120,7 +140,7 @@ impl Enqueue<'_> {
 
     /// Moves the head on off an empty segment, or sees that the ring is full.
     #[inline(always)]
-    fn make_room(self, seat: &mut ThreadSeat, ends: Ends) -> Option<Answer>
+    fn make_room(self, seat: &mut ThreadSeat<T>, ends: Ends) -> Option<Answer>
         requires { Stands self.ring seat.old (enqueue_at self (EnqueuePhase.ScanHead ends 0)) }
         ensures { Comes seat.old (enqueue_round self.entry result) seat.new }
     {
@@ -139,7 +159,7 @@ impl Enqueue<'_> {
 
     /// Sees that head and tail stand where all slots were seen filled.
     #[inline(always)]
-    fn confirm_full(self, seat: &mut ThreadSeat, ends: Ends) -> Option<Answer>
+    fn confirm_full(self, seat: &mut ThreadSeat<T>, ends: Ends) -> Option<Answer>
         requires { Stands self.ring seat.old (enqueue_at self (EnqueuePhase.ConfirmFull ends)) }
         ensures { Comes seat.old (enqueue_round self.entry result) seat.new }
     {
@@ -154,7 +174,7 @@ impl Enqueue<'_> {
 
     /// Goes on from a tail's segment in which no probed slot was empty, if head and tail stand as before.
     #[inline(always)]
-    fn leave_segment(self, seat: &mut ThreadSeat, ends: Ends) -> Option<Answer>
+    fn leave_segment(self, seat: &mut ThreadSeat<T>, ends: Ends) -> Option<Answer>
         requires { Stands self.ring seat.old (enqueue_at self (EnqueuePhase.Recheck ends Found.Nothing)) }
         ensures { Comes seat.old (enqueue_round self.entry result) seat.new }
     {
@@ -177,7 +197,7 @@ impl Enqueue<'_> {
     #[inline(always)]
     fn fill_slot(
         self,
-        seat: &mut ThreadSeat,
+        seat: &mut ThreadSeat<T>,
         ends: Ends,
         index: usize,
         empty: Word,
@@ -199,7 +219,7 @@ impl Enqueue<'_> {
 
     /// One round, after its first load of the ends word. None where it is lost.
     #[inline(always)]
-    fn round(self, seat: &mut ThreadSeat, ends: Ends) -> Option<Answer>
+    fn round(self, seat: &mut ThreadSeat<T>, ends: Ends) -> Option<Answer>
         requires { Stands self.ring seat.old (enqueue_at self (EnqueuePhase.ScanTail ends 0)) }
         ensures { Comes seat.old (enqueue_round self.entry result) seat.new }
     {
@@ -214,14 +234,20 @@ impl Enqueue<'_> {
     }
 }
 
-impl Ring<'_> {
+impl<T> Ring<'_, T> {
     /// Puts an item into the queue.
     #[inline(always)]
-    pub(crate) fn enqueue(self, seat: &mut ThreadSeat, item: u32, start: u32, turns: u16) -> Answer
+    pub(crate) fn enqueue(
+        self,
+        seat: &mut ThreadSeat<T>,
+        item: u32,
+        start: u32,
+        turns: u16,
+    ) -> Answer
         requires item { (1 ≤ item) × (item < 2 ^ 24) }
         requires start { start < self.shape.now.k }
         requires turns { 1 ≤ turns }
-        requires rests { Rests self seat.old }
+        requires rests { Rests self (Some (Begin.Enqueue item start turns)) seat.old }
         ensures { Runs (Some (Begin.Enqueue item start turns)) seat.old (Next.Answers result) seat.new }
     {
         let mut ends = self.begin::<Brand>(seat, Begin::Enqueue { item, start, turns });

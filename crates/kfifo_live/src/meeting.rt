@@ -30,8 +30,8 @@ pub fn meet(queue: &Queue, first: &mut Pass, second: &mut Pass)
 {
     let shared = &queue.table.shared;
     let whole = give_all(shared, &mut first.seat);
-    gather::<Brand>(shared, &mut second.seat, whole);
+    gather::<_, Brand>(shared, &mut second.seat, whole);
     observe(shared, &mut second.seat, 0);
     let rest = give_rest(shared, &mut second.seat);
-    gather::<Brand>(shared, &mut first.seat, rest);
+    gather::<_, Brand>(shared, &mut first.seat, rest);
 }

@@ -17,13 +17,13 @@ use std::alloc::{AllocError, Global};
 /// A pass for each thread, which has seen nothing.
 fn deal(
     alloc: Global,
-    shared: &Words,
-    mut seat: ThreadSeat,
+    shared: &Words<()>,
+    mut seat: ThreadSeat<()>,
     threads: u32,
 ) -> Result<Vec<Pass>, AllocError>
     requires table { (seat.table_id ≡ shared.now.table_id) × (0 < shared.now.table_id.words) }
     requires few { IsSmall seat.me.0.opened }
-    requires seat { (seat.me.1 ≡ []) × (seat.me.0 ≡ view_of seat.me.0.opened (fresh 0 threads)) × (seat.me.0.opened.threads ≡ threads) }
+    requires seat { (seat.me.1 ≡ []) × (seat.me.0 ≡ view_of seat.me.0.opened (fresh seat.me.0.opened.tokens 0 threads)) × (seat.me.0.opened.threads ≡ threads) }
     ensures { IfOk result (λ ps. ps.items ≡ new_passes (queue_of seat.table_id seat.me.0.opened) 0 threads) }
 {
     let mut passes = Vec::with_capacity(alloc, threads as usize)?;
@@ -52,6 +52,7 @@ impl Queue {
             shape,
             threads,
             calls,
+            tokens: 0,
         };
         let (table, seat) = Table::of_words(alloc, words.as_slice(), &about)?;
         let passes = deal(alloc, &table.shared, seat, threads)?;

@@ -22,7 +22,7 @@ use std::marker::Model;
 /// Clauses see it as its table and what it was opened with.
 #[derive(Drop)]
 pub struct Queue {
-    pub(crate) table: Table<(), View, Opening, QueueRule, Global>,
+    pub(crate) table: Table<Option<()>, View<()>, Opening, QueueRule, Global>,
     pub(crate) shape: Shape,
     pub(crate) threads: u32,
     pub(crate) calls: u32,
@@ -46,7 +46,7 @@ impl Model for Queue {
 #[derive(Drop)]
 pub struct Pass {
     pub(crate) thread: u32,
-    pub(crate) seat: ThreadSeat,
+    pub(crate) seat: ThreadSeat<()>,
 }
 
 impl Model for Pass {

@@ -14,21 +14,29 @@ use crate::rule::{BegunCall, FirstStep, NextStep};
 use crate::view::{ThreadSeat, Words};
 use kfifo_machine::Begin;
 use kfifo_words::{Ends, Shape, Word};
+use std::alloc::AllocError;
 
 /// The index of the ends word.
 pub(crate) const ENDS: usize = 0;
 
 /// The words of a queue, and the sizes of its ring.
-#[derive(Clone, Copy)]
-pub(crate) struct Ring<'a> {
-    pub(crate) words: &'a Words,
+pub(crate) struct Ring<'a, T> {
+    pub(crate) words: &'a Words<T>,
     pub(crate) shape: &'a Shape,
 }
 
-impl Ring<'_> {
+impl<'a, T> Clone for Ring<'a, T> {
+    fn clone(&self) -> Result<Ring<'a, T>, AllocError> {
+        Ok(*self)
+    }
+}
+
+impl<'a, T> Copy for Ring<'a, T> {}
+
+impl<T> Ring<'_, T> {
     /// Loads a word.
     #[inline(always)]
-    pub(crate) fn load(self, seat: &mut ThreadSeat, index: usize) -> Word
+    pub(crate) fn load(self, seat: &mut ThreadSeat<T>, index: usize) -> Word
         requires { Awaits self seat.old (Load index) }
         ensures { Stepped self.entry seat.old result seat.new }
     {
@@ -37,7 +45,13 @@ impl Ring<'_> {
 
     /// Puts `to` in the place of `from`, and answers the word that it found: `from` where it was won.
     #[inline(always)]
-    pub(crate) fn exchange(self, seat: &mut ThreadSeat, index: usize, from: Word, to: Word) -> Word
+    pub(crate) fn exchange(
+        self,
+        seat: &mut ThreadSeat<T>,
+        index: usize,
+        from: Word,
+        to: Word,
+    ) -> Word
         requires { Awaits self seat.old (Exchange index from to) }
         ensures { Stepped self.entry seat.old result seat.new }
     {
@@ -49,9 +63,9 @@ impl Ring<'_> {
 
     /// Loads the ends word, with which the call begins.
     #[inline(always)]
-    pub(crate) fn begin<C: BegunCall>(self, seat: &mut ThreadSeat, begin: Begin) -> Ends
+    pub(crate) fn begin<C: BegunCall>(self, seat: &mut ThreadSeat<T>, begin: Begin) -> Ends
         requires picked { C.begin ≡ begin }
-        requires rests { Rests self seat.old }
+        requires rests { Rests self (Some begin) seat.old }
         requires first { BeginsAtEnds self.shape.now begin }
         ensures { (place : Running) → going self.entry.shape.now None (Some begin) ≡ Some place → Runs (Some begin) seat.old (advance self.entry.shape.now place result) seat.new }
     {
@@ -60,7 +74,7 @@ impl Ring<'_> {
 
     /// Loads the ends word.
     #[inline(always)]
-    pub(crate) fn load_ends(self, seat: &mut ThreadSeat) -> Ends
+    pub(crate) fn load_ends(self, seat: &mut ThreadSeat<T>) -> Ends
         requires { Awaits self seat.old (Load ENDS) }
         ensures { Stepped self.entry seat.old result seat.new }
     {
@@ -69,7 +83,7 @@ impl Ring<'_> {
 
     /// Moves the head on to the next segment, and answers the ends that it found: `ends` where it was won.
     #[inline(always)]
-    pub(crate) fn move_head(self, seat: &mut ThreadSeat, ends: Ends) -> Ends
+    pub(crate) fn move_head(self, seat: &mut ThreadSeat<T>, ends: Ends) -> Ends
         requires ends { IsEnds self.shape.now ends }
         requires version { version_of ends < self.shape.now.last }
         requires next { Awaits self seat.old (Exchange ENDS ends (head_moved self.shape.now ends)) }
@@ -82,7 +96,7 @@ impl Ring<'_> {
 
     /// Moves the tail on to the next segment, and answers the ends that it found: `ends` where it was won.
     #[inline(always)]
-    pub(crate) fn move_tail(self, seat: &mut ThreadSeat, ends: Ends) -> Ends
+    pub(crate) fn move_tail(self, seat: &mut ThreadSeat<T>, ends: Ends) -> Ends
         requires ends { IsEnds self.shape.now ends }
         requires version { version_of ends < self.shape.now.last }
         requires next { Awaits self seat.old (Exchange ENDS ends (tail_moved self.shape.now ends)) }

@@ -11,11 +11,12 @@ use atomic_table::{Join, Play, Split, TableRule};
 use std::marker::{Brand, PhantomData};
 
 /// The rule, or invariant, of the table: there is one schedule; the words are those after it, each seat
-/// has seen a beginning of it with all events of its threads, and the clock has ticked seldom.
+/// has seen a beginning of it with all events of its threads, and the clock has ticked seldom. Where the
+/// queue has tokens, each is in one place, and its slot holds what was last put with it.
 pub struct QueueRule;
 
-impl TableRule<(), View, Opening> for QueueRule {
-    ghost holds = { λ o s. OneSchedule o s.words s.views };
+impl<T> TableRule<Option<T>, View<T>, Opening> for QueueRule {
+    ghost holds = { λ o s. OneSchedule o s.words s.homes s.views };
 
     ghost first = { first_view };
 }
@@ -34,35 +35,35 @@ pub struct FirstStep<C: BegunCall> {
     of: PhantomData<C>,
 }
 
-impl<C: BegunCall> Play<(), View> for FirstStep<C> {
-    ghost then = { λ s v found w. Steps (Some C.begin) v.0 found w.0 × (w.1 ≡ v.1) };
+impl<T, C: BegunCall> Play<Option<T>, View<T>> for FirstStep<C> {
+    ghost then = { λ s v found w. Steps (Some C.begin) v found w };
 }
 
 /// A later step of a call.
 pub struct NextStep;
 
-impl Play<(), View> for NextStep {
-    ghost then = { λ s v found w. Steps None v.0 found w.0 × (w.1 ≡ v.1) };
+impl<T> Play<Option<T>, View<T>> for NextStep {
+    ghost then = { λ s v found w. Steps None v found w };
 }
 
 /// A tick of the clock.
 pub struct DrawStamp;
 
-impl Play<(), View> for DrawStamp {
+impl<T> Play<Option<T>, View<T>> for DrawStamp {
     ghost then = { λ s v found w. DrawsStamp v.0 found w.0 × (w.1 ≡ v.1) };
 }
 
 /// A load that is no step of a call.
 pub struct Observation;
 
-impl Play<(), View> for Observation {
+impl<T> Play<Option<T>, View<T>> for Observation {
     ghost then = { λ s v found w. Looks s.word found v.0 w.0 × (w.1 ≡ v.1) };
 }
 
 /// Keeps the first part, and gives the others.
 pub struct Rest;
 
-impl Split<View> for Rest {
+impl<T> Split<View<T>> for Rest {
     ghost left = { first_part };
 
     ghost right = { other_parts };
@@ -71,7 +72,7 @@ impl Split<View> for Rest {
 /// Keeps nothing, and gives the whole view.
 pub struct All;
 
-impl Split<View> for All {
+impl<T> Split<View<T>> for All {
     ghost left = { no_part };
 
     ghost right = { λ v. v };
@@ -91,7 +92,7 @@ pub struct Gather<O: Opened> {
     of: PhantomData<O>,
 }
 
-impl<O: Opened> Join<View> for Gather<O> {
+impl<T, O: Opened> Join<View<T>> for Gather<O> {
     ghost both = { both_parts };
 
     ghost spent = { view_of O.opened [] };

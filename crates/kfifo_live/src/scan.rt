@@ -41,10 +41,10 @@ impl Wanted for Filled {
     }
 }
 
-impl Ring<'_> {
+impl<T> Ring<'_, T> {
     /// Looks for a filled slot, or for an empty one, among `count` slots side by side, at least one.
     #[inline(always)]
-    fn scan_row<W: Wanted>(self, seat: &mut ThreadSeat, first: usize, count: u32) -> Found
+    fn scan_row<W: Wanted>(self, seat: &mut ThreadSeat<T>, first: usize, count: u32) -> Found
         requires row { (row : Row self.shape.now W.stops first count) × Stands self seat.old (row.scan.looking row.offset) }
         ensures { (row : Row self.entry.shape.now W.stops first count) → Stands self.entry seat.old (row.scan.looking row.offset) → Comes seat.old (after_row row result) seat.new }
     {
@@ -66,7 +66,7 @@ impl Ring<'_> {
     ///
     /// It is for the second row of a scan, which few scans come to but those of an empty segment.
     #[inline(always)]
-    fn scan_row_by_two<W: Wanted>(self, seat: &mut ThreadSeat, first: usize, count: u32) -> Found
+    fn scan_row_by_two<W: Wanted>(self, seat: &mut ThreadSeat<T>, first: usize, count: u32) -> Found
         requires row { (row : Row self.shape.now W.stops first count) × Stands self seat.old (row.scan.looking row.offset) }
         ensures { (row : Row self.entry.shape.now W.stops first count) → Stands self.entry seat.old (row.scan.looking row.offset) → Comes seat.old (after_row row result) seat.new }
     {
@@ -105,7 +105,7 @@ impl Ring<'_> {
     #[inline(always)]
     pub(crate) fn scan<W: Wanted>(
         self,
-        seat: &mut ThreadSeat,
+        seat: &mut ThreadSeat<T>,
         segment: u32,
         start: u32,
         limit: u32,

@@ -7,7 +7,7 @@ use crate::rule::{All, Gather, Observation, Opened, Rest};
 use crate::view::{ThreadSeat, Words};
 
 /// One load of a word. All that was done up to now was then seen.
-pub(crate) fn observe(shared: &Words, seat: &mut ThreadSeat, index: usize) -> u64
+pub(crate) fn observe<T>(shared: &Words<T>, seat: &mut ThreadSeat<T>, index: usize) -> u64
     requires table { (seat.old.table_id ≡ shared.now.table_id) × (index < shared.now.table_id.words) }
     requires seated { IsSeated seat.old.me.0 }
     ensures same { (seat.new.table_id ≡ seat.old.table_id) × (seat.new.me.1 ≡ seat.old.me.1) }
@@ -17,7 +17,7 @@ pub(crate) fn observe(shared: &Words, seat: &mut ThreadSeat, index: usize) -> u6
 }
 
 /// Keeps the first part of a seat's view, and gives a new seat the others.
-pub(crate) fn give_rest(shared: &Words, seat: &mut ThreadSeat) -> ThreadSeat
+pub(crate) fn give_rest<T>(shared: &Words<T>, seat: &mut ThreadSeat<T>) -> ThreadSeat<T>
     requires table { (seat.old.table_id ≡ shared.now.table_id) × (0 < shared.now.table_id.words) }
     requires some { 1 ≤ length seat.old.me.0.parts }
     ensures same { (seat.new.table_id ≡ seat.old.table_id) × (seat.new.me.1 ≡ seat.old.me.1) }
@@ -28,7 +28,7 @@ pub(crate) fn give_rest(shared: &Words, seat: &mut ThreadSeat) -> ThreadSeat
 }
 
 /// Gives a new seat the whole view, and keeps nothing.
-pub(crate) fn give_all(shared: &Words, seat: &mut ThreadSeat) -> ThreadSeat
+pub(crate) fn give_all<T>(shared: &Words<T>, seat: &mut ThreadSeat<T>) -> ThreadSeat<T>
     requires table { (seat.old.table_id ≡ shared.now.table_id) × (0 < shared.now.table_id.words) }
     ensures same { (seat.new.table_id ≡ seat.old.table_id) × (seat.new.me.1 ≡ seat.old.me.1) }
     ensures kept { seat.new.me.0 ≡ no_part seat.old.me.0 }
@@ -38,7 +38,11 @@ pub(crate) fn give_all(shared: &Words, seat: &mut ThreadSeat) -> ThreadSeat
 }
 
 /// Takes the parts of another seat, behind its own.
-pub(crate) fn gather<O: Opened>(shared: &Words, seat: &mut ThreadSeat, other: ThreadSeat)
+pub(crate) fn gather<T, O: Opened>(
+    shared: &Words<T>,
+    seat: &mut ThreadSeat<T>,
+    other: ThreadSeat<T>,
+)
     requires table { (seat.old.table_id ≡ shared.now.table_id) × (0 < shared.now.table_id.words) }
     requires other { (other.table_id ≡ shared.now.table_id) × (other.me.1 ≡ []) }
     requires picked { O.opened ≡ seat.old.me.0.opened }

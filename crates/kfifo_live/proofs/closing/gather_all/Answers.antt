@@ -20,7 +20,7 @@ loop-pass-preserved c =
       opened = ap (λ v. v.opened) both ∙ i.opened;
       all_of = of.0;
       covers = λ all b s.
-          let parts = all_begin_parts _ _ all (subst (λ (ps : List Part). AllBegin ps all) (ap (λ v. v.parts) both) b) in
+          let parts = all_begin_parts _ _ all (subst (λ (ps : List (Part (Unit {0}))). AllBegin ps all) (ap (λ v. v.parts) both) b) in
           let begins = pass_begins _ c.pass.inside.seat.me c.in-Some.pass all c.pass.invariant (sym (ap (λ (k : Known). k.thread) c.pass.view_is)) (sym (ap (λ (k : Known). k.seen) c.pass.view_is)) parts.1 in
           i.covers all parts.0 (subst (λ (ps : List Known). AllSeen ps all) (sym items) (all_seen_push _ _ all s begins));
     }

@@ -22,15 +22,15 @@ returns-clause-exactly c before =
 pub invariant_of-first : goal.invariant_of-first
 invariant_of-first c =
     let lent = c.give_all-whole.ensures.given.1 in
-    let back = returned _ c.second.inside.seat.me c.first.inside.seat.me.0 _ _ _ _ _ c.second.invariant (c.gather.ensures.both ∙ ap (both_parts c.second.inside.seat.me.0) lent) c.observe.ensures.looks.afterwards c.give_rest-rest.ensures.given.1
-    (c.gather-2.ensures.both ∙ ap (λ (v : View). both_parts v c.give_rest-rest.result.me.0) c.give_all-whole.ensures.kept) in
+    let back = returned _ c.second.inside.seat.me c.first.inside.seat.me.0 _ _ _ _ _ _ _ c.second.invariant (c.gather.ensures.both ∙ ap (both_parts c.second.inside.seat.me.0) lent) c.observe.ensures.looks.afterwards c.give_rest-rest.ensures.given.1
+    (c.gather-2.ensures.both ∙ ap (λ (v : View (Unit {0})). both_parts v c.give_rest-rest.result.me.0) c.give_all-whole.ensures.kept) in
     subst (IsPass c.first.inside.thread) (λ i. (sym back i, sym (c.gather-2.ensures.same.1 ∙ c.give_all-whole.ensures.same.1) i)) c.first.invariant
 
 pub returns-clause-first : goal.returns-clause-first
 returns-clause-first c =
     let lent = c.give_all-whole.ensures.given.1 in
-    let back = returned _ c.second.inside.seat.me c.first.inside.seat.me.0 _ _ _ _ _ c.second.invariant (c.gather.ensures.both ∙ ap (both_parts c.second.inside.seat.me.0) lent) c.observe.ensures.looks.afterwards c.give_rest-rest.ensures.given.1
-    (c.gather-2.ensures.both ∙ ap (λ (v : View). both_parts v c.give_rest-rest.result.me.0) c.give_all-whole.ensures.kept) in
+    let back = returned _ c.second.inside.seat.me c.first.inside.seat.me.0 _ _ _ _ _ _ _ c.second.invariant (c.gather.ensures.both ∙ ap (both_parts c.second.inside.seat.me.0) lent) c.observe.ensures.looks.afterwards c.give_rest-rest.ensures.given.1
+    (c.gather-2.ensures.both ∙ ap (λ (v : View (Unit {0})). both_parts v c.give_rest-rest.result.me.0) c.give_all-whole.ensures.kept) in
     (λ i. known_of ((c.gather-2.ensures.same.0 ∙ c.give_all-whole.ensures.same.0) i) c.first.inside.thread (back i)) ∙ c.first.view_is
 
 pub returns-clause-promise : goal.returns-clause-promise

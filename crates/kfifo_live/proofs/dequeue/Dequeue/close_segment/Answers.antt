@@ -6,10 +6,10 @@ use Rattle.kfifo_live.proofs.Whole.{comes, comes_by, goes_to}
 use Rattle.kfifo_live.proofs.dequeue.Dequeue.close_segment.Goals as goal
 
 pub returns-then-ne : goal.returns-then-ne
-returns-then-ne c = comes c.requires c.move_tail.ensures (grind (arith, nat_tests))
+returns-then-ne g c = comes c.requires c.move_tail.ensures (grind (arith, nat_tests))
 
 pub take-requires : goal.take-requires
-take-requires c = goes_to c.requires c.move_tail.ensures (grind (arith, nat_tests))
+take-requires g c = goes_to c.requires c.move_tail.ensures (grind (arith, nat_tests))
 
 pub returns : goal.returns
-returns c = comes_by (dequeue_at c.args.self (P.Take c.args.ends c.args.index c.args.filled)) c.requires c.move_tail.ensures (grind (arith, nat_tests)) c.take.ensures
+returns g c = comes_by (dequeue_at c.args.self (P.Take c.args.ends c.args.index c.args.filled)) c.requires c.move_tail.ensures (grind (arith, nat_tests)) c.take.ensures

@@ -6,18 +6,18 @@ use Rattle.kfifo_live.proofs.Whole.{awaits, comes, comes_by, goes_to}
 use Rattle.kfifo_live.proofs.dequeue.Dequeue.leave_segment.Goals as goal
 
 pub returns-then-ne : goal.returns-then-ne
-returns-then-ne c = comes c.requires c.load_ends.ensures (grind (arith, nat_tests))
+returns-then-ne g c = comes c.requires c.load_ends.ensures (grind (arith, nat_tests))
 
 pub returns-then-tail-head : goal.returns-then-tail-head
-returns-then-tail-head c = comes c.requires c.load_ends.ensures (grind (arith, nat_tests))
+returns-then-tail-head g c = comes c.requires c.load_ends.ensures (grind (arith, nat_tests))
 
 pub returns-then-version-last : goal.returns-then-version-last
-returns-then-version-last c = comes c.requires c.load_ends.ensures (grind (arith, nat_tests))
+returns-then-version-last g c = comes c.requires c.load_ends.ensures (grind (arith, nat_tests))
 
 pub move_head-requires-clause-next : goal.move_head-requires-clause-next
-move_head-requires-clause-next c = awaits (goes_to {later = dequeue_at c.args.self (P.MoveHead c.args.ends)} c.requires c.load_ends.ensures (grind (arith, nat_tests))) refl
+move_head-requires-clause-next g c = awaits (goes_to {later = dequeue_at c.args.self (P.MoveHead c.args.ends)} c.requires c.load_ends.ensures (grind (arith, nat_tests))) refl
 
 pub returns : goal.returns
-returns c =
+returns g c =
     let place = dequeue_at c.args.self (P.MoveHead c.args.ends) in
     comes_by place c.requires c.load_ends.ensures (grind (arith, nat_tests)) (comes (goes_to {later = place} c.requires c.load_ends.ensures (grind (arith, nat_tests))) c.move_head.ensures refl)

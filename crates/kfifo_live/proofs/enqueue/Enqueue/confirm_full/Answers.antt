@@ -4,7 +4,7 @@ use Rattle.kfifo_live.proofs.Whole.{comes}
 use Rattle.kfifo_live.proofs.enqueue.Enqueue.confirm_full.Goals as goal
 
 pub returns-then-eq : goal.returns-then-eq
-returns-then-eq c = comes c.requires c.load_ends.ensures (grind (arith, nat_tests))
+returns-then-eq g c = comes c.requires c.load_ends.ensures (grind (arith, nat_tests))
 
 pub returns-else-eq : goal.returns-else-eq
-returns-else-eq c = comes c.requires c.load_ends.ensures (grind (arith, nat_tests))
+returns-else-eq g c = comes c.requires c.load_ends.ensures (grind (arith, nat_tests))

@@ -6,13 +6,13 @@ use Rattle.kfifo_live.proofs.Whole.{comes, comes_by, goes_to}
 use Rattle.kfifo_live.proofs.enqueue.Enqueue.fill_slot.Goals as goal
 
 pub returns-then-ne : goal.returns-then-ne
-returns-then-ne c = comes c.requires c.load_ends.ensures (grind (arith, nat_tests))
+returns-then-ne g c = comes c.requires c.load_ends.ensures (grind (arith, nat_tests))
 
 pub returns-then-last-version : goal.returns-then-last-version
-returns-then-last-version c = comes c.requires c.load_ends.ensures (grind (arith, nat_tests))
+returns-then-last-version g c = comes c.requires c.load_ends.ensures (grind (arith, nat_tests))
 
 pub put-requires : goal.put-requires
-put-requires c = goes_to c.requires c.load_ends.ensures (grind (arith, nat_tests))
+put-requires g c = goes_to c.requires c.load_ends.ensures (grind (arith, nat_tests))
 
 pub returns : goal.returns
-returns c = comes_by (enqueue_at c.args.self (P.Put c.args.ends c.args.index c.args.empty)) c.requires c.load_ends.ensures (grind (arith, nat_tests)) c.put.ensures
+returns g c = comes_by (enqueue_at c.args.self (P.Put c.args.ends c.args.index c.args.empty)) c.requires c.load_ends.ensures (grind (arith, nat_tests)) c.put.ensures

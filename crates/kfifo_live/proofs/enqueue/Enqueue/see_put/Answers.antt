@@ -6,10 +6,10 @@ use Rattle.kfifo_live.proofs.Whole.{comes, comes_by, goes_to}
 use Rattle.kfifo_live.proofs.enqueue.Enqueue.see_put.Goals as goal
 
 pub returns-then-ne : goal.returns-then-ne
-returns-then-ne c = comes c.requires c.load.ensures (grind (arith, nat_tests))
+returns-then-ne g c = comes c.requires c.load.ensures (grind (arith, nat_tests))
 
 pub settle-requires : goal.settle-requires
-settle-requires c = goes_to c.requires c.load.ensures (grind (arith, nat_tests))
+settle-requires g c = goes_to c.requires c.load.ensures (grind (arith, nat_tests))
 
 pub returns : goal.returns
-returns c = comes_by (enqueue_at c.args.self (P.ReloadEnds c.args.ends c.args.index c.args.filled)) c.requires c.load.ensures (grind (arith, nat_tests)) c.settle.ensures
+returns g c = comes_by (enqueue_at c.args.self (P.ReloadEnds c.args.ends c.args.index c.args.filled)) c.requires c.load.ensures (grind (arith, nat_tests)) c.settle.ensures

@@ -21,7 +21,7 @@ fetch_add-requires c =
     let room : ticks (own (thread_of me.0) (seen_of me.0)) < 2 * me.0.opened.calls =
     subst (λ (t : ℕ). ticks (own t (seen_of me.0)) < 2 * me.0.opened.calls) (sym (pass_thread c.self.inside.thread me c.self.invariant))
     (subst (λ (k : Known). ticks (own k.thread k.seen) < 2 * k.opened.calls) (sym c.self.view_is) c.requires.room) in
-    (table, omega (arith, size, index), draws _ _ _ me c.clock_index-clock.result clock c.self.invariant.idle c.self.invariant.few room)
+    (table, omega (arith, size, index), draws _ _ _ me c.clock_index-clock.result clock c.self.invariant.idle (ap (λ (o : Opening). o.tokens) opened) c.self.invariant.few room)
 
 pub invariant_of-self : goal.invariant_of-self
 invariant_of-self c = drawn c.fetch_add.result _ c.self.inside.seat.me c.fetch_add.new.seat.me c.self.invariant c.fetch_add.ensures.2.1 c.fetch_add.ensures.2.0

@@ -1,4 +1,7 @@
-use Rattle.std.proofs.Common.{None, Some, refl, ap, ◌∙◌, arith}
+use Rattle.std.proofs.Common.{None, Some, refl, sym, ap, subst, ◌∙◌, arith}
+use Rattle.kfifo_machine.specs.declared.event.Begin.{Begin}
+use Rattle.kfifo_live.specs.Hands.{BeginsWith}
+use Rattle.kfifo_live.specs.Schedule.{hand_of}
 use Rattle.kfifo_machine.specs.Runs.{going}
 use Rattle.kfifo_live.proofs.Keeps.{goes}
 use Rattle.kfifo_live.proofs.Whole.{begun}
@@ -11,8 +14,9 @@ load-requires g c =
       of.table,
       (let size = of.size in omega arith),
       goes _ _ _ c.args.seat.now.me None c.requires.rests.idle (Some g.C.BegunCall.begin) first.place _ of.sizes
-          (ap (λ b. going c.args.self.shape.now None (Some b)) c.requires.picked ∙ first.goes) _ first.next_is (λ n. n) (λ n. refl),
+          (ap (λ b. going c.args.self.shape.now None (Some b)) c.requires.picked ∙ first.goes) _ first.next_is (λ n. n) (λ n. refl)
+          (λ some_tokens. subst (λ (b : Begin). BeginsWith (Some b) (hand_of c.args.seat.now.me.0) c.args.seat.now.me.1) (sym c.requires.picked) (c.requires.rests.begins some_tokens)),
     )
 
 pub returns : goal.returns
-returns g c = begun c.requires.rests c.requires.picked c.load.ensures.0 c.load.ensures.2.0 c.load.ensures.2.1 c.of_bits.ensures
+returns g c = begun c.requires.rests c.requires.picked c.load.ensures.0 c.load.ensures.2 c.of_bits.ensures

@@ -9,36 +9,36 @@ use Rattle.kfifo_live.proofs.Whole.{awaits, comes, comes_as, runs_on, stands_on}
 use Rattle.kfifo_live.proofs.ring.Ring.enqueue.Goals as goal
 
 pub begin-ends-requires-clause-first : goal.begin-ends-requires-clause-first
-begin-ends-requires-clause-first c =
+begin-ends-requires-clause-first g c =
     record { place = R.Enqueue c.args.item c.args.start c.args.turns P.LoadEnds; goes = grind (arith, nat_tests, and_from); next_is = refl }
 
 pub rounds-init : goal.rounds-init
-rounds-init c = c.begin-ends.ensures (R.Enqueue c.args.item c.args.start c.args.turns P.LoadEnds) (grind (arith, nat_tests, and_from))
+rounds-init g c = c.begin-ends.ensures (R.Enqueue c.args.item c.args.start c.args.turns P.LoadEnds) (grind (arith, nat_tests, and_from))
 
 pub round-requires : goal.round-requires
-round-requires c = stands_on c.requires.rests.of c.rounds.invariant
+round-requires g c = stands_on c.requires.rests.of c.rounds.invariant
 
 pub returns-in-Some : goal.returns-in-Some
-returns-in-Some c = runs_on c.rounds.invariant c.in-Some.ensures
+returns-in-Some g c = runs_on c.rounds.invariant c.in-Some.ensures
 
 pub returns-then-left-eq1 : goal.returns-then-left-eq1
-returns-then-left-eq1 c = runs_on c.rounds.invariant (comes_as c.in_default.ensures (grind (arith, nat_tests)))
+returns-then-left-eq1 g c = runs_on c.rounds.invariant (comes_as c.in_default.ensures (grind (arith, nat_tests)))
 
 pub overflow_sub-left : goal.overflow_sub-left
-overflow_sub-left c = (stands_on c.requires.rests.of c.rounds.invariant).is_place.3
+overflow_sub-left g c = (stands_on c.requires.rests.of c.rounds.invariant).is_place.3
 
 pub load_ends-ends-requires : goal.load_ends-ends-requires
-load_ends-ends-requires c =
+load_ends-ends-requires g c =
     let again = comes_as {later = Goes (R.Enqueue c.args.item c.args.start (c.rounds.left - 1) P.LoadEnds)} c.in_default.ensures (grind (arith, nat_tests)) in
     awaits (stands_on c.requires.rests.of (runs_on c.rounds.invariant again)) refl
 
 pub rounds-smaller : goal.rounds-smaller
-rounds-smaller c =
+rounds-smaller g c =
     let some = (stands_on c.requires.rests.of c.rounds.invariant).is_place.3 in
     let less : c.rounds.left - 1 < c.rounds.left = omega (arith, some) in
     less
 
 pub rounds-preserved : goal.rounds-preserved
-rounds-preserved c =
+rounds-preserved g c =
     let again = runs_on c.rounds.invariant (comes_as {later = Goes (R.Enqueue c.args.item c.args.start (c.rounds.left - 1) P.LoadEnds)} c.in_default.ensures (grind (arith, nat_tests))) in
     runs_on again (comes (stands_on c.requires.rests.of again) c.load_ends-ends.ensures refl)

@@ -7,11 +7,11 @@ use Rattle.kfifo_live.specs.Step.{Runs}
 use Rattle.kfifo_live.proofs.ring.Ring.enqueue.Given as goal
 
 abbrev pub ghosts-begin : goal.ghosts-begin
-ghosts-begin a = record { begin = a.begin }
+ghosts-begin g a = record { begin = a.begin }
 
 -- from its first step on the call has come to this round's scan
 abbrev pub invariant-rounds : goal.invariant-rounds
-invariant-rounds l = Runs (Some (B.Enqueue l.fn.item l.fn.start l.fn.turns)) l.fn.seat (Goes (R.Enqueue l.fn.item l.fn.start l.left (P.ScanTail l.ends 0))) l.seat
+invariant-rounds g l = Runs (Some (B.Enqueue l.fn.item l.fn.start l.fn.turns)) l.fn.seat (Goes (R.Enqueue l.fn.item l.fn.start l.left (P.ScanTail l.ends 0))) l.seat
 
 abbrev pub decreases-rounds : goal.decreases-rounds
-decreases-rounds l = l.left
+decreases-rounds g l = l.left

@@ -56,3 +56,7 @@ pairs-preserved g c =
           let same : (c.pairs.index + 1) + 1 ≡ c.pairs.index + 2 = omega arith in
           subst (λ (n : ℕ). Onward c.args.self c.args.seat.now (row.scan.looking (row.offset + (n - c.args.first))) c.load-next.new.seat) same (onward_step on c.load-next.ensures (row_goes_on row (c.pairs.index + 1) c.load-next.result (omega arith) (omega arith) (sym c.is_wanted-in-pairs-2.ensures ∙ c.if-is_wanted-3.false))));
     }
+
+pub returns-then-is_wanted : goal.returns-then-is_wanted
+returns-then-is_wanted g c row stands =
+    onward_comes (onward_first row stands) c.load-word.ensures (row_found row c.args.first c.load-word.result (omega arith) (let positive = row.some in omega arith) (sym c.is_wanted.ensures ∙ c.if-is_wanted.true))
