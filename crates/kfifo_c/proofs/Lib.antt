@@ -1,0 +1,4 @@
+mod HeldValues
+mod Passes
+mod Tried
+mod Values

@@ -1,0 +1,11 @@
+-- What a handle stands for, as clauses see it.
+use Rattle.std.specs.Prelude.{◌≡◌}
+use Rattle.kfifo_live.specs.Pass.{OpenQueue, Known, IsOf, IsSame}
+
+-- a queue, and a pass that is of it
+pub record Seated : Type 0 where
+  pub queue : OpenQueue
+  pub pass : Known
+
+abbrev pub seated : OpenQueue → Known → Seated
+seated q p = record { queue = q; pass = p }
