@@ -51,7 +51,9 @@ int main(void) {
         jobs += workers[i].jobs;
         total += workers[i].sum;
     }
-    kfifo_abandon(passes, WORKERS);
-    printf("%u jobs were put and %u done\n", put, jobs);
-    return put == jobs && sum == total && put > 0 ? 0 : 1;
+    static uint32_t left[K * SEGMENTS];
+    size_t count = 1;
+    if (kfifo_close(passes, WORKERS, left, K * SEGMENTS, &count) != KFIFO_DONE) return 1;
+    printf("%u jobs were put and %u done, and %zu are left\n", put, jobs, count);
+    return put == jobs && sum == total && count == 0 && put > 0 ? 0 : 1;
 }

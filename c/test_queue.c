@@ -8,6 +8,7 @@
 enum { EACH = 2000, MOST = 4 };
 
 static int failed;
+static uint32_t left[64 * 1024]; /* what a close gives back */
 
 static void expect(int is, int wanted, const char *what) {
     if (is != wanted) {
@@ -76,8 +77,17 @@ static void run(uint32_t k, uint32_t segments, uint32_t probes, uint32_t threads
         expect(times, 1, "how often an item came out");
     }
     for (uint32_t i = 0; i < threads; i++) free(sides[i].out);
-    expect(kfifo_abandon(passes, threads), KFIFO_DONE, "abandon");
+    expect(kfifo_enqueue(&passes[0], 1, 0, (uint16_t)(segments + 2)), KFIFO_DONE, "an item to be left");
+    expect(kfifo_enqueue(&passes[threads - 1], 2, 0, (uint16_t)(segments + 2)), KFIFO_DONE, "another");
+    size_t count = 77;
+    expect(kfifo_close(passes, threads, left, k * segments - 1, &count), KFIFO_BAD_CALL, "too little room");
+    if (threads > 1) expect(kfifo_close(passes, threads - 1, left, k * segments, &count), KFIFO_BAD_CALL, "a missing pass");
+    expect((int)count, 77, "the count of a close that did nothing");
+    expect(kfifo_close(passes, threads, left, k * segments, &count), KFIFO_DONE, "close");
+    expect((int)count, 2, "items left");
+    expect((int)(left[0] + left[1]), 3, "the items left");
     expect(kfifo_enqueue(&passes[0], 1, 0, 1), KFIFO_BAD_CALL, "a closed handle");
+    expect(kfifo_close(passes, threads, left, k * segments, &count), KFIFO_BAD_CALL, "close again");
 }
 
 static void refusals(void) {
@@ -109,6 +119,20 @@ static void refusals(void) {
     expect(kfifo_enqueue(&pass, 6, 0, 4), KFIFO_FULL, "full");
     expect(kfifo_dequeue(&pass, &item, 0, 4), KFIFO_GOT, "got");
     expect((int)item, (int)KFIFO_MAX_ITEM, "the first item");
+    uint64_t word = 77;
+    size_t count = 77;
+    expect(kfifo_word(NULL, 0, &word), KFIFO_BAD_CALL, "no pass to read by");
+    expect(kfifo_word(&pass, 0, NULL), KFIFO_BAD_CALL, "no word");
+    expect(kfifo_word(&pass, 4, &word), KFIFO_BAD_CALL, "a word past the last");
+    expect(word == 77, 1, "the word of a read that did nothing");
+    expect(kfifo_word(&pass, 3, &word), KFIFO_DONE, "the clock");
+    expect(word == 0, 1, "the clock of a plain queue");
+    expect(kfifo_word(&pass, 2, &word), KFIFO_DONE, "the second slot");
+    expect((word & KFIFO_MAX_ITEM) == 5 || (word >> 40) == 5, 1, "the second slot's item");
+    expect(kfifo_close(NULL, 1, left, 2, &count), KFIFO_BAD_CALL, "no passes to close");
+    expect(kfifo_close(&pass, 1, NULL, 2, &count), KFIFO_BAD_CALL, "no items");
+    expect(kfifo_close(&pass, 1, left, 2, NULL), KFIFO_BAD_CALL, "no count");
+    expect(kfifo_close(&pass, 0, left, 2, &count), KFIFO_BAD_CALL, "a close by no handle");
     expect(kfifo_abandon(NULL, 1), KFIFO_BAD_CALL, "no passes to abandon");
     expect(kfifo_abandon(&pass, 1), KFIFO_DONE, "abandon");
     expect(kfifo_abandon(&pass, 1), KFIFO_DONE, "abandon again");
@@ -117,7 +141,13 @@ static void refusals(void) {
     int status = KFIFO_DONE;
     for (int i = 0; i < 100 && status != KFIFO_WORN; i++) status = i % 2 ? kfifo_dequeue(&pass, &item, 0, 4) : kfifo_enqueue(&pass, 1, 0, 4);
     expect(status, KFIFO_WORN, "worn");
-    kfifo_abandon(&pass, 1);
+    expect(kfifo_close(&pass, 1, left, 2, &count), KFIFO_DONE, "close a worn queue");
+    kfifo_pass two[2];
+    expect(kfifo_open(1, 2, 1, 9, two, 2), KFIFO_DONE, "open for two");
+    kfifo_abandon(&two[1], 1);
+    expect(kfifo_close(two, 2, left, 2, &count), KFIFO_BAD_CALL, "a closed handle among those of a close");
+    expect(kfifo_enqueue(&two[0], 1, 0, 4), KFIFO_DONE, "the open one still works");
+    kfifo_abandon(two, 2);
 }
 
 int main(void) {

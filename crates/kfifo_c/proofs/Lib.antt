@@ -1,3 +1,4 @@
+mod Closings
 mod HeldValues
 mod Passes
 mod Tried

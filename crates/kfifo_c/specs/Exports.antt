@@ -1,16 +1,22 @@
 -- What C is answered, and what the answers say of the pass behind a handle. The numbers are those of c/kfifo.h.
-use Rattle.std.specs.Prelude.{◌≡◌, ℕ, ◌+◌, ◌*◌, ◌^◌, ◌<◌, ◌≤◌, Option, Some, None, IfSome}
+use Rattle.std.specs.Prelude.{◌≡◌, ℕ, ◌+◌, ◌*◌, ◌^◌, ◌<◌, ◌≤◌, Option, Some, None, IfSome, List, [], ◌∷◌, ◌++◌, map, length, drop, All, true, ◌==◌, ⊤}
+use Rattle.std.specs.List.{list_any}
 use Rattle.kfifo_words.specs.declared.fault.ShapeFault.{ShapeFault}
 use Rattle.kfifo_words.specs.Sizes.{shape_fault_number}
+use Rattle.kfifo_words.specs.declared.shape.Shape.{Shape}
 use Rattle.kfifo_model.specs.declared.calls.Answer.{Answer}
 use Rattle.kfifo_model.specs.declared.calls.Answer.TheVariants.{Done, Full, Got, Empty, Busy, Worn}
 use Rattle.kfifo_machine.specs.declared.event.Begin.{Begin}
 use Rattle.kfifo_machine.specs.Laws.{IsRefusal}
 use Rattle.kfifo_machine.specs.Rounds.{turns_of}
+use Rattle.kfifo_linear.specs.Headline.{HasLegalOrder, FewOvertake, FewCertainlyOvertake}
+use Rattle.kfifo_live.specs.Schedule.{opening}
+use Rattle.kfifo_live.specs.declared.fault.OpenFault.{OpenFault}
+use Rattle.kfifo_live.specs.declared.fault.OpenFault.TheVariants.{ThreadsOutOfRange}
 use Rattle.kfifo_live.specs.Calls.{Makes, TakesFewSteps, HasCause, IsDisturbed, LeavesNoItem}
 use Rattle.kfifo_live.specs.Promise.{KeepsPromise}
-use Rattle.kfifo_live.specs.Pass.{IsSame, Finds}
-use Rattle.kfifo_c.specs.Seats.{Seated}
+use Rattle.kfifo_live.specs.Pass.{OpenQueue, Known, IsOf, IsSame, Finds, IsZeroed, new_passes, IsComplete, Closes}
+use Rattle.kfifo_c.specs.Seats.{Seated, seated}
 
 -- the number of an answer of a call, and of a call that was not made
 abbrev pub number_of : Option Answer → ℕ
@@ -25,6 +31,11 @@ number_of None = 6
 -- the number of a shape that there is not, 11 to 14
 abbrev pub shape_number : ShapeFault → ℕ
 shape_number fault = 10 + shape_fault_number fault
+
+-- the number of an opening that was refused
+abbrev pub open_number : OpenFault → ℕ
+open_number ThreadsOutOfRange = 8
+open_number other = 7
 
 -- what a dequeue leaves in the variable of its item
 abbrev pub item_after : ℕ → Option Answer → ℕ
@@ -84,3 +95,80 @@ read_number None = 6
 abbrev pub word_after : ℕ → Option ℕ → ℕ
 word_after old (Some word) = word
 word_after old None = old
+
+-- the seats of these passes of one queue, in their order
+abbrev pub seats_of : OpenQueue → List Known → List Seated
+seats_of queue = map (λ pass. seated queue pass)
+
+-- a queue of these sizes was opened, of which these are the new seats: all that the running queue says of an opening
+pub record Opens (shape : Shape) (threads : ℕ) (seats : List Seated) : Type 0 where
+  pub queue : OpenQueue
+  pub opened : queue.opened ≡ opening shape threads
+  pub new : seats ≡ seats_of queue (new_passes queue 0 threads)
+  pub zeroed : IsZeroed queue.opened
+  pub legal : HasLegalOrder shape threads
+  pub few_overtake : FewOvertake shape threads
+  pub few_certainly_overtake : FewCertainlyOvertake shape threads
+
+-- those of these sizes
+pub record OpensSizes (k segments last probes threads : ℕ) (handles : List (Option Seated)) : Type 0 where
+  pub shape : Shape
+  pub k_is : shape.k ≡ k
+  pub segments_are : shape.n ≡ segments
+  pub last_is : shape.last ≡ last
+  pub probes_are : shape.probes ≡ probes
+  pub seats : List Seated
+  pub opens : Opens shape threads seats
+  pub handles_are : handles ≡ map Some seats
+
+-- the handle, if it is open, is of this queue
+abbrev pub OneQueue : OpenQueue → Option Seated → Type 0
+OneQueue queue handle = IfSome handle (λ seat. seat.queue ≡ queue)
+
+-- the open ones of these handles are of one queue
+abbrev pub AreOfOneQueue : List (Option Seated) → Type 0
+AreOfOneQueue handles = (queue : OpenQueue) × All (OneQueue queue) handles
+
+-- the first handle is open, and of this queue
+abbrev pub BeginsWith : OpenQueue → List (Option Seated) → Type 0
+BeginsWith queue [] = ⊥
+BeginsWith queue (None ∷ handles) = ⊥
+BeginsWith queue (Some seat ∷ handles) = queue ≡ seat.queue
+
+-- the passes behind the open ones of these handles, and their numbers
+abbrev pub passes_in : List (Option Seated) → List Known
+passes_in [] = []
+passes_in (None ∷ handles) = passes_in handles
+passes_in (Some seat ∷ handles) = seat.pass ∷ passes_in handles
+
+abbrev pub numbers_in : List (Option Seated) → List ℕ
+numbers_in handles = map (λ pass. pass.thread) (passes_in handles)
+
+-- each of these passes is of the queue that stands beside it
+abbrev pub AreTheirs : List (Option Seated) → Type 0
+AreTheirs [] = ⊤
+AreTheirs (None ∷ handles) = AreTheirs handles
+AreTheirs (Some seat ∷ handles) = IsOf seat.queue seat.pass × AreTheirs handles
+
+-- as many numbers as there are threads, and that of each
+pub record HasEach (threads : ℕ) (numbers : List ℕ) : Type 0 where
+  pub count : length numbers ≡ threads
+  pub each : (thread : ℕ) → thread < threads → list_any (λ number. number == thread) numbers ≡ true
+
+-- these handles are of all passes of the queue, one at least and each there once, and there is room for an item of each slot
+pub record MayClose (queue : OpenQueue) (handles : List (Option Seated)) (room : ℕ) : Type 0 where
+  pub some_pass : 1 ≤ queue.opened.threads
+  pub passes : List Known
+  pub handles_are : handles ≡ map Some (seats_of queue passes)
+  pub complete : IsComplete queue.opened.threads passes
+  pub room_is : queue.opened.shape.n * queue.opened.shape.k ≤ room
+
+-- a queue was closed by these handles, and the items that were left were written, and their number: all that the running queue says of a close
+pub record ClosesInto (handles : List (Option Seated)) (old new : List ℕ) (count : ℕ) : Type 0 where
+  pub queue : OpenQueue
+  pub passes : List Known
+  pub handles_are : handles ≡ map Some (seats_of queue passes)
+  pub left : List ℕ
+  pub closes : Closes queue passes left
+  pub count_is : count ≡ length left
+  pub written : new ≡ left ++ drop (length left) old

@@ -1,5 +1,5 @@
 //! What a handle stands for.
-ghost use Rattle.std.specs.Prelude.{◌≡◌, ◌<◌, ◌≤◌, ◌^◌, ◌+◌, ◌*◌, MatchOption};
+ghost use Rattle.std.specs.Prelude.{◌≡◌, ◌<◌, ◌≤◌, ◌^◌, ◌+◌, ◌*◌, MatchOption, IfOk};
 ghost use Rattle.kfifo_machine.specs.declared.event.Begin.TheVariants.{Enqueue, Dequeue};
 ghost use Rattle.kfifo_live.specs.Pass.{IsOf};
 ghost use Rattle.kfifo_c.specs.Seats.{Seated, seated};
@@ -7,18 +7,19 @@ ghost use Rattle.kfifo_c.specs.Exports.{MayEnqueue, MayDequeue, MayRead, Called,
 
 use kfifo_live::{Pass, Queue};
 use kfifo_model::Answer;
-use std::alloc::Global;
+use std::alloc::{AllocError, Global};
 use std::marker::Model;
 use std::sync::Arc;
 
 /// The most that an item can be, 2^24 - 1.
 const MAX_ITEM: u32 = 16_777_215;
 
-/// A pass, and a part in the queue that it is of.
+/// A pass, a part in the queue that it is of, and the number of that queue's passes.
 #[derive(Drop)]
 pub struct Seat {
     pub(crate) queue: Arc<Queue, Global>,
     pub(crate) pass: Pass,
+    pub(crate) threads: u32,
 }
 
 impl Model for Seat {
@@ -26,16 +27,55 @@ impl Model for Seat {
 
     ghost view = { λ s. seated s.queue.value s.pass };
 
-    ghost invariant = { λ s. IsOf s.queue.value s.pass };
+    ghost invariant = { λ s. IsOf s.queue.value s.pass × (s.threads ≡ s.queue.value.opened.threads) };
 }
 
 impl Seat {
-    /// A seat for this pass.
-    pub(crate) fn new(queue: Arc<Queue, Global>, pass: Pass) -> Seat
-        requires { IsOf queue.value pass }
+    /// A seat for this pass of a queue of so many.
+    pub(crate) fn new(queue: Arc<Queue, Global>, pass: Pass, threads: u32) -> Seat
+        requires of { IsOf queue.value pass }
+        requires threads { threads ≡ queue.value.opened.threads }
         ensures { result ≡ seated queue.value pass }
     {
-        Seat { queue, pass }
+        Seat {
+            queue,
+            pass,
+            threads,
+        }
+    }
+
+    /// The number of the pass.
+    pub(crate) fn thread(&self) -> u32
+        ensures { result ≡ self.now.pass.thread }
+    {
+        self.pass.thread()
+    }
+
+    /// The number of the queue's passes.
+    pub(crate) fn threads(&self) -> u32
+        ensures { result ≡ self.now.queue.opened.threads }
+    {
+        self.threads
+    }
+
+    /// One more part in the queue.
+    pub(crate) fn share(&self) -> Result<Arc<Queue, Global>, AllocError>
+        ensures { IfOk result (λ queue. queue.value ≡ self.now.queue) }
+    {
+        Arc::try_clone(&self.queue)
+    }
+
+    /// The pass, with the part in the queue given up.
+    pub(crate) fn into_pass(self) -> Pass
+        ensures pass { result ≡ self.pass }
+        ensures of { IsOf self.queue result }
+    {
+        let Seat {
+            queue: _queue,
+            pass,
+            threads: _,
+        } = self;
+        pass
     }
 
     /// The enqueue of the pass, if it may be made.

@@ -1,7 +1,8 @@
 //! The numbers that C is answered: those of `enum kfifo_status` in `c/kfifo.h`.
 ghost use Rattle.std.specs.Prelude.{◌≡◌};
-ghost use Rattle.kfifo_c.specs.Exports.{number_of, shape_number};
+ghost use Rattle.kfifo_c.specs.Exports.{number_of, shape_number, open_number};
 
+use kfifo_live::OpenFault;
 use kfifo_model::Answer;
 use kfifo_words::ShapeFault;
 
@@ -37,4 +38,15 @@ pub(crate) fn shape_status(fault: ShapeFault) -> u32
     ensures { result ≡ shape_number fault }
 {
     10 + fault.number()
+}
+
+/// The number of an opening that was refused.
+pub(crate) fn open_status(fault: OpenFault) -> u32
+    ensures { result ≡ open_number fault }
+{
+    match fault {
+        OpenFault::ThreadsOutOfRange => BAD_THREADS,
+        // A plain queue is never refused for its number of stamped calls.
+        OpenFault::Memory | OpenFault::CallsOutOfRange => NO_MEMORY,
+    }
 }
