@@ -128,7 +128,7 @@ static void refusals(void) {
     expect(kfifo_word(&pass, 3, &word), KFIFO_DONE, "the clock");
     expect(word == 0, 1, "the clock of a plain queue");
     expect(kfifo_word(&pass, 2, &word), KFIFO_DONE, "the second slot");
-    expect((word & KFIFO_MAX_ITEM) == 5 || (word >> 40) == 5, 1, "the second slot's item");
+    expect((int)(word & KFIFO_MAX_ITEM), 5, "the second slot's item");
     expect(kfifo_close(NULL, 1, left, 2, &count), KFIFO_BAD_CALL, "no passes to close");
     expect(kfifo_close(&pass, 1, NULL, 2, &count), KFIFO_BAD_CALL, "no items");
     expect(kfifo_close(&pass, 1, left, 2, NULL), KFIFO_BAD_CALL, "no count");

@@ -1,5 +1,5 @@
 -- What is behind handles, read one after the other, and when a queue may be closed by them.
-use Rattle.std.proofs.Common.{◌≡◌, ◌+◌, ◌*◌, ◌<◌, ◌≤◌, ℕ, zero, suc, List, [], ◌∷◌, ◌++◌, Option, Some, None, IfSome, MatchOption, All, length, map, take, get_or, true, refl, sym, ap, subst, ◌∙◌, ◌≢◌, arith, rules, below_more}
+use Rattle.std.proofs.Common.{◌≡◌, ◌+◌, ◌*◌, ◌<◌, ◌≤◌, ℕ, zero, suc, List, [], ◌∷◌, ◌++◌, Option, Some, None, IfSome, MatchOption, All, length, map, take, get_or, refl, sym, ap, subst, ◌∙◌, ◌≢◌, arith, rules, below_more}
 use Rattle.std.specs.Prelude.{◌==◌}
 use Rattle.std.specs.List.{list_any}
 use Rattle.std.proofs.lemmas.List.{take_more, length-map, length-append, get_or-set_same, get_or-set_other}
@@ -7,7 +7,7 @@ use Rattle.std.proofs.lemmas.List.Elements.{All-head, All-tail}
 use Rattle.std.proofs.Math.ListN.{set, get_or-map as get_or_map}
 use Rattle.std.proofs.Math.Seq.{map-set_same}
 use Rattle.kfifo_words.specs.declared.shape.Shape.{Shape}
-use Rattle.kfifo_words.specs.Words.{value_of, head_of}
+use Rattle.kfifo_words.specs.Words.{head_of}
 use Rattle.kfifo_words.specs.Ring.{next_segment, slot_at}
 use Rattle.kfifo_live.specs.Pass.{OpenQueue, Known, IsOf, AllOf, IsComplete, Closes}
 use Rattle.kfifo_live.specs.Left.{item_in, slots_left, segments_left, items_left}
@@ -157,7 +157,7 @@ pub closes_length : (os : List (Option Seated)) (room : ℕ) (q : OpenQueue) →
 closes_length os room q may =
     subst (λ (l : List (Option Seated)). length (numbers_in l) ≡ length l) (sym may.handles_are)
     (length-map (passes_in (map Some (seats_of q may.passes))) (λ p. p.thread) ∙ ap length (passes_of_seats q may.passes)
-      ∙ sym (length-map (seats_of q may.passes) Some ∙ length-map may.passes (λ p. seated q p)))
+    ∙ sym (length-map (seats_of q may.passes) Some ∙ length-map may.passes (λ p. seated q p)))
 
 begun : (q : OpenQueue) (os : List (Option Seated)) → BeginsWith q os → 1 ≤ length os
 begun q [] begins = absurd begins
@@ -176,7 +176,6 @@ may_close os room first q one begins has many wide =
       complete = complete first.opened.threads (passes_in os) has;
       room_is = wide;
     }
-
 
 -- an option that is known
 pub match_none : {X : Type 0} (P : Type 0) (Q : X → Type 0) (o : Option X) → MatchOption o P Q → o ≡ None → P

@@ -1,6 +1,5 @@
 -- What a handle stands for, as clauses see it.
-use Rattle.std.specs.Prelude.{◌≡◌}
-use Rattle.kfifo_live.specs.Pass.{OpenQueue, Known, IsOf, IsSame}
+use Rattle.kfifo_live.specs.Pass.{OpenQueue, Known}
 
 -- a queue, and a pass that is of it
 pub record Seated : Type 0 where

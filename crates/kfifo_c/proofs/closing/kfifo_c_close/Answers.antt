@@ -1,4 +1,4 @@
-use Rattle.std.proofs.Common.{map, Some, ◌≡◌, ◌≤◌, ◌*◌, ◌++◌, ℕ, length, drop, vec_len, sym, ap, subst, ◌∙◌, arith}
+use Rattle.std.proofs.Common.{map, Some, ◌≡◌, ◌≤◌, ◌*◌, ◌++◌, length, drop, vec_len, sym, ap, subst, ◌∙◌, arith}
 use Rattle.kfifo_live.specs.Pass.{OpenQueue, AllOf}
 use Rattle.kfifo_c.specs.Handles.{behind}
 use Rattle.kfifo_c.specs.Exports.{MayClose, passes_in, seats_of, AreTheirs}
@@ -12,7 +12,7 @@ close-requires c =
     let may' = subst (λ (q : OpenQueue). MayClose q os (length c.args.items.now)) (sym c.in-Some.ensures) may in
     let same = c.in-Ok-Some.ensures.same in
     subst (AllOf c.in-Some.queue) (sym (c.in-Ok.ensures.taken ∙ ap passes_in same))
-      (closes_theirs os (length c.args.items.now) c.in-Some.queue may' (subst AreTheirs same c.in-Ok.ensures.of))
+    (closes_theirs os (length c.args.items.now) c.in-Some.queue may' (subst AreTheirs same c.in-Ok.ensures.of))
 
 pub write_items-requires : goal.write_items-requires
 write_items-requires c =

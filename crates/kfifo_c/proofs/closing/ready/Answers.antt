@@ -1,8 +1,8 @@
-use Rattle.std.proofs.Common.{◌≡◌, ◌≢◌, ◌≤◌, ◌<◌, ◌*◌, ℕ, length, map, true, sym, ap, subst, ◌∙◌, arith, true≢false, vec_len}
+use Rattle.std.proofs.Common.{◌≡◌, ◌≤◌, ◌<◌, ◌*◌, ℕ, length, sym, ap, subst, ◌∙◌, arith, true≢false, vec_len}
 use Rattle.std.proofs.lemmas.List.{length-map}
 use Rattle.kfifo_live.specs.Pass.{OpenQueue}
 use Rattle.kfifo_c.specs.Handles.{behind}
-use Rattle.kfifo_c.specs.Exports.{numbers_in, HasEach, MayClose}
+use Rattle.kfifo_c.specs.Exports.{numbers_in, HasEach}
 use Rattle.kfifo_c.proofs.Closings.{closes_first, one_first, closes_numbers, closes_length, may_close, match_none, match_some}
 use Rattle.kfifo_c.proofs.closing.ready.Goals as goal
 
@@ -47,6 +47,6 @@ returns-clause-may c =
     let wide = subst (λ n. n * c.k.result ≤ c.args.room) (c.n.ensures ∙ ap (λ s. s.n) shape) c.if-room-n.false in
     let has = subst (HasEach c.in-Some.threads) (c.as_slice.ensures.value ∙ found) (c.has_each.ensures.0 c.if-not-has_each.false) in
     may_close os c.args.room c.in-Some.queue.value c.requires.0 c.requires.1 first.0
-      (subst (λ t. HasEach t (numbers_in os)) first.1 has)
-      (ap length (sym found) ∙ sym v ∙ sym c.len.ensures ∙ c.if-len-handles.false ∙ sym (length-map c.numbers.new.handles (λ handle. handle.held.value)) ∙ ap length same)
-      (subst (λ k. c.in-Some.queue.value.opened.shape.n * k ≤ c.args.room) (c.k.ensures ∙ ap (λ s. s.k) shape) wide)
+    (subst (λ t. HasEach t (numbers_in os)) first.1 has)
+    (ap length (sym found) ∙ sym v ∙ sym c.len.ensures ∙ c.if-len-handles.false ∙ sym (length-map c.numbers.new.handles (λ handle. handle.held.value)) ∙ ap length same)
+    (subst (λ k. c.in-Some.queue.value.opened.shape.n * k ≤ c.args.room) (c.k.ensures ∙ ap (λ s. s.k) shape) wide)

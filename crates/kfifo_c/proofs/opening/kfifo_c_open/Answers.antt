@@ -1,5 +1,5 @@
-use Rattle.std.proofs.Common.{◌≡◌, length, sym, ap, ◌∙◌, arith}
-use Rattle.kfifo_c.proofs.Passes.{length_read, length_passes, length_seats}
+use Rattle.std.proofs.Common.{length, sym, ap, ◌∙◌}
+use Rattle.kfifo_c.proofs.Passes.{length_read, length_seats}
 use Rattle.kfifo_c.proofs.opening.kfifo_c_open.Goals as goal
 
 pub put_all-requires : goal.put_all-requires

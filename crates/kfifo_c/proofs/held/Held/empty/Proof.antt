@@ -1,28 +1,19 @@
 -- A walk.
-use Rattle.std.proofs.Common.{◌≡◌, List, [], ◌∷◌, ◌++◌, refl, sym, ap, subst, ◌∙◌, Option, Some, None, lit<}
-use mir.Val.{Val, vptr}
-use base.Logic.{SProp, ent, emp, id⊢}
+use Rattle.std.proofs.Common.{◌≡◌, [], ◌∷◌, refl, None, lit<}
+use mir.Val.{Val}
+use base.Logic.{SProp, emp}
 use base.Fml.{ftrue}
-use prog.Wp.{WpFn}
-use types.Kit.{‵, raw, ◌⊛◌, ◌$◌, ◌∵◌, !, qed, by, move, keep, drop, split, join, fsplit, fjoin, suffices, use0}
-use types.Run.{stop, fld, lit, of_opd, no_more, and_then, returns, enter}
-use types.ByLocal.{alloc_all, pass_all, free_all, look_at, get, get_in, sets}
-use types.Part.{agg, sub, whole}
+use types.Kit.{‵, raw, ◌⊛◌, ◌$◌, ◌∵◌, !, qed, by, move, keep, use0}
+use types.Run.{lit, no_more, and_then, returns, enter}
+use types.ByLocal.{alloc_all, pass_all, free_all, look_at, sets}
+use types.Part.{agg}
 use contract.Monad.{fact, fact_i}
 use contract.Running.{tables}
-use denote.Exit.{yes}
-use denote.RattleType.{RattleType, owns}
-use denote.Signature.{types_at, plain}
 use denote.RawPtr.{block_ptr, null_ptr}
-use denote.Steps.{nothing, heard}
-use denote.Triple.Walked.{Stays, stay_dropped, walk_of, Goes-dropped}
-use Rattle.core.proofs.alloc.Calls.{Al, handle_tells}
+use denote.Steps.{nothing}
+use denote.Triple.Walked.{Stays, walk_of}
 use Rattle.std.proofs.raw_atomic.Walks.{proved_at, leaves}
-use Rattle.std.specs.contracts.alloc.Global as heap
-use Rattle.std.proofs.alloc.Global.TheLaws as heap_laws
-use Rattle.std.specs.contracts.impls.GlobalAllocator.TheImpl.{ghosts}
-use Rattle.kfifo_c.proofs.Values.{both, Loose, loose_good, loose_in, loose_out, al}
-use Rattle.kfifo_c.proofs.HeldValues.{lone_val, Seat, Held, held_in, held_out}
+use Rattle.kfifo_c.proofs.HeldValues.{lone_val, held_in}
 use Rattle.kfifo_c.specs.contracts.held.Held.empty.{ended, clauses}
 use Rattle.kfifo_c.specs.contracts.held.Held.empty.Key.{name as #self}
 use Rattle.kfifo_c.proofs.held.Held.empty.Statement.{statement}
