@@ -2,7 +2,6 @@
 #ifndef KFIFO_H
 #define KFIFO_H
 
-#include <stdbool.h>
 #include <stddef.h>
 #include <stdint.h>
 
@@ -13,9 +12,9 @@ extern "C" {
 /* What a call answers. */
 enum kfifo_status {
     KFIFO_DONE = 0,          /* done; of an enqueue: the item is in the queue, or was already taken */
-    KFIFO_GOT = 1,           /* a dequeue took an item */
-    KFIFO_EMPTY = 2,         /* the queue was empty */
-    KFIFO_FULL = 3,          /* the ring was seen full; the item is not in it */
+    KFIFO_FULL = 1,          /* the ring was seen full; the item is not in it */
+    KFIFO_GOT = 2,           /* a dequeue took an item */
+    KFIFO_EMPTY = 3,         /* the queue was empty */
     KFIFO_BUSY = 4,          /* each of the turns was lost to other threads; nothing was put or taken */
     KFIFO_WORN = 5,          /* a version would pass the greatest one; close this queue and open another */
     KFIFO_BAD_CALL = 6,      /* a pointer is null, an argument out of range, a handle closed or missing; nothing was done */
@@ -37,7 +36,7 @@ enum kfifo_status {
    copy it and use both. */
 typedef struct kfifo_pass {
     void *inside;
-    bool live;
+    uint64_t live;
 } kfifo_pass;
 
 /* The exports of the library, which test all but null pointers. Call those below. */
@@ -54,7 +53,7 @@ static inline int kfifo_open(uint32_t k, uint32_t segments, uint32_t probes, uin
     if (!passes) return KFIFO_BAD_CALL;
     for (size_t i = 0; i < threads; i++) {
         passes[i].inside = NULL;
-        passes[i].live = false;
+        passes[i].live = 0;
     }
     return (int)kfifo_c_open(k, segments, probes, last, passes, threads);
 }

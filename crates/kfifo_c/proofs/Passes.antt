@@ -2,7 +2,7 @@
 use Rattle.std.proofs.Common.{◌≡◌, ap, ◌∙◌, map, reverse, length, ℕ, zero, suc, List, [], ◌∷◌, ◌++◌, Option, Some, None, is_some, true, refl, subst, Bool, T, not}
 use Rattle.std.proofs.lemmas.List.{map-append, reverse-append, length-reverse, length-map}
 use Rattle.kfifo_live.specs.Pass.{OpenQueue, Known, IsOf, AllOf, new_passes}
-use Rattle.kfifo_c.specs.Seats.{seated}
+use Rattle.kfifo_c.specs.Seats.{Seated, seated, live_of}
 use Rattle.kfifo_c.specs.Exports.{seats_of}
 
 -- new passes are of their opening
@@ -15,10 +15,10 @@ pub all_of_last : (q : OpenQueue) (ps : List Known) (p : Known) → AllOf q (ps 
 all_of_last q [] p all = (tt, all.0)
 all_of_last q (p' ∷ ps) p all = let r = all_of_last q ps p all.1 in ((all.0, r.0), r.1)
 
--- what is there is something
-pub something : {A : Type 0} (o : Option A) → is_some o ≡ true → (x : A) × (o ≡ Some x)
-something (Some x) e = (x, refl)
-something None e = absurd (subst (λ (b : Bool). T (not b)) e tt)
+-- what is open is something
+pub something : (o : Option Seated) → ¬ (live_of o ≡ 0) → (x : Seated) × (o ≡ Some x)
+something (Some x) live = (x, refl)
+something None live = absurd (live refl)
 
 -- of a list whose last element goes over to a list that is read from its end, both together stay the same
 pub moved : {A B : Type 0} (f : A → B) (rest : List A) (x : A) (made : List B) → map f rest ++ f x ∷ made ≡ map f (rest ++ x ∷ []) ++ made

@@ -21,9 +21,9 @@ use Rattle.kfifo_c.specs.Seats.{Seated, seated}
 -- the number of an answer of a call, and of a call that was not made
 abbrev pub number_of : Option Answer → ℕ
 number_of (Some Done) = 0
-number_of (Some (Got item)) = 1
-number_of (Some Empty) = 2
-number_of (Some Full) = 3
+number_of (Some Full) = 1
+number_of (Some (Got item)) = 2
+number_of (Some Empty) = 3
 number_of (Some Busy) = 4
 number_of (Some Worn) = 5
 number_of None = 6

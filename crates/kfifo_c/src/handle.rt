@@ -1,5 +1,6 @@
 //! What C holds for each thread.
-ghost use Rattle.std.specs.Prelude.{◌≡◌, Some, None, is_some, MatchOption};
+ghost use Rattle.std.specs.Prelude.{◌≡◌, Some, None, MatchOption};
+ghost use Rattle.kfifo_c.specs.Seats.{live_of};
 
 use crate::held::Held;
 use crate::loose::Loose;
@@ -12,8 +13,9 @@ use std::mem::replace;
 #[derive(Drop)]
 pub struct Handle {
     pub(crate) held: Held,
-    pub(crate) live: bool,
-    pub ghost is_live: { live ≡ is_some held.value },
+    // A word, so that no byte of padding is written at each call.
+    pub(crate) live: u64,
+    pub ghost is_live: { live ≡ live_of held.value },
 }
 
 impl Handle {
@@ -24,7 +26,7 @@ impl Handle {
     {
         Handle {
             held: Held::empty(),
-            live: false,
+            live: 0,
         }
     }
 
@@ -35,7 +37,7 @@ impl Handle {
     {
         Handle {
             held: Held::of(Loose::of(seat)),
-            live: true,
+            live: 1,
         }
     }
 
@@ -46,7 +48,7 @@ impl Handle {
         ensures closed { self.new.held.value ≡ None }
     {
         let Handle { held, live } = replace(self, Handle::closed());
-        if !live {
+        if live == 0 {
             return None;
         }
         Some(held.into_loose(alloc).into_box())

@@ -17,16 +17,16 @@ pub(crate) const BAD_THREADS: u32 = 8;
 /// The queue was closed, and want of memory lost the items that were left.
 pub(crate) const LOST: u32 = 9;
 
-/// The number of a call's answer, if it was made.
+/// The number of a call's answer, if it was made. In this order it is how the compiler stores the answer, so it costs nothing.
 #[inline(always)]
 pub(crate) fn status(answer: Option<Answer>) -> u32
     ensures { result ≡ number_of answer }
 {
     match answer {
         Some(Answer::Done) => DONE,
-        Some(Answer::Got(_)) => 1,
-        Some(Answer::Empty) => 2,
-        Some(Answer::Full) => 3,
+        Some(Answer::Full) => 1,
+        Some(Answer::Got(_)) => 2,
+        Some(Answer::Empty) => 3,
         Some(Answer::Busy) => 4,
         Some(Answer::Worn) => 5,
         None => BAD_CALL,
