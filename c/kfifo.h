@@ -1,0 +1,98 @@
+/* The proved k-FIFO queue, for C. docs/C.md says how to build and link it, and what a caller has to keep. */
+#ifndef KFIFO_H
+#define KFIFO_H
+
+#include <stddef.h>
+#include <stdint.h>
+
+#ifdef __cplusplus
+extern "C" {
+#endif
+
+/* What a call answers. */
+enum kfifo_status {
+    KFIFO_DONE = 0,          /* done; of an enqueue: the item is in the queue, or was already taken */
+    KFIFO_FULL = 1,          /* the ring was seen full; the item is not in it */
+    KFIFO_GOT = 2,           /* a dequeue took an item */
+    KFIFO_EMPTY = 3,         /* the queue was empty */
+    KFIFO_BUSY = 4,          /* each of the turns was lost to other threads; nothing was put or taken */
+    KFIFO_WORN = 5,          /* a version would pass the greatest one; close this queue and open another */
+    KFIFO_BAD_CALL = 6,      /* a pointer is null, an argument out of range, a handle closed or missing; nothing was done */
+    KFIFO_NO_MEMORY = 7,     /* an allocation failed; nothing was done */
+    KFIFO_BAD_THREADS = 8,   /* the number of threads is not 1 to 64 */
+    KFIFO_LOST = 9,          /* of a close: an allocation failed; the queue is closed and its items are lost */
+    KFIFO_BAD_K = 11,        /* k is not 1 to 64 */
+    KFIFO_BAD_SEGMENTS = 12, /* the number of segments is not 2 to 1,024 */
+    KFIFO_BAD_LAST = 13,     /* the greatest version is not 2 to 2^40 - 1 */
+    KFIFO_BAD_PROBES = 14    /* the number of probes is not 1 to k */
+};
+
+/* The greatest version that a word can have, 2^40 - 1: what `last` should be. */
+#define KFIFO_LAST UINT64_C(1099511627775)
+/* The greatest item, 2^24 - 1. The least is 1. */
+#define KFIFO_MAX_ITEM UINT32_C(16777215)
+
+/* A handle, one for each thread. All bytes 0 is a closed one. What it holds is the library's: neither read it nor write it, and never
+   copy it and use both. */
+typedef struct kfifo_pass {
+    void *inside;
+    uint64_t live;
+} kfifo_pass;
+
+/* The exports of the library, which test all but null pointers. Call those below. */
+uint32_t kfifo_c_open(uint32_t k, uint32_t segments, uint32_t probes, uint64_t last, kfifo_pass *passes, size_t threads);
+uint32_t kfifo_c_enqueue(kfifo_pass *pass, uint32_t item, uint32_t start, uint16_t turns);
+uint32_t kfifo_c_dequeue(kfifo_pass *pass, uint32_t *item, uint32_t start, uint16_t turns);
+uint32_t kfifo_c_word(kfifo_pass *pass, size_t index, uint64_t *word);
+uint32_t kfifo_c_close(kfifo_pass *passes, size_t threads, uint32_t *items, size_t room, size_t *count);
+void kfifo_c_abandon(kfifo_pass *passes, size_t threads);
+
+/* Opens a queue of `segments` segments of k slots, and writes a handle for each thread into the array `passes`, whose old contents are lost.
+   DONE; BAD_CALL of a null pointer; BAD_K, BAD_SEGMENTS, BAD_LAST, BAD_PROBES, BAD_THREADS, NO_MEMORY, and all handles are then closed. */
+static inline int kfifo_open(uint32_t k, uint32_t segments, uint32_t probes, uint64_t last, kfifo_pass *passes, size_t threads) {
+    if (!passes) return KFIFO_BAD_CALL;
+    for (size_t i = 0; i < threads; i++) {
+        passes[i].inside = NULL;
+        passes[i].live = 0;
+    }
+    return (int)kfifo_c_open(k, segments, probes, last, passes, threads);
+}
+
+/* Puts an item, 1 to KFIFO_MAX_ITEM, in at most `turns` rounds: DONE, FULL, BUSY, WORN or BAD_CALL. The scan begins at slot `start`, below k. */
+static inline int kfifo_enqueue(kfifo_pass *pass, uint32_t item, uint32_t start, uint16_t turns) {
+    if (!pass) return KFIFO_BAD_CALL;
+    return (int)kfifo_c_enqueue(pass, item, start, turns);
+}
+
+/* Takes one of the k oldest items: GOT, and writes it; else EMPTY, BUSY, WORN or BAD_CALL, and *item stays. */
+static inline int kfifo_dequeue(kfifo_pass *pass, uint32_t *item, uint32_t start, uint16_t turns) {
+    if (!pass || !item) return KFIFO_BAD_CALL;
+    return (int)kfifo_c_dequeue(pass, item, start, turns);
+}
+
+/* Reads a word of the queue: 0 is the ends word, then come the slots, segment by segment, and last the clock. DONE, and writes it; else
+   BAD_CALL, and *word stays. */
+static inline int kfifo_word(kfifo_pass *pass, size_t index, uint64_t *word) {
+    if (!pass || !word) return KFIFO_BAD_CALL;
+    return (int)kfifo_c_word(pass, index, word);
+}
+
+/* Closes a queue by the handles of all its passes, in any order, and writes the items that are left, and how many: DONE. There has to be
+   room for an item of each slot, k * segments. BAD_CALL or NO_MEMORY: nothing was done. LOST: closed, and the items are lost. */
+static inline int kfifo_close(kfifo_pass *passes, size_t threads, uint32_t *items, size_t room, size_t *count) {
+    if (!passes || !items || !count) return KFIFO_BAD_CALL;
+    return (int)kfifo_c_close(passes, threads, items, room, count);
+}
+
+/* Closes these handles. With the last open handle of a queue the queue goes, and the items that are left in it. */
+static inline int kfifo_abandon(kfifo_pass *passes, size_t threads) {
+    if (!passes) return KFIFO_BAD_CALL;
+    kfifo_c_abandon(passes, threads);
+    return KFIFO_DONE;
+}
+
+#ifdef __cplusplus
+}
+#endif
+
+#endif

@@ -1,0 +1,161 @@
+/* Threads put and take over many shapes; each item that went in has to come out once, and each refusal comes at its cause. */
+#include "kfifo.h"
+#include <pthread.h>
+#include <stdio.h>
+#include <stdlib.h>
+#include <string.h>
+
+enum { EACH = 2000, MOST = 4 };
+
+static int failed;
+static uint32_t left[64 * 1024]; /* what a close gives back */
+
+static void expect(int is, int wanted, const char *what) {
+    if (is != wanted) {
+        fprintf(stderr, "%s: %d, and not %d\n", what, is, wanted);
+        failed = 1;
+    }
+}
+
+struct side {
+    kfifo_pass *pass;
+    uint32_t k, first, done, got;
+    uint16_t turns;
+    unsigned char *out; /* how often each item came out to this thread */
+};
+
+static void take(struct side *self, uint32_t start) {
+    uint32_t item = 0;
+    if (kfifo_dequeue(self->pass, &item, start, self->turns) == KFIFO_GOT) {
+        self->out[item]++;
+        self->got++;
+    }
+}
+
+static void *work(void *argument) {
+    struct side *self = argument;
+    for (uint32_t i = 0; i < EACH; i++) {
+        for (;;) {
+            int status = kfifo_enqueue(self->pass, self->first + i, i % self->k, self->turns);
+            if (status == KFIFO_DONE) break;
+            if (status != KFIFO_FULL && status != KFIFO_BUSY) abort();
+            take(self, i % self->k);
+        }
+        self->done++;
+        if (i % 2) take(self, i % self->k);
+    }
+    return NULL;
+}
+
+/* A queue of this shape, these many threads, and each item counted in and out. */
+static void run(uint32_t k, uint32_t segments, uint32_t probes, uint32_t threads) {
+    kfifo_pass passes[MOST];
+    struct side sides[MOST];
+    pthread_t ids[MOST];
+    uint32_t items = threads * EACH, in = 0, out = 0, item = 0;
+    int status;
+    expect(kfifo_open(k, segments, probes, KFIFO_LAST, passes, threads), KFIFO_DONE, "open");
+    for (uint32_t i = 0; i < threads; i++) {
+        sides[i] = (struct side){.pass = &passes[i], .k = k, .first = 1 + i * EACH, .turns = (uint16_t)(segments + 2), .out = calloc(items + 1, 1)};
+        if (!sides[i].out || pthread_create(&ids[i], NULL, work, &sides[i])) abort();
+    }
+    for (uint32_t i = 0; i < threads; i++) pthread_join(ids[i], NULL);
+    while ((status = kfifo_dequeue(&passes[0], &item, 0, (uint16_t)(segments + 2))) == KFIFO_GOT) {
+        sides[0].out[item]++;
+        sides[0].got++;
+    }
+    expect(status, KFIFO_EMPTY, "the end");
+    for (uint32_t i = 0; i < threads; i++) {
+        in += sides[i].done;
+        out += sides[i].got;
+    }
+    expect((int)in, (int)items, "items put");
+    expect((int)out, (int)items, "items taken");
+    for (item = 1; item <= items; item++) {
+        int times = 0;
+        for (uint32_t i = 0; i < threads; i++) times += sides[i].out[item];
+        expect(times, 1, "how often an item came out");
+    }
+    for (uint32_t i = 0; i < threads; i++) free(sides[i].out);
+    expect(kfifo_enqueue(&passes[0], 1, 0, (uint16_t)(segments + 2)), KFIFO_DONE, "an item to be left");
+    expect(kfifo_enqueue(&passes[threads - 1], 2, 0, (uint16_t)(segments + 2)), KFIFO_DONE, "another");
+    size_t count = 77;
+    expect(kfifo_close(passes, threads, left, k * segments - 1, &count), KFIFO_BAD_CALL, "too little room");
+    if (threads > 1) expect(kfifo_close(passes, threads - 1, left, k * segments, &count), KFIFO_BAD_CALL, "a missing pass");
+    expect((int)count, 77, "the count of a close that did nothing");
+    expect(kfifo_close(passes, threads, left, k * segments, &count), KFIFO_DONE, "close");
+    expect((int)count, 2, "items left");
+    expect((int)(left[0] + left[1]), 3, "the items left");
+    expect(kfifo_enqueue(&passes[0], 1, 0, 1), KFIFO_BAD_CALL, "a closed handle");
+    expect(kfifo_close(passes, threads, left, k * segments, &count), KFIFO_BAD_CALL, "close again");
+}
+
+static void refusals(void) {
+    kfifo_pass pass, many[65];
+    uint32_t item = 77;
+    expect(kfifo_open(0, 2, 1, 9, &pass, 1), KFIFO_BAD_K, "k 0");
+    expect(kfifo_open(65, 2, 1, 9, &pass, 1), KFIFO_BAD_K, "k 65");
+    expect(kfifo_open(1, 1, 1, 9, &pass, 1), KFIFO_BAD_SEGMENTS, "segments 1");
+    expect(kfifo_open(1, 1025, 1, 9, &pass, 1), KFIFO_BAD_SEGMENTS, "segments 1025");
+    expect(kfifo_open(1, 2, 1, 1, &pass, 1), KFIFO_BAD_LAST, "last 1");
+    expect(kfifo_open(1, 2, 1, KFIFO_LAST + 1, &pass, 1), KFIFO_BAD_LAST, "last 2^40");
+    expect(kfifo_open(1, 2, 2, 9, &pass, 1), KFIFO_BAD_PROBES, "probes 2");
+    expect(kfifo_open(1, 2, 1, 9, &pass, 0), KFIFO_BAD_THREADS, "threads 0");
+    expect(kfifo_open(1, 2, 1, 9, many, 65), KFIFO_BAD_THREADS, "threads 65");
+    expect(kfifo_open(1, 2, 1, 9, NULL, 1), KFIFO_BAD_CALL, "no passes");
+    expect(kfifo_open(1, 2, 1, KFIFO_LAST, &pass, 1), KFIFO_DONE, "open");
+    expect(kfifo_enqueue(NULL, 1, 0, 4), KFIFO_BAD_CALL, "no pass");
+    expect(kfifo_enqueue(&pass, 0, 0, 4), KFIFO_BAD_CALL, "item 0");
+    expect(kfifo_enqueue(&pass, KFIFO_MAX_ITEM + 1, 0, 4), KFIFO_BAD_CALL, "item 2^24");
+    expect(kfifo_enqueue(&pass, 1, 1, 4), KFIFO_BAD_CALL, "start 1");
+    expect(kfifo_enqueue(&pass, 1, 0, 0), KFIFO_BAD_CALL, "no turns");
+    expect(kfifo_dequeue(&pass, NULL, 0, 4), KFIFO_BAD_CALL, "no item");
+    expect(kfifo_dequeue(&pass, &item, 1, 4), KFIFO_BAD_CALL, "start 1 of a dequeue");
+    expect(kfifo_dequeue(&pass, &item, 0, 0), KFIFO_BAD_CALL, "no turns of a dequeue");
+    expect(kfifo_dequeue(&pass, &item, 0, 4), KFIFO_EMPTY, "empty");
+    expect((int)item, 77, "the item of a dequeue that got none");
+    expect(kfifo_enqueue(&pass, KFIFO_MAX_ITEM, 0, 4), KFIFO_DONE, "the greatest item");
+    expect(kfifo_enqueue(&pass, 5, 0, 4), KFIFO_DONE, "item 5");
+    expect(kfifo_enqueue(&pass, 6, 0, 4), KFIFO_FULL, "full");
+    expect(kfifo_dequeue(&pass, &item, 0, 4), KFIFO_GOT, "got");
+    expect((int)item, (int)KFIFO_MAX_ITEM, "the first item");
+    uint64_t word = 77;
+    size_t count = 77;
+    expect(kfifo_word(NULL, 0, &word), KFIFO_BAD_CALL, "no pass to read by");
+    expect(kfifo_word(&pass, 0, NULL), KFIFO_BAD_CALL, "no word");
+    expect(kfifo_word(&pass, 4, &word), KFIFO_BAD_CALL, "a word past the last");
+    expect(word == 77, 1, "the word of a read that did nothing");
+    expect(kfifo_word(&pass, 3, &word), KFIFO_DONE, "the clock");
+    expect(word == 0, 1, "the clock of a plain queue");
+    expect(kfifo_word(&pass, 2, &word), KFIFO_DONE, "the second slot");
+    expect((int)(word & KFIFO_MAX_ITEM), 5, "the second slot's item");
+    expect(kfifo_close(NULL, 1, left, 2, &count), KFIFO_BAD_CALL, "no passes to close");
+    expect(kfifo_close(&pass, 1, NULL, 2, &count), KFIFO_BAD_CALL, "no items");
+    expect(kfifo_close(&pass, 1, left, 2, NULL), KFIFO_BAD_CALL, "no count");
+    expect(kfifo_close(&pass, 0, left, 2, &count), KFIFO_BAD_CALL, "a close by no handle");
+    expect(kfifo_abandon(NULL, 1), KFIFO_BAD_CALL, "no passes to abandon");
+    expect(kfifo_abandon(&pass, 1), KFIFO_DONE, "abandon");
+    expect(kfifo_abandon(&pass, 1), KFIFO_DONE, "abandon again");
+    expect(kfifo_dequeue(&pass, &item, 0, 4), KFIFO_BAD_CALL, "a closed handle");
+    expect(kfifo_open(1, 2, 1, 2, &pass, 1), KFIFO_DONE, "open for few versions");
+    int status = KFIFO_DONE;
+    for (int i = 0; i < 100 && status != KFIFO_WORN; i++) status = i % 2 ? kfifo_dequeue(&pass, &item, 0, 4) : kfifo_enqueue(&pass, 1, 0, 4);
+    expect(status, KFIFO_WORN, "worn");
+    expect(kfifo_close(&pass, 1, left, 2, &count), KFIFO_DONE, "close a worn queue");
+    kfifo_pass two[2];
+    expect(kfifo_open(1, 2, 1, 9, two, 2), KFIFO_DONE, "open for two");
+    kfifo_abandon(&two[1], 1);
+    expect(kfifo_close(two, 2, left, 2, &count), KFIFO_BAD_CALL, "a closed handle among those of a close");
+    expect(kfifo_enqueue(&two[0], 1, 0, 4), KFIFO_DONE, "the open one still works");
+    kfifo_abandon(two, 2);
+}
+
+int main(void) {
+    static const uint32_t ks[] = {1, 2, 5, 64}, rings[] = {2, 3, 16, 1024};
+    refusals();
+    for (size_t k = 0; k < 4; k++)
+        for (size_t n = 0; n < 4; n++)
+            for (uint32_t threads = 1; threads <= MOST; threads *= 2) run(ks[k], rings[n], threads == 2 ? 1 : ks[k], threads);
+    printf("%s\n", failed ? "the queue for C fails" : "16 shapes, 1, 2 and 4 threads: each item came out once");
+    return failed;
+}

@@ -1,0 +1,75 @@
+// The C++ wrapper: what it answers, throws and gives back.
+#include "kfifo.hpp"
+
+#include <algorithm>
+#include <cstdio>
+#include <thread>
+
+namespace {
+
+int failures = 0;
+
+void expect(bool holds, const char *what) {
+    if (!holds) {
+        std::fprintf(stderr, "%s\n", what);
+        failures++;
+    }
+}
+
+template <typename Call> bool refuses(Call call) {
+    try {
+        call();
+    } catch (const std::invalid_argument &) {
+        return true;
+    }
+    return false;
+}
+
+void one_thread() {
+    kfifo::Queue queue(1, 2, 1);
+    kfifo::Pass pass = queue.pass(0);
+    expect(!pass.dequeue(0, 4).item && pass.dequeue(0, 4).why == kfifo::Miss::empty, "a new queue is empty");
+    expect(pass.enqueue(5, 0, 4) == kfifo::Put::done, "the first item");
+    expect(pass.enqueue(6, 0, 4) == kfifo::Put::done, "the second item");
+    expect(pass.enqueue(7, 0, 4) == kfifo::Put::full, "a full ring");
+    expect(pass.dequeue(0, 4).item == 5U, "the oldest item");
+    expect((pass.word(2) & KFIFO_MAX_ITEM) == 6 && refuses([&] { pass.word(4); }), "words");
+    expect(refuses([&] { pass.enqueue(0, 0, 4); }) && refuses([&] { pass.enqueue(1, 1, 4); }), "an item and a start out of range");
+    expect(refuses([&] { pass.dequeue(0, 0); }), "no turns");
+    kfifo::Queue moved(std::move(queue));
+    expect(moved.close() == std::vector<std::uint32_t>{6}, "what is left");
+    expect(refuses([&] { moved.close(); }) && refuses([&] { pass.dequeue(0, 4); }), "a closed queue");
+}
+
+void refusals() {
+    expect(refuses([] { kfifo::Queue(0, 2, 1); }) && refuses([] { kfifo::Queue(65, 2, 1); }), "k out of range");
+    expect(refuses([] { kfifo::Queue(1, 1, 1); }) && refuses([] { kfifo::Queue(1, 1025, 1); }), "segments out of range");
+    expect(refuses([] { kfifo::Queue(1, 2, 0); }) && refuses([] { kfifo::Queue(1, 2, 65); }), "threads out of range");
+}
+
+void two_threads() {
+    constexpr std::uint32_t items = 3000;
+    kfifo::Queue queue(4, 1024, 2);
+    std::thread other([pass = queue.pass(1)] {
+        for (std::uint32_t item = 1; item <= items; item += 2)
+            while (pass.enqueue(item, item % 4, 1026) != kfifo::Put::done) std::this_thread::yield();
+    });
+    kfifo::Pass pass = queue.pass(0);
+    for (std::uint32_t item = 2; item <= items; item += 2)
+        while (pass.enqueue(item, item % 4, 1026) != kfifo::Put::done) std::this_thread::yield();
+    other.join();
+    std::vector<std::uint32_t> left = queue.close(), all(items);
+    for (std::uint32_t item = 1; item <= items; item++) all[item - 1] = item;
+    std::sort(left.begin(), left.end());
+    expect(left == all, "each item that two threads put is given back once");
+}
+
+} // namespace
+
+int main() {
+    one_thread();
+    refusals();
+    two_threads();
+    std::puts(failures ? "the wrapper fails" : "the wrapper answers, throws and gives back what it should");
+    return failures;
+}

@@ -1,0 +1,197 @@
+-- What is behind handles, read one after the other, and when a queue may be closed by them.
+use Rattle.std.proofs.Common.{◌≡◌, ◌+◌, ◌*◌, ◌<◌, ◌≤◌, ℕ, zero, suc, List, [], ◌∷◌, ◌++◌, Option, Some, None, IfSome, MatchOption, All, length, map, take, get_or, refl, sym, ap, subst, ◌∙◌, ◌≢◌, arith, rules, below_more}
+use Rattle.std.specs.Prelude.{◌==◌}
+use Rattle.std.specs.List.{list_any}
+use Rattle.std.proofs.lemmas.List.{take_more, length-map, length-append, get_or-set_same, get_or-set_other}
+use Rattle.std.proofs.lemmas.List.Elements.{All-head, All-tail}
+use Rattle.std.proofs.Math.ListN.{set, get_or-map as get_or_map}
+use Rattle.std.proofs.Math.Seq.{map-set_same}
+use Rattle.kfifo_words.specs.declared.shape.Shape.{Shape}
+use Rattle.kfifo_words.specs.Words.{head_of}
+use Rattle.kfifo_words.specs.Ring.{next_segment, slot_at}
+use Rattle.kfifo_live.specs.Pass.{OpenQueue, Known, IsOf, AllOf, IsComplete, Closes}
+use Rattle.kfifo_live.specs.Left.{item_in, slots_left, segments_left, items_left}
+use Rattle.kfifo_c.specs.declared.handle.Handle.{Handle}
+use Rattle.kfifo_c.specs.Seats.{Seated, seated}
+use Rattle.kfifo_c.specs.Handles.{behind}
+use Rattle.kfifo_c.specs.Exports.{seats_of, passes_in, numbers_in, BeginsWith, HasEach, MayClose, OneQueue, AreTheirs}
+
+-- a handle gets back what was behind it
+pub put_back : (hs : List Handle) (i : ℕ) (h d : Handle) → h.held.value ≡ (get_or hs i d).held.value → behind (set hs i h) ≡ behind hs
+put_back hs i h d e = map-set_same (λ handle. handle.held.value) hs i h d e
+
+-- the next handle of a list
+pub next_behind : (hs : List Handle) (os : List (Option Seated)) (i : ℕ) (d : Handle) (o : Option Seated) → behind hs ≡ os → i < length hs → (get_or hs i d).held.value ≡ o
+    → take (i + 1) os ≡ take i os ++ o ∷ []
+next_behind hs os i d o e below is =
+    let below' : i < length (behind hs) = subst (λ (n : ℕ). i < n) (sym (length-map hs (λ handle. handle.held.value))) below in
+    ap (λ (xs : List (Option Seated)). take (i + 1) xs) (sym e) ∙ take_more (behind hs) i d.held.value below'
+    ∙ ap (λ (x : Option Seated). take i (behind hs) ++ x ∷ []) (get_or_map (λ handle. handle.held.value) hs i d ∙ is)
+    ∙ ap (λ (xs : List (Option Seated)). take i xs ++ o ∷ []) e
+
+pub passes_more : (os : List (Option Seated)) (s : Seated) → passes_in (os ++ Some s ∷ []) ≡ passes_in os ++ s.pass ∷ []
+passes_more [] s = refl
+passes_more (None ∷ os) s = passes_more os s
+passes_more (Some x ∷ os) s = ap (λ l. x.pass ∷ l) (passes_more os s)
+
+pub passes_same : (os : List (Option Seated)) → passes_in (os ++ None ∷ []) ≡ passes_in os
+passes_same [] = refl
+passes_same (None ∷ os) = passes_same os
+passes_same (Some x ∷ os) = ap (λ l. x.pass ∷ l) (passes_same os)
+
+pub theirs_more : (os : List (Option Seated)) (o : Option Seated) → AreTheirs os → IfSome o (λ s. IsOf s.queue s.pass) → AreTheirs (os ++ o ∷ [])
+theirs_more [] None all is = tt
+theirs_more [] (Some s) all is = (is, tt)
+theirs_more (None ∷ os) o all is = theirs_more os o all is
+theirs_more (Some s ∷ os) o all is = (all.0, theirs_more os o all.1 is)
+
+-- the passes of open handles of one queue
+pub passes_of_seats : (q : OpenQueue) (ps : List Known) → passes_in (map Some (seats_of q ps)) ≡ ps
+passes_of_seats q [] = refl
+passes_of_seats q (p ∷ ps) = ap (λ l. p ∷ l) (passes_of_seats q ps)
+
+pub all_of_seats : (q : OpenQueue) (ps : List Known) → AreTheirs (map Some (seats_of q ps)) → AllOf q ps
+all_of_seats q [] all = tt
+all_of_seats q (p ∷ ps) all = (all.0, all_of_seats q ps all.1)
+
+few_passes : (os : List (Option Seated)) → length (passes_in os) ≤ length os
+few_passes [] = omega arith
+few_passes (None ∷ os) = let few = few_passes os in omega arith
+few_passes (Some s ∷ os) = let few = few_passes os in omega arith
+
+-- handles of one queue that are as many as their passes are all open
+pub all_open : (q : OpenQueue) (os : List (Option Seated)) → All (OneQueue q) os → length (passes_in os) ≡ length os → os ≡ map Some (seats_of q (passes_in os))
+all_open q [] one many = refl
+all_open q (None ∷ os) one many = let few = few_passes os in absurd (omega arith)
+all_open q (Some s ∷ os) one many =
+    let many' : length (passes_in os) ≡ length os = omega arith in
+    let is : s.queue ≡ q = All-head (OneQueue q) (Some s) os one in
+    ap (λ (q' : OpenQueue). Some (seated q' s.pass) ∷ os) is ∙ ap (λ (l : List (Option Seated)). Some (seated q s.pass) ∷ l) (all_open q os (All-tail (OneQueue q) (Some s) os one) many')
+
+-- the first is of the queue of all
+pub same_queue : (q first : OpenQueue) (os : List (Option Seated)) → All (OneQueue q) os → BeginsWith first os → first ≡ q
+same_queue q first [] one begins = absurd begins
+same_queue q first (None ∷ os) one begins = absurd begins
+same_queue q first (Some s ∷ os) one begins = begins ∙ All-head (OneQueue q) (Some s) os one
+
+-- a test of numbers is one of passes
+any_number : (ps : List Known) (t : ℕ) → list_any (λ n. n == t) (map (λ p. p.thread) ps) ≡ list_any (λ p. p.thread == t) ps
+any_number [] t = refl
+any_number (p ∷ ps) t = search (rules, any_number ps t)
+
+pub complete : (threads : ℕ) (ps : List Known) → HasEach threads (map (λ p. p.thread) ps) → IsComplete threads ps
+complete threads ps has = record {
+  count = sym (length-map ps (λ p. p.thread)) ∙ has.count;
+  each = λ t below. sym (any_number ps t) ∙ has.each t below;
+}
+
+pub has_all : (threads : ℕ) (ps : List Known) → IsComplete threads ps → HasEach threads (map (λ p. p.thread) ps)
+has_all threads ps is = record {
+  count = length-map ps (λ p. p.thread) ∙ is.count;
+  each = λ t below. any_number ps t ∙ is.each t below;
+}
+
+-- no more items are left than there are slots
+few_in : (word : ℕ) → length (item_in word) ≤ 1
+few_in word = search rules
+
+few_slots : (words : List ℕ) (index count : ℕ) → length (slots_left words index count) ≤ count
+few_slots words index zero = omega arith
+few_slots words index (suc count) =
+    let e = length-append (item_in (get_or words index 0)) (slots_left words (suc index) count) in
+    let one = few_in (get_or words index 0) in
+    let rest = few_slots words (suc index) count in omega arith
+
+few_segments : (shape : Shape) (words : List ℕ) (segment count : ℕ) → length (segments_left shape words segment count) ≤ count * shape.k
+few_segments shape words segment zero = omega arith
+few_segments shape words segment (suc count) =
+    let e = length-append (slots_left words (slot_at shape.k segment 0) shape.k) (segments_left shape words (next_segment shape.n segment) count) in
+    let one = few_slots words (slot_at shape.k segment 0) shape.k in
+    let rest = few_segments shape words (next_segment shape.n segment) count in omega arith
+
+pub few_left : (shape : Shape) (words : List ℕ) → length (items_left shape words) ≤ shape.n * shape.k
+few_left shape words = few_segments shape words (head_of (get_or words 0 0)) shape.n
+
+pub numbers_more : (os : List (Option Seated)) (s : Seated) → numbers_in (os ++ Some s ∷ []) ≡ numbers_in os ++ s.pass.thread ∷ []
+numbers_more [] s = refl
+numbers_more (None ∷ os) s = numbers_more os s
+numbers_more (Some x ∷ os) s = ap (λ l. x.pass.thread ∷ l) (numbers_more os s)
+
+pub numbers_same : (os : List (Option Seated)) → numbers_in (os ++ None ∷ []) ≡ numbers_in os
+numbers_same os = ap (map (λ pass. pass.thread)) (passes_same os)
+
+-- handles that are taken in turn: those behind are as they were, and those before are closed
+pub rest_more : (olds hs : List Handle) (i : ℕ) (h : Handle) → ((k : ℕ) (d : Handle) → i ≤ k → get_or hs k d ≡ get_or olds k d)
+    → (k : ℕ) (d : Handle) → i + 1 ≤ k → get_or (set hs i h) k d ≡ get_or olds k d
+rest_more olds hs i h rest k d above = let ne : k ≢ i = omega arith in get_or-set_other hs i k h d ne ∙ rest k d (omega arith)
+
+pub closed_more : (hs : List Handle) (i : ℕ) (h : Handle) → ((k : ℕ) (d : Handle) → k < i → (get_or hs k d).held.value ≡ None) → h.held.value ≡ None → i < length hs
+    → (k : ℕ) (d : Handle) → k < i + 1 → (get_or (set hs i h) k d).held.value ≡ None
+closed_more hs i h closed is below k d under = below_more (λ (j : ℕ). (get_or (set hs i h) j d).held.value ≡ None) i
+    (λ j lt. let ne : j ≢ i = omega arith in ap (λ x. x.held.value) (get_or-set_other hs i j h d ne) ∙ closed j d lt)
+    (ap (λ x. x.held.value) (get_or-set_same hs i h d below) ∙ is) k under
+
+pub one_longer : {A : Type 0} (xs : List A) (x : A) → length (xs ++ x ∷ []) ≡ length xs + 1
+one_longer xs x = length-append xs (x ∷ [])
+
+-- a queue that is closed by a list of handles is the queue of the first
+pub closes_first : (os : List (Option Seated)) (room : ℕ) (q : OpenQueue) → MayClose q os room → BeginsWith q os
+closes_first os room q may = subst (BeginsWith q) (sym may.handles_are) (begins may.passes (let e = may.complete.count in let some = may.some_pass in omega arith))
+  where
+    begins : (ps : List Known) → 1 ≤ length ps → BeginsWith q (map Some (seats_of q ps))
+    begins [] few = absurd (omega arith)
+    begins (p ∷ ps) few = refl
+
+-- two queues that begin one list are the same
+pub one_first : (os : List (Option Seated)) (q first : OpenQueue) → BeginsWith q os → BeginsWith first os → q ≡ first
+one_first [] q first a b = absurd a
+one_first (None ∷ os) q first a b = absurd a
+one_first (Some s ∷ os) q first a b = a ∙ sym b
+
+-- what a close by these handles says of their numbers
+pub closes_numbers : (os : List (Option Seated)) (room : ℕ) (q : OpenQueue) → MayClose q os room → HasEach q.opened.threads (numbers_in os)
+closes_numbers os room q may = subst (λ (l : List (Option Seated)). HasEach q.opened.threads (numbers_in l)) (sym may.handles_are)
+    (subst (λ (ps : List Known). HasEach q.opened.threads (map (λ p. p.thread) ps)) (sym (passes_of_seats q may.passes)) (has_all q.opened.threads may.passes may.complete))
+
+pub closes_length : (os : List (Option Seated)) (room : ℕ) (q : OpenQueue) → MayClose q os room → length (numbers_in os) ≡ length os
+closes_length os room q may =
+    subst (λ (l : List (Option Seated)). length (numbers_in l) ≡ length l) (sym may.handles_are)
+    (length-map (passes_in (map Some (seats_of q may.passes))) (λ p. p.thread) ∙ ap length (passes_of_seats q may.passes)
+    ∙ sym (length-map (seats_of q may.passes) Some ∙ length-map may.passes (λ p. seated q p)))
+
+begun : (q : OpenQueue) (os : List (Option Seated)) → BeginsWith q os → 1 ≤ length os
+begun q [] begins = absurd begins
+begun q (o ∷ os) begins = omega arith
+
+-- when a queue may be closed, by what was read of its handles
+pub may_close : (os : List (Option Seated)) (room : ℕ) (first q : OpenQueue) → All (OneQueue q) os → BeginsWith first os → HasEach first.opened.threads (numbers_in os)
+    → length (numbers_in os) ≡ length os → first.opened.shape.n * first.opened.shape.k ≤ room → MayClose first os room
+may_close os room first q one begins has many wide =
+    let is = same_queue q first os one begins in
+    let one' = subst (λ (q' : OpenQueue). All (OneQueue q') os) (sym is) one in
+    record {
+      some_pass = let e = has.count in let some = begun first os begins in omega arith;
+      passes = passes_in os;
+      handles_are = all_open first os one' (sym (length-map (passes_in os) (λ p. p.thread)) ∙ many);
+      complete = complete first.opened.threads (passes_in os) has;
+      room_is = wide;
+    }
+
+-- an option that is known
+pub match_none : {X : Type 0} (P : Type 0) (Q : X → Type 0) (o : Option X) → MatchOption o P Q → o ≡ None → P
+match_none {X} P Q o m e = subst (λ (o' : Option X). MatchOption o' P Q) e m
+
+pub match_some : {X : Type 0} (P : Type 0) (Q : X → Type 0) (o : Option X) (x : X) → MatchOption o P Q → o ≡ Some x → Q x
+match_some {X} P Q o x m e = subst (λ (o' : Option X). MatchOption o' P Q) e m
+
+-- at most as many items are left as there are slots
+pub few_closed : (q : OpenQueue) (ps : List Known) (items : List ℕ) → Closes q ps items → length items ≤ q.opened.shape.n * q.opened.shape.k
+few_closed q ps items closes = subst (λ (l : List ℕ). length l ≤ q.opened.shape.n * q.opened.shape.k) (sym closes.items_are) (few_left q.opened.shape closes.world.words)
+
+pub closes_theirs : (os : List (Option Seated)) (room : ℕ) (q : OpenQueue) → MayClose q os room → AreTheirs os → AllOf q (passes_in os)
+closes_theirs os room q may theirs = subst (λ (l : List (Option Seated)). AllOf q (passes_in l)) (sym may.handles_are)
+    (subst (AllOf q) (sym (passes_of_seats q may.passes)) (all_of_seats q may.passes (subst AreTheirs may.handles_are theirs)))
+
+pub closes_passes : (os : List (Option Seated)) (room : ℕ) (q : OpenQueue) → MayClose q os room → os ≡ map Some (seats_of q (passes_in os))
+closes_passes os room q may = may.handles_are
+    ∙ ap (λ (ps : List Known). map Some (seats_of q ps)) (sym (passes_of_seats q may.passes) ∙ ap passes_in (sym may.handles_are))

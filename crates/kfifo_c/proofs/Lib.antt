@@ -1,0 +1,5 @@
+mod Closings
+mod HeldValues
+mod Passes
+mod Tried
+mod Values

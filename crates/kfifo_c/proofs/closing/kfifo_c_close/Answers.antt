@@ -1,0 +1,40 @@
+use Rattle.std.proofs.Common.{map, Some, ◌≡◌, ◌≤◌, ◌*◌, ◌++◌, length, drop, vec_len, sym, ap, subst, ◌∙◌, arith}
+use Rattle.kfifo_live.specs.Pass.{OpenQueue, AllOf}
+use Rattle.kfifo_c.specs.Handles.{behind}
+use Rattle.kfifo_c.specs.Exports.{MayClose, passes_in, seats_of, AreTheirs}
+use Rattle.kfifo_c.proofs.Closings.{match_some, few_closed, closes_theirs, closes_passes}
+use Rattle.kfifo_c.proofs.closing.kfifo_c_close.Goals as goal
+
+pub close-requires : goal.close-requires
+close-requires c =
+    let os = behind c.args.passes.now in
+    let may = match_some _ _ c.in-Ok-Some.field-0 c.in-Ok-Some.queue c.in-Ok-Some.ensures.may c.in-Ok-Some.field-0-is in
+    let may' = subst (λ (q : OpenQueue). MayClose q os (length c.args.items.now)) (sym c.in-Some.ensures) may in
+    let same = c.in-Ok-Some.ensures.same in
+    subst (AllOf c.in-Some.queue) (sym (c.in-Ok.ensures.taken ∙ ap passes_in same))
+    (closes_theirs os (length c.args.items.now) c.in-Some.queue may' (subst AreTheirs same c.in-Ok.ensures.of))
+
+pub write_items-requires : goal.write_items-requires
+write_items-requires c =
+    let may = match_some _ _ c.in-Ok-Some.field-0 c.in-Ok-Some.queue c.in-Ok-Some.ensures.may c.in-Ok-Some.field-0-is in
+    let few = few_closed c.in-Some.queue c.in-Ok.taken.items c.in-Ok-close.left.items c.in-Ok-close.ensures.ok in
+    let wide = subst (λ (q : OpenQueue). q.opened.shape.n * q.opened.shape.k ≤ length c.args.items.now) (sym c.in-Some.ensures) may.room_is in
+    let e = ap length c.as_slice.ensures.value in
+    let slots = c.in-Some.queue.opened.shape.n * c.in-Some.queue.opened.shape.k in
+    subst (λ n. n ≤ length c.args.items.now) (sym e) (omega (arith, few, wide))
+
+pub returns-clause-done : goal.returns-clause-done
+returns-clause-done c = λ _.
+    let os = behind c.args.passes.now in
+    let may = match_some _ _ c.in-Ok-Some.field-0 c.in-Ok-Some.queue c.in-Ok-Some.ensures.may c.in-Ok-Some.field-0-is in
+    let may' = subst (λ (q : OpenQueue). MayClose q os (length c.args.items.now)) (sym c.in-Some.ensures) may in
+    let taken = c.in-Ok.ensures.taken ∙ ap passes_in c.in-Ok-Some.ensures.same in
+    let v : vec_len c.in-Ok-close.left ≡ length c.in-Ok-close.left.items = omega arith in record {
+      queue = c.in-Some.queue;
+      passes = c.in-Ok.taken.items;
+      handles_are = closes_passes os (length c.args.items.now) c.in-Some.queue may' ∙ ap (λ ps. map Some (seats_of c.in-Some.queue ps)) (sym taken);
+      left = c.in-Ok-close.left.items;
+      closes = c.in-Ok-close.ensures.ok;
+      count_is = c.len.ensures ∙ v;
+      written = c.write_items.ensures ∙ ap (λ l. l ++ drop (length l) c.args.items.now) c.as_slice.ensures.value;
+    }

@@ -1,0 +1,25 @@
+use Rattle.std.proofs.Common.{◌<◌, refl, ap, subst, ◌∙◌}
+use Rattle.kfifo_machine.specs.declared.event.Begin.TheVariants.{Dequeue}
+use Rattle.kfifo_c.specs.Seats.{Seated, seated}
+use Rattle.kfifo_c.specs.Exports.{MayDequeue, Called}
+use Rattle.kfifo_c.proofs.seat.Seat.dequeue.Goals as goal
+
+pub returns : goal.returns
+returns c =
+    let below = subst (λ n. c.args.start < n) (c.k.ensures ∙ ap (λ s. s.k) c.shape.ensures ∙ ap (λ q. q.opened.shape.k) c.deref.ensures) c.if-start-k.false in
+    subst (λ (s : Seated). MayDequeue c.args.start c.args.turns s × Called (Dequeue c.args.start c.args.turns) c.dequeue.result s (seated c.self.inside.queue.value c.dequeue.new.self)) c.self.view_is (
+      record {
+        start_below = below;
+        some_turn = c.if-turns-lt1.false;
+      },
+      record {
+        queue = refl;
+        same = c.dequeue.ensures.same;
+        run = c.dequeue.ensures.run;
+        few_steps = c.dequeue.ensures.few_steps;
+        cause = c.dequeue.ensures.cause;
+        disturbed = c.dequeue.ensures.disturbed;
+        leaves_none = c.dequeue.ensures.leaves_none;
+        promise = c.dequeue.ensures.promise;
+      },
+    )

@@ -1,0 +1,27 @@
+use Rattle.std.proofs.Common.{◌<◌, refl, ap, subst, ◌∙◌, arith}
+use Rattle.kfifo_machine.specs.declared.event.Begin.TheVariants.{Enqueue}
+use Rattle.kfifo_c.specs.Seats.{Seated, seated}
+use Rattle.kfifo_c.specs.Exports.{MayEnqueue, Called}
+use Rattle.kfifo_c.proofs.seat.Seat.enqueue.Goals as goal
+
+pub returns : goal.returns
+returns c =
+    let below = subst (λ n. c.args.start < n) (c.k.ensures ∙ ap (λ s. s.k) c.shape.ensures ∙ ap (λ q. q.opened.shape.k) c.deref.ensures) c.if-start-k.false in
+    subst (λ (s : Seated). MayEnqueue c.args.item c.args.start c.args.turns s × Called (Enqueue c.args.item c.args.start c.args.turns) c.enqueue.result s (seated c.self.inside.queue.value c.enqueue.new.self)) c.self.view_is (
+      record {
+        some_item = c.if-item-lt1.false;
+        small_item = omega arith;
+        start_below = below;
+        some_turn = c.if-turns-lt1.false;
+      },
+      record {
+        queue = refl;
+        same = c.enqueue.ensures.same;
+        run = c.enqueue.ensures.run;
+        few_steps = c.enqueue.ensures.few_steps;
+        cause = c.enqueue.ensures.cause;
+        disturbed = c.enqueue.ensures.disturbed;
+        leaves_none = c.enqueue.ensures.leaves_none;
+        promise = c.enqueue.ensures.promise;
+      },
+    )

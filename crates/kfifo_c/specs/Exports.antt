@@ -1,0 +1,174 @@
+-- What C is answered, and what the answers say of the pass behind a handle. The numbers are those of c/kfifo.h.
+use Rattle.std.specs.Prelude.{◌≡◌, ℕ, ◌+◌, ◌*◌, ◌^◌, ◌<◌, ◌≤◌, Option, Some, None, IfSome, List, [], ◌∷◌, ◌++◌, map, length, drop, All, true, ◌==◌, ⊤}
+use Rattle.std.specs.List.{list_any}
+use Rattle.kfifo_words.specs.declared.fault.ShapeFault.{ShapeFault}
+use Rattle.kfifo_words.specs.Sizes.{shape_fault_number}
+use Rattle.kfifo_words.specs.declared.shape.Shape.{Shape}
+use Rattle.kfifo_model.specs.declared.calls.Answer.{Answer}
+use Rattle.kfifo_model.specs.declared.calls.Answer.TheVariants.{Done, Full, Got, Empty, Busy, Worn}
+use Rattle.kfifo_machine.specs.declared.event.Begin.{Begin}
+use Rattle.kfifo_machine.specs.Laws.{IsRefusal}
+use Rattle.kfifo_machine.specs.Rounds.{turns_of}
+use Rattle.kfifo_linear.specs.Headline.{HasLegalOrder, FewOvertake, FewCertainlyOvertake}
+use Rattle.kfifo_live.specs.Schedule.{opening}
+use Rattle.kfifo_live.specs.declared.fault.OpenFault.{OpenFault}
+use Rattle.kfifo_live.specs.declared.fault.OpenFault.TheVariants.{ThreadsOutOfRange}
+use Rattle.kfifo_live.specs.Calls.{Makes, TakesFewSteps, HasCause, IsDisturbed, LeavesNoItem}
+use Rattle.kfifo_live.specs.Promise.{KeepsPromise}
+use Rattle.kfifo_live.specs.Pass.{OpenQueue, Known, IsOf, IsSame, Finds, IsZeroed, new_passes, IsComplete, Closes}
+use Rattle.kfifo_c.specs.Seats.{Seated, seated}
+
+-- the number of an answer of a call, and of a call that was not made
+abbrev pub number_of : Option Answer → ℕ
+number_of (Some Done) = 0
+number_of (Some Full) = 1
+number_of (Some (Got item)) = 2
+number_of (Some Empty) = 3
+number_of (Some Busy) = 4
+number_of (Some Worn) = 5
+number_of None = 6
+
+-- the number of a shape that there is not, 11 to 14
+abbrev pub shape_number : ShapeFault → ℕ
+shape_number fault = 10 + shape_fault_number fault
+
+-- the number of an opening that was refused
+abbrev pub open_number : OpenFault → ℕ
+open_number ThreadsOutOfRange = 8
+open_number other = 7
+
+-- what a dequeue leaves in the variable of its item
+abbrev pub item_after : ℕ → Option Answer → ℕ
+item_after old (Some (Got item)) = item
+item_after old other = old
+
+-- an enqueue may be made with these arguments
+pub record MayEnqueue (item start turns : ℕ) (seat : Seated) : Type 0 where
+  pub some_item : 1 ≤ item
+  pub small_item : item < 2 ^ 24
+  pub start_below : start < seat.queue.opened.shape.k
+  pub some_turn : 1 ≤ turns
+
+-- and a dequeue with these
+pub record MayDequeue (start turns : ℕ) (seat : Seated) : Type 0 where
+  pub start_below : start < seat.queue.opened.shape.k
+  pub some_turn : 1 ≤ turns
+
+-- and a word of this index may be read
+abbrev pub MayRead : ℕ → Seated → Type 0
+MayRead index seat = index < 2 + seat.queue.opened.shape.n * seat.queue.opened.shape.k
+
+-- the pass made this call, and was given this answer: all that the running queue says of its calls
+pub record Called (call : Begin) (answer : Answer) (old new : Seated) : Type 0 where
+  pub queue : new.queue ≡ old.queue
+  pub same : IsSame old.pass new.pass
+  pub run : Makes call answer old.pass new.pass
+  pub few_steps : TakesFewSteps call old.pass new.pass
+  pub cause : HasCause call answer old.pass new.pass
+  pub disturbed : answer ≡ Busy → old.pass.opened.shape.n + 2 ≤ turns_of call → IsDisturbed old.pass new.pass
+  pub leaves_none : IsRefusal answer → LeavesNoItem old.pass new.pass
+  pub promise : KeepsPromise new.pass.opened new.pass.seen
+
+-- A call by a handle. It is not made, and nothing changes, exactly where the handle is closed or the call may not be made
+-- with its arguments. Else the pass behind the handle makes it, and is there still
+abbrev pub Tries : (Seated → Type 0) → Begin → Option Answer → Option Seated → Option Seated → Type 0
+Tries may call None old new = (new ≡ old) × IfSome old (λ seat. ¬ may seat)
+Tries may call (Some answer) old new = (seat after : Seated) × (old ≡ Some seat) × (new ≡ Some after) × may seat × Called call answer seat after
+
+-- the pass read this word, and saw what it says of the queue
+pub record HasRead (index word : ℕ) (old new : Seated) : Type 0 where
+  pub queue : new.queue ≡ old.queue
+  pub same : IsSame old.pass new.pass
+  pub finds : Finds old.pass new.pass index word
+  pub promise : KeepsPromise new.pass.opened new.pass.seen
+
+-- A read by a handle, as a call is
+abbrev pub TriesRead : ℕ → Option ℕ → Option Seated → Option Seated → Type 0
+TriesRead index None old new = (new ≡ old) × IfSome old (λ seat. ¬ MayRead index seat)
+TriesRead index (Some word) old new = (seat after : Seated) × (old ≡ Some seat) × (new ≡ Some after) × MayRead index seat × HasRead index word seat after
+
+-- the number of a read, and what it leaves in the variable of its word
+abbrev pub read_number : Option ℕ → ℕ
+read_number (Some word) = 0
+read_number None = 6
+
+abbrev pub word_after : ℕ → Option ℕ → ℕ
+word_after old (Some word) = word
+word_after old None = old
+
+-- the seats of these passes of one queue, in their order
+abbrev pub seats_of : OpenQueue → List Known → List Seated
+seats_of queue = map (λ pass. seated queue pass)
+
+-- a queue of these sizes was opened, of which these are the new seats: all that the running queue says of an opening
+pub record Opens (shape : Shape) (threads : ℕ) (seats : List Seated) : Type 0 where
+  pub queue : OpenQueue
+  pub opened : queue.opened ≡ opening shape threads
+  pub new : seats ≡ seats_of queue (new_passes queue 0 threads)
+  pub zeroed : IsZeroed queue.opened
+  pub legal : HasLegalOrder shape threads
+  pub few_overtake : FewOvertake shape threads
+  pub few_certainly_overtake : FewCertainlyOvertake shape threads
+
+-- those of these sizes
+pub record OpensSizes (k segments last probes threads : ℕ) (handles : List (Option Seated)) : Type 0 where
+  pub shape : Shape
+  pub k_is : shape.k ≡ k
+  pub segments_are : shape.n ≡ segments
+  pub last_is : shape.last ≡ last
+  pub probes_are : shape.probes ≡ probes
+  pub seats : List Seated
+  pub opens : Opens shape threads seats
+  pub handles_are : handles ≡ map Some seats
+
+-- the handle, if it is open, is of this queue
+abbrev pub OneQueue : OpenQueue → Option Seated → Type 0
+OneQueue queue handle = IfSome handle (λ seat. seat.queue ≡ queue)
+
+-- the open ones of these handles are of one queue
+abbrev pub AreOfOneQueue : List (Option Seated) → Type 0
+AreOfOneQueue handles = (queue : OpenQueue) × All (OneQueue queue) handles
+
+-- the first handle is open, and of this queue
+abbrev pub BeginsWith : OpenQueue → List (Option Seated) → Type 0
+BeginsWith queue [] = ⊥
+BeginsWith queue (None ∷ handles) = ⊥
+BeginsWith queue (Some seat ∷ handles) = queue ≡ seat.queue
+
+-- the passes behind the open ones of these handles, and their numbers
+abbrev pub passes_in : List (Option Seated) → List Known
+passes_in [] = []
+passes_in (None ∷ handles) = passes_in handles
+passes_in (Some seat ∷ handles) = seat.pass ∷ passes_in handles
+
+abbrev pub numbers_in : List (Option Seated) → List ℕ
+numbers_in handles = map (λ pass. pass.thread) (passes_in handles)
+
+-- each of these passes is of the queue that stands beside it
+abbrev pub AreTheirs : List (Option Seated) → Type 0
+AreTheirs [] = ⊤
+AreTheirs (None ∷ handles) = AreTheirs handles
+AreTheirs (Some seat ∷ handles) = IsOf seat.queue seat.pass × AreTheirs handles
+
+-- as many numbers as there are threads, and that of each
+pub record HasEach (threads : ℕ) (numbers : List ℕ) : Type 0 where
+  pub count : length numbers ≡ threads
+  pub each : (thread : ℕ) → thread < threads → list_any (λ number. number == thread) numbers ≡ true
+
+-- these handles are of all passes of the queue, one at least and each there once, and there is room for an item of each slot
+pub record MayClose (queue : OpenQueue) (handles : List (Option Seated)) (room : ℕ) : Type 0 where
+  pub some_pass : 1 ≤ queue.opened.threads
+  pub passes : List Known
+  pub handles_are : handles ≡ map Some (seats_of queue passes)
+  pub complete : IsComplete queue.opened.threads passes
+  pub room_is : queue.opened.shape.n * queue.opened.shape.k ≤ room
+
+-- a queue was closed by these handles, and the items that were left were written, and their number: all that the running queue says of a close
+pub record ClosesInto (handles : List (Option Seated)) (old new : List ℕ) (count : ℕ) : Type 0 where
+  pub queue : OpenQueue
+  pub passes : List Known
+  pub handles_are : handles ≡ map Some (seats_of queue passes)
+  pub left : List ℕ
+  pub closes : Closes queue passes left
+  pub count_is : count ≡ length left
+  pub written : new ≡ left ++ drop (length left) old

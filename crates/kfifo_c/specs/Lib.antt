@@ -1,0 +1,4 @@
+pub mod Exports
+pub mod Handles
+pub mod Held
+pub mod Seats

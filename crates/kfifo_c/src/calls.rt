@@ -1,0 +1,87 @@
+//! The calls of C by one handle.
+ghost use Rattle.std.specs.Prelude.{◌≡◌, ℕ, None, Option, All};
+ghost use Rattle.kfifo_model.specs.declared.calls.Answer.{Answer as Answered};
+ghost use Rattle.kfifo_machine.specs.declared.event.Begin.TheVariants.{Enqueue, Dequeue};
+ghost use Rattle.kfifo_c.specs.Exports.{Tries, TriesRead, MayEnqueue, MayDequeue, number_of, item_after, read_number, word_after};
+
+use crate::handle::Handle;
+use crate::status::{BAD_CALL, DONE, status};
+use kfifo_model::Answer;
+use std::alloc::Global;
+
+/// Puts an item into the queue of the handle: `Pass::enqueue`, and its answer's number. BAD_CALL, with nothing done, where the
+/// handle is closed, the item is not 1 to 2^24 - 1, `start` not below k, or `turns` 0.
+#[unsafe(no_mangle)]
+pub extern "C" fn kfifo_c_enqueue(
+    alloc: Global,
+    pass: &mut Handle,
+    item: u32,
+    start: u32,
+    turns: u16,
+) -> u32
+    ensures { (answer : Option Answered) × (result ≡ number_of answer) × Tries (MayEnqueue item start turns) (Enqueue item start turns) answer pass.old.held.value pass.new.held.value }
+{
+    let Some(mut seat) = pass.take(alloc) else {
+        return BAD_CALL;
+    };
+    let answer = seat.enqueue(item, start, turns);
+    *pass = Handle::of(seat);
+    status(answer)
+}
+
+/// Takes one of the k oldest items out of the queue of the handle: `Pass::dequeue`, and its answer's number; the item is
+/// written where there is one. BAD_CALL, with nothing done, where the handle is closed, `start` not below k, or `turns` 0.
+#[unsafe(no_mangle)]
+pub extern "C" fn kfifo_c_dequeue(
+    alloc: Global,
+    pass: &mut Handle,
+    item: &mut u32,
+    start: u32,
+    turns: u16,
+) -> u32
+    ensures { (answer : Option Answered) × (result ≡ number_of answer) × (item.new ≡ item_after item.old answer) × Tries (MayDequeue start turns) (Dequeue start turns) answer pass.old.held.value pass.new.held.value }
+{
+    let Some(mut seat) = pass.take(alloc) else {
+        return BAD_CALL;
+    };
+    let answer = seat.dequeue(start, turns);
+    *pass = Handle::of(seat);
+    if let Some(Answer::Got(taken)) = answer {
+        *item = taken;
+    }
+    status(answer)
+}
+
+/// Reads the word of this index: `Pass::word`. BAD_CALL, with nothing done, where the handle is closed or there is no such word.
+#[unsafe(no_mangle)]
+pub extern "C" fn kfifo_c_word(
+    alloc: Global,
+    pass: &mut Handle,
+    index: usize,
+    word: &mut u64,
+) -> u32
+    ensures { (read : Option ℕ) × (result ≡ read_number read) × (word.new ≡ word_after word.old read) × TriesRead index read pass.old.held.value pass.new.held.value }
+{
+    let Some(mut seat) = pass.take(alloc) else {
+        return BAD_CALL;
+    };
+    let read = seat.word(index);
+    *pass = Handle::of(seat);
+    match read {
+        Some(bits) => {
+            *word = bits;
+            DONE
+        }
+        None => BAD_CALL,
+    }
+}
+
+/// Closes these handles. With the last open handle of a queue the queue goes, and the items that are left in it.
+#[unsafe(no_mangle)]
+pub extern "C" fn kfifo_c_abandon(alloc: Global, passes: &mut [Handle])
+    ensures { All (λ pass. pass.held.value ≡ None) passes.new }
+{
+    for pass in passes.iter_mut() {
+        let _seat = pass.take(alloc);
+    }
+}

@@ -1,0 +1,162 @@
+//! Closing a queue.
+ghost use Rattle.std.specs.Prelude.{◌≡◌, ◌⊎◌, ◌↔◌, ◌≤◌, ◌++◌, ◌==◌, None, Some, MatchOption, IfOk, IsErr, IsTrue, All, length, drop};
+ghost use Rattle.std.specs.List.{list_any};
+ghost use Rattle.kfifo_live.specs.Pass.{OpenQueue};
+ghost use Rattle.kfifo_c.specs.Handles.{behind};
+ghost use Rattle.kfifo_c.specs.Exports.{AreOfOneQueue, AreTheirs, BeginsWith, HasEach, MayClose, ClosesInto, numbers_in, passes_in};
+
+use crate::handle::Handle;
+use crate::status::{BAD_CALL, DONE, LOST, NO_MEMORY};
+use kfifo_live::{Pass, Queue, close};
+use std::alloc::{AllocError, Global};
+use std::sync::Arc;
+
+/// A part in the queue of the first handle, and the number of its passes; none where it is closed, or not there.
+fn first_queue(
+    alloc: Global,
+    handles: &mut [Handle],
+) -> Result<Option<(Arc<Queue, Global>, u32)>, AllocError>
+    ensures same { behind handles.new ≡ behind handles.old }
+    ensures first { IfOk result (λ found. MatchOption found (¬ ((queue : OpenQueue) × BeginsWith queue (behind handles.old))) (λ found. BeginsWith found.0.value (behind handles.old) × (found.1 ≡ found.0.value.opened.threads))) }
+{
+    if handles.is_empty() {
+        return Ok(None);
+    }
+    let Some(seat) = handles[0].take(alloc) else {
+        return Ok(None);
+    };
+    let threads = seat.threads();
+    let shared = seat.share();
+    handles[0] = Handle::of(seat);
+    let queue = shared?;
+    Ok(Some((queue, threads)))
+}
+
+/// The numbers of the passes behind the open ones of these handles.
+fn numbers(alloc: Global, handles: &mut [Handle]) -> Result<Vec<u32>, AllocError>
+    ensures same { behind handles.new ≡ behind handles.old }
+    ensures numbers { IfOk result (λ numbers. numbers.items ≡ numbers_in (behind handles.old)) }
+{
+    let mut numbers = Vec::with_capacity(alloc, handles.len())?;
+    for handle in handles.iter_mut() {
+        if let Some(seat) = handle.take(alloc) {
+            let number = seat.thread();
+            *handle = Handle::of(seat);
+            numbers.push(number)?;
+        }
+    }
+    Ok(numbers)
+}
+
+/// Whether this number is among these.
+fn has(numbers: &[u32], thread: u32) -> bool
+    ensures { result ≡ list_any (λ number. number == thread) numbers.now }
+{
+    numbers.iter().any(|number| *number == thread)
+}
+
+/// Whether these are as many numbers as a queue has passes, and each of them is there.
+fn has_each(numbers: &[u32], threads: u32) -> bool
+    ensures { IsTrue result ↔ HasEach threads numbers.now }
+{
+    if numbers.len() != threads as usize {
+        return false;
+    }
+    for thread in 0..threads {
+        if !has(numbers, thread) {
+            return false;
+        }
+    }
+    true
+}
+
+/// A part in the queue that may be closed by these handles, into so much room; none where there is none.
+fn ready(
+    alloc: Global,
+    handles: &mut [Handle],
+    room: usize,
+) -> Result<Option<Arc<Queue, Global>>, AllocError>
+    requires { AreOfOneQueue (behind handles.old) }
+    ensures same { behind handles.new ≡ behind handles.old }
+    ensures may { IfOk result (λ found. MatchOption found (¬ ((queue : OpenQueue) × MayClose queue (behind handles.old) room)) (λ queue. MayClose queue.value (behind handles.old) room)) }
+{
+    let Some((queue, threads)) = first_queue(alloc, handles)? else {
+        return Ok(None);
+    };
+    let shape = queue.shape();
+    if room < shape.n() as usize * shape.k() as usize {
+        return Ok(None);
+    }
+    let numbers = numbers(alloc, handles)?;
+    if numbers.len() != handles.len() {
+        return Ok(None);
+    }
+    if !has_each(numbers.as_slice(), threads) {
+        return Ok(None);
+    }
+    Ok(Some(queue))
+}
+
+/// The passes behind the open ones of these handles, which are then closed.
+fn take_all(alloc: Global, handles: &mut [Handle]) -> Result<Vec<Pass>, AllocError>
+    ensures refused { IsErr result → handles.new ≡ handles.old }
+    ensures closed { IfOk result (λ _. All (λ handle. handle.held.value ≡ None) handles.new) }
+    ensures taken { IfOk result (λ passes. passes.items ≡ passes_in (behind handles.old)) }
+    ensures of { IfOk result (λ _. AreTheirs (behind handles.old)) }
+{
+    let mut passes = Vec::with_capacity(alloc, handles.len())?;
+    for handle in handles.iter_mut() {
+        if let Some(seat) = handle.take(alloc) {
+            let seat = Box::into_inner(seat);
+            passes.push_reserved(seat.into_pass());
+        }
+    }
+    Ok(passes)
+}
+
+/// Writes the items that are left, from the beginning on.
+fn write_items(items: &mut [u32], left: &[u32])
+    requires { length left.now ≤ length items.old }
+    ensures { items.new ≡ left.now ++ drop (length left.now) items.old }
+{
+    items[..left.len()].copy_from_slice(left);
+}
+
+/// Closes a queue by the handles of all its passes, and writes the items that are left, and how many: `close`. The handles of
+/// one call are of one queue. BAD_CALL, with nothing done, where there are none, one is closed, a pass of the queue is missing, or there
+/// is not room for an item of each slot; NO_MEMORY, with nothing done, and LOST, with the queue closed and its items lost,
+/// where an allocation failed.
+#[unsafe(no_mangle)]
+pub extern "C" fn kfifo_c_close(
+    alloc: Global,
+    passes: &mut [Handle],
+    items: &mut [u32],
+    count: &mut usize,
+) -> u32
+    requires { AreOfOneQueue (behind passes.old) }
+    ensures answers { (result ≡ 0) ⊎ (result ≡ 6) ⊎ (result ≡ 7) ⊎ (result ≡ 9) }
+    ensures bad { result ≡ 6 → ¬ ((queue : OpenQueue) × MayClose queue (behind passes.old) (length items.old)) }
+    ensures nothing { (result ≡ 6) ⊎ (result ≡ 7) → behind passes.new ≡ behind passes.old }
+    ensures closed { (result ≡ 0) ⊎ (result ≡ 9) → All (λ pass. pass.held.value ≡ None) passes.new }
+    ensures done { result ≡ 0 → ClosesInto (behind passes.old) items.old items.new count.new }
+    ensures kept { (result ≡ 6) ⊎ (result ≡ 7) ⊎ (result ≡ 9) → (items.new ≡ items.old) × (count.new ≡ count.old) }
+{
+    let queue = match ready(alloc, passes, items.len()) {
+        Ok(Some(queue)) => queue,
+        Ok(None) => return BAD_CALL,
+        Err(_) => return NO_MEMORY,
+    };
+    let Ok(taken) = take_all(alloc, passes) else {
+        return NO_MEMORY;
+    };
+    // The last part in the queue, unless handles of two queues were mixed.
+    let Some(queue) = Arc::into_inner(queue) else {
+        return LOST;
+    };
+    let Ok(left) = close(alloc, queue, taken) else {
+        return LOST;
+    };
+    write_items(items, left.as_slice());
+    *count = left.len();
+    DONE
+}

@@ -1,0 +1,96 @@
+//! Opening a queue.
+ghost use Rattle.std.specs.Prelude.{◌≡◌, ◌≢◌, ◌<◌, ◌≤◌, ◌⊎◌, ◌↔◌, None, Some, IfSome, IfOk, IsErrOf, length, map, reverse};
+ghost use Rattle.kfifo_words.specs.Sizes.{fault_of};
+ghost use Rattle.kfifo_live.specs.Pass.{AllOf};
+ghost use Rattle.kfifo_live.specs.declared.fault.OpenFault.TheVariants.{ThreadsOutOfRange};
+ghost use Rattle.kfifo_c.specs.Handles.{behind};
+ghost use Rattle.kfifo_c.specs.Exports.{seats_of, Opens, OpensSizes, shape_number};
+
+use crate::handle::Handle;
+use crate::seat::Seat;
+use crate::status::{BAD_THREADS, DONE, open_status, shape_status};
+use kfifo_live::{OpenFault, Pass, Queue};
+use kfifo_words::Shape;
+use std::alloc::{AllocError, Global};
+use std::sync::Arc;
+
+/// A seat for each pass, the last pass first.
+fn seat_all(
+    alloc: Global,
+    queue: Queue,
+    mut passes: Vec<Pass>,
+    threads: u32,
+) -> Result<Vec<Box<Seat, Global>>, AllocError>
+    requires of { AllOf queue passes.items }
+    requires threads { threads ≡ queue.opened.threads }
+    ensures { IfOk result (λ seats. reverse (map (λ seat. seat.value) seats.items) ≡ seats_of queue passes.items) }
+{
+    let shared = Arc::new(alloc, queue)?;
+    let mut seats = Vec::with_capacity(alloc, passes.len())?;
+    while let Some(pass) = passes.pop() {
+        let queue = Arc::try_clone(&shared)?;
+        let seat = Box::new(alloc, Seat::new(queue, pass, threads))?;
+        seats.push(seat)?;
+    }
+    Ok(seats)
+}
+
+/// The seats of a new queue, that of the last thread first.
+fn open_seats(
+    alloc: Global,
+    shape: Shape,
+    threads: u32,
+) -> Result<Vec<Box<Seat, Global>>, OpenFault>
+    ensures ok { IfOk result (λ seats. Opens shape threads (reverse (map (λ seat. seat.value) seats.items))) }
+    ensures threads { IsErrOf result ThreadsOutOfRange ↔ ((threads ≡ 0) ⊎ (64 < threads)) }
+{
+    let (queue, passes) = Queue::open(alloc, shape, threads)?;
+    let seats = seat_all(alloc, queue, passes, threads)?;
+    Ok(seats)
+}
+
+/// Puts the seats behind the handles, the last seat first.
+fn put_all(handles: &mut [Handle], mut seats: Vec<Box<Seat, Global>>)
+    requires { length seats.items ≡ length handles.old }
+    ensures { behind handles.new ≡ map Some (reverse (map (λ seat. seat.value) seats.items)) }
+{
+    for handle in handles.iter_mut() {
+        if let Some(seat) = seats.pop() {
+            *handle = Handle::of(seat);
+        }
+    }
+}
+
+/// Opens a queue for as many threads as there are handles, and puts a pass behind each, in their order: `Queue::open`. What was
+/// behind them is lost. Else nothing is done: BAD_K, BAD_SEGMENTS, BAD_LAST or BAD_PROBES where there is no such shape, BAD_THREADS
+/// where the handles are not 1 to 64, NO_MEMORY where an allocation failed.
+#[unsafe(no_mangle)]
+pub extern "C" fn kfifo_c_open(
+    alloc: Global,
+    k: u32,
+    segments: u32,
+    probes: u32,
+    last: u64,
+    passes: &mut [Handle],
+) -> u32
+    ensures ok { result ≡ 0 → OpensSizes k segments last probes (length passes.old) (behind passes.new) }
+    ensures refused { result ≢ 0 → passes.new ≡ passes.old }
+    ensures shape { IfSome (fault_of k segments last probes) (λ fault. result ≡ shape_number fault) }
+    ensures threads { fault_of k segments last probes ≡ None → (length passes.old ≡ 0) ⊎ (64 < length passes.old) → result ≡ 8 }
+    ensures memory { fault_of k segments last probes ≡ None → 1 ≤ length passes.old → length passes.old ≤ 64 → (result ≡ 0) ⊎ (result ≡ 7) }
+{
+    let shape = match Shape::with_probes(k, segments, last, probes) {
+        Ok(shape) => shape,
+        Err(fault) => return shape_status(fault),
+    };
+    if passes.len() > 64 {
+        return BAD_THREADS;
+    }
+    match open_seats(alloc, shape, passes.len() as u32) {
+        Ok(seats) => {
+            put_all(passes, seats);
+            DONE
+        }
+        Err(fault) => open_status(fault),
+    }
+}

@@ -1,0 +1,113 @@
+//! What a handle stands for.
+ghost use Rattle.std.specs.Prelude.{◌≡◌, ◌<◌, ◌≤◌, ◌^◌, ◌+◌, ◌*◌, MatchOption, IfOk};
+ghost use Rattle.kfifo_machine.specs.declared.event.Begin.TheVariants.{Enqueue, Dequeue};
+ghost use Rattle.kfifo_live.specs.Pass.{IsOf};
+ghost use Rattle.kfifo_c.specs.Seats.{Seated, seated};
+ghost use Rattle.kfifo_c.specs.Exports.{MayEnqueue, MayDequeue, MayRead, Called, HasRead};
+
+use kfifo_live::{Pass, Queue};
+use kfifo_model::Answer;
+use std::alloc::{AllocError, Global};
+use std::marker::Model;
+use std::sync::Arc;
+
+/// The most that an item can be, 2^24 - 1.
+const MAX_ITEM: u32 = 16_777_215;
+
+/// A pass, a part in the queue that it is of, and the number of that queue's passes.
+#[derive(Drop)]
+pub struct Seat {
+    pub(crate) queue: Arc<Queue, Global>,
+    pub(crate) pass: Pass,
+    pub(crate) threads: u32,
+}
+
+impl Model for Seat {
+    ghost Value = { Seated };
+
+    ghost view = { λ s. seated s.queue.value s.pass };
+
+    ghost invariant = { λ s. IsOf s.queue.value s.pass × (s.threads ≡ s.queue.value.opened.threads) };
+}
+
+impl Seat {
+    /// A seat for this pass of a queue of so many.
+    pub(crate) fn new(queue: Arc<Queue, Global>, pass: Pass, threads: u32) -> Seat
+        requires of { IsOf queue.value pass }
+        requires threads { threads ≡ queue.value.opened.threads }
+        ensures { result ≡ seated queue.value pass }
+    {
+        Seat {
+            queue,
+            pass,
+            threads,
+        }
+    }
+
+    /// The number of the pass.
+    pub(crate) fn thread(&self) -> u32
+        ensures { result ≡ self.now.pass.thread }
+    {
+        self.pass.thread()
+    }
+
+    /// The number of the queue's passes.
+    pub(crate) fn threads(&self) -> u32
+        ensures { result ≡ self.now.queue.opened.threads }
+    {
+        self.threads
+    }
+
+    /// One more part in the queue.
+    pub(crate) fn share(&self) -> Result<Arc<Queue, Global>, AllocError>
+        ensures { IfOk result (λ queue. queue.value ≡ self.now.queue) }
+    {
+        Arc::try_clone(&self.queue)
+    }
+
+    /// The pass, with the part in the queue given up.
+    pub(crate) fn into_pass(self) -> Pass
+        ensures pass { result ≡ self.pass }
+        ensures of { IsOf self.queue result }
+    {
+        let Seat {
+            queue: _queue,
+            pass,
+            threads: _,
+        } = self;
+        pass
+    }
+
+    /// The enqueue of the pass, if it may be made.
+    #[inline(always)]
+    pub(crate) fn enqueue(&mut self, item: u32, start: u32, turns: u16) -> Option<Answer>
+        ensures { MatchOption result ((self.new ≡ self.old) × (¬ MayEnqueue item start turns self.old)) (λ answer. MayEnqueue item start turns self.old × Called (Enqueue item start turns) answer self.old self.new) }
+    {
+        if item < 1 || item > MAX_ITEM || start >= self.queue.shape().k() || turns < 1 {
+            return None;
+        }
+        Some(self.pass.enqueue(&self.queue, item, start, turns))
+    }
+
+    /// The dequeue of the pass, if it may be made.
+    #[inline(always)]
+    pub(crate) fn dequeue(&mut self, start: u32, turns: u16) -> Option<Answer>
+        ensures { MatchOption result ((self.new ≡ self.old) × (¬ MayDequeue start turns self.old)) (λ answer. MayDequeue start turns self.old × Called (Dequeue start turns) answer self.old self.new) }
+    {
+        if start >= self.queue.shape().k() || turns < 1 {
+            return None;
+        }
+        Some(self.pass.dequeue(&self.queue, start, turns))
+    }
+
+    /// The word of this index, if there is one.
+    pub(crate) fn word(&mut self, index: usize) -> Option<u64>
+        ensures { MatchOption result ((self.new ≡ self.old) × (¬ MayRead index self.old)) (λ word. MayRead index self.old × HasRead index word self.old self.new) }
+    {
+        let shape = self.queue.shape();
+        if index >= 2 + shape.n() as usize * shape.k() as usize {
+            return None;
+        }
+        Some(self.pass.word(&self.queue, index))
+    }
+}
