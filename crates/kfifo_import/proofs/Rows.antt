@@ -1,5 +1,5 @@
 -- A table, row by row.
-use Rattle.std.proofs.Common.{◌≡◌, ◌++◌, ◌∷◌, [], ℕ, List, Option, Some, None, ap, sym, subst, refl}
+use Rattle.std.proofs.Common.{◌++◌, ◌∷◌, [], ℕ, List, Some, None, ap, sym, subst}
 use Rattle.kfifo_import.specs.declared.log.Line.{Line}
 use Rattle.kfifo_import.specs.declared.table.Columns.{Columns}
 use Rattle.kfifo_import.specs.Fields.{HasColumns, IsCallOf}
