@@ -19,3 +19,4 @@ pub mod Rotation
 pub mod Balance
 pub mod CallScans
 pub mod Made
+pub mod Pays
