@@ -318,7 +318,7 @@ module _ (T : Type 0) (o : Opening) where
         (
           (omega (arith, above)),
           at_thread o.tokens o.threads thread first within above below ∙ ap (Home thread) behind,
-          (None, home_at {T = T} (o.threads * o.tokens) (first - 1) (omega (arith, up, below, above))),
+          home_at {T = T} (o.threads * o.tokens) (first - 1) (omega (arith, up, below, above)),
         ),
         tokens_open thread (suc first) n within (omega (arith, is)) (omega (arith, above)),
       )

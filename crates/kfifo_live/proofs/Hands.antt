@@ -19,6 +19,7 @@ use Rattle.kfifo_machine.specs.declared.place.Running.{Running}
 use Rattle.kfifo_machine.specs.declared.place.Running.TheVariants as R
 use Rattle.kfifo_machine.specs.declared.place.Next.{Next}
 use Rattle.kfifo_machine.specs.declared.place.Next.TheVariants.{Goes, Answers}
+use Rattle.kfifo_model.specs.declared.calls.Answer.TheVariants.{Got}
 use Rattle.kfifo_machine.specs.declared.place.Access.TheVariants.{Exchange}
 use Rattle.kfifo_machine.specs.Program.{access, accessed, advance, emptied, enqueue_advance, filled_with}
 use Rattle.kfifo_machine.specs.Machine.{place_after}
@@ -27,7 +28,7 @@ use Rattle.kfifo_machine.proofs.Alone.{slots_stay}
 use Rattle.kfifo_machine.proofs.Quiet.{words_by}
 use Rattle.kfifo_machine.proofs.Tokens.{EnqueueKnows, value-emptied, value-filled_with}
 use Rattle.kfifo_live.specs.declared.view.Hand.{Hand}
-use Rattle.kfifo_live.specs.Hands.{Gifts, Homes, Where, Home, Out, In, Move, Stays, Lays, Lifts, Takes, move, out_in, out_at, own_item, out_next, last_gift, beside, AllHome, PutFits, GiftFits, CallFits, HandFits, SlotsFit, where_after, hand_after, slot_of, act_of}
+use Rattle.kfifo_live.specs.Hands.{FitsOwn, Gifts, Homes, Where, Home, Out, In, Move, Stays, Lays, Lifts, Takes, move, out_in, out_at, own_item, out_next, last_gift, beside, AllHome, PutFits, GiftFits, CallFits, HandFits, Leaves, SlotsFit, where_after, hand_after, slot_of, act_of}
 use Rattle.kfifo_live.proofs.Balance.{DequeueKnows, Knows}
 
 -- the last gift of an item, after one more
@@ -172,7 +173,7 @@ module _ {T : Type 0} (shape : Shape) (w v : ℕ → ℕ) (at at' : ℕ → Wher
   home_on t [] a = tt
   home_on t (x ∷ xs) a =
       let s = stays_home x t (length xs) a.0.0 a.0.1 in
-      ((a.0.0, s.0 ∙ a.0.1, (a.0.2.0, s.1 ∙ a.0.2.1)), home_on t xs a.1)
+      ((a.0.0, s.0 ∙ a.0.1, s.1 ∙ a.0.2), home_on t xs a.1)
 
   gift_held : (u item : ℕ) (payload : Option T) → u ≢ thread → at item ≡ Out u → beside item gifts ≡ payload → beside item gifts' ≡ payload
   gift_held u item payload ne there is = same_gift item (λ e. ne (Out-injective u thread (sym there ∙ e))) ∙ is
@@ -373,7 +374,7 @@ out_gift w gifts hand (R.Enqueue item start left (E.MoveHead ends)) fits positiv
 out_gift w gifts hand (R.Enqueue item start left (E.MoveTail ends)) fits positive out = (fits.2, fits.1)
 out_gift w gifts hand (R.Dequeue start left phase) fits positive out = absurd (omega arith)
 
-out_is : {T : Type 0} (w : ℕ → ℕ) (gifts : Gifts T) (hand : Hand T) (r : Running) → CallFits w gifts hand (Some r) → hand.out ≡ out_at r
+pub out_is : {T : Type 0} (w : ℕ → ℕ) (gifts : Gifts T) (hand : Hand T) (r : Running) → CallFits w gifts hand (Some r) → hand.out ≡ out_at r
 out_is w gifts hand (R.Enqueue item start left phase) fits = fits.0
 out_is w gifts hand (R.Dequeue start left phase) fits = fits
 
@@ -427,9 +428,22 @@ pub record After {T : Type 0} (shape : Shape) (w v : ℕ → ℕ) (at : ℕ → 
       → (where_after thread (own_item r) m at (hand_after m gifts' hand).out ≡ Out thread) × ((hand_after m gifts' hand).out ≤ length (homes_after homes held (act_of 1 m gifts')))
   pub others : (u : ℕ) (place : Option Running) (hand : Hand T) → u ≢ thread → ((s : Running) → place ≡ Some s → IsPlace shape s) → ((s : Running) → place ≡ Some s → Knows s)
       → HandFits w place at gifts homes u hand → HandFits v place (where_after thread (own_item r) m at) gifts' (homes_after homes held (act_of 1 m gifts')) u hand
+  pub taken : (x : ℕ) → m ≡ Takes x → (0 < x) × ((payload : T) × (beside x gifts' ≡ Some payload))
   pub carries : carried_after held (act_of 1 m gifts') ≡ slot_of (hand_after m gifts' hand).out (hand_after m gifts' hand).payload
 
-within_list : {A : Type 0} (l : List A) (j : ℕ) (b : A) → get_elem? l j ≡ some b → j < length l
+Stays-not-Takes : (x : ℕ) → Stays ≡ Takes x → ⊥
+Stays-not-Takes x e = cc
+
+Lays-not-Takes : (i x : ℕ) → Lays i ≡ Takes x → ⊥
+Lays-not-Takes i x e = cc
+
+Lifts-not-Takes : (i x : ℕ) → Lifts i ≡ Takes x → ⊥
+Lifts-not-Takes i x e = cc
+
+Takes-injective : (i x : ℕ) → Takes i ≡ Takes x → i ≡ x
+Takes-injective i x e = cc
+
+pub within_list : {A : Type 0} (l : List A) (j : ℕ) (b : A) → get_elem? l j ≡ some b → j < length l
 within_list [] j b e = absurd (some-ne-none b (sym e))
 within_list (x ∷ xs) zero b e = omega arith
 within_list (x ∷ xs) (suc j) b e = let h = within_list xs j b e in omega arith
@@ -453,6 +467,7 @@ module _ {T : Type 0} (shape : Shape) (w v : ℕ → ℕ) (at : ℕ → Where) (
     home = home;
     out = out;
     others = λ u place other ne is_place knows fits. other_hand shape w v at at gifts gifts' homes homes thread same_gift rises slots refl (λ x t j p e. (refl, refl)) (λ x u ne e. refl) u place other ne is_place knows fits;
+    taken = λ x e. absurd (Stays-not-Takes x e);
     carries = held_is;
   }
 
@@ -463,6 +478,7 @@ module _ {T : Type 0} (shape : Shape) (w v : ℕ → ℕ) (at : ℕ → Where) (
     home = home_on shape w v at at' gifts gifts' homes homes' thread same_gift rises slots size stays_home stays_out thread hand.at_home home;
     out = λ some_out. absurd (some_out refl);
     others = λ u place other ne is_place knows fits. other_hand shape w v at at' gifts gifts' homes homes' thread same_gift rises slots size stays_home stays_out u place other ne is_place knows fits;
+    taken = λ x e. absurd (Lays-not-Takes index x e);
     carries = ap (λ (xs : List (ℕ × Option T)). carried_after xs (act_of 1 (Lays index) gifts')) held_now;
   }
     where
@@ -587,6 +603,7 @@ module _ {T : Type 0} (shape : Shape) (w v : ℕ → ℕ) (at : ℕ → Where) (
         home = home_on shape w v at at' gifts gifts' homes homes' thread same_gift rises slots size stays_home stays_out thread hand.at_home home;
         out = λ some_out. out_now;
         others = λ u place other ne is_place knows fits. other_hand shape w v at at' gifts gifts' homes homes' thread same_gift rises slots size stays_home stays_out u place other ne is_place knows fits;
+        taken = λ y e. subst (λ (z : ℕ). (0 < z) × ((payload : T) × (beside z gifts' ≡ Some payload))) (Takes-injective x y e) (positive, (there.1.0, now_gift ∙ there.1.1));
         carries = slot_now (beside x gifts') refl;
       }
 
@@ -597,6 +614,7 @@ module _ {T : Type 0} (shape : Shape) (w v : ℕ → ℕ) (at : ℕ → Where) (
         home = home_on shape w v at at' gifts gifts' homes homes' thread same_gift rises slots size stays_home stays_out thread hand.at_home home;
         out = λ some_out. out_now;
         others = λ u place other ne is_place knows fits. other_hand shape w v at at' gifts gifts' homes homes' thread same_gift rises slots size stays_home stays_out u place other ne is_place knows fits;
+        taken = λ y e. absurd (Lifts-not-Takes x y e);
         carries = slot_now hand.payload own;
       }
 
@@ -617,3 +635,66 @@ after_step shape w at gifts gifts' homes thread r hand held same_gift rises slot
           lifted shape w v at gifts gifts' homes thread r hand held same_gift rises slots home out stands held_is (move r (w (accessed (access shape r)))) index x kind above below value positive gone same none_out
           (λ e. undo_gift shape w gifts' hand r x stands e)
     ]
+
+-- where one step leaves its thread's token
+abbrev NotGot : Next → Type 0
+NotGot (Answers (Got item)) = ⊥
+NotGot next = Unit {0}
+
+enqueue_fits : (shape : Shape) (item start left : ℕ) (phase : EnqueuePhase) (word : ℕ) → 0 < item → FitsOwn item (enqueue_advance shape item start left phase word)
+enqueue_fits shape item start left phase word positive = grind (arith, nat_tests)
+
+dequeue_fits : (shape : Shape) (start left : ℕ) (phase : DequeuePhase) (word : ℕ) → FitsOwn 0 (advance shape (R.Dequeue start left phase) word)
+dequeue_fits shape start left phase word = grind (arith, nat_tests)
+
+abbrev SameOwn : ℕ → Next → Type 0
+SameOwn own (Goes place) = own_item place ≡ own
+SameOwn own (Answers answer) = Unit {0}
+
+abbrev GotMove : Move → Next → Type 0
+GotMove m (Answers (Got item)) = m ≡ Takes item
+GotMove m next = Unit {0}
+
+enqueue_not_got : (shape : Shape) (item start left : ℕ) (phase : EnqueuePhase) (word : ℕ) → NotGot (enqueue_advance shape item start left phase word)
+enqueue_not_got shape item start left phase word = grind (arith, nat_tests)
+
+enqueue_own : (shape : Shape) (item start left : ℕ) (phase : EnqueuePhase) (word : ℕ) → SameOwn item (enqueue_advance shape item start left phase word)
+enqueue_own shape item start left phase word = grind (arith, nat_tests)
+
+dequeue_own : (shape : Shape) (start left : ℕ) (phase : DequeuePhase) (word : ℕ) → SameOwn 0 (advance shape (R.Dequeue start left phase) word)
+dequeue_own shape start left phase word = grind (arith, nat_tests)
+
+dequeue_got : (shape : Shape) (start left : ℕ) (phase : DequeuePhase) (word : ℕ) → GotMove (move (R.Dequeue start left phase) word) (advance shape (R.Dequeue start left phase) word)
+dequeue_got shape start left phase word = grind (arith, nat_tests)
+
+pub leaves_step : {T : Type 0} (shape : Shape) (r : Running) (word : ℕ) (gifts : Gifts T) (hand : Hand T) (payload : Option T) → IsPlace shape r → hand.out ≡ out_at r → (0 < own_item r → hand.payload ≡ payload)
+    → ((x : ℕ) → move r word ≡ Takes x → (0 < x) × ((found : T) × (beside x gifts ≡ Some found)))
+    → Leaves (own_item r) payload gifts (hand_after (move r word) gifts hand) (advance shape r word)
+leaves_step shape (R.Enqueue item start left phase) word gifts hand payload place out is takes_some =
+    let r = R.Enqueue item start left phase in
+    record {
+      out = out-hand_after (move r word) gifts hand ∙ ap (λ o. out_after o (move r word)) out ∙ sym (enqueue_out shape item start left phase word);
+      kept = λ positive. enqueue_payload item start left phase word gifts hand ∙ is positive;
+      taken = λ got e. absurd (subst NotGot e (enqueue_not_got shape item start left phase word));
+      fits = enqueue_fits shape item start left phase word place.0;
+      same_own = λ place e. subst (SameOwn item) e (enqueue_own shape item start left phase word);
+    }
+leaves_step shape (R.Dequeue start left phase) word gifts hand payload place out is takes_some =
+    let r = R.Dequeue start left phase in
+    record {
+      out = out-hand_after (move r word) gifts hand ∙ ap (λ o. out_after o (move r word)) out ∙ sym (dequeue_out shape start left phase word);
+      kept = λ positive. absurd (omega arith);
+      taken = λ got e.
+          let m = subst (GotMove (move r word)) e (dequeue_got shape start left phase word) in
+          let some = takes_some got m in
+          (some.0, ap (λ m. (hand_after m gifts hand).payload) m, some.1);
+      fits = dequeue_fits shape start left phase word;
+      same_own = λ place e. subst (SameOwn 0) e (dequeue_own shape start left phase word);
+    }
+
+-- a step leaves the tokens at home
+pub home_step : {T : Type 0} (m : Move) (gifts : Gifts T) (hand : Hand T) → (hand_after m gifts hand).at_home ≡ hand.at_home
+home_step Stays gifts hand = refl
+home_step (Lays index) gifts hand = refl
+home_step (Lifts item) gifts hand = refl
+home_step (Takes item) gifts hand = refl

@@ -27,7 +27,7 @@ use Rattle.kfifo_live.specs.declared.view.Part.{Part}
 use Rattle.kfifo_live.specs.declared.view.View.{View}
 use Rattle.kfifo_live.specs.Schedule.{part, view_of, world_after, AllBegin, AllGiven, AllHands, Owns, Fits, OneSchedule, FewTicks, IsSmall, ticks, thread_of, seen_of, gifts_of, hand_of, more_in, with_seen}
 use Rattle.kfifo_live.specs.Step.{IsAt, Steps, DrawsStamp}
-use Rattle.kfifo_live.specs.Hands.{Gifts, Homes, Where, gift, move, hand_after, begun_hand, Carries, BeginsWith, HandFits, SlotsFit}
+use Rattle.kfifo_live.specs.Hands.{Gifts, Homes, Where, beside, gift, move, hand_after, begun_hand, Carries, BeginsWith, HandFits, SlotsFit}
 use Rattle.kfifo_live.specs.declared.view.Hand.{Hand}
 use Rattle.kfifo_live.proofs.Turned.{turned}
 use Rattle.kfifo_live.proofs.Ticks.{clock_below, few_more, few_tick, no_tick}
@@ -216,6 +216,8 @@ goes_at {T} o s id thread seen gifts hand more held place here reached within st
         within = inside;
         goes = now;
         word_is = found_is;
+        taken = λ some_tokens x e. subst (λ (gs : Gifts T). (0 < x) × ((payload : T) × (beside x (gs ++ new) ≡ Some payload))) g.1 (t.taken some_tokens x (ap (move running) (sym found_is) ∙ e));
+        out = t.out;
         hand = hand_now;
         hand_is = same_hand;
         afterwards = refl;

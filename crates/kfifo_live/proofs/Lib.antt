@@ -3,6 +3,7 @@ pub mod Turned
 pub mod Ticks
 pub mod Keeps
 pub mod Cuts
+pub mod Draws
 pub mod Whole
 pub mod Opens
 pub mod Scans
@@ -18,3 +19,4 @@ pub mod Rotation
 pub mod Balance
 pub mod CallScans
 pub mod Made
+pub mod Pays

@@ -38,7 +38,7 @@ unfolding opening
 inside o thread lt = let idle : Option Running = None in let n = length-replicate o.threads idle in omega (arith, lt, n)
 
 -- no slot is held where no token is out
-no_slot : {T : Type 0} (tokens : ℕ) (payload : Option T) → carrying tokens 0 payload ≡ []
+pub no_slot : {T : Type 0} (tokens : ℕ) (payload : Option T) → carrying tokens 0 payload ≡ []
 no_slot zero payload = refl
 no_slot (suc tokens) payload = refl
 

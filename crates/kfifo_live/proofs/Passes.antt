@@ -37,7 +37,7 @@ pub pass_thread : {T : Type 0} (thread : ℕ) (me : Me (Option T) (View T)) → 
 pass_thread thread me p = ap thread_in p.alone
 
 -- its thread is idle after others' events
-idle_on : (o : Opening) (thread : ℕ) (seen all : List Event) (here end : World) → world_after o seen ≡ Some here → thread < length here.places → place_of here thread ≡ None
+pub idle_on : (o : Opening) (thread : ℕ) (seen all : List Event) (here end : World) → world_after o seen ≡ Some here → thread < length here.places → place_of here thread ≡ None
     → Begins thread seen all → world_after o all ≡ Some end → (thread < length end.places) × (place_of end thread ≡ None)
 idle_on o thread seen all here end reached within idle b there =
     let onward : run o.shape (Some here) b.rest ≡ Some end = sym (run_on o.shape (Some (opening o.shape o.threads)) here seen b.rest reached) ∙ ap (λ es. world_after o es) (sym b.goes_on) ∙ there in

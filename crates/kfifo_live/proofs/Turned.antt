@@ -26,9 +26,9 @@ use Rattle.kfifo_machine.proofs.Budget.{own_place}
 use Rattle.kfifo_live.specs.declared.view.Opening.{Opening}
 use Rattle.kfifo_live.specs.declared.view.Hand.{Hand}
 use Rattle.kfifo_live.specs.Schedule.{world_after}
-use Rattle.kfifo_live.specs.Hands.{Gifts, Homes, Where, Out, move, gift, carried, beside, begun_hand, hand_after, slot_of, carrying, Carries, BeginsWith, CallFits, HandFits, SlotsFit, AllHome, act_of, own_item, where_after}
+use Rattle.kfifo_live.specs.Hands.{Gifts, Homes, Where, Out, Takes, move, gift, carried, beside, begun_hand, hand_after, slot_of, carrying, Carries, BeginsWith, CallFits, HandFits, SlotsFit, AllHome, act_of, own_item, out_at, where_after}
 use Rattle.kfifo_live.proofs.Balance.{Knows, know_after, going_knows}
-use Rattle.kfifo_live.proofs.Hands.{After, after_step, stands_on, beside-same, beside-other}
+use Rattle.kfifo_live.proofs.Hands.{After, after_step, out_is, stands_on, beside-same, beside-other}
 
 pub record Turned {T : Type 0} (o : Opening) (world : World) (at : ℕ → Where) (gifts : Gifts T) (homes : Homes T) (thread : ℕ) (begin : Option Begin) (r : Running) (hand : Hand T) (held : List (ℕ × Option T)) : Type 0 where
   pub act : Act (Option T)
@@ -39,6 +39,8 @@ pub record Turned {T : Type 0} (o : Opening) (world : World) (at : ℕ → Where
       (hand_after (move r (found o.shape world r)) (gifts ++ gift begin held) (begun_hand begin held hand))
   pub others : 0 < o.tokens → (u : ℕ) (other : Hand T) → u ≢ thread → HandFits (word_at world) (place_of world u) at gifts homes u other
       → HandFits (word_at (moved o.shape world thread r)) (place_of (moved o.shape world thread r) u) at_now (gifts ++ gift begin held) (homes_after homes held act) u other
+  pub taken : 0 < o.tokens → (x : ℕ) → move r (found o.shape world r) ≡ Takes x → (0 < x) × ((payload : T) × (beside x (gifts ++ gift begin held) ≡ Some payload))
+  pub out : 0 < o.tokens → (begun_hand begin held hand).out ≡ out_at r
   pub carries : carried_after held act
       ≡ carrying o.tokens (hand_after (move r (found o.shape world r)) (gifts ++ gift begin held) (begun_hand begin held hand)).out (hand_after (move r (found o.shape world r)) (gifts ++ gift begin held) (begun_hand begin held hand)).payload
 
@@ -105,7 +107,7 @@ begun_item shape place begin r goes is_place item start turns is = of_place plac
     of_place (Some q) e = absurd (cc)
 
 -- a call begins with the tokens that the thread had
-same_home : {T : Type 0} (begin : Option Begin) (held : List (ℕ × Option T)) (hand : Hand T) → ((begun_hand begin held hand).at_home ≡ hand.at_home) × ((begun_hand begin held hand).out ≡ hand.out)
+pub same_home : {T : Type 0} (begin : Option Begin) (held : List (ℕ × Option T)) (hand : Hand T) → ((begun_hand begin held hand).at_home ≡ hand.at_home) × ((begun_hand begin held hand).out ≡ hand.out)
 same_home None held hand = (refl, refl)
 same_home (Some (B.Enqueue item start turns)) held hand = (refl, refl)
 same_home (Some (B.Dequeue start turns)) held hand = (refl, refl)
@@ -183,6 +185,8 @@ module _ {T : Type 0} (o : Opening) (all : List Event) (world : World) (at : ℕ
     slots = λ some_tokens. absurd (omega arith);
     own = λ some_tokens. absurd (omega arith);
     others = λ some_tokens u other ne f. absurd (omega arith);
+    taken = λ some_tokens x e. absurd (omega arith);
+    out = λ some_tokens. absurd (omega arith);
     carries = carries_none place o.tokens hand held none_there carries
         ∙ sym (ap (λ (n : ℕ). carrying n (hand_after (move r (found o.shape world r)) (gifts ++ gift begin held) hand_now).out (hand_after (move r (found o.shape world r)) (gifts ++ gift begin held) hand_now).payload) none_there);
   }
@@ -211,5 +215,7 @@ module _ {T : Type 0} (o : Opening) (all : List Event) (world : World) (at : ℕ
             let g = a.others u (place_of world u) other ne (λ s there. place_is o.shape world u s is_sound there) (λ s there. know_after o all world reached u s there) f in
             let still = other_place o.shape world (event thread begin) end _ u ne made in
             subst (λ (x : (ℕ → ℕ) × Option Running). HandFits x.0 x.1 at_now gifts' (homes_after homes held act) u other) (λ i. (sym words_are i, sym still i)) g;
+        taken = λ positive. a.taken;
+        out = λ positive. out_is (word_at world) gifts' hand_now r (starts_call o.shape (word_at world) gifts hand held r place begin goes (fits some_tokens).stands (begins some_tokens));
         carries = a.carries ∙ sym (ap (λ (n : ℕ). carrying n (hand_after m gifts' hand_now).out (hand_after m gifts' hand_now).payload) are);
       }

@@ -1,6 +1,6 @@
 -- Steps one after another, and the whole run that they make.
-use Rattle.std.proofs.Common.{◌≡◌, ℕ, ◌<◌, List, [], ◌∷◌, ◌++◌, length, Option, Some, None, Ok, refl, sym, ap, ◌∙◌, subst, append_assoc, arith}
-use Rattle.std.proofs.lemmas.List.{length-set}
+use Rattle.std.proofs.Common.{◌≡◌, ℕ, ◌<◌, List, [], ◌∷◌, ◌++◌, length, Option, Some, None, Ok, Bool, true, false, refl, sym, ap, ◌∙◌, subst, append_assoc, arith, cond}
+use Rattle.std.proofs.lemmas.List.{append-nil, length-set}
 use Rattle.std.proofs.lemmas.Grind.{get_or-set_at}
 use Rattle.atomic_table.specs.Table.{Me}
 use Rattle.atomic_table.specs.declared.shared.Seat.{Seat}
@@ -18,12 +18,20 @@ use Rattle.kfifo_machine.specs.Runs.{event, own, going, AllGoOn, WholeRun}
 use Rattle.kfifo_machine.specs.Places.{IsPlace, IsFoundBy}
 use Rattle.kfifo_machine.proofs.Places.{found_by, in_table}
 use Rattle.kfifo_machine.proofs.Schedules.{after-snoc, own-append, run_on, same_place, steps_on}
-use Rattle.kfifo_machine.proofs.Sound.{sound, place_is}
+use Rattle.kfifo_machine.proofs.Sound.{going_place, sound, place_is}
 use Rattle.kfifo_live.specs.declared.view.View.{View}
-use Rattle.kfifo_live.specs.Hands.{gift, Carries}
-use Rattle.kfifo_live.specs.Schedule.{world_after, thread_of, seen_of, gifts_of, with_seen}
+use Rattle.kfifo_machine.specs.declared.event.Begin.TheVariants as B
+use Rattle.kfifo_machine.specs.declared.place.Running.TheVariants as R
+use Rattle.kfifo_machine.specs.declared.place.EnqueuePhase.TheVariants as E
+use Rattle.kfifo_machine.specs.declared.place.DequeuePhase.TheVariants as D
+use Rattle.kfifo_machine.specs.Machine.{begun as begun_place, may_begin}
+use Rattle.kfifo_live.specs.Hands.{FitsOwn, Gifts, Leaves, gift, move, begun_hand, hand_after, own_item, out_next, beside, Carries}
+use Rattle.kfifo_live.specs.declared.view.Hand.{Hand}
+use Rattle.kfifo_live.specs.Schedule.{world_after, thread_of, seen_of, gifts_of, hand_of, with_seen}
 use Rattle.kfifo_live.specs.declared.ring.Ring.{Ring}
-use Rattle.kfifo_live.specs.Step.{IsAt, Steps, IsOwnRun, Leads, IsSeatOf, Rests, Stands, Awaits, Runs, Comes, Stepped, Onward}
+use Rattle.kfifo_live.specs.Step.{IsAt, Steps, HasOwn, IsOwnRun, Leads, IsSeatOf, Rests, Stands, Awaits, Runs, Comes, Stepped, Onward}
+use Rattle.kfifo_live.proofs.Hands.{home_step, leaves_step}
+use Rattle.kfifo_live.proofs.Turned.{same_home}
 use Rattle.kfifo_live.proofs.Keeps.{own_same}
 
 AllGoOn-append : (xs ys : List Event) → AllGoOn xs → AllGoOn ys → AllGoOn (xs ++ ys)
@@ -51,6 +59,9 @@ length-moved : (shape : Shape) (world : World) (thread : ℕ) (running : Running
 unfolding moved
 length-moved shape world thread running = length-set world.places thread (place_after (advance shape running (found shape world running)))
 
+Some-injective : {A : Type 0} (x y : A) → Some x ≡ Some y → x ≡ y
+Some-injective x y e = cc
+
 -- a step is made from where its thread stood
 steps_from : {T : Type 0} (begin : Option Begin) (place : Option Running) (running : Running) (me : Me (Option T) (View T)) (word : ℕ) (new : Me (Option T) (View T)) → IsAt place me → (s : Steps begin me word new)
     → going me.0.opened.shape place begin ≡ Some running → s.from ≡ running
@@ -60,20 +71,45 @@ steps_from begin place running me word new stood s from =
     let onward : run v.opened.shape (Some stood.here) s.between ≡ Some s.here = sym (run_on v.opened.shape (Some (opening v.opened.shape v.opened.threads)) stood.here (seen_of v) s.between stood.reached) ∙ s.reached in
     let there : place_of s.here t ≡ place = same_place v.opened.shape stood.here s.here s.between t s.others onward ∙ stood.place_is in
     Some-injective s.from running (sym s.goes ∙ ap (λ p. going v.opened.shape p begin) there ∙ from)
+
+-- what a call has of its own, where its step goes from
+own_from : {T : Type 0} (shape : Shape) (begin : Option Begin) (place : Option Running) (running : Running) (me : Me (Option T) (View T)) (mine : ℕ) (payload : Option T) → IsAt place me → going shape place begin ≡ Some running → HasOwn begin me mine payload
+    → (own_item running ≡ mine) × (0 < own_item running → (begun_hand begin me.1 (hand_of me.0)).payload ≡ payload)
+own_from shape (Some begin) (Some q) running me mine payload stood from has = absurd (cc)
+own_from shape (Some (B.Enqueue item start turns)) None running me mine payload stood from has =
+    let is = of_may (may_begin shape (B.Enqueue item start turns)) from in
+    (ap own_item is ∙ sym has.0, λ positive. sym has.1)
   where
-    Some-injective : (x y : Running) → Some x ≡ Some y → x ≡ y
-    Some-injective x y e = cc
+    of_may : (may : Bool) → cond may (begun_place (B.Enqueue item start turns)) None ≡ Some running → running ≡ R.Enqueue item start turns E.LoadEnds
+    of_may true e = sym (Some-injective _ _ e)
+    of_may false e = absurd (cc)
+own_from shape (Some (B.Dequeue start turns)) None running me mine payload stood from has =
+    let is = of_may (may_begin shape (B.Dequeue start turns)) from in
+    (ap own_item is ∙ sym has, λ positive. absurd (let e = ap own_item is in omega arith))
+  where
+    of_may : (may : Bool) → cond may (begun_place (B.Dequeue start turns)) None ≡ Some running → running ≡ R.Dequeue start turns D.LoadEnds
+    of_may true e = sym (Some-injective _ _ e)
+    of_may false e = absurd (cc)
+own_from shape (Some B.Tick) None running me mine payload stood from has = absurd (cc)
+own_from shape None place running me mine payload stood from has =
+    let p = has.0 in
+    let there = has.1 in
+    let same_world = Some-injective _ _ (sym stood.reached ∙ there.reached) in
+    let at : place ≡ Some p = sym stood.place_is ∙ ap (λ w. place_of w (thread_of me.0)) same_world ∙ there.place_is in
+    let is : p ≡ running = Some-injective p running (ap (λ q. going shape q None) (sym at) ∙ from) in
+    (ap own_item (sym is) ∙ sym has.2, λ positive. sym has.3)
 
 -- one step
 pub one_step : {T : Type 0} (begin : Option Begin) (place : Option Running) (running : Running) (me : Me (Option T) (View T)) (word : ℕ) (new : Me (Option T) (View T)) (next : Next) → IsAt place me → Steps begin me word new
     → going me.0.opened.shape place begin ≡ Some running → advance me.0.opened.shape running word ≡ next → Leads begin me next new
-one_step begin place running me word new next stood s from is =
+one_step {T} begin place running me word new next stood s from is =
     let v = me.0 in
     let t = thread_of v in
     let shape = v.opened.shape in
     let e = event t begin in
     let same : s.from ≡ running = steps_from begin place running me word new stood s from in
     let come : advance shape s.from (found shape s.here s.from) ≡ next = ap (λ n. advance shape s.from n) (sym s.word_is) ∙ ap (λ (r : Running). advance shape r word) same ∙ is in
+    let is_from : IsPlace shape s.from = going_place shape (place_of s.here t) begin s.from (λ q there. place_is shape s.here t q (sound shape v.opened.threads (seen_of v ++ s.between) s.here s.reached) there) s.goes in
     let own_are : own t (s.between ++ e ∷ []) ≡ e ∷ [] = own-append t s.between (e ∷ []) ∙ (λ i. s.others i ++ own_same t begin i) in
     record {
       between = s.between;
@@ -84,6 +120,14 @@ one_step begin place running me word new next stood s from is =
       hand = s.hand;
       now = s.afterwards ∙ ap (λ g. with_seen v ((seen_of v ++ s.between) ++ e ∷ []) g s.hand) (append_assoc (gifts_of v) s.given (gift begin me.1));
       carries = s.carries;
+      gift_is = (s.given, [], ap (λ g. s.given ++ g) (sym (append-nil (gift begin me.1))));
+      at_home = ap (λ (h : Hand T). h.at_home) s.hand_is ∙ home_step (move s.from word) _ (begun_hand begin me.1 (hand_of v)) ∙ (same_home begin me.1 (hand_of v)).0;
+      leaves = λ some_tokens own payload has.
+          let mine = own_from shape begin place running me own payload stood from has in
+          let own_is : own_item s.from ≡ own = ap own_item same ∙ mine.0 in
+          let left = leaves_step shape s.from word ((gifts_of v ++ s.given) ++ gift begin me.1) (begun_hand begin me.1 (hand_of v)) payload is_from (s.out some_tokens) (λ positive. mine.1 (subst (λ n. 0 < n) (ap own_item same) positive)) (s.taken some_tokens) in
+          let goes_next : advance shape s.from word ≡ next = ap (λ (r : Running). advance shape r word) same ∙ is in
+          subst (λ (x : ℕ × Gifts T × Hand T × Next). Leaves x.0 payload x.1 x.2 x.3) (λ i. (own_is i, append_assoc (gifts_of v) s.given (gift begin me.1) i, sym s.hand_is i, goes_next i)) left;
       last_own = refl;
       own_run = subst (λ (es : List Event). IsOwnRun t begin es) (sym own_are) (one_own t begin);
       reached = s.reached;
@@ -95,6 +139,25 @@ one_step begin place running me word new next stood s from is =
 -- the world after the steps
 reached_here : {T : Type 0} (begin : Option Begin) (v : Me (Option T) (View T)) (next : Next) (w : Me (Option T) (View T)) → (l : Leads begin v next w) → world_after v.0.opened ((seen_of v.0 ++ l.between) ++ l.last ∷ []) ≡ Some l.here
 reached_here begin v next w l = after-snoc v.0.opened.shape v.0.opened.threads (seen_of v.0 ++ l.between) l.before l.last l.reached ∙ ap world_of l.made
+
+-- where the steps of a call have led it, its thread is
+at_there : {T : Type 0} (begin : Option Begin) (old new : Me (Option T) (View T)) (next : Next) → (l : Leads begin old next new)
+    → IsAt (place_after next) (with_seen old.0 ((seen_of old.0 ++ l.between) ++ l.last ∷ []) (gifts_of old.0 ++ l.given) l.hand, new.1)
+at_there {T} begin old new next l = record {
+  here = l.here;
+  seated = refl;
+  reached = reached_here begin old next new l;
+  within = l.within;
+  place_is = l.place;
+  carries = carries_at next;
+}
+  where
+    carries_at : (next : Next) → Carries (place_after next) old.0.opened.tokens l.hand new.1
+    carries_at (Goes running) = l.carries
+    carries_at (Answers answer) = (l.hand.payload, l.carries)
+
+pub at_next : {T : Type 0} (begin : Option Begin) (old new : Me (Option T) (View T)) (next : Next) → Leads begin old next new → IsAt (place_after next) new
+at_next {T} begin old new next l = subst (λ (x : View T). IsAt (place_after next) (x, new.1)) (sym l.now) (at_there begin old new next l)
 
 -- steps, and then more of the same call
 pub more_steps : {T : Type 0} (begin : Option Begin) (old mid new : Me (Option T) (View T)) (running : Running) (next : Next) → Leads begin old (Goes running) mid → Leads None mid next new → Leads begin old next new
@@ -118,6 +181,24 @@ more_steps {T} begin old mid new running next a b = from_there (subst (λ (y : V
           hand = b.hand;
           now = b.now ∙ (λ i. with_seen v (upto i ++ b.last ∷ []) (append_assoc (gifts_of v) a.given b.given i) b.hand);
           carries = b.carries;
+          gift_is =
+              (let g = a.gift_is in
+              (g.0, g.1 ++ b.given, ap (λ x. x ++ b.given) g.2 ∙ append_assoc g.0 (gift begin old.1 ++ g.1) b.given ∙ ap (λ x. g.0 ++ x) (append_assoc (gift begin old.1) g.1 b.given)));
+          at_home = b.at_home ∙ a.at_home;
+          leaves = λ some_tokens own payload has.
+              let first = a.leaves some_tokens own payload has in
+              let same : own_item running ≡ own = first.same_own running refl in
+              let then = b.leaves some_tokens (own_item running) a.hand.payload (running, at_there begin old mid (Goes running) a, refl, refl) in
+              record {
+                out = then.out ∙ ap (λ n. out_next n next) same;
+                kept = λ positive. then.kept (subst (λ n. 0 < n) (sym same) positive) ∙ first.kept positive;
+                taken = λ item e.
+                    (let some = then.taken item e in
+                    let all = append_assoc (gifts_of v) a.given b.given in
+                    (some.0, some.1 ∙ ap (beside item) all, (some.2.0, sym (ap (beside item) all) ∙ some.2.1)));
+                fits = subst (λ n. FitsOwn n next) same then.fits;
+                same_own = λ place e. then.same_own place e ∙ same;
+              };
           last_own = b.last_own;
           own_run = subst (λ (es : List Event). IsOwnRun t begin es) (sym own_are) (IsOwnRun-append t begin _ _ a.own_run b.own_run);
           reached = ap (λ es. world_after v.opened es) (sym upto) ∙ b.reached;
@@ -125,24 +206,6 @@ more_steps {T} begin old mid new running next a b = from_there (subst (λ (y : V
           within = b.within;
           place = b.place;
         }
-
--- where the steps of a call have led it, its thread is
-pub at_next : {T : Type 0} (begin : Option Begin) (old new : Me (Option T) (View T)) (next : Next) → Leads begin old next new → IsAt (place_after next) new
-at_next {T} begin old new next l =
-    let v = old.0 in
-    let there : IsAt (place_after next) (with_seen v ((seen_of v ++ l.between) ++ l.last ∷ []) (gifts_of v ++ l.given) l.hand, new.1) = record {
-      here = l.here;
-      seated = refl;
-      reached = reached_here begin old next new l;
-      within = l.within;
-      place_is = l.place;
-      carries = carries_at next;
-    } in
-    subst (λ (x : View T). IsAt (place_after next) (x, new.1)) (sym l.now) there
-  where
-    carries_at : (next : Next) → Carries (place_after next) old.0.opened.tokens l.hand new.1
-    carries_at (Goes running) = l.carries
-    carries_at (Answers answer) = (l.hand.payload, l.carries)
 
 -- and from the first step on they are a whole run
 pub whole : {T : Type 0} (call : Begin) (v w : Me (Option T) (View T)) (answer : Answer) → Leads (Some call) v (Answers answer) w → WholeRun v.0.opened.shape v.0.opened.threads (thread_of v.0) call answer (seen_of v.0) (seen_of w.0)

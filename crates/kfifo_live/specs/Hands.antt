@@ -5,7 +5,7 @@ use mathlib.Core.Option.{Option as Maybe, some}
 use lib.ListN.{get_elem?}
 use Rattle.atomic_table.specs.Table.{Act, keeps, takes, gives}
 use Rattle.kfifo_words.specs.Words.{value_of, version_of}
-use Rattle.kfifo_model.specs.declared.calls.Answer.TheVariants.{Done, Got}
+use Rattle.kfifo_model.specs.declared.calls.Answer.TheVariants.{Done, Full, Got, Empty}
 use Rattle.kfifo_machine.specs.declared.event.Begin.{Begin}
 use Rattle.kfifo_machine.specs.declared.event.Begin.TheVariants as B
 use Rattle.kfifo_machine.specs.declared.place.EnqueuePhase.{EnqueuePhase}
@@ -79,6 +79,14 @@ where_after thread own (Lays index) at x = if x == own then In index else at x
 where_after thread own (Lifts item) at x = if x == item then Out thread else at x
 where_after thread own (Takes item) at x = if x == item then Out thread else at x
 
+-- an enqueue, which has an item of its own, and a dequeue answer each their own way
+abbrev pub FitsOwn : ℕ → Next → Type 0
+FitsOwn own (Answers Done) = 0 < own
+FitsOwn own (Answers Full) = 0 < own
+FitsOwn own (Answers (Got item)) = own ≡ 0
+FitsOwn own (Answers Empty) = own ≡ 0
+FitsOwn own next = Unit {0}
+
 module _ {T : Type 0} where
   -- the last gift of an item
   abbrev pub last_gift : ℕ → Option T → Gifts T → Option T
@@ -132,11 +140,11 @@ module _ {T : Type 0} where
   act_of (suc tokens) (Lifts item) gifts = takes (item - 1) (beside item gifts)
   act_of (suc tokens) (Takes item) gifts = takes (item - 1) (beside item gifts)
 
-  -- the slots of these tokens are at home
+  -- the slots of these tokens are at home, and hold nothing
   abbrev pub AllHome : (ℕ → Where) → Homes T → ℕ → List ℕ → Type 0
   AllHome at homes thread [] = Unit {0}
   AllHome at homes thread (x ∷ xs) =
-      ((0 < x) × (at x ≡ Home thread (length xs)) × ((value : Option T) × (get_elem? homes (x - 1) ≡ some (some value)))) × AllHome at homes thread xs
+      ((0 < x) × (at x ≡ Home thread (length xs)) × (get_elem? homes (x - 1) ≡ some (some None))) × AllHome at homes thread xs
 
   -- an item that was put: as long as its word stands, the item's last gift is this
   abbrev pub PutFits : (ℕ → ℕ) → Gifts T → Option T → ℕ → ℕ → ℕ → Type 0
@@ -166,6 +174,14 @@ module _ {T : Type 0} where
   abbrev pub SlotsFit : ℕ → (ℕ → ℕ) → (ℕ → Where) → Gifts T → Homes T → Type 0
   SlotsFit clock words at gifts homes = (i : ℕ) → 0 < i → i < clock → value_of (words i) ≢ 0
       → (at (value_of (words i)) ≡ In i) × ((payload : T) × (beside (value_of (words i)) gifts ≡ Some payload)) × (get_elem? homes (value_of (words i) - 1) ≡ some (some (beside (value_of (words i)) gifts)))
+
+  -- where steps of a call with this item and payload of its own leave its thread: the token that is out, and what its slot holds
+  pub record Leaves (own : ℕ) (payload : Option T) (gifts : Gifts T) (hand : Hand T) (next : Next) : Type 0 where
+    pub out : hand.out ≡ out_next own next
+    pub kept : 0 < own → hand.payload ≡ payload
+    pub taken : (item : ℕ) → next ≡ Answers (Got item) → (0 < item) × (hand.payload ≡ beside item gifts) × ((found : T) × (beside item gifts ≡ Some found))
+    pub fits : FitsOwn own next
+    pub same_own : (place : Running) → next ≡ Goes place → own_item place ≡ own
 
   -- what a call that begins asks of the hand: an enqueue's item is the token that is out, and its slot has a payload
   abbrev pub BeginsWith : Option Begin → Hand T → List (ℕ × Option T) → Type 0

@@ -6,6 +6,7 @@ pub mod Rounds
 pub mod Left
 pub mod Promise
 pub mod Pass
+pub mod Payloads
 pub mod Balance
 pub mod Calls
 pub mod Stamps

@@ -1,11 +1,12 @@
 -- What one atomic step adds to what a seat has seen, and where the steps of a call lead its thread.
-use Rattle.std.specs.Prelude.{◌≡◌, ℕ, ◌+◌, ◌*◌, ◌<◌, List, [], ◌∷◌, ◌++◌, length, get_or, Option, Some, None, Ok}
+use Rattle.std.specs.Prelude.{◌≡◌, ℕ, ◌+◌, ◌-◌, ◌*◌, ◌<◌, ◌≤◌, List, [], ◌∷◌, ◌++◌, length, get_or, Option, Some, None, Ok}
 use Rattle.atomic_table.specs.declared.shared.Seat.{Seat}
 use Rattle.atomic_table.specs.Table.{Me}
 use Rattle.kfifo_words.specs.declared.shape.Shape.{Shape}
 use Rattle.kfifo_words.specs.Ring.{clock_at}
 use Rattle.kfifo_machine.specs.declared.event.Begin.{Begin}
 use Rattle.kfifo_machine.specs.declared.event.Begin.TheVariants.{Tick}
+use Rattle.kfifo_machine.specs.declared.event.Begin.TheVariants as B
 use Rattle.kfifo_machine.specs.declared.event.Event.{Event}
 use Rattle.kfifo_machine.specs.declared.event.Outcome.TheVariants.{Went}
 use Rattle.kfifo_machine.specs.declared.place.Access.{Access}
@@ -20,7 +21,7 @@ use Rattle.kfifo_live.specs.declared.ring.Ring.{Ring}
 use Rattle.kfifo_live.specs.declared.view.View.{View}
 use Rattle.kfifo_live.specs.Schedule.{world_after, AllBegin, AllGiven, thread_of, seen_of, gifts_of, hand_of, with_seen, IsSeated}
 use Rattle.kfifo_live.specs.declared.view.Hand.{Hand}
-use Rattle.kfifo_live.specs.Hands.{Gifts, gift, move, hand_after, begun_hand, carrying, Carries, BeginsWith}
+use Rattle.kfifo_live.specs.Hands.{Gifts, Takes, beside, gift, move, hand_after, begun_hand, carried, carrying, own_item, out_at, Carries, BeginsWith, Leaves}
 
 -- the own events of a call in progress begin nothing; those of a call from its first step on begin it once
 abbrev pub IsOwnRun : ℕ → Option Begin → List Event → Type 0
@@ -49,6 +50,8 @@ module _ {T : Type 0} where
     pub within : thread_of v.0 < length here.places
     pub goes : going v.0.opened.shape (place_of here (thread_of v.0)) begin ≡ Some from
     pub word_is : word ≡ found v.0.opened.shape here from
+    pub out : 0 < v.0.opened.tokens → (begun_hand begin v.1 (hand_of v.0)).out ≡ out_at from
+    pub taken : 0 < v.0.opened.tokens → (x : ℕ) → move from word ≡ Takes x → (0 < x) × ((payload : T) × (beside x ((gifts_of v.0 ++ given) ++ gift begin v.1) ≡ Some payload))
     pub hand : Hand T
     pub hand_is : hand ≡ hand_after (move from word) ((gifts_of v.0 ++ given) ++ gift begin v.1) (begun_hand begin v.1 (hand_of v.0))
     pub afterwards : w.0 ≡ with_seen v.0 ((seen_of v.0 ++ between) ++ event (thread_of v.0) begin ∷ []) ((gifts_of v.0 ++ given) ++ gift begin v.1) hand
@@ -77,6 +80,28 @@ module _ {T : Type 0} where
     pub given : AllGiven v.parts gifts
     pub afterwards : w ≡ with_seen v all gifts (hand_of v)
 
+  -- Between two calls a thread takes the first of its tokens out: its seat then holds that slot, in which there is nothing
+  pub record DrawsToken (slots : ℕ) (v w : Me (Option T) (View T)) : Type 0 where
+    pub token : ℕ
+    pub others : List ℕ
+    pub was : (hand_of v.0).at_home ≡ token ∷ others
+    pub some : 0 < token
+    pub within : token ≤ slots
+    pub afterwards : w.0 ≡ with_seen v.0 (seen_of v.0) (gifts_of v.0) (record { at_home = others; out = token; payload = None })
+    pub holds : w.1 ≡ (token - 1, None) ∷ []
+
+  -- It lays the token that is out back to its others. It has then no more of them than there are slots
+  pub record LaysBack (slots : ℕ) (v w : Me (Option T) (View T)) : Type 0 where
+    pub room : length ((hand_of v.0).out ∷ (hand_of v.0).at_home) ≤ slots
+    pub afterwards : w.0 ≡ with_seen v.0 (seen_of v.0) (gifts_of v.0) (record { at_home = (hand_of v.0).out ∷ (hand_of v.0).at_home; out = 0; payload = None })
+    pub holds : w.1 ≡ []
+
+  -- the item and the payload of a call's own, at its first step or in progress
+  abbrev pub HasOwn : Option Begin → Me (Option T) (View T) → ℕ → Option T → Type 0
+  HasOwn (Some (B.Enqueue item start turns)) v own payload = (own ≡ item) × (payload ≡ carried v.1)
+  HasOwn (Some begin) v own payload = own ≡ 0
+  HasOwn None v own payload = (place : Running) × IsAt (Some place) v × (own ≡ own_item place) × (payload ≡ (hand_of v.0).payload)
+
   -- Steps of one call, from its first where it begins here: events of others and own ones, the last of them own, after which
   -- the call goes on from the next place or has answered
   pub record Leads (begin : Option Begin) (v : Me (Option T) (View T)) (next : Next) (w : Me (Option T) (View T)) : Type 0 where
@@ -88,6 +113,9 @@ module _ {T : Type 0} where
     pub hand : Hand T
     pub now : w.0 ≡ with_seen v.0 ((seen_of v.0 ++ between) ++ last ∷ []) (gifts_of v.0 ++ given) hand
     pub carries : w.1 ≡ carrying v.0.opened.tokens hand.out hand.payload
+    pub gift_is : (earlier : Gifts T) × (later : Gifts T) × (given ≡ earlier ++ (gift begin v.1 ++ later))
+    pub at_home : hand.at_home ≡ (hand_of v.0).at_home
+    pub leaves : 0 < v.0.opened.tokens → (own : ℕ) (payload : Option T) → HasOwn begin v own payload → Leaves own payload (gifts_of v.0 ++ given) hand next
     pub last_own : last.thread ≡ thread_of v.0
     pub own_run : IsOwnRun (thread_of v.0) begin (own (thread_of v.0) (between ++ last ∷ []))
     pub reached : world_after v.0.opened (seen_of v.0 ++ between) ≡ Some before

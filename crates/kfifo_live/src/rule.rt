@@ -4,7 +4,7 @@ ghost use Rattle.kfifo_live.specs.declared.view.Opening.{Opening};
 ghost use Rattle.kfifo_machine.specs.declared.event.Begin.{Begin};
 ghost use Rattle.kfifo_machine.specs.declared.event.Begin.TheVariants.{Tick};
 ghost use Rattle.kfifo_live.specs.Schedule.{OneSchedule, first_view, first_part, other_parts, no_part, both_parts, view_of, small_opening};
-ghost use Rattle.kfifo_live.specs.Step.{Steps, DrawsStamp, Looks};
+ghost use Rattle.kfifo_live.specs.Step.{Steps, DrawsStamp, DrawsToken, LaysBack, Looks};
 
 use crate::view::{Opening, View};
 use atomic_table::{Join, Play, Split, TableRule};
@@ -58,6 +58,20 @@ pub struct Observation;
 
 impl<T> Play<Option<T>, View<T>> for Observation {
     ghost then = { λ s v found w. Looks s.word found v.0 w.0 × (w.1 ≡ v.1) };
+}
+
+/// A load with which a thread takes a token of its own, and the token's slot, out.
+pub struct DrawToken;
+
+impl<T> Play<Option<T>, View<T>> for DrawToken {
+    ghost then = { λ s v found w. DrawsToken s.slots v w };
+}
+
+/// A load with which it lays them back.
+pub struct LayBack;
+
+impl<T> Play<Option<T>, View<T>> for LayBack {
+    ghost then = { λ s v found w. LaysBack s.slots v w };
 }
 
 /// Keeps the first part, and gives the others.

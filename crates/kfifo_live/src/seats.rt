@@ -1,9 +1,9 @@
 //! Moves of seats that are no steps of a thread.
-ghost use Rattle.std.specs.Prelude.{◌≡◌, ◌<◌, ◌≤◌, [], length};
-ghost use Rattle.kfifo_live.specs.Schedule.{IsSeated, first_part, other_parts, no_part, both_parts};
-ghost use Rattle.kfifo_live.specs.Step.{Looks};
+ghost use Rattle.std.specs.Prelude.{◌≡◌, ◌≢◌, ◌<◌, ◌≤◌, ◌-◌, ℕ, List, [], ◌∷◌, length, None};
+ghost use Rattle.kfifo_live.specs.Schedule.{IsSeated, hand_of, first_part, other_parts, no_part, both_parts};
+ghost use Rattle.kfifo_live.specs.Step.{DrawsToken, IsAt, LaysBack, Looks};
 
-use crate::rule::{All, Gather, Observation, Opened, Rest};
+use crate::rule::{All, DrawToken, Gather, LayBack, Observation, Opened, Rest};
 use crate::view::{ThreadSeat, Words};
 
 /// One load of a word. All that was done up to now was then seen.
@@ -14,6 +14,30 @@ pub(crate) fn observe<T>(shared: &Words<T>, seat: &mut ThreadSeat<T>, index: usi
     ensures looks { Looks index result seat.old.me.0 seat.new.me.0 }
 {
     shared.load::<Observation>(seat, index)
+}
+
+/// Takes a token of the thread out, with its slot. It is one load of the ends word, and no event.
+#[inline(always)]
+pub(crate) fn draw_token<T>(shared: &Words<T>, seat: &mut ThreadSeat<T>)
+    requires table { (seat.old.table_id ≡ shared.now.table_id) × (0 < shared.now.table_id.words) }
+    requires idle { IsAt None seat.old.me × (0 < seat.old.me.0.opened.tokens) × (seat.old.me.1 ≡ []) }
+    requires some { (x : ℕ) × (xs : List ℕ) × ((hand_of seat.old.me.0).at_home ≡ x ∷ xs) }
+    ensures same { seat.new.table_id ≡ seat.old.table_id }
+    ensures draws { DrawsToken shared.now.table_id.slots seat.old.me seat.new.me }
+{
+    shared.load::<DrawToken>(seat, 0);
+}
+
+/// Lays the token that is out back, with its slot. It is one load of the ends word, and no event.
+#[inline(always)]
+pub(crate) fn lay_back<T>(shared: &Words<T>, seat: &mut ThreadSeat<T>)
+    requires table { (seat.old.table_id ≡ shared.now.table_id) × (0 < shared.now.table_id.words) }
+    requires idle { IsAt None seat.old.me × (0 < seat.old.me.0.opened.tokens) }
+    requires out { ((hand_of seat.old.me.0).out ≢ 0) × (seat.old.me.1 ≡ ((hand_of seat.old.me.0).out - 1, None) ∷ []) }
+    ensures same { seat.new.table_id ≡ seat.old.table_id }
+    ensures lays { LaysBack shared.now.table_id.slots seat.old.me seat.new.me }
+{
+    shared.load::<LayBack>(seat, 0);
 }
 
 /// Keeps the first part of a seat's view, and gives a new seat the others.

@@ -1,0 +1,314 @@
+-- What a call with a payload leaves of its pass, and what it did.
+use Rattle.std.proofs.Common.{◌≡◌, ◌≢◌, ℕ, zero, suc, ◌+◌, ◌-◌, ◌*◌, ◌^◌, ◌<◌, ◌≤◌, List, [], ◌∷◌, ◌++◌, length, reverse, Option, Some, None, refl, sym, ap, ◌∙◌, subst, arith, append_assoc, mul-le-mul_right}
+use Rattle.std.proofs.lemmas.List.{append-nil, reverse-append}
+use Rattle.atomic_table.specs.Table.{Me, rest}
+use Rattle.atomic_table.specs.Seated.{TableId}
+use Rattle.kfifo_model.specs.declared.calls.Answer.{Answer}
+use Rattle.kfifo_model.specs.declared.calls.Answer.TheVariants as A
+use Rattle.kfifo_machine.specs.declared.event.Begin.{Begin}
+use Rattle.kfifo_machine.specs.declared.event.Begin.TheVariants as B
+use Rattle.kfifo_machine.specs.declared.place.Next.TheVariants.{Answers}
+use Rattle.kfifo_machine.specs.Runs.{WholeRun}
+use Rattle.kfifo_live.specs.declared.payload.Given.TheVariants as G
+use Rattle.kfifo_live.specs.declared.payload.Taken.TheVariants as K
+use Rattle.kfifo_live.specs.declared.view.Hand.{Hand}
+use Rattle.kfifo_live.specs.declared.view.Part.{Part}
+use Rattle.kfifo_live.specs.declared.view.View.{View}
+use Rattle.kfifo_live.specs.Hands.{FitsOwn, Gifts, Leaves, BeginsWith, beside, carried, carrying, gift, out_next, slot_of}
+use Rattle.kfifo_live.specs.Schedule.{IsSmall, part, view_of, thread_in, more_in, thread_of, seen_of, gifts_of, hand_of, with_seen}
+use Rattle.kfifo_live.specs.Step.{IsAt, DrawsToken, Leads}
+use Rattle.kfifo_live.specs.Pass.{Known, IsPass, known_of}
+use Rattle.kfifo_live.specs.Calls.{Makes}
+use Rattle.kfifo_live.specs.Payloads.{PayKnown, pay_known_of, IsPayPass, MakesCall, EnqueuesWith, DequeuesWith, Refuses, Gives, TakesOut}
+use Rattle.kfifo_live.proofs.Made.{takes_few_steps, has_cause, is_disturbed, leaves_none}
+use Rattle.kfifo_live.proofs.Opens.{no_slot}
+use Rattle.kfifo_live.proofs.Whole.{at_next, whole}
+
+Some-injective : {A : Type 0} (x y : A) → Some x ≡ Some y → x ≡ y
+Some-injective x y e = cc
+
+drawn_same : (x y : ℕ) (xs ys : List ℕ) → x ∷ xs ≡ y ∷ ys → (x ≡ y) × (xs ≡ ys)
+drawn_same x y xs ys e = (cc, cc)
+
+module _ {T : Type 0} where
+  -- a view with the part of this thread alone
+  abbrev pub IsAlone : ℕ → View T → Type 0
+  IsAlone thread v = v.parts ≡ part thread (seen_of v) (gifts_of v) (hand_of v) ∷ []
+
+  alone_on : (thread : ℕ) (v w : View T) {seen : _} {gifts : Gifts T} {hand : Hand T} → IsAlone thread v → w ≡ with_seen v seen gifts hand → IsAlone thread w
+  alone_on thread v w {seen} {gifts} {hand} alone is =
+      ap (λ (x : View T). x.parts) is
+      ∙ (λ i. part (thread_in (alone i)) seen gifts hand ∷ more_in (alone i))
+      ∙ (λ i. part thread (sym (ap seen_of is) i) (sym (ap gifts_of is) i) (sym (ap hand_of is) i) ∷ [])
+
+  -- an idle thread has another hand
+  idle_with : (old new : Me (Option T) (View T)) (hand : Hand T) (payload : Option T) → IsAt None old → new.0 ≡ with_seen old.0 (seen_of old.0) (gifts_of old.0) hand → new.1 ≡ carrying old.0.opened.tokens hand.out payload → IsAt None new
+  idle_with old new hand payload stood is held =
+      let at : IsAt None (with_seen old.0 (seen_of old.0) (gifts_of old.0) hand, new.1) = record { here = stood.here; seated = refl; reached = stood.reached; within = stood.within; place_is = stood.place_is; carries = (payload, held) } in
+      subst (λ (x : View T). IsAt None (x, new.1)) (sym is) at
+
+  -- the slot of a token that is out
+  one_slot : (tokens x : ℕ) (payload : Option T) → 0 < tokens → 0 < x → carrying tokens x payload ≡ (x - 1, payload) ∷ []
+  one_slot zero x payload some positive = absurd (omega arith)
+  one_slot (suc tokens) zero payload some positive = absurd (omega arith)
+  one_slot (suc tokens) (suc x) payload some positive = ap (λ n. (n, payload) ∷ []) (let e : x ≡ suc x - 1 = omega arith in e)
+
+  none_out : (tokens x : ℕ) (payload : Option T) → 0 < tokens → [] ≡ carrying tokens x payload → x ≡ 0
+  none_out zero x payload some e = absurd (omega arith)
+  none_out (suc tokens) zero payload some e = refl
+  none_out (suc tokens) (suc x) payload some e = absurd (cc)
+
+  one_payload : (k : ℕ) (x y : T) {held : List (ℕ × Option T)} → held ≡ (k, Some x) ∷ [] → held ≡ (k, Some y) ∷ [] → x ≡ y
+  one_payload k x y e f = Some-injective x y (sym (ap carried e) ∙ ap carried f)
+
+  -- a pass between two calls has no token out
+  pub pass_out : {thread room : ℕ} {me : Me (Option T) (View T)} {items : List ℕ} → IsPayPass thread me items room → (hand_of me.0).out ≡ 0
+  pass_out {thread} {room} {me} {items} p = none_out me.0.opened.tokens (hand_of me.0).out p.pass.idle.carries.0 p.some_tokens (sym p.pass.held ∙ p.pass.idle.carries.1)
+
+  -- the pass after moves of its own
+  again : {thread room room_now : ℕ} {old new : Me (Option T) (View T)} {items now : List ℕ} → IsPayPass thread old items room → IsAlone thread new.0 → new.1 ≡ [] → IsAt None new → new.0.opened ≡ old.0.opened
+      → (hand_of new.0).at_home ≡ reverse now → room_now ≡ room → IsPayPass thread new now room_now
+  again {thread} {room} {room_now} {old} {new} p alone held idle same stacked roomy = record {
+    pass = record { alone = alone; held = held; idle = idle; few = subst IsSmall (sym same) p.pass.few };
+    stacked = stacked;
+    some_tokens = subst (λ o. 0 < o) (sym (ap (λ o. o.tokens) same)) p.some_tokens;
+    few_tokens = subst (λ o. o ≤ 1024) (sym (ap (λ o. o.tokens) same)) p.few_tokens;
+    has_room = subst (λ (x : ℕ × ℕ). x.0 ≤ x.1) (λ i. (sym (ap (λ o. o.threads * o.tokens) same) i, sym roomy i)) p.has_room;
+  }
+
+  -- a whole run of a call, with all laws
+  pub is_call : (begin : Begin) (answer : Answer) (thread : ℕ) (table table_now : TableId) (old new : Me (Option T) (View T)) → IsAlone thread old.0 → Leads (Some begin) old (Answers answer) new
+      → MakesCall begin answer (known_of table thread old.0) (known_of table_now thread new.0)
+  is_call begin answer thread table table_now old new alone leads =
+      let o = old.0.opened in
+      let run : Makes begin answer (known_of table thread old.0) (known_of table_now thread new.0) =
+      subst (λ (t : ℕ). WholeRun o.shape o.threads t begin answer (seen_of old.0) (seen_of new.0)) (ap thread_in alone) (whole begin old new answer leads) in
+      record {
+        run = run;
+        few_steps = takes_few_steps begin answer (known_of table thread old.0) (known_of table_now thread new.0) run;
+        cause = has_cause begin answer (known_of table thread old.0) (known_of table_now thread new.0) run;
+        disturbed = is_disturbed begin answer (known_of table thread old.0) (known_of table_now thread new.0) run;
+        leaves_none = leaves_none begin answer (known_of table thread old.0) (known_of table_now thread new.0) run;
+      }
+
+  -- a pass whose next token is out, its payload in the slot
+  pub record IsReady (thread token : ℕ) (others : List ℕ) (payload : T) (slots : ℕ) (old start : Me (Option T) (View T)) : Type 0 where
+    pub view : start.0 ≡ with_seen old.0 (seen_of old.0) (gifts_of old.0) (record { at_home = reverse others; out = token; payload = None })
+    pub held : start.1 ≡ (token - 1, Some payload) ∷ []
+    pub first : (hand_of old.0).at_home ≡ token ∷ reverse others
+    pub some : 0 < token
+    pub within : token ≤ slots
+
+  pub first_is : {thread token room : ℕ} {items : List ℕ} (others : List ℕ) {old : Me (Option T) (View T)} → IsPayPass thread old items room → items ≡ others ++ token ∷ [] → (hand_of old.0).at_home ≡ token ∷ reverse others
+  first_is {thread} {token} {room} {items} others p popped = p.stacked ∙ ap reverse popped ∙ reverse-append others (token ∷ [])
+
+  -- the token that was drawn is the one that the list gave
+  pub drawn_is : {thread token slots room : ℕ} {items : List ℕ} (others : List ℕ) {old mid : Me (Option T) (View T)} → IsPayPass thread old items room → items ≡ others ++ token ∷ [] → (d : DrawsToken slots old mid)
+      → (d.token ≡ token) × (d.others ≡ reverse others)
+  drawn_is others p popped d = drawn_same _ _ _ _ (sym d.was ∙ first_is others p popped)
+
+  pub slot_drawn : {thread token slots room : ℕ} {items : List ℕ} (others : List ℕ) {old mid : Me (Option T) (View T)} → IsPayPass thread old items room → items ≡ others ++ token ∷ [] → DrawsToken slots old mid → (mid.1 ≡ (token - 1, None) ∷ []) × (0 < token) × (token ≤ slots)
+  slot_drawn {thread} {token} {slots} others p popped d =
+      let same = drawn_is others p popped d in
+      (d.holds ∙ ap (λ x. (x - 1, None) ∷ []) same.0, subst (λ x. 0 < x) same.0 d.some, subst (λ x. x ≤ slots) same.0 d.within)
+
+  pub ready : {thread token slots room : ℕ} {items : List ℕ} (others : List ℕ) {old mid start : Me (Option T) (View T)} {payload : T} → IsPayPass thread old items room → items ≡ others ++ token ∷ [] → DrawsToken slots old mid
+      → start ≡ (mid.0, (token - 1, Some payload) ∷ rest mid.1) → IsReady thread token others payload slots old start
+  ready {thread} {token} {slots} {room} {items} others {old} {mid} {start} {payload} p popped d filled =
+      let same = drawn_is others p popped d in
+      let s = slot_drawn others p popped d in
+      record {
+        view = ap (λ (x : Me (Option T) (View T)). x.0) filled ∙ d.afterwards ∙ (λ i. with_seen old.0 (seen_of old.0) (gifts_of old.0) (record { at_home = same.1 i; out = same.0 i; payload = None }));
+        held = ap (λ (x : Me (Option T) (View T)). x.1) filled ∙ ap (λ xs. (token - 1, Some payload) ∷ rest xs) s.0;
+        first = first_is others p popped;
+        some = s.1;
+        within = s.2;
+      }
+
+  module _ {thread token slots room : ℕ} {items others : List ℕ} {old start : Me (Option T) (View T)} {payload : T} (p : IsPayPass thread old items room) (r : IsReady thread token others payload slots old start) where
+    pub opened_ready : start.0.opened ≡ old.0.opened
+    opened_ready = ap (λ (v : View T). v.opened) r.view
+
+    some_ready : 0 < start.0.opened.tokens
+    some_ready = subst (λ o. 0 < o) (sym (ap (λ o. o.tokens) opened_ready)) p.some_tokens
+
+    hand_ready : hand_of start.0 ≡ record { at_home = reverse others; out = token; payload = None }
+    hand_ready = ap hand_of r.view
+
+    alone_ready : IsAlone thread start.0
+    alone_ready = alone_on thread old.0 start.0 p.pass.alone r.view
+
+    pub idle_ready : IsAt None start
+    idle_ready = idle_with old start (record { at_home = reverse others; out = token; payload = None }) (Some payload) p.pass.idle r.view (r.held ∙ sym (one_slot old.0.opened.tokens token (Some payload) p.some_tokens r.some))
+
+    pub begins_ready : (s t : ℕ) → BeginsWith (Some (B.Enqueue token s t)) (hand_of start.0) start.1
+    begins_ready s t = (ap (λ (h : Hand T). h.out) hand_ready, (payload, ap carried r.held))
+
+    module _ {s t : ℕ} {answer : Answer} {fin : Me (Option T) (View T)} (l : Leads (Some (B.Enqueue token s t)) start (Answers answer) fin) where
+      left : Leaves token (Some payload) (gifts_of start.0 ++ l.given) l.hand (Answers answer)
+      left = l.leaves some_ready token (Some payload) (refl, sym (ap carried r.held))
+
+      alone_given : IsAlone thread fin.0
+      alone_given = alone_on thread start.0 fin.0 alone_ready l.now
+
+      home_given : (hand_of fin.0).at_home ≡ reverse others
+      home_given = ap (λ (v : View T). (hand_of v).at_home) l.now ∙ l.at_home ∙ ap (λ (h : Hand T). h.at_home) hand_ready
+
+      pub opened_given : fin.0.opened ≡ old.0.opened
+      opened_given = ap (λ (v : View T). v.opened) l.now ∙ opened_ready
+
+      pub idle_given : IsAt None fin
+      idle_given = at_next (Some (B.Enqueue token s t)) start fin (Answers answer) l
+
+      pub some_given : 0 < fin.0.opened.tokens
+      some_given = subst (λ o. 0 < o) (sym (ap (λ o. o.tokens) opened_given)) p.some_tokens
+
+      pub stacked_given : (hand_of fin.0).at_home ≡ reverse others
+      stacked_given = home_given
+
+      enqueued : (table table_now : TableId) (now : View T) → (known_of table_now thread now ≡ known_of table_now thread fin.0) → gifts_of now ≡ gifts_of fin.0
+          → EnqueuesWith token s t answer payload (pay_known_of table thread old.0) (pay_known_of table_now thread now)
+      enqueued table table_now now same gifts_same =
+          let call = is_call (B.Enqueue token s t) answer thread table table_now start fin alone_ready l in
+          let started : known_of table thread start.0 ≡ known_of table thread old.0 = ap (known_of table thread) r.view in
+          let g = l.gift_is in
+          record {
+            call = subst (λ (x : Known × Known). MakesCall (B.Enqueue token s t) answer x.0 x.1) (λ i. (started i, sym same i)) call;
+            earlier = g.0;
+            later = g.1;
+            gifts = gifts_same ∙ ap gifts_of l.now ∙ (λ i. ap gifts_of r.view i ++ g.2 i) ∙ ap (λ (v : Option T). gifts_of old.0 ++ (g.0 ++ ((token, v) ∷ g.1))) (ap carried r.held);
+          }
+
+      -- Done: the token is gone
+      pub done_pass : answer ≡ A.Done → {room_now : ℕ} → room_now ≡ room → IsPayPass thread fin others room_now
+      done_pass done roomy =
+          let gone : l.hand.out ≡ 0 = left.out ∙ ap (λ a. out_next token (Answers a)) done in
+          again p alone_given (l.carries ∙ ap (λ n. carrying start.0.opened.tokens n l.hand.payload) gone ∙ no_slot start.0.opened.tokens l.hand.payload) idle_given opened_given home_given roomy
+
+      pub done_gives : answer ≡ A.Done → (table table_now : TableId) → Gives s t payload G.Done (pay_known_of table thread old.0) (pay_known_of table_now thread fin.0)
+      done_gives done table table_now = (
+        token,
+        r.first ∙ ap (λ xs. token ∷ xs) (sym home_given),
+        subst (λ a. EnqueuesWith token s t a payload (pay_known_of table thread old.0) (pay_known_of table_now thread fin.0)) done (enqueued table table_now fin.0 refl refl),
+      )
+
+      refused_out : (a : Answer) → FitsOwn token (Answers a) → (a ≡ A.Done → ⊥) → out_next token (Answers a) ≡ token
+      refused_out A.Done fits not_done = absurd (not_done refl)
+      refused_out A.Full fits not_done = refl
+      refused_out (A.Got item) fits not_done = absurd (let positive = r.some in omega arith)
+      refused_out A.Empty fits not_done = refl
+      refused_out A.Busy fits not_done = refl
+      refused_out A.Worn fits not_done = refl
+
+      pub not_taken : (a : Answer) → answer ≡ a → FitsOwn token (Answers a)
+      not_taken a is = subst (λ (b : Answer). FitsOwn token (Answers b)) is left.fits
+
+      -- a refusal: its own token is out, with its own payload
+      pub refused_out_is : (answer ≡ A.Done → ⊥) → (hand_of fin.0).out ≡ token
+      refused_out_is not_done = ap (λ (v : View T). (hand_of v).out) l.now ∙ left.out ∙ refused_out answer left.fits not_done
+
+      pub refused_held : (answer ≡ A.Done → ⊥) → fin.1 ≡ (token - 1, Some payload) ∷ []
+      refused_held not_done =
+          l.carries
+          ∙ (λ i. carrying start.0.opened.tokens ((left.out ∙ refused_out answer left.fits not_done) i) (left.kept r.some i))
+          ∙ one_slot start.0.opened.tokens token (Some payload) some_ready r.some
+
+      module _ {laid : Me (Option T) (View T)} (view : laid.0 ≡ with_seen fin.0 (seen_of fin.0) (gifts_of fin.0) (record { at_home = token ∷ (hand_of fin.0).at_home; out = 0; payload = None })) (held : laid.1 ≡ []) where
+        pub refused_pass : {now : List ℕ} {room_now : ℕ} → now ≡ others ++ token ∷ [] → room_now ≡ room → IsPayPass thread laid now room_now
+        refused_pass {now} now_is roomy =
+            again p (alone_on thread fin.0 laid.0 alone_given view) held
+            (idle_with fin laid (record { at_home = token ∷ (hand_of fin.0).at_home; out = 0; payload = None }) None idle_given view (held ∙ sym (no_slot fin.0.opened.tokens None)))
+            (ap (λ (v : View T). v.opened) view ∙ opened_given)
+            (ap (λ (v : View T). (hand_of v).at_home) view ∙ ap (λ xs. token ∷ xs) home_given ∙ sym (ap reverse now_is ∙ reverse-append others (token ∷ []))) roomy
+
+        pub refused : (answer ≡ A.Done → ⊥) → (a : Answer) → answer ≡ a → (back : T) → fin.1 ≡ (token - 1, Some back) ∷ [] → (table table_now : TableId) → Refuses s t a payload back (pay_known_of table thread old.0) (pay_known_of table_now thread laid.0)
+        refused not_done a is back back_is table table_now = record {
+          same = one_payload (token - 1) back payload back_is (refused_held not_done);
+          token = token;
+          others = reverse others;
+          first = r.first;
+          kept = ap (λ (v : View T). (hand_of v).at_home) view ∙ ap (λ xs. token ∷ xs) home_given ∙ sym r.first;
+          enqueue = subst (λ a. EnqueuesWith token s t a payload (pay_known_of table thread old.0) (pay_known_of table_now thread laid.0)) is
+              (enqueued table table_now laid.0 (ap (known_of table_now thread) view) (ap gifts_of view));
+        }
+
+  -- a dequeue of a pass
+  module _ {thread room s t : ℕ} {items : List ℕ} {old fin : Me (Option T) (View T)} {answer : Answer} (p : IsPayPass thread old items room) (l : Leads (Some (B.Dequeue s t)) old (Answers answer) fin) where
+    took : Leaves 0 None (gifts_of old.0 ++ l.given) l.hand (Answers answer)
+    took = l.leaves p.some_tokens 0 None refl
+
+    alone_took : IsAlone thread fin.0
+    alone_took = alone_on thread old.0 fin.0 p.pass.alone l.now
+
+    home_took : (hand_of fin.0).at_home ≡ (hand_of old.0).at_home
+    home_took = ap (λ (v : View T). (hand_of v).at_home) l.now ∙ l.at_home
+
+    opened_took : fin.0.opened ≡ old.0.opened
+    opened_took = ap (λ (v : View T). v.opened) l.now
+
+    pub idle_took : IsAt None fin
+    idle_took = at_next (Some (B.Dequeue s t)) old fin (Answers answer) l
+
+    pub some_took : 0 < fin.0.opened.tokens
+    some_took = subst (λ o. 0 < o) (sym (ap (λ o. o.tokens) opened_took)) p.some_tokens
+
+    pub stacked_took : (hand_of fin.0).at_home ≡ reverse items
+    stacked_took = home_took ∙ p.stacked
+
+    pub fits_took : (a : Answer) → answer ≡ a → FitsOwn 0 (Answers a)
+    fits_took a is = subst (λ (b : Answer). FitsOwn 0 (Answers b)) is took.fits
+
+    dequeued : (table table_now : TableId) (now : View T) → (known_of table_now thread now ≡ known_of table_now thread fin.0) → gifts_of now ≡ gifts_of fin.0
+        → DequeuesWith s t answer (pay_known_of table thread old.0) (pay_known_of table_now thread now)
+    dequeued table table_now now same gifts_same = record {
+      call = subst (λ (x : Known). MakesCall (B.Dequeue s t) answer (known_of table thread old.0) x) (sym same) (is_call (B.Dequeue s t) answer thread table table_now old fin p.pass.alone l);
+      given = l.given;
+      gifts = gifts_same ∙ ap gifts_of l.now;
+    }
+
+    -- nothing was taken
+    pub none_pass : out_next 0 (Answers answer) ≡ 0 → IsPayPass thread fin items room
+    none_pass none =
+        again p alone_took (l.carries ∙ ap (λ n. carrying old.0.opened.tokens n l.hand.payload) (took.out ∙ none) ∙ no_slot old.0.opened.tokens l.hand.payload) idle_took opened_took stacked_took refl
+
+    pub none_dequeued : (table table_now : TableId) → ((hand_of fin.0).at_home ≡ (hand_of old.0).at_home) × DequeuesWith s t answer (pay_known_of table thread old.0) (pay_known_of table_now thread fin.0)
+    none_dequeued table table_now = (home_took, dequeued table table_now fin.0 refl refl)
+
+    -- a token was taken
+    module _ {token : ℕ} (is : answer ≡ A.Got token) where
+      got : (0 < token) × (l.hand.payload ≡ beside token (gifts_of old.0 ++ l.given)) × ((found : T) × (beside token (gifts_of old.0 ++ l.given) ≡ Some found))
+      got = took.taken token (ap Answers is)
+
+      pub got_out : (0 < token) × ((hand_of fin.0).out ≡ token)
+      got_out = (got.0, ap (λ (v : View T). (hand_of v).out) l.now ∙ took.out ∙ ap (λ a. out_next 0 (Answers a)) is)
+
+      pub got_held : (payload : T) × (fin.1 ≡ (token - 1, Some payload) ∷ [])
+      got_held = (
+        got.2.0,
+        l.carries ∙ (λ i. carrying old.0.opened.tokens ((took.out ∙ ap (λ a. out_next 0 (Answers a)) is) i) ((got.1 ∙ got.2.1) i)) ∙ one_slot old.0.opened.tokens token (Some got.2.0) p.some_tokens got.0,
+      )
+
+      module _ {laid : Me (Option T) (View T)} (view : laid.0 ≡ with_seen fin.0 (seen_of fin.0) (gifts_of fin.0) (record { at_home = token ∷ (hand_of fin.0).at_home; out = 0; payload = None })) (held : laid.1 ≡ []) where
+        pub got_pass : {now : List ℕ} {room_now : ℕ} → now ≡ items ++ token ∷ [] → room_now ≡ room → IsPayPass thread laid now room_now
+        got_pass {now} now_is roomy =
+            again p (alone_on thread fin.0 laid.0 alone_took view) held
+            (idle_with fin laid (record { at_home = token ∷ (hand_of fin.0).at_home; out = 0; payload = None }) None idle_took view (held ∙ sym (no_slot fin.0.opened.tokens None)))
+            (ap (λ (v : View T). v.opened) view ∙ opened_took)
+            (ap (λ (v : View T). (hand_of v).at_home) view ∙ ap (λ xs. token ∷ xs) stacked_took ∙ sym (ap reverse now_is ∙ reverse-append items (token ∷ []))) roomy
+
+        pub got_takes : (payload : T) → fin.1 ≡ (token - 1, Some payload) ∷ [] → (table table_now : TableId) → TakesOut s t (K.Got payload) (pay_known_of table thread old.0) (pay_known_of table_now thread laid.0)
+        unfolding got got_held
+        got_takes payload payload_is table table_now =
+            let gifts : gifts_of laid.0 ≡ gifts_of old.0 ++ l.given = ap gifts_of view ∙ ap gifts_of l.now in
+            let same = one_payload (token - 1) got_held.0 payload got_held.1 payload_is in (
+              token,
+              ap (λ (v : View T). (hand_of v).at_home) view ∙ ap (λ xs. token ∷ xs) home_took,
+              ap (beside token) gifts ∙ got.2.1 ∙ ap Some same,
+              subst (λ a. DequeuesWith s t a (pay_known_of table thread old.0) (pay_known_of table_now thread laid.0)) is (dequeued table table_now laid.0 (ap (known_of table_now thread) view) (ap gifts_of view)),
+            )
+
+-- so few tokens are items
+pub few_items : (threads tokens token : ℕ) → threads ≤ 64 → tokens ≤ 1024 → token ≤ threads * tokens → token < 2 ^ 24
+few_items threads tokens token few small le =
+    let up : threads * tokens ≤ 64 * tokens = mul-le-mul_right tokens few in
+    omega (arith, up, small, le)

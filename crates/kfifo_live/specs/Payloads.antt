@@ -1,0 +1,96 @@
+-- A queue of owned payloads and its passes, as callers see them, and what a call with a payload does.
+use Rattle.std.specs.Prelude.{◌<◌, ◌≤◌, ◌≡◌, ℕ, zero, suc, ◌+◌, ◌*◌, List, [], ◌∷◌, ◌++◌, Option, Some, reverse}
+use Rattle.atomic_table.specs.Table.{Me}
+use Rattle.atomic_table.specs.Seated.{TableId}
+use Rattle.kfifo_words.specs.declared.shape.Shape.{Shape}
+use Rattle.kfifo_model.specs.declared.calls.Answer.{Answer}
+use Rattle.kfifo_model.specs.declared.calls.Answer.TheVariants as A
+use Rattle.kfifo_machine.specs.declared.event.Begin.{Begin}
+use Rattle.kfifo_machine.specs.declared.event.Begin.TheVariants as B
+use Rattle.kfifo_machine.specs.Laws.{IsRefusal}
+use Rattle.kfifo_machine.specs.Rounds.{turns_of}
+use Rattle.kfifo_live.specs.declared.view.Opening.{Opening}
+use Rattle.kfifo_live.specs.declared.view.View.{View}
+use Rattle.kfifo_live.specs.declared.payload.Given.{Given}
+use Rattle.kfifo_live.specs.declared.payload.Given.TheVariants as G
+use Rattle.kfifo_live.specs.declared.payload.Taken.{Taken}
+use Rattle.kfifo_live.specs.declared.payload.Taken.TheVariants as K
+use Rattle.kfifo_live.specs.Hands.{Gifts, beside}
+use Rattle.kfifo_live.specs.Schedule.{count_up, gifts_of, hand_of}
+use Rattle.kfifo_live.specs.Pass.{Known, OpenQueue, IsPass, known_of}
+use Rattle.kfifo_live.specs.Calls.{Makes, TakesFewSteps, HasCause, IsDisturbed, LeavesNoItem}
+
+-- the opening of a payload queue with so many tokens a pass
+abbrev pub pay_opening : Shape → ℕ → ℕ → Opening
+pay_opening shape threads tokens = record { shape = shape; threads = threads; calls = 0; tokens = tokens }
+
+-- A pass: what is known of its schedule, the tokens that it has, that which it uses next first, and the gifts: for each enqueue
+-- that began in the schedule, in turn, its token beside its payload
+pub record PayKnown (T : Type 0) : Type 0 where
+  pub pass : Known
+  pub tokens : List ℕ
+  pub gifts : Gifts T
+
+abbrev pub pay_known_of : {T : Type 0} → TableId → ℕ → View T → PayKnown T
+pay_known_of table thread v = record { pass = known_of table thread v; tokens = (hand_of v).at_home; gifts = gifts_of v }
+
+-- what is always so of a payload pass: it has its tokens in a list, the next one last, which has room for all tokens of the queue
+pub record IsPayPass {T : Type 0} (thread : ℕ) (me : Me (Option T) (View T)) (items : List ℕ) (room : ℕ) : Type 0 where
+  pub pass : IsPass thread me
+  pub stacked : (hand_of me.0).at_home ≡ reverse items
+  pub some_tokens : 0 < me.0.opened.tokens
+  pub few_tokens : me.0.opened.tokens ≤ 1024
+  pub has_room : me.0.opened.threads * me.0.opened.tokens ≤ room
+
+-- the passes of threads first, first + 1, .., which have seen the empty schedule: thread t has the tokens t * tokens + 1 to
+-- (t + 1) * tokens
+abbrev pub new_pay_passes : {T : Type 0} → OpenQueue → ℕ → ℕ → List (PayKnown T)
+new_pay_passes q first zero = []
+new_pay_passes q first (suc count) =
+    record { pass = record { table = q.table; opened = q.opened; thread = first; seen = [] }; tokens = count_up (first * q.opened.tokens + 1) q.opened.tokens; gifts = [] } ∷ new_pay_passes q (suc first) count
+
+-- A call of a pass is one whole run of the queue's program with this answer. The laws of all such runs stand beside it
+pub record MakesCall (begin : Begin) (answer : Answer) (old new : Known) : Type 0 where
+  pub run : Makes begin answer old new
+  pub few_steps : TakesFewSteps begin old new
+  pub cause : HasCause begin answer old new
+  pub disturbed : answer ≡ A.Busy → old.opened.shape.n + 2 ≤ turns_of begin → IsDisturbed old new
+  pub leaves_none : IsRefusal answer → LeavesNoItem old new
+
+module _ {T : Type 0} where
+  -- an enqueue of a token with this payload beside it
+  pub record EnqueuesWith (token start turns : ℕ) (answer : Answer) (payload : T) (old new : PayKnown T) : Type 0 where
+    pub call : MakesCall (B.Enqueue token start turns) answer old.pass new.pass
+    pub earlier : Gifts T
+    pub later : Gifts T
+    pub gifts : new.gifts ≡ old.gifts ++ (earlier ++ ((token, Some payload) ∷ later))
+
+  -- a dequeue
+  pub record DequeuesWith (start turns : ℕ) (answer : Answer) (old new : PayKnown T) : Type 0 where
+    pub call : MakesCall (B.Dequeue start turns) answer old.pass new.pass
+    pub given : Gifts T
+    pub gifts : new.gifts ≡ old.gifts ++ given
+
+  -- a refused enqueue: the payload comes back, and the pass keeps its token
+  pub record Refuses (start turns : ℕ) (answer : Answer) (payload back : T) (old new : PayKnown T) : Type 0 where
+    pub same : back ≡ payload
+    pub token : ℕ
+    pub others : List ℕ
+    pub first : old.tokens ≡ token ∷ others
+    pub kept : new.tokens ≡ old.tokens
+    pub enqueue : EnqueuesWith token start turns answer payload old new
+
+  -- What `give` did, by what it answers: Done gives up the first token. NoToken comes where the pass has none, and nothing is done
+  abbrev pub Gives : ℕ → ℕ → T → Given T → PayKnown T → PayKnown T → Type 0
+  Gives start turns payload G.Done old new = (token : ℕ) × (old.tokens ≡ token ∷ new.tokens) × EnqueuesWith token start turns A.Done payload old new
+  Gives start turns payload (G.Full back) old new = Refuses start turns A.Full payload back old new
+  Gives start turns payload (G.Busy back) old new = Refuses start turns A.Busy payload back old new
+  Gives start turns payload (G.Worn back) old new = Refuses start turns A.Worn payload back old new
+  Gives start turns payload (G.NoToken back) old new = (back ≡ payload) × (old.tokens ≡ []) × (new ≡ old)
+
+  -- What `take` did: Got gives the pass the token that was taken, and the payload of the enqueue that last put that token
+  abbrev pub TakesOut : ℕ → ℕ → Taken T → PayKnown T → PayKnown T → Type 0
+  TakesOut start turns (K.Got payload) old new = (token : ℕ) × (new.tokens ≡ token ∷ old.tokens) × (beside token new.gifts ≡ Some payload) × DequeuesWith start turns (A.Got token) old new
+  TakesOut start turns K.Empty old new = (new.tokens ≡ old.tokens) × DequeuesWith start turns A.Empty old new
+  TakesOut start turns K.Busy old new = (new.tokens ≡ old.tokens) × DequeuesWith start turns A.Busy old new
+  TakesOut start turns K.Worn old new = (new.tokens ≡ old.tokens) × DequeuesWith start turns A.Worn old new
