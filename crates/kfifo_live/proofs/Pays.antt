@@ -15,11 +15,11 @@ use Rattle.kfifo_live.specs.declared.view.Hand.{Hand}
 use Rattle.kfifo_live.specs.declared.view.Part.{Part}
 use Rattle.kfifo_live.specs.declared.view.View.{View}
 use Rattle.kfifo_live.specs.Hands.{FitsOwn, Gifts, Leaves, BeginsWith, beside, carried, carrying, gift, out_next, slot_of}
-use Rattle.kfifo_live.specs.Schedule.{IsSmall, part, view_of, thread_in, more_in, thread_of, seen_of, gifts_of, hand_of, with_seen}
+use Rattle.kfifo_live.specs.Schedule.{IsSmall, count_up, part, view_of, thread_in, more_in, thread_of, seen_of, gifts_of, hand_of, with_seen}
 use Rattle.kfifo_live.specs.Step.{IsAt, DrawsToken, Leads}
-use Rattle.kfifo_live.specs.Pass.{Known, IsPass, known_of}
+use Rattle.kfifo_live.specs.Pass.{Known, OpenQueue, IsPass, known_of}
 use Rattle.kfifo_live.specs.Calls.{Makes}
-use Rattle.kfifo_live.specs.Payloads.{PayKnown, pay_known_of, IsPayPass, MakesCall, EnqueuesWith, DequeuesWith, Refuses, Gives, TakesOut}
+use Rattle.kfifo_live.specs.Payloads.{PayKnown, new_pay_passes, pay_known_of, IsPayPass, MakesCall, EnqueuesWith, DequeuesWith, Refuses, Gives, TakesOut}
 use Rattle.kfifo_live.proofs.Made.{takes_few_steps, has_cause, is_disturbed, leaves_none}
 use Rattle.kfifo_live.proofs.Opens.{no_slot}
 use Rattle.kfifo_live.proofs.Whole.{at_next, whole}
@@ -312,3 +312,11 @@ pub few_items : (threads tokens token : ℕ) → threads ≤ 64 → tokens ≤ 1
 few_items threads tokens token few small le =
     let up : threads * tokens ≤ 64 * tokens = mul-le-mul_right tokens few in
     omega (arith, up, small, le)
+
+pub new_pay_passes-snoc : {T : Type 0} (q : OpenQueue) (first n at : ℕ) → at ≡ first + n
+    → new_pay_passes {T = T} q first (n + 1) ≡ new_pay_passes q first n ++ record { pass = record { table = q.table; opened = q.opened; thread = at; seen = [] }; tokens = count_up (at * q.opened.tokens + 1) q.opened.tokens; gifts = [] } ∷ []
+new_pay_passes-snoc {T} q first zero at is = ap (λ (k : ℕ). record { pass = record { table = q.table; opened = q.opened; thread = k; seen = [] }; tokens = count_up (k * q.opened.tokens + 1) q.opened.tokens; gifts = [] } ∷ []) (let e : first ≡ at = omega (arith, is) in e)
+new_pay_passes-snoc {T} q first (suc n) at is =
+    ap (new_pay_passes q first) (let e : suc n + 1 ≡ suc (n + 1) = omega arith in e)
+    ∙ ap (λ ps. record { pass = record { table = q.table; opened = q.opened; thread = first; seen = [] }; tokens = count_up (first * q.opened.tokens + 1) q.opened.tokens; gifts = [] } ∷ ps)
+        (new_pay_passes-snoc q (suc first) n at (omega (arith, is)))

@@ -9,6 +9,7 @@ mod fault;
 mod meeting;
 mod opening;
 mod payload;
+mod payload_opening;
 mod queue;
 mod recording;
 mod ring;
@@ -21,8 +22,9 @@ mod tests;
 mod view;
 
 pub use closing::close;
-pub use fault::{CloseFault, GatherFault, OpenFault};
+pub use fault::{CloseFault, GatherFault, OpenFault, PayOpenFault};
 pub use meeting::meet;
+pub use payload_opening::MAX_TOKENS;
 pub use payload::{Given, PayPass, PayQueue, Taken};
 pub use queue::{Pass, Queue};
 pub use recording::{MAX_CALLS, gather};
