@@ -337,4 +337,4 @@ new_pay_passes-snoc {T} q first zero at is = ap (λ (k : ℕ). record { pass = r
 new_pay_passes-snoc {T} q first (suc n) at is =
     ap (new_pay_passes q first) (let e : suc n + 1 ≡ suc (n + 1) = omega arith in e)
     ∙ ap (λ ps. record { pass = record { table = q.table; opened = q.opened; thread = first; seen = [] }; tokens = count_up (first * q.opened.tokens + 1) q.opened.tokens; gifts = [] } ∷ ps)
-        (new_pay_passes-snoc q (suc first) n at (omega (arith, is)))
+    (new_pay_passes-snoc q (suc first) n at (omega (arith, is)))

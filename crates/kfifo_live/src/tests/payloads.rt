@@ -41,8 +41,12 @@ fn refuses_an_opening_in_the_stated_order(rt: HostRuntime) -> Result<(), Fail> {
         (64, 0, PayOpenFault::TokensOutOfRange, 3),
         (1, MAX_TOKENS + 1, PayOpenFault::TokensOutOfRange, 3),
     ] {
-        let opened: Result<(PayQueue<u64>, Vec<PayPass<u64>>), PayOpenFault> =
-            PayQueue::open(rt.alloc(), shape, threads, tokens);
+        let opened: Result<(PayQueue<u64>, Vec<PayPass<u64>>), PayOpenFault> = PayQueue::open(
+            rt.alloc(),
+            shape,
+            threads,
+            tokens,
+        );
         let Err(refused) = opened else {
             panic!(rt; "opened for {threads} threads and {tokens} tokens");
         };
