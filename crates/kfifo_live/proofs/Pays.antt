@@ -15,13 +15,14 @@ use Rattle.kfifo_live.specs.declared.view.Hand.{Hand}
 use Rattle.kfifo_live.specs.declared.view.Part.{Part}
 use Rattle.kfifo_live.specs.declared.view.View.{View}
 use Rattle.kfifo_live.specs.Hands.{FitsOwn, Gifts, Leaves, BeginsWith, beside, carried, carrying, gift, out_next, slot_of}
-use Rattle.kfifo_live.specs.Schedule.{IsSmall, part, view_of, thread_in, more_in, thread_of, seen_of, gifts_of, hand_of, with_seen}
-use Rattle.kfifo_live.specs.Step.{IsAt, DrawsToken, Leads}
-use Rattle.kfifo_live.specs.Pass.{Known, IsPass, known_of}
+use Rattle.kfifo_live.specs.Schedule.{IsSmall, count_up, part, view_of, thread_in, more_in, hand_in, both_parts, first_part, thread_of, seen_of, gifts_of, hand_of, with_seen}
+use Rattle.kfifo_live.specs.Step.{IsAt, DrawsToken, Leads, Looks}
+use Rattle.kfifo_live.specs.Pass.{Known, OpenQueue, IsPass, known_of}
 use Rattle.kfifo_live.specs.Calls.{Makes}
-use Rattle.kfifo_live.specs.Payloads.{PayKnown, pay_known_of, IsPayPass, MakesCall, EnqueuesWith, DequeuesWith, Refuses, Gives, TakesOut}
+use Rattle.kfifo_live.specs.Payloads.{PayKnown, new_pay_passes, pay_known_of, IsPayPass, MakesCall, EnqueuesWith, DequeuesWith, Refuses, Gives, TakesOut}
 use Rattle.kfifo_live.proofs.Made.{takes_few_steps, has_cause, is_disturbed, leaves_none}
 use Rattle.kfifo_live.proofs.Opens.{no_slot}
+use Rattle.kfifo_live.proofs.Passes.{met}
 use Rattle.kfifo_live.proofs.Whole.{at_next, whole}
 
 Some-injective : {A : Type 0} (x y : A) → Some x ≡ Some y → x ≡ y
@@ -75,6 +76,23 @@ module _ {T : Type 0} where
     few_tokens = subst (λ o. o ≤ 1024) (sym (ap (λ o. o.tokens) same)) p.few_tokens;
     has_room = subst (λ (x : ℕ × ℕ). x.0 ≤ x.1) (λ i. (sym (ap (λ o. o.threads * o.tokens) same) i, sym roomy i)) p.has_room;
   }
+
+  -- after a look with another's parts beside its own, a pass has its tokens
+  module _ {thread room word found : ℕ} {items : List ℕ} {old new : Me (Option T) (View T)} (other : View T) {both seen : View T} (p : IsPayPass thread old items room) (slots : new.1 ≡ old.1)
+      (is : both ≡ both_parts old.0 other) (l : Looks word found both seen) (kept : new.0 ≡ first_part seen) where
+    pub met_hand : hand_of new.0 ≡ hand_of old.0
+    met_hand =
+        ap hand_of (kept ∙ ap first_part l.afterwards)
+        ∙ ap (λ (v : View T). hand_of v) is
+        ∙ ap (λ (ps : List (Part T)). hand_in (ps ++ other.parts)) p.pass.alone
+
+    pub met_opened : new.0.opened ≡ old.0.opened
+    met_opened = ap (λ (v : View T). v.opened) (kept ∙ ap first_part l.afterwards) ∙ ap (λ (v : View T). v.opened) is
+
+    pub met_pass : IsPayPass thread new items room
+    met_pass =
+        let pass = met thread word found old new other both seen p.pass slots is l kept in
+        again p pass.alone pass.held pass.idle met_opened (ap (λ (h : Hand T). h.at_home) met_hand ∙ p.stacked) refl
 
   -- a whole run of a call, with all laws
   pub is_call : (begin : Begin) (answer : Answer) (thread : ℕ) (table table_now : TableId) (old new : Me (Option T) (View T)) → IsAlone thread old.0 → Leads (Some begin) old (Answers answer) new
@@ -312,3 +330,11 @@ pub few_items : (threads tokens token : ℕ) → threads ≤ 64 → tokens ≤ 1
 few_items threads tokens token few small le =
     let up : threads * tokens ≤ 64 * tokens = mul-le-mul_right tokens few in
     omega (arith, up, small, le)
+
+pub new_pay_passes-snoc : {T : Type 0} (q : OpenQueue) (first n at : ℕ) → at ≡ first + n
+    → new_pay_passes {T = T} q first (n + 1) ≡ new_pay_passes q first n ++ record { pass = record { table = q.table; opened = q.opened; thread = at; seen = [] }; tokens = count_up (at * q.opened.tokens + 1) q.opened.tokens; gifts = [] } ∷ []
+new_pay_passes-snoc {T} q first zero at is = ap (λ (k : ℕ). record { pass = record { table = q.table; opened = q.opened; thread = k; seen = [] }; tokens = count_up (k * q.opened.tokens + 1) q.opened.tokens; gifts = [] } ∷ []) (let e : first ≡ at = omega (arith, is) in e)
+new_pay_passes-snoc {T} q first (suc n) at is =
+    ap (new_pay_passes q first) (let e : suc n + 1 ≡ suc (n + 1) = omega arith in e)
+    ∙ ap (λ ps. record { pass = record { table = q.table; opened = q.opened; thread = first; seen = [] }; tokens = count_up (first * q.opened.tokens + 1) q.opened.tokens; gifts = [] } ∷ ps)
+    (new_pay_passes-snoc q (suc first) n at (omega (arith, is)))

@@ -10,6 +10,7 @@ use std::alloc::Global;
 use std::process::Abort;
 use std::test::Fail;
 
+mod payloads;
 mod stamps;
 mod threads;
 

@@ -1,0 +1,14 @@
+-- The table opens by the rule, with an empty slot for each token.
+use Rattle.std.proofs.Common.{◌≡◌, replicate, ◌+◌, ◌*◌, ◌∙◌, refl, rules}
+use Rattle.kfifo_live.specs.Payloads.{pay_opening}
+use Rattle.kfifo_live.proofs.Cuts.{opens}
+use Rattle.kfifo_live.proofs.Opens.{zeroed}
+use Rattle.kfifo_live.proofs.payload.PayQueue.open.Goals as goal
+
+pub vacant-requires : goal.vacant-requires
+vacant-requires g c =
+    let zeros : c.in_ok-words.words.items ≡ replicate (2 + c.args.shape.n * c.args.shape.k) 0 = search rules in
+    opens _ _ (c.as_slice.ensures.value ∙ zeros)
+
+pub returns-clause-zeroed : goal.returns-clause-zeroed
+returns-clause-zeroed g c = zeroed (pay_opening c.args.shape c.args.threads c.args.tokens)

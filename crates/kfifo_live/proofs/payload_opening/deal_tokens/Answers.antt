@@ -1,0 +1,54 @@
+use Rattle.std.proofs.Common.{◌≡◌, ℕ, ◌<◌, ◌≤◌, ◌+◌, ◌*◌, ◌++◌, [], ◌∷◌, ap, refl, subst, sym, ◌∙◌, arith}
+use Rattle.kfifo_live.specs.declared.view.Opening.{Opening}
+use Rattle.kfifo_live.specs.declared.view.View.{View}
+use Rattle.kfifo_live.specs.Schedule.{hand_of, count_up, first_part, other_parts}
+use Rattle.kfifo_live.specs.Pass.{queue_of}
+use Rattle.kfifo_live.specs.Payloads.{pay_known_of}
+use Rattle.kfifo_live.proofs.Opens.{new_pass, cut_first}
+use Rattle.kfifo_live.proofs.Pays.{new_pay_passes-snoc}
+use Rattle.kfifo_live.proofs.payload_opening.deal_tokens.Goals as goal
+
+pub give_rest-rest-requires-clause-some : goal.give_rest-rest-requires-clause-some
+give_rest-rest-requires-clause-some g c =
+    let v = c.loop-thread.seat.me.0 in
+    let cut = cut_first _ _ _ v (first_part v) (other_parts v) c.loop-thread-test.true c.loop-thread.invariant.view refl refl in
+    let some = cut.2 in
+    omega (arith, some)
+
+pub invariant_of-push : goal.invariant_of-push
+invariant_of-push g c =
+    let i = c.loop-thread.invariant in
+    let r = c.give_rest-rest.ensures in
+    let o = c.args.seat.me.0.opened in
+    let cut = cut_first _ _ _ _ _ _ c.loop-thread-test.true i.view r.kept r.given.1 in
+    let below : c.loop-thread.thread < o.threads = omega (arith, c.requires.opened.0, c.loop-thread-test.true) in
+    let mine = c.in_ok-at_home.ensures in
+    let opened : c.give_rest-rest.new.seat.me.0.opened ≡ o = ap (λ (v : View g.row.T.Denot). v.opened) cut.0 in
+    let all : c.give_rest-rest.new.seat.me.0.opened.threads * c.give_rest-rest.new.seat.me.0.opened.tokens ≡ c.args.threads * c.args.tokens =
+    ap (λ (x : Opening). x.threads * x.tokens) opened ∙ (λ k. c.requires.opened.0 k * c.requires.opened.1 k) in
+    let tokens : c.give_rest-rest.new.seat.me.0.opened.tokens ≡ c.args.tokens = ap (λ (x : Opening). x.tokens) opened ∙ c.requires.opened.1 in
+    let room = mine.1 in
+    record {
+      pass = new_pass _ _ _ below c.requires.few.0 cut.0 (r.same.1 ∙ i.held);
+      stacked = ap (λ (v : View g.row.T.Denot). (hand_of v).at_home) cut.0 ∙ ap (λ n. count_up (c.loop-thread.thread * n + 1) n) c.requires.opened.1 ∙ sym mine.0;
+      some_tokens = subst (λ n. 0 < n) (sym tokens) c.requires.few.1;
+      few_tokens = subst (λ n. n ≤ 1024) (sym tokens) c.requires.few.2;
+      has_room = omega (arith, all, room);
+    }
+
+pub loop-thread-preserved : goal.loop-thread-preserved
+loop-thread-preserved g c =
+    let i = c.loop-thread.invariant in
+    let r = c.give_rest-rest.ensures in
+    let cut = cut_first _ _ _ _ _ _ c.loop-thread-test.true i.view r.kept r.given.1 in
+    let n : c.loop-thread.thread ≡ 0 + c.loop-thread.thread = omega arith in
+    let table = r.same.0 ∙ i.table in
+    record {
+      table = r.given.0 ∙ i.table;
+      held = r.given.2;
+      view = cut.1;
+      made =
+          c.in_ok-push.ensures.items
+          ∙ (λ k. i.made k ++ pay_known_of (table k) c.loop-thread.thread (cut.0 k) ∷ [])
+          ∙ sym (new_pay_passes-snoc (queue_of c.args.seat.table_id c.args.seat.me.0.opened) 0 c.loop-thread.thread c.loop-thread.thread n);
+    }

@@ -1,0 +1,104 @@
+//! Opening a queue of payloads.
+ghost use Rattle.std.specs.Prelude.{◌≡◌, ◌<◌, ◌≤◌, ◌+◌, ◌*◌, ◌⊎◌, ◌↔◌, [], IfOk, IsErrOf, reverse, vec_capacity};
+ghost use Rattle.kfifo_live.specs.Schedule.{IsSmall, count_up, fresh, view_of};
+ghost use Rattle.kfifo_live.specs.Pass.{IsZeroed, queue_of};
+ghost use Rattle.kfifo_live.specs.Payloads.{new_pay_passes, pay_opening};
+ghost use Rattle.kfifo_live.specs.declared.fault.PayOpenFault.TheVariants.{ThreadsOutOfRange, TokensOutOfRange};
+
+use crate::fault::PayOpenFault;
+use crate::payload::{PayPass, PayQueue};
+use crate::seats::give_rest;
+use crate::view::{Opening, ThreadSeat, Words};
+use atomic_table::Table;
+use kfifo_machine::MAX_THREADS;
+use kfifo_words::Shape;
+use std::alloc::{AllocError, Global};
+
+/// The greatest number of tokens of a pass.
+pub const MAX_TOKENS: u32 = 1_024;
+
+/// The tokens of a thread, the first of them last, with room for so many.
+fn own_tokens(alloc: Global, thread: u32, tokens: u32, room: usize) -> Result<Vec<u32>, AllocError>
+    requires thread { thread < 64 }
+    requires tokens { (tokens ≤ 1024) × (tokens ≤ room) }
+    ensures { IfOk result (λ v. (reverse v.items ≡ count_up (thread * tokens + 1) tokens) × (room ≤ vec_capacity v)) }
+{
+    let mut at_home = Vec::with_capacity(alloc, room)?;
+    let last = (thread + 1) * tokens;
+    for index in 0..tokens {
+        at_home.push_reserved(last - index);
+    }
+    Ok(at_home)
+}
+
+/// A pass for each thread, which has seen nothing and has its tokens.
+fn deal_tokens<T: Drop>(
+    alloc: Global,
+    shared: &Words<T>,
+    mut seat: ThreadSeat<T>,
+    threads: u32,
+    tokens: u32,
+) -> Result<Vec<PayPass<T>>, AllocError>
+    requires table { (seat.table_id ≡ shared.now.table_id) × (0 < shared.now.table_id.words) }
+    requires few { IsSmall seat.me.0.opened × (0 < tokens) × (tokens ≤ 1024) }
+    requires seat { (seat.me.1 ≡ []) × (seat.me.0 ≡ view_of seat.me.0.opened (fresh seat.me.0.opened.tokens 0 threads)) }
+    requires opened { (seat.me.0.opened.threads ≡ threads) × (seat.me.0.opened.tokens ≡ tokens) }
+    ensures { IfOk result (λ ps. ps.items ≡ new_pay_passes (queue_of seat.table_id seat.me.0.opened) 0 threads) }
+{
+    let mut passes = Vec::with_capacity(alloc, threads as usize)?;
+    let room = threads as usize * tokens as usize;
+    for thread in 0..threads {
+        let at_home = own_tokens(alloc, thread, tokens, room)?;
+        let rest = give_rest(shared, &mut seat);
+        passes.push(PayPass {
+            thread,
+            seat,
+            at_home,
+        })?;
+        seat = rest;
+    }
+    Ok(passes)
+}
+
+impl<T: Drop> PayQueue<T> {
+    /// A queue, and one pass for each thread, numbered from 0, with so many tokens each: pass p has those from
+    /// `p * tokens + 1` to `(p + 1) * tokens`. The passes have seen the empty schedule, after which all words are 0.
+    ///
+    /// ThreadsOutOfRange where the number of threads is not 1 to 64; then TokensOutOfRange where the number of tokens is
+    /// not 1 to 1,024; Memory where an allocation failed. Nothing is kept after a refusal.
+    pub fn open(
+        alloc: Global,
+        shape: Shape,
+        threads: u32,
+        tokens: u32,
+    ) -> Result<(PayQueue<T>, Vec<PayPass<T>>), PayOpenFault>
+        ensures ok { IfOk result (λ r. (r.0.opened ≡ pay_opening shape threads tokens) × (r.1.items ≡ new_pay_passes r.0 0 threads)) }
+        ensures threads { IsErrOf result ThreadsOutOfRange ↔ ((threads ≡ 0) ⊎ (64 < threads)) }
+        ensures tokens { IsErrOf result TokensOutOfRange ↔ ((1 ≤ threads) × (threads ≤ 64) × ((tokens ≡ 0) ⊎ (1024 < tokens))) }
+        ensures zeroed { IfOk result (λ r. IsZeroed r.0.opened) }
+    {
+        if threads == 0 || threads > MAX_THREADS {
+            return Err(PayOpenFault::ThreadsOutOfRange);
+        }
+        if tokens == 0 || tokens > MAX_TOKENS {
+            return Err(PayOpenFault::TokensOutOfRange);
+        }
+        let words = vec![in alloc; 0; 2 + shape.n() as usize * shape.k() as usize]?;
+        let about = Opening {
+            shape,
+            threads,
+            calls: 0,
+            tokens,
+        };
+        let slots = threads as usize * tokens as usize;
+        let (table, seat) = Table::vacant(alloc, words.as_slice(), slots, &about)?;
+        let passes = deal_tokens(alloc, &table.shared, seat, threads, tokens)?;
+        let queue = PayQueue {
+            table,
+            shape,
+            threads,
+            tokens,
+        };
+        Ok((queue, passes))
+    }
+}
