@@ -1,3 +1,0 @@
-pub mod Again
-pub mod Totals
-pub mod Work

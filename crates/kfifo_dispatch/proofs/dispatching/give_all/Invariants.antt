@@ -1,5 +1,0 @@
-use Rattle.kfifo_pay.specs.Pay.{IsSame}
-use Rattle.kfifo_dispatch.proofs.dispatching.give_all.Given as goal
-
-abbrev pub invariant-loop-place : goal.invariant-loop-place
-invariant-loop-place g l = IsSame l.fn.pass l.pass

@@ -1,5 +1,0 @@
-pub mod Faults
-pub mod Jobs
-pub mod Starts
-pub mod Tasks
-pub mod Working
