@@ -88,7 +88,7 @@ module _ {T : Type 0} where
   Gives start turns payload (G.Worn back) old new = Refuses start turns A.Worn payload back old new
   Gives start turns payload (G.NoToken back) old new = (back ≡ payload) × (old.tokens ≡ []) × (new ≡ old)
 
-  -- What `take` did: Got gives the pass the token that was taken, and the payload of the enqueue that last put that token
+  -- What `take` did: Got gives the pass the token that was taken, and the last payload that was given with it
   abbrev pub TakesOut : ℕ → ℕ → Taken T → PayKnown T → PayKnown T → Type 0
   TakesOut start turns (K.Got payload) old new = (token : ℕ) × (new.tokens ≡ token ∷ old.tokens) × (beside token new.gifts ≡ Some payload) × DequeuesWith start turns (A.Got token) old new
   TakesOut start turns K.Empty old new = (new.tokens ≡ old.tokens) × DequeuesWith start turns A.Empty old new

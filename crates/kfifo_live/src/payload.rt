@@ -178,7 +178,7 @@ impl<T: Drop> PayPass<T> {
     ///
     /// Scans begin at slot `start`, below k. Answers, as `Pass::dequeue`, Got with the payload, Empty where the queue was
     /// empty, Busy where each of `turns` rounds, at least 1, was lost, or Worn where a version would pass the greatest
-    /// one. The payload is that of the enqueue that last put its token. It never allocates, waits or locks.
+    /// one. The payload is the last one given with its token. It never allocates, waits or locks.
     ///
     /// What the pass has then seen keeps the promise of the queue, as with `Pass::dequeue`.
     pub fn take(&mut self, queue: &PayQueue<T>, start: u32, turns: u16) -> Taken<T>
