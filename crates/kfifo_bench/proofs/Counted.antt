@@ -1,4 +1,4 @@
--- A whole run is one call more, and that of an enqueue one item more.
+-- A complete execution is one call more, and that of an enqueue one item more.
 use Rattle.std.proofs.Common.{◌≡◌, ℕ, zero, suc, ◌+◌, ◌-◌, ◌≤◌, List, [], ◌∷◌, ◌++◌, length, filter, is_some, Some, refl, ap, ◌∙◌, length-append, append_assoc, arith}
 use Rattle.std.specs.List.{filter_map, range_with_len}
 use Rattle.std.proofs.lemmas.List.Elements.{filter-append, filter_map-append}
@@ -7,7 +7,7 @@ use Rattle.kfifo_model.specs.declared.calls.Answer.{Answer}
 use Rattle.kfifo_machine.specs.declared.event.Begin.{Begin}
 use Rattle.kfifo_machine.specs.declared.event.Begin.TheVariants.{Enqueue}
 use Rattle.kfifo_machine.specs.declared.event.Event.{Event}
-use Rattle.kfifo_machine.specs.Runs.{AllGoOn, WholeRun, event, own}
+use Rattle.kfifo_machine.specs.Runs.{AllGoOn, CompleteExecution, event, own}
 use Rattle.kfifo_machine.proofs.Schedules.{own-append}
 use Rattle.kfifo_bench.specs.Calls.{calls, item_of, items_put}
 
@@ -27,15 +27,15 @@ unfolding put
 none_put [] h = refl
 none_put (e ∷ es) h = rw h.0 (none_put es h.1)
 
--- the own events after a whole run: that which begins the call, and events that begin nothing
+-- the own events after a complete execution: that which begins the call, and events that begin nothing
 own_after : (shape : Shape) (threads thread : ℕ) (call : Begin) (answer : Answer) (old new : List Event)
-    → (h : WholeRun shape threads thread call answer old new) → own thread new ≡ own thread old ++ event thread (Some call) ∷ h.one_call.others
+    → (h : CompleteExecution shape threads thread call answer old new) → own thread new ≡ own thread old ++ event thread (Some call) ∷ h.one_call.others
 own_after shape threads thread call answer old new h =
     ap (own thread) (h.new_is ∙ append_assoc old h.between (h.last ∷ [])) ∙ own-append thread old (h.between ++ h.last ∷ [])
     ∙ ap (λ es. own thread old ++ es) h.one_call.first
 
 pub one_more : (shape : Shape) (threads thread : ℕ) (call : Begin) (answer : Answer) (old new : List Event)
-    → WholeRun shape threads thread call answer old new → calls thread new ≡ calls thread old + 1
+    → CompleteExecution shape threads thread call answer old new → calls thread new ≡ calls thread old + 1
 unfolding begun
 one_more shape threads thread call answer old new h =
     ap (λ es. length (begun es)) (own_after shape threads thread call answer old new h)
@@ -44,7 +44,7 @@ one_more shape threads thread call answer old new h =
     ∙ ap (λ es. calls thread old + length (event thread (Some call) ∷ es)) (none_begun h.one_call.others h.one_call.go_on)
 
 pub item_more : (shape : Shape) (threads thread item start turns : ℕ) (answer : Answer) (old new : List Event)
-    → WholeRun shape threads thread (Enqueue item start turns) answer old new → items_put thread new ≡ items_put thread old ++ item ∷ []
+    → CompleteExecution shape threads thread (Enqueue item start turns) answer old new → items_put thread new ≡ items_put thread old ++ item ∷ []
 unfolding put
 item_more shape threads thread item start turns answer old new h =
     ap put (own_after shape threads thread (Enqueue item start turns) answer old new h)

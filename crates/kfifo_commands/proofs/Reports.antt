@@ -8,7 +8,7 @@ use Rattle.kfifo_model.specs.declared.calls.Answer.{Answer}
 use Rattle.kfifo_machine.specs.declared.event.Begin.{Begin}
 use Rattle.kfifo_machine.specs.declared.event.Event.{Event}
 use Rattle.kfifo_machine.specs.Machine.{World, after, run, opening, word_at}
-use Rattle.kfifo_machine.specs.Runs.{Begins, WholeRun, own}
+use Rattle.kfifo_machine.specs.Runs.{Begins, CompleteExecution, own}
 use Rattle.kfifo_machine.proofs.Schedules.{Some-injective, run_before, first_made, made_within, own_none}
 use Rattle.kfifo_machine.proofs.Sound.{sound_threads}
 use Rattle.kfifo_live.specs.Pass.{OpenQueue, Known, IsSame, Finds}
@@ -33,10 +33,10 @@ alone shape seen all there b reached =
 
 -- one more call
 pub run_on : (shape : Shape) (calls : List Begin) (answers : List Answer) (old mid new : List Event) (text : List ℕ) (call : Begin) (answer : Answer)
-    → RunInTurn shape calls answers old mid text → WholeRun shape 1 0 call answer mid new
+    → RunInTurn shape calls answers old mid text → CompleteExecution shape 1 0 call answer mid new
     → RunInTurn shape (calls ++ call ∷ []) (answers ++ answer ∷ []) old new (text ++ call_line call answer)
 run_on shape [] [] old mid new text call answer r w =
-    (new, [], subst (λ events. WholeRun shape 1 0 call answer events new) r.0 w, (refl, refl), ap (λ t. t ++ call_line call answer) r.1 ∙ sym (append-nil (call_line call answer)))
+    (new, [], subst (λ events. CompleteExecution shape 1 0 call answer events new) r.0 w, (refl, refl), ap (λ t. t ++ call_line call answer) r.1 ∙ sym (append-nil (call_line call answer)))
 run_on shape [] (a ∷ answers) old mid new text call answer r w = absurd r
 run_on shape (c ∷ calls) [] old mid new text call answer r w = absurd r
 run_on shape (c ∷ calls) (a ∷ answers) old mid new text call answer r w = (
@@ -68,7 +68,7 @@ loads queue p q index word a s f =
 
 -- one more call of a script
 pub run_more : (shape : Shape) (calls : List Begin) (place : ℕ) (d : Begin) (answers : List Answer) (old mid new : List Event) (lines : List ℕ) (answer : Answer)
-    → place < length calls → RunInTurn shape (take place calls) answers old mid lines → WholeRun shape 1 0 (get_or calls place d) answer mid new
+    → place < length calls → RunInTurn shape (take place calls) answers old mid lines → CompleteExecution shape 1 0 (get_or calls place d) answer mid new
     → RunInTurn shape (take (place + 1) calls) (answers ++ answer ∷ []) old new (lines ++ call_line (get_or calls place d) answer)
 run_more shape calls place d answers old mid new lines answer inside runs whole =
     rw (add-one, take-suc calls place d inside) (run_on shape (take place calls) answers old mid new lines (get_or calls place d) answer runs whole)

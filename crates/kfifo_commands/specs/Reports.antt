@@ -7,7 +7,7 @@ use Rattle.kfifo_machine.specs.declared.event.Begin.{Begin}
 use Rattle.kfifo_machine.specs.declared.event.Begin.TheVariants.{Enqueue, Dequeue, Tick}
 use Rattle.kfifo_machine.specs.declared.event.Event.{Event}
 use Rattle.kfifo_machine.specs.Machine.{World, after, word_at}
-use Rattle.kfifo_machine.specs.Runs.{WholeRun}
+use Rattle.kfifo_machine.specs.Runs.{CompleteExecution}
 use Rattle.kfifo_live.specs.Pass.{OpenQueue, Known, IsOf}
 use Rattle.kfifo_commands.specs.Lines.{enqueue_line, dequeue_line, ends_lines, slot_line}
 
@@ -23,13 +23,13 @@ call_line (Enqueue item start turns) answer = enqueue_line item answer
 call_line (Dequeue start turns) answer = dequeue_line answer
 call_line Tick answer = []
 
--- Calls that were made in turn by thread 0 of a machine with one thread, each as one whole run with its answer: the
+-- Calls that were made in turn by thread 0 of a machine with one thread, each as one complete execution with its answer: the
 -- schedule has grown from old to new, and the lines of the calls are this text
 abbrev pub RunInTurn : Shape → List Begin → List Answer → List Event → List Event → List ℕ → Type 0
 RunInTurn shape [] [] old new text = (new ≡ old) × (text ≡ [])
 RunInTurn shape [] (answer ∷ answers) old new text = ⊥
 RunInTurn shape (call ∷ calls) [] old new text = ⊥
-RunInTurn shape (call ∷ calls) (answer ∷ answers) old new text = (mid : List Event) × (more : List ℕ) × WholeRun shape 1 0 call answer old mid
+RunInTurn shape (call ∷ calls) (answer ∷ answers) old new text = (mid : List Event) × (more : List ℕ) × CompleteExecution shape 1 0 call answer old mid
     × RunInTurn shape calls answers mid new more × (text ≡ call_line call answer ++ more)
 
 -- the lines of the first slots of a segment

@@ -19,7 +19,7 @@ use Rattle.kfifo_machine.specs.Laws.{IsRefusal, most_events}
 use Rattle.kfifo_machine.specs.Machine.{World, opening, step, ticked, word_at}
 use Rattle.kfifo_machine.specs.Calls.{op_asked}
 use Rattle.kfifo_machine.specs.Rounds.{turns_of}
-use Rattle.kfifo_machine.specs.Runs.{AllGoOn, WholeRun, event, own}
+use Rattle.kfifo_machine.specs.Runs.{AllGoOn, CompleteExecution, event, own}
 use Rattle.kfifo_machine.proofs.Schedules.{own-append, run_before}
 use Rattle.kfifo_live.specs.declared.view.Opening.{Opening}
 use Rattle.kfifo_live.specs.Schedule.{begins_tick, ticks, world_after}
@@ -213,7 +213,7 @@ ends_later None m n le below = below
 ends_later (Some end) m n le below = omega arith
 
 -- a run of a call, whose own events are no ticks
-module _ (o : Opening) (thread : ℕ) (begin : Begin) (answer : Answer) (old new : List Event) (w : WholeRun o.shape o.threads thread begin answer old new) where
+module _ (o : Opening) (thread : ℕ) (begin : Begin) (answer : Answer) (old new : List Event) (w : CompleteExecution o.shape o.threads thread begin answer old new) where
   abbrev run_more : List Event
   run_more = w.between ++ w.last ∷ []
 
@@ -233,7 +233,7 @@ module _ (o : Opening) (thread : ℕ) (begin : Begin) (answer : Answer) (old new
 
 -- A stamped call: a tick, a run, a tick
 module _ (o : Opening) (thread first last : ℕ) (begin : Begin) (answer : Answer) (old begun ended new : List Event) (few : o.threads ≤ 64) (no_tick : begins_tick (Some begin) ≡ false)
-    (a : DrawsIn o thread first old begun) (w : WholeRun o.shape o.threads thread begin answer begun ended) (b : DrawsIn o thread last ended new) where
+    (a : DrawsIn o thread first old begun) (w : CompleteExecution o.shape o.threads thread begin answer begun ended) (b : DrawsIn o thread last ended new) where
   abbrev run : RunAdds o.shape o.threads thread begin answer begun ended
   run = run_adds o.shape o.threads thread begin answer begun ended few w
 
@@ -322,8 +322,8 @@ module _ (p q r u : Known) (begin : Begin) (answer : Answer) (first last : ℕ) 
   drawn_first : DrawsIn p.opened p.thread first p.seen q.seen
   drawn_first = draws_in p.opened p.thread first p q refl refl a
 
-  run_between : WholeRun p.opened.shape p.opened.threads p.thread begin answer q.seen r.seen
-  run_between = subst (λ (x : Opening × ℕ). WholeRun x.0.shape x.0.threads x.1 begin answer q.seen r.seen) (λ i. (a.same.1 i, a.same.2 i)) makes
+  run_between : CompleteExecution p.opened.shape p.opened.threads p.thread begin answer q.seen r.seen
+  run_between = subst (λ (x : Opening × ℕ). CompleteExecution x.0.shape x.0.threads x.1 begin answer q.seen r.seen) (λ i. (a.same.1 i, a.same.2 i)) makes
 
   -- the pass may tick once more
   pub room_left : ticks (own r.thread r.seen) < 2 * r.opened.calls

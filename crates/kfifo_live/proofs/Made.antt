@@ -1,4 +1,4 @@
--- A whole run of a call has all that is said of one call.
+-- A complete execution of a call has all that is said of one call.
 use Rattle.std.proofs.Common.{◌≡◌, ◌+◌, ◌≤◌, List, [], ◌∷◌, ◌++◌, length, drop, Some, sym, ap, ◌∙◌, subst, append_assoc}
 use Rattle.std.proofs.Math.Seq.{drop-append_seam}
 use Rattle.kfifo_model.specs.declared.calls.Answer.{Answer}

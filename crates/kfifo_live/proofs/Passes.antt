@@ -11,7 +11,7 @@ use Rattle.kfifo_machine.specs.declared.event.Begin.TheVariants.{Tick}
 use Rattle.kfifo_machine.specs.declared.event.Event.{Event}
 use Rattle.kfifo_machine.specs.declared.place.Next.TheVariants.{Answers}
 use Rattle.kfifo_machine.specs.Machine.{World, opening, place_of, run, ticked, word_at, world_of}
-use Rattle.kfifo_machine.specs.Runs.{Begins, WholeRun, event, own}
+use Rattle.kfifo_machine.specs.Runs.{Begins, CompleteExecution, event, own}
 use Rattle.kfifo_machine.proofs.Budget.{tick_leaves}
 use Rattle.kfifo_machine.proofs.Schedules.{after-snoc, own-append, run_on, same_place, still_threads}
 use Rattle.kfifo_live.specs.declared.view.Opening.{Opening}
@@ -149,14 +149,14 @@ draws_known {T} stamp thread old new now p is table d =
       new_is = ap seen_of d.afterwards;
     }
 
--- and what was new to it is one whole run
+-- and what was new to it is one complete execution
 pub made : {T : Type 0} (call : Begin) (answer : Answer) (thread : ℕ) (old new : Seat (Option T) (View T)) (now : Known) → IsPass thread old.me → known_of old.table_id thread old.me.0 ≡ now
     → Runs (Some call) old (Answers answer) new → Makes call answer now (known_of new.table_id thread new.me.0)
 made call answer thread old new now p is runs =
     let run = whole call old.me new.me answer runs.leads in
     let o = old.me.0.opened in
-    let of_thread : WholeRun o.shape o.threads thread call answer (seen_of old.me.0) (seen_of new.me.0) =
-    subst (λ (t : ℕ). WholeRun o.shape o.threads t call answer (seen_of old.me.0) (seen_of new.me.0)) (pass_thread thread old.me p) run in
+    let of_thread : CompleteExecution o.shape o.threads thread call answer (seen_of old.me.0) (seen_of new.me.0) =
+    subst (λ (t : ℕ). CompleteExecution o.shape o.threads t call answer (seen_of old.me.0) (seen_of new.me.0)) (pass_thread thread old.me p) run in
     subst (λ (k : Known). Makes call answer k (known_of new.table_id thread new.me.0)) is of_thread
 
 -- after a look with another's parts beside its own, which it then gives back

@@ -8,7 +8,7 @@ use Rattle.kfifo_model.specs.declared.calls.Answer.TheVariants as A
 use Rattle.kfifo_machine.specs.declared.event.Begin.{Begin}
 use Rattle.kfifo_machine.specs.declared.event.Begin.TheVariants as B
 use Rattle.kfifo_machine.specs.declared.place.Next.TheVariants.{Answers}
-use Rattle.kfifo_machine.specs.Runs.{WholeRun}
+use Rattle.kfifo_machine.specs.Runs.{CompleteExecution}
 use Rattle.kfifo_live.specs.declared.payload.Given.TheVariants as G
 use Rattle.kfifo_live.specs.declared.payload.Taken.TheVariants as K
 use Rattle.kfifo_live.specs.declared.view.Hand.{Hand}
@@ -94,13 +94,13 @@ module _ {T : Type 0} where
         let pass = met thread word found old new other both seen p.pass slots is l kept in
         again p pass.alone pass.held pass.idle met_opened (ap (λ (h : Hand T). h.at_home) met_hand ∙ p.stacked) refl
 
-  -- a whole run of a call, with all laws
+  -- a complete execution of a call, with all laws
   pub is_call : (begin : Begin) (answer : Answer) (thread : ℕ) (table table_now : TableId) (old new : Me (Option T) (View T)) → IsAlone thread old.0 → Leads (Some begin) old (Answers answer) new
       → MakesCall begin answer (known_of table thread old.0) (known_of table_now thread new.0)
   is_call begin answer thread table table_now old new alone leads =
       let o = old.0.opened in
       let run : Makes begin answer (known_of table thread old.0) (known_of table_now thread new.0) =
-      subst (λ (t : ℕ). WholeRun o.shape o.threads t begin answer (seen_of old.0) (seen_of new.0)) (ap thread_in alone) (whole begin old new answer leads) in
+      subst (λ (t : ℕ). CompleteExecution o.shape o.threads t begin answer (seen_of old.0) (seen_of new.0)) (ap thread_in alone) (whole begin old new answer leads) in
       record {
         run = run;
         few_steps = takes_few_steps begin answer (known_of table thread old.0) (known_of table_now thread new.0) run;

@@ -1,4 +1,4 @@
--- Steps one after another, and the whole run that they make.
+-- Steps one after another, and the complete execution that they make.
 use Rattle.std.proofs.Common.{◌≡◌, ℕ, ◌<◌, List, [], ◌∷◌, ◌++◌, length, Option, Some, None, Ok, Bool, true, false, refl, sym, ap, ◌∙◌, subst, append_assoc, arith, cond}
 use Rattle.std.proofs.lemmas.List.{append-nil, length-set}
 use Rattle.std.proofs.lemmas.Grind.{get_or-set_at}
@@ -14,7 +14,7 @@ use Rattle.kfifo_machine.specs.declared.place.Next.TheVariants.{Goes, Answers}
 use Rattle.kfifo_machine.specs.Program.{access, accessed, advance}
 use Rattle.kfifo_machine.specs.declared.place.Access.{Access}
 use Rattle.kfifo_machine.specs.Machine.{World, moved, found, word_at, opening, place_of, place_after, outcome_of, run, world_of}
-use Rattle.kfifo_machine.specs.Runs.{event, own, going, AllGoOn, WholeRun}
+use Rattle.kfifo_machine.specs.Runs.{event, own, going, AllGoOn, CompleteExecution}
 use Rattle.kfifo_machine.specs.Places.{IsPlace, IsFoundBy}
 use Rattle.kfifo_machine.proofs.Places.{found_by, in_table}
 use Rattle.kfifo_machine.proofs.Schedules.{after-snoc, own-append, run_on, same_place, steps_on}
@@ -207,8 +207,8 @@ more_steps {T} begin old mid new running next a b = from_there (subst (λ (y : V
           place = b.place;
         }
 
--- and from the first step on they are a whole run
-pub whole : {T : Type 0} (call : Begin) (v w : Me (Option T) (View T)) (answer : Answer) → Leads (Some call) v (Answers answer) w → WholeRun v.0.opened.shape v.0.opened.threads (thread_of v.0) call answer (seen_of v.0) (seen_of w.0)
+-- and from the first step on they are a complete execution
+pub whole : {T : Type 0} (call : Begin) (v w : Me (Option T) (View T)) (answer : Answer) → Leads (Some call) v (Answers answer) w → CompleteExecution v.0.opened.shape v.0.opened.threads (thread_of v.0) call answer (seen_of v.0) (seen_of w.0)
 whole call v w answer l = record {
   between = l.between;
   last = l.last;

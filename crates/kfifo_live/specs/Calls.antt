@@ -5,7 +5,7 @@ use Rattle.kfifo_model.specs.declared.calls.Answer.TheVariants.{Full, Busy, Worn
 use Rattle.kfifo_machine.specs.declared.event.Begin.{Begin}
 use Rattle.kfifo_machine.specs.declared.event.Event.{Event}
 use Rattle.kfifo_machine.specs.Machine.{World, word_at}
-use Rattle.kfifo_machine.specs.Runs.{WholeRun, own}
+use Rattle.kfifo_machine.specs.Runs.{CompleteExecution, own}
 use Rattle.kfifo_machine.specs.Laws.{PutsNext, most_events}
 use Rattle.kfifo_machine.specs.Causes.{CauseOfFull, CauseOfWorn, looks, start_of}
 use Rattle.kfifo_machine.specs.Rounds.{LosesAll, OtherWins, turns_of}
@@ -16,9 +16,9 @@ use Rattle.kfifo_live.specs.Schedule.{world_after}
 abbrev pub added : Known → Known → List Event
 added old new = drop (length old.seen) new.seen
 
--- its own ones are one whole run of this call with this answer, the last event of all among them
+-- its own ones are one complete execution of this call with this answer, the last event of all among them
 abbrev pub Makes : Begin → Answer → Known → Known → Type 0
-Makes call answer old new = WholeRun old.opened.shape old.opened.threads old.thread call answer old.seen new.seen
+Makes call answer old new = CompleteExecution old.opened.shape old.opened.threads old.thread call answer old.seen new.seen
 
 -- they are at most `turns * (2k + 9)`
 abbrev pub TakesFewSteps : Begin → Known → Known → Type 0

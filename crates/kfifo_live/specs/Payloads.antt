@@ -49,7 +49,7 @@ new_pay_passes q first zero = []
 new_pay_passes q first (suc count) =
     record { pass = record { table = q.table; opened = q.opened; thread = first; seen = [] }; tokens = count_up (first * q.opened.tokens + 1) q.opened.tokens; gifts = [] } ∷ new_pay_passes q (suc first) count
 
--- A call of a pass is one whole run of the queue's program with this answer. The laws of all such runs stand beside it
+-- A call of a pass is one complete execution of the queue's program with this answer. The laws of all such runs stand beside it
 pub record MakesCall (begin : Begin) (answer : Answer) (old new : Known) : Type 0 where
   pub run : Makes begin answer old new
   pub few_steps : TakesFewSteps begin old new

@@ -1,4 +1,4 @@
--- Stamped calls: a tick of the clock, one whole run of a call, and a tick again; and what a pass has logged of them.
+-- Stamped calls: a tick of the clock, one complete execution of a call, and a tick again; and what a pass has logged of them.
 use Rattle.std.specs.Prelude.{◌≡◌, ◌==◌, ◌+◌, filter, map, ℕ, ◌*◌, ◌<◌, ◌≤◌, List, [], ◌∷◌, ◌++◌, length, Some, Ok, IsPermutation}
 use Rattle.kfifo_words.specs.Ring.{clock_at}
 use Rattle.kfifo_model.specs.declared.calls.Answer.{Answer}
@@ -60,7 +60,7 @@ pub record Draws (stamp : ℕ) (old new : Known) : Type 0 where
 abbrev pub stamped_call : ℕ → Op → ℕ → ℕ → Answer → Call
 stamped_call thread op first last answer = record { thread = thread; op = op; first = first; end = Some (record { last = last; answer = answer }) }
 
--- A stamped call: a tick, one whole run of this call with this answer, and a tick; the log has one call more, whose first and
+-- A stamped call: a tick, one complete execution of this call with this answer, and a tick; the log has one call more, whose first and
 -- last are what the ticks drew. What is promised of a call is so of its run
 pub record MakesStamped (begin : Begin) (answer : Answer) (old new : Logged) : Type 0 where
   pub room : length old.log < old.pass.opened.calls

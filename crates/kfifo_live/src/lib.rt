@@ -1,4 +1,4 @@
-//! The running k-FIFO queue: a table of atomic words on which every call is one whole run of the
+//! The running k-FIFO queue: a table of atomic words on which every call is one complete execution of the
 //! machine's program.
 #![tactic(auto)]
 

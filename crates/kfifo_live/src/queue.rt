@@ -79,7 +79,7 @@ impl Pass {
     /// Scans begin at slot `start`, below k. Answers Done, Full where the ring was seen full, Busy
     /// where each of `turns` rounds, at least 1, was lost, or Worn where a version would pass the
     /// greatest one. After Full, Busy and Worn the item is not in the queue and never comes out.
-    /// What the pass has seen grows by events of others and by one whole run of the call, the last
+    /// What the pass has seen grows by events of others and by one complete execution of the call, the last
     /// event being its own; the laws of such runs stand beside it: how many events of its own a call
     /// has at most, and what a call saw that was answered Full, Worn or Busy. Busy after n + 2 rounds
     /// or more is another thread's doing. It never allocates, waits or locks.
@@ -111,7 +111,7 @@ impl Pass {
     ///
     /// Scans begin at slot `start`, below k. Answers Got with the item, Empty where the queue was
     /// empty, Busy where each of `turns` rounds, at least 1, was lost, or Worn where a version would
-    /// pass the greatest one. What the pass has seen grows by events of others and by one whole run
+    /// pass the greatest one. What the pass has seen grows by events of others and by one complete execution
     /// of the call, the last event being its own; the laws of such runs stand beside it, as at
     /// `enqueue`. It never allocates, waits or locks.
     ///

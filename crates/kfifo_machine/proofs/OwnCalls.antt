@@ -1,4 +1,4 @@
--- What a whole run of a call adds to the calls of its thread: that call alone.
+-- What a complete execution of a call adds to the calls of its thread: that call alone.
 use Rattle.std.proofs.Common.{◌≡◌, ◌≢◌, ℕ, ◌+◌, ◌<◌, ◌≤◌, List, [], ◌∷◌, ◌++◌, length, get_or, set, Option, Some, None, Result, Ok, refl, sym, ap, ◌∙◌, subst, inl, inr, arith, length-append, append_assoc}
 use Rattle.std.proofs.lemmas.Bool.{cases_eq, cases_lt}
 use Rattle.std.proofs.lemmas.Grind.{get_or-set_at}
@@ -17,7 +17,7 @@ use Rattle.kfifo_machine.specs.declared.event.NotEnabled.{NotEnabled}
 use Rattle.kfifo_machine.specs.declared.place.Running.{Running}
 use Rattle.kfifo_machine.specs.Program.{advance}
 use Rattle.kfifo_machine.specs.Machine.{World, opening, place_of, place_after, found, step, world_of, run, after}
-use Rattle.kfifo_machine.specs.Runs.{event, own, going, AllGoOn, WholeRun}
+use Rattle.kfifo_machine.specs.Runs.{event, own, going, AllGoOn, CompleteExecution}
 use Rattle.kfifo_machine.specs.Calls.{Log, ended, logged, logged_by, log_from, blank, log_of, history_of, op_asked}
 use Rattle.kfifo_machine.proofs.Schedules.{Some-injective, run_on, run_before, own-append, first_made, made_within, stepped, own_none}
 use Rattle.kfifo_machine.proofs.Budget.{own_place, own_first, tick_leaves, goes_on_from}
@@ -44,7 +44,7 @@ pub record AddsCall (thread : ℕ) (old new : List Call) (made : Call) : Type 0 
   pub mine : (n : ℕ) → n < length old → (call new n).thread ≡ thread → (call old n).thread ≡ thread
   pub none : (n : ℕ) → n < length new → (call new n).thread ≡ thread → n ≢ number → n < length old
 
--- What a whole run adds: events of others, then the first event of the call, and the last event of all ends it
+-- What a complete execution adds: events of others, then the first event of the call, and the last event of all ends it
 pub record RunAdds (shape : Shape) (threads thread : ℕ) (begin : Begin) (answer : Answer) (old new : List Event) : Type 0 where
   pub before : List Event
   pub rest : List Event
@@ -348,7 +348,7 @@ last_goes_on (x ∷ xs) last on = last_goes_on xs last on.1
 own-snoc : (thread : ℕ) (xs : List Event) (last : Event) → last.thread ≡ thread → own thread (xs ++ last ∷ []) ≡ own thread xs ++ last ∷ []
 own-snoc thread xs last mine = own-append thread xs (last ∷ []) ∙ ap (λ (ys : List Event). own thread xs ++ ys) (own_single thread last mine)
 
-call_events : (shape : Shape) (threads thread : ℕ) (begin : Begin) (answer : Answer) (old new : List Event) (w : WholeRun shape threads thread begin answer old new) → CallEvents thread begin w.between w.last
+call_events : (shape : Shape) (threads thread : ℕ) (begin : Begin) (answer : Answer) (old new : List Event) (w : CompleteExecution shape threads thread begin answer old new) → CallEvents thread begin w.between w.last
 call_events shape threads thread begin answer old new w = by_own (own thread w.between) refl
   where
     all_own : (xs : List Event) → own thread w.between ≡ xs → xs ++ w.last ∷ [] ≡ event thread (Some begin) ∷ w.one_call.others
@@ -374,8 +374,8 @@ call_events shape threads thread begin answer old new w = by_own (own thread w.b
           last_on = last_goes_on ys w.last on;
         }
 
--- A whole run of a call adds that call to those of its thread, and no other
-pub run_adds : (shape : Shape) (threads thread : ℕ) (begin : Begin) (answer : Answer) (old new : List Event) → threads ≤ 64 → WholeRun shape threads thread begin answer old new
+-- A complete execution of a call adds that call to those of its thread, and no other
+pub run_adds : (shape : Shape) (threads thread : ℕ) (begin : Begin) (answer : Answer) (old new : List Event) → threads ≤ 64 → CompleteExecution shape threads thread begin answer old new
     → RunAdds shape threads thread begin answer old new
 run_adds shape threads thread begin answer old new few w =
     let p : CallEvents thread begin w.between w.last = call_events shape threads thread begin answer old new w in

@@ -1,4 +1,4 @@
--- The own steps of a whole run are a path through the program of its call.
+-- The own steps of a complete execution are a path through the program of its call.
 use Rattle.std.proofs.Common.{◌≡◌, ◌≢◌, ℕ, ◌+◌, ◌≤◌, List, [], ◌∷◌, ◌++◌, length, Option, Some, None, Ok, Bool, true, false, refl, sym, ap, ◌∙◌, subst, inl, inr, arith, cond, eq-eqb, eqb-true, length-append}
 use Rattle.std.specs.Prelude.{◌==◌}
 use Rattle.std.proofs.lemmas.List.{append_assoc}
@@ -13,7 +13,7 @@ use Rattle.kfifo_machine.specs.declared.place.Next.{Next}
 use Rattle.kfifo_machine.specs.declared.place.Next.TheVariants.{Goes, Answers}
 use Rattle.kfifo_machine.specs.Program.{advance}
 use Rattle.kfifo_machine.specs.Machine.{World, opening, place_of, place_after, outcome_of, found, begun, may_begin, step, world_of, run}
-use Rattle.kfifo_machine.specs.Runs.{event, own, going, AllGoOn, WholeRun}
+use Rattle.kfifo_machine.specs.Runs.{event, own, going, AllGoOn, CompleteExecution}
 use Rattle.kfifo_machine.specs.Causes.{Look, looks_from, looks, looks_of}
 use Rattle.kfifo_machine.proofs.Schedules.{Some-injective, run_before, run-append, first_made, made_within, stepped, other_place, own-append}
 use Rattle.kfifo_machine.proofs.Sound.{IsSound, sound, step_sound}
@@ -189,8 +189,8 @@ path_from shape here there thread call (e ∷ es) others last before answer soun
           (path_from shape m.0 there thread call es others last before answer later mine (sym other.1 ∙ first) on m.1.1.1 ends)
     ]
 
--- the own steps of a whole run are a path of its call
-pub whole_path : (shape : Shape) (threads thread : ℕ) (call : Begin) (answer : Answer) (old new : List Event) (whole : WholeRun shape threads thread call answer old new)
+-- the own steps of a complete execution are a path of its call
+pub whole_path : (shape : Shape) (threads thread : ℕ) (call : Begin) (answer : Answer) (old new : List Event) (whole : CompleteExecution shape threads thread call answer old new)
     → PathOf shape call (looks_of shape threads thread call answer old new whole) answer
 whole_path shape threads thread call answer old new whole =
     let k = run_before shape (Some (opening shape threads)) whole.before old whole.between whole.reached in

@@ -18,7 +18,7 @@ use Rattle.kfifo_machine.specs.declared.place.Next.TheVariants.{Goes, Answers}
 use Rattle.kfifo_machine.specs.declared.place.Access.TheVariants.{Exchange}
 use Rattle.kfifo_machine.specs.Program.{access, accessed, advance, filled_with, emptied}
 use Rattle.kfifo_machine.specs.Machine.{World, opening, word_at, place_of, place_after, outcome_of, moved, found, step, world_of, run, after}
-use Rattle.kfifo_machine.specs.Runs.{event, own, going, AllGoOn, BeginsOnce, WholeRun}
+use Rattle.kfifo_machine.specs.Runs.{event, own, going, AllGoOn, BeginsOnce, CompleteExecution}
 use Rattle.kfifo_machine.specs.Places.{IsPlace}
 use Rattle.kfifo_machine.specs.Laws.{IsRefusal, PutsNext, LeavesNone}
 use Rattle.kfifo_machine.proofs.Schedules.{Some-injective, run_on, after-snoc, first_made, made_within, stepped, other_place, own-append}
@@ -227,7 +227,7 @@ put_carries shape here e there outcome item start left ends index word is at put
     (In (R.Enqueue item start left (E.ReloadSlot ends index (filled_with item (word_at here index)))) next (refl, sym puts), both.1 ∙ ap outcome_of goes)
 
 -- after the last event of the run the word is out
-out_at_end : (shape : Shape) (threads thread : ℕ) (call : Begin) (answer : Answer) (old new : List Event) → WholeRun shape threads thread call answer old new → IsRefusal answer
+out_at_end : (shape : Shape) (threads thread : ℕ) (call : Begin) (answer : Answer) (old new : List Event) → CompleteExecution shape threads thread call answer old new → IsRefusal answer
     → (some rest : List Event) (e : Event) (index word : ℕ) → new ≡ (old ++ some) ++ e ∷ rest → e.thread ≡ thread → PutsNext shape threads (old ++ some) thread index word
     → (end : World) × ((after shape threads new ≡ Some end) × (word < word_at end index))
 out_at_end shape threads thread call answer old new w refuses some rest e index word split mine put =

@@ -13,7 +13,7 @@ use Rattle.kfifo_machine.specs.declared.event.Begin.TheVariants as B
 use Rattle.kfifo_machine.specs.declared.event.Event.{Event}
 use Rattle.kfifo_machine.specs.Program.{access, scan_index}
 use Rattle.kfifo_machine.specs.Machine.{World, place_of, found, step, world_of, after}
-use Rattle.kfifo_machine.specs.Runs.{going, WholeRun}
+use Rattle.kfifo_machine.specs.Runs.{going, CompleteExecution}
 
 -- a step of a call: the place from which it was made, and the word that it found
 pub record Look : Type 0 where
@@ -99,15 +99,15 @@ start_of (B.Enqueue item start turns) = start
 start_of (B.Dequeue start turns) = start
 start_of B.Tick = 0
 
--- the looks of a whole run
-abbrev pub looks_of : (shape : Shape) (threads thread : ℕ) (call : Begin) (answer : Answer) (old new : List Event) → WholeRun shape threads thread call answer old new → List Look
+-- the looks of a complete execution
+abbrev pub looks_of : (shape : Shape) (threads thread : ℕ) (call : Begin) (answer : Answer) (old new : List Event) → CompleteExecution shape threads thread call answer old new → List Look
 looks_of shape threads thread call answer old new whole = looks shape thread (after shape threads old) (whole.between ++ whole.last ∷ [])
 
 -- a call is answered Full and Worn only with their causes, in every schedule
 abbrev pub FullHasCause : Shape → ℕ → Type 0
-FullHasCause shape threads = (thread : ℕ) (call : Begin) (old new : List Event) (whole : WholeRun shape threads thread call Full old new)
+FullHasCause shape threads = (thread : ℕ) (call : Begin) (old new : List Event) (whole : CompleteExecution shape threads thread call Full old new)
     → CauseOfFull shape (start_of call) (looks_of shape threads thread call Full old new whole)
 
 abbrev pub WornHasCause : Shape → ℕ → Type 0
-WornHasCause shape threads = (thread : ℕ) (call : Begin) (old new : List Event) (whole : WholeRun shape threads thread call Worn old new)
+WornHasCause shape threads = (thread : ℕ) (call : Begin) (old new : List Event) (whole : CompleteExecution shape threads thread call Worn old new)
     → CauseOfWorn shape (looks_of shape threads thread call Worn old new whole)

@@ -15,7 +15,7 @@ use Rattle.kfifo_machine.specs.declared.event.Begin.TheVariants as B
 use Rattle.kfifo_machine.specs.declared.event.Event.{Event}
 use Rattle.kfifo_machine.specs.Program.{access, filled_with}
 use Rattle.kfifo_machine.specs.Machine.{World, word_at, place_of, found, opening, world_of, step, after}
-use Rattle.kfifo_machine.specs.Runs.{own, going, BeginsOnce, WholeRun}
+use Rattle.kfifo_machine.specs.Runs.{own, going, BeginsOnce, CompleteExecution}
 
 -- each other thread stands where it stood
 abbrev pub OthersStay : ℕ → World → World → Type 0
@@ -110,7 +110,7 @@ pub record PutsNext (shape : Shape) (threads : ℕ) (events : List Event) (threa
 -- A call that ended with Full, Busy or Worn leaves no item of its own: a word that it put is not at its index when the call
 -- has ended, nor ever after
 abbrev pub LeavesNone : Shape → ℕ → Type 0
-LeavesNone shape threads = (thread : ℕ) (call : Begin) (answer : Answer) (old new : List Event) → WholeRun shape threads thread call answer old new → IsRefusal answer
+LeavesNone shape threads = (thread : ℕ) (call : Begin) (answer : Answer) (old new : List Event) → CompleteExecution shape threads thread call answer old new → IsRefusal answer
     → (some rest : List Event) (e : Event) (index word : ℕ) → new ≡ (old ++ some) ++ e ∷ rest → e.thread ≡ thread → PutsNext shape threads (old ++ some) thread index word
     → (later : List Event) (here : World) → after shape threads (new ++ later) ≡ Some here → word_at here index ≢ word
 

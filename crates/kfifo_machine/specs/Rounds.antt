@@ -7,7 +7,7 @@ use Rattle.kfifo_machine.specs.declared.event.Begin.{Begin}
 use Rattle.kfifo_machine.specs.declared.event.Begin.TheVariants as B
 use Rattle.kfifo_machine.specs.declared.event.Event.{Event}
 use Rattle.kfifo_machine.specs.Machine.{World, place_of, found, run, after}
-use Rattle.kfifo_machine.specs.Runs.{own, going, WholeRun}
+use Rattle.kfifo_machine.specs.Runs.{own, going, CompleteExecution}
 use Rattle.kfifo_machine.specs.Laws.{Wins, moves_head, moves_tail}
 use Rattle.kfifo_machine.specs.Causes.{AllOfRound, looks}
 
@@ -73,7 +73,7 @@ turns_of B.Tick = 0
 
 -- Busy: the call has all its rounds behind it, and lost each of them
 abbrev pub BusyHasCause : Shape → ℕ → Type 0
-BusyHasCause shape threads = (thread : ℕ) (call : Begin) (old new : List Event) (whole : WholeRun shape threads thread call Busy old new) (here : World)
+BusyHasCause shape threads = (thread : ℕ) (call : Begin) (old new : List Event) (whole : CompleteExecution shape threads thread call Busy old new) (here : World)
     → after shape threads old ≡ Some here → LosesAll shape thread (turns_of call) here (whole.between ++ whole.last ∷ [])
 
 -- after the thread's first event here and before its last, another thread wins an exchange
@@ -91,5 +91,5 @@ pub record OtherWins (shape : Shape) (thread : ℕ) (here : World) (events : Lis
 
 -- A call of n + 2 rounds or more is answered Busy only where another thread won an exchange between its first and its last event
 abbrev pub BusyIsDisturbed : Shape → ℕ → Type 0
-BusyIsDisturbed shape threads = (thread : ℕ) (call : Begin) (old new : List Event) (whole : WholeRun shape threads thread call Busy old new) (here : World)
+BusyIsDisturbed shape threads = (thread : ℕ) (call : Begin) (old new : List Event) (whole : CompleteExecution shape threads thread call Busy old new) (here : World)
     → after shape threads old ≡ Some here → shape.n + 2 ≤ turns_of call → OtherWins shape thread here (whole.between ++ whole.last ∷ [])

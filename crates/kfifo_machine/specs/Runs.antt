@@ -1,4 +1,4 @@
--- What one thread did in a schedule: its own events, its place, and the whole run of a call.
+-- What one thread did in a schedule: its own events, its place, and the complete execution of a call.
 use Rattle.std.specs.Prelude.{◌≡◌, ℕ, ◌==◌, List, [], ◌∷◌, ◌++◌, filter, Option, Some, None, Ok, if◌then◌else◌}
 use Rattle.kfifo_words.specs.declared.shape.Shape.{Shape}
 use Rattle.kfifo_model.specs.declared.calls.Answer.{Answer}
@@ -39,9 +39,9 @@ pub record BeginsOnce (thread : ℕ) (call : Begin) (events : List Event) : Type
   pub first : events ≡ event thread (Some call) ∷ others
   pub go_on : AllGoOn others
 
--- A whole run of a call: what is new in the schedule are events of other threads, and own ones, of which the first
+-- A complete execution of a call: what is new in the schedule are events of other threads, and own ones, of which the first
 -- begins the call, no other begins one, and the last event of all is own and ends the call with this answer
-pub record WholeRun (shape : Shape) (threads thread : ℕ) (call : Begin) (answer : Answer) (old new : List Event) : Type 0 where
+pub record CompleteExecution (shape : Shape) (threads thread : ℕ) (call : Begin) (answer : Answer) (old new : List Event) : Type 0 where
   pub between : List Event
   pub last : Event
   pub before : World

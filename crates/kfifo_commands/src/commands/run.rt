@@ -2,7 +2,7 @@
 ghost use Rattle.std.specs.Prelude.{◌≡◌, ◌≢◌, ◌≤◌, ◌+◌, ◌*◌, ◌<◌, ◌++◌, [], List, ℕ, Some, IfOk, IfErr, OnOk, All, string_bytes};
 ghost use Rattle.kfifo_model.specs.declared.calls.Answer.{Answer};
 ghost use Rattle.kfifo_machine.specs.Machine.{World, after, word_at};
-ghost use Rattle.kfifo_machine.specs.Runs.{WholeRun};
+ghost use Rattle.kfifo_machine.specs.Runs.{CompleteExecution};
 ghost use Rattle.kfifo_live.specs.Schedule.{opening};
 ghost use Rattle.kfifo_live.specs.Pass.{IsOf, IsSame};
 ghost use Rattle.kfifo_commands.specs.Runs.{IsRunAnswer, IsRunRefusal, IsShapeOf};
@@ -102,7 +102,7 @@ fn make_call(
     requires call { IsCall queue.now.opened.shape.k call }
     ensures same { IsSame pass.old pass.new }
     ensures runs { OnOk result ((answer : Answer)
-        × WholeRun queue.now.opened.shape 1 0 call answer pass.old.seen pass.new.seen
+        × CompleteExecution queue.now.opened.shape 1 0 call answer pass.old.seen pass.new.seen
         × (string_bytes text.new ≡ string_bytes text.old ++ call_line call answer)) }
 {
     match call {

@@ -1,4 +1,4 @@
--- After the call the pass is in no call, and what is new to it is one whole run.
+-- After the call the pass is in no call, and what is new to it is one complete execution.
 use Rattle.kfifo_machine.specs.declared.event.Begin.TheVariants as B
 use Rattle.kfifo_live.specs.Pass.{known_of}
 use Rattle.kfifo_live.proofs.Made.{takes_few_steps, has_cause, is_disturbed, leaves_none}

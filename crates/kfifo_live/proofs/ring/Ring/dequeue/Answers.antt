@@ -1,4 +1,4 @@
--- The call is one whole run, round by round.
+-- The call is one complete execution, round by round.
 use Rattle.std.proofs.Common.{◌-◌, ◌<◌, refl, arith}
 use Rattle.std.proofs.lemmas.Bool.Decides.{nat_tests}
 use Rattle.std.proofs.lemmas.Bool.{and_from}
