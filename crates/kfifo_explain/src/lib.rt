@@ -9,6 +9,3 @@ mod reasons;
 pub use bounds::least_stream;
 pub use judgement::judge_stream;
 pub use numbers::push_numbers;
-
-#[cfg(test)]
-mod tests;

@@ -8,6 +8,3 @@ mod table;
 
 pub use log::{ImportFault, Line, record_of};
 pub use table::import_text;
-
-#[cfg(test)]
-mod tests;

@@ -10,6 +10,3 @@ pub use check::check_stream;
 pub use measure::measure_stream;
 pub use record::{StreamFault, read_record};
 pub use streams::{FromStd, MOST_BYTES, ReadFault, Sink, Source, read_all, write_all};
-
-#[cfg(test)]
-mod tests;

@@ -6,8 +6,6 @@ mod action;
 mod linearization;
 mod linearizer;
 mod notes;
-#[cfg(test)]
-mod tests;
 
 ghost use Rattle.std.specs.Prelude.{ℕ, ◌≡◌, ◌<◌, ◌≤◌, List, true};
 ghost use Rattle.kfifo_words.specs.declared.shape.Shape.{Shape};

@@ -18,8 +18,6 @@ mod rule;
 mod scan;
 mod seats;
 mod stamps;
-#[cfg(test)]
-mod tests;
 mod view;
 
 pub use closing::close;

@@ -9,8 +9,6 @@ mod place;
 mod schedule;
 mod state;
 mod steps;
-#[cfg(test)]
-mod tests;
 
 pub use event::{Begin, Event, NotEnabled, Outcome};
 pub use fault::{RunFault, StartFault};

@@ -19,6 +19,3 @@ pub use measures::{OvertakenFault, RankFault, overtaken, ranks};
 pub use orders::{Verdict, check_order};
 pub use reading::{MOST_CALLS, read_history};
 pub use search::{MOST_SEARCHED, SearchFault, has_order};
-
-#[cfg(test)]
-mod tests;

@@ -4,8 +4,6 @@
 mod gate;
 mod repeating;
 mod running;
-#[cfg(test)]
-mod tests;
 
 pub use gate::{Gate, OpenGate};
 pub use repeating::{first_over, repeat_scripts};

@@ -9,6 +9,3 @@ mod report;
 pub use fault::ReplayFault;
 pub use player::{MAX_CALLS, Replay};
 pub use report::{Report, replay};
-
-#[cfg(test)]
-mod tests;

@@ -15,6 +15,3 @@ pub use finding::evidence;
 pub use judging::{judge, least_k};
 pub use verdicts::{Bounds, Evidence, Judgement};
 pub use walking::witness;
-
-#[cfg(test)]
-mod tests;

@@ -4,8 +4,6 @@
 mod ends;
 mod fault;
 mod shape;
-#[cfg(test)]
-mod tests;
 mod word;
 
 pub use ends::{ENDS_INDEX, Ends};

@@ -1,0 +1,8 @@
+//! Tests of the running queue, by one thread and by many, and of its records, in a crate of their own: tests beside the
+//! proofs would have every proof made once more.
+#![tactic(auto)]
+
+#[cfg(test)]
+mod live;
+#[cfg(test)]
+mod record;

@@ -1,0 +1,224 @@
+//! Stamped calls, and the records of real runs.
+ghost use Rattle.std.specs.Prelude.{◌≡◌, ◌<◌, ◌≤◌, ◌+◌, ◌*◌, ◌^◌, IfOk, All, map};
+ghost use Rattle.kfifo_live.specs.Pass.{IsOf, IsSame};
+
+use super::{LAST, draw};
+use kfifo_live::{GatherFault, MAX_CALLS, OpenFault, StampPass, StampQueue, gather};
+use kfifo_model::{Answer, Call, End, History, Op, has_order, measure};
+use kfifo_words::Shape;
+use std::alloc::Global;
+use std::process::Abort;
+use std::sync::atomic::{AtomicU64, Ordering};
+use std::test::Fail;
+use std::thread::{Threads, map_vec, yield_now};
+
+/// So many looks a thread waits for the others.
+const LOOKS: u32 = 16_777_216;
+
+fn stamped(thread: u32, op: Op, first: u64, last: u64, answer: Answer) -> Call {
+    Call {
+        thread,
+        op,
+        first,
+        end: Some(End { last, answer }),
+    }
+}
+
+#[test]
+fn stamps_the_calls_of_one_thread(rt: HostRuntime) -> Result<(), Fail> {
+    let shape = Shape::new(1, 2, LAST)?;
+    let (queue, mut passes) = StampQueue::open(rt.alloc(), shape, 1, 3)?;
+    let Some(mut pass) = passes.pop() else {
+        unreachable!()
+    };
+    assert!(rt; pass.log().is_empty());
+    assert_eq!(rt; pass.enqueue(&queue, 7, 0, 2), Some(Answer::Done));
+    assert_eq!(rt; pass.dequeue(&queue, 0, 2), Some(Answer::Got(7)));
+    assert_eq!(rt; pass.dequeue(&queue, 0, 2), Some(Answer::Empty));
+    assert_eq!(rt; pass.dequeue(&queue, 0, 2), None);
+    assert_eq!(rt; pass.enqueue(&queue, 8, 0, 2), None);
+    let calls = [
+        stamped(0, Op::Enqueue(7), 0, 1, Answer::Done),
+        stamped(0, Op::Dequeue, 2, 3, Answer::Got(7)),
+        stamped(0, Op::Dequeue, 4, 5, Answer::Empty),
+    ];
+    assert_eq!(rt; pass.log(), calls.as_slice());
+    let history = gather(rt.alloc(), queue, vec![in rt.alloc(); pass]?)?;
+    assert_eq!(rt; history.calls(), calls.as_slice());
+    Ok(())
+}
+
+#[test]
+fn refuses_in_the_stated_order(rt: HostRuntime) -> Result<(), Fail> {
+    let shape = Shape::new(2, 2, LAST)?;
+    for (threads, calls, fault, number) in [
+        (0u32, 0u32, OpenFault::ThreadsOutOfRange, 1u32),
+        (65, MAX_CALLS, OpenFault::ThreadsOutOfRange, 1),
+        (64, 0, OpenFault::CallsOutOfRange, 4),
+        (1, MAX_CALLS + 1, OpenFault::CallsOutOfRange, 4),
+    ] {
+        let Err(refused) = StampQueue::open(rt.alloc(), shape, threads, calls) else {
+            panic!(rt; "opened for {threads} threads and {calls} calls");
+        };
+        assert_eq!(rt; refused, fault);
+        assert_eq!(rt; refused.number(), number);
+    }
+    let (_queue, passes) = StampQueue::open(rt.alloc(), shape, 64, MAX_CALLS)?;
+    assert_eq!(rt; passes.len(), 64);
+    Ok(())
+}
+
+#[test]
+fn gathers_only_with_each_pass(rt: HostRuntime) -> Result<(), Fail> {
+    let shape = Shape::new(2, 2, LAST)?;
+    let (queue, mut passes) = StampQueue::open(rt.alloc(), shape, 2, 1)?;
+    let (Some(_), Some(first)) = (passes.pop(), passes.pop()) else {
+        unreachable!()
+    };
+    let Err(fault) = gather(rt.alloc(), queue, vec![in rt.alloc(); first]?) else {
+        panic!(rt; "gathered without the second pass");
+    };
+    assert_eq!(rt; fault, GatherFault::MissingPass);
+    assert_eq!(rt; (fault.number(), GatherFault::Memory.number()), (1, 2));
+    Ok(())
+}
+
+/// A stamped queue with passes of its own.
+fn open_stamped(
+    alloc: Global,
+    shape: Shape,
+    threads: u32,
+    calls: u32,
+) -> Result<(StampQueue, Vec<StampPass>), OpenFault>
+    ensures { IfOk result (λ r. All (λ p. IsOf r.0 p.pass) r.1.items) }
+{
+    let (queue, passes) = StampQueue::open(alloc, shape, threads, calls)?;
+    Ok((queue, passes))
+}
+
+/// Lets a thread begin when all have come, or after many looks.
+fn wait_for_all(come: &AtomicU64, threads: u32) {
+    come.fetch_add(1, Ordering::SeqCst);
+    for _look in 0..LOOKS {
+        if come.load(Ordering::SeqCst) >= u64::from(threads) {
+            return;
+        }
+        yield_now();
+    }
+}
+
+/// Makes drawn calls.
+fn make_calls(queue: &StampQueue, pass: &mut StampPass, thread: u32, calls: u32)
+    requires { IsOf queue.now pass.old.pass }
+    ensures { IsSame pass.old.pass pass.new.pass }
+{
+    let k = queue.shape().k();
+    let mut seed = thread.wrapping_mul(7_919).wrapping_add(calls);
+    for number in 0..calls {
+        let start = draw(&mut seed, 64) % k;
+        if draw(&mut seed, 9) < 5 {
+            let item = (thread % 64) * 65_536 + number % 65_535 + 1;
+            pass.enqueue(queue, item, start, 100);
+        } else {
+            pass.dequeue(queue, start, 100);
+        }
+    }
+}
+
+/// Makes calls when all threads have come.
+fn record_one(
+    queue: &StampQueue,
+    mut pass: StampPass,
+    come: &AtomicU64,
+    threads: u32,
+    calls: u32,
+) -> StampPass
+    requires { IsOf queue.now pass.pass }
+    ensures { IsOf queue.now result.pass }
+{
+    let thread = pass.thread();
+    wait_for_all(come, threads);
+    make_calls(queue, &mut pass, thread, calls);
+    pass
+}
+
+/// The record of what so many threads made at the same time.
+fn record<R: Threads + Sync>(
+    rt: &R,
+    alloc: Global,
+    shape: Shape,
+    threads: u32,
+    calls: u32,
+) -> Result<History, Fail> {
+    let (queue, passes) = open_stamped(alloc, shape, threads, calls)?;
+    let come = AtomicU64::new(0);
+    let passes = map_vec(
+        rt,
+        passes,
+        &|pass| record_one(&queue, pass, &come, threads, calls),
+    )?;
+    Ok(gather(alloc, queue, passes)?)
+}
+
+#[test]
+fn short_records_have_legal_orders(rt: HostRuntime) -> Result<(), Fail> {
+    for (k, n, threads, calls) in [(1u32, 2u32, 2u32, 6u32), (2, 2, 3, 4), (3, 4, 4, 3)] {
+        let shape = Shape::new(k, n, LAST)?;
+        for round in 0..100 {
+            let history = record(&rt, rt.alloc(), shape, threads, calls)?;
+            assert_eq!(rt; history.calls().len(), threads as usize * calls as usize);
+            assert!(rt; has_order(rt.alloc(), &history, k)?, "{shape:?} {round}");
+        }
+    }
+    Ok(())
+}
+
+/// How many calls began before an earlier one had ended.
+fn count_overlaps(calls: &[Call]) -> usize {
+    let mut latest = 0u64;
+    let mut overlaps = 0usize;
+    for call in calls {
+        if call.first < latest {
+            overlaps = overlaps.saturating_add(1);
+        }
+        if let Some(end) = call.end {
+            latest = latest.max(end.last);
+        }
+    }
+    overlaps
+}
+
+#[test]
+fn long_records_overtake_little(rt: HostRuntime) -> Result<(), Fail> {
+    let mut overlaps = 0usize;
+    for (k, n, threads, calls) in [
+        (1u32, 2u32, 2u32, MAX_CALLS),
+        (2, 3, 4, 512),
+        (4, 2, 16, 128),
+        (64, 4, 16, 128),
+    ] {
+        let shape = Shape::new(k, n, LAST)?;
+        let history = record(&rt, rt.alloc(), shape, threads, calls)?;
+        assert_eq!(rt; history.calls().len(), threads as usize * calls as usize);
+        overlaps = overlaps.saturating_add(count_overlaps(history.calls()));
+        for overtaken in measure(rt.alloc(), &history)? {
+            assert!(rt; overtaken.count < k as usize, "{shape:?} {overtaken:?}");
+        }
+    }
+    assert!(rt; overlaps > 0);
+    Ok(())
+}
+
+/// Holds whichever request for memory fails.
+#[test]
+fn refused_memory_of_records(rt: HostRuntime) -> Result<(), Fail> {
+    let shape = Shape::new(2, 2, LAST)?;
+    match StampQueue::open(rt.alloc(), shape, 3, 2) {
+        Ok((queue, passes)) => match gather(rt.alloc(), queue, passes) {
+            Ok(history) => assert!(rt; history.calls().is_empty()),
+            Err(fault) => assert_eq!(rt; fault, GatherFault::Memory),
+        },
+        Err(fault) => assert_eq!(rt; fault, OpenFault::Memory),
+    }
+    Ok(())
+}
