@@ -1,5 +1,5 @@
 //! Closing a queue of payloads.
-ghost use Rattle.std.specs.Prelude.{◌≡◌, ◌≤◌, ¬◌, [], IfOk, IsErrOf, Some, map, vec_capacity};
+ghost use Rattle.std.specs.Prelude.{◌≡◌, ◌≤◌, [], IfOk, IsErrOf, Some, map, vec_capacity};
 ghost use Rattle.core.specs.Mem.Slots.{slots_items, slots_len, IsFull};
 ghost use Rattle.kfifo_live.specs.Pass.{IsOf};
 ghost use Rattle.kfifo_live.specs.Payloads.{HavePayloads, PayCloses, in_slot};
