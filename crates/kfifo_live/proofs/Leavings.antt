@@ -1,7 +1,7 @@
 -- What is left in a payload queue at its end: each token once, its payload in its slot.
-use Rattle.std.proofs.Common.{◌≡◌, ◌≢◌, ◌⊎◌, ℕ, zero, suc, ◌+◌, ◌-◌, ◌*◌, ◌<◌, ◌≤◌, List, [], ◌∷◌, ◌++◌, length, map, get_or, set, Option, Some, None, refl, sym, ap, ◌∙◌, subst, inl, inr, arith, cond, eq-eqb, ne_eqb, mul-le-mul_right, suc-mul}
+use Rattle.std.proofs.Common.{◌≡◌, ◌≢◌, ◌⊎◌, ℕ, zero, suc, ◌+◌, ◌-◌, ◌*◌, ◌<◌, ◌≤◌, List, [], ◌∷◌, ◌++◌, append_assoc, drop, length, map, get_or, set, Option, Some, None, refl, sym, ap, ◌∙◌, subst, inl, inr, arith, cond, eq-eqb, ne_eqb, mul-le-mul_right, suc-mul}
 use Rattle.std.specs.Prelude.{◌==◌}
-use Rattle.std.proofs.lemmas.List.{append-nil, length-replicate}
+use Rattle.std.proofs.lemmas.List.{append-nil, drop_more, length-replicate, map-append}
 use Rattle.std.proofs.lemmas.Bool.{cases_eq}
 use Rattle.std.proofs.lemmas.Bool.Decides.{nat_tests}
 use mathlib.Core.Option.{some, some-ne-none, some-injective}
@@ -151,14 +151,14 @@ module _ {T : Type 0} where
   -- one payload is taken out, which no later token names
   pub still_there : (slots : List (Option T)) (x : ℕ) (tokens : List ℕ) → 0 < x → times x tokens ≡ 0 → HavePayloads slots tokens
       → HavePayloads (set slots (x - 1) None) tokens × (map (in_slot (set slots (x - 1) None)) tokens ≡ map (in_slot slots) tokens)
-  still_there slots x [] some apart have = (tt, refl)
-  still_there slots x (y ∷ ys) some apart have =
+  still_there slots x [] above apart have = (tt, refl)
+  still_there slots x (y ∷ ys) above apart have =
       let other : y ≢ x = λ e. absurd (let t : cond {A = ℕ} (y == x) 1 0 ≡ 1 = ap (λ b. cond {A = ℕ} b 1 0) (eq-eqb y x e) in omega (arith, apart, t)) in
       let positive = have.0.0 in
-      let same : in_slot (set slots (x - 1) None) y ≡ in_slot slots y = set_other slots (x - 1) (y - 1) (λ e. other (omega (arith, e, some, positive))) in
+      let same : in_slot (set slots (x - 1) None) y ≡ in_slot slots y = set_other slots (x - 1) (y - 1) (λ e. other (omega (arith, e, above, positive))) in
       let size = length_set slots (x - 1) None in
       let within = have.0.1 in
-      let later = still_there slots x ys some (omega (arith, apart)) have.1 in (
+      let later = still_there slots x ys above (omega (arith, apart)) have.1 in (
         ((positive, (omega (arith, size, within)), (have.0.2.0, same ∙ have.0.2.1), have.0.3), later.0),
         (λ i. same i ∷ later.1 i),
       )
@@ -174,6 +174,34 @@ module _ {T : Type 0} where
       length_set [] i a = refl
       length_set (x ∷ xs) zero a = refl
       length_set (x ∷ xs) (suc i) a = ap suc (length_set xs i a)
+
+module _ {T : Type 0} where
+  get_or_any : (xs : List (Option T)) (i : ℕ) (d e : Option T) → i < length xs → get_or xs i d ≡ get_or xs i e
+  get_or_any [] i d e less = absurd (omega arith)
+  get_or_any (x ∷ xs) zero d e less = refl
+  get_or_any (x ∷ xs) (suc i) d e less = get_or_any xs i d e (omega (arith, less))
+
+  -- the payload of the next token is picked
+  pub picks : (slots first : List (Option T)) (tokens : List ℕ) (index : ℕ) (payloads : List T) (payload : T) (held : Option T) → index < length tokens → HavePayloads slots (drop index tokens)
+      → held ≡ get_or slots (get_or tokens index 0 - 1) held → held ≡ Some payload → map Some payloads ++ map (in_slot slots) (drop index tokens) ≡ map (in_slot first) tokens
+      → HavePayloads (set slots (get_or tokens index 0 - 1) None) (drop (index + 1) tokens)
+      × (map Some (payloads ++ payload ∷ []) ++ map (in_slot (set slots (get_or tokens index 0 - 1) None)) (drop (index + 1) tokens) ≡ map (in_slot first) tokens)
+  picks slots first tokens index payloads payload held less have there is upto =
+      let x = get_or tokens index 0 in
+      let later = drop (index + 1) tokens in
+      let more = drop_more tokens index 0 less in
+      let all = subst (HavePayloads slots) more have in
+      let positive = all.0.0 in
+      let within = all.0.1 in
+      let here : Some payload ≡ in_slot slots x = sym is ∙ there ∙ get_or_any slots (x - 1) held None (omega (arith, positive, within)) in
+      let left = still_there slots x later all.0.0 all.0.3 all.1 in (
+        left.0,
+        ap (λ ys. ys ++ map (in_slot (set slots (x - 1) None)) later) (map-append Some payloads (payload ∷ []))
+            ∙ append_assoc (map Some payloads) (Some payload ∷ []) (map (in_slot (set slots (x - 1) None)) later)
+            ∙ (λ i. map Some payloads ++ here i ∷ left.1 i)
+            ∙ ap (λ ys. map Some payloads ++ map (in_slot slots) ys) (sym more)
+            ∙ upto,
+      )
 
 In-injective : (i j : ℕ) → In i ≡ In j → i ≡ j
 In-injective i j e = cc
@@ -217,7 +245,7 @@ module _ {T : Type 0} (q : OpenQueue) (table : TableId) {thread room id : ℕ} {
       let at = ap (λ ws. get_or ws i 0) words_are in
       let x = value_of (get_or words i 0) in
       let P : ℕ → Type 0 = λ w. value_of w ≢ 0 → ((payload : T) × (beside (value_of w) kept.gifts ≡ Some payload)) × (get_elem? f.0.homes (value_of w - 1) ≡ some (some (beside (value_of w) kept.gifts))) in
-      let fits = subst P (sym at) (λ some. let all = kept.slots some_tokens i above below some in (all.1, all.2)) filled in
+      let fits = subst P (sym at) (λ full. let all = kept.slots some_tokens i above below full in (all.1, all.2)) filled in
       let there = f.4 (x - 1) (beside x kept.gifts) fits.1 in
       let inside = within_list slots (x - 1) (beside x kept.gifts) there in
       let is = get_or_at None slots (x - 1) (beside x kept.gifts) there in (

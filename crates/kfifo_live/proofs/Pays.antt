@@ -103,8 +103,8 @@ module _ {T : Type 0} where
         let pass = met thread word found old new other both seen p.pass slots is l kept in
         again p pass.alone pass.held pass.idle met_opened (ap (λ (h : Hand T). h.at_home) met_hand ∙ p.stacked) refl (in_turn_as met_view l.in_turn)
 
-    pub met_gives_from : {giver : ℕ} {from : Me (Option T) (View T)} → IsAlone giver from.0 → other ≡ from.0 → (table table_now : TableId) → GivesOn (pay_known_of table giver from.0) (pay_known_of table_now thread new.0)
-    met_gives_from alone lent table table_now =
+    pub met_gives_from : (giver : ℕ) (from : Me (Option T) (View T)) → IsAlone giver from.0 → other ≡ from.0 → (table table_now : TableId) → GivesOn (pay_known_of table giver from.0) (pay_known_of table_now thread new.0)
+    met_gives_from giver from alone lent table table_now =
         let parts = ap (λ (v : View T). v.parts) is ∙ (λ i. p.pass.alone i ++ (ap (λ (v : View T). v.parts) lent ∙ alone) i) in
         let first = (subst (λ (ps : List (Part T)). AllGiven ps l.gifts) parts l.given).1.0 in
         record { in_turn = in_turn_as met_view l.in_turn; later = first.0; goes_on = ap gifts_of met_view ∙ first.1 }

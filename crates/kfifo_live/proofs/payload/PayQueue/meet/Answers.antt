@@ -36,6 +36,6 @@ returns-clause-gifts g c =
     let kept = c.give_rest-rest.ensures.kept in
     let now = pay_known_of c.give_rest-rest.new.seat.table_id c.second.inside.thread c.give_rest-rest.new.seat.me.0 in
     let P : PayKnown g.row.T.Denot → Type 0 = λ old. GivesOn old now in (
-      subst P c.first.view_is (met_gives_from c.give_all-whole.result.me.0 c.second.invariant slots both looks kept c.first.invariant.pass.alone c.give_all-whole.ensures.given.1 _ _),
+      subst P c.first.view_is (met_gives_from c.give_all-whole.result.me.0 c.second.invariant slots both looks kept c.first.inside.thread c.first.inside.seat.me c.first.invariant.pass.alone c.give_all-whole.ensures.given.1 _ _),
       subst P c.second.view_is (met_gives c.give_all-whole.result.me.0 c.second.invariant slots both looks kept _ _),
     )
