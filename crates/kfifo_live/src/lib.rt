@@ -9,6 +9,7 @@ mod fault;
 mod meeting;
 mod opening;
 mod payload;
+mod payload_closing;
 mod payload_meeting;
 mod payload_opening;
 mod queue;
@@ -21,7 +22,7 @@ mod stamps;
 mod view;
 
 pub use closing::close;
-pub use fault::{CloseFault, GatherFault, OpenFault, PayOpenFault};
+pub use fault::{CloseFault, GatherFault, OpenFault};
 pub use meeting::meet;
 pub use payload::{Given, PayPass, PayQueue, Taken};
 pub use payload_opening::MAX_TOKENS;
