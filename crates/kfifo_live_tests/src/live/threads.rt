@@ -201,11 +201,18 @@ fn make_calls(
 }
 
 /// Makes calls when all threads have come.
-fn race_one(alloc: Global, queue: &Queue, mut pass: Pass, clock: &AtomicU64, calls: u32) -> Racer
+fn race_one(
+    alloc: Global,
+    queue: &Queue,
+    mut pass: Pass,
+    clock: &AtomicU64,
+    threads: u32,
+    calls: u32,
+) -> Racer
     requires { IsOf queue.now pass }
     ensures { IsOf queue.now result.pass }
 {
-    wait_for_all(clock, queue.threads);
+    wait_for_all(clock, threads);
     let made = make_calls(alloc, queue, &mut pass, clock, calls);
     Racer { pass, made }
 }
@@ -251,7 +258,7 @@ fn race<R: Threads + Sync>(
     let racers = map_vec(
         rt,
         passes,
-        &|pass| race_one(alloc, &queue, pass, &clock, calls),
+        &|pass| race_one(alloc, &queue, pass, &clock, threads, calls),
     )?;
     let made = all_calls(alloc, racers.as_slice())?;
     let left = close(alloc, queue, passes_back(alloc, racers)?)?;
