@@ -85,25 +85,6 @@ fn refuses_an_opening_in_the_stated_order(rt: HostRuntime) -> Result<(), Fail> {
 }
 
 #[test]
-fn closes_with_what_is_left(rt: HostRuntime) -> Result<(), Fail> {
-    let (queue, mut passes) = PayQueue::open(rt.alloc(), Shape::new(2, 2, LAST)?, 2, 5)?;
-    let (Some(mut second), Some(mut first)) = (passes.pop(), passes.pop()) else {
-        unreachable!()
-    };
-    for payload in ["a", "b", "c", "d"] {
-        assert_eq!(rt; first.give(&queue, payload, 0, 2), Given::Done);
-    }
-    for payload in ["a", "b", "c"] {
-        assert_eq!(rt; second.take(&queue, 0, 2), Taken::Got(payload));
-    }
-    assert_eq!(rt; first.give(&queue, "e", 0, 2), Given::Done);
-    queue.meet(&mut second, &mut first);
-    let left = queue.close(rt.alloc(), first)?;
-    assert_eq!(rt; left.as_slice(), ["d", "e"].as_slice());
-    Ok(())
-}
-
-#[test]
 fn gives_a_token_back_and_forth(rt: HostRuntime) -> Result<(), Fail> {
     let (queue, mut passes) = PayQueue::open(rt.alloc(), Shape::new(1, 2, LAST)?, 1, 1)?;
     let Some(mut pass) = passes.pop() else {
@@ -143,7 +124,7 @@ fn taken(taken: Taken<Counted>) -> (&'static str, Option<u64>) {
 /// A call: what number it gives, or that it takes, its rounds, and what it comes to.
 type Step = (Option<u64>, u16, (&'static str, Option<u64>));
 
-/// A pass makes these calls, which come to what they say.
+/// A pass makes these calls, whose scans begin at the last slot, and which come to what they say.
 fn check_steps(
     rt: &impl Abort,
     queue: &PayQueue<Counted>,
@@ -166,6 +147,43 @@ fn check_steps(
         };
         assert_eq!(rt; came, *answer);
     }
+    Ok(())
+}
+
+#[test]
+fn closes_with_what_is_left(rt: HostRuntime) -> Result<(), Fail> {
+    let drops = Arc::new(rt.alloc(), AtomicU64::new(0))?;
+    let (queue, mut passes) = PayQueue::open(rt.alloc(), Shape::new(2, 2, LAST)?, 2, 5)?;
+    let (Some(mut second), Some(mut first)) = (passes.pop(), passes.pop()) else {
+        unreachable!()
+    };
+    let puts = [
+        (Some(1), 2, ("Done", None)),
+        (Some(2), 2, ("Done", None)),
+        (Some(3), 2, ("Done", None)),
+        (Some(4), 2, ("Done", None)),
+    ];
+    check_steps(&rt, &queue, &mut first, &drops, &puts)?;
+    let takes = [
+        (None, 2, ("Got", Some(1))),
+        (None, 2, ("Got", Some(2))),
+        (None, 2, ("Got", Some(3))),
+    ];
+    check_steps(&rt, &queue, &mut second, &drops, &takes)?;
+    check_steps(
+        &rt,
+        &queue,
+        &mut first,
+        &drops,
+        &[(Some(5), 2, ("Done", None))],
+    )?;
+    queue.meet(&mut second, &mut first);
+    let left = queue.close(rt.alloc(), first)?;
+    let numbers: Vec<u64> = left
+        .iter()
+        .map(|payload| payload.number)
+        .collect(rt.alloc())?;
+    assert_eq!(rt; numbers.as_slice(), [4, 5].as_slice());
     Ok(())
 }
 
