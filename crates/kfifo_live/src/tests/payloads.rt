@@ -265,7 +265,10 @@ fn close_one(alloc: Global, drops: &Arc<AtomicU64>) -> u64 {
         return 0;
     }
     match queue.close(alloc, pass) {
-        Ok(left) => left.iter().map(|payload| payload.number).sum(),
+        Ok(left) => match left.as_slice().first() {
+            Some(payload) => payload.number,
+            None => 0,
+        },
         Err(CloseFault::Memory | CloseFault::MissingPass) => 0,
     }
 }
