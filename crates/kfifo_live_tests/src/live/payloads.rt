@@ -85,25 +85,6 @@ fn refuses_an_opening_in_the_stated_order(rt: HostRuntime) -> Result<(), Fail> {
 }
 
 #[test]
-fn closes_with_what_is_left(rt: HostRuntime) -> Result<(), Fail> {
-    let (queue, mut passes) = PayQueue::open(rt.alloc(), Shape::new(2, 2, LAST)?, 2, 5)?;
-    let (Some(mut second), Some(mut first)) = (passes.pop(), passes.pop()) else {
-        unreachable!()
-    };
-    for payload in ["a", "b", "c", "d"] {
-        assert_eq!(rt; first.give(&queue, payload, 0, 2), Given::Done);
-    }
-    for payload in ["a", "b", "c"] {
-        assert_eq!(rt; second.take(&queue, 0, 2), Taken::Got(payload));
-    }
-    assert_eq!(rt; first.give(&queue, "e", 0, 2), Given::Done);
-    queue.meet(&mut second, &mut first);
-    let left = queue.close(rt.alloc(), first)?;
-    assert_eq!(rt; left.as_slice(), ["d", "e"].as_slice());
-    Ok(())
-}
-
-#[test]
 fn gives_a_token_back_and_forth(rt: HostRuntime) -> Result<(), Fail> {
     let (queue, mut passes) = PayQueue::open(rt.alloc(), Shape::new(1, 2, LAST)?, 1, 1)?;
     let Some(mut pass) = passes.pop() else {
@@ -119,25 +100,91 @@ fn gives_a_token_back_and_forth(rt: HostRuntime) -> Result<(), Fail> {
     Ok(())
 }
 
-/// The number of the payload that a refusal hands back, which is then dropped.
-fn refused(given: Given<Counted>) -> Option<(&'static str, u64)> {
+/// What `give` answers, and the number of the payload that it hands back, which is then dropped.
+fn given(given: Given<Counted>) -> (&'static str, Option<u64>) {
     match given {
-        Given::Done => None,
-        Given::Full(payload) => Some(("Full", payload.number)),
-        Given::Busy(payload) => Some(("Busy", payload.number)),
-        Given::Worn(payload) => Some(("Worn", payload.number)),
-        Given::NoToken(payload) => Some(("NoToken", payload.number)),
+        Given::Done => ("Done", None),
+        Given::Full(payload) => ("Full", Some(payload.number)),
+        Given::Busy(payload) => ("Busy", Some(payload.number)),
+        Given::Worn(payload) => ("Worn", Some(payload.number)),
+        Given::NoToken(payload) => ("NoToken", Some(payload.number)),
     }
 }
 
-/// The number of the payload that was taken, which is then dropped, or why there is none.
-fn taken(taken: Taken<Counted>) -> Result<u64, &'static str> {
+/// What `take` answers, and the number of the payload, which is then dropped.
+fn taken(taken: Taken<Counted>) -> (&'static str, Option<u64>) {
     match taken {
-        Taken::Got(payload) => Ok(payload.number),
-        Taken::Empty => Err("Empty"),
-        Taken::Busy => Err("Busy"),
-        Taken::Worn => Err("Worn"),
+        Taken::Got(payload) => ("Got", Some(payload.number)),
+        Taken::Empty => ("Empty", None),
+        Taken::Busy => ("Busy", None),
+        Taken::Worn => ("Worn", None),
     }
+}
+
+/// A call: what number it gives, or that it takes, its rounds, and what it comes to.
+type Step = (Option<u64>, u16, (&'static str, Option<u64>));
+
+/// A pass makes these calls, whose scans begin at the last slot, and which come to what they say.
+fn check_steps(
+    rt: &impl Abort,
+    queue: &PayQueue<Counted>,
+    pass: &mut PayPass<Counted>,
+    drops: &Arc<AtomicU64>,
+    steps: &[Step],
+) -> Result<(), Fail>
+    requires { IsOf queue.now pass.old.pass }
+    ensures { IsSame pass.old.pass pass.new.pass }
+{
+    let start = queue.shape().k() - 1;
+    for (number, turns, answer) in steps {
+        let turns = (*turns).max(1);
+        let came = match number {
+            Some(number) => {
+                let payload = Counted::new(*number, drops)?;
+                given(pass.give(queue, payload, start, turns))
+            }
+            None => taken(pass.take(queue, start, turns)),
+        };
+        assert_eq!(rt; came, *answer);
+    }
+    Ok(())
+}
+
+#[test]
+fn closes_with_what_is_left(rt: HostRuntime) -> Result<(), Fail> {
+    let drops = Arc::new(rt.alloc(), AtomicU64::new(0))?;
+    let (queue, mut passes) = PayQueue::open(rt.alloc(), Shape::new(2, 2, LAST)?, 2, 5)?;
+    let (Some(mut second), Some(mut first)) = (passes.pop(), passes.pop()) else {
+        unreachable!()
+    };
+    let puts = [
+        (Some(1), 2, ("Done", None)),
+        (Some(2), 2, ("Done", None)),
+        (Some(3), 2, ("Done", None)),
+        (Some(4), 2, ("Done", None)),
+    ];
+    check_steps(&rt, &queue, &mut first, &drops, &puts)?;
+    let takes = [
+        (None, 2, ("Got", Some(1))),
+        (None, 2, ("Got", Some(2))),
+        (None, 2, ("Got", Some(3))),
+    ];
+    check_steps(&rt, &queue, &mut second, &drops, &takes)?;
+    check_steps(
+        &rt,
+        &queue,
+        &mut first,
+        &drops,
+        &[(Some(5), 2, ("Done", None))],
+    )?;
+    queue.meet(&mut second, &mut first);
+    let left = queue.close(rt.alloc(), first)?;
+    let numbers: Vec<u64> = left
+        .iter()
+        .map(|payload| payload.number)
+        .collect(rt.alloc())?;
+    assert_eq!(rt; numbers.as_slice(), [4, 5].as_slice());
+    Ok(())
 }
 
 #[test]
@@ -147,52 +194,43 @@ fn drops_each_payload_once(rt: HostRuntime) -> Result<(), Fail> {
     let Some(mut pass) = passes.pop() else {
         unreachable!()
     };
-    assert_eq!(rt; taken(pass.take(&queue, 0, 1)), Err("Empty"));
-    assert_eq!(rt;
-        refused(pass.give(&queue, Counted::new(7, &drops)?, 0, 1)),
-        None
-    );
-    assert_eq!(rt;
-        refused(pass.give(&queue, Counted::new(8, &drops)?, 0, 1)),
-        Some(("Busy", 8))
-    );
-    assert_eq!(rt;
-        refused(pass.give(&queue, Counted::new(8, &drops)?, 0, 2)),
-        None
-    );
-    assert_eq!(rt;
-        refused(pass.give(&queue, Counted::new(9, &drops)?, 0, 1)),
-        Some(("Full", 9))
-    );
-    assert_eq!(rt; taken(pass.take(&queue, 0, 1)), Ok(7));
-    assert_eq!(rt; taken(pass.take(&queue, 0, 1)), Err("Busy"));
+    let steps = [
+        (None, 1, ("Empty", None)),
+        (Some(7), 1, ("Done", None)),
+        (Some(8), 1, ("Busy", Some(8))),
+        (Some(8), 2, ("Done", None)),
+        (Some(9), 1, ("Full", Some(9))),
+        (None, 1, ("Got", Some(7))),
+        (None, 1, ("Busy", None)),
+    ];
+    check_steps(&rt, &queue, &mut pass, &drops, &steps)?;
     assert_eq!(rt; drops.load(Ordering::SeqCst), 3);
     drop(queue);
     assert_eq!(rt; drops.load(Ordering::SeqCst), 4);
+    Ok(())
+}
+
+#[test]
+fn drops_each_payload_once_at_a_close(rt: HostRuntime) -> Result<(), Fail> {
+    let drops = Arc::new(rt.alloc(), AtomicU64::new(0))?;
     let (queue, mut passes) = PayQueue::open(rt.alloc(), Shape::new(1, 2, 2)?, 1, 2)?;
     let Some(mut pass) = passes.pop() else {
         unreachable!()
     };
-    assert_eq!(rt;
-        refused(pass.give(&queue, Counted::new(1, &drops)?, 0, 1)),
-        None
-    );
-    assert_eq!(rt; taken(pass.take(&queue, 0, 1)), Ok(1));
-    assert_eq!(rt;
-        refused(pass.give(&queue, Counted::new(2, &drops)?, 0, 1)),
-        None
-    );
-    assert_eq!(rt; taken(pass.take(&queue, 0, 2)), Err("Worn"));
-    assert_eq!(rt;
-        refused(pass.give(&queue, Counted::new(3, &drops)?, 0, 1)),
-        Some(("Worn", 3))
-    );
-    assert_eq!(rt; drops.load(Ordering::SeqCst), 6);
+    let steps = [
+        (Some(1), 1, ("Done", None)),
+        (None, 1, ("Got", Some(1))),
+        (Some(2), 1, ("Done", None)),
+        (None, 2, ("Worn", None)),
+        (Some(3), 1, ("Worn", Some(3))),
+    ];
+    check_steps(&rt, &queue, &mut pass, &drops, &steps)?;
+    assert_eq!(rt; drops.load(Ordering::SeqCst), 2);
     let left = queue.close(rt.alloc(), pass)?;
-    assert_eq!(rt; drops.load(Ordering::SeqCst), 6);
-    assert_eq!(rt; left.iter().map(|payload| payload.number).sum::<u64>(), 2);
+    assert_eq!(rt; left.len(), 1);
+    assert_eq!(rt; drops.load(Ordering::SeqCst), 2);
     drop(left);
-    assert_eq!(rt; drops.load(Ordering::SeqCst), 7);
+    assert_eq!(rt; drops.load(Ordering::SeqCst), 3);
     Ok(())
 }
 
@@ -223,11 +261,14 @@ fn close_one(alloc: Global, drops: &Arc<AtomicU64>) -> u64 {
     let Ok(payload) = Counted::new(7, drops) else {
         return 0;
     };
-    if refused(pass.give(&queue, payload, 0, 1)).is_some() {
+    if given(pass.give(&queue, payload, 0, 1)).1.is_some() {
         return 0;
     }
     match queue.close(alloc, pass) {
-        Ok(left) => left.iter().map(|payload| payload.number).sum(),
+        Ok(left) => match left.as_slice().first() {
+            Some(payload) => payload.number,
+            None => 0,
+        },
         Err(CloseFault::Memory | CloseFault::MissingPass) => 0,
     }
 }
@@ -275,10 +316,12 @@ fn trade(
         let turns = if draw(&mut seed, 4) == 0 { 1 } else { 100 };
         let number = (u64::from(thread) << 32) | u64::from(call);
         let payload = Counted::new(number, drops)?;
-        if let Some((_, back)) = refused(pass.give(queue, payload, draw(&mut seed, k), turns)) {
-            numbers.push(back)?;
+        let (_, back) = given(pass.give(queue, payload, draw(&mut seed, k), turns));
+        if let Some(number) = back {
+            numbers.push(number)?;
         }
-        if let Ok(number) = taken(pass.take(queue, draw(&mut seed, k), turns)) {
+        let (_, got) = taken(pass.take(queue, draw(&mut seed, k), turns));
+        if let Some(number) = got {
             numbers.push(number)?;
         }
     }
