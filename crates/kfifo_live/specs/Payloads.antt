@@ -1,5 +1,5 @@
 -- A queue of owned payloads and its passes, as callers see them, and what a call with a payload does.
-use Rattle.std.specs.Prelude.{◌<◌, ◌≤◌, ◌≡◌, ℕ, zero, suc, ◌+◌, ◌*◌, List, [], ◌∷◌, ◌++◌, Option, Some, reverse}
+use Rattle.std.specs.Prelude.{◌<◌, ◌≤◌, ◌≡◌, ℕ, zero, suc, ◌+◌, ◌-◌, ◌*◌, List, [], ◌∷◌, ◌++◌, Option, Some, None, get_or, length, map, reverse}
 use Rattle.atomic_table.specs.Table.{Me}
 use Rattle.atomic_table.specs.Seated.{TableId}
 use Rattle.kfifo_words.specs.declared.shape.Shape.{Shape}
@@ -7,7 +7,10 @@ use Rattle.kfifo_model.specs.declared.calls.Answer.{Answer}
 use Rattle.kfifo_model.specs.declared.calls.Answer.TheVariants as A
 use Rattle.kfifo_machine.specs.declared.event.Begin.{Begin}
 use Rattle.kfifo_machine.specs.declared.event.Begin.TheVariants as B
+use Rattle.kfifo_machine.specs.declared.event.Event.{Event}
 use Rattle.kfifo_machine.specs.Laws.{IsRefusal}
+use Rattle.kfifo_machine.specs.Machine.{World}
+use Rattle.kfifo_machine.specs.Runs.{Begins}
 use Rattle.kfifo_machine.specs.Rounds.{turns_of}
 use Rattle.kfifo_live.specs.declared.view.Opening.{Opening}
 use Rattle.kfifo_live.specs.declared.view.View.{View}
@@ -16,7 +19,10 @@ use Rattle.kfifo_live.specs.declared.payload.Given.TheVariants as G
 use Rattle.kfifo_live.specs.declared.payload.Taken.{Taken}
 use Rattle.kfifo_live.specs.declared.payload.Taken.TheVariants as K
 use Rattle.kfifo_live.specs.Hands.{Gifts, beside}
-use Rattle.kfifo_live.specs.Schedule.{count_up, gifts_of, hand_of}
+use Rattle.kfifo_live.specs.Balance.{times, puts, undos, takes}
+use Rattle.kfifo_live.specs.Left.{items_left}
+use Rattle.kfifo_live.specs.Promise.{KeepsPromise}
+use Rattle.kfifo_live.specs.Schedule.{count_up, gifts_of, hand_of, world_after}
 use Rattle.kfifo_live.specs.Pass.{Known, OpenQueue, IsPass, known_of}
 use Rattle.kfifo_live.specs.Calls.{Makes, TakesFewSteps, HasCause, IsDisturbed, LeavesNoItem}
 
@@ -94,3 +100,30 @@ module _ {T : Type 0} where
   TakesOut start turns K.Empty old new = (new.tokens ≡ old.tokens) × DequeuesWith start turns A.Empty old new
   TakesOut start turns K.Busy old new = (new.tokens ≡ old.tokens) × DequeuesWith start turns A.Busy old new
   TakesOut start turns K.Worn old new = (new.tokens ≡ old.tokens) × DequeuesWith start turns A.Worn old new
+
+  -- what the slot of a token holds
+  abbrev pub in_slot : List (Option T) → ℕ → Option T
+  in_slot slots token = get_or slots (token - 1) None
+
+  -- these tokens name slots with a payload, none of them twice
+  abbrev pub HavePayloads : List (Option T) → List ℕ → Type 0
+  HavePayloads slots [] = Unit {0}
+  HavePayloads slots (token ∷ tokens) =
+      ((0 < token) × (token ≤ length slots) × ((payload : T) × (in_slot slots token ≡ Some payload)) × (times token tokens ≡ 0)) × HavePayloads slots tokens
+
+  -- What is left at the end: there is one schedule, which begins with what the pass has seen and has no further event of it, and
+  -- the payloads are the last ones given with the tokens in the filled slots after it. Where the pass is the only one, it is what
+  -- the pass has seen. No token is lost and none comes twice, and that schedule keeps the promise
+  pub record PayCloses (q : OpenQueue) (p : PayKnown T) (payloads : List T) : Type 0 where
+    pub all : List Event
+    pub gifts : Gifts T
+    pub world : World
+    pub tokens : List ℕ
+    pub reached : world_after q.opened all ≡ Some world
+    pub begin : Begins p.pass.thread p.pass.seen all
+    pub alone : q.opened.threads ≡ 1 → all ≡ p.pass.seen
+    pub given : (later : Gifts T) × (gifts ≡ p.gifts ++ later)
+    pub tokens_are : tokens ≡ items_left q.opened.shape world.words
+    pub payloads_are : map Some payloads ≡ map (λ token. beside token gifts) tokens
+    pub balance : (token : ℕ) → puts token q.opened all ≡ undos token q.opened all + (takes token q.opened all + times token tokens)
+    pub promise : KeepsPromise q.opened all

@@ -39,9 +39,9 @@ fn is_complete(passes: &[Pass], threads: u32) -> bool
 }
 
 /// The words of a table that is closed.
-fn read_words(
+pub(crate) fn read_words<T>(
     alloc: Global,
-    closed: &Closed<Option<()>, Global>,
+    closed: &Closed<Option<T>, Global>,
     count: usize,
 ) -> Result<Vec<u64>, AllocError>
     requires { (slots_len closed.now.words ≡ count) × IsFull closed.now.words × (length (slots_items closed.now.words) ≡ count) }
@@ -56,7 +56,11 @@ fn read_words(
 
 /// The items in the slots of these words, segment by segment from the head's, within a segment by
 /// slot number.
-fn read_items(alloc: Global, shape: &Shape, words: &[u64]) -> Result<Vec<u32>, AllocError>
+pub(crate) fn read_items(
+    alloc: Global,
+    shape: &Shape,
+    words: &[u64],
+) -> Result<Vec<u32>, AllocError>
     requires size { length words.now ≡ 2 + shape.now.n * shape.now.k }
     requires head { head_of (slice_index words.now 0) < shape.now.n }
     ensures { IfOk result (λ v. v.items ≡ items_left shape.now words.now) }

@@ -9,6 +9,7 @@ mod fault;
 mod meeting;
 mod opening;
 mod payload;
+mod payload_closing;
 mod payload_meeting;
 mod payload_opening;
 mod queue;

@@ -1,0 +1,81 @@
+//! Closing a queue of payloads.
+ghost use Rattle.std.specs.Prelude.{◌≡◌, ◌≤◌, ¬◌, [], IfOk, IsErrOf, Some, map, vec_capacity};
+ghost use Rattle.core.specs.Mem.Slots.{slots_items, slots_len, IsFull};
+ghost use Rattle.kfifo_live.specs.Pass.{IsOf};
+ghost use Rattle.kfifo_live.specs.Payloads.{HavePayloads, PayCloses, in_slot};
+ghost use Rattle.kfifo_live.specs.declared.fault.CloseFault.TheVariants.{MissingPass};
+
+use crate::closing::{read_items, read_words};
+use crate::fault::CloseFault;
+use crate::payload::{PayPass, PayQueue};
+use atomic_table::Closed;
+use std::alloc::{AllocError, Global};
+
+/// What the slots of a closed table hold, into a list with room for it. The table's memory is given back.
+fn empty_slots<T>(
+    mut closed: Closed<Option<T>, Global>,
+    mut slots: Vec<Option<T>>,
+) -> Vec<Option<T>>
+    requires full { IsFull closed.slots }
+    requires room { (slots.items ≡ []) × (slots_len closed.slots ≤ vec_capacity slots) }
+    ensures { result.items ≡ slots_items closed.slots }
+{
+    for index in 0..closed.slot_count() {
+        slots.push_reserved(closed.take(index));
+    }
+    closed.free();
+    slots
+}
+
+/// The payloads in the slots of these tokens, in turn.
+fn pick_payloads<T: Drop>(
+    alloc: Global,
+    mut slots: Vec<Option<T>>,
+    tokens: &[u32],
+) -> Result<Vec<T>, AllocError>
+    requires { HavePayloads slots.items tokens.now }
+    ensures { IfOk result (λ payloads. map Some payloads.items ≡ map (in_slot slots.items) tokens.now) }
+{
+    let mut payloads = Vec::with_capacity(alloc, tokens.len())?;
+    for token in tokens {
+        let Some(payload) = slots[*token as usize - 1].take() else {
+            unreachable!()
+        };
+        payloads.push_reserved(payload);
+    }
+    Ok(payloads)
+}
+
+impl<T: Drop> PayQueue<T> {
+    /// The payloads that are left: segment by segment from the head's round the ring, within a segment by slot number.
+    /// Each is the one that was last given with its token. The one schedule of all calls of the queue, which begins with
+    /// what the pass has seen and has no further event of it, keeps the promise of the queue.
+    ///
+    /// Memory where an allocation failed, the payloads then being dropped. MissingPass never comes: the other passes may
+    /// still be anywhere, and can do nothing more.
+    pub fn close(self, alloc: Global, pass: PayPass<T>) -> Result<Vec<T>, CloseFault>
+        requires { IsOf self pass.pass }
+        ensures ok { IfOk result (λ payloads. PayCloses self pass payloads.items) }
+        ensures missing { ¬ IsErrOf result MissingPass }
+    {
+        let PayQueue {
+            table,
+            shape,
+            threads,
+            tokens,
+        } = self;
+        let PayPass {
+            thread: _,
+            seat,
+            at_home: _,
+        } = pass;
+        // The room is made first: after a refusal the table still drops what it holds.
+        let slots = Vec::with_capacity(alloc, threads as usize * tokens as usize)?;
+        let closed = table.close_with(seat);
+        let words = read_words(alloc, &closed, 2 + shape.n() as usize * shape.k() as usize);
+        let slots = empty_slots(closed, slots);
+        let tokens = read_items(alloc, &shape, words?.as_slice())?;
+        let payloads = pick_payloads(alloc, slots, tokens.as_slice())?;
+        Ok(payloads)
+    }
+}
