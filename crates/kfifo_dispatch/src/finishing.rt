@@ -46,12 +46,7 @@ fn sums_of<L: Tasks>(
 }
 
 /// The task at this place, finished: with the sum that came back of it, or worked off here.
-fn finish_one<L: Tasks, G: Gate>(
-    place: usize,
-    task: &Task,
-    sum: Option<u64>,
-    gate: &G,
-) -> Finished
+fn finish_one<L: Tasks, G: Gate>(place: usize, task: &Task, sum: Option<u64>, gate: &G) -> Finished
     requires place { place < 1024 }
     requires task { slice_get L.tasks place ≡ Some task.now }
     requires sum { IfSome sum (λ n. n ≡ total_at L.tasks place) }

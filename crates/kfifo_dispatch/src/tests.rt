@@ -128,7 +128,10 @@ fn workers_run_at_the_same_time(rt: HostRuntime) -> Result<(), Fail> {
     let gate = Counting::new(true, 0);
     let tasks = [task(1, 2, 0), task(2, 2, 0)];
     let done = dispatch(&rt, rt.alloc(), tasks.as_slice(), 2, shape, 0, &gate)?;
-    assert_eq!(rt; done.as_slice(), [finished(1, 3), finished(2, 3)].as_slice());
+    assert_eq!(rt;
+        done.as_slice(),
+        [finished(1, 3), finished(2, 3)].as_slice()
+    );
     assert_eq!(rt; gate.gave_up.load(Ordering::SeqCst), 0);
     Ok(())
 }
@@ -140,7 +143,10 @@ fn one_worker_does_the_work_of_another(rt: HostRuntime) -> Result<(), Fail> {
     let gate = Counting::new(false, 4);
     let tasks = [task(1, 2, 0), task(2, 2, 0)];
     let done = dispatch(&rt, rt.alloc(), tasks.as_slice(), 2, shape, 0, &gate)?;
-    assert_eq!(rt; done.as_slice(), [finished(1, 3), finished(2, 3)].as_slice());
+    assert_eq!(rt;
+        done.as_slice(),
+        [finished(1, 3), finished(2, 3)].as_slice()
+    );
     assert_eq!(rt; gate.gave_up.load(Ordering::SeqCst), 0);
     assert_eq!(rt; gate.units[2].load(Ordering::SeqCst), 4);
     Ok(())
@@ -176,9 +182,74 @@ fn tasks_go_round(rt: HostRuntime) -> Result<(), Fail> {
     };
     let tasks = [task(1, 2, 0), task(2, 1, 0)];
     let done = dispatch(&rt, rt.alloc(), tasks.as_slice(), 1, shape, 0, &order)?;
-    assert_eq!(rt; done.as_slice(), [finished(1, 3), finished(2, 1)].as_slice());
+    assert_eq!(rt;
+        done.as_slice(),
+        [finished(1, 3), finished(2, 1)].as_slice()
+    );
     assert_eq!(rt; order.workers.load(Ordering::SeqCst), 111);
     assert_eq!(rt; order.tasks.load(Ordering::SeqCst), 121);
+    Ok(())
+}
+
+/// A task that the queue refuses is worked off by the caller, who is worker 0.
+#[test]
+fn the_caller_works_off_what_is_refused(rt: HostRuntime) -> Result<(), Fail> {
+    let shape = Shape::new(1, 2, LAST)?;
+    let gate = Counting::new(false, 0);
+    let tasks = [task(1, 2, 0), task(2, 3, 0), task(3, 4, 0)];
+    let done = dispatch(&rt, rt.alloc(), tasks.as_slice(), 1, shape, 0, &gate)?;
+    let list = [finished(1, 3), finished(2, 6), finished(3, 10)];
+    assert_eq!(rt; done.as_slice(), list.as_slice());
+    assert_eq!(rt; gate.units[0].load(Ordering::SeqCst), 4);
+    assert_eq!(rt; gate.units[1].load(Ordering::SeqCst), 5);
+    Ok(())
+}
+
+/// A worker ends after 65,536 takes, and the caller works off what is left in the queue.
+#[test]
+fn a_worker_takes_so_often_at_most(rt: HostRuntime) -> Result<(), Fail> {
+    let shape = Shape::new(2, 2, LAST)?;
+    let gate = Counting::new(false, 0);
+    let tasks = [task(1, 65_535, 0), task(2, 65_535, 0)];
+    let done = dispatch(&rt, rt.alloc(), tasks.as_slice(), 1, shape, 0, &gate)?;
+    let sum = 2_147_450_880;
+    assert_eq!(rt;
+        done.as_slice(),
+        [finished(1, sum), finished(2, sum)].as_slice()
+    );
+    assert_eq!(rt; gate.units[1].load(Ordering::SeqCst), 65_536);
+    assert_eq!(rt; gate.units[0].load(Ordering::SeqCst), 65_534);
+    Ok(())
+}
+
+/// Versions up to 2 are used up by one round of the ring: the worker ends, and the caller does the rest.
+#[test]
+fn a_worn_queue_leaves_the_work_to_the_caller(rt: HostRuntime) -> Result<(), Fail> {
+    let shape = Shape::new(1, 2, 2)?;
+    let gate = Counting::new(false, 0);
+    let tasks = [task(1, 9, 0), task(2, 9, 0)];
+    let done = dispatch(&rt, rt.alloc(), tasks.as_slice(), 1, shape, 0, &gate)?;
+    assert_eq!(rt;
+        done.as_slice(),
+        [finished(1, 45), finished(2, 45)].as_slice()
+    );
+    assert!(rt; gate.units[0].load(Ordering::SeqCst) > 0);
+    Ok(())
+}
+
+/// Holds whichever one request of the dispatch for memory fails, and fails where a call always gives up.
+#[test]
+fn refused_memory(rt: HostRuntime) -> Result<(), Fail> {
+    let shape = Shape::new(1, 2, LAST)?;
+    let tasks = [task(9, 2, 5), task(2, 1, 1), task(3, 0, 7)];
+    let done = match dispatch(&rt, rt.alloc(), tasks.as_slice(), 2, shape, 0, &OpenGate) {
+        Err(DispatchFault::Memory) => {
+            dispatch(&rt, rt.alloc(), tasks.as_slice(), 2, shape, 0, &OpenGate)?
+        }
+        answered => answered?,
+    };
+    let list = [finished(2, 2), finished(3, 7), finished(9, 8)];
+    assert_eq!(rt; done.as_slice(), list.as_slice());
     Ok(())
 }
 

@@ -17,7 +17,7 @@ pub returns : goal.returns
 returns g c =
     let all : c.loop-place.place ≡ length c.args.tasks.now = omega (arith, c.loop-place.auto.place-end, c.loop-place-test.false) in
     let whole : c.loop-place.list.items ≡ map finished c.args.tasks.now =
-        c.loop-place.invariant ∙ ap (λ n. map finished (take n c.args.tasks.now)) all ∙ ap (map finished) (take-length c.args.tasks.now) in
+    c.loop-place.invariant ∙ ap (λ n. map finished (take n c.args.tasks.now)) all ∙ ap (map finished) (take-length c.args.tasks.now) in
     record {
       each = subst (λ (l : List Finished). IsPermutation l c.sort_by_key.new.self.items) whole c.in_ok-sort_by_key.ensures.permutation;
       rise = IsNonDecreasingBy-from_sort_by_key (λ (f : Finished). f.id) c.sort_by_key.new.self.items c.in_ok-sort_by_key.ensures.sorted (λ a r q k. search rules);
