@@ -46,7 +46,7 @@ pub(crate) fn open_status(fault: OpenFault) -> u32
 {
     match fault {
         OpenFault::ThreadsOutOfRange => BAD_THREADS,
-        // A plain queue is never refused for its number of stamped calls.
-        OpenFault::Memory | OpenFault::CallsOutOfRange => NO_MEMORY,
+        // A plain queue is never refused for a number of tokens or of stamped calls.
+        OpenFault::Memory | OpenFault::TokensOutOfRange | OpenFault::CallsOutOfRange => NO_MEMORY,
     }
 }

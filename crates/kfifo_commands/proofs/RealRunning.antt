@@ -18,10 +18,11 @@ use Rattle.kfifo_commands.specs.Words.{EachWrites, WritesCall}
 
 -- why the queue is refused, by its fault
 pub queue_fault : (scripts : List (List Begin)) (fault : OpenFault) → (fault ≡ opens.ThreadsOutOfRange → (length scripts ≡ 0) ⊎ (64 < length scripts))
-    → (fault ≡ opens.CallsOutOfRange → (0 < length scripts) × (length scripts ≤ 64) × (1024 < longest scripts)) → IsQueueFault scripts fault
-queue_fault scripts opens.ThreadsOutOfRange threads calls = threads refl
-queue_fault scripts opens.Memory threads calls = tt
-queue_fault scripts opens.CallsOutOfRange threads calls = calls refl
+    → (fault ≡ opens.CallsOutOfRange → (0 < length scripts) × (length scripts ≤ 64) × (1024 < longest scripts)) → (fault ≡ opens.TokensOutOfRange → ⊥) → IsQueueFault scripts fault
+queue_fault scripts opens.ThreadsOutOfRange threads calls tokens = threads refl
+queue_fault scripts opens.Memory threads calls tokens = tt
+queue_fault scripts opens.TokensOutOfRange threads calls tokens = tokens refl
+queue_fault scripts opens.CallsOutOfRange threads calls tokens = calls refl
 
 -- what a word writes is in range
 in_range : (shape : Shape) (turns : ℕ) (word : List ℕ) (call : Begin) → 1 ≤ turns → WritesCall shape.k turns word call → IsCall shape call

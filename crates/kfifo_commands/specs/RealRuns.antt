@@ -52,6 +52,7 @@ pub record IsScriptOver (options : RecordOptions) (number : ℕ) : Type 0 where
 abbrev pub IsQueueFault : List (List Begin) → OpenFault → Type 0
 IsQueueFault scripts opens.ThreadsOutOfRange = (length scripts ≡ 0) ⊎ (64 < length scripts)
 IsQueueFault scripts opens.Memory = Unit {0}
+IsQueueFault scripts opens.TokensOutOfRange = ⊥
 IsQueueFault scripts opens.CallsOutOfRange = (0 < length scripts) × (length scripts ≤ 64) × (1024 < longest scripts)
 
 -- the run that the options give is refused its queue

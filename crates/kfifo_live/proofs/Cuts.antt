@@ -17,7 +17,7 @@ use Rattle.kfifo_live.specs.declared.view.Opening.{Opening}
 use Rattle.kfifo_live.specs.declared.view.Part.{Part}
 use Rattle.kfifo_live.specs.declared.view.View.{View}
 use Rattle.kfifo_live.specs.Schedule.{part, view_of, count_up, first_hand, fresh, first_view, thread_of, seen_of, gifts_of, hand_of, with_seen, more_in, IsSeated, AllBegin, AllGiven, AllHands, Owns, Fits, OneSchedule, FewTicks, both_parts}
-use Rattle.kfifo_live.specs.Hands.{Gifts, Homes, Where, Home, AllHome, CallFits, HandFits, SlotsFit}
+use Rattle.kfifo_live.specs.Hands.{Gifts, Homes, InTurn, Where, Home, AllHome, CallFits, HandFits, SlotsFit}
 use Rattle.kfifo_live.specs.declared.view.Hand.{Hand}
 use Rattle.kfifo_live.specs.Step.{Looks}
 use Rattle.kfifo_live.proofs.Balance.{value-zero}
@@ -37,11 +37,12 @@ looks_at {T} o s id thread seen gifts hand more i kept at =
           (kept.hands some_tokens id (view_of o (part thread seen gifts hand ∷ more)) at).0;
       others = λ some_tokens u other ne fits. subst (λ (g : Gifts T). HandFits (word_at kept.world) (place_of kept.world u) kept.at g s.homes u other) (sym (append-nil kept.gifts)) fits;
     } in
-    let k = adds o s.words (slice_set s.words i (slice_index s.words i)) s.homes s.homes s.views id thread seen gifts hand hand more kept at [] [] (λ u apart. refl) kept.world refl words (subst (FewTicks o) (sym (append-nil kept.all)) kept.few_ticks) tokens in
+    let k = adds o s.words (slice_set s.words i (slice_index s.words i)) s.homes s.homes s.views id thread seen gifts hand hand more kept at [] [] (λ u apart. refl) kept.world refl words (subst (FewTicks o) (sym (append-nil kept.all)) kept.few_ticks)
+    (subst (λ (x : List Event × Gifts T). InTurn x.0 x.1) (λ j. (sym (append-nil kept.all) j, sym (append-nil kept.gifts) j)) kept.in_turn) tokens in
     let mine = kept.fit id (view_of o (part thread seen gifts hand ∷ more)) at in (
       view_of o (part thread kept.all kept.gifts hand ∷ more),
       subst (λ (x : List Event × Gifts T). OneSchedule o (slice_set s.words i (slice_index s.words i)) s.homes (set s.views id (view_of o (part thread x.0 x.1 hand ∷ more)))) (λ j. (append-nil kept.all j, append-nil kept.gifts j)) k,
-      record { all = kept.all; gifts = kept.gifts; world = kept.world; reached = kept.runs; word_is = ap (λ ws. get_or ws i 0) kept.words_are; begin = mine.begin; given = mine.given; afterwards = refl },
+      record { all = kept.all; gifts = kept.gifts; world = kept.world; reached = kept.runs; word_is = ap (λ ws. get_or ws i 0) kept.words_are; begin = mine.begin; given = mine.given; in_turn = kept.in_turn; afterwards = refl },
     )
 
 pub looks : {T : Type 0} (o : Opening) (slots id : ℕ) (me : Me (Option T) (View T)) (i : ℕ) → IsSeated me.0
@@ -178,6 +179,7 @@ cuts {T} o id v n le s kept at =
       owner = owner;
       runs = kept.runs;
       words_are = kept.words_are;
+      in_turn = kept.in_turn;
       few_ticks = kept.few_ticks;
       fit = λ j u e.
           ⊎_elim
@@ -229,6 +231,7 @@ gathers {T} o id v other w opened same s kept at apart there =
       owner = owner;
       runs = kept.runs;
       words_are = kept.words_are;
+      in_turn = kept.in_turn;
       few_ticks = kept.few_ticks;
       fit = λ j u e. fits_set o kept.all kept.gifts owner (set s.views id both) other (view_of opened [])
           (λ i y not_other f. fits_at o kept.all kept.gifts owner s.views id both other
@@ -347,6 +350,7 @@ opens {T} o words is = record {
   owner = λ t. (0, t);
   runs = refl;
   words_are = is;
+  in_turn = refl;
   few_ticks = λ thread. omega arith;
   fit = one;
   at = at_open o.tokens o.threads;

@@ -40,6 +40,7 @@ rehands {T} o words homes homes_now views id thread seen gifts hand hand_now mor
       owner = kept.owner;
       runs = kept.runs;
       words_are = kept.words_are;
+      in_turn = kept.in_turn;
       few_ticks = kept.few_ticks;
       fit = fits_set o kept.all kept.gifts kept.owner views id (view_of o (part thread seen gifts hand_now ∷ more)) (λ j u apart e. kept.fit j u e)
           record { opened = refl; begin = mine.begin; given = mine.given; owns = mine.owns };

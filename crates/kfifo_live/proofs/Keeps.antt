@@ -27,10 +27,11 @@ use Rattle.kfifo_live.specs.declared.view.Part.{Part}
 use Rattle.kfifo_live.specs.declared.view.View.{View}
 use Rattle.kfifo_live.specs.Schedule.{part, view_of, world_after, AllBegin, AllGiven, AllHands, Owns, Fits, OneSchedule, FewTicks, IsSmall, ticks, thread_of, seen_of, gifts_of, hand_of, more_in, with_seen}
 use Rattle.kfifo_live.specs.Step.{IsAt, Steps, DrawsStamp}
-use Rattle.kfifo_live.specs.Hands.{Gifts, Homes, Where, beside, gift, move, hand_after, begun_hand, Carries, BeginsWith, HandFits, SlotsFit}
+use Rattle.kfifo_live.specs.Hands.{Gifts, Homes, InTurn, Where, beside, gift, move, hand_after, begun_hand, Carries, BeginsWith, HandFits, SlotsFit}
 use Rattle.kfifo_live.specs.declared.view.Hand.{Hand}
 use Rattle.kfifo_live.proofs.Turned.{turned}
 use Rattle.kfifo_live.proofs.Ticks.{clock_below, few_more, few_tick, no_tick}
+use Rattle.kfifo_live.proofs.Turns.{in_turn_on}
 
 -- a longer schedule, with nothing more of the thread
 begins_on : (thread : ℕ) (seen all more : List Event) → Begins thread seen all → own thread more ≡ [] → Begins thread seen (all ++ more)
@@ -92,10 +93,10 @@ pub record Tokens {T : Type 0} (o : Opening) (homes homes_now : Homes T) (views 
 pub adds : {T : Type 0} (o : Opening) (words after_words : List ℕ) (homes homes_now : Homes T) (views : List (View T)) (id : ℕ) (thread : ℕ) (seen : List Event) (gifts : Gifts T) (hand hand_now : Hand T) (more : List (Part T))
     → (kept : OneSchedule o words homes views) → get_elem? views id ≡ some (view_of o (part thread seen gifts hand ∷ more))
     → (tail : List Event) (given : Gifts T) → ((u : ℕ) → u ≢ thread → own u tail ≡ [])
-    → (end : World) → run o.shape (Some kept.world) tail ≡ Some end → after_words ≡ end.words → FewTicks o (kept.all ++ tail)
+    → (end : World) → run o.shape (Some kept.world) tail ≡ Some end → after_words ≡ end.words → FewTicks o (kept.all ++ tail) → InTurn (kept.all ++ tail) (kept.gifts ++ given)
     → Tokens o homes homes_now views words kept end (kept.gifts ++ given) thread hand_now
     → OneSchedule o after_words homes_now (set views id (view_of o (part thread (kept.all ++ tail) (kept.gifts ++ given) hand_now ∷ more)))
-adds {T} o words after_words homes homes_now views id thread seen gifts hand hand_now more kept at tail given others end runs words_are few tokens =
+adds {T} o words after_words homes homes_now views id thread seen gifts hand hand_now more kept at tail given others end runs words_are few in_turn tokens =
     let mine = kept.fit id (view_of o (part thread seen gifts hand ∷ more)) at in
     let owned : kept.owner thread ≡ (id, 0) = mine.owns.0 in
     record {
@@ -105,6 +106,7 @@ adds {T} o words after_words homes homes_now views id thread seen gifts hand han
       owner = kept.owner;
       runs = run_on o.shape (Some (opening o.shape o.threads)) kept.world kept.all tail kept.runs ∙ runs;
       words_are = words_are;
+      in_turn = in_turn;
       few_ticks = few;
       fit = fits_set o (kept.all ++ tail) (kept.gifts ++ given) kept.owner views id (view_of o (part thread (kept.all ++ tail) (kept.gifts ++ given) hand_now ∷ more))
           (λ j u apart e.
@@ -199,9 +201,10 @@ goes_at {T} o s id thread seen gifts hand more held place here reached within st
     let is_w : w' ≡ w = λ j. view_of o (part thread (b.goes_on j ++ e ∷ []) (g.1 j ++ new) hand_now ∷ more) in
     let homes = homes_after s.homes held t.act in
     let tokens : Tokens o s.homes homes s.views s.words kept end (kept.gifts ++ new) thread hand_now = record { at_now = t.at_now; slots = t.slots; own = t.own; others = t.others } in
+    let turns : InTurn (kept.all ++ e ∷ []) (kept.gifts ++ new) = in_turn_on kept.all kept.gifts thread begin held kept.in_turn in
     let made : run o.shape (Some kept.world) (e ∷ []) ≡ Some end = ap world_of (steps_on o.shape kept.world e running inside now) in
     let k = adds o s.words (slice_set s.words i (f (slice_index s.words i))) s.homes homes s.views id thread seen gifts hand hand_now more kept at (e ∷ []) new (λ u apart. own_other thread u begin apart) end made new_words
-    (few_more o kept.all e (no_tick o.shape place begin running from) kept.few_ticks) tokens in (
+    (few_more o kept.all e (no_tick o.shape place begin running from) kept.few_ticks) turns tokens in (
       w,
       t.act,
       t.valid,
@@ -218,6 +221,7 @@ goes_at {T} o s id thread seen gifts hand more held place here reached within st
         word_is = found_is;
         taken = λ some_tokens x e. subst (λ (gs : Gifts T). (0 < x) × ((payload : T) × (beside x (gs ++ new) ≡ Some payload))) g.1 (t.taken some_tokens x (ap (move running) (sym found_is) ∙ e));
         out = t.out;
+        in_turn = subst (λ (x : List Event × Gifts T). InTurn (x.0 ++ e ∷ []) (x.1 ++ new)) (λ j. (b.goes_on j, g.1 j)) turns;
         hand = hand_now;
         hand_is = same_hand;
         afterwards = refl;
@@ -298,7 +302,7 @@ draws_at {T} o s id thread seen gifts hand more here reached within idle small r
     let own_all : own thread kept.all ≡ own thread seen = ap (own thread) b.goes_on ∙ own-append thread seen b.rest ∙ ap (λ es. own thread seen ++ es) b.no_own ∙ append-nil (own thread seen) in
     let room_left : ticks (own thread kept.all) < 2 * o.calls = subst (λ (es : List Event). ticks es < 2 * o.calls) (sym own_all) room in
     let k = adds o s.words (slice_set s.words clock ((slice_index s.words clock + 1) % 2 ^ 64)) s.homes s.homes s.views id thread seen gifts hand hand more kept at (e ∷ []) [] (λ u apart. own_other thread u (Some Tick) apart) (ticked o.shape kept.world) made new_words
-    (few_tick o kept.all e room_left kept.few_ticks) tokens in (
+    (few_tick o kept.all e room_left kept.few_ticks) (in_turn_on kept.all kept.gifts thread (Some Tick) [] kept.in_turn) tokens in (
       w,
       subst (λ (x : View T). OneSchedule o (slice_set s.words clock ((slice_index s.words clock + 1) % 2 ^ 64)) s.homes (set s.views id x)) is_w k,
       record {

@@ -1,6 +1,7 @@
 pub mod Hands
 pub mod Turned
 pub mod Ticks
+pub mod Turns
 pub mod Keeps
 pub mod Cuts
 pub mod Draws
@@ -15,6 +16,7 @@ pub mod Threads
 pub mod Records
 pub mod Gathered
 pub mod Leftovers
+pub mod Leavings
 pub mod Rotation
 pub mod Balance
 pub mod CallScans

@@ -6,6 +6,7 @@ use Rattle.atomic_table.specs.Seated.{TableId}
 use Rattle.kfifo_model.specs.declared.calls.Answer.{Answer}
 use Rattle.kfifo_model.specs.declared.calls.Answer.TheVariants as A
 use Rattle.kfifo_machine.specs.declared.event.Begin.{Begin}
+use Rattle.kfifo_machine.specs.declared.event.Event.{Event}
 use Rattle.kfifo_machine.specs.declared.event.Begin.TheVariants as B
 use Rattle.kfifo_machine.specs.declared.place.Next.TheVariants.{Answers}
 use Rattle.kfifo_machine.specs.Runs.{CompleteExecution}
@@ -14,12 +15,12 @@ use Rattle.kfifo_live.specs.declared.payload.Taken.TheVariants as K
 use Rattle.kfifo_live.specs.declared.view.Hand.{Hand}
 use Rattle.kfifo_live.specs.declared.view.Part.{Part}
 use Rattle.kfifo_live.specs.declared.view.View.{View}
-use Rattle.kfifo_live.specs.Hands.{FitsOwn, Gifts, Leaves, BeginsWith, beside, carried, carrying, gift, out_next, slot_of}
-use Rattle.kfifo_live.specs.Schedule.{IsSmall, count_up, part, view_of, thread_in, more_in, hand_in, both_parts, first_part, thread_of, seen_of, gifts_of, hand_of, with_seen}
+use Rattle.kfifo_live.specs.Hands.{FitsOwn, Gifts, InTurn, Leaves, BeginsWith, beside, carried, carrying, gift, out_next, slot_of}
+use Rattle.kfifo_live.specs.Schedule.{AllGiven, IsSmall, count_up, part, view_of, thread_in, more_in, hand_in, both_parts, first_part, thread_of, seen_of, gifts_of, hand_of, with_seen}
 use Rattle.kfifo_live.specs.Step.{IsAt, DrawsToken, Leads, Looks}
 use Rattle.kfifo_live.specs.Pass.{Known, OpenQueue, IsPass, known_of}
 use Rattle.kfifo_live.specs.Calls.{Makes}
-use Rattle.kfifo_live.specs.Payloads.{PayKnown, new_pay_passes, pay_known_of, IsPayPass, MakesCall, EnqueuesWith, DequeuesWith, Refuses, Gives, TakesOut}
+use Rattle.kfifo_live.specs.Payloads.{PayKnown, new_pay_passes, pay_known_of, IsPayPass, MakesCall, GivesOn, EnqueuesWith, DequeuesWith, Refuses, Gives, TakesOut}
 use Rattle.kfifo_live.proofs.Made.{takes_few_steps, has_cause, is_disturbed, leaves_none}
 use Rattle.kfifo_live.proofs.Opens.{no_slot}
 use Rattle.kfifo_live.proofs.Passes.{met}
@@ -66,15 +67,20 @@ module _ {T : Type 0} where
   pub pass_out : {thread room : ℕ} {me : Me (Option T) (View T)} {items : List ℕ} → IsPayPass thread me items room → (hand_of me.0).out ≡ 0
   pass_out {thread} {room} {me} {items} p = none_out me.0.opened.tokens (hand_of me.0).out p.pass.idle.carries.0 p.some_tokens (sym p.pass.held ∙ p.pass.idle.carries.1)
 
+  -- gifts of a view that has seen this schedule
+  in_turn_as : {v w : View T} → v ≡ w → InTurn (seen_of w) (gifts_of w) → InTurn (seen_of v) (gifts_of v)
+  in_turn_as is turns = subst (λ (x : View T). InTurn (seen_of x) (gifts_of x)) (sym is) turns
+
   -- the pass after moves of its own
   again : {thread room room_now : ℕ} {old new : Me (Option T) (View T)} {items now : List ℕ} → IsPayPass thread old items room → IsAlone thread new.0 → new.1 ≡ [] → IsAt None new → new.0.opened ≡ old.0.opened
-      → (hand_of new.0).at_home ≡ reverse now → room_now ≡ room → IsPayPass thread new now room_now
-  again {thread} {room} {room_now} {old} {new} p alone held idle same stacked roomy = record {
+      → (hand_of new.0).at_home ≡ reverse now → room_now ≡ room → InTurn (seen_of new.0) (gifts_of new.0) → IsPayPass thread new now room_now
+  again {thread} {room} {room_now} {old} {new} p alone held idle same stacked roomy turns = record {
     pass = record { alone = alone; held = held; idle = idle; few = subst IsSmall (sym same) p.pass.few };
     stacked = stacked;
     some_tokens = subst (λ o. 0 < o) (sym (ap (λ o. o.tokens) same)) p.some_tokens;
     few_tokens = subst (λ o. o ≤ 1024) (sym (ap (λ o. o.tokens) same)) p.few_tokens;
     has_room = subst (λ (x : ℕ × ℕ). x.0 ≤ x.1) (λ i. (sym (ap (λ o. o.threads * o.tokens) same) i, sym roomy i)) p.has_room;
+    in_turn = turns;
   }
 
   -- after a look with another's parts beside its own, a pass has its tokens
@@ -86,13 +92,27 @@ module _ {T : Type 0} where
         ∙ ap (λ (v : View T). hand_of v) is
         ∙ ap (λ (ps : List (Part T)). hand_in (ps ++ other.parts)) p.pass.alone
 
+    met_view : new.0 ≡ first_part (with_seen both l.all l.gifts (hand_of both))
+    met_view = kept ∙ ap first_part l.afterwards
+
     pub met_opened : new.0.opened ≡ old.0.opened
     met_opened = ap (λ (v : View T). v.opened) (kept ∙ ap first_part l.afterwards) ∙ ap (λ (v : View T). v.opened) is
 
     pub met_pass : IsPayPass thread new items room
     met_pass =
         let pass = met thread word found old new other both seen p.pass slots is l kept in
-        again p pass.alone pass.held pass.idle met_opened (ap (λ (h : Hand T). h.at_home) met_hand ∙ p.stacked) refl
+        again p pass.alone pass.held pass.idle met_opened (ap (λ (h : Hand T). h.at_home) met_hand ∙ p.stacked) refl (in_turn_as met_view l.in_turn)
+
+    pub met_gives_from : (giver : ℕ) (from : Me (Option T) (View T)) → IsAlone giver from.0 → other ≡ from.0 → (table table_now : TableId) → GivesOn (pay_known_of table giver from.0) (pay_known_of table_now thread new.0)
+    met_gives_from giver from alone lent table table_now =
+        let parts = ap (λ (v : View T). v.parts) is ∙ (λ i. p.pass.alone i ++ (ap (λ (v : View T). v.parts) lent ∙ alone) i) in
+        let first = (subst (λ (ps : List (Part T)). AllGiven ps l.gifts) parts l.given).1.0 in
+        record { in_turn = in_turn_as met_view l.in_turn; later = first.0; goes_on = ap gifts_of met_view ∙ first.1 }
+
+    pub met_gives : (table table_now : TableId) → GivesOn (pay_known_of table thread old.0) (pay_known_of table_now thread new.0)
+    met_gives table table_now =
+        let first = (subst (λ (ps : List (Part T)). AllGiven ps l.gifts) (ap (λ (v : View T). v.parts) is ∙ ap (λ ps. ps ++ other.parts) p.pass.alone) l.given).0 in
+        record { in_turn = in_turn_as met_view l.in_turn; later = first.0; goes_on = ap gifts_of met_view ∙ first.1 }
 
   -- a complete execution of a call, with all laws
   pub is_call : (begin : Begin) (answer : Answer) (thread : ℕ) (table table_now : TableId) (old new : Me (Option T) (View T)) → IsAlone thread old.0 → Leads (Some begin) old (Answers answer) new
@@ -184,6 +204,12 @@ module _ {T : Type 0} where
       pub stacked_given : (hand_of fin.0).at_home ≡ reverse others
       stacked_given = home_given
 
+      turns_given : InTurn (seen_of fin.0) (gifts_of fin.0)
+      turns_given = in_turn_as l.now l.in_turn
+
+      turns_now : (now : View T) → seen_of now ≡ seen_of fin.0 → gifts_of now ≡ gifts_of fin.0 → InTurn (seen_of now) (gifts_of now)
+      turns_now now seen gifts = subst (λ (x : List Event × Gifts T). InTurn x.0 x.1) (λ i. (sym seen i, sym gifts i)) turns_given
+
       enqueued : (table table_now : TableId) (now : View T) → (known_of table_now thread now ≡ known_of table_now thread fin.0) → gifts_of now ≡ gifts_of fin.0
           → EnqueuesWith token s t answer payload (pay_known_of table thread old.0) (pay_known_of table_now thread now)
       enqueued table table_now now same gifts_same =
@@ -192,6 +218,7 @@ module _ {T : Type 0} where
           let g = l.gift_is in
           record {
             call = subst (λ (x : Known × Known). MakesCall (B.Enqueue token s t) answer x.0 x.1) (λ i. (started i, sym same i)) call;
+            in_turn = turns_now now (ap (λ (k : Known). k.seen) same) gifts_same;
             earlier = g.0;
             later = g.1;
             gifts = gifts_same ∙ ap gifts_of l.now ∙ (λ i. ap gifts_of r.view i ++ g.2 i) ∙ ap (λ (v : Option T). gifts_of old.0 ++ (g.0 ++ ((token, v) ∷ g.1))) (ap carried r.held);
@@ -201,7 +228,7 @@ module _ {T : Type 0} where
       pub done_pass : answer ≡ A.Done → {room_now : ℕ} → room_now ≡ room → IsPayPass thread fin others room_now
       done_pass done roomy =
           let gone : l.hand.out ≡ 0 = left.out ∙ ap (λ a. out_next token (Answers a)) done in
-          again p alone_given (l.carries ∙ ap (λ n. carrying start.0.opened.tokens n l.hand.payload) gone ∙ no_slot start.0.opened.tokens l.hand.payload) idle_given opened_given home_given roomy
+          again p alone_given (l.carries ∙ ap (λ n. carrying start.0.opened.tokens n l.hand.payload) gone ∙ no_slot start.0.opened.tokens l.hand.payload) idle_given opened_given home_given roomy turns_given
 
       pub done_gives : answer ≡ A.Done → (table table_now : TableId) → Gives s t payload G.Done (pay_known_of table thread old.0) (pay_known_of table_now thread fin.0)
       done_gives done table table_now = (
@@ -237,7 +264,7 @@ module _ {T : Type 0} where
             again p (alone_on thread fin.0 laid.0 alone_given view) held
             (idle_with fin laid (record { at_home = token ∷ (hand_of fin.0).at_home; out = 0; payload = None }) None idle_given view (held ∙ sym (no_slot fin.0.opened.tokens None)))
             (ap (λ (v : View T). v.opened) view ∙ opened_given)
-            (ap (λ (v : View T). (hand_of v).at_home) view ∙ ap (λ xs. token ∷ xs) home_given ∙ sym (ap reverse now_is ∙ reverse-append others (token ∷ []))) roomy
+            (ap (λ (v : View T). (hand_of v).at_home) view ∙ ap (λ xs. token ∷ xs) home_given ∙ sym (ap reverse now_is ∙ reverse-append others (token ∷ []))) roomy (in_turn_as view turns_given)
 
         pub refused : (answer ≡ A.Done → ⊥) → (a : Answer) → answer ≡ a → (back : T) → fin.1 ≡ (token - 1, Some back) ∷ [] → (table table_now : TableId) → Refuses s t a payload back (pay_known_of table thread old.0) (pay_known_of table_now thread laid.0)
         refused not_done a is back back_is table table_now = record {
@@ -276,18 +303,24 @@ module _ {T : Type 0} where
     pub fits_took : (a : Answer) → answer ≡ a → FitsOwn 0 (Answers a)
     fits_took a is = subst (λ (b : Answer). FitsOwn 0 (Answers b)) is took.fits
 
+    turns_took : InTurn (seen_of fin.0) (gifts_of fin.0)
+    turns_took = in_turn_as l.now l.in_turn
+
     dequeued : (table table_now : TableId) (now : View T) → (known_of table_now thread now ≡ known_of table_now thread fin.0) → gifts_of now ≡ gifts_of fin.0
         → DequeuesWith s t answer (pay_known_of table thread old.0) (pay_known_of table_now thread now)
     dequeued table table_now now same gifts_same = record {
       call = subst (λ (x : Known). MakesCall (B.Dequeue s t) answer (known_of table thread old.0) x) (sym same) (is_call (B.Dequeue s t) answer thread table table_now old fin p.pass.alone l);
-      given = l.given;
-      gifts = gifts_same ∙ ap gifts_of l.now;
+      gifts = record {
+        in_turn = subst (λ (x : List Event × Gifts T). InTurn x.0 x.1) (λ i. (sym (ap (λ (k : Known). k.seen) same) i, sym gifts_same i)) turns_took;
+        later = l.given;
+        goes_on = gifts_same ∙ ap gifts_of l.now;
+      };
     }
 
     -- nothing was taken
     pub none_pass : out_next 0 (Answers answer) ≡ 0 → IsPayPass thread fin items room
     none_pass none =
-        again p alone_took (l.carries ∙ ap (λ n. carrying old.0.opened.tokens n l.hand.payload) (took.out ∙ none) ∙ no_slot old.0.opened.tokens l.hand.payload) idle_took opened_took stacked_took refl
+        again p alone_took (l.carries ∙ ap (λ n. carrying old.0.opened.tokens n l.hand.payload) (took.out ∙ none) ∙ no_slot old.0.opened.tokens l.hand.payload) idle_took opened_took stacked_took refl turns_took
 
     pub none_dequeued : (table table_now : TableId) → ((hand_of fin.0).at_home ≡ (hand_of old.0).at_home) × DequeuesWith s t answer (pay_known_of table thread old.0) (pay_known_of table_now thread fin.0)
     none_dequeued table table_now = (home_took, dequeued table table_now fin.0 refl refl)
@@ -312,7 +345,7 @@ module _ {T : Type 0} where
             again p (alone_on thread fin.0 laid.0 alone_took view) held
             (idle_with fin laid (record { at_home = token ∷ (hand_of fin.0).at_home; out = 0; payload = None }) None idle_took view (held ∙ sym (no_slot fin.0.opened.tokens None)))
             (ap (λ (v : View T). v.opened) view ∙ opened_took)
-            (ap (λ (v : View T). (hand_of v).at_home) view ∙ ap (λ xs. token ∷ xs) stacked_took ∙ sym (ap reverse now_is ∙ reverse-append items (token ∷ []))) roomy
+            (ap (λ (v : View T). (hand_of v).at_home) view ∙ ap (λ xs. token ∷ xs) stacked_took ∙ sym (ap reverse now_is ∙ reverse-append items (token ∷ []))) roomy (in_turn_as view turns_took)
 
         pub got_takes : (payload : T) → fin.1 ≡ (token - 1, Some payload) ∷ [] → (table table_now : TableId) → TakesOut s t (K.Got payload) (pay_known_of table thread old.0) (pay_known_of table_now thread laid.0)
         unfolding got got_held

@@ -2,8 +2,6 @@
 use Rattle.std.specs.Prelude.{ℕ}
 use Rattle.kfifo_live.specs.declared.fault.OpenFault.{OpenFault}
 use Rattle.kfifo_live.specs.declared.fault.OpenFault.TheVariants as O
-use Rattle.kfifo_live.specs.declared.fault.PayOpenFault.{PayOpenFault}
-use Rattle.kfifo_live.specs.declared.fault.PayOpenFault.TheVariants as P
 use Rattle.kfifo_live.specs.declared.fault.CloseFault.{CloseFault}
 use Rattle.kfifo_live.specs.declared.fault.CloseFault.TheVariants as C
 use Rattle.kfifo_live.specs.declared.fault.GatherFault.{GatherFault}
@@ -12,12 +10,8 @@ use Rattle.kfifo_live.specs.declared.fault.GatherFault.TheVariants as G
 abbrev pub open_fault_number : OpenFault → ℕ
 open_fault_number O.ThreadsOutOfRange = 1
 open_fault_number O.Memory = 2
+open_fault_number O.TokensOutOfRange = 3
 open_fault_number O.CallsOutOfRange = 4
-
-abbrev pub pay_open_fault_number : PayOpenFault → ℕ
-pay_open_fault_number P.ThreadsOutOfRange = 1
-pay_open_fault_number P.Memory = 2
-pay_open_fault_number P.TokensOutOfRange = 3
 
 abbrev pub close_fault_number : CloseFault → ℕ
 close_fault_number C.Memory = 1

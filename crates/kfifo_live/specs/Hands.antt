@@ -1,6 +1,6 @@
 -- Tokens of a payload queue: where each of them is, what its slot holds, and what a step of a thread does to it. A token is an
 -- item, and x names the slot x - 1.
-use Rattle.std.specs.Prelude.{◌≡◌, ◌≢◌, ℕ, zero, suc, ◌-◌, ◌<◌, ◌≤◌, ◌==◌, if◌then◌else◌, List, [], ◌∷◌, length, Option, Some, None}
+use Rattle.std.specs.Prelude.{◌≡◌, ◌≢◌, ℕ, zero, suc, ◌-◌, ◌<◌, ◌≤◌, ◌==◌, if◌then◌else◌, List, [], ◌∷◌, ◌++◌, length, map, Option, Some, None}
 use mathlib.Core.Option.{Option as Maybe, some}
 use lib.ListN.{get_elem?}
 use Rattle.atomic_table.specs.Table.{Act, keeps, takes, gives}
@@ -8,6 +8,7 @@ use Rattle.kfifo_words.specs.Words.{value_of, version_of}
 use Rattle.kfifo_model.specs.declared.calls.Answer.TheVariants.{Done, Full, Got, Empty}
 use Rattle.kfifo_machine.specs.declared.event.Begin.{Begin}
 use Rattle.kfifo_machine.specs.declared.event.Begin.TheVariants as B
+use Rattle.kfifo_machine.specs.declared.event.Event.{Event}
 use Rattle.kfifo_machine.specs.declared.place.EnqueuePhase.{EnqueuePhase}
 use Rattle.kfifo_machine.specs.declared.place.EnqueuePhase.TheVariants as E
 use Rattle.kfifo_machine.specs.declared.place.DequeuePhase.TheVariants as D
@@ -20,6 +21,19 @@ use Rattle.kfifo_live.specs.declared.view.Hand.{Hand}
 -- for each enqueue that begins in a schedule, in turn, its item beside what it carries
 abbrev pub Gifts : Type 0 → Type 0
 Gifts T = List (ℕ × Option T)
+
+-- the items of the enqueues that begin in a schedule, in turn
+abbrev pub item_begun : Option Begin → List ℕ
+item_begun (Some (B.Enqueue item start turns)) = item ∷ []
+item_begun begin = []
+
+abbrev pub items_begun : List Event → List ℕ
+items_begun [] = []
+items_begun (e ∷ es) = item_begun e.begin ++ items_begun es
+
+-- the gifts are of the enqueues that begin in this schedule, in turn
+abbrev pub InTurn : {T : Type 0} → List Event → Gifts T → Type 0
+InTurn all gifts = map (λ g. g.0) gifts ≡ items_begun all
 
 -- the slots of a table: what each of them holds, where it is at home
 abbrev pub Homes : Type 0 → Type 0

@@ -18,11 +18,11 @@ use Rattle.kfifo_live.specs.declared.payload.Given.{Given}
 use Rattle.kfifo_live.specs.declared.payload.Given.TheVariants as G
 use Rattle.kfifo_live.specs.declared.payload.Taken.{Taken}
 use Rattle.kfifo_live.specs.declared.payload.Taken.TheVariants as K
-use Rattle.kfifo_live.specs.Hands.{Gifts, beside}
+use Rattle.kfifo_live.specs.Hands.{Gifts, InTurn, beside}
 use Rattle.kfifo_live.specs.Balance.{times, puts, undos, takes}
 use Rattle.kfifo_live.specs.Left.{items_left}
 use Rattle.kfifo_live.specs.Promise.{KeepsPromise}
-use Rattle.kfifo_live.specs.Schedule.{count_up, gifts_of, hand_of, world_after}
+use Rattle.kfifo_live.specs.Schedule.{count_up, seen_of, gifts_of, hand_of, world_after}
 use Rattle.kfifo_live.specs.Pass.{Known, OpenQueue, IsPass, known_of}
 use Rattle.kfifo_live.specs.Calls.{Makes, TakesFewSteps, HasCause, IsDisturbed, LeavesNoItem}
 
@@ -47,6 +47,7 @@ pub record IsPayPass {T : Type 0} (thread : ℕ) (me : Me (Option T) (View T)) (
   pub some_tokens : 0 < me.0.opened.tokens
   pub few_tokens : me.0.opened.tokens ≤ 1024
   pub has_room : me.0.opened.threads * me.0.opened.tokens ≤ room
+  pub in_turn : InTurn (seen_of me.0) (gifts_of me.0)
 
 -- the passes of threads first, first + 1, .., which have seen the empty schedule: thread t has the tokens t * tokens + 1 to
 -- (t + 1) * tokens
@@ -64,9 +65,16 @@ pub record MakesCall (begin : Begin) (answer : Answer) (old new : Known) : Type 
   pub leaves_none : IsRefusal answer → LeavesNoItem old new
 
 module _ {T : Type 0} where
+  -- the gifts of a longer schedule, of whose enqueues they are in turn
+  pub record GivesOn (old new : PayKnown T) : Type 0 where
+    pub in_turn : InTurn new.pass.seen new.gifts
+    pub later : Gifts T
+    pub goes_on : new.gifts ≡ old.gifts ++ later
+
   -- an enqueue of a token with this payload beside it
   pub record EnqueuesWith (token start turns : ℕ) (answer : Answer) (payload : T) (old new : PayKnown T) : Type 0 where
     pub call : MakesCall (B.Enqueue token start turns) answer old.pass new.pass
+    pub in_turn : InTurn new.pass.seen new.gifts
     pub earlier : Gifts T
     pub later : Gifts T
     pub gifts : new.gifts ≡ old.gifts ++ (earlier ++ ((token, Some payload) ∷ later))
@@ -74,8 +82,7 @@ module _ {T : Type 0} where
   -- a dequeue
   pub record DequeuesWith (start turns : ℕ) (answer : Answer) (old new : PayKnown T) : Type 0 where
     pub call : MakesCall (B.Dequeue start turns) answer old.pass new.pass
-    pub given : Gifts T
-    pub gifts : new.gifts ≡ old.gifts ++ given
+    pub gifts : GivesOn old new
 
   -- a refused enqueue: the payload comes back, and the pass keeps its token
   pub record Refuses (start turns : ℕ) (answer : Answer) (payload back : T) (old new : PayKnown T) : Type 0 where
@@ -122,6 +129,7 @@ module _ {T : Type 0} where
     pub reached : world_after q.opened all ≡ Some world
     pub begin : Begins p.pass.thread p.pass.seen all
     pub alone : q.opened.threads ≡ 1 → all ≡ p.pass.seen
+    pub in_turn : InTurn all gifts
     pub given : (later : Gifts T) × (gifts ≡ p.gifts ++ later)
     pub tokens_are : tokens ≡ items_left q.opened.shape world.words
     pub payloads_are : map Some payloads ≡ map (λ token. beside token gifts) tokens

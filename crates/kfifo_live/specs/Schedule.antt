@@ -15,7 +15,7 @@ use Rattle.kfifo_live.specs.declared.view.Opening.{Opening}
 use Rattle.kfifo_live.specs.declared.view.Hand.{Hand}
 use Rattle.kfifo_live.specs.declared.view.Part.{Part}
 use Rattle.kfifo_live.specs.declared.view.View.{View}
-use Rattle.kfifo_live.specs.Hands.{Gifts, Homes, Where, HandFits, SlotsFit}
+use Rattle.kfifo_live.specs.Hands.{Gifts, Homes, InTurn, Where, HandFits, SlotsFit}
 
 -- the opening of a stamped queue, and that of a plain one, in which no call is stamped
 abbrev pub stamped_opening : Shape → ℕ → ℕ → Opening
@@ -97,7 +97,8 @@ module _ {T : Type 0} where
     pub owns : Owns owner seat 0 v.parts
 
   -- One schedule: the words of the table are those after it, what each seat has seen of its threads is a beginning of it with
-  -- all their events, and the clock has ticked so seldom that it is not spent. Where there are tokens, each is in one place
+  -- all their events, and the clock has ticked so seldom that it is not spent. The gifts are of its enqueues, in turn. Where there are
+  -- tokens, each is in one place
   pub record OneSchedule (o : Opening) (words : List ℕ) (homes : Homes T) (views : List (View T)) : Type 0 where
     pub all : List Event
     pub gifts : Gifts T
@@ -105,6 +106,7 @@ module _ {T : Type 0} where
     pub owner : ℕ → ℕ × ℕ
     pub runs : world_after o all ≡ Some world
     pub words_are : words ≡ world.words
+    pub in_turn : InTurn all gifts
     pub few_ticks : FewTicks o all
     pub fit : (seat : ℕ) (v : View T) → get_elem? views seat ≡ some v → Fits o all gifts owner seat v
     pub at : ℕ → Where

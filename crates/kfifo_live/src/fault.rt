@@ -1,6 +1,6 @@
 //! Why a queue was not opened, or not closed.
 ghost use Rattle.std.specs.Prelude.{◌≡◌};
-ghost use Rattle.kfifo_live.specs.Faults.{open_fault_number, pay_open_fault_number, close_fault_number, gather_fault_number};
+ghost use Rattle.kfifo_live.specs.Faults.{open_fault_number, close_fault_number, gather_fault_number};
 
 use std::alloc::AllocError;
 use thiserror::Error;
@@ -14,19 +14,23 @@ pub enum OpenFault {
     /// 2: an allocation failed.
     #[error("out of memory")]
     Memory,
+    /// 3: the number of tokens of a pass is not 1 to 1,024. Queues of payloads alone refuse it.
+    #[error("the number of tokens of a pass is not 1 to 1,024")]
+    TokensOutOfRange,
     /// 4: the number of stamped calls of a pass is not 1 to 1,024. Stamped queues alone refuse it.
     #[error("the number of calls of a pass is not 1 to 1,024")]
     CallsOutOfRange,
 }
 
 impl OpenFault {
-    /// The fault's number: 1, 2 or 4.
+    /// The fault's number, 1 to 4.
     pub fn number(self) -> u32
         ensures { result ≡ open_fault_number self }
     {
         match self {
             OpenFault::ThreadsOutOfRange => 1,
             OpenFault::Memory => 2,
+            OpenFault::TokensOutOfRange => 3,
             OpenFault::CallsOutOfRange => 4,
         }
     }
@@ -39,43 +43,6 @@ impl From<AllocError> for OpenFault {
 
     fn from(_: AllocError) -> OpenFault {
         OpenFault::Memory
-    }
-}
-
-/// Why a queue of payloads was not opened. Nothing is kept after a refusal.
-#[derive(Clone, Copy, PartialEq, Eq, Debug, Error)]
-pub enum PayOpenFault {
-    /// 1: the number of threads is not 1 to 64.
-    #[error("the number of threads is not 1 to 64")]
-    ThreadsOutOfRange,
-    /// 2: an allocation failed.
-    #[error("out of memory")]
-    Memory,
-    /// 3: the number of tokens of a pass is not 1 to 1,024.
-    #[error("the number of tokens of a pass is not 1 to 1,024")]
-    TokensOutOfRange,
-}
-
-impl PayOpenFault {
-    /// The fault's number, 1 to 3.
-    pub fn number(self) -> u32
-        ensures { result ≡ pay_open_fault_number self }
-    {
-        match self {
-            PayOpenFault::ThreadsOutOfRange => 1,
-            PayOpenFault::Memory => 2,
-            PayOpenFault::TokensOutOfRange => 3,
-        }
-    }
-}
-
-impl From<AllocError> for PayOpenFault {
-    ghost use Rattle.kfifo_live.specs.declared.fault.PayOpenFault.TheVariants.{Memory};
-
-    ghost from_gives = { λ _ fault. fault ≡ Memory };
-
-    fn from(_: AllocError) -> PayOpenFault {
-        PayOpenFault::Memory
     }
 }
 

@@ -24,7 +24,7 @@ mod tests;
 mod view;
 
 pub use closing::close;
-pub use fault::{CloseFault, GatherFault, OpenFault, PayOpenFault};
+pub use fault::{CloseFault, GatherFault, OpenFault};
 pub use meeting::meet;
 pub use payload::{Given, PayPass, PayQueue, Taken};
 pub use payload_opening::MAX_TOKENS;

@@ -41,7 +41,8 @@ impl<T: Drop> Model for PayQueue<T> {
 /// What a thread gives and takes payloads with, and the tokens that it has. It may go to another thread between two
 /// calls.
 ///
-/// Clauses see it as the schedule that it has seen, its tokens, and the payload of each enqueue of that schedule.
+/// Clauses see it as the schedule that it has seen, its tokens, and for each enqueue of that schedule, in turn, its token and
+/// its payload.
 #[derive(Drop)]
 pub struct PayPass<T: Drop> {
     pub(crate) thread: u32,
@@ -178,7 +179,8 @@ impl<T: Drop> PayPass<T> {
     ///
     /// Scans begin at slot `start`, below k. Answers, as `Pass::dequeue`, Got with the payload, Empty where the queue was
     /// empty, Busy where each of `turns` rounds, at least 1, was lost, or Worn where a version would pass the greatest
-    /// one. The payload is the last one given with its token. It never allocates, waits or locks.
+    /// one. The payload is the one beside the last enqueue of its token in what the pass has then seen. While the token is in
+    /// the queue nobody enqueues it, so that enqueue put it. It never allocates, waits or locks.
     ///
     /// What the pass has then seen keeps the promise of the queue, as with `Pass::dequeue`.
     pub fn take(&mut self, queue: &PayQueue<T>, start: u32, turns: u16) -> Taken<T>

@@ -2,6 +2,7 @@
 ghost use Rattle.std.specs.Prelude.{◌≡◌};
 ghost use Rattle.kfifo_machine.specs.Runs.{Begins};
 ghost use Rattle.kfifo_live.specs.Pass.{IsOf, IsSame};
+ghost use Rattle.kfifo_live.specs.Payloads.{GivesOn};
 ghost use Rattle.kfifo_live.specs.Promise.{KeepsPromise};
 
 use crate::payload::{PayPass, PayQueue};
@@ -18,6 +19,7 @@ impl<T: Drop> PayQueue<T> {
         ensures same { IsSame second.old.pass second.new.pass × (second.new.tokens ≡ second.old.tokens) }
         ensures all_of_first { Begins first.old.pass.thread first.old.pass.seen second.new.pass.seen }
         ensures others { Begins second.old.pass.thread second.old.pass.seen second.new.pass.seen }
+        ensures gifts { GivesOn first.old second.new × GivesOn second.old second.new }
         ensures promise { KeepsPromise first.new.pass.opened first.new.pass.seen × KeepsPromise second.new.pass.opened second.new.pass.seen }
     {
         let shared = &self.table.shared;

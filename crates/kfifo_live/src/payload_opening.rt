@@ -3,9 +3,9 @@ ghost use Rattle.std.specs.Prelude.{◌≡◌, ◌<◌, ◌≤◌, ◌+◌, ◌*
 ghost use Rattle.kfifo_live.specs.Schedule.{IsSmall, count_up, fresh, view_of};
 ghost use Rattle.kfifo_live.specs.Pass.{IsZeroed, queue_of};
 ghost use Rattle.kfifo_live.specs.Payloads.{new_pay_passes, pay_opening};
-ghost use Rattle.kfifo_live.specs.declared.fault.PayOpenFault.TheVariants.{ThreadsOutOfRange, TokensOutOfRange};
+ghost use Rattle.kfifo_live.specs.declared.fault.OpenFault.TheVariants.{CallsOutOfRange, ThreadsOutOfRange, TokensOutOfRange};
 
-use crate::fault::PayOpenFault;
+use crate::fault::OpenFault;
 use crate::payload::{PayPass, PayQueue};
 use crate::seats::give_rest;
 use crate::view::{Opening, ThreadSeat, Words};
@@ -71,17 +71,18 @@ impl<T: Drop> PayQueue<T> {
         shape: Shape,
         threads: u32,
         tokens: u32,
-    ) -> Result<(PayQueue<T>, Vec<PayPass<T>>), PayOpenFault>
+    ) -> Result<(PayQueue<T>, Vec<PayPass<T>>), OpenFault>
         ensures ok { IfOk result (λ r. (r.0.opened ≡ pay_opening shape threads tokens) × (r.1.items ≡ new_pay_passes r.0 0 threads)) }
         ensures threads { IsErrOf result ThreadsOutOfRange ↔ ((threads ≡ 0) ⊎ (64 < threads)) }
         ensures tokens { IsErrOf result TokensOutOfRange ↔ ((1 ≤ threads) × (threads ≤ 64) × ((tokens ≡ 0) ⊎ (1024 < tokens))) }
+        ensures calls { ¬ IsErrOf result CallsOutOfRange }
         ensures zeroed { IfOk result (λ r. IsZeroed r.0.opened) }
     {
         if threads == 0 || threads > MAX_THREADS {
-            return Err(PayOpenFault::ThreadsOutOfRange);
+            return Err(OpenFault::ThreadsOutOfRange);
         }
         if tokens == 0 || tokens > MAX_TOKENS {
-            return Err(PayOpenFault::TokensOutOfRange);
+            return Err(OpenFault::TokensOutOfRange);
         }
         let words = vec![in alloc; 0; 2 + shape.n() as usize * shape.k() as usize]?;
         let about = Opening {

@@ -5,7 +5,7 @@ ghost use Rattle.kfifo_model.specs.Lists.{Each};
 ghost use Rattle.kfifo_live.specs.Schedule.{stamped_opening};
 ghost use Rattle.kfifo_live.specs.Pass.{AllOf, IsComplete, IsZeroed, new_passes};
 ghost use Rattle.kfifo_live.specs.Stamps.{Gathers, IsLog, all_logs, new_logs, passes_of};
-ghost use Rattle.kfifo_live.specs.declared.fault.OpenFault.TheVariants.{CallsOutOfRange, ThreadsOutOfRange};
+ghost use Rattle.kfifo_live.specs.declared.fault.OpenFault.TheVariants.{CallsOutOfRange, ThreadsOutOfRange, TokensOutOfRange};
 ghost use Rattle.kfifo_live.specs.declared.fault.GatherFault.TheVariants.{MissingPass};
 
 use crate::closing::close;
@@ -49,6 +49,7 @@ impl StampQueue {
         ensures ok { IfOk result (λ r. (r.0.opened ≡ stamped_opening shape threads calls) × (r.1.items ≡ new_logs (new_passes r.0 0 threads))) }
         ensures threads { IsErrOf result ThreadsOutOfRange ↔ ((threads ≡ 0) ⊎ (64 < threads)) }
         ensures calls { IsErrOf result CallsOutOfRange ↔ ((0 < threads) × (threads ≤ 64) × ((calls ≡ 0) ⊎ (1024 < calls))) }
+        ensures tokens { ¬ IsErrOf result TokensOutOfRange }
         ensures zeroed { IfOk result (λ r. IsZeroed r.0.opened) }
     {
         if threads == 0 || threads > MAX_THREADS {

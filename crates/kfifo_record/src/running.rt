@@ -1,6 +1,6 @@
 //! Running scripts, each on a thread of its own, and gathering the record of the run.
 ghost use Rattle.std.specs.Prelude.{◌≡◌, ◌<◌, ◌≤◌, ◌⊎◌, ◌↔◌, ◌^◌, ◌-◌, [], min, All, IfOk, IsErrOf, length};
-ghost use Rattle.kfifo_live.specs.declared.fault.OpenFault.TheVariants.{CallsOutOfRange, ThreadsOutOfRange};
+ghost use Rattle.kfifo_live.specs.declared.fault.OpenFault.TheVariants.{CallsOutOfRange, ThreadsOutOfRange, TokensOutOfRange};
 ghost use Rattle.kfifo_live.specs.Pass.{IsOf};
 ghost use Rattle.kfifo_record.specs.Scripts.{AreScripts, EachMakes, IsCall, IsOpenFor, IsRecord, MakesInTurn, MakesOne, MayRun, longest, script_of, scripts_in};
 
@@ -33,6 +33,7 @@ pub fn record_scripts<R: Threads + Sync, G: Gate + Sync>(
     ensures few { IfOk result (λ history. length history ≤ 65536) }
     ensures threads { IsErrOf result ThreadsOutOfRange ↔ ((length scripts.now ≡ 0) ⊎ (64 < length scripts.now)) }
     ensures calls { IsErrOf result CallsOutOfRange ↔ ((0 < length scripts.now) × (length scripts.now ≤ 64) × (1024 < longest (scripts_in scripts.now))) }
+    ensures tokens { ¬ IsErrOf result TokensOutOfRange }
 {
     let (queue, passes) = open(alloc, shape, scripts)?;
     let passes = run_each(threads, shape, &queue, passes, scripts, gate)?;
@@ -71,6 +72,7 @@ fn open(
     ensures may_run { IfOk result (λ r. All (MayRun r.0 (scripts_in scripts.now)) r.1.items) }
     ensures threads { IsErrOf result ThreadsOutOfRange ↔ ((length scripts.now ≡ 0) ⊎ (64 < length scripts.now)) }
     ensures calls { IsErrOf result CallsOutOfRange ↔ ((0 < length scripts.now) × (length scripts.now ≤ 64) × (1024 < longest (scripts_in scripts.now))) }
+    ensures tokens { ¬ IsErrOf result TokensOutOfRange }
 {
     let threads = capped(scripts.len());
     let calls = capped(count_longest(scripts).max(1));

@@ -1,7 +1,8 @@
 use Rattle.std.proofs.Common.{◌≡◌, ℕ, ◌<◌, ◌≤◌, ◌+◌, ◌*◌, ◌++◌, [], ◌∷◌, ap, refl, subst, sym, ◌∙◌, arith}
 use Rattle.kfifo_live.specs.declared.view.Opening.{Opening}
 use Rattle.kfifo_live.specs.declared.view.View.{View}
-use Rattle.kfifo_live.specs.Schedule.{hand_of, count_up, first_part, other_parts}
+use Rattle.kfifo_live.specs.Hands.{InTurn}
+use Rattle.kfifo_live.specs.Schedule.{seen_of, gifts_of, hand_of, count_up, first_part, other_parts}
 use Rattle.kfifo_live.specs.Pass.{queue_of}
 use Rattle.kfifo_live.specs.Payloads.{pay_known_of}
 use Rattle.kfifo_live.proofs.Opens.{new_pass, cut_first}
@@ -34,6 +35,7 @@ invariant_of-push g c =
       some_tokens = subst (λ n. 0 < n) (sym tokens) c.requires.few.1;
       few_tokens = subst (λ n. n ≤ 1024) (sym tokens) c.requires.few.2;
       has_room = omega (arith, all, room);
+      in_turn = subst (λ (v : View g.row.T.Denot). InTurn (seen_of v) (gifts_of v)) (sym cut.0) refl;
     }
 
 pub loop-thread-preserved : goal.loop-thread-preserved

@@ -41,7 +41,8 @@ returns-in_err-history-clause-err g c =
     let fault = c.in_err-history.field-0.0 in
     let queue : IsQueueFault (scripts_in made) fault = queue_fault (scripts_in made) fault
     (λ is. subst (λ (n : ℕ). (n ≡ 0) ⊎ (64 < n)) long (c.in_err-history.ensures.threads.0 (ap Err is)))
-    (λ is. subst (λ (n : ℕ). (0 < n) × (n ≤ 64) × (1024 < longest (scripts_in made))) long (c.in_err-history.ensures.calls.0 (ap Err is))) in
+    (λ is. subst (λ (n : ℕ). (0 < n) × (n ≤ 64) × (1024 < longest (scripts_in made))) long (c.in_err-history.ensures.calls.0 (ap Err is)))
+    (λ is. c.in_err-history.ensures.tokens (ap Err is)) in
     let refusal : IsRealRunRefusal c.args.options (Open fault) =
     queue_refused c.args.options c.in_ok-shape.shape c.in_ok-shape.ensures.ok c.k.result c.k.ensures own c.in_ok-once.ensures.scripts fault
     (subst (λ (s : List (List Begin)). IsQueueFault s fault) same queue) in

@@ -1,10 +1,10 @@
 use Rattle.std.proofs.Common.{◌≡◌, Option, vec_capacity, ◌∙◌, sym, ap, subst}
-use Rattle.kfifo_live.specs.Payloads.{PayKnown, IsPayPass, pay_known_of}
+use Rattle.kfifo_live.specs.Payloads.{GivesOn, PayKnown, IsPayPass, pay_known_of}
 use Rattle.kfifo_live.specs.Pass.{IsPass}
 use Rattle.kfifo_live.specs.Schedule.{both_parts}
 use Rattle.kfifo_live.specs.declared.view.View.{View}
 use Rattle.kfifo_live.proofs.Passes.{returned, promised}
-use Rattle.kfifo_live.proofs.Pays.{met_pass}
+use Rattle.kfifo_live.proofs.Pays.{met_pass, met_gives, met_gives_from}
 use Rattle.kfifo_live.proofs.payload.PayQueue.meet.Goals as goal
 
 pub invariant_of-second : goal.invariant_of-second
@@ -27,3 +27,15 @@ returns-clause-first g c =
 
 pub returns-clause-promise : goal.returns-clause-promise
 returns-clause-promise g c = (promised _ c.gather-2.new.seat.me (invariant_of-first g c).pass, promised _ c.give_rest-rest.new.seat.me (invariant_of-second g c).pass)
+
+pub returns-clause-gifts : goal.returns-clause-gifts
+returns-clause-gifts g c =
+    let slots = c.give_rest-rest.ensures.same.1 ∙ c.observe.ensures.same.1 ∙ c.gather.ensures.same.1 in
+    let both = c.gather.ensures.both in
+    let looks = c.observe.ensures.looks in
+    let kept = c.give_rest-rest.ensures.kept in
+    let now = pay_known_of c.give_rest-rest.new.seat.table_id c.second.inside.thread c.give_rest-rest.new.seat.me.0 in
+    let P : PayKnown g.row.T.Denot → Type 0 = λ old. GivesOn old now in (
+      subst P c.first.view_is (met_gives_from c.give_all-whole.result.me.0 c.second.invariant slots both looks kept c.first.inside.thread c.first.inside.seat.me c.first.invariant.pass.alone c.give_all-whole.ensures.given.1 _ _),
+      subst P c.second.view_is (met_gives c.give_all-whole.result.me.0 c.second.invariant slots both looks kept _ _),
+    )
