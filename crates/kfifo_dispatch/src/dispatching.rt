@@ -13,7 +13,7 @@ use crate::repeats::has_repeated_id;
 use crate::starts::Starts;
 use crate::task::{Finished, Task};
 use crate::worker::{Back, Worker};
-use kfifo_live::{Given, PayOpenFault, PayPass, PayQueue};
+use kfifo_live::{Given, OpenFault, PayPass, PayQueue};
 use kfifo_words::Shape;
 use std::alloc::{AllocError, Global};
 use std::marker::Brand;
@@ -104,8 +104,10 @@ fn open<L: Tasks>(
 {
     match PayQueue::open(alloc, shape, workers + 1, tasks.max(1)) {
         Ok(opened) => Ok(opened),
-        Err(PayOpenFault::Memory) => Err(AllocError),
-        Err(PayOpenFault::ThreadsOutOfRange | PayOpenFault::TokensOutOfRange) => unreachable!(),
+        Err(OpenFault::Memory) => Err(AllocError),
+        Err(
+            OpenFault::ThreadsOutOfRange | OpenFault::TokensOutOfRange | OpenFault::CallsOutOfRange,
+        ) => unreachable!(),
     }
 }
 
