@@ -21,11 +21,11 @@ use Rattle.kfifo_live.specs.declared.view.Opening.{Opening}
 use Rattle.kfifo_live.specs.declared.view.Part.{Part}
 use Rattle.kfifo_live.specs.declared.view.View.{View}
 use Rattle.kfifo_live.specs.Balance.{times, undos, takes}
-use Rattle.kfifo_live.specs.Hands.{Gifts, Where, In, beside}
+use Rattle.kfifo_live.specs.Hands.{Gifts, In, beside}
 use Rattle.kfifo_live.specs.Left.{item_in, slots_left, segments_left, items_left}
-use Rattle.kfifo_live.specs.Pass.{OpenQueue, IsPass}
-use Rattle.kfifo_live.specs.Payloads.{HavePayloads, IsPayPass, PayCloses, PayKnown, in_slot, pay_known_of}
-use Rattle.kfifo_live.specs.Schedule.{AllGiven, OneSchedule, seen_of, gifts_of, thread_of, world_after}
+use Rattle.kfifo_live.specs.Pass.{OpenQueue}
+use Rattle.kfifo_live.specs.Payloads.{HavePayloads, IsPayPass, PayCloses, in_slot, pay_known_of}
+use Rattle.kfifo_live.specs.Schedule.{AllGiven, OneSchedule, seen_of, world_after}
 use Rattle.kfifo_live.proofs.Balance.{balance}
 use Rattle.kfifo_live.proofs.Gathered.{final_head, pass_begins}
 use Rattle.kfifo_live.proofs.Hands.{within_list}

@@ -1,6 +1,6 @@
 -- What a call with a payload leaves of its pass, and what it did.
-use Rattle.std.proofs.Common.{◌≡◌, ◌≢◌, ℕ, zero, suc, ◌+◌, ◌-◌, ◌*◌, ◌^◌, ◌<◌, ◌≤◌, List, [], ◌∷◌, ◌++◌, length, reverse, Option, Some, None, refl, sym, ap, ◌∙◌, subst, arith, append_assoc, mul-le-mul_right}
-use Rattle.std.proofs.lemmas.List.{append-nil, reverse-append}
+use Rattle.std.proofs.Common.{◌≡◌, ℕ, zero, suc, ◌+◌, ◌-◌, ◌*◌, ◌^◌, ◌<◌, ◌≤◌, List, [], ◌∷◌, ◌++◌, reverse, Option, Some, None, refl, sym, ap, ◌∙◌, subst, arith, mul-le-mul_right}
+use Rattle.std.proofs.lemmas.List.{reverse-append}
 use Rattle.atomic_table.specs.Table.{Me, rest}
 use Rattle.atomic_table.specs.Seated.{TableId}
 use Rattle.kfifo_model.specs.declared.calls.Answer.{Answer}
@@ -15,12 +15,12 @@ use Rattle.kfifo_live.specs.declared.payload.Taken.TheVariants as K
 use Rattle.kfifo_live.specs.declared.view.Hand.{Hand}
 use Rattle.kfifo_live.specs.declared.view.Part.{Part}
 use Rattle.kfifo_live.specs.declared.view.View.{View}
-use Rattle.kfifo_live.specs.Hands.{FitsOwn, Gifts, InTurn, Leaves, BeginsWith, beside, carried, carrying, gift, out_next, slot_of}
-use Rattle.kfifo_live.specs.Schedule.{AllGiven, IsSmall, count_up, part, view_of, thread_in, more_in, hand_in, both_parts, first_part, thread_of, seen_of, gifts_of, hand_of, with_seen}
+use Rattle.kfifo_live.specs.Hands.{FitsOwn, Gifts, InTurn, Leaves, BeginsWith, beside, carried, carrying, out_next}
+use Rattle.kfifo_live.specs.Schedule.{AllGiven, IsSmall, count_up, part, thread_in, more_in, hand_in, both_parts, first_part, seen_of, gifts_of, hand_of, with_seen}
 use Rattle.kfifo_live.specs.Step.{IsAt, DrawsToken, Leads, Looks}
-use Rattle.kfifo_live.specs.Pass.{Known, OpenQueue, IsPass, known_of}
+use Rattle.kfifo_live.specs.Pass.{Known, OpenQueue, known_of}
 use Rattle.kfifo_live.specs.Calls.{Makes}
-use Rattle.kfifo_live.specs.Payloads.{PayKnown, new_pay_passes, pay_known_of, IsPayPass, MakesCall, GivesOn, EnqueuesWith, DequeuesWith, Refuses, Gives, TakesOut}
+use Rattle.kfifo_live.specs.Payloads.{new_pay_passes, pay_known_of, IsPayPass, MakesCall, GivesOn, EnqueuesWith, DequeuesWith, Refuses, Gives, TakesOut}
 use Rattle.kfifo_live.proofs.Made.{takes_few_steps, has_cause, is_disturbed, leaves_none}
 use Rattle.kfifo_live.proofs.Opens.{no_slot}
 use Rattle.kfifo_live.proofs.Passes.{met}

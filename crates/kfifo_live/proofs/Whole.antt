@@ -25,7 +25,7 @@ use Rattle.kfifo_machine.specs.declared.place.Running.TheVariants as R
 use Rattle.kfifo_machine.specs.declared.place.EnqueuePhase.TheVariants as E
 use Rattle.kfifo_machine.specs.declared.place.DequeuePhase.TheVariants as D
 use Rattle.kfifo_machine.specs.Machine.{begun as begun_place, may_begin}
-use Rattle.kfifo_live.specs.Hands.{FitsOwn, Gifts, InTurn, Leaves, gift, move, begun_hand, hand_after, own_item, out_next, beside, Carries}
+use Rattle.kfifo_live.specs.Hands.{FitsOwn, Gifts, InTurn, Leaves, gift, move, begun_hand, own_item, out_next, beside, Carries}
 use Rattle.kfifo_live.specs.declared.view.Hand.{Hand}
 use Rattle.kfifo_live.specs.Schedule.{world_after, thread_of, seen_of, gifts_of, hand_of, with_seen}
 use Rattle.kfifo_live.specs.declared.ring.Ring.{Ring}

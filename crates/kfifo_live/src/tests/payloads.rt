@@ -7,17 +7,25 @@ use crate::{CloseFault, Given, MAX_TOKENS, OpenFault, PayPass, PayQueue, Taken};
 use kfifo_words::Shape;
 use std::alloc::{AllocError, Global};
 use std::process::Abort;
+use std::sync::Arc;
 use std::sync::atomic::{AtomicU64, Ordering};
 use std::test::Fail;
 use std::thread::{Threads, map_vec};
 
 /// A payload that counts its drops.
-struct Counted<'a> {
+struct Counted {
     number: u64,
-    drops: &'a AtomicU64,
+    drops: Arc<AtomicU64>,
 }
 
-impl Drop for Counted<'_> {
+impl Counted {
+    fn new(number: u64, drops: &Arc<AtomicU64>) -> Result<Counted, AllocError> {
+        let drops = Arc::try_clone(drops)?;
+        Ok(Counted { number, drops })
+    }
+}
+
+impl Drop for Counted {
     fn drop(self) {
         let Counted { number: _, drops } = self;
         drops.fetch_add(1, Ordering::SeqCst);
@@ -112,7 +120,7 @@ fn gives_a_token_back_and_forth(rt: HostRuntime) -> Result<(), Fail> {
 }
 
 /// The number of the payload that a refusal hands back, which is then dropped.
-fn refused(given: Given<Counted<'_>>) -> Option<(&'static str, u64)> {
+fn refused(given: Given<Counted>) -> Option<(&'static str, u64)> {
     match given {
         Given::Done => None,
         Given::Full(payload) => Some(("Full", payload.number)),
@@ -123,7 +131,7 @@ fn refused(given: Given<Counted<'_>>) -> Option<(&'static str, u64)> {
 }
 
 /// The number of the payload that was taken, which is then dropped, or why there is none.
-fn taken(taken: Taken<Counted<'_>>) -> Result<u64, &'static str> {
+fn taken(taken: Taken<Counted>) -> Result<u64, &'static str> {
     match taken {
         Taken::Got(payload) => Ok(payload.number),
         Taken::Empty => Err("Empty"),
@@ -134,24 +142,26 @@ fn taken(taken: Taken<Counted<'_>>) -> Result<u64, &'static str> {
 
 #[test]
 fn drops_each_payload_once(rt: HostRuntime) -> Result<(), Fail> {
-    let drops = AtomicU64::new(0);
-    let payload = |number: u64| Counted {
-        number,
-        drops: &drops,
-    };
+    let drops = Arc::new(rt.alloc(), AtomicU64::new(0))?;
     let (queue, mut passes) = PayQueue::open(rt.alloc(), Shape::new(1, 2, LAST)?, 1, 3)?;
     let Some(mut pass) = passes.pop() else {
         unreachable!()
     };
     assert_eq!(rt; taken(pass.take(&queue, 0, 1)), Err("Empty"));
-    assert_eq!(rt; refused(pass.give(&queue, payload(7), 0, 1)), None);
     assert_eq!(rt;
-        refused(pass.give(&queue, payload(8), 0, 1)),
+        refused(pass.give(&queue, Counted::new(7, &drops)?, 0, 1)),
+        None
+    );
+    assert_eq!(rt;
+        refused(pass.give(&queue, Counted::new(8, &drops)?, 0, 1)),
         Some(("Busy", 8))
     );
-    assert_eq!(rt; refused(pass.give(&queue, payload(8), 0, 2)), None);
     assert_eq!(rt;
-        refused(pass.give(&queue, payload(9), 0, 1)),
+        refused(pass.give(&queue, Counted::new(8, &drops)?, 0, 2)),
+        None
+    );
+    assert_eq!(rt;
+        refused(pass.give(&queue, Counted::new(9, &drops)?, 0, 1)),
         Some(("Full", 9))
     );
     assert_eq!(rt; taken(pass.take(&queue, 0, 1)), Ok(7));
@@ -163,12 +173,18 @@ fn drops_each_payload_once(rt: HostRuntime) -> Result<(), Fail> {
     let Some(mut pass) = passes.pop() else {
         unreachable!()
     };
-    assert_eq!(rt; refused(pass.give(&queue, payload(1), 0, 1)), None);
+    assert_eq!(rt;
+        refused(pass.give(&queue, Counted::new(1, &drops)?, 0, 1)),
+        None
+    );
     assert_eq!(rt; taken(pass.take(&queue, 0, 1)), Ok(1));
-    assert_eq!(rt; refused(pass.give(&queue, payload(2), 0, 1)), None);
+    assert_eq!(rt;
+        refused(pass.give(&queue, Counted::new(2, &drops)?, 0, 1)),
+        None
+    );
     assert_eq!(rt; taken(pass.take(&queue, 0, 2)), Err("Worn"));
     assert_eq!(rt;
-        refused(pass.give(&queue, payload(3), 0, 1)),
+        refused(pass.give(&queue, Counted::new(3, &drops)?, 0, 1)),
         Some(("Worn", 3))
     );
     assert_eq!(rt; drops.load(Ordering::SeqCst), 6);
@@ -181,12 +197,12 @@ fn drops_each_payload_once(rt: HostRuntime) -> Result<(), Fail> {
 }
 
 /// A queue of counted payloads, with passes of its own.
-fn open_counted<'a>(
+fn open_counted(
     alloc: Global,
     shape: Shape,
     threads: u32,
     tokens: u32,
-) -> Result<(PayQueue<Counted<'a>>, Vec<PayPass<Counted<'a>>>), OpenFault>
+) -> Result<(PayQueue<Counted>, Vec<PayPass<Counted>>), OpenFault>
     ensures { IfOk result (λ r. All (λ p. IsOf r.0 p.pass) r.1.items) }
 {
     let (queue, passes) = PayQueue::open(alloc, shape, threads, tokens)?;
@@ -194,7 +210,7 @@ fn open_counted<'a>(
 }
 
 /// Puts one payload into a queue and closes it. Answers the number that came back, or 0 where memory was refused.
-fn close_one(alloc: Global, drops: &AtomicU64) -> u64 {
+fn close_one(alloc: Global, drops: &Arc<AtomicU64>) -> u64 {
     let Ok(shape) = Shape::new(1, 2, LAST) else {
         return 0;
     };
@@ -204,7 +220,9 @@ fn close_one(alloc: Global, drops: &AtomicU64) -> u64 {
     let Some(mut pass) = passes.pop() else {
         return 0;
     };
-    let payload = Counted { number: 7, drops };
+    let Ok(payload) = Counted::new(7, drops) else {
+        return 0;
+    };
     if refused(pass.give(&queue, payload, 0, 1)).is_some() {
         return 0;
     }
@@ -217,7 +235,9 @@ fn close_one(alloc: Global, drops: &AtomicU64) -> u64 {
 /// Holds whichever one request for memory fails, and fails where a call always answers Memory.
 #[test]
 fn refused_memory_of_payloads(rt: HostRuntime) -> Result<(), Fail> {
-    let drops = AtomicU64::new(0);
+    let Ok(drops) = Arc::new(rt.alloc(), AtomicU64::new(0)) else {
+        return Ok(());
+    };
     let first = close_one(rt.alloc(), &drops);
     let first_drops = drops.swap(0, Ordering::SeqCst);
     let second = close_one(rt.alloc(), &drops);
@@ -231,17 +251,17 @@ fn refused_memory_of_payloads(rt: HostRuntime) -> Result<(), Fail> {
 
 /// A pass that comes back from a thread, with the numbers of the payloads that came to it.
 #[derive(Drop)]
-struct Trader<'a> {
-    pass: PayPass<Counted<'a>>,
+struct Trader {
+    pass: PayPass<Counted>,
     numbers: Result<Vec<u64>, AllocError>,
 }
 
 /// Gives and takes by turns. Notes the number of each payload that was taken, or handed back.
-fn trade<'a>(
+fn trade(
     alloc: Global,
-    queue: &PayQueue<Counted<'a>>,
-    pass: &mut PayPass<Counted<'a>>,
-    drops: &'a AtomicU64,
+    queue: &PayQueue<Counted>,
+    pass: &mut PayPass<Counted>,
+    drops: &Arc<AtomicU64>,
     calls: u32,
 ) -> Result<Vec<u64>, AllocError>
     requires { IsOf queue.now pass.old.pass }
@@ -254,7 +274,7 @@ fn trade<'a>(
     for call in 0..calls {
         let turns = if draw(&mut seed, 4) == 0 { 1 } else { 100 };
         let number = (u64::from(thread) << 32) | u64::from(call);
-        let payload = Counted { number, drops };
+        let payload = Counted::new(number, drops)?;
         if let Some((_, back)) = refused(pass.give(queue, payload, draw(&mut seed, k), turns)) {
             numbers.push(back)?;
         }
@@ -266,13 +286,13 @@ fn trade<'a>(
 }
 
 /// Gives and takes in a thread of its own.
-fn trade_one<'a>(
+fn trade_one(
     alloc: Global,
-    queue: &PayQueue<Counted<'a>>,
-    mut pass: PayPass<Counted<'a>>,
-    drops: &'a AtomicU64,
+    queue: &PayQueue<Counted>,
+    mut pass: PayPass<Counted>,
+    drops: &Arc<AtomicU64>,
     calls: u32,
-) -> Trader<'a>
+) -> Trader
     requires { IsOf queue.now pass.pass }
     ensures { IsOf queue.now result.pass.pass }
 {
@@ -287,7 +307,7 @@ fn trade_all<R: Threads + Sync>(
     shape: Shape,
     threads: u32,
     calls: u32,
-    drops: &AtomicU64,
+    drops: &Arc<AtomicU64>,
 ) -> Result<Vec<u64>, Fail> {
     let (queue, passes) = open_counted(alloc, shape, threads, 3)?;
     let mut traders = map_vec(
@@ -315,7 +335,7 @@ fn trade_all<R: Threads + Sync>(
 #[test]
 fn hands_each_payload_to_one_thread(rt: HostRuntime) -> Result<(), Fail> {
     for (k, n, threads) in [(1u32, 2u32, 2u32), (2, 2, 4), (4, 3, 8)] {
-        let drops = AtomicU64::new(0);
+        let drops = Arc::new(rt.alloc(), AtomicU64::new(0))?;
         let shape = Shape::new(k, n, LAST)?;
         let numbers = trade_all(&rt, rt.alloc(), shape, threads, 2_000, &drops)?;
         assert_eq!(rt; numbers.len(), threads as usize * 2_000);

@@ -1,6 +1,5 @@
 -- Each slot's value is taken in its turn.
-use Rattle.std.proofs.Common.{◌++◌, [], ◌∷◌, ◌∙◌, ap, sym, subst, arith, rules}
-use mathlib.Core.Option.{some}
+use Rattle.std.proofs.Common.{◌++◌, [], ◌∷◌, ◌∙◌, ap, sym, arith, rules}
 use lib.ListN.{get_elem?}
 use Rattle.core.specs.Mem.Slots.{slots_items}
 use Rattle.kfifo_live.proofs.Gathered.{take_next}

@@ -1,4 +1,4 @@
-use Rattle.std.proofs.Common.{◌≡◌, ℕ, suc, ◌+◌, ◌-◌, ◌*◌, ◌<◌, ◌≤◌, List, [], ◌∷◌, ◌++◌, length, reverse, refl, sym, ap, ◌∙◌, subst, arith, rules, suc-mul, mul-le-mul_right}
+use Rattle.std.proofs.Common.{◌≡◌, ℕ, suc, ◌+◌, ◌-◌, ◌*◌, ◌<◌, ◌≤◌, [], ◌∷◌, length, reverse, ap, ◌∙◌, arith, rules, suc-mul, mul-le-mul_right}
 use Rattle.std.proofs.lemmas.List.{reverse-append, length-append}
 use Rattle.kfifo_live.specs.Schedule.{count_up}
 use Rattle.kfifo_live.proofs.payload_opening.own_tokens.Goals as goal

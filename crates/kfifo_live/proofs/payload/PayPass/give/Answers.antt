@@ -1,5 +1,5 @@
 -- The payload goes into the slot of the next token, and an enqueue puts the token; a refusal takes both back.
-use Rattle.std.proofs.Common.{◌≡◌, ℕ, zero, suc, ◌<◌, ◌≤◌, ◌*◌, ap, sym, subst, refl, ◌∙◌, arith, reverse, []}
+use Rattle.std.proofs.Common.{◌≡◌, ℕ, ◌<◌, ◌*◌, ap, sym, subst, refl, ◌∙◌, arith}
 use Rattle.kfifo_model.specs.declared.calls.Answer.{Answer}
 use Rattle.kfifo_model.specs.declared.calls.Answer.TheVariants as A
 use Rattle.kfifo_machine.specs.declared.place.Next.TheVariants.{Answers}
@@ -8,10 +8,10 @@ use Rattle.kfifo_live.specs.declared.payload.Given.TheVariants as G
 use Rattle.kfifo_live.specs.declared.view.View.{View}
 use Rattle.kfifo_live.specs.declared.view.Opening.{Opening}
 use Rattle.kfifo_live.specs.Hands.{FitsOwn}
-use Rattle.kfifo_live.specs.Pass.{Known, OpenQueue}
-use Rattle.kfifo_live.specs.Payloads.{PayKnown, Gives, IsPayPass, pay_known_of, pay_opening}
+use Rattle.kfifo_live.specs.Pass.{OpenQueue}
+use Rattle.kfifo_live.specs.Payloads.{PayKnown, Gives, pay_known_of, pay_opening}
 use Rattle.kfifo_live.proofs.Passes.{promised}
-use Rattle.kfifo_live.proofs.Pays.{ready, idle_ready, begins_ready, opened_ready, opened_given, idle_given, some_given, stacked_given, done_pass, done_gives, not_taken, refused_out_is, refused_held, refused_pass, refused, few_items}
+use Rattle.kfifo_live.proofs.Pays.{ready, idle_ready, begins_ready, opened_ready, opened_given, idle_given, some_given, stacked_given, done_pass, done_gives, not_taken, refused_out_is, refused_held, refused_pass, refused}
 use Rattle.kfifo_live.proofs.payload.PayPass.give.Goals as goal
 use Rattle.kfifo_live.proofs.payload.PayPass.give.Goals.{in-Full, in-Busy, in-Worn}
 

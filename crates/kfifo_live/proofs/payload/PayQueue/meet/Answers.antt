@@ -1,6 +1,5 @@
-use Rattle.std.proofs.Common.{◌≡◌, Option, vec_capacity, ◌∙◌, sym, ap, subst}
+use Rattle.std.proofs.Common.{vec_capacity, ◌∙◌, sym, ap, subst}
 use Rattle.kfifo_live.specs.Payloads.{GivesOn, PayKnown, IsPayPass, pay_known_of}
-use Rattle.kfifo_live.specs.Pass.{IsPass}
 use Rattle.kfifo_live.specs.Schedule.{both_parts}
 use Rattle.kfifo_live.specs.declared.view.View.{View}
 use Rattle.kfifo_live.proofs.Passes.{returned, promised}

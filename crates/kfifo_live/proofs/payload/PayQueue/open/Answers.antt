@@ -1,5 +1,5 @@
 -- The table opens by the rule, with an empty slot for each token.
-use Rattle.std.proofs.Common.{◌≡◌, replicate, ◌+◌, ◌*◌, ◌∙◌, refl, rules}
+use Rattle.std.proofs.Common.{◌≡◌, replicate, ◌+◌, ◌*◌, ◌∙◌, rules}
 use Rattle.kfifo_live.specs.Payloads.{pay_opening}
 use Rattle.kfifo_live.proofs.Cuts.{opens}
 use Rattle.kfifo_live.proofs.Opens.{zeroed}
