@@ -13,7 +13,7 @@ use Rattle.clap.specs.declared.builder.command.Command.TheViews.{out-Command as 
 use Rattle.clap.specs.declared.builder.range.ValueRange.{ValueRange}
 use Rattle.clap.specs.declared.builder.texts.Texts.TheVariants.{One}
 use Rattle.clap.specs.declared.builder.value_parser.ValueParser.{ValueParser}
-use Rattle.kfifo.specs.CommandLine.{IsCommand, bare_program, default_option, number_option, option, places_option, script, small_numbers, text_option}
+use Rattle.kfifo.specs.CommandLine.{IsCommand, any_words, bare_program, default_option, number_option, option, places_option, script, small_numbers, text_option}
 
 -- a parse reads this of the option, and it is not global
 abbrev pub IsArg : Rule → Arg → Type 0
@@ -52,15 +52,22 @@ some_is : {X : Type 0} (o : Option X) (v : X) → IsSomeAnd o (λ x. x ≡ v) �
 some_is None v h = absurd h
 some_is (Some x) v h = ap (λ y. Some y) h
 
+-- words, of which there may be none
+pub words_rule : (n v a m : Arg) (word : Bor (List ℕ)) → IsArg (new_rule (codes "words")) n → v ≡ record n { val_names = One word } → a ≡ record v { action = Some Append }
+    → m ≡ record a { num_vals = m.num_vals } → IsSomeAnd m.num_vals (λ range. range ≡ record { start_inclusive = 1; end_inclusive = usize_max }) → IsArg any_words m
+words_rule n v a m word ne ve ae me range = (
+  ap rule_of me ∙ ap₂ (λ (x : Rule) (y : Option ValueRange). record x { range = y })
+      (ap rule_of ae ∙ ap (λ (x : Rule). record x { action = Some Append }) (ap rule_of ve ∙ ap (λ (x : Rule). record x { value_names = 1 }) ne.0)) (some_is m.num_vals _ range),
+  ap (λ (x : Arg). x.global) me ∙ (ap (λ (x : Arg). x.global) ae ∙ (ap (λ (x : Arg). x.global) ve ∙ ne.1)),
+)
+
 -- the words of a script
 pub script_rule : (n v a m r : Arg) (word : Bor (List ℕ)) → IsArg (new_rule (codes "words")) n → v ≡ record n { val_names = One word } → a ≡ record v { action = Some Append }
     → m ≡ record a { num_vals = m.num_vals } → IsSomeAnd m.num_vals (λ range. range ≡ record { start_inclusive = 1; end_inclusive = usize_max }) → r ≡ record m { required = true }
     → IsArg script r
-script_rule n v a m r word ne ve ae me range re = (
-  ap rule_of re ∙ ap (λ (x : Rule). record x { required = true }) (ap rule_of me ∙ ap₂ (λ (x : Rule) (y : Option ValueRange). record x { range = y })
-      (ap rule_of ae ∙ ap (λ (x : Rule). record x { action = Some Append }) (ap rule_of ve ∙ ap (λ (x : Rule). record x { value_names = 1 }) ne.0)) (some_is m.num_vals _ range)),
-  ap (λ (x : Arg). x.global) re ∙ (ap (λ (x : Arg). x.global) me ∙ (ap (λ (x : Arg). x.global) ae ∙ (ap (λ (x : Arg). x.global) ve ∙ ne.1))),
-)
+script_rule n v a m r word ne ve ae me range re =
+    let any = words_rule n v a m word ne ve ae me range in
+    (ap rule_of re ∙ ap (λ (x : Rule). record x { required = true }) any.0, ap (λ (x : Arg). x.global) re ∙ any.1)
 
 or_false : (b : Bool) → (b || false) ≡ b
 or_false true = refl

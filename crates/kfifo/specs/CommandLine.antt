@@ -63,14 +63,17 @@ with_places app = with_rule app (places_option 1 64)
 abbrev pub with_tries : App → App
 with_tries app = with_rule app (default_option (codes "tries") (small_numbers 0 4294967295) (codes "1000000"))
 
--- the words of a script, at least one
-abbrev pub script : Rule
-script = record (new_rule (codes "words")) {
+-- words, of which there may be none
+abbrev pub any_words : Rule
+any_words = record (new_rule (codes "words")) {
   value_names = 1;
   action = Some Append;
   range = Some (record { start_inclusive = 1; end_inclusive = usize_max });
-  required = true;
 }
+
+-- the words of a script, at least one
+abbrev pub script : Rule
+script = record any_words { required = true }
 
 -- the command `run`
 abbrev pub run_command : App
@@ -115,6 +118,13 @@ import_command = new_app (codes "import")
 abbrev pub draw_command : App
 draw_command = with_rule (with_rule (with_places (new_app (codes "draw"))) (text_option (codes "order"))) (flag (codes "text"))
 
+-- the command `dispatch`
+abbrev pub dispatch_command : App
+dispatch_command = with_rule (with_rule (with_rule (with_sizes (new_app (codes "dispatch")))
+    (default_option (codes "workers") (small_numbers 0 4294967295) (codes "2")))
+    (default_option (codes "seed") (small_numbers 0 4294967295) (codes "0")))
+    any_words
+
 -- the program before its commands: its words begin with the first argument, and one has to be a command, or ask for the version
 abbrev pub bare_program : App
 bare_program = record {
@@ -129,8 +139,8 @@ bare_program = record {
 
 -- the program with its commands
 abbrev pub kfifo : App
-kfifo = with_subcommand (with_subcommand (with_subcommand (with_subcommand (with_subcommand (with_subcommand (with_subcommand (with_subcommand (with_subcommand bare_program
-    run_command.top) check_command.top) measure_command.top) replay_command.top) judge_command.top) least_command.top) record_command.top) import_command.top) draw_command.top
+kfifo = with_subcommand (with_subcommand (with_subcommand (with_subcommand (with_subcommand (with_subcommand (with_subcommand (with_subcommand (with_subcommand (with_subcommand bare_program
+    run_command.top) check_command.top) measure_command.top) replay_command.top) judge_command.top) least_command.top) record_command.top) import_command.top) draw_command.top) dispatch_command.top
 
 -- the command that was named is this one, and its options have these entries
 abbrev pub Names : Option (Text × List Row) → Text → Found → Type 0
@@ -141,6 +151,7 @@ abbrev pub NamesNone : Option (Text × List Row) → Type 0
 NamesNone command = (found : Found) → ¬ (Names command (codes "run") found) × ¬ (Names command (codes "check") found) × ¬ (Names command (codes "measure") found)
     × ¬ (Names command (codes "replay") found) × ¬ (Names command (codes "judge") found) × ¬ (Names command (codes "least") found)
     × ¬ (Names command (codes "record") found) × ¬ (Names command (codes "import") found) × ¬ (Names command (codes "draw") found)
+    × ¬ (Names command (codes "dispatch") found)
 
 -- a parse reads this of the command, and no argument of it is global
 abbrev pub IsCommand : App → Command → Type 0

@@ -4,6 +4,7 @@ use Rattle.std.specs.Str.Parse.{digits_value}
 use Rattle.clap.specs.declared.parser.matches.Found.{Found}
 use Rattle.clap.specs.Words.{first_value, matched_of, one_text, raw_values}
 use Rattle.kfifo_commands.specs.declared.options.CheckOptions.{CheckOptions}
+use Rattle.kfifo_commands.specs.declared.options.DispatchOptions.{DispatchOptions}
 use Rattle.kfifo_commands.specs.declared.options.DrawOptions.{DrawOptions}
 use Rattle.kfifo_commands.specs.declared.options.JudgeOptions.{JudgeOptions}
 use Rattle.kfifo_commands.specs.declared.options.RecordOptions.{RecordOptions}
@@ -92,3 +93,10 @@ pub record GivesCheck (found : Found) (options : CheckOptions) : Type 0 where
 pub record GivesDraw (found : Found) (options : DrawOptions) : Type 0 where
   pub check : GivesCheck found options.check
   pub text : GivesFlag (one_text found (codes "text")) options.text
+
+-- the options of `dispatch`
+pub record GivesDispatch (found : Found) (options : DispatchOptions) : Type 0 where
+  pub sizes : GivesSizes found options.sizes
+  pub workers : GivesOr 32 (one_text found (codes "workers")) 2 options.workers
+  pub seed : GivesOr 32 (one_text found (codes "seed")) 0 options.seed
+  pub words : map (λ word. word.now) options.words.now ≡ given_words found

@@ -1,6 +1,7 @@
 //! The commands, one module for each: how it is written on the command line, and what its options give.
 
 pub mod check;
+pub mod dispatch;
 pub mod draw;
 pub mod import;
 pub mod judge;

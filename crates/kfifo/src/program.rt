@@ -8,7 +8,7 @@ ghost use Rattle.kfifo_commands.specs.Endings.{Ends, Tells};
 ghost use Rattle.kfifo_commands.specs.Printing.{OnPrinter, OnWriter};
 ghost use Rattle.kfifo_commands.specs.Statuses.{status_number};
 
-use crate::commands::{check, draw, import, judge, least, measure, record, replay, run};
+use crate::commands::{check, dispatch, draw, import, judge, least, measure, record, replay, run};
 use clap::error::ErrorKind;
 use clap::{ArgMatches, Command, Error};
 use kfifo_commands::{
@@ -39,6 +39,8 @@ Examples:
                       runs two threads step by step in this order
   kfifo record e1,e2,d e3,d,d | kfifo check
                       runs two real threads, and says whether the record has a legal order
+  kfifo dispatch --workers 4 1:1000:0 2:2000:0
+                      works off two tasks by four real threads
   kfifo run --help    says how a script is written, and what its options and faults are
 
 Exit status: 0 for an answer; 1 for a fault of the data, a size, the memory, reading or writing; 2 for
@@ -182,6 +184,9 @@ fn request_of<'a>(matches: &'a ArgMatches<'_>) -> Option<Request<'a>>
     if let Some(options) = matches.subcommand_matches(draw::NAME) {
         return Some(Request::Draw(draw::options_of(options)));
     }
+    if let Some(options) = matches.subcommand_matches(dispatch::NAME) {
+        return Some(Request::Dispatch(dispatch::options_of(options)));
+    }
     None
 }
 
@@ -215,7 +220,8 @@ fn command<'a>(alloc: Global) -> Result<Command<'a>, AllocError>
         .subcommand(least::command(alloc)?)?
         .subcommand(record::command(alloc)?)?
         .subcommand(import::command(alloc)?)?
-        .subcommand(draw::command(alloc)?)
+        .subcommand(draw::command(alloc)?)?
+        .subcommand(dispatch::command(alloc)?)
 }
 
 #[cfg(test)]

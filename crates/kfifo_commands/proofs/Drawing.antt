@@ -1,7 +1,7 @@
 -- Why the command `draw` has no answer.
 use Rattle.std.proofs.Common.{◌≡◌, ℕ, List, Option, Some, subst, sym, ◌⊎◌, inl, inr, option_map}
 use Rattle.kfifo_commands.specs.declared.fault.Fault.{Fault}
-use Rattle.kfifo_commands.specs.declared.fault.Fault.TheVariants.{Shape, Word, Order, Picks, Replay, Open, Input, NotJson, Record, Search, RepeatedItem, Import, TooManyDrawn, Memory, Output}
+use Rattle.kfifo_commands.specs.declared.fault.Fault.TheVariants.{Shape, Word, Order, Picks, Replay, Open, Dispatch, Input, NotJson, Record, Search, RepeatedItem, Import, TooManyDrawn, Memory, Output}
 use Rattle.kfifo_commands.specs.declared.options.DrawOptions.{DrawOptions}
 use Rattle.kfifo_commands.specs.Orders.{GivesNoOrder}
 use Rattle.kfifo_commands.specs.Pictures.{IsDrawRefusal, IsUndrawn}
@@ -15,6 +15,7 @@ module _ (input : Option (List ℕ)) (before after : ℕ) (options : DrawOptions
   undrawn_refused Picks u = u
   undrawn_refused (Replay fault) u = u
   undrawn_refused (Open fault) u = u
+  undrawn_refused (Dispatch fault) u = u
   undrawn_refused Input u = u
   undrawn_refused NotJson u = u
   undrawn_refused (Record fault) u = u

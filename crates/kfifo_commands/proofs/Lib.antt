@@ -1,4 +1,5 @@
 pub mod Calls
+pub mod Dispatching
 pub mod Each
 pub mod Feeding
 pub mod FirstCut
@@ -12,5 +13,6 @@ pub mod Replaying
 pub mod Reports
 pub mod Scripts
 pub mod RealRunning
+pub mod TaskWords
 pub mod Writings
 pub mod Drawing

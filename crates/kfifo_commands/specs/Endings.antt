@@ -3,7 +3,8 @@ use Rattle.std.specs.Prelude.{◌≡◌, ◌≢◌, ◌⊎◌, ◌≤◌, ℕ, L
 use Rattle.kfifo_commands.specs.declared.fault.Fault.{Fault}
 use Rattle.kfifo_commands.specs.declared.fault.Fault.TheVariants.{Input}
 use Rattle.kfifo_commands.specs.declared.options.Request.{Request}
-use Rattle.kfifo_commands.specs.declared.options.Request.TheVariants.{Run, Check, Measure, Replay, Judge, Least, Record, Import, Draw}
+use Rattle.kfifo_commands.specs.declared.options.Request.TheVariants.{Run, Check, Measure, Replay, Judge, Least, Record, Import, Draw, Dispatch}
+use Rattle.kfifo_commands.specs.Dispatches.{IsDispatch, IsDispatchRefusal}
 use Rattle.kfifo_commands.specs.Faults.{fault_line}
 use Rattle.kfifo_commands.specs.Imports.{IsImport, IsImportRefusal}
 use Rattle.kfifo_commands.specs.Pictures.{IsDraw, IsDrawRefusal}
@@ -24,6 +25,7 @@ Answers (Least options) input text status = IsLeast input text status
 Answers (Record options) input text status = IsRealRun options text × (status ≡ 0)
 Answers Import input text status = IsImport input text × (status ≡ 0)
 Answers (Draw options) input text status = IsDraw options input × (status ≡ 0)
+Answers (Dispatch options) input text status = IsDispatch options text × (status ≡ 0)
 
 -- the same, and no read failed
 abbrev pub IsAnswered : Request → Option (List ℕ) → ℕ → ℕ → List ℕ → ℕ → Type 0
@@ -40,6 +42,7 @@ IsCause (Least options) input before after fault = IsVerdictRefusal input before
 IsCause (Record options) input before after fault = IsRealRunRefusal options fault
 IsCause Import input before after fault = IsImportRefusal input before after fault
 IsCause (Draw options) input before after fault = IsDrawRefusal options input before after fault
+IsCause (Dispatch options) input before after fault = IsDispatchRefusal options fault
 
 -- the same, and no read failed but where that is the fault
 abbrev pub IsRefused : Request → Option (List ℕ) → ℕ → ℕ → Fault → Type 0

@@ -12,6 +12,7 @@ use Rattle.kfifo_draw.specs.declared.picture.DrawFault.TheVariants as pictures
 use Rattle.kfifo_import.specs.declared.log.ImportFault.{ImportFault}
 use Rattle.kfifo_import.specs.declared.log.ImportFault.TheVariants as logs
 use Rattle.kfifo_live.specs.Faults.{open_fault_number}
+use Rattle.kfifo_dispatch.specs.Faults.{dispatch_fault_number}
 use Rattle.kfifo_replay.specs.declared.fault.ReplayFault.{ReplayFault}
 use Rattle.kfifo_replay.specs.declared.fault.ReplayFault.TheVariants as replays
 use Rattle.kfifo_replay.specs.Faults.{replay_fault_number}
@@ -94,6 +95,7 @@ fault_text faults.Order = codes "order fault"
 fault_text faults.Picks = codes "picks fault"
 fault_text (faults.Replay fault) = codes "replay fault " ++ replay_fault_text fault
 fault_text (faults.Open fault) = codes "open fault " ++ decimal (open_fault_number fault)
+fault_text (faults.Dispatch fault) = codes "dispatch fault " ++ decimal (dispatch_fault_number fault)
 fault_text faults.Input = codes "input"
 fault_text faults.NotJson = codes "not json"
 fault_text (faults.Record fault) = codes "record fault " ++ record_fault_text fault

@@ -5,7 +5,7 @@ use Rattle.kfifo_import.specs.declared.log.ImportFault.{ImportFault}
 use Rattle.kfifo_import.specs.Tables.{IsImported, IsUnimported}
 use Rattle.kfifo_judge.specs.Inputs.{IsRecordText}
 use Rattle.kfifo_commands.specs.declared.fault.Fault.{Fault}
-use Rattle.kfifo_commands.specs.declared.fault.Fault.TheVariants.{Shape, Word, Order, Picks, Replay, Open, Input, NotJson, Record, Search, RepeatedItem, Import, TooManyDrawn, Memory, Output}
+use Rattle.kfifo_commands.specs.declared.fault.Fault.TheVariants.{Shape, Word, Order, Picks, Replay, Open, Dispatch, Input, NotJson, Record, Search, RepeatedItem, Import, TooManyDrawn, Memory, Output}
 use Rattle.kfifo_commands.specs.Lines.{line}
 use Rattle.kfifo_commands.specs.RecordTexts.{record_text}
 use Rattle.kfifo_commands.specs.Records.{IsInput, IsUnread}
@@ -31,6 +31,7 @@ IsImportRefusal input before after Order = ⊥
 IsImportRefusal input before after Picks = ⊥
 IsImportRefusal input before after (Replay fault) = ⊥
 IsImportRefusal input before after (Open fault) = ⊥
+IsImportRefusal input before after (Dispatch fault) = ⊥
 IsImportRefusal input before after Input = IsUnread input before after
 IsImportRefusal input before after NotJson = ⊥
 IsImportRefusal input before after (Record fault) = ⊥

@@ -1,3 +1,4 @@
+pub mod Dispatches
 pub mod Endings
 pub mod Faults
 pub mod Imports
@@ -15,4 +16,5 @@ pub mod Replays
 pub mod Runs
 pub mod Scripts
 pub mod Statuses
+pub mod Tasks
 pub mod Words

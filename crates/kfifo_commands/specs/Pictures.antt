@@ -6,7 +6,7 @@ use Rattle.kfifo_judge.specs.declared.record.StreamFault.TheVariants as streams
 use Rattle.kfifo_judge.specs.Inputs.{IsRecordText}
 use Rattle.kfifo_judge.specs.TextFaults.{IsTextFault}
 use Rattle.kfifo_commands.specs.declared.fault.Fault.{Fault}
-use Rattle.kfifo_commands.specs.declared.fault.Fault.TheVariants.{Shape, Word, Order, Picks, Replay, Open, Input, NotJson, Record, Search, RepeatedItem, Import, TooManyDrawn, Memory, Output}
+use Rattle.kfifo_commands.specs.declared.fault.Fault.TheVariants.{Shape, Word, Order, Picks, Replay, Open, Dispatch, Input, NotJson, Record, Search, RepeatedItem, Import, TooManyDrawn, Memory, Output}
 use Rattle.kfifo_commands.specs.declared.options.DrawOptions.{DrawOptions}
 use Rattle.kfifo_commands.specs.Records.{IsInput, IsOfInput, IsOrder, IsOrderFault, IsUnread}
 
@@ -40,6 +40,7 @@ IsUndrawn input before after Order = ⊥
 IsUndrawn input before after Picks = ⊥
 IsUndrawn input before after (Replay fault) = ⊥
 IsUndrawn input before after (Open fault) = ⊥
+IsUndrawn input before after (Dispatch fault) = ⊥
 IsUndrawn input before after Input = IsUnread input before after
 IsUndrawn input before after NotJson = IsOfInput input IsTextFault streams.NotJson
 IsUndrawn input before after (Record fault) = IsOfInput input IsTextFault (streams.Record fault)

@@ -70,6 +70,7 @@ IsRealRunRefusal options faults.Order = ⊥
 IsRealRunRefusal options faults.Picks = ⊥
 IsRealRunRefusal options (faults.Replay fault) = ⊥
 IsRealRunRefusal options (faults.Open fault) = IsQueueRefused options fault
+IsRealRunRefusal options (faults.Dispatch fault) = ⊥
 IsRealRunRefusal options faults.Input = ⊥
 IsRealRunRefusal options faults.NotJson = ⊥
 IsRealRunRefusal options (faults.Record fault) = ⊥

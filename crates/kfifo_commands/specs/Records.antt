@@ -6,7 +6,7 @@ use Rattle.kfifo_judge.specs.Check.{IsChecked, IsCheckFault}
 use Rattle.kfifo_judge.specs.Measure.{IsMeasured, IsMeasuringFault}
 use Rattle.kfifo_judge.specs.Streams.{CountsOne}
 use Rattle.kfifo_commands.specs.declared.fault.Fault.{Fault}
-use Rattle.kfifo_commands.specs.declared.fault.Fault.TheVariants.{Shape, Word, Order, Picks, Replay, Open, Input, NotJson, Record, Search, RepeatedItem, Import, TooManyDrawn, Memory, Output}
+use Rattle.kfifo_commands.specs.declared.fault.Fault.TheVariants.{Shape, Word, Order, Picks, Replay, Open, Dispatch, Input, NotJson, Record, Search, RepeatedItem, Import, TooManyDrawn, Memory, Output}
 use Rattle.kfifo_commands.specs.declared.options.CheckOptions.{CheckOptions}
 use Rattle.kfifo_commands.specs.Faults.{stream_fault}
 use Rattle.kfifo_commands.specs.Orders.{GivesNoOrder, GivesOrder}
@@ -71,6 +71,7 @@ IsCheckRefusal options input before after Order = IsOrderFault options
 IsCheckRefusal options input before after Picks = ⊥
 IsCheckRefusal options input before after (Replay fault) = ⊥
 IsCheckRefusal options input before after (Open fault) = ⊥
+IsCheckRefusal options input before after (Dispatch fault) = ⊥
 IsCheckRefusal options input before after Input = IsUnread input before after
 IsCheckRefusal options input before after NotJson = IsUnchecked options input streams.NotJson
 IsCheckRefusal options input before after (Record fault) = IsUnchecked options input (streams.Record fault)
@@ -95,6 +96,7 @@ IsMeasureRefusal input before after Order = ⊥
 IsMeasureRefusal input before after Picks = ⊥
 IsMeasureRefusal input before after (Replay fault) = ⊥
 IsMeasureRefusal input before after (Open fault) = ⊥
+IsMeasureRefusal input before after (Dispatch fault) = ⊥
 IsMeasureRefusal input before after Input = IsUnread input before after
 IsMeasureRefusal input before after NotJson = IsOfInput input IsMeasuringFault streams.NotJson
 IsMeasureRefusal input before after (Record fault) = IsOfInput input IsMeasuringFault (streams.Record fault)

@@ -126,6 +126,7 @@ IsReplayRefusal options faults.Order = ⊥
 IsReplayRefusal options faults.Picks = IsPicksFault options
 IsReplayRefusal options (faults.Replay fault) = IsReplayFault options fault
 IsReplayRefusal options (faults.Open fault) = ⊥
+IsReplayRefusal options (faults.Dispatch fault) = ⊥
 IsReplayRefusal options faults.Input = ⊥
 IsReplayRefusal options faults.NotJson = ⊥
 IsReplayRefusal options (faults.Record fault) = ⊥

@@ -5,7 +5,7 @@ use Rattle.kfifo_words.specs.declared.fault.ShapeFault.{ShapeFault}
 use Rattle.kfifo_words.specs.Sizes.{fault_of}
 use Rattle.kfifo_machine.specs.declared.event.Begin.{Begin}
 use Rattle.kfifo_commands.specs.declared.fault.Fault.{Fault}
-use Rattle.kfifo_commands.specs.declared.fault.Fault.TheVariants.{Shape as AtShape, Word, Order, Picks, Replay, Open, Input, NotJson, Record, Search, RepeatedItem, Import, TooManyDrawn, Memory, Output}
+use Rattle.kfifo_commands.specs.declared.fault.Fault.TheVariants.{Shape as AtShape, Word, Order, Picks, Replay, Open, Dispatch, Input, NotJson, Record, Search, RepeatedItem, Import, TooManyDrawn, Memory, Output}
 use Rattle.kfifo_commands.specs.declared.options.RunOptions.{RunOptions}
 use Rattle.kfifo_commands.specs.declared.sizes.Sizes.{Sizes}
 use Rattle.kfifo_commands.specs.Reports.{IsReport}
@@ -46,6 +46,7 @@ IsRunRefusal options Order = ⊥
 IsRunRefusal options Picks = ⊥
 IsRunRefusal options (Replay fault) = ⊥
 IsRunRefusal options (Open fault) = ⊥
+IsRunRefusal options (Dispatch fault) = ⊥
 IsRunRefusal options Input = ⊥
 IsRunRefusal options NotJson = ⊥
 IsRunRefusal options (Record fault) = ⊥

@@ -5,7 +5,7 @@ use Rattle.kfifo_judge.specs.TextFaults.{IsTextFault}
 use Rattle.kfifo_explain.specs.Bounds.{IsBounded}
 use Rattle.kfifo_explain.specs.Judgements.{IsJudged}
 use Rattle.kfifo_commands.specs.declared.fault.Fault.{Fault}
-use Rattle.kfifo_commands.specs.declared.fault.Fault.TheVariants.{Shape, Word, Order, Picks, Replay, Open, Input, NotJson, Record, Search, RepeatedItem, Import, TooManyDrawn, Memory, Output}
+use Rattle.kfifo_commands.specs.declared.fault.Fault.TheVariants.{Shape, Word, Order, Picks, Replay, Open, Dispatch, Input, NotJson, Record, Search, RepeatedItem, Import, TooManyDrawn, Memory, Output}
 use Rattle.kfifo_commands.specs.declared.options.JudgeOptions.{JudgeOptions}
 use Rattle.kfifo_commands.specs.Records.{IsInput, IsOfInput, IsUnread}
 
@@ -29,6 +29,7 @@ IsVerdictRefusal input before after Order = ⊥
 IsVerdictRefusal input before after Picks = ⊥
 IsVerdictRefusal input before after (Replay fault) = ⊥
 IsVerdictRefusal input before after (Open fault) = ⊥
+IsVerdictRefusal input before after (Dispatch fault) = ⊥
 IsVerdictRefusal input before after Input = IsUnread input before after
 IsVerdictRefusal input before after NotJson = IsOfInput input IsTextFault streams.NotJson
 IsVerdictRefusal input before after (Record fault) = IsOfInput input IsTextFault (streams.Record fault)

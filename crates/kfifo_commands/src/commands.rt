@@ -1,6 +1,7 @@
 //! The commands, one module for each: what it answers.
 
 pub mod check;
+pub mod dispatch;
 pub mod draw;
 pub mod import;
 pub mod judge;

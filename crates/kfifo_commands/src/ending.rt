@@ -6,7 +6,7 @@ ghost use Rattle.kfifo_commands.specs.Printing.{Breaks, OnPrinter, Writes};
 ghost use Rattle.kfifo_commands.specs.Records.{ReadsWell};
 ghost use Rattle.kfifo_commands.specs.Statuses.{status_number};
 
-use crate::commands::{check, draw, import, judge, least, measure, record, replay, run};
+use crate::commands::{check, dispatch, draw, import, judge, least, measure, record, replay, run};
 use crate::fault::Fault;
 use crate::options::Request;
 use crate::printing::Printer;
@@ -29,7 +29,7 @@ pub enum Notice {
 }
 
 /// Does what is requested, and writes its answer or the line of its fault. The order of `check` and `draw` may stand in a
-/// file, and `record` starts threads: `rt` may do both. `replay` tells the progress how far it has come, and that it has
+/// file, and `record` and `dispatch` start threads: `rt` may do both. `replay` tells the progress how far it has come, and that it has
 /// ended before anything is written.
 pub fn carry_out<H: Threads + Files + Sync, S: Source, W: Write, F: Write, P: Progress>(
     alloc: Global,
@@ -152,6 +152,11 @@ fn answer<H: Threads + Files + Sync, S: Source, W: Write, P: Progress>(
         }
         Request::Draw(options) => {
             let text = draw::answer(alloc, rt, options, input)?;
+            output.print(text.as_bytes())?;
+            Ok(Status::Answered)
+        }
+        Request::Dispatch(options) => {
+            let text = dispatch::answer(rt, alloc, options)?;
             output.print(text.as_bytes())?;
             Ok(Status::Answered)
         }

@@ -1,11 +1,12 @@
 //! What ends a command without its answer.
 ghost use Rattle.std.specs.Prelude.{◌≡◌, ◌++◌, MatchBool, Some, codes, decimal};
-ghost use Rattle.kfifo_commands.specs.declared.fault.Fault.TheVariants.{Memory, Open, Replay};
+ghost use Rattle.kfifo_commands.specs.declared.fault.Fault.TheVariants.{Dispatch, Memory, Open, Replay};
 ghost use Rattle.kfifo_commands.specs.Faults.{at_line_text, fault_line, fault_text, import_fault_text, log_fault, numbered, picture_fault, stream_fault};
 ghost use Rattle.kfifo_commands.specs.Faults as replays;
 ghost use Rattle.kfifo_commands.specs.Printing.{Writes, Breaks};
 
 use crate::printing::Printer;
+use kfifo_dispatch::DispatchFault;
 use kfifo_draw::DrawFault;
 use kfifo_import::ImportFault;
 use kfifo_judge::StreamFault;
@@ -34,6 +35,8 @@ pub enum Fault {
     Replay(ReplayFault),
     /// `record` was refused its queue.
     Open(OpenFault),
+    /// Tasks were not dispatched.
+    Dispatch(DispatchFault),
     /// Reading failed, or over 16,777,216 bytes came.
     Input,
     /// The input is no JSON text, or is not UTF-8.
@@ -85,6 +88,7 @@ impl Fault {
                 place: refused_pick(fault),
             },
             Fault::Open(fault) => Line::numbered("open fault ", fault.number() as usize),
+            Fault::Dispatch(fault) => Line::numbered("dispatch fault ", fault.number() as usize),
             Fault::Input => Line::plain("input"),
             Fault::NotJson => Line::plain("not json"),
             Fault::Record(fault) => Line {
@@ -236,6 +240,14 @@ impl From<OpenFault> for Fault {
 
     fn from(fault: OpenFault) -> Fault {
         Fault::Open(fault)
+    }
+}
+
+impl From<DispatchFault> for Fault {
+    ghost from_gives = { λ given fault. fault ≡ Dispatch given };
+
+    fn from(fault: DispatchFault) -> Fault {
+        Fault::Dispatch(fault)
     }
 }
 

@@ -15,13 +15,14 @@ mod report;
 mod sizes;
 mod start;
 mod status;
+mod tasks;
 mod words;
 
 pub use ending::{Notice, carry_out, end_with_fault, end_with_text};
 pub use fault::Fault;
 pub use options::{
-    CheckOptions, DrawOptions, JudgeOptions, LeastOptions, RecordOptions, ReplayOptions, Request,
-    RunOptions,
+    CheckOptions, DispatchOptions, DrawOptions, JudgeOptions, LeastOptions, RecordOptions,
+    ReplayOptions, Request, RunOptions,
 };
 pub use printing::Printer;
 pub use progress::{Progress, Silent};

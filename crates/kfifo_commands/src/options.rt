@@ -91,6 +91,19 @@ pub struct RecordOptions<'a> {
     pub ghost some_repetitions: { 1 ≤ repeat },
 }
 
+/// What `dispatch` is given.
+#[derive(Clone, Copy)]
+pub struct DispatchOptions<'a> {
+    /// The sizes of the queue.
+    pub sizes: Sizes,
+    /// The number of worker threads.
+    pub workers: u32,
+    /// What the starts of the workers' calls are drawn from.
+    pub seed: u32,
+    /// The tasks, as they are written.
+    pub words: &'a [&'a str],
+}
+
 /// A command with its options.
 #[derive(Clone, Copy)]
 pub enum Request<'a> {
@@ -112,4 +125,6 @@ pub enum Request<'a> {
     Import,
     /// Draws a record.
     Draw(DrawOptions<'a>),
+    /// Works off tasks by worker threads.
+    Dispatch(DispatchOptions<'a>),
 }

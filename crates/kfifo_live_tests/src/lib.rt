@@ -1,7 +1,9 @@
-//! Tests of the running queue, by one thread and by many, and of its records, in a crate of their own: tests beside the
+//! Tests of the running queue, by one thread and by many, of its records and of the dispatcher, in a crate of their own: tests beside the
 //! proofs would have every proof made once more.
 #![tactic(auto)]
 
+#[cfg(test)]
+mod dispatch;
 #[cfg(test)]
 mod live;
 #[cfg(test)]

@@ -1,6 +1,7 @@
 //! The program over readers and writers in memory.
 
 mod closed;
+mod dispatched;
 mod memory;
 mod recorded;
 mod records;

@@ -2,6 +2,7 @@
 
 use crate::fault::Fault;
 use crate::printing::Printer;
+use kfifo_dispatch::DispatchFault;
 use kfifo_import::ImportFault;
 use kfifo_live::OpenFault;
 use kfifo_model::{RecordFault, SearchFault};
@@ -27,6 +28,10 @@ fn a_fault_shows_its_line(rt: HostRuntime) -> Result<(), Fail> {
         ),
         (Fault::Replay(ReplayFault::BadScript), "replay fault 3"),
         (Fault::Open(OpenFault::CallsOutOfRange), "open fault 4"),
+        (
+            Fault::Dispatch(DispatchFault::RepeatedId),
+            "dispatch fault 2",
+        ),
         (Fault::Import(ImportFault::Csv(3)), "csv fault at line 3"),
         (Fault::Import(ImportFault::TooMany), "record fault 2"),
         (

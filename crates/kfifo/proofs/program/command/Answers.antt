@@ -14,4 +14,5 @@ returns c =
     let six = adds_command _ _ c.in_ok-subcommand-6.field-0 _ _ five c.in_ok-command-6.ensures c.in_ok-subcommand-6.ensures in
     let seven = adds_command _ _ c.in_ok-subcommand-7.field-0 _ _ six c.in_ok-command-7.ensures c.in_ok-subcommand-7.ensures in
     let eight = adds_command _ _ c.in_ok-subcommand-8.field-0 _ _ seven c.in_ok-command-8.ensures c.in_ok-subcommand-8.ensures in
-    IfOk-weaker c.subcommand-9.result _ _ (λ r h. adds_command _ _ r _ _ eight c.in_ok-command-9.ensures h) c.subcommand-9.ensures
+    let nine = adds_command _ _ c.in_ok-subcommand-9.field-0 _ _ eight c.in_ok-command-9.ensures c.in_ok-subcommand-9.ensures in
+    IfOk-weaker c.subcommand-10.result _ _ (λ r h. adds_command _ _ r _ _ nine c.in_ok-command-10.ensures h) c.subcommand-10.ensures

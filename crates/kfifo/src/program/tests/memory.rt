@@ -26,7 +26,7 @@ struct Case {
     faults: &'static str,
 }
 
-const CASES: [Case; 4] = [
+const CASES: [Case; 5] = [
     Case {
         words: ["run", "--k", "1", "e7", "d"],
         status: 0,
@@ -51,6 +51,12 @@ const CASES: [Case; 4] = [
         words: ["replay", "--picks", "0x7", "e7", "d"],
         status: 0,
         output: "steps 7\norder 0\nworst rank 0\nrollbacks 0\n",
+        faults: "",
+    },
+    Case {
+        words: ["dispatch", "-k", "1", "9:2:5", "2:1:1"],
+        status: 0,
+        output: "2 2\n9 8\n",
         faults: "",
     },
 ];
@@ -80,7 +86,9 @@ fn run_case<R: Threads + Files + AllocGlobal + Sync>(rt: &R, case: &Case) -> End
     if status == case.status && holds(&output, case.output) && holds(&faults, case.faults) {
         return Ended::AsWanted;
     }
-    let is_told = holds(&faults, "kfifo: memory\n") || holds(&faults, "kfifo: replay fault 2\n");
+    let is_told = holds(&faults, "kfifo: memory\n")
+        || holds(&faults, "kfifo: replay fault 2\n")
+        || holds(&faults, "kfifo: dispatch fault 3\n");
     if status == 1 && holds(&output, "") && is_told {
         return Ended::Refused;
     }
@@ -107,6 +115,11 @@ fn refused_memory_of_a_fault(rt: HostRuntime) {
 #[test]
 fn refused_memory_of_a_replay(rt: HostRuntime) {
     assert!(rt; run_case(&rt, &CASES[3]) != Ended::Otherwise);
+}
+
+#[test]
+fn refused_memory_of_a_dispatch(rt: HostRuntime) {
+    assert!(rt; run_case(&rt, &CASES[4]) != Ended::Otherwise);
 }
 
 #[test]

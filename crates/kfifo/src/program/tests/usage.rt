@@ -5,7 +5,7 @@ use std::str::from_utf8;
 use std::test::Fail;
 
 /// A command line that asks for help, and what stands in it.
-const HELP: [(&str, [&str; 3]); 14] = [
+const HELP: [(&str, [&str; 3]); 16] = [
     (
         "--help",
         [
@@ -98,6 +98,22 @@ const HELP: [(&str, [&str; 3]); 14] = [
             "\nExit status:\n",
         ],
     ),
+    (
+        "dispatch --help",
+        [
+            "Usage: kfifo dispatch [OPTIONS] [TASK]...\n",
+            "\n  kfifo: dispatch fault 4 ",
+            "\nLimits: 1024 tasks, 63 workers.\n",
+        ],
+    ),
+    (
+        "dispatch -h",
+        [
+            "--workers <THREADS>",
+            "--seed <NUMBER>",
+            "\n  kfifo dispatch 4:3:0 ",
+        ],
+    ),
     // Help is asked for before a shape or a word is looked at.
     (
         "run --k 0 x --help",
@@ -127,7 +143,7 @@ fn tells_its_version(rt: HostRuntime) -> Result<(), Fail> {
 }
 
 /// A command line at fault, and what its fault says.
-const MISUSES: [(&str, &str); 24] = [
+const MISUSES: [(&str, &str); 26] = [
     ("run", "<WORD>..."),
     ("walk", "unrecognized subcommand 'walk'"),
     ("run --k", "a value is required for '--k <SLOTS>'"),
@@ -161,6 +177,11 @@ const MISUSES: [(&str, &str); 24] = [
         "invalid value '64' for '--stop <THREAD>'",
     ),
     ("replay --order 0 d", "unexpected argument '--order'"),
+    (
+        "dispatch --workers 4294967296",
+        "invalid value '4294967296' for '--workers <THREADS>'",
+    ),
+    ("dispatch --turns 2", "unexpected argument '--turns'"),
 ];
 
 #[test]

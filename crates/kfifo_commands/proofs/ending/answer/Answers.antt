@@ -74,3 +74,11 @@ returns-in_err-print-in-Draw-clause-broken g c = any_err c.from_residual-in_err-
   rw c.in-Draw.is (c.in_ok-text-in-Draw.ensures.ok, refl),
   c.in_err-print-in-Draw.ensures.err,
 ))
+
+pub returns-in_err-print-in-Dispatch-clause-broken : goal.returns-in_err-print-in-Dispatch-clause-broken
+returns-in_err-print-in-Dispatch-clause-broken g c = any_err c.from_residual-in_err-print-in-Dispatch.result _ (λ fault is. (
+  c.as_bytes-in-Dispatch.result.now,
+  0,
+  rw (c.in-Dispatch.is, c.as_bytes-in-Dispatch.ensures.value) (c.in_ok-text-in-Dispatch.ensures.ok, refl),
+  c.in_err-print-in-Dispatch.ensures.err,
+))

@@ -1,0 +1,47 @@
+//! The command `dispatch`: tasks worked off by worker threads, and the finished list.
+ghost use Rattle.std.specs.Prelude.{◌≢◌, IfOk, IfErr, string_bytes};
+ghost use Rattle.kfifo_commands.specs.Dispatches.{IsDispatch, IsDispatchRefusal};
+ghost use Rattle.kfifo_commands.specs.Runs.{IsShapeOf};
+
+use crate::fault::Fault;
+use crate::options::DispatchOptions;
+use crate::tasks::{finished_lines, read_tasks};
+use kfifo_dispatch::{OpenGate, dispatch};
+use kfifo_words::Shape;
+use std::alloc::Global;
+use std::thread::Threads;
+
+/// The lines of the finished tasks. `threads` is the permission to start threads.
+pub fn answer<R: Threads + Sync>(
+    threads: &R,
+    alloc: Global,
+    options: DispatchOptions<'_>,
+) -> Result<String, Fault>
+    ensures ok { IfOk result (λ text. IsDispatch options.entry (string_bytes text)) }
+    ensures err { IfErr result (λ fault. IsDispatchRefusal options.entry fault) }
+    ensures silent { IfErr result (λ fault. fault ≢ Fault.Output) }
+{
+    let shape = shape_of(options)?;
+    let tasks = read_tasks(alloc, options.words)?;
+    let seed = u64::from(options.seed);
+    let list = dispatch(
+        threads,
+        alloc,
+        tasks.as_slice(),
+        options.workers,
+        shape,
+        seed,
+        &OpenGate,
+    )?;
+    let text = finished_lines(alloc, list.as_slice())?;
+    Ok(text)
+}
+
+/// The shape of the sizes.
+fn shape_of(options: DispatchOptions<'_>) -> Result<Shape, Fault>
+    ensures ok { IfOk result (IsShapeOf options.entry.sizes) }
+    ensures err { IfErr result (λ fault. IsDispatchRefusal options.entry fault) }
+    ensures silent { IfErr result (λ fault. fault ≢ Fault.Output) }
+{
+    options.sizes.shape().map_err(Fault::Shape)
+}

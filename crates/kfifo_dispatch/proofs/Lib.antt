@@ -1,0 +1,4 @@
+pub mod Again
+pub mod Passes
+pub mod Totals
+pub mod Work

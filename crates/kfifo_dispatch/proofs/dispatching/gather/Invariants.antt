@@ -1,0 +1,11 @@
+use Rattle.std.proofs.Common.{All}
+use Rattle.kfifo_live.specs.Pass.{IsOf, IsSame}
+use Rattle.kfifo_dispatch.proofs.dispatching.gather.Given as goal
+
+abbrev pub invariant-loop-done : goal.invariant-loop-done
+invariant-loop-done g l =
+    (goal.iterator-loop-done g).can_next l.done-iterator × (goal.iterator-loop-done g).is_finite l.done-iterator × IsSame l.fn.own.pass l.own.pass
+
+abbrev pub invariant-loop-back : goal.invariant-loop-back
+invariant-loop-back g l =
+    (goal.iterator-loop-back g).can_next l.back-iterator × (goal.iterator-loop-back g).is_finite l.back-iterator × IsSame l.fn.own.pass l.own.pass

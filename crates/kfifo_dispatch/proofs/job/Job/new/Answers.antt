@@ -1,0 +1,8 @@
+-- A job that begins has its task's sum and work.
+use Rattle.std.proofs.Common.{arith, sym, subst, ℕ}
+use Rattle.kfifo_dispatch.specs.Jobs.{IsOn}
+use Rattle.kfifo_dispatch.proofs.Work.{begins}
+use Rattle.kfifo_dispatch.proofs.job.Job.new.Goals as goal
+
+pub invariant_of-result : goal.invariant_of-result
+invariant_of-result g c = rw c.from.ensures (begins g.L.Tasks.tasks c.args.place _ c.requires (omega (arith, c.ranges.left)) (omega (arith, c.ranges.sum)))

@@ -1,0 +1,5 @@
+pub mod Faults
+pub mod Jobs
+pub mod Starts
+pub mod Tasks
+pub mod Working

@@ -1,0 +1,212 @@
+//! Tasks worked off by worker threads.
+ghost use Rattle.std.specs.Prelude.{◌≡◌, ◌+◌, ◌<◌, ◌≤◌, ◌⊎◌, ◌↔◌, All, IfOk, IsErrOf, length};
+ghost use Rattle.kfifo_live.specs.Pass.{IsOf, IsSame};
+ghost use Rattle.kfifo_dispatch.specs.declared.fault.DispatchFault.TheVariants.{RepeatedId, TooManyTasks, WorkersOutOfRange};
+ghost use Rattle.kfifo_dispatch.specs.Tasks.{HasRepeatedId, IsFinishedList};
+ghost use Rattle.kfifo_dispatch.specs.Working.{IsOpened};
+
+use crate::fault::DispatchFault;
+use crate::finishing::finish;
+use crate::gate::Gate;
+use crate::job::{Done, Job, Tasks};
+use crate::repeats::has_repeated_id;
+use crate::starts::Starts;
+use crate::task::{Finished, Task};
+use crate::worker::{Back, Worker};
+use kfifo_live::{Given, OpenFault, PayPass, PayQueue};
+use kfifo_words::Shape;
+use std::alloc::{AllocError, Global};
+use std::marker::Brand;
+use std::thread::{Threads, map_vec};
+
+/// The greatest number of tasks of a dispatch.
+const MAX_TASKS: usize = 1_024;
+
+/// The greatest number of workers of a dispatch.
+const MAX_WORKERS: u32 = 63;
+
+/// Works off the tasks by worker threads over one queue of this shape, and gives the finished list: each task once, by rising id, with
+/// its sum and all its work added up. The list is that of one thread, whatever the threads do.
+///
+/// The caller gives the tasks to the queue in their order. Each worker takes one, does a unit of work on it, and gives it back while work is left.
+/// Worker w, from 1, draws the starts of its calls from `Starts::new(seed, w, k)`, and passes the gate before each call to take. It ends where the queue is
+/// empty, where a version is used up, or after 65,536 calls. A task that the queue refuses is worked off by who held it; what is left when all have ended, by the
+/// caller. It returns where the gate's calls return.
+///
+/// TooManyTasks where there are over 1,024; then RepeatedId where two have one id; then WorkersOutOfRange where the number of workers is not 1 to 63; Memory where an
+/// allocation failed. After a refusal nothing is kept, and all workers that were started have ended.
+pub fn dispatch<R: Threads + Sync, G: Gate + Sync>(
+    threads: &R,
+    alloc: Global,
+    tasks: &[Task],
+    workers: u32,
+    shape: Shape,
+    seed: u64,
+    gate: &G,
+) -> Result<Vec<Finished>, DispatchFault>
+    ensures ok { IfOk result (λ list. IsFinishedList tasks.now list.items) }
+    ensures many { IsErrOf result TooManyTasks ↔ (1024 < length tasks.now) }
+    ensures repeated { IsErrOf result RepeatedId ↔ ((length tasks.now ≤ 1024) × HasRepeatedId tasks.now) }
+    ensures workers { IsErrOf result WorkersOutOfRange ↔ ((length tasks.now ≤ 1024) × (HasRepeatedId tasks.now → ⊥) × ((workers ≡ 0) ⊎ (63 < workers))) }
+{
+    if tasks.len() > MAX_TASKS {
+        return Err(DispatchFault::TooManyTasks);
+    }
+    if has_repeated_id(tasks) {
+        return Err(DispatchFault::RepeatedId);
+    }
+    if workers == 0 || workers > MAX_WORKERS {
+        return Err(DispatchFault::WorkersOutOfRange);
+    }
+    let list = work_off::<Brand, R, G>(threads, alloc, tasks, workers, shape, seed, gate)?;
+    Ok(list)
+}
+
+/// Works off tasks that a dispatch admits.
+fn work_off<L: Tasks + Send + Sync, R: Threads + Sync, G: Gate + Sync>(
+    threads: &R,
+    alloc: Global,
+    tasks: &[Task],
+    workers: u32,
+    shape: Shape,
+    seed: u64,
+    gate: &G,
+) -> Result<Vec<Finished>, AllocError>
+    requires tasks { L.tasks ≡ tasks.now }
+    requires few { length tasks.now ≤ 1024 }
+    requires workers { (1 ≤ workers) × (workers ≤ 63) }
+    ensures { IfOk result (λ list. IsFinishedList tasks.now list.items) }
+{
+    let (queue, mut passes) = open::<L>(alloc, shape, workers, tasks.len() as u32)?;
+    let mut own = passes.remove(0);
+    let mut returned = give_all(alloc, &queue, &mut own, tasks, shape, gate)?;
+    let backs = run_workers(threads, alloc, &queue, passes, shape, seed, gate)?;
+    gather(&queue, &mut own, backs, &mut returned)?;
+    let Ok(left) = queue.close(alloc, own) else {
+        return Err(AllocError);
+    };
+    for job in left {
+        returned.push(job.work_off(0, gate))?;
+    }
+    finish(alloc, tasks, returned, gate)
+}
+
+/// The queue, with a pass for the caller and one for each worker, and as many tokens a pass as there are tasks.
+fn open<L: Tasks>(
+    alloc: Global,
+    shape: Shape,
+    workers: u32,
+    tasks: u32,
+) -> Result<(PayQueue<Job<L>>, Vec<PayPass<Job<L>>>), AllocError>
+    requires tasks { tasks ≤ 1024 }
+    requires workers { (1 ≤ workers) × (workers ≤ 63) }
+    ensures { IfOk result (λ r. IsOpened shape (workers + 1) r.0 r.1.items) }
+{
+    match PayQueue::open(alloc, shape, workers + 1, tasks.max(1)) {
+        Ok(opened) => Ok(opened),
+        Err(OpenFault::Memory) => Err(AllocError),
+        Err(
+            OpenFault::ThreadsOutOfRange | OpenFault::TokensOutOfRange | OpenFault::CallsOutOfRange,
+        ) => unreachable!(),
+    }
+}
+
+/// Gives the tasks to the queue, in their order. Those that it refuses are worked off here.
+fn give_all<L: Tasks, G: Gate>(
+    alloc: Global,
+    queue: &PayQueue<Job<L>>,
+    pass: &mut PayPass<Job<L>>,
+    tasks: &[Task],
+    shape: Shape,
+    gate: &G,
+) -> Result<Vec<Done<L>>, AllocError>
+    requires tasks { L.tasks ≡ tasks.now }
+    requires few { length tasks.now ≤ 1024 }
+    requires of { IsOf queue.now pass.old.pass }
+    requires shape { queue.now.opened.shape ≡ shape }
+    ensures { IsSame pass.old.pass pass.new.pass }
+{
+    let mut returned = Vec::new(alloc);
+    for (place, task) in tasks.iter().enumerate() {
+        let job = Job::new(place as u16, task.id, task.left, task.sum);
+        match pass.give(queue, job, 0, turns(shape)) {
+            Given::Done => {}
+            Given::Full(job) | Given::Busy(job) | Given::Worn(job) | Given::NoToken(job) => {
+                returned.push(job.work_off(0, gate))?;
+            }
+        }
+    }
+    Ok(returned)
+}
+
+/// The rounds of each call: n + 2, so that a call is Busy only by another thread's doing.
+fn turns(shape: Shape) -> u16
+    ensures { result ≡ shape.n + 2 }
+{
+    (shape.n() + 2) as u16
+}
+
+/// Runs a worker with each pass, on threads that all have ended when it returns.
+fn run_workers<L: Tasks + Send + Sync, R: Threads + Sync, G: Gate + Sync>(
+    threads: &R,
+    alloc: Global,
+    queue: &PayQueue<Job<L>>,
+    passes: Vec<PayPass<Job<L>>>,
+    shape: Shape,
+    seed: u64,
+    gate: &G,
+) -> Result<Vec<Back<L>>, AllocError>
+    requires of { All (λ pass. IsOf queue.now pass.pass) passes.items }
+    requires shape { queue.now.opened.shape ≡ shape }
+    ensures { IfOk result (λ backs. All (λ back. IsOf queue.now back.pass.pass) backs.items) }
+{
+    let backs = map_vec(
+        threads,
+        passes,
+        &|pass| run_one(alloc, queue, pass, shape, seed, gate),
+    )?;
+    Ok(backs)
+}
+
+/// Runs the worker that has this pass.
+fn run_one<L: Tasks, G: Gate>(
+    alloc: Global,
+    queue: &PayQueue<Job<L>>,
+    pass: PayPass<Job<L>>,
+    shape: Shape,
+    seed: u64,
+    gate: &G,
+) -> Back<L>
+    requires of { IsOf queue.now pass.pass }
+    requires shape { queue.now.opened.shape ≡ shape }
+    ensures { IsSame pass.pass result.pass.pass }
+{
+    let starts = Starts::new(seed, pass.thread(), shape.k());
+    let turns = turns(shape);
+    let worker = Worker {
+        pass,
+        starts,
+        turns,
+    };
+    worker.run(alloc, queue, gate)
+}
+
+/// Meets all workers' passes, so that the caller's pass has seen all that they did, and gathers what they finished.
+fn gather<L: Tasks>(
+    queue: &PayQueue<Job<L>>,
+    own: &mut PayPass<Job<L>>,
+    backs: Vec<Back<L>>,
+    returned: &mut Vec<Done<L>>,
+) -> Result<(), AllocError>
+    requires own { IsOf queue.now own.old.pass }
+    requires of { All (λ back. IsOf queue.now back.pass.pass) backs.items }
+    ensures { IsSame own.old.pass own.new.pass }
+{
+    for mut back in backs {
+        queue.meet(&mut back.pass, own);
+        for done in back.kept? {
+            returned.push(done)?;
+        }
+    }
+    Ok(())
+}

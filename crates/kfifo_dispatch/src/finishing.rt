@@ -1,0 +1,63 @@
+//! The finished list.
+ghost use Rattle.std.specs.Prelude.{◌≡◌, ◌<◌, ◌≤◌, IfOk, IfSome, Some, length, slice_get};
+ghost use Rattle.kfifo_dispatch.specs.Jobs.{AreTotals, total_at};
+ghost use Rattle.kfifo_dispatch.specs.Tasks.{IsFinishedList, finished};
+
+use crate::gate::Gate;
+use crate::job::{Done, Job, Tasks};
+use crate::task::{Finished, Task};
+use std::alloc::{AllocError, Global};
+
+/// The finished list of the tasks, from what came back of them. What came back nowhere the caller works off itself,
+/// as worker 0; what came back a second time is dropped.
+pub(crate) fn finish<L: Tasks, G: Gate>(
+    alloc: Global,
+    tasks: &[Task],
+    returned: Vec<Done<L>>,
+    gate: &G,
+) -> Result<Vec<Finished>, AllocError>
+    requires tasks { L.tasks ≡ tasks.now }
+    requires few { length tasks.now ≤ 1024 }
+    ensures { IfOk result (λ list. IsFinishedList tasks.now list.items) }
+{
+    let sums = sums_of(alloc, tasks, returned)?;
+    let mut list = Vec::with_capacity(alloc, tasks.len())?;
+    for (place, task) in tasks.iter().enumerate() {
+        list.push(finish_one::<L, G>(place, task, sums[place], gate))?;
+    }
+    list.sort_by_key(|task| task.id)?;
+    Ok(list)
+}
+
+/// What each task came to of which something came back.
+fn sums_of<L: Tasks>(
+    alloc: Global,
+    tasks: &[Task],
+    returned: Vec<Done<L>>,
+) -> Result<Vec<Option<u64>>, AllocError>
+    requires tasks { L.tasks ≡ tasks.now }
+    ensures { IfOk result (λ sums. AreTotals tasks.now sums.items) }
+{
+    let mut sums = vec![in alloc; None; tasks.len()]?;
+    for done in returned {
+        sums[done.place()] = Some(done.sum());
+    }
+    Ok(sums)
+}
+
+/// The task at this place, finished: with the sum that came back of it, or worked off here.
+fn finish_one<L: Tasks, G: Gate>(place: usize, task: &Task, sum: Option<u64>, gate: &G) -> Finished
+    requires place { place < 1024 }
+    requires task { slice_get L.tasks place ≡ Some task.now }
+    requires sum { IfSome sum (λ n. n ≡ total_at L.tasks place) }
+    ensures { result ≡ finished task.now }
+{
+    let sum = match sum {
+        Some(sum) => sum,
+        None => {
+            let job: Job<L> = Job::new(place as u16, task.id, task.left, task.sum);
+            job.work_off(0, gate).sum()
+        }
+    };
+    Finished { id: task.id, sum }
+}

@@ -1,0 +1,126 @@
+//! A task on its way from worker to worker.
+ghost use Rattle.std.specs.Prelude.{◌≡◌, ◌==◌, ◌<◌, ◌+◌, ◌-◌, ◌^◌, List, [], Some, slice_get, length};
+ghost use Rattle.kfifo_dispatch.specs.declared.task.Task.{Task};
+ghost use Rattle.kfifo_dispatch.specs.Jobs.{Progress, IsOn, IsWorked, total_at};
+
+use crate::gate::Gate;
+use crate::task::Task;
+use std::marker::{Brand, Model, PhantomData};
+
+/// The tasks of a dispatch. Each dispatch picks its own.
+pub trait Tasks {
+    ghost tasks: { List Task };
+}
+
+impl Tasks for Brand {
+    ghost tasks = { [] };
+}
+
+/// A task that is worked off. Whatever way it takes between workers, its sum and the work that is left
+/// come to what its task comes to: its type says so.
+#[derive(Drop)]
+pub(crate) struct Job<L: Tasks> {
+    // The task's place in the list of all tasks.
+    place: u16,
+    left: u16,
+    id: u32,
+    sum: u64,
+    of: PhantomData<L>,
+}
+
+impl<L: Tasks> Model for Job<L> {
+    ghost Value = { Progress };
+
+    ghost view = { λ j. record { place = j.place; left = j.left; sum = j.sum } };
+
+    ghost invariant = { λ j. IsOn L.tasks (record { place = j.place; left = j.left; sum = j.sum }) };
+}
+
+/// A job of which nothing is left.
+#[derive(Drop)]
+pub(crate) struct Done<L: Tasks> {
+    place: u16,
+    sum: u64,
+    of: PhantomData<L>,
+}
+
+impl<L: Tasks> Model for Done<L> {
+    ghost Value = { Progress };
+
+    ghost view = { λ d. record { place = d.place; left = 0; sum = d.sum } };
+
+    ghost invariant = { λ d. IsOn L.tasks (record { place = d.place; left = 0; sum = d.sum }) };
+}
+
+impl<L: Tasks> Job<L> {
+    /// The job of the task at this place in the list, which has this number, so much left and this sum.
+    pub(crate) fn new(place: u16, id: u32, left: u16, sum: u32) -> Job<L>
+        requires { slice_get L.tasks place ≡ Some (record { id = id; left = left; sum = sum }) }
+        ensures { result ≡ record { place = place; left = left; sum = sum } }
+    {
+        Job {
+            place,
+            left,
+            id,
+            sum: u64::from(sum),
+            of: PhantomData,
+        }
+    }
+
+    /// Whether nothing is left of it.
+    pub(crate) fn is_finished(&self) -> bool
+        ensures { result ≡ (self.now.left == 0) }
+    {
+        self.left == 0
+    }
+
+    /// Does a unit of work.
+    fn work(&mut self)
+        requires { 0 < self.old.left }
+        ensures { IsWorked self.old self.new }
+    {
+        self.sum += u64::from(self.left);
+        self.left -= 1;
+    }
+
+    /// Does a unit of work where one is left, and tells the gate.
+    pub(crate) fn work_once<G: Gate>(&mut self, worker: u32, gate: &G)
+        ensures { IsWorked self.old self.new }
+    {
+        if !self.is_finished() {
+            self.work();
+            gate.unit(worker, self.id);
+        }
+    }
+
+    /// Works off all that is left, and tells the gate of each unit.
+    pub(crate) fn work_off<G: Gate>(mut self, worker: u32, gate: &G) -> Done<L>
+        ensures { result.place ≡ self.place }
+    {
+        for _unit in 0..self.left {
+            self.work_once(worker, gate);
+        }
+        Done {
+            place: self.place,
+            sum: self.sum,
+            of: PhantomData,
+        }
+    }
+}
+
+impl<L: Tasks> Done<L> {
+    /// The place of its task in the list of all tasks.
+    pub(crate) fn place(&self) -> usize
+        ensures place { result ≡ self.now.place }
+        ensures there { result < length L.tasks }
+    {
+        usize::from(self.place)
+    }
+
+    /// What its task comes to.
+    pub(crate) fn sum(&self) -> u64
+        ensures { result ≡ total_at L.tasks self.now.place }
+    {
+        self.sum
+    }
+}

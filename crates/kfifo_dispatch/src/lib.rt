@@ -1,0 +1,18 @@
+//! A dispatcher: tasks that worker threads work off, a unit of work at a time, over the queue.
+#![tactic(auto)]
+
+mod dispatching;
+mod fault;
+mod finishing;
+mod gate;
+mod job;
+mod repeats;
+mod starts;
+mod task;
+mod worker;
+
+pub use dispatching::dispatch;
+pub use fault::DispatchFault;
+pub use gate::{Gate, OpenGate};
+pub use starts::Starts;
+pub use task::{Finished, Task};

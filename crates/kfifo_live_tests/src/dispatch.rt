@@ -1,0 +1,271 @@
+//! What no contract says of a dispatch: that workers do the work, and do it at the same time.
+
+use kfifo_dispatch::{DispatchFault, Finished, Gate, OpenGate, Starts, Task, dispatch};
+use kfifo_words::Shape;
+use std::sync::atomic::{AtomicU64, Ordering};
+use std::test::Fail;
+use std::thread::yield_now;
+
+/// The greatest version that a word can have, 2^40 - 1.
+const LAST: u64 = 1_099_511_627_775;
+
+/// So many looks a worker waits for the others.
+const LOOKS: u32 = 16_777_216;
+
+fn task(id: u32, left: u16, sum: u32) -> Task {
+    Task { id, left, sum }
+}
+
+fn finished(id: u32, sum: u64) -> Finished {
+    Finished { id, sum }
+}
+
+#[test]
+fn finishes_all_tasks(rt: HostRuntime) -> Result<(), Fail> {
+    for (tasks, workers, list) in [
+        ([].as_slice(), 2, [].as_slice()),
+        ([task(4, 3, 0)].as_slice(), 8, [finished(4, 6)].as_slice()),
+        (
+            [task(9, 0, 5), task(2, 1, 1)].as_slice(),
+            2,
+            [finished(2, 2), finished(9, 5)].as_slice(),
+        ),
+        (
+            [task(1, 65_535, 4_294_967_295)].as_slice(),
+            63,
+            [finished(1, 6_442_418_175)].as_slice(),
+        ),
+    ] {
+        let shape = Shape::new(2, 2, LAST)?;
+        let done = dispatch(&rt, rt.alloc(), tasks, workers, shape, 0, &OpenGate)?;
+        assert_eq!(rt; done.as_slice(), list);
+    }
+    Ok(())
+}
+
+#[test]
+fn refuses_in_the_stated_order(rt: HostRuntime) -> Result<(), Fail> {
+    let many = vec![in rt.alloc(); task(7, 1, 0); 1_025]?;
+    let twice = [task(4, 3, 0), task(4, 1, 0)];
+    let apart = [task(4, 3, 0), task(5, 1, 0)];
+    for (tasks, workers, fault) in [
+        (many.as_slice(), 64, DispatchFault::TooManyTasks),
+        (twice.as_slice(), 64, DispatchFault::RepeatedId),
+        (apart.as_slice(), 64, DispatchFault::WorkersOutOfRange),
+        (apart.as_slice(), 0, DispatchFault::WorkersOutOfRange),
+    ] {
+        let shape = Shape::new(2, 2, LAST)?;
+        let Err(refused) = dispatch(&rt, rt.alloc(), tasks, workers, shape, 0, &OpenGate) else {
+            panic!(rt; "dispatched {} tasks", tasks.len());
+        };
+        assert_eq!(rt; refused, fault);
+    }
+    Ok(())
+}
+
+/// Counts the units that each of some workers did, and can hold two of them back.
+#[derive(Drop)]
+struct Counting {
+    units: [AtomicU64; 3],
+    came: [AtomicU64; 3],
+    gave_up: AtomicU64,
+    meets: bool,
+    /// Worker 1 waits until worker 2 has done so many units.
+    held: u64,
+}
+
+impl Counting {
+    fn new(meets: bool, held: u64) -> Counting {
+        Counting {
+            units: [AtomicU64::new(0), AtomicU64::new(0), AtomicU64::new(0)],
+            came: [AtomicU64::new(0), AtomicU64::new(0), AtomicU64::new(0)],
+            gave_up: AtomicU64::new(0),
+            meets,
+            held,
+        }
+    }
+
+    /// Waits until the count has come so far.
+    fn wait_for(&self, count: &AtomicU64, most: u64) {
+        for _look in 0..LOOKS {
+            if count.load(Ordering::SeqCst) >= most {
+                return;
+            }
+            yield_now();
+        }
+        self.gave_up.fetch_add(1, Ordering::SeqCst);
+    }
+}
+
+impl Gate for Counting {
+    fn pass(&self, worker: u32, call: u32) {
+        if call != 1 {
+            return;
+        }
+        if let Some(own) = self.came.get(worker as usize) {
+            own.fetch_add(1, Ordering::SeqCst);
+        }
+        if self.meets {
+            let other = if worker == 1 { 2 } else { 1 };
+            self.wait_for(&self.came[other], 1);
+        }
+        if worker == 1 {
+            self.wait_for(&self.units[2], self.held);
+        }
+    }
+
+    fn unit(&self, worker: u32, _id: u32) {
+        if let Some(own) = self.units.get(worker as usize) {
+            own.fetch_add(1, Ordering::SeqCst);
+        }
+    }
+}
+
+/// Two workers wait for each other before they take their first tasks.
+#[test]
+fn workers_run_at_the_same_time(rt: HostRuntime) -> Result<(), Fail> {
+    let shape = Shape::new(2, 2, LAST)?;
+    let gate = Counting::new(true, 0);
+    let tasks = [task(1, 2, 0), task(2, 2, 0)];
+    let done = dispatch(&rt, rt.alloc(), tasks.as_slice(), 2, shape, 0, &gate)?;
+    assert_eq!(rt;
+        done.as_slice(),
+        [finished(1, 3), finished(2, 3)].as_slice()
+    );
+    assert_eq!(rt; gate.gave_up.load(Ordering::SeqCst), 0);
+    Ok(())
+}
+
+/// While worker 1 is held back, worker 2 does all units of both tasks.
+#[test]
+fn one_worker_does_the_work_of_another(rt: HostRuntime) -> Result<(), Fail> {
+    let shape = Shape::new(2, 2, LAST)?;
+    let gate = Counting::new(false, 4);
+    let tasks = [task(1, 2, 0), task(2, 2, 0)];
+    let done = dispatch(&rt, rt.alloc(), tasks.as_slice(), 2, shape, 0, &gate)?;
+    assert_eq!(rt;
+        done.as_slice(),
+        [finished(1, 3), finished(2, 3)].as_slice()
+    );
+    assert_eq!(rt; gate.gave_up.load(Ordering::SeqCst), 0);
+    assert_eq!(rt; gate.units[2].load(Ordering::SeqCst), 4);
+    Ok(())
+}
+
+/// The units in the order in which they were done, as digits of a number: the worker's, and the task's.
+#[derive(Drop)]
+struct Order {
+    workers: AtomicU64,
+    tasks: AtomicU64,
+}
+
+impl Gate for Order {
+    fn pass(&self, _worker: u32, _call: u32) {}
+
+    fn unit(&self, worker: u32, id: u32) {
+        let workers = self.workers.load(Ordering::SeqCst);
+        let next = workers.wrapping_mul(10).wrapping_add(u64::from(worker));
+        self.workers.store(next, Ordering::SeqCst);
+        let tasks = self.tasks.load(Ordering::SeqCst);
+        let next = tasks.wrapping_mul(10).wrapping_add(u64::from(id));
+        self.tasks.store(next, Ordering::SeqCst);
+    }
+}
+
+/// One worker on a ring of two slots does a unit of each task in turn.
+#[test]
+fn tasks_go_round(rt: HostRuntime) -> Result<(), Fail> {
+    let shape = Shape::new(1, 2, LAST)?;
+    let order = Order {
+        workers: AtomicU64::new(0),
+        tasks: AtomicU64::new(0),
+    };
+    let tasks = [task(1, 2, 0), task(2, 1, 0)];
+    let done = dispatch(&rt, rt.alloc(), tasks.as_slice(), 1, shape, 0, &order)?;
+    assert_eq!(rt;
+        done.as_slice(),
+        [finished(1, 3), finished(2, 1)].as_slice()
+    );
+    assert_eq!(rt; order.workers.load(Ordering::SeqCst), 111);
+    assert_eq!(rt; order.tasks.load(Ordering::SeqCst), 121);
+    Ok(())
+}
+
+/// A task that the queue refuses is worked off by the caller, who is worker 0.
+#[test]
+fn the_caller_works_off_what_is_refused(rt: HostRuntime) -> Result<(), Fail> {
+    let shape = Shape::new(1, 2, LAST)?;
+    let gate = Counting::new(false, 0);
+    let tasks = [task(1, 2, 0), task(2, 3, 0), task(3, 4, 0)];
+    let done = dispatch(&rt, rt.alloc(), tasks.as_slice(), 1, shape, 0, &gate)?;
+    let list = [finished(1, 3), finished(2, 6), finished(3, 10)];
+    assert_eq!(rt; done.as_slice(), list.as_slice());
+    assert_eq!(rt; gate.units[0].load(Ordering::SeqCst), 4);
+    assert_eq!(rt; gate.units[1].load(Ordering::SeqCst), 5);
+    Ok(())
+}
+
+/// A worker ends after 65,536 takes, and the caller works off what is left in the queue.
+#[test]
+fn a_worker_takes_so_often_at_most(rt: HostRuntime) -> Result<(), Fail> {
+    let shape = Shape::new(2, 2, LAST)?;
+    let gate = Counting::new(false, 0);
+    let tasks = [task(1, 65_535, 0), task(2, 65_535, 0)];
+    let done = dispatch(&rt, rt.alloc(), tasks.as_slice(), 1, shape, 0, &gate)?;
+    let sum = 2_147_450_880;
+    assert_eq!(rt;
+        done.as_slice(),
+        [finished(1, sum), finished(2, sum)].as_slice()
+    );
+    assert_eq!(rt; gate.units[1].load(Ordering::SeqCst), 65_536);
+    assert_eq!(rt; gate.units[0].load(Ordering::SeqCst), 65_534);
+    Ok(())
+}
+
+/// Versions up to 2 are used up by one round of the ring: the worker ends, and the caller does the rest.
+#[test]
+fn a_worn_queue_leaves_the_work_to_the_caller(rt: HostRuntime) -> Result<(), Fail> {
+    let shape = Shape::new(1, 2, 2)?;
+    let gate = Counting::new(false, 0);
+    let tasks = [task(1, 9, 0), task(2, 9, 0)];
+    let done = dispatch(&rt, rt.alloc(), tasks.as_slice(), 1, shape, 0, &gate)?;
+    assert_eq!(rt;
+        done.as_slice(),
+        [finished(1, 45), finished(2, 45)].as_slice()
+    );
+    assert!(rt; gate.units[0].load(Ordering::SeqCst) > 0);
+    Ok(())
+}
+
+/// Holds whichever one request of the dispatch for memory fails, and fails where a call always gives up.
+#[test]
+fn refused_memory(rt: HostRuntime) -> Result<(), Fail> {
+    let shape = Shape::new(1, 2, LAST)?;
+    let tasks = [task(9, 2, 5), task(2, 1, 1), task(3, 0, 7)];
+    let done = match dispatch(&rt, rt.alloc(), tasks.as_slice(), 2, shape, 0, &OpenGate) {
+        Err(DispatchFault::Memory) => {
+            dispatch(&rt, rt.alloc(), tasks.as_slice(), 2, shape, 0, &OpenGate)?
+        }
+        answered => answered?,
+    };
+    let list = [finished(2, 2), finished(3, 7), finished(9, 8)];
+    assert_eq!(rt; done.as_slice(), list.as_slice());
+    Ok(())
+}
+
+/// The same seed gives the same starts, and another worker has others.
+#[test]
+fn starts_are_those_of_the_seed(rt: HostRuntime) {
+    let mut own = Starts::new(7, 1, 64);
+    let mut again = Starts::new(7, 1, 64);
+    let mut other = Starts::new(7, 2, 64);
+    let mut differ = 0u32;
+    for _ in 0..64 {
+        let start = own.draw();
+        assert_eq!(rt; start, again.draw());
+        if start != other.draw() {
+            differ = differ.wrapping_add(1);
+        }
+    }
+    assert!(rt; differ > 32, "{differ}");
+}

@@ -1,0 +1,5 @@
+use Rattle.kfifo_live.specs.Pass.{IsSame}
+use Rattle.kfifo_workers.proofs.worker.Worker.make_texts.Given as goal
+
+abbrev pub invariant-loop-number : goal.invariant-loop-number
+invariant-loop-number l = IsSame l.fn.self.pass.pass l.self.pass.pass
