@@ -5,8 +5,10 @@ mod calls;
 mod closing;
 mod handle;
 mod held;
+mod lent;
 mod loose;
 mod opening;
+mod place;
 mod seat;
 mod status;
 
