@@ -1,5 +1,5 @@
 -- Passes of one opening, and handles that are open.
-use Rattle.std.proofs.Common.{◌≡◌, ◌<◌, ◌+◌, arith, take, sym, ap, ◌∙◌, map, reverse, length, ℕ, zero, suc, List, [], ◌∷◌, ◌++◌, Option, Some, None, is_some, true, refl, subst, Bool, T, not}
+use Rattle.std.proofs.Common.{◌≡◌, ◌<◌, ◌+◌, arith, take, sym, ap, ◌∙◌, map, reverse, length, ℕ, zero, suc, List, [], ◌∷◌, ◌++◌, Option, Some, None, refl}
 use Rattle.std.proofs.lemmas.List.{append_assoc, take_more_set, map-append, reverse-append, length-reverse, length-map}
 use Rattle.std.proofs.Math.ListN.{set}
 use Rattle.kfifo_live.specs.Pass.{OpenQueue, Known, IsOf, AllOf, new_passes}
@@ -23,8 +23,8 @@ pub something : (o : Option Seated) → ¬ (starts_of o ≡ 0) → (x : Seated) 
 something (Some x) some = (x, refl)
 something None some = absurd (some refl)
 
-pub open_at : (o : Option Seated) (start starts : ℕ) → starts ≡ starts_of o → start < starts → (x : Seated) × (o ≡ Some x)
-open_at o start starts e below = something o (λ none. omega arith)
+pub open_at : (o : Option Seated) (start : ℕ) → start < starts_of o → (x : Seated) × (o ≡ Some x)
+open_at o start below = something o (λ none. omega arith)
 
 -- and else it is closed
 pub closed_at : (o : Option Seated) → starts_of o ≡ 0 → o ≡ None

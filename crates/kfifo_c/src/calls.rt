@@ -16,8 +16,7 @@ pub extern "C" fn kfifo_c_enqueue(pass: &mut Handle, item: u32, start: u32, turn
     ensures answer { (answer : Option Answered) × (result ≡ number_of answer) × Tries (MayEnqueue item start turns) (Enqueue item start turns) answer pass.old.held.value pass.new.held.value }
     ensures place { pass.new.place ≡ pass.old.place }
 {
-    // A closed handle has no start.
-    if start >= pass.starts {
+    if !pass.has_start(start) {
         return BAD_CALL;
     }
     let answer = pass.held.seat_mut().enqueue(item, start, turns);
@@ -31,8 +30,7 @@ pub extern "C" fn kfifo_c_dequeue(pass: &mut Handle, item: &mut u32, start: u32,
     ensures answer { (answer : Option Answered) × (result ≡ number_of answer) × (item.new ≡ item_after item.old answer) × Tries (MayDequeue start turns) (Dequeue start turns) answer pass.old.held.value pass.new.held.value }
     ensures place { pass.new.place ≡ pass.old.place }
 {
-    // A closed handle has no start.
-    if start >= pass.starts {
+    if !pass.has_start(start) {
         return BAD_CALL;
     }
     let answer = pass.held.seat_mut().dequeue(start, turns);

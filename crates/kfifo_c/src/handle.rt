@@ -1,5 +1,5 @@
 //! What C holds for each thread.
-ghost use Rattle.std.specs.Prelude.{◌≡◌, Some, None, MatchOption};
+ghost use Rattle.std.specs.Prelude.{◌≡◌, ◌<◌, ◌↔◌, Some, None, IsTrue, MatchOption};
 ghost use Rattle.kfifo_c.specs.Seats.{starts_of};
 
 use crate::held::Held;
@@ -44,6 +44,14 @@ impl Handle {
             place,
             starts,
         }
+    }
+
+    /// Whether a scan by the handle may begin at this slot; by a closed handle it may at none.
+    #[inline(always)]
+    pub(crate) fn has_start(&self, start: u32) -> bool
+        ensures { IsTrue result ↔ (start < starts_of self.now.held.value) }
+    {
+        start < self.starts
     }
 
     /// The seat behind the handle, which is then closed.

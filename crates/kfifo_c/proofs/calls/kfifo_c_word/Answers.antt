@@ -1,4 +1,4 @@
-use Rattle.std.proofs.Common.{refl, ap, sym, ◌∙◌, Some}
+use Rattle.std.proofs.Common.{refl, ◌∙◌, Some}
 use Rattle.kfifo_c.proofs.Passes.{something}
 use Rattle.kfifo_c.proofs.calls.kfifo_c_word.Goals as goal
 

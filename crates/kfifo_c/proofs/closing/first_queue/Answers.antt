@@ -1,4 +1,4 @@
-use Rattle.std.proofs.Common.{◌≡◌, refl, sym, ap, ◌∙◌, get_or}
+use Rattle.std.proofs.Common.{sym, ap, ◌∙◌}
 use Rattle.kfifo_c.proofs.Passes.{something}
 use Rattle.kfifo_c.proofs.Closings.{put_back, same_place}
 use Rattle.kfifo_c.proofs.closing.first_queue.Goals as goal

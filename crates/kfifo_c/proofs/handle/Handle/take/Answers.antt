@@ -1,4 +1,4 @@
-use Rattle.std.proofs.Common.{◌≡◌, sym, ap, ◌∙◌}
+use Rattle.std.proofs.Common.{sym, ap, ◌∙◌}
 use Rattle.kfifo_c.proofs.Passes.{something, closed_at}
 use Rattle.kfifo_c.proofs.handle.Handle.take.Goals as goal
 

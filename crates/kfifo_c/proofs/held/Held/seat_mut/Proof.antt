@@ -6,7 +6,6 @@ use mir.Raw.{raw as bare}
 use base.Fraction.{full_share}
 use base.Logic.{SProp, ent, sep}
 use base.Fml.{Fml, Lft, GName, ftrue, fsep, flft}
-use prog.Wp.{WpFn}
 use types.Logic.{sem}
 use types.Kit.{‵, raw, ◌⊛◌, some, later, at_ret, ◌$◌, ◌∵◌, !, qed, by, move, keep, drop, split, join, pick, use1, await, group, rewrite, frame, done, suffices, fsplit, fsplit3, fjoin, fpack}
 use types.Run.{stop, fld, load, addr, of_opd, first, blocks, exec, returns, enter}
