@@ -9,5 +9,5 @@ abbrev pub behind : List Handle → List (Option Seated)
 behind = map (λ handle. handle.held.value)
 
 -- and where their queues are
-abbrev pub places : List Handle → List Ptr
-places = map (λ handle. handle.place)
+abbrev pub addresses : List Handle → List Ptr
+addresses = map (λ handle. handle.address)

@@ -14,7 +14,7 @@ use std::alloc::Global;
 #[unsafe(no_mangle)]
 pub extern "C" fn kfifo_c_enqueue(pass: &mut Handle, item: u32, start: u32, turns: u16) -> u32
     ensures answer { (answer : Option Answered) × (result ≡ number_of answer) × Tries (MayEnqueue item start turns) (Enqueue item start turns) answer pass.old.held.value pass.new.held.value }
-    ensures place { pass.new.place ≡ pass.old.place }
+    ensures address { pass.new.address ≡ pass.old.address }
 {
     if !pass.has_start(start) {
         return BAD_CALL;
@@ -28,7 +28,7 @@ pub extern "C" fn kfifo_c_enqueue(pass: &mut Handle, item: u32, start: u32, turn
 #[unsafe(no_mangle)]
 pub extern "C" fn kfifo_c_dequeue(pass: &mut Handle, item: &mut u32, start: u32, turns: u16) -> u32
     ensures answer { (answer : Option Answered) × (result ≡ number_of answer) × (item.new ≡ item_after item.old answer) × Tries (MayDequeue start turns) (Dequeue start turns) answer pass.old.held.value pass.new.held.value }
-    ensures place { pass.new.place ≡ pass.old.place }
+    ensures address { pass.new.address ≡ pass.old.address }
 {
     if !pass.has_start(start) {
         return BAD_CALL;
@@ -44,7 +44,7 @@ pub extern "C" fn kfifo_c_dequeue(pass: &mut Handle, item: &mut u32, start: u32,
 #[unsafe(no_mangle)]
 pub extern "C" fn kfifo_c_word(pass: &mut Handle, index: usize, word: &mut u64) -> u32
     ensures read { (read : Option ℕ) × (result ≡ read_number read) × (word.new ≡ word_after word.old read) × TriesRead index read pass.old.held.value pass.new.held.value }
-    ensures place { pass.new.place ≡ pass.old.place }
+    ensures address { pass.new.address ≡ pass.old.address }
 {
     if pass.starts == 0 {
         return BAD_CALL;

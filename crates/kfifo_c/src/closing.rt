@@ -2,7 +2,7 @@
 ghost use Rattle.std.specs.Prelude.{◌≡◌, ◌⊎◌, ◌↔◌, ◌≤◌, ◌++◌, ◌==◌, None, Some, MatchOption, IfOk, IsErr, IsTrue, All, length, drop};
 ghost use Rattle.std.specs.List.{list_any};
 ghost use Rattle.kfifo_live.specs.Pass.{OpenQueue};
-ghost use Rattle.kfifo_c.specs.Handles.{behind, places};
+ghost use Rattle.kfifo_c.specs.Handles.{behind, addresses};
 ghost use Rattle.kfifo_c.specs.Exports.{AreOfOneQueue, AreTheirs, BeginsWith, HasEach, MayClose, ClosesInto, numbers_in, passes_in};
 
 use crate::handle::Handle;
@@ -14,7 +14,7 @@ use std::sync::Arc;
 /// A part in the queue of the first handle, and the number of its passes; none where it is closed, or not there.
 fn first_queue(handles: &mut [Handle]) -> Result<Option<(Arc<Queue, Global>, u32)>, AllocError>
     ensures same { behind handles.new ≡ behind handles.old }
-    ensures places { places handles.new ≡ places handles.old }
+    ensures addresses { addresses handles.new ≡ addresses handles.old }
     ensures first { IfOk result (λ found. MatchOption found (¬ ((queue : OpenQueue) × BeginsWith queue (behind handles.old))) (λ found. BeginsWith found.0.value (behind handles.old) × (found.1 ≡ found.0.value.opened.threads))) }
 {
     let Some(first) = handles.first_mut() else {
@@ -32,7 +32,7 @@ fn first_queue(handles: &mut [Handle]) -> Result<Option<(Arc<Queue, Global>, u32
 /// The numbers of the passes behind the open ones of these handles.
 fn numbers(alloc: Global, handles: &mut [Handle]) -> Result<Vec<u32>, AllocError>
     ensures same { behind handles.new ≡ behind handles.old }
-    ensures places { places handles.new ≡ places handles.old }
+    ensures addresses { addresses handles.new ≡ addresses handles.old }
     ensures numbers { IfOk result (λ numbers. numbers.items ≡ numbers_in (behind handles.old)) }
 {
     let mut numbers = Vec::with_capacity(alloc, handles.len())?;
@@ -74,7 +74,7 @@ fn ready(
 ) -> Result<Option<Arc<Queue, Global>>, AllocError>
     requires { AreOfOneQueue (behind handles.old) }
     ensures same { behind handles.new ≡ behind handles.old }
-    ensures places { places handles.new ≡ places handles.old }
+    ensures addresses { addresses handles.new ≡ addresses handles.old }
     ensures may { IfOk result (λ found. MatchOption found (¬ ((queue : OpenQueue) × MayClose queue (behind handles.old) room)) (λ queue. MayClose queue.value (behind handles.old) room)) }
 {
     let Some((queue, threads)) = first_queue(handles)? else {
@@ -133,7 +133,7 @@ pub extern "C" fn kfifo_c_close(
     requires { AreOfOneQueue (behind passes.old) }
     ensures answers { (result ≡ 0) ⊎ (result ≡ 6) ⊎ (result ≡ 7) ⊎ (result ≡ 9) }
     ensures bad { result ≡ 6 → ¬ ((queue : OpenQueue) × MayClose queue (behind passes.old) (length items.old)) }
-    ensures nothing { (result ≡ 6) ⊎ (result ≡ 7) → (behind passes.new ≡ behind passes.old) × (places passes.new ≡ places passes.old) }
+    ensures nothing { (result ≡ 6) ⊎ (result ≡ 7) → (behind passes.new ≡ behind passes.old) × (addresses passes.new ≡ addresses passes.old) }
     ensures closed { (result ≡ 0) ⊎ (result ≡ 9) → All (λ pass. pass.held.value ≡ None) passes.new }
     ensures done { result ≡ 0 → ClosesInto (behind passes.old) items.old items.new count.new }
     ensures kept { (result ≡ 6) ⊎ (result ≡ 7) ⊎ (result ≡ 9) → (items.new ≡ items.old) × (count.new ≡ count.old) }

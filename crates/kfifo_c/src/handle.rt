@@ -4,7 +4,7 @@ ghost use Rattle.kfifo_c.specs.Seats.{starts_of};
 
 use crate::held::Held;
 use crate::loose::Loose;
-use crate::place::no_place;
+use crate::address::no_address;
 use crate::seat::Seat;
 use std::alloc::Global;
 use std::mem::replace;
@@ -15,7 +15,7 @@ use std::mem::replace;
 pub struct Handle {
     pub(crate) held: Held,
     /// Where the queue is. C tells the handles of two queues apart by it.
-    pub place: *mut u8,
+    pub address: *mut u8,
     // So the test of a start tells a closed handle too.
     pub(crate) starts: u32,
     pub ghost starts_are: { starts ≡ starts_of held.value },
@@ -28,20 +28,20 @@ impl Handle {
     {
         Handle {
             held: Held::empty(),
-            place: no_place(),
+            address: no_address(),
             starts: 0,
         }
     }
 
-    /// A handle with this seat behind it, of a queue at this place.
-    pub(crate) fn of(seat: Box<Seat, Global>, place: *mut u8) -> Handle
+    /// A handle with this seat behind it, of a queue at this address.
+    pub(crate) fn of(seat: Box<Seat, Global>, address: *mut u8) -> Handle
         ensures seat { result.held.value ≡ Some seat.value }
-        ensures place { result.place ≡ place }
+        ensures address { result.address ≡ address }
     {
         let starts = seat.k();
         Handle {
             held: Held::of(Loose::of(seat)),
-            place,
+            address,
             starts,
         }
     }
@@ -61,7 +61,7 @@ impl Handle {
     {
         let Handle {
             held,
-            place: _,
+            address: _,
             starts,
         } = replace(self, Handle::closed());
         if starts == 0 {

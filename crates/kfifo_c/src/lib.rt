@@ -1,6 +1,7 @@
 //! The proved k-FIFO queue for C: a static library over the running queue.
 #![tactic(auto)]
 
+mod address;
 mod calls;
 mod closing;
 mod handle;
@@ -8,7 +9,6 @@ mod held;
 mod lent;
 mod loose;
 mod opening;
-mod place;
 mod seat;
 mod status;
 

@@ -8,7 +8,7 @@ ghost use Rattle.kfifo_c.specs.Handles.{behind};
 ghost use Rattle.kfifo_c.specs.Exports.{seats_of, Opens, OpensSizes, shape_number};
 
 use crate::handle::Handle;
-use crate::place::no_place;
+use crate::address::no_address;
 use crate::seat::Seat;
 use crate::status::{BAD_THREADS, DONE, open_status, shape_status};
 use kfifo_live::{OpenFault, Pass, Queue};
@@ -52,22 +52,22 @@ fn open_seats(
 }
 
 /// Where the queue of these seats is.
-fn place_of_all(seats: &[Box<Seat, Global>]) -> *mut u8 {
+fn address_of_all(seats: &[Box<Seat, Global>]) -> *mut u8 {
     match seats.first() {
-        Some(seat) => seat.place(),
-        None => no_place(),
+        Some(seat) => seat.address(),
+        None => no_address(),
     }
 }
 
 /// Puts the seats behind the handles, the last seat first.
-fn put_all(handles: &mut [Handle], mut seats: Vec<Box<Seat, Global>>, place: *mut u8)
+fn put_all(handles: &mut [Handle], mut seats: Vec<Box<Seat, Global>>, address: *mut u8)
     requires { length seats.items ≡ length handles.old }
     ensures behind { behind handles.new ≡ map Some (reverse (map (λ seat. seat.value) seats.items)) }
-    ensures place { All (λ handle. handle.place ≡ place) handles.new }
+    ensures address { All (λ handle. handle.address ≡ address) handles.new }
 {
     for handle in handles.iter_mut() {
         if let Some(seat) = seats.pop() {
-            *handle = Handle::of(seat, place);
+            *handle = Handle::of(seat, address);
         }
     }
 }
@@ -85,7 +85,7 @@ pub extern "C" fn kfifo_c_open(
     passes: &mut [Handle],
 ) -> u32
     ensures ok { result ≡ 0 → OpensSizes k segments last probes (length passes.old) (behind passes.new) }
-    ensures place { result ≡ 0 → (place : Ptr) × All (λ pass. pass.place ≡ place) passes.new }
+    ensures address { result ≡ 0 → (address : Ptr) × All (λ pass. pass.address ≡ address) passes.new }
     ensures refused { result ≢ 0 → passes.new ≡ passes.old }
     ensures shape { IfSome (fault_of k segments last probes) (λ fault. result ≡ shape_number fault) }
     ensures threads { fault_of k segments last probes ≡ None → (length passes.old ≡ 0) ⊎ (64 < length passes.old) → result ≡ 8 }
@@ -100,8 +100,8 @@ pub extern "C" fn kfifo_c_open(
     }
     match open_seats(alloc, shape, passes.len() as u32) {
         Ok(seats) => {
-            let place = place_of_all(seats.as_slice());
-            put_all(passes, seats, place);
+            let address = address_of_all(seats.as_slice());
+            put_all(passes, seats, address);
             DONE
         }
         Err(fault) => open_status(fault),

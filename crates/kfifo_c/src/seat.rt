@@ -5,7 +5,7 @@ ghost use Rattle.kfifo_live.specs.Pass.{IsOf};
 ghost use Rattle.kfifo_c.specs.Seats.{Seated, seated};
 ghost use Rattle.kfifo_c.specs.Exports.{MayEnqueue, MayDequeue, MayRead, Called, HasRead};
 
-use crate::place::place_of;
+use crate::address::address_of;
 use kfifo_live::{Pass, Queue};
 use kfifo_model::Answer;
 use std::alloc::{AllocError, Global};
@@ -67,8 +67,8 @@ impl Seat {
     }
 
     /// Where the queue is.
-    pub(crate) fn place(&self) -> *mut u8 {
-        place_of(&self.queue)
+    pub(crate) fn address(&self) -> *mut u8 {
+        address_of(&self.queue)
     }
 
     /// One more part in the queue.

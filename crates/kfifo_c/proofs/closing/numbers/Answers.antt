@@ -1,8 +1,8 @@
 use Rattle.std.proofs.Common.{take, get_or, refl, ◌++◌, ◌∷◌, [], Some, None, sym, ap, ◌∙◌, arith}
-use Rattle.kfifo_c.specs.Handles.{behind, places}
+use Rattle.kfifo_c.specs.Handles.{behind, addresses}
 use Rattle.kfifo_c.specs.Exports.{numbers_in}
 use Rattle.kfifo_c.proofs.Passes.{something, closed_at}
-use Rattle.kfifo_c.proofs.Closings.{put_back, same_place, next_behind, numbers_more, numbers_same}
+use Rattle.kfifo_c.proofs.Closings.{put_back, same_address, next_behind, numbers_more, numbers_same}
 use Rattle.kfifo_c.proofs.closing.numbers.Goals.{then-handle-ne0+in_ok-push, else-handle-ne0}
 use Rattle.kfifo_c.proofs.closing.numbers.Goals as goal
 
@@ -12,8 +12,8 @@ seat_mut-requires c = something _ (λ e. c.if-handle-ne0.true ((get_or c.loop-ha
 pub returns-in_err-push-clause-same : goal.returns-in_err-push-clause-same
 returns-in_err-push-clause-same c = put_back c.loop-handle.handles c.loop-handle.handle-index _ c.handle-item.result (sym c.seat_mut.ensures.value) ∙ c.loop-handle.invariant.same
 
-pub returns-in_err-push-clause-places : goal.returns-in_err-push-clause-places
-returns-in_err-push-clause-places c = same_place c.loop-handle.handles c.loop-handle.handle-index _ c.handle-item.result refl ∙ c.loop-handle.invariant.places
+pub returns-in_err-push-clause-addresses : goal.returns-in_err-push-clause-addresses
+returns-in_err-push-clause-addresses c = same_address c.loop-handle.handles c.loop-handle.handle-index _ c.handle-item.result refl ∙ c.loop-handle.invariant.addresses
 
 pub loop-handle-preserved : goal.loop-handle-preserved
 loop-handle-preserved c =
@@ -21,14 +21,14 @@ loop-handle-preserved c =
     elim c.if-handle-ne0.branch [
       | then-handle-ne0+in_ok-push w ↦ record {
         same = ap behind w.handles-is ∙ put_back hs i _ d (sym w.seat_mut.ensures.value) ∙ c.loop-handle.invariant.same;
-        places = ap places w.handles-is ∙ same_place hs i _ d refl ∙ c.loop-handle.invariant.places;
+        addresses = ap addresses w.handles-is ∙ same_address hs i _ d refl ∙ c.loop-handle.invariant.addresses;
         found = ap (λ v. v.items) w.numbers-is ∙ w.in_ok-push.ensures.items ∙ ap (λ l. l ++ w.thread.result ∷ []) c.loop-handle.invariant.found
             ∙ ap (λ n. numbers_in (take i os) ++ n ∷ []) w.thread.ensures
             ∙ sym (numbers_more (take i os) w.seat_mut.result.now) ∙ ap numbers_in (sym (next_behind hs os i d (Some w.seat_mut.result.now) c.loop-handle.invariant.same (omega arith) w.seat_mut.ensures.value));
       }
       | else-handle-ne0 w ↦ record {
         same = ap behind w.handles-is ∙ put_back hs i _ d refl ∙ c.loop-handle.invariant.same;
-        places = ap places w.handles-is ∙ same_place hs i _ d refl ∙ c.loop-handle.invariant.places;
+        addresses = ap addresses w.handles-is ∙ same_address hs i _ d refl ∙ c.loop-handle.invariant.addresses;
         found = ap (λ v. v.items) w.numbers-is ∙ c.loop-handle.invariant.found
             ∙ sym (numbers_same (take i os)) ∙ ap numbers_in (sym (next_behind hs os i d None c.loop-handle.invariant.same (omega arith) (closed_at _ (sym (get_or hs i d).starts_are ∙ w.if-handle-ne0.false))));
       }

@@ -6,5 +6,5 @@ abbrev pub invariant-loop-handle : goal.invariant-loop-handle
 invariant-loop-handle l = record {
   left : length l.seats.items + l.handle-index ≡ length l.handles;
   put : behind (take l.handle-index l.handles) ++ map Some (reverse (map (λ seat. seat.value) l.seats.items)) ≡ map Some (reverse (map (λ seat. seat.value) l.fn.seats.items));
-  place : All (λ handle. handle.place ≡ l.place) (take l.handle-index l.handles);
+  address : All (λ handle. handle.address ≡ l.address) (take l.handle-index l.handles);
 }
