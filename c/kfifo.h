@@ -36,7 +36,7 @@ enum kfifo_status {
    copy it and use both. */
 typedef struct kfifo_pass {
     void *inside;
-    void *place;
+    void *address;
     uint32_t starts;
 } kfifo_pass;
 
@@ -54,7 +54,7 @@ static inline int kfifo_open(uint32_t k, uint32_t segments, uint32_t probes, uin
     if (!passes) return KFIFO_BAD_CALL;
     for (size_t i = 0; i < threads; i++) {
         passes[i].inside = NULL;
-        passes[i].place = NULL;
+        passes[i].address = NULL;
         passes[i].starts = 0;
     }
     return (int)kfifo_c_open(k, segments, probes, last, passes, threads);
@@ -84,9 +84,9 @@ static inline int kfifo_word(kfifo_pass *pass, size_t index, uint64_t *word) {
    LOST: closed, and the items are lost. */
 static inline int kfifo_close(kfifo_pass *passes, size_t threads, uint32_t *items, size_t room, size_t *count) {
     if (!passes || !items || !count) return KFIFO_BAD_CALL;
-    /* `place` is the address of the queue, which stays as long as a handle of it is open. */
+    /* `address` is that of the queue, which stays as long as a handle of it is open. */
     for (size_t i = 1; i < threads; i++)
-        if (passes[i].place != passes[0].place) return KFIFO_BAD_CALL;
+        if (passes[i].address != passes[0].address) return KFIFO_BAD_CALL;
     return (int)kfifo_c_close(passes, threads, items, room, count);
 }
 

@@ -2,9 +2,9 @@
 ghost use Rattle.std.specs.Prelude.{◌≡◌, ◌<◌, ◌↔◌, Some, None, IsTrue, MatchOption};
 ghost use Rattle.kfifo_c.specs.Seats.{starts_of};
 
+use crate::address::no_address;
 use crate::held::Held;
 use crate::loose::Loose;
-use crate::address::no_address;
 use crate::seat::Seat;
 use std::alloc::Global;
 use std::mem::replace;

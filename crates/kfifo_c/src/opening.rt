@@ -7,8 +7,8 @@ ghost use Rattle.kfifo_live.specs.declared.fault.OpenFault.TheVariants.{ThreadsO
 ghost use Rattle.kfifo_c.specs.Handles.{behind};
 ghost use Rattle.kfifo_c.specs.Exports.{seats_of, Opens, OpensSizes, shape_number};
 
-use crate::handle::Handle;
 use crate::address::no_address;
+use crate::handle::Handle;
 use crate::seat::Seat;
 use crate::status::{BAD_THREADS, DONE, open_status, shape_status};
 use kfifo_live::{OpenFault, Pass, Queue};
