@@ -9,6 +9,9 @@ use crate::status::{BAD_CALL, DONE, status};
 use kfifo_model::Answer;
 use std::alloc::Global;
 
+/// The most that an item can be, 2^24 - 1.
+const MAX_ITEM: u32 = 16_777_215;
+
 /// Puts an item into the queue of the handle: `Pass::enqueue`, and its answer's number. BAD_CALL, with nothing done, where the
 /// handle is closed, the item is not 1 to 2^24 - 1, `start` not below k, or `turns` 0.
 #[unsafe(no_mangle)]
@@ -16,7 +19,8 @@ pub extern "C" fn kfifo_c_enqueue(pass: &mut Handle, item: u32, start: u32, turn
     ensures answer { (answer : Option Answered) × (result ≡ number_of answer) × Tries (MayEnqueue item start turns) (Enqueue item start turns) answer pass.old.held.value pass.new.held.value }
     ensures address { pass.new.address ≡ pass.old.address }
 {
-    if !pass.has_start(start) {
+    // The look at the handle stands between two tests of registers: else the compiler makes one of them, and a longer one.
+    if item < 1 || item > MAX_ITEM || !pass.has_start(start) {
         return BAD_CALL;
     }
     let answer = pass.held.seat_mut().enqueue(item, start, turns);

@@ -12,9 +12,6 @@ use std::alloc::{AllocError, Global};
 use std::marker::Model;
 use std::sync::Arc;
 
-/// The most that an item can be, 2^24 - 1.
-const MAX_ITEM: u32 = 16_777_215;
-
 /// A pass, a part in the queue that it is of, and the number of that queue's passes.
 #[derive(Drop)]
 pub struct Seat {
@@ -91,19 +88,20 @@ impl Seat {
         pass
     }
 
-    /// The enqueue of the pass, if it may be made from this start.
+    /// The enqueue of the pass, if it may be made with so many turns.
     #[inline(always)]
     pub(crate) fn enqueue(&mut self, item: u32, start: u32, turns: u16) -> Option<Answer>
-        requires { start < self.old.queue.opened.shape.k }
+        requires item { (1 ≤ item) × (item < 2 ^ 24) }
+        requires start { start < self.old.queue.opened.shape.k }
         ensures { MatchOption result ((self.new ≡ self.old) × (¬ MayEnqueue item start turns self.old)) (λ answer. MayEnqueue item start turns self.old × Called (Enqueue item start turns) answer self.old self.new) }
     {
-        if item < 1 || item > MAX_ITEM || turns < 1 {
+        if turns < 1 {
             return None;
         }
         Some(self.pass.enqueue(&self.queue, item, start, turns))
     }
 
-    /// The dequeue of the pass, if it may be made from this start.
+    /// The dequeue of the pass, if it may be made with so many turns.
     #[inline(always)]
     pub(crate) fn dequeue(&mut self, start: u32, turns: u16) -> Option<Answer>
         requires { start < self.old.queue.opened.shape.k }
