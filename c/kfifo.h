@@ -36,10 +36,11 @@ enum kfifo_status {
    copy it and use both. */
 typedef struct kfifo_pass {
     void *inside;
-    uint64_t live;
+    void *address;
+    uint32_t starts;
 } kfifo_pass;
 
-/* The exports of the library, which test all but null pointers. Call those below. */
+/* The exports of the library, which test all but null pointers, and at a close that the handles are of one queue. Call those below. */
 uint32_t kfifo_c_open(uint32_t k, uint32_t segments, uint32_t probes, uint64_t last, kfifo_pass *passes, size_t threads);
 uint32_t kfifo_c_enqueue(kfifo_pass *pass, uint32_t item, uint32_t start, uint16_t turns);
 uint32_t kfifo_c_dequeue(kfifo_pass *pass, uint32_t *item, uint32_t start, uint16_t turns);
@@ -53,7 +54,8 @@ static inline int kfifo_open(uint32_t k, uint32_t segments, uint32_t probes, uin
     if (!passes) return KFIFO_BAD_CALL;
     for (size_t i = 0; i < threads; i++) {
         passes[i].inside = NULL;
-        passes[i].live = 0;
+        passes[i].address = NULL;
+        passes[i].starts = 0;
     }
     return (int)kfifo_c_open(k, segments, probes, last, passes, threads);
 }
@@ -78,9 +80,13 @@ static inline int kfifo_word(kfifo_pass *pass, size_t index, uint64_t *word) {
 }
 
 /* Closes a queue by the handles of all its passes, in any order, and writes the items that are left, and how many: DONE. There has to be
-   room for an item of each slot, k * segments. BAD_CALL or NO_MEMORY: nothing was done. LOST: closed, and the items are lost. */
+   room for an item of each slot, k * segments. BAD_CALL, also where they are of several queues, or NO_MEMORY: nothing was done.
+   LOST: closed, and the items are lost. */
 static inline int kfifo_close(kfifo_pass *passes, size_t threads, uint32_t *items, size_t room, size_t *count) {
     if (!passes || !items || !count) return KFIFO_BAD_CALL;
+    /* `address` is that of the queue, which stays as long as a handle of it is open. */
+    for (size_t i = 1; i < threads; i++)
+        if (passes[i].address != passes[0].address) return KFIFO_BAD_CALL;
     return (int)kfifo_c_close(passes, threads, items, room, count);
 }
 

@@ -13,12 +13,16 @@ use Rattle.kfifo_live.specs.Pass.{OpenQueue, Known, IsOf, AllOf, IsComplete, Clo
 use Rattle.kfifo_live.specs.Left.{item_in, slots_left, segments_left, items_left}
 use Rattle.kfifo_c.specs.declared.handle.Handle.{Handle}
 use Rattle.kfifo_c.specs.Seats.{Seated, seated}
-use Rattle.kfifo_c.specs.Handles.{behind}
+use Rattle.kfifo_c.specs.Handles.{behind, addresses}
 use Rattle.kfifo_c.specs.Exports.{seats_of, passes_in, numbers_in, BeginsWith, HasEach, MayClose, OneQueue, AreTheirs}
 
 -- a handle gets back what was behind it
 pub put_back : (hs : List Handle) (i : ℕ) (h d : Handle) → h.held.value ≡ (get_or hs i d).held.value → behind (set hs i h) ≡ behind hs
 put_back hs i h d e = map-set_same (λ handle. handle.held.value) hs i h d e
+
+-- and stays where it was
+pub same_address : (hs : List Handle) (i : ℕ) (h d : Handle) → h.address ≡ (get_or hs i d).address → addresses (set hs i h) ≡ addresses hs
+same_address hs i h d e = map-set_same (λ handle. handle.address) hs i h d e
 
 -- the next handle of a list
 pub next_behind : (hs : List Handle) (os : List (Option Seated)) (i : ℕ) (d : Handle) (o : Option Seated) → behind hs ≡ os → i < length hs → (get_or hs i d).held.value ≡ o

@@ -10,7 +10,7 @@ pub record Seated : Type 0 where
 abbrev pub seated : OpenQueue → Known → Seated
 seated q p = record { queue = q; pass = p }
 
--- the word by which an open handle is told from a closed one
-abbrev pub live_of : Option Seated → ℕ
-live_of None = 0
-live_of (Some seat) = 1
+-- from how many slots a scan by the handle may begin: k, and from none where it is closed
+abbrev pub starts_of : Option Seated → ℕ
+starts_of None = 0
+starts_of (Some seat) = seat.queue.opened.shape.k

@@ -9,43 +9,35 @@ use crate::status::{BAD_CALL, DONE, status};
 use kfifo_model::Answer;
 use std::alloc::Global;
 
+/// The most that an item can be, 2^24 - 1.
+const MAX_ITEM: u32 = 16_777_215;
+
 /// Puts an item into the queue of the handle: `Pass::enqueue`, and its answer's number. BAD_CALL, with nothing done, where the
 /// handle is closed, the item is not 1 to 2^24 - 1, `start` not below k, or `turns` 0.
 #[unsafe(no_mangle)]
-pub extern "C" fn kfifo_c_enqueue(
-    alloc: Global,
-    pass: &mut Handle,
-    item: u32,
-    start: u32,
-    turns: u16,
-) -> u32
-    ensures { (answer : Option Answered) × (result ≡ number_of answer) × Tries (MayEnqueue item start turns) (Enqueue item start turns) answer pass.old.held.value pass.new.held.value }
+pub extern "C" fn kfifo_c_enqueue(pass: &mut Handle, item: u32, start: u32, turns: u16) -> u32
+    ensures answer { (answer : Option Answered) × (result ≡ number_of answer) × Tries (MayEnqueue item start turns) (Enqueue item start turns) answer pass.old.held.value pass.new.held.value }
+    ensures address { pass.new.address ≡ pass.old.address }
 {
-    let Some(mut seat) = pass.take(alloc) else {
+    // The look at the handle stands between two tests of registers: else the compiler makes one of them, and a longer one.
+    if item < 1 || item > MAX_ITEM || !pass.has_start(start) {
         return BAD_CALL;
-    };
-    let answer = seat.enqueue(item, start, turns);
-    *pass = Handle::of(seat);
+    }
+    let answer = pass.held.seat_mut().enqueue(item, start, turns);
     status(answer)
 }
 
 /// Takes one of the k oldest items out of the queue of the handle: `Pass::dequeue`, and its answer's number; the item is
 /// written where there is one. BAD_CALL, with nothing done, where the handle is closed, `start` not below k, or `turns` 0.
 #[unsafe(no_mangle)]
-pub extern "C" fn kfifo_c_dequeue(
-    alloc: Global,
-    pass: &mut Handle,
-    item: &mut u32,
-    start: u32,
-    turns: u16,
-) -> u32
-    ensures { (answer : Option Answered) × (result ≡ number_of answer) × (item.new ≡ item_after item.old answer) × Tries (MayDequeue start turns) (Dequeue start turns) answer pass.old.held.value pass.new.held.value }
+pub extern "C" fn kfifo_c_dequeue(pass: &mut Handle, item: &mut u32, start: u32, turns: u16) -> u32
+    ensures answer { (answer : Option Answered) × (result ≡ number_of answer) × (item.new ≡ item_after item.old answer) × Tries (MayDequeue start turns) (Dequeue start turns) answer pass.old.held.value pass.new.held.value }
+    ensures address { pass.new.address ≡ pass.old.address }
 {
-    let Some(mut seat) = pass.take(alloc) else {
+    if !pass.has_start(start) {
         return BAD_CALL;
-    };
-    let answer = seat.dequeue(start, turns);
-    *pass = Handle::of(seat);
+    }
+    let answer = pass.held.seat_mut().dequeue(start, turns);
     if let Some(Answer::Got(taken)) = answer {
         *item = taken;
     }
@@ -54,20 +46,14 @@ pub extern "C" fn kfifo_c_dequeue(
 
 /// Reads the word of this index: `Pass::word`. BAD_CALL, with nothing done, where the handle is closed or there is no such word.
 #[unsafe(no_mangle)]
-pub extern "C" fn kfifo_c_word(
-    alloc: Global,
-    pass: &mut Handle,
-    index: usize,
-    word: &mut u64,
-) -> u32
-    ensures { (read : Option ℕ) × (result ≡ read_number read) × (word.new ≡ word_after word.old read) × TriesRead index read pass.old.held.value pass.new.held.value }
+pub extern "C" fn kfifo_c_word(pass: &mut Handle, index: usize, word: &mut u64) -> u32
+    ensures read { (read : Option ℕ) × (result ≡ read_number read) × (word.new ≡ word_after word.old read) × TriesRead index read pass.old.held.value pass.new.held.value }
+    ensures address { pass.new.address ≡ pass.old.address }
 {
-    let Some(mut seat) = pass.take(alloc) else {
+    if pass.starts == 0 {
         return BAD_CALL;
-    };
-    let read = seat.word(index);
-    *pass = Handle::of(seat);
-    match read {
+    }
+    match pass.held.seat_mut().word(index) {
         Some(bits) => {
             *word = bits;
             DONE

@@ -2,7 +2,7 @@
 ghost use Rattle.std.specs.Prelude.{◌≡◌, ◌⊎◌, ◌↔◌, ◌≤◌, ◌++◌, ◌==◌, None, Some, MatchOption, IfOk, IsErr, IsTrue, All, length, drop};
 ghost use Rattle.std.specs.List.{list_any};
 ghost use Rattle.kfifo_live.specs.Pass.{OpenQueue};
-ghost use Rattle.kfifo_c.specs.Handles.{behind};
+ghost use Rattle.kfifo_c.specs.Handles.{behind, addresses};
 ghost use Rattle.kfifo_c.specs.Exports.{AreOfOneQueue, AreTheirs, BeginsWith, HasEach, MayClose, ClosesInto, numbers_in, passes_in};
 
 use crate::handle::Handle;
@@ -12,37 +12,33 @@ use std::alloc::{AllocError, Global};
 use std::sync::Arc;
 
 /// A part in the queue of the first handle, and the number of its passes; none where it is closed, or not there.
-fn first_queue(
-    alloc: Global,
-    handles: &mut [Handle],
-) -> Result<Option<(Arc<Queue, Global>, u32)>, AllocError>
+fn first_queue(handles: &mut [Handle]) -> Result<Option<(Arc<Queue, Global>, u32)>, AllocError>
     ensures same { behind handles.new ≡ behind handles.old }
+    ensures addresses { addresses handles.new ≡ addresses handles.old }
     ensures first { IfOk result (λ found. MatchOption found (¬ ((queue : OpenQueue) × BeginsWith queue (behind handles.old))) (λ found. BeginsWith found.0.value (behind handles.old) × (found.1 ≡ found.0.value.opened.threads))) }
 {
-    if handles.is_empty() {
-        return Ok(None);
-    }
-    let Some(seat) = handles[0].take(alloc) else {
+    let Some(first) = handles.first_mut() else {
         return Ok(None);
     };
+    if first.starts == 0 {
+        return Ok(None);
+    }
+    let seat = first.held.seat_mut();
     let threads = seat.threads();
-    let shared = seat.share();
-    handles[0] = Handle::of(seat);
-    let queue = shared?;
+    let queue = seat.share()?;
     Ok(Some((queue, threads)))
 }
 
 /// The numbers of the passes behind the open ones of these handles.
 fn numbers(alloc: Global, handles: &mut [Handle]) -> Result<Vec<u32>, AllocError>
     ensures same { behind handles.new ≡ behind handles.old }
+    ensures addresses { addresses handles.new ≡ addresses handles.old }
     ensures numbers { IfOk result (λ numbers. numbers.items ≡ numbers_in (behind handles.old)) }
 {
     let mut numbers = Vec::with_capacity(alloc, handles.len())?;
     for handle in handles.iter_mut() {
-        if let Some(seat) = handle.take(alloc) {
-            let number = seat.thread();
-            *handle = Handle::of(seat);
-            numbers.push(number)?;
+        if handle.starts != 0 {
+            numbers.push(handle.held.seat_mut().thread())?;
         }
     }
     Ok(numbers)
@@ -78,9 +74,10 @@ fn ready(
 ) -> Result<Option<Arc<Queue, Global>>, AllocError>
     requires { AreOfOneQueue (behind handles.old) }
     ensures same { behind handles.new ≡ behind handles.old }
+    ensures addresses { addresses handles.new ≡ addresses handles.old }
     ensures may { IfOk result (λ found. MatchOption found (¬ ((queue : OpenQueue) × MayClose queue (behind handles.old) room)) (λ queue. MayClose queue.value (behind handles.old) room)) }
 {
-    let Some((queue, threads)) = first_queue(alloc, handles)? else {
+    let Some((queue, threads)) = first_queue(handles)? else {
         return Ok(None);
     };
     let shape = queue.shape();
@@ -136,7 +133,7 @@ pub extern "C" fn kfifo_c_close(
     requires { AreOfOneQueue (behind passes.old) }
     ensures answers { (result ≡ 0) ⊎ (result ≡ 6) ⊎ (result ≡ 7) ⊎ (result ≡ 9) }
     ensures bad { result ≡ 6 → ¬ ((queue : OpenQueue) × MayClose queue (behind passes.old) (length items.old)) }
-    ensures nothing { (result ≡ 6) ⊎ (result ≡ 7) → behind passes.new ≡ behind passes.old }
+    ensures nothing { (result ≡ 6) ⊎ (result ≡ 7) → (behind passes.new ≡ behind passes.old) × (addresses passes.new ≡ addresses passes.old) }
     ensures closed { (result ≡ 0) ⊎ (result ≡ 9) → All (λ pass. pass.held.value ≡ None) passes.new }
     ensures done { result ≡ 0 → ClosesInto (behind passes.old) items.old items.new count.new }
     ensures kept { (result ≡ 6) ⊎ (result ≡ 7) ⊎ (result ≡ 9) → (items.new ≡ items.old) × (count.new ≡ count.old) }

@@ -1,7 +1,8 @@
 //! What C holds for each thread.
-ghost use Rattle.std.specs.Prelude.{◌≡◌, Some, None, MatchOption};
-ghost use Rattle.kfifo_c.specs.Seats.{live_of};
+ghost use Rattle.std.specs.Prelude.{◌≡◌, ◌<◌, ◌↔◌, Some, None, IsTrue, MatchOption};
+ghost use Rattle.kfifo_c.specs.Seats.{starts_of};
 
+use crate::address::no_address;
 use crate::held::Held;
 use crate::loose::Loose;
 use crate::seat::Seat;
@@ -13,42 +14,57 @@ use std::mem::replace;
 #[derive(Drop)]
 pub struct Handle {
     pub(crate) held: Held,
-    // A word, so that no byte of padding is written at each call.
-    pub(crate) live: u64,
-    pub ghost is_live: { live ≡ live_of held.value },
+    /// Where the queue is. C tells the handles of two queues apart by it.
+    pub address: *mut u8,
+    // So the test of a start tells a closed handle too.
+    pub(crate) starts: u32,
+    pub ghost starts_are: { starts ≡ starts_of held.value },
 }
 
 impl Handle {
     /// A handle with nothing behind it.
-    #[inline(always)]
     pub(crate) fn closed() -> Handle
         ensures { result.held.value ≡ None }
     {
         Handle {
             held: Held::empty(),
-            live: 0,
+            address: no_address(),
+            starts: 0,
         }
     }
 
-    /// A handle with this seat behind it.
-    #[inline(always)]
-    pub(crate) fn of(seat: Box<Seat, Global>) -> Handle
-        ensures { result.held.value ≡ Some seat.value }
+    /// A handle with this seat behind it, of a queue at this address.
+    pub(crate) fn of(seat: Box<Seat, Global>, address: *mut u8) -> Handle
+        ensures seat { result.held.value ≡ Some seat.value }
+        ensures address { result.address ≡ address }
     {
+        let starts = seat.k();
         Handle {
             held: Held::of(Loose::of(seat)),
-            live: 1,
+            address,
+            starts,
         }
+    }
+
+    /// Whether a scan by the handle may begin at this slot; by a closed handle it may at none.
+    #[inline(always)]
+    pub(crate) fn has_start(&self, start: u32) -> bool
+        ensures { IsTrue result ↔ (start < starts_of self.now.held.value) }
+    {
+        start < self.starts
     }
 
     /// The seat behind the handle, which is then closed.
-    #[inline(always)]
     pub(crate) fn take(&mut self, alloc: Global) -> Option<Box<Seat, Global>>
         ensures value { MatchOption result (self.old.held.value ≡ None) (λ seat. self.old.held.value ≡ Some seat.value) }
         ensures closed { self.new.held.value ≡ None }
     {
-        let Handle { held, live } = replace(self, Handle::closed());
-        if live == 0 {
+        let Handle {
+            held,
+            address: _,
+            starts,
+        } = replace(self, Handle::closed());
+        if starts == 0 {
             return None;
         }
         Some(held.into_loose(alloc).into_box())

@@ -13,7 +13,7 @@ use std::marker::Model;
 #[repr(C)]
 #[derive(Drop)]
 pub struct Held {
-    at: *mut u8,
+    pub(crate) at: *mut u8,
     pub ghost value: { Option Seated },
 }
 

@@ -1,11 +1,13 @@
 //! Opening a queue.
-ghost use Rattle.std.specs.Prelude.{◌≡◌, ◌≢◌, ◌<◌, ◌≤◌, ◌⊎◌, ◌↔◌, None, Some, IfSome, IfOk, IsErrOf, length, map, reverse};
+ghost use Rattle.std.specs.Prelude.{◌≡◌, ◌≢◌, ◌<◌, ◌≤◌, ◌⊎◌, ◌↔◌, None, Some, IfSome, IfOk, IsErrOf, All, length, map, reverse};
+ghost use denote.RawPtr.{Ptr};
 ghost use Rattle.kfifo_words.specs.Sizes.{fault_of};
 ghost use Rattle.kfifo_live.specs.Pass.{AllOf};
 ghost use Rattle.kfifo_live.specs.declared.fault.OpenFault.TheVariants.{ThreadsOutOfRange};
 ghost use Rattle.kfifo_c.specs.Handles.{behind};
 ghost use Rattle.kfifo_c.specs.Exports.{seats_of, Opens, OpensSizes, shape_number};
 
+use crate::address::no_address;
 use crate::handle::Handle;
 use crate::seat::Seat;
 use crate::status::{BAD_THREADS, DONE, open_status, shape_status};
@@ -49,14 +51,23 @@ fn open_seats(
     Ok(seats)
 }
 
+/// Where the queue of these seats is.
+fn address_of_all(seats: &[Box<Seat, Global>]) -> *mut u8 {
+    match seats.first() {
+        Some(seat) => seat.address(),
+        None => no_address(),
+    }
+}
+
 /// Puts the seats behind the handles, the last seat first.
-fn put_all(handles: &mut [Handle], mut seats: Vec<Box<Seat, Global>>)
+fn put_all(handles: &mut [Handle], mut seats: Vec<Box<Seat, Global>>, address: *mut u8)
     requires { length seats.items ≡ length handles.old }
-    ensures { behind handles.new ≡ map Some (reverse (map (λ seat. seat.value) seats.items)) }
+    ensures behind { behind handles.new ≡ map Some (reverse (map (λ seat. seat.value) seats.items)) }
+    ensures address { All (λ handle. handle.address ≡ address) handles.new }
 {
     for handle in handles.iter_mut() {
         if let Some(seat) = seats.pop() {
-            *handle = Handle::of(seat);
+            *handle = Handle::of(seat, address);
         }
     }
 }
@@ -74,6 +85,7 @@ pub extern "C" fn kfifo_c_open(
     passes: &mut [Handle],
 ) -> u32
     ensures ok { result ≡ 0 → OpensSizes k segments last probes (length passes.old) (behind passes.new) }
+    ensures address { result ≡ 0 → (address : Ptr) × All (λ pass. pass.address ≡ address) passes.new }
     ensures refused { result ≢ 0 → passes.new ≡ passes.old }
     ensures shape { IfSome (fault_of k segments last probes) (λ fault. result ≡ shape_number fault) }
     ensures threads { fault_of k segments last probes ≡ None → (length passes.old ≡ 0) ⊎ (64 < length passes.old) → result ≡ 8 }
@@ -88,7 +100,8 @@ pub extern "C" fn kfifo_c_open(
     }
     match open_seats(alloc, shape, passes.len() as u32) {
         Ok(seats) => {
-            put_all(passes, seats);
+            let address = address_of_all(seats.as_slice());
+            put_all(passes, seats, address);
             DONE
         }
         Err(fault) => open_status(fault),

@@ -5,14 +5,12 @@ ghost use Rattle.kfifo_live.specs.Pass.{IsOf};
 ghost use Rattle.kfifo_c.specs.Seats.{Seated, seated};
 ghost use Rattle.kfifo_c.specs.Exports.{MayEnqueue, MayDequeue, MayRead, Called, HasRead};
 
+use crate::address::address_of;
 use kfifo_live::{Pass, Queue};
 use kfifo_model::Answer;
 use std::alloc::{AllocError, Global};
 use std::marker::Model;
 use std::sync::Arc;
-
-/// The most that an item can be, 2^24 - 1.
-const MAX_ITEM: u32 = 16_777_215;
 
 /// A pass, a part in the queue that it is of, and the number of that queue's passes.
 #[derive(Drop)]
@@ -58,6 +56,18 @@ impl Seat {
         self.threads
     }
 
+    /// Slots in a segment of the queue.
+    pub(crate) fn k(&self) -> u32
+        ensures { result ≡ self.now.queue.opened.shape.k }
+    {
+        self.queue.shape().k()
+    }
+
+    /// Where the queue is.
+    pub(crate) fn address(&self) -> *mut u8 {
+        address_of(&self.queue)
+    }
+
     /// One more part in the queue.
     pub(crate) fn share(&self) -> Result<Arc<Queue, Global>, AllocError>
         ensures { IfOk result (λ queue. queue.value ≡ self.now.queue) }
@@ -78,23 +88,26 @@ impl Seat {
         pass
     }
 
-    /// The enqueue of the pass, if it may be made.
+    /// The enqueue of the pass, if it may be made with so many turns.
     #[inline(always)]
     pub(crate) fn enqueue(&mut self, item: u32, start: u32, turns: u16) -> Option<Answer>
+        requires item { (1 ≤ item) × (item < 2 ^ 24) }
+        requires start { start < self.old.queue.opened.shape.k }
         ensures { MatchOption result ((self.new ≡ self.old) × (¬ MayEnqueue item start turns self.old)) (λ answer. MayEnqueue item start turns self.old × Called (Enqueue item start turns) answer self.old self.new) }
     {
-        if item < 1 || item > MAX_ITEM || start >= self.queue.shape().k() || turns < 1 {
+        if turns < 1 {
             return None;
         }
         Some(self.pass.enqueue(&self.queue, item, start, turns))
     }
 
-    /// The dequeue of the pass, if it may be made.
+    /// The dequeue of the pass, if it may be made with so many turns.
     #[inline(always)]
     pub(crate) fn dequeue(&mut self, start: u32, turns: u16) -> Option<Answer>
+        requires { start < self.old.queue.opened.shape.k }
         ensures { MatchOption result ((self.new ≡ self.old) × (¬ MayDequeue start turns self.old)) (λ answer. MayDequeue start turns self.old × Called (Dequeue start turns) answer self.old self.new) }
     {
-        if start >= self.queue.shape().k() || turns < 1 {
+        if turns < 1 {
             return None;
         }
         Some(self.pass.dequeue(&self.queue, start, turns))

@@ -1,6 +1,14 @@
-use Rattle.std.proofs.Common.{ap, sym, ◌∙◌, Some}
+use Rattle.std.proofs.Common.{◌<◌, ap, subst, refl}
+use Rattle.kfifo_c.specs.Seats.{starts_of}
+use Rattle.kfifo_c.proofs.Passes.{open_at}
 use Rattle.kfifo_c.proofs.Tried.{tried}
 use Rattle.kfifo_c.proofs.calls.kfifo_c_enqueue.Goals as goal
 
-pub returns : goal.returns
-returns c = (c.enqueue-answer.result, c.status.ensures, tried _ _ _ _ _ _ _ (c.in-Some.ensures.value ∙ ap Some (sym c.deref_mut.ensures.value)) c.of.ensures c.enqueue-answer.ensures)
+pub seat_mut-requires : goal.seat_mut-requires
+seat_mut-requires c = open_at _ c.args.start (c.has_start.ensures.0 c.if-not-has_start.false)
+
+pub enqueue-answer-requires-clause-start : goal.enqueue-answer-requires-clause-start
+enqueue-answer-requires-clause-start c = subst (λ n. c.args.start < n) (ap starts_of c.seat_mut.ensures.value) (c.has_start.ensures.0 c.if-not-has_start.false)
+
+pub returns-clause-answer : goal.returns-clause-answer
+returns-clause-answer c = (c.enqueue-answer.result, c.status.ensures, tried _ _ _ _ _ _ _ c.seat_mut.ensures.value refl c.enqueue-answer.ensures)

@@ -1,6 +1,9 @@
-use Rattle.std.proofs.Common.{refl, ap, sym, ◌∙◌, Some}
+use Rattle.std.proofs.Common.{refl, ◌∙◌, Some}
+use Rattle.kfifo_c.proofs.Passes.{something}
 use Rattle.kfifo_c.proofs.calls.kfifo_c_word.Goals as goal
 
-pub returns-in-Some-read : goal.returns-in-Some-read
-returns-in-Some-read c =
-    (Some c.in-Some-read.bits, refl, refl, (c.deref_mut.result.now, c.word-read.new.self, c.in-Some.ensures.value ∙ ap Some (sym c.deref_mut.ensures.value), c.of.ensures, c.in-Some-read.ensures.0, c.in-Some-read.ensures.1))
+pub seat_mut-requires : goal.seat_mut-requires
+seat_mut-requires c = something _ (λ e. c.if-pass-eq0.false (c.args.pass.now.starts_are ∙ e))
+
+pub returns-in-Some-clause-read : goal.returns-in-Some-clause-read
+returns-in-Some-clause-read c = (Some c.in-Some.bits, refl, refl, (c.seat_mut.result.now, c.word.new.self, c.seat_mut.ensures.value, refl, c.in-Some.ensures.0, c.in-Some.ensures.1))

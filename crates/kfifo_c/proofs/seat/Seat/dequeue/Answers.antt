@@ -1,4 +1,4 @@
-use Rattle.std.proofs.Common.{◌<◌, refl, ap, subst, ◌∙◌}
+use Rattle.std.proofs.Common.{◌<◌, refl, sym, subst}
 use Rattle.kfifo_machine.specs.declared.event.Begin.TheVariants.{Dequeue}
 use Rattle.kfifo_c.specs.Seats.{Seated, seated}
 use Rattle.kfifo_c.specs.Exports.{MayDequeue, Called}
@@ -6,7 +6,7 @@ use Rattle.kfifo_c.proofs.seat.Seat.dequeue.Goals as goal
 
 pub returns : goal.returns
 returns c =
-    let below = subst (λ n. c.args.start < n) (c.k.ensures ∙ ap (λ s. s.k) c.shape.ensures ∙ ap (λ q. q.opened.shape.k) c.deref.ensures) c.if-start-k.false in
+    let below = subst (λ (s : Seated). c.args.start < s.queue.opened.shape.k) (sym c.self.view_is) c.requires in
     subst (λ (s : Seated). MayDequeue c.args.start c.args.turns s × Called (Dequeue c.args.start c.args.turns) c.dequeue.result s (seated c.self.inside.queue.value c.dequeue.new.self)) c.self.view_is (
       record {
         start_below = below;

@@ -1,4 +1,4 @@
-use Rattle.std.proofs.Common.{◌<◌, refl, ap, subst, ◌∙◌, arith}
+use Rattle.std.proofs.Common.{◌<◌, refl, sym, subst}
 use Rattle.kfifo_machine.specs.declared.event.Begin.TheVariants.{Enqueue}
 use Rattle.kfifo_c.specs.Seats.{Seated, seated}
 use Rattle.kfifo_c.specs.Exports.{MayEnqueue, Called}
@@ -6,11 +6,11 @@ use Rattle.kfifo_c.proofs.seat.Seat.enqueue.Goals as goal
 
 pub returns : goal.returns
 returns c =
-    let below = subst (λ n. c.args.start < n) (c.k.ensures ∙ ap (λ s. s.k) c.shape.ensures ∙ ap (λ q. q.opened.shape.k) c.deref.ensures) c.if-start-k.false in
+    let below = subst (λ (s : Seated). c.args.start < s.queue.opened.shape.k) (sym c.self.view_is) c.requires.start in
     subst (λ (s : Seated). MayEnqueue c.args.item c.args.start c.args.turns s × Called (Enqueue c.args.item c.args.start c.args.turns) c.enqueue.result s (seated c.self.inside.queue.value c.enqueue.new.self)) c.self.view_is (
       record {
-        some_item = c.if-item-lt1.false;
-        small_item = omega arith;
+        some_item = c.requires.item.0;
+        small_item = c.requires.item.1;
         start_below = below;
         some_turn = c.if-turns-lt1.false;
       },

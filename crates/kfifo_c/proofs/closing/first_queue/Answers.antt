@@ -1,0 +1,21 @@
+use Rattle.std.proofs.Common.{sym, ap, ◌∙◌}
+use Rattle.kfifo_c.proofs.Passes.{something}
+use Rattle.kfifo_c.proofs.Closings.{put_back, same_address}
+use Rattle.kfifo_c.proofs.closing.first_queue.Goals as goal
+
+pub seat_mut-seat-requires : goal.seat_mut-seat-requires
+seat_mut-seat-requires c = something _ (λ e. c.if-first-eq0.false (c.in-Some.first.now.starts_are ∙ e))
+
+pub returns-in_err-queue-clause-same : goal.returns-in_err-queue-clause-same
+returns-in_err-queue-clause-same c =
+    put_back c.args.handles.now 0 _ c.in-Some.first.now (sym c.seat_mut-seat.ensures.value ∙ ap (λ h. h.held.value) c.in-Some.ensures.item.1)
+
+pub returns-in_err-queue-clause-addresses : goal.returns-in_err-queue-clause-addresses
+returns-in_err-queue-clause-addresses c = same_address c.args.handles.now 0 _ c.in-Some.first.now (ap (λ h. h.address) c.in-Some.ensures.item.1)
+
+pub returns-clause-same : goal.returns-clause-same
+returns-clause-same c =
+    put_back c.args.handles.now 0 _ c.in-Some.first.now (sym c.seat_mut-seat.ensures.value ∙ ap (λ h. h.held.value) c.in-Some.ensures.item.1)
+
+pub returns-clause-addresses : goal.returns-clause-addresses
+returns-clause-addresses c = same_address c.args.handles.now 0 _ c.in-Some.first.now (ap (λ h. h.address) c.in-Some.ensures.item.1)
