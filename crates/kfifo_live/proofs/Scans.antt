@@ -23,25 +23,32 @@ below_all shape segment inside =
     let k = shape.few_slots in
     omega arith
 
--- the slots from a scan's start on, as far as the end of the segment
-pub upper_each : (shape : Shape) (segment start origin first count : ℕ) → origin ≡ slot_at shape.k segment 0 → first ≡ origin + start → start + count ≤ shape.k
-    → (i : ℕ) → i < count → scan_index shape segment start (0 + i) ≡ first + i
+-- the slot at which a scan begins
+pub starts_at : (shape : Shape) (segment start origin index : ℕ) → origin ≡ slot_at shape.k segment 0 → index ≡ origin + start → start < shape.k → scan_index shape segment start 0 ≡ index
+unfolding scan_index
+starts_at shape segment start origin index at is within =
+    let here : (start + 0) % shape.k ≡ start = ap (λ n. n % shape.k) (let e : start + 0 ≡ start = omega arith in e) ∙ mod-eq_of_lt within in
+    omega (arith, at, is, here)
+
+-- the slots behind it, as far as the end of the segment
+pub upper_each : (shape : Shape) (segment start origin first count : ℕ) → origin ≡ slot_at shape.k segment 0 → first ≡ (origin + start) + 1 → start + 1 + count ≤ shape.k
+    → (i : ℕ) → i < count → scan_index shape segment start (1 + i) ≡ first + i
 unfolding scan_index
 upper_each shape segment start origin first count at is fits i less =
-    let here : (start + (0 + i)) % shape.k ≡ start + (0 + i) = mod-eq_of_lt (omega arith) in
+    let here : (start + (1 + i)) % shape.k ≡ start + (1 + i) = mod-eq_of_lt (omega arith) in
     omega (arith, at, is, here)
 
 abbrev pub upper_row : {shape : Shape} {stops : ℕ → Bool} {segment start limit : ℕ} → Scan shape stops segment start limit
-    → (origin first count : ℕ) → origin ≡ slot_at shape.k segment 0 → first ≡ origin + start → segment < shape.n → start + count ≤ shape.k → 0 < count → count ≤ limit → Row shape stops first count
+    → (origin first count : ℕ) → origin ≡ slot_at shape.k segment 0 → first ≡ (origin + start) + 1 → segment < shape.n → start + 1 + count ≤ shape.k → 0 < count → 1 + count ≤ limit → Row shape stops first count
 upper_row {shape} {stops} {segment} {start} {limit} scan origin first count at is inside fits some within = record {
   segment = segment;
   start = start;
   limit = limit;
   scan = scan;
-  offset = 0;
+  offset = 1;
   some = some;
   below = (let b = below_all shape segment inside in omega (arith, at, is, b));
-  within = omega (arith, within);
+  within = within;
   each = upper_each shape segment start origin first count at is fits;
 }
 

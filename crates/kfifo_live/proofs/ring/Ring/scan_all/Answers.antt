@@ -1,41 +1,33 @@
--- The slots from the start on, and then those before it.
-use Rattle.std.proofs.Common.{◌≡◌, ◌+◌, ◌-◌, ◌<◌, arith, refl}
-use Rattle.kfifo_machine.specs.declared.place.Found.TheVariants.{Nothing}
-use Rattle.kfifo_live.proofs.Scans.{upper_row, lower_row, row_ends, row_left}
-use Rattle.kfifo_live.proofs.Whole.{comes_as, stands_on, runs_on}
+-- The first slot, and then the others.
+use Rattle.std.proofs.Common.{◌≡◌, ◌+◌, ◌-◌, ◌<◌, ap, arith, refl, sym, ◌∙◌}
+use Rattle.kfifo_machine.specs.declared.place.Access.TheVariants.{Load}
+use Rattle.kfifo_machine.specs.declared.place.Found.TheVariants.{Slot}
+use Rattle.kfifo_live.proofs.Scans.{starts_at}
+use Rattle.kfifo_live.proofs.Whole.{awaits, comes, goes_to, stands_on, runs_on}
 use Rattle.kfifo_live.proofs.ring.Ring.scan_all.Goals as goal
 
-pub scan_row-requires : goal.scan_row-requires
-scan_row-requires g c =
+pub load-word-requires : goal.load-word-requires
+load-word-requires g c =
     let r = c.requires in
-    record { row = (upper_row r.scan.0 c.slot_index-origin.result _ ((c.slot_index-origin.result + c.args.limit) - (c.slot_index-origin.result + c.args.start)) c.slot_index-origin.ensures.value refl r.segment (omega arith) (omega arith) (omega arith), r.scan.1) }
+    awaits r.scan.1 (r.scan.0.is_scan.looks 0 ∙ ap Load (starts_at _ _ _ _ _ c.slot_index-origin.ensures.value refl r.start))
 
-pub returns-in-Slot : goal.returns-in-Slot
-returns-in-Slot g c scan stands =
-    let r = c.requires in
-    c.in-Slot.ensures (upper_row scan c.slot_index-origin.result _ ((c.slot_index-origin.result + c.args.limit) - (c.slot_index-origin.result + c.args.start)) c.slot_index-origin.ensures.value refl r.segment (omega arith) (omega arith) (omega arith)) stands
+pub returns-then-is_wanted : goal.returns-then-is_wanted
+returns-then-is_wanted g c scan stands =
+    comes stands c.load-word.ensures
+    (scan.is_scan.finds 0 c.load-word.result (sym c.is_wanted.ensures ∙ c.if-is_wanted.true) ∙ ap (λ n. scan.leads (Slot n c.load-word.result)) (starts_at _ _ _ _ _ c.slot_index-origin.ensures.value refl c.requires.start))
 
-pub returns-then-start-eq0 : goal.returns-then-start-eq0
-returns-then-start-eq0 g c scan stands =
+pub scan_rest_of_all-requires : goal.scan_rest_of_all-requires
+scan_rest_of_all-requires g c =
     let r = c.requires in
-    let row = upper_row scan c.slot_index-origin.result _ ((c.slot_index-origin.result + c.args.limit) - (c.slot_index-origin.result + c.args.start)) c.slot_index-origin.ensures.value refl r.segment (omega arith) (omega arith) (omega arith) in
-    comes_as (c.in_default.ensures row stands) (row_ends row (omega arith) Nothing)
-
-pub scan_row_by_two-requires : goal.scan_row_by_two-requires
-scan_row_by_two-requires g c =
-    let r = c.requires in
-    let less : 0 + ((c.slot_index-origin.result + c.args.limit) - (c.slot_index-origin.result + c.args.start)) < c.args.limit = omega arith in
-    let all : (0 + ((c.slot_index-origin.result + c.args.limit) - (c.slot_index-origin.result + c.args.start))) + c.args.start ≡ c.args.limit = omega arith in
-    let row = upper_row r.scan.0 c.slot_index-origin.result _ ((c.slot_index-origin.result + c.args.limit) - (c.slot_index-origin.result + c.args.start)) c.slot_index-origin.ensures.value refl r.segment (omega arith) (omega arith) (omega arith) in
-    let upper = comes_as (c.in_default.ensures row r.scan.1) (row_left row less) in
-    record { row = (lower_row r.scan.0 c.slot_index-origin.result c.args.start (0 + ((c.slot_index-origin.result + c.args.limit) - (c.slot_index-origin.result + c.args.start))) c.slot_index-origin.ensures.value r.segment r.start (omega arith) (omega arith) all (omega arith), stands_on r.scan.1.of upper) }
+    record {
+      segment = r.segment;
+      origin = c.slot_index-origin.ensures.value;
+      start = r.start;
+      limit = (omega arith, r.limit);
+      scan = (r.scan.0, goes_to r.scan.1 c.load-word.ensures (r.scan.0.is_scan.goes_on 0 c.load-word.result (sym c.is_wanted.ensures ∙ c.if-is_wanted.false) (λ last. c.if-limit-eq1.false (sym last))));
+    }
 
 pub returns : goal.returns
 returns g c scan stands =
-    let r = c.requires in
-    let less : 0 + ((c.slot_index-origin.result + c.args.limit) - (c.slot_index-origin.result + c.args.start)) < c.args.limit = omega arith in
-    let all : (0 + ((c.slot_index-origin.result + c.args.limit) - (c.slot_index-origin.result + c.args.start))) + c.args.start ≡ c.args.limit = omega arith in
-    let row = upper_row scan c.slot_index-origin.result _ ((c.slot_index-origin.result + c.args.limit) - (c.slot_index-origin.result + c.args.start)) c.slot_index-origin.ensures.value refl r.segment (omega arith) (omega arith) (omega arith) in
-    let rest = lower_row scan c.slot_index-origin.result c.args.start (0 + ((c.slot_index-origin.result + c.args.limit) - (c.slot_index-origin.result + c.args.start))) c.slot_index-origin.ensures.value r.segment r.start (omega arith) (omega arith) all (omega arith) in
-    let upper = comes_as (c.in_default.ensures row stands) (row_left row less) in
-    runs_on upper (comes_as (c.scan_row_by_two.ensures rest (stands_on stands.of upper)) (row_ends rest all c.scan_row_by_two.result))
+    let first = comes stands c.load-word.ensures (scan.is_scan.goes_on 0 c.load-word.result (sym c.is_wanted.ensures ∙ c.if-is_wanted.false) (λ last. c.if-limit-eq1.false (sym last))) in
+    runs_on first (c.scan_rest_of_all.ensures scan (stands_on stands.of first))
