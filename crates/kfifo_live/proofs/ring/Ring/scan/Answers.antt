@@ -1,5 +1,5 @@
 -- The first slot, and then the others.
-use Rattle.std.proofs.Common.{◌≡◌, ◌+◌, ◌-◌, ◌<◌, ap, arith, refl, sym, ◌∙◌}
+use Rattle.std.proofs.Common.{ap, arith, refl, sym, ◌∙◌}
 use Rattle.kfifo_machine.specs.declared.place.Access.TheVariants.{Load}
 use Rattle.kfifo_machine.specs.declared.place.Found.TheVariants.{Slot}
 use Rattle.kfifo_live.proofs.Scans.{starts_at}
