@@ -125,7 +125,7 @@ impl<T> Dequeue<'_, T> {
         let slots = self.ring.shape.k();
         match self
             .ring
-            .scan::<Filled>(seat, ends.head(), self.start, slots)
+            .scan_all::<Filled>(seat, ends.head(), self.start, slots)
         {
             Found::Slot { index, word } => self.empty_slot(seat, ends, index, word),
             Found::Nothing => self.leave_segment(seat, ends),

@@ -1,5 +1,6 @@
 //! Scans of a segment.
-ghost use Rattle.std.specs.Prelude.{◌≡◌, ◌<◌, ◌≤◌, ◌+◌, ℕ, Bool};
+ghost use Rattle.std.specs.Prelude.{◌≡◌, ◌<◌, ◌≤◌, ◌+◌, ◌-◌, ℕ, Bool};
+ghost use Rattle.kfifo_words.specs.Ring.{slot_at};
 ghost use Rattle.kfifo_live.specs.Step.{Comes, Stands};
 ghost use Rattle.kfifo_live.specs.Scans.{Row, Scan, after_row, is_empty, is_filled};
 
@@ -42,13 +43,12 @@ impl Wanted for Filled {
 }
 
 impl<T> Ring<'_, T> {
-    /// Looks for a filled slot, or for an empty one, among `count` slots side by side, at least one.
+    /// Looks for a filled slot, or for an empty one, from the index `first` up to before `end`, at one slot at least.
     #[inline(always)]
-    fn scan_row<W: Wanted>(self, seat: &mut ThreadSeat<T>, first: usize, count: u32) -> Found
-        requires row { (row : Row self.shape.now W.stops first count) × Stands self seat.old (row.scan.looking row.offset) }
-        ensures { (row : Row self.entry.shape.now W.stops first count) → Stands self.entry seat.old (row.scan.looking row.offset) → Comes seat.old (after_row row result) seat.new }
+    fn scan_row<W: Wanted>(self, seat: &mut ThreadSeat<T>, first: usize, end: usize) -> Found
+        requires row { (row : Row self.shape.now W.stops first (end - first)) × Stands self seat.old (row.scan.looking row.offset) }
+        ensures { (row : Row self.entry.shape.now W.stops first (end - first)) → Stands self.entry seat.old (row.scan.looking row.offset) → Comes seat.old (after_row row result) seat.new }
     {
-        let end = first + count as usize;
         let mut index = first;
         'slots: loop {
             let word = self.load(seat, index);
@@ -62,7 +62,7 @@ impl<T> Ring<'_, T> {
         }
     }
 
-    /// The same, two slots at a time, which takes fewer instructions where the row is long.
+    /// The same among `count` slots, two at a time, which takes fewer instructions where the row is long.
     ///
     /// It is for the second row of a scan, which few scans come to but those of an empty segment.
     #[inline(always)]
@@ -101,6 +101,70 @@ impl<T> Ring<'_, T> {
         }
     }
 
+    /// Looks at the other slots of a segment, all `limit` of them but the first, which was looked at: those
+    /// behind `start`, and then those before it. `origin` is the index of the segment's slot 0.
+    #[inline(always)]
+    fn scan_rest_of_all<W: Wanted>(
+        self,
+        seat: &mut ThreadSeat<T>,
+        segment: u32,
+        origin: usize,
+        start: u32,
+        limit: u32,
+    ) -> Found
+        requires segment { segment < self.shape.now.n }
+        requires origin { origin ≡ slot_at self.shape.now.k segment 0 }
+        requires start { start < self.shape.now.k }
+        requires limit { (2 ≤ limit) × (limit ≡ self.shape.now.k) }
+        requires scan { (scan : Scan self.shape.now W.stops segment start limit) × Stands self seat.old (scan.looking 1) }
+        ensures { (scan : Scan self.entry.shape.now W.stops segment start limit) → Stands self.entry seat.old (scan.looking 1) → Comes seat.old (scan.leads result) seat.new }
+    {
+        let first = origin + start as usize + 1;
+        let end = origin + limit as usize;
+        if first == end {
+            return self.scan_row_by_two::<W>(seat, origin, start);
+        }
+        if let Found::Slot { index, word } = self.scan_row::<W>(seat, first, end) {
+            return Found::Slot { index, word };
+        }
+        if start == 0 {
+            return Found::Nothing;
+        }
+        self.scan_row_by_two::<W>(seat, origin, start)
+    }
+
+    /// The same where `limit` slots are looked at, some or all.
+    #[inline(always)]
+    fn scan_rest_of_some<W: Wanted>(
+        self,
+        seat: &mut ThreadSeat<T>,
+        segment: u32,
+        origin: usize,
+        start: u32,
+        limit: u32,
+    ) -> Found
+        requires segment { segment < self.shape.now.n }
+        requires origin { origin ≡ slot_at self.shape.now.k segment 0 }
+        requires start { start < self.shape.now.k }
+        requires limit { (2 ≤ limit) × (limit ≤ self.shape.now.k) }
+        requires scan { (scan : Scan self.shape.now W.stops segment start limit) × Stands self seat.old (scan.looking 1) }
+        ensures { (scan : Scan self.entry.shape.now W.stops segment start limit) → Stands self.entry seat.old (scan.looking 1) → Comes seat.old (scan.leads result) seat.new }
+    {
+        let first = origin + start as usize + 1;
+        let upper = (limit - 1).min(self.shape.k() - start - 1);
+        if upper == 0 {
+            return self.scan_row_by_two::<W>(seat, origin, limit - 1);
+        }
+        let end = first + upper as usize;
+        if let Found::Slot { index, word } = self.scan_row::<W>(seat, first, end) {
+            return Found::Slot { index, word };
+        }
+        if upper + 1 == limit {
+            return Found::Nothing;
+        }
+        self.scan_row_by_two::<W>(seat, origin, limit - 1 - upper)
+    }
+
     /// Looks for a filled slot of a segment, or for an empty one: at `limit` slots, cyclically from `start`.
     #[inline(always)]
     pub(crate) fn scan<W: Wanted>(
@@ -125,16 +189,35 @@ impl<T> Ring<'_, T> {
         if limit == 1 {
             return Found::Nothing;
         }
-        let upper = (limit - 1).min(self.shape.k() - start - 1);
-        if upper == 0 {
-            return self.scan_row_by_two::<W>(seat, origin, limit - 1);
-        }
-        if let Found::Slot { index, word } = self.scan_row::<W>(seat, index + 1, upper) {
+        self.scan_rest_of_some::<W>(seat, segment, origin, start, limit)
+    }
+
+    /// Looks for a filled slot of a segment, or for an empty one: at all `limit` slots, cyclically from `start`.
+    ///
+    /// It takes fewer instructions than `scan`, since the ends of its rows are known with no minimum.
+    #[inline(always)]
+    pub(crate) fn scan_all<W: Wanted>(
+        self,
+        seat: &mut ThreadSeat<T>,
+        segment: u32,
+        start: u32,
+        limit: u32,
+    ) -> Found
+        requires segment { segment < self.shape.now.n }
+        requires start { start < self.shape.now.k }
+        requires limit { limit ≡ self.shape.now.k }
+        requires scan { (scan : Scan self.shape.now W.stops segment start limit) × Stands self seat.old (scan.looking 0) }
+        ensures { (scan : Scan self.entry.shape.now W.stops segment start limit) → Stands self.entry seat.old (scan.looking 0) → Comes seat.old (scan.leads result) seat.new }
+    {
+        let origin = self.shape.slot_index(segment, 0);
+        let index = origin + start as usize;
+        let word = self.load(seat, index);
+        if W::is_wanted(word) {
             return Found::Slot { index, word };
         }
-        if upper + 1 == limit {
+        if limit == 1 {
             return Found::Nothing;
         }
-        self.scan_row_by_two::<W>(seat, origin, limit - 1 - upper)
+        self.scan_rest_of_all::<W>(seat, segment, origin, start, limit)
     }
 }

@@ -3,8 +3,8 @@ use Rattle.kfifo_live.proofs.CallScans.{head_scan}
 use Rattle.kfifo_live.proofs.Whole.{stands_on, runs_on}
 use Rattle.kfifo_live.proofs.dequeue.Dequeue.round.Goals as goal
 
-pub scan-requires-clause-scan : goal.scan-requires-clause-scan
-scan-requires-clause-scan g c = (head_scan c.args.self c.args.ends _ _ c.head.ensures.value c.k-slots.ensures, c.requires)
+pub scan_all-requires-clause-scan : goal.scan_all-requires-clause-scan
+scan_all-requires-clause-scan g c = (head_scan c.args.self c.args.ends _ _ c.head.ensures.value c.k-slots.ensures, c.requires)
 
 pub empty_slot-requires : goal.empty_slot-requires
 empty_slot-requires g c = stands_on c.requires.of (c.in-Slot.ensures (head_scan c.args.self c.args.ends _ _ c.head.ensures.value c.k-slots.ensures) c.requires)
