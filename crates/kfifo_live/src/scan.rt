@@ -115,15 +115,12 @@ impl<T> Ring<'_, T> {
         requires segment { segment < self.shape.now.n }
         requires origin { origin ≡ slot_at self.shape.now.k segment 0 }
         requires start { start < self.shape.now.k }
-        requires limit { (2 ≤ limit) × (limit ≡ self.shape.now.k) }
+        requires limit { (start + 1 < limit) × (limit ≡ self.shape.now.k) }
         requires scan { (scan : Scan self.shape.now W.stops segment start limit) × Stands self seat.old (scan.looking 1) }
         ensures { (scan : Scan self.entry.shape.now W.stops segment start limit) → Stands self.entry seat.old (scan.looking 1) → Comes seat.old (scan.leads result) seat.new }
     {
         let first = origin + start as usize + 1;
         let end = origin + limit as usize;
-        if first == end {
-            return self.scan_row_by_two::<W>(seat, origin, start);
-        }
         if let Found::Slot { index, word } = self.scan_row::<W>(seat, first, end) {
             return Found::Slot { index, word };
         }
@@ -215,8 +212,12 @@ impl<T> Ring<'_, T> {
         if W::is_wanted(word) {
             return Found::Slot { index, word };
         }
-        if limit == 1 {
-            return Found::Nothing;
+        // A segment of one slot is left here too, so that longer ones need no test for it.
+        if index + 1 == origin + limit as usize {
+            if start == 0 {
+                return Found::Nothing;
+            }
+            return self.scan_row_by_two::<W>(seat, origin, start);
         }
         self.scan_rest_of_all::<W>(seat, segment, origin, start, limit)
     }
