@@ -282,11 +282,11 @@ fn refused_memory_of_payloads(rt: HostRuntime) -> Result<(), Fail> {
     let first = close_one(rt.alloc(), &drops);
     let first_drops = drops.swap(0, Ordering::SeqCst);
     let second = close_one(rt.alloc(), &drops);
+    let second_drops = drops.load(Ordering::SeqCst);
     assert!(rt; first == 7 || second == 7);
     // What was given was dropped once, also where the close was refused.
-    assert!(rt; first_drops == 1 || first != 7);
-    assert!(rt; first_drops <= 1);
-    assert_eq!(rt; drops.load(Ordering::SeqCst), 1);
+    assert!(rt; first_drops == 1 || (first == 0 && first_drops == 0));
+    assert!(rt; second_drops == 1 || (second == 0 && second_drops == 0));
     Ok(())
 }
 
