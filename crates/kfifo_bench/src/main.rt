@@ -1,8 +1,8 @@
 //! Makes many calls of a running queue by one thread, so that their instructions can be counted.
 //!
-//! The arguments are k, 1 to 64; `half` or `empty`; and the number of turns. The ring has 1,024 slots.
-//! With `half` it is filled half, and each turn makes an enqueue and a dequeue; with `empty` each turn
-//! makes a dequeue of an empty queue. It prints how many calls had the answer that is wanted.
+//! The arguments are k, 1 to 64; `half`, `empty` or `payloads`; and the number of turns. The ring has 1,024 slots.
+//! With `half` it is filled half, and each turn makes an enqueue and a dequeue; with `payloads` likewise, in a queue of payloads of
+//! 16 bytes; with `empty` each turn makes a dequeue of an empty queue. It prints how many calls had the answer that is wanted.
 #![tactic(auto)]
 
 ghost use Rattle.std.specs.Prelude.{◌≡◌, ◌<◌, ◌≤◌, ◌+◌, ◌*◌, ◌++◌};
@@ -11,9 +11,13 @@ ghost use Rattle.kfifo_live.specs.Pass.{IsOf, IsSame};
 ghost use Rattle.kfifo_bench.specs.Calls;
 ghost use Rattle.kfifo_bench.specs.Calls.{calls, items_put, next_state, spread};
 
-use kfifo_live::{Pass, Queue};
+mod payloads;
+
+use kfifo_live::{Pass, PayQueue, Queue};
 use kfifo_model::Answer;
 use kfifo_words::Shape;
+use payloads::{TOKENS, fill as fill_with_payloads, give_and_take};
+use std::alloc::Global;
 use std::io;
 
 /// More rounds than a call that nobody disturbs can need.
@@ -100,14 +104,57 @@ fn number(word: Option<String>, other: u32) -> u32 {
     }
 }
 
+/// What is measured.
+#[derive(Clone, Copy)]
+enum Mode {
+    Half,
+    Empty,
+    Payloads,
+}
+
+/// The mode that an argument names, half full where it names none.
+fn named(word: Option<String>) -> Mode {
+    match word {
+        Some(text) if text.as_str() == "empty" => Mode::Empty,
+        Some(text) if text.as_str() == "payloads" => Mode::Payloads,
+        _ => Mode::Half,
+    }
+}
+
+/// Makes calls of a queue of items, and counts those with the answer that is wanted; none where there is no memory.
+fn count_items(
+    alloc: Global,
+    shape: Shape,
+    mut starts: Starts,
+    is_empty: bool,
+    calls: u32,
+) -> Option<u64>
+    requires { starts.k ≡ shape.k }
+{
+    let (queue, mut passes) = Queue::open(alloc, shape, 1).ok()?;
+    let mut pass = passes.pop()?;
+    if is_empty {
+        return Some(take_none(&queue, &mut pass, &mut starts, calls));
+    }
+    fill(&queue, &mut pass, &mut starts);
+    Some(put_and_take(&queue, &mut pass, &mut starts, calls))
+}
+
+/// Makes calls of a queue of payloads likewise.
+fn count_payloads(alloc: Global, shape: Shape, mut starts: Starts, calls: u32) -> Option<u64>
+    requires { starts.k ≡ shape.k }
+{
+    let (queue, mut passes) = PayQueue::open(alloc, shape, 1, TOKENS).ok()?;
+    let mut pass = passes.pop()?;
+    fill_with_payloads(&queue, &mut pass, &mut starts);
+    Some(give_and_take(&queue, &mut pass, &mut starts, calls))
+}
+
 fn main(rt: HostRuntime) -> io::Result<()> {
     let mut args = std::env::args(&rt)?;
     args.next();
     let k = number(args.next(), 4);
-    let is_empty = match args.next() {
-        Some(text) => text.as_str() == "empty",
-        None => false,
-    };
+    let mode = named(args.next());
     let calls = number(args.next(), 1000);
     if k == 0 {
         return println!(rt; "no such k");
@@ -115,18 +162,14 @@ fn main(rt: HostRuntime) -> io::Result<()> {
     let Ok(shape) = Shape::new(k, 1024 / k, 1_099_511_627_775) else {
         return println!(rt; "no such k");
     };
-    let Ok((queue, mut passes)) = Queue::open(rt.alloc(), shape, 1) else {
-        return println!(rt; "no memory");
+    let starts = Starts { state: 12_345, k };
+    let wanted = match mode {
+        Mode::Half => count_items(rt.alloc(), shape, starts, false, calls),
+        Mode::Empty => count_items(rt.alloc(), shape, starts, true, calls),
+        Mode::Payloads => count_payloads(rt.alloc(), shape, starts, calls),
     };
-    let Some(mut pass) = passes.pop() else {
-        unreachable!()
-    };
-    let mut starts = Starts { state: 12_345, k };
-    let wanted = if is_empty {
-        take_none(&queue, &mut pass, &mut starts, calls)
-    } else {
-        fill(&queue, &mut pass, &mut starts);
-        put_and_take(&queue, &mut pass, &mut starts, calls)
-    };
-    println!(rt; "{wanted}")
+    match wanted {
+        Some(wanted) => println!(rt; "{wanted}"),
+        None => println!(rt; "no memory"),
+    }
 }

@@ -1,9 +1,8 @@
 //! What the commands answer to records, whole and broken off.
+use crate::streams::{Pieces, sink_with, source_of};
 use kfifo_judge::{FromStd, StreamFault, check_stream, measure_stream};
 use kfifo_model::{RecordFault, SearchFault};
 use std::alloc::Global;
-use std::io;
-use std::io::{ErrorKind, Read, Write};
 use std::test::Fail;
 
 const EARLY_EMPTY: &str =
@@ -17,78 +16,6 @@ const RELAXED: &str = r#"[{"thread":0,"op":"enq","item":1,"first":0,"last":8,"an
 {"thread":0,"op":"deq","first":47,"last":52,"answer":"got","item":1},
 {"thread":0,"op":"deq","first":53,"last":64,"answer":"got","item":4},
 {"thread":0,"op":"deq","first":65,"last":70,"answer":"got","item":3}]"#;
-
-/// Gives bytes a few at a time, and fails at one of its calls.
-#[derive(Drop)]
-struct Pieces<'a> {
-    bytes: &'a [u8],
-    step: usize,
-    fails_at: u64,
-    calls: u64,
-}
-
-impl Read for Pieces<'_> {
-    fn read(&mut self, piece: &mut [u8]) -> io::Result<usize> {
-        self.calls = self.calls.wrapping_add(1);
-        if self.calls == self.fails_at {
-            return Err(ErrorKind::Other.into());
-        }
-        let count = piece.len().min(self.bytes.len()).min(self.step);
-        piece[..count].copy_from_slice(&self.bytes[..count]);
-        self.bytes = &self.bytes[count..];
-        Ok(count)
-    }
-}
-
-/// Takes bytes a few at a time, and fails at one of its calls, or takes none there.
-#[derive(Drop)]
-struct Page {
-    taken: Vec<u8>,
-    step: usize,
-    fails_at: u64,
-    stalls_at: u64,
-    calls: u64,
-}
-
-impl Write for Page {
-    fn write(&mut self, piece: &[u8]) -> io::Result<usize> {
-        self.calls = self.calls.wrapping_add(1);
-        if self.calls == self.fails_at {
-            return Err(ErrorKind::Other.into());
-        }
-        if self.calls == self.stalls_at {
-            return Ok(0);
-        }
-        let count = piece.len().min(self.step);
-        self.taken.extend_from_slice(&piece[..count])?;
-        Ok(count)
-    }
-
-    fn flush(&mut self) -> io::Result<()> {
-        Ok(())
-    }
-}
-
-/// A source of the text, in pieces of seven bytes, that fails at a call, 0 for never.
-fn source_of(text: &str, fails_at: u64) -> FromStd<Pieces<'_>> {
-    FromStd::new(Pieces {
-        bytes: text.as_bytes(),
-        step: 7,
-        fails_at,
-        calls: 0,
-    })
-}
-
-/// A sink that takes three bytes at a time, and fails or stalls at a call, 0 for never.
-fn sink_with(alloc: Global, fails_at: u64, stalls_at: u64) -> FromStd<Page> {
-    FromStd::new(Page {
-        taken: Vec::new(alloc),
-        step: 3,
-        fails_at,
-        stalls_at,
-        calls: 0,
-    })
-}
 
 #[test]
 fn checks(rt: HostRuntime) -> Result<(), Fail> {

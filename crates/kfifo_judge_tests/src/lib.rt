@@ -9,4 +9,6 @@ mod import;
 #[cfg(test)]
 mod judge;
 #[cfg(test)]
+mod streams;
+#[cfg(test)]
 mod verdict;

@@ -11,7 +11,7 @@ use std::process::Abort;
 use std::test::Fail;
 
 mod payloads;
-mod stamps;
+pub(crate) mod stamps;
 mod threads;
 
 const LAST: u64 = 1_099_511_627_775;

@@ -2,6 +2,7 @@
 ghost use Rattle.std.specs.Prelude.{◌≡◌, ◌<◌, All, IsTrue};
 ghost use Rattle.kfifo_record.specs.Scripts.{AreScripts, IsCall, scripts_in};
 
+use crate::live::stamps::count_overlaps;
 use kfifo_live::OpenFault;
 use kfifo_machine::Begin;
 use kfifo_model::{Answer, Call, End, History, Op, has_order, measure};
@@ -321,21 +322,6 @@ fn short_records_have_legal_orders(rt: HostRuntime) -> Result<(), Fail> {
         }
     }
     Ok(())
-}
-
-/// How many calls began before an earlier one had ended.
-fn count_overlaps(calls: &[Call]) -> usize {
-    let mut latest = 0u64;
-    let mut overlaps = 0usize;
-    for call in calls {
-        if call.first < latest {
-            overlaps = overlaps.saturating_add(1);
-        }
-        if let Some(end) = call.end {
-            latest = latest.max(end.last);
-        }
-    }
-    overlaps
 }
 
 #[test]

@@ -174,7 +174,7 @@ fn short_records_have_legal_orders(rt: HostRuntime) -> Result<(), Fail> {
 }
 
 /// How many calls began before an earlier one had ended.
-fn count_overlaps(calls: &[Call]) -> usize {
+pub(crate) fn count_overlaps(calls: &[Call]) -> usize {
     let mut latest = 0u64;
     let mut overlaps = 0usize;
     for call in calls {
