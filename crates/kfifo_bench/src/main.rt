@@ -1,8 +1,9 @@
 //! Makes many calls of a running queue by one thread, so that their instructions can be counted.
 //!
-//! The arguments are k, 1 to 64; `half`, `empty` or `payloads`; and the number of turns. The ring has 1,024 slots.
-//! With `half` it is filled half, and each turn makes an enqueue and a dequeue; with `payloads` likewise, in a queue of payloads of
-//! 16 bytes; with `empty` each turn makes a dequeue of an empty queue. It prints how many calls had the answer that is wanted.
+//! The arguments are k, 1 to 64; `half`, `empty`, `payloads`, `half-called` or `empty-called`; and the number of turns. The ring
+//! has 1,024 slots. With `half` it is filled half, and each turn makes an enqueue and a dequeue; with `payloads` likewise, in a
+//! queue of payloads of 16 bytes; with `empty` each turn makes a dequeue of an empty queue. The two modes that end in `called` do
+//! the same by functions that are not inlined. It prints how many calls had the answer that is wanted.
 #![tactic(auto)]
 
 ghost use Rattle.std.specs.Prelude.{◌≡◌, ◌<◌, ◌≤◌, ◌+◌, ◌*◌, ◌++◌};
@@ -11,6 +12,7 @@ ghost use Rattle.kfifo_live.specs.Pass.{IsOf, IsSame};
 ghost use Rattle.kfifo_bench.specs.Calls;
 ghost use Rattle.kfifo_bench.specs.Calls.{calls, items_put, next_state, spread};
 
+mod called;
 mod payloads;
 
 use kfifo_live::{Pass, PayQueue, Queue};
@@ -62,6 +64,8 @@ fn fill(queue: &Queue, pass: &mut Pass, starts: &mut Starts)
 }
 
 /// Puts and takes an item in turn, and counts the calls that did so.
+// Inlined, so that the loop stands in the function that has the queue itself.
+#[inline(always)]
 fn put_and_take(queue: &Queue, pass: &mut Pass, starts: &mut Starts, calls: u32) -> u64
     requires of { IsOf queue.now pass.old }
     requires k { starts.old.k ≡ queue.now.opened.shape.k }
@@ -81,6 +85,7 @@ fn put_and_take(queue: &Queue, pass: &mut Pass, starts: &mut Starts, calls: u32)
 }
 
 /// Takes from an empty queue, and counts the calls that found it empty.
+#[inline(always)]
 fn take_none(queue: &Queue, pass: &mut Pass, starts: &mut Starts, calls: u32) -> u64
     requires of { IsOf queue.now pass.old }
     requires k { starts.old.k ≡ queue.now.opened.shape.k }
@@ -110,6 +115,8 @@ enum Mode {
     Half,
     Empty,
     Payloads,
+    HalfCalled,
+    EmptyCalled,
 }
 
 /// The mode that an argument names, half full where it names none.
@@ -117,6 +124,8 @@ fn named(word: Option<String>) -> Mode {
     match word {
         Some(text) if text.as_str() == "empty" => Mode::Empty,
         Some(text) if text.as_str() == "payloads" => Mode::Payloads,
+        Some(text) if text.as_str() == "half-called" => Mode::HalfCalled,
+        Some(text) if text.as_str() == "empty-called" => Mode::EmptyCalled,
         _ => Mode::Half,
     }
 }
@@ -138,6 +147,25 @@ fn count_items(
     }
     fill(&queue, &mut pass, &mut starts);
     Some(put_and_take(&queue, &mut pass, &mut starts, calls))
+}
+
+/// The same, where no call is inlined.
+fn count_called(
+    alloc: Global,
+    shape: Shape,
+    mut starts: Starts,
+    is_empty: bool,
+    calls: u32,
+) -> Option<u64>
+    requires { starts.k ≡ shape.k }
+{
+    let (queue, mut passes) = Queue::open(alloc, shape, 1).ok()?;
+    let mut pass = passes.pop()?;
+    if is_empty {
+        return Some(called::take_none(&queue, &mut pass, &mut starts, calls));
+    }
+    fill(&queue, &mut pass, &mut starts);
+    Some(called::put_and_take(&queue, &mut pass, &mut starts, calls))
 }
 
 /// Makes calls of a queue of payloads likewise.
@@ -167,6 +195,8 @@ fn main(rt: HostRuntime) -> io::Result<()> {
         Mode::Half => count_items(rt.alloc(), shape, starts, false, calls),
         Mode::Empty => count_items(rt.alloc(), shape, starts, true, calls),
         Mode::Payloads => count_payloads(rt.alloc(), shape, starts, calls),
+        Mode::HalfCalled => count_called(rt.alloc(), shape, starts, false, calls),
+        Mode::EmptyCalled => count_called(rt.alloc(), shape, starts, true, calls),
     };
     match wanted {
         Some(wanted) => println!(rt; "{wanted}"),

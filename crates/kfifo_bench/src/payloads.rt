@@ -29,6 +29,7 @@ pub(crate) fn fill(queue: &PayQueue<Parcel>, pass: &mut PayPass<Parcel>, starts:
 }
 
 /// Gives and takes a payload in turn, and counts the calls that did so.
+#[inline(always)]
 pub(crate) fn give_and_take(
     queue: &PayQueue<Parcel>,
     pass: &mut PayPass<Parcel>,

@@ -28,13 +28,13 @@ const MAX_WORKERS: u32 = 63;
 /// Works off the tasks by worker threads over one queue of this shape, and gives the finished list: each task once, by rising id, with
 /// its sum and all its work added up. The list is that of one thread, whatever the threads do.
 ///
-/// The caller gives the tasks to the queue in their order. Each worker takes one, does a unit of work on it, and gives it back while work is left.
-/// Worker w, from 1, draws the starts of its calls from `Starts::new(seed, w, k)`, and passes the gate before each call to take. It ends where the queue is
-/// empty, where a version is used up, or after 65,536 calls. A task that the queue refuses is worked off by who held it; what is left when all have ended, by the
-/// caller. It returns where the gate's calls return.
+/// The caller gives the tasks to the queue in their order. Each worker takes one, does a unit of work on it, and gives it back while
+/// work is left. Worker w, from 1, draws the starts of its calls from `Starts::new(seed, w, k)`, and passes the gate before each call
+/// to take. It ends where the queue is empty, where a version is used up, or after 65,536 calls. A task that the queue refuses is
+/// worked off by who held it; what is left when all have ended, by the caller. It returns where the gate's calls return.
 ///
-/// TooManyTasks where there are over 1,024; then RepeatedId where two have one id; then WorkersOutOfRange where the number of workers is not 1 to 63; Memory where an
-/// allocation failed. After a refusal nothing is kept, and all workers that were started have ended.
+/// TooManyTasks where there are over 1,024; then RepeatedId where two have one id; then WorkersOutOfRange where the number of workers
+/// is not 1 to 63; Memory where an allocation failed. After a refusal nothing is kept, and all workers that were started have ended.
 pub fn dispatch<R: Threads + Sync, G: Gate + Sync>(
     threads: &R,
     alloc: Global,

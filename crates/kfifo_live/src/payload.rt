@@ -96,6 +96,7 @@ impl<T: Drop> PayQueue<T> {
 }
 
 /// Takes the payload out of the slot that is out with the seat, and lays the slot's token back.
+#[inline(always)]
 fn take_back<T: Drop>(
     shared: &Words<T>,
     seat: &mut ThreadSeat<T>,
@@ -143,6 +144,7 @@ impl<T: Drop> PayPass<T> {
     /// the pass keeps its tokens. It never allocates, waits or locks.
     ///
     /// What the pass has then seen keeps the promise of the queue, as with `Pass::enqueue`.
+    #[inline(always)]
     pub fn give(&mut self, queue: &PayQueue<T>, payload: T, start: u32, turns: u16) -> Given<T>
         requires of { IsOf queue.now self.old.pass }
         requires start { start < queue.now.opened.shape.k }
@@ -183,6 +185,7 @@ impl<T: Drop> PayPass<T> {
     /// the queue nobody enqueues it, so that enqueue put it. It never allocates, waits or locks.
     ///
     /// What the pass has then seen keeps the promise of the queue, as with `Pass::dequeue`.
+    #[inline(always)]
     pub fn take(&mut self, queue: &PayQueue<T>, start: u32, turns: u16) -> Taken<T>
         requires of { IsOf queue.now self.old.pass }
         requires start { start < queue.now.opened.shape.k }

@@ -5,6 +5,7 @@ use kfifo_words::Shape;
 use std::sync::atomic::{AtomicU64, Ordering};
 use std::test::Fail;
 use std::thread::yield_now;
+use std::time::Instant;
 
 /// The greatest version that a word can have, 2^40 - 1.
 const LAST: u64 = 1_099_511_627_775;
@@ -191,6 +192,36 @@ fn tasks_go_round(rt: HostRuntime) -> Result<(), Fail> {
     Ok(())
 }
 
+/// One worker takes tasks in the order that its starts give: each time the first that is there from the start on, round the segment.
+#[test]
+fn the_seed_picks_the_starts(rt: HostRuntime) -> Result<(), Fail> {
+    let shape = Shape::new(4, 2, LAST)?;
+    let tasks = [task(1, 1, 0), task(2, 1, 0), task(3, 1, 0), task(4, 1, 0)];
+    for seed in [0, 1, 7, 9_223_372_036_854_775_808u64] {
+        let order = Order {
+            workers: AtomicU64::new(0),
+            tasks: AtomicU64::new(0),
+        };
+        dispatch(&rt, rt.alloc(), tasks.as_slice(), 1, shape, seed, &order)?;
+        let mut starts = Starts::new(seed, 1, 4);
+        let mut is_there = [true; 4];
+        let mut wanted = 0u64;
+        for _take in 0..4u32 {
+            let mut slot = starts.draw() as usize % 4;
+            for _look in 0..4u32 {
+                if is_there[slot] {
+                    break;
+                }
+                slot = (slot + 1) % 4;
+            }
+            is_there[slot] = false;
+            wanted = wanted.wrapping_mul(10).wrapping_add(slot as u64 + 1);
+        }
+        assert_eq!(rt; order.tasks.load(Ordering::SeqCst), wanted);
+    }
+    Ok(())
+}
+
 /// A task that the queue refuses is worked off by the caller, who is worker 0.
 #[test]
 fn the_caller_works_off_what_is_refused(rt: HostRuntime) -> Result<(), Fail> {
@@ -250,6 +281,52 @@ fn refused_memory(rt: HostRuntime) -> Result<(), Fail> {
     };
     let list = [finished(2, 2), finished(3, 7), finished(9, 8)];
     assert_eq!(rt; done.as_slice(), list.as_slice());
+    Ok(())
+}
+
+/// Units of work that take some microseconds each.
+#[derive(Drop)]
+struct Laborious {
+    sum: AtomicU64,
+}
+
+impl Gate for Laborious {
+    fn pass(&self, _worker: u32, _call: u32) {}
+
+    fn unit(&self, _worker: u32, id: u32) {
+        let mut state = u64::from(id);
+        for _step in 0..4_096u32 {
+            state = (state ^ (state >> 29)).wrapping_mul(6_364_136_223_846_793_005);
+        }
+        self.sum.fetch_add(state, Ordering::SeqCst);
+    }
+}
+
+/// Prints how long one, two and four workers take where a unit of work takes longer than the calls of the queue. The finished
+/// lists and the work done are the same.
+#[test]
+fn times_of_workers(rt: HostRuntime) -> Result<(), Fail> {
+    let shape = Shape::new(4, 32, LAST)?;
+    let mut tasks = Vec::new(rt.alloc());
+    for id in 0..64u32 {
+        tasks.push(task(id, 256, 0))?;
+    }
+    let mut sum = None;
+    for workers in [1u32, 2, 4] {
+        let gate = Laborious {
+            sum: AtomicU64::new(0),
+        };
+        let start = Instant::now(&rt)?;
+        let done = dispatch(&rt, rt.alloc(), &tasks, workers, shape, 0, &gate)?;
+        let taken = start.elapsed(&rt)?;
+        assert_eq!(rt; done.len(), 64);
+        for each in &done {
+            assert_eq!(rt; each.sum, 32_896);
+        }
+        let own = gate.sum.load(Ordering::SeqCst);
+        assert_eq!(rt; *sum.get_or_insert(own), own);
+        eprintln!(rt; "workers {workers}: {taken:?}")?;
+    }
     Ok(())
 }
 
