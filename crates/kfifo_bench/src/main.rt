@@ -50,6 +50,8 @@ impl Starts {
 }
 
 /// Puts the items 1 to 512, one after the other.
+// Inlined, as the loops are, so that all stands in the function that has the queue itself.
+#[inline(always)]
 fn fill(queue: &Queue, pass: &mut Pass, starts: &mut Starts)
     requires of { IsOf queue.now pass.old }
     requires k { starts.old.k ≡ queue.now.opened.shape.k }

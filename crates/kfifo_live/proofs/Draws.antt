@@ -244,7 +244,7 @@ module _ {T : Type 0} (o : Opening) (s : State (Option T) (View T)) (id thread :
 
 -- Drawing keeps the rule
 pub draws_token : {T : Type 0} (o : Opening) (slots id : ℕ) (me : Me (Option T) (View T)) (i : ℕ) → IsAt None me → 0 < me.0.opened.tokens → me.1 ≡ [] → (x : ℕ) (xs : List ℕ) → (hand_of me.0).at_home ≡ x ∷ xs
-    → Allows (λ (s : State (Option T) (View T)). OneSchedule o s.words s.homes s.views) slots id me i (λ n. n) (λ found w. DrawsToken slots me w)
+    → Allows (λ (s : State (Option T) (View T)). OneSchedule o s.words s.homes s.views) slots id me i (λ n. n) (λ found w. DrawsToken slots None me w)
 draws_token {T} o slots id me i stood some_tokens none_held x xs was s kept homes at fits =
     let v = me.0 in
     let opened = (kept.fit id v at).opened in

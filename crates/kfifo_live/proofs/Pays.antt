@@ -141,26 +141,20 @@ module _ {T : Type 0} where
   first_is {thread} {token} {room} {items} others p popped = p.stacked ∙ ap reverse popped ∙ reverse-append others (token ∷ [])
 
   -- the token that was drawn is the one that the list gave
-  pub drawn_is : {thread token slots room : ℕ} {items : List ℕ} (others : List ℕ) {old mid : Me (Option T) (View T)} → IsPayPass thread old items room → items ≡ others ++ token ∷ [] → (d : DrawsToken slots old mid)
-      → (d.token ≡ token) × (d.others ≡ reverse others)
+  drawn_is : {thread token slots room : ℕ} {items : List ℕ} (others : List ℕ) {held : Option T} {old start : Me (Option T) (View T)} → IsPayPass thread old items room → items ≡ others ++ token ∷ []
+      → (d : DrawsToken slots held old start) → (d.token ≡ token) × (d.others ≡ reverse others)
   drawn_is others p popped d = drawn_same _ _ _ _ (sym d.was ∙ first_is others p popped)
 
-  pub slot_drawn : {thread token slots room : ℕ} {items : List ℕ} (others : List ℕ) {old mid : Me (Option T) (View T)} → IsPayPass thread old items room → items ≡ others ++ token ∷ [] → DrawsToken slots old mid → (mid.1 ≡ (token - 1, None) ∷ []) × (0 < token) × (token ≤ slots)
-  slot_drawn {thread} {token} {slots} others p popped d =
+  pub ready : {thread token slots room : ℕ} {items : List ℕ} (others : List ℕ) {old start : Me (Option T) (View T)} {payload : T} → IsPayPass thread old items room → items ≡ others ++ token ∷ []
+      → DrawsToken slots (Some payload) old start → IsReady thread token others payload slots old start
+  ready {thread} {token} {slots} {room} {items} others {old} {start} {payload} p popped d =
       let same = drawn_is others p popped d in
-      (d.holds ∙ ap (λ x. (x - 1, None) ∷ []) same.0, subst (λ x. 0 < x) same.0 d.some, subst (λ x. x ≤ slots) same.0 d.within)
-
-  pub ready : {thread token slots room : ℕ} {items : List ℕ} (others : List ℕ) {old mid start : Me (Option T) (View T)} {payload : T} → IsPayPass thread old items room → items ≡ others ++ token ∷ [] → DrawsToken slots old mid
-      → start ≡ (mid.0, (token - 1, Some payload) ∷ rest mid.1) → IsReady thread token others payload slots old start
-  ready {thread} {token} {slots} {room} {items} others {old} {mid} {start} {payload} p popped d filled =
-      let same = drawn_is others p popped d in
-      let s = slot_drawn others p popped d in
       record {
-        view = ap (λ (x : Me (Option T) (View T)). x.0) filled ∙ d.afterwards ∙ (λ i. with_seen old.0 (seen_of old.0) (gifts_of old.0) (record { at_home = same.1 i; out = same.0 i; payload = None }));
-        held = ap (λ (x : Me (Option T) (View T)). x.1) filled ∙ ap (λ xs. (token - 1, Some payload) ∷ rest xs) s.0;
+        view = d.afterwards ∙ (λ i. with_seen old.0 (seen_of old.0) (gifts_of old.0) (record { at_home = same.1 i; out = same.0 i; payload = None }));
+        held = d.holds ∙ ap (λ x. (x - 1, Some payload) ∷ []) same.0;
         first = first_is others p popped;
-        some = s.1;
-        within = s.2;
+        some = subst (λ x. 0 < x) same.0 d.some;
+        within = subst (λ x. x ≤ slots) same.0 d.within;
       }
 
   module _ {thread token slots room : ℕ} {items others : List ℕ} {old start : Me (Option T) (View T)} {payload : T} (p : IsPayPass thread old items room) (r : IsReady thread token others payload slots old start) where

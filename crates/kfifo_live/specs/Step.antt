@@ -82,15 +82,15 @@ module _ {T : Type 0} where
     pub in_turn : InTurn all gifts
     pub afterwards : w ≡ with_seen v all gifts (hand_of v)
 
-  -- Between two calls a thread takes the first of its tokens out: its seat then holds that slot, in which there is nothing
-  pub record DrawsToken (slots : ℕ) (v w : Me (Option T) (View T)) : Type 0 where
+  -- Between two calls a thread takes the first of its tokens out: its seat then holds that slot, with this in it
+  pub record DrawsToken (slots : ℕ) (held : Option T) (v w : Me (Option T) (View T)) : Type 0 where
     pub token : ℕ
     pub others : List ℕ
     pub was : (hand_of v.0).at_home ≡ token ∷ others
     pub some : 0 < token
     pub within : token ≤ slots
     pub afterwards : w.0 ≡ with_seen v.0 (seen_of v.0) (gifts_of v.0) (record { at_home = others; out = token; payload = None })
-    pub holds : w.1 ≡ (token - 1, None) ∷ []
+    pub holds : w.1 ≡ (token - 1, held) ∷ []
 
   -- It lays the token that is out back to its others. It has then no more of them than there are slots
   pub record LaysBack (slots : ℕ) (v w : Me (Option T) (View T)) : Type 0 where

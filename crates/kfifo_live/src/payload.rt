@@ -2,9 +2,9 @@
 //!
 //! While the queue has a payload, it lies in a slot of the queue's table. A *token* is an item of the plain queue
 //! that names such a slot, token x the slot x - 1. Who has a token may put its slot's payload into the queue.
-ghost use Rattle.std.specs.Prelude.{◌≡◌, ◌<◌, ◌≤◌, ◌+◌, ◌-◌, ◌*◌, ◌++◌, [], ◌∷◌, length, reverse, Some, None, vec_capacity};
+ghost use Rattle.std.specs.Prelude.{◌≡◌, ◌<◌, ◌≤◌, ◌+◌, ◌-◌, ◌*◌, ◌++◌, ℕ, List, [], ◌∷◌, length, reverse, Some, None, vec_capacity};
 ghost use Rattle.kfifo_live.specs.Schedule.{hand_of, seen_of, gifts_of, with_seen};
-ghost use Rattle.kfifo_live.specs.Step.{IsAt};
+ghost use Rattle.kfifo_live.specs.Step.{DrawsToken, IsAt};
 ghost use Rattle.kfifo_live.specs.Promise.{KeepsPromise};
 ghost use Rattle.kfifo_live.specs.Pass.{OpenQueue, queue_of, IsOf, IsSame};
 ghost use Rattle.kfifo_live.specs.Payloads.{PayKnown, pay_known_of, pay_opening, IsPayPass, Gives, TakesOut};
@@ -95,6 +95,20 @@ impl<T: Drop> PayQueue<T> {
     }
 }
 
+/// Takes the slot of the thread's first token out, and puts the payload into it.
+#[inline(always)]
+fn put_in<T: Drop>(shared: &Words<T>, seat: &mut ThreadSeat<T>, token: u32, payload: T)
+    requires table { (seat.old.table_id ≡ shared.now.table_id) × (0 < shared.now.table_id.words) }
+    requires idle { IsAt None seat.old.me × (0 < seat.old.me.0.opened.tokens) × (seat.old.me.1 ≡ []) }
+    requires first { (others : List ℕ) × ((hand_of seat.old.me.0).at_home ≡ token ∷ others) }
+    ensures same { seat.new.table_id ≡ seat.old.table_id }
+    ensures puts { DrawsToken shared.now.table_id.slots (Some payload) seat.old.me seat.new.me }
+{
+    draw_token(shared, seat);
+    let nothing = shared.exchange(seat, token as usize - 1, Some(payload));
+    let None = nothing else { unreachable!() };
+}
+
 /// Takes the payload out of the slot that is out with the seat, and lays the slot's token back.
 #[inline(always)]
 fn take_back<T: Drop>(
@@ -157,9 +171,7 @@ impl<T: Drop> PayPass<T> {
             return Given::NoToken(payload);
         };
         let shared = &queue.table.shared;
-        draw_token(shared, &mut self.seat);
-        let nothing = shared.exchange(&mut self.seat, token as usize - 1, Some(payload));
-        let None = nothing else { unreachable!() };
+        put_in(shared, &mut self.seat, token, payload);
         let ring = Ring {
             words: shared,
             shape: &queue.shape,

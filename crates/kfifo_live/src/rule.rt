@@ -64,7 +64,7 @@ impl<T> Play<Option<T>, View<T>> for Observation {
 pub struct DrawToken;
 
 impl<T> Play<Option<T>, View<T>> for DrawToken {
-    ghost then = { λ s v found w. DrawsToken s.slots v w };
+    ghost then = { λ s v found w. DrawsToken s.slots None v w };
 }
 
 /// A load with which it lays them back.

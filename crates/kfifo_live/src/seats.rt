@@ -23,7 +23,7 @@ pub(crate) fn draw_token<T>(shared: &Words<T>, seat: &mut ThreadSeat<T>)
     requires idle { IsAt None seat.old.me × (0 < seat.old.me.0.opened.tokens) × (seat.old.me.1 ≡ []) }
     requires some { (x : ℕ) × (xs : List ℕ) × ((hand_of seat.old.me.0).at_home ≡ x ∷ xs) }
     ensures same { seat.new.table_id ≡ seat.old.table_id }
-    ensures draws { DrawsToken shared.now.table_id.slots seat.old.me seat.new.me }
+    ensures draws { DrawsToken shared.now.table_id.slots None seat.old.me seat.new.me }
 {
     shared.load::<DrawToken>(seat, 0);
 }

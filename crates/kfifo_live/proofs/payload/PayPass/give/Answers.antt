@@ -20,14 +20,14 @@ returns-in_default-clause-promise g c = promised _ c.self.inside.seat.me c.self.
 
 pub enqueue-answer-requires-clause-rests : goal.enqueue-answer-requires-clause-rests
 enqueue-answer-requires-clause-rests g c =
-    let r = ready c.pop.new.self.items c.self.invariant c.in-Some.ensures.items c.draw_token.ensures.draws c.exchange-nothing.ensures.3 in
+    let r = ready c.pop.new.self.items c.self.invariant c.in-Some.ensures.items c.put_in.ensures.puts in
     let opened : c.self.inside.seat.me.0.opened ≡ pay_opening c.queue.inside.shape c.queue.inside.threads c.queue.inside.tokens =
     ap (λ (k : PayKnown g.row.T.Denot). k.pass.opened) c.self.view_is ∙ c.requires.of.1 ∙ sym (ap (λ (q : OpenQueue). q.opened) c.queue.view_is) in
     let table : c.self.inside.seat.table_id ≡ c.queue.inside.table.shared.table_id =
     ap (λ (k : PayKnown g.row.T.Denot). k.pass.table) c.self.view_is ∙ c.requires.of.0 ∙ sym (ap (λ (q : OpenQueue). q.table) c.queue.view_is) in
     record {
       of = record {
-        table = c.exchange-nothing.ensures.0 ∙ c.draw_token.ensures.same ∙ table;
+        table = c.put_in.ensures.same ∙ table;
         size = c.queue.invariant.1;
         sizes = ap (λ (o : Opening). o.shape) (opened_ready c.self.invariant r ∙ opened);
       };
@@ -36,19 +36,19 @@ enqueue-answer-requires-clause-rests g c =
     }
 
 pub invariant_of-self-in-Done : goal.invariant_of-self-in-Done
-invariant_of-self-in-Done g c = done_pass c.self.invariant (ready c.pop.new.self.items c.self.invariant c.in-Some.ensures.items c.draw_token.ensures.draws c.exchange-nothing.ensures.3) c.enqueue-answer.ensures.leads c.in-Done.is c.pop.ensures.capacity
+invariant_of-self-in-Done g c = done_pass c.self.invariant (ready c.pop.new.self.items c.self.invariant c.in-Some.ensures.items c.put_in.ensures.puts) c.enqueue-answer.ensures.leads c.in-Done.is c.pop.ensures.capacity
 
 pub returns-in-Done-clause-gives : goal.returns-in-Done-clause-gives
 returns-in-Done-clause-gives g c =
     subst (λ (x : PayKnown g.row.T.Denot). Gives c.args.start c.args.turns c.args.payload G.Done x (pay_known_of c.enqueue-answer.new.seat.table_id c.self.inside.thread c.enqueue-answer.new.seat.me.0)) c.self.view_is
-    (done_gives c.self.invariant (ready c.pop.new.self.items c.self.invariant c.in-Some.ensures.items c.draw_token.ensures.draws c.exchange-nothing.ensures.3) c.enqueue-answer.ensures.leads c.in-Done.is _ _)
+    (done_gives c.self.invariant (ready c.pop.new.self.items c.self.invariant c.in-Some.ensures.items c.put_in.ensures.puts) c.enqueue-answer.ensures.leads c.in-Done.is _ _)
 
 pub returns-in-Done-clause-promise : goal.returns-in-Done-clause-promise
 returns-in-Done-clause-promise g c = promised _ c.enqueue-answer.new.seat.me (invariant_of-self-in-Done g c).pass
 
 pub take_back-back-requires : goal.take_back-back-requires
 take_back-back-requires g c =
-    let r = (ready c.pop.new.self.items c.self.invariant c.in-Some.ensures.items c.draw_token.ensures.draws c.exchange-nothing.ensures.3) in
+    let r = ready c.pop.new.self.items c.self.invariant c.in-Some.ensures.items c.put_in.ensures.puts in
     let p = c.self.invariant in
     let l = c.enqueue-answer.ensures.leads in
     let not_done = c.in_default-answer.not-Done in
@@ -62,7 +62,7 @@ take_back-back-requires g c =
     let room = p.has_room in
     let capacity = c.pop.ensures.capacity in
     record {
-      table = (c.enqueue-answer.ensures.same_table ∙ c.exchange-nothing.ensures.0 ∙ c.draw_token.ensures.same ∙ table, (omega (arith, size)));
+      table = (c.enqueue-answer.ensures.same_table ∙ c.put_in.ensures.same ∙ table, (omega (arith, size)));
       idle = (idle_given p r l, some_given p r l);
       token = (r.some, refused_out_is p r l not_done);
       holds = (c.args.payload, refused_held p r l not_done);
@@ -70,9 +70,9 @@ take_back-back-requires g c =
       room = omega (arith, all, slots, room, capacity);
     }
 
-pub unreachable-requires-in_default-answer-2 : goal.unreachable-requires-in_default-answer-2
-unreachable-requires-in_default-answer-2 g c =
-    let r = (ready c.pop.new.self.items c.self.invariant c.in-Some.ensures.items c.draw_token.ensures.draws c.exchange-nothing.ensures.3) in
+pub unreachable-requires : goal.unreachable-requires
+unreachable-requires g c =
+    let r = ready c.pop.new.self.items c.self.invariant c.in-Some.ensures.items c.put_in.ensures.puts in
     none_of c.in-Some.token r.some c.enqueue-answer.result (not_taken c.self.invariant r c.enqueue-answer.ensures.leads c.enqueue-answer.result refl) c.in_default-answer.not-Done c.in_default-answer-2.not-Full c.in_default-answer-2.not-Busy
     c.in_default-answer-2.not-Worn
   where
@@ -86,17 +86,17 @@ unreachable-requires-in_default-answer-2 g c =
 
 pub invariant_of-self-2 : goal.invariant_of-self-2
 invariant_of-self-2 g c =
-    let r = (ready c.pop.new.self.items c.self.invariant c.in-Some.ensures.items c.draw_token.ensures.draws c.exchange-nothing.ensures.3) in
+    let r = ready c.pop.new.self.items c.self.invariant c.in-Some.ensures.items c.put_in.ensures.puts in
     let t = c.take_back-back.ensures in
     refused_pass c.self.invariant r c.enqueue-answer.ensures.leads t.laid.0 t.laid.1 (t.stacked) (t.same.1 ∙ c.pop.ensures.capacity)
 
 pub returns : goal.returns
 returns g c =
-    let r = (ready c.pop.new.self.items c.self.invariant c.in-Some.ensures.items c.draw_token.ensures.draws c.exchange-nothing.ensures.3) in
+    let r = ready c.pop.new.self.items c.self.invariant c.in-Some.ensures.items c.put_in.ensures.puts in
     let t = c.take_back-back.ensures in
     let l = c.enqueue-answer.ensures.leads in
     let now = pay_known_of c.take_back-back.new.seat.table_id c.self.inside.thread c.take_back-back.new.seat.me.0 in
-    let table = t.same.0 ∙ c.enqueue-answer.ensures.same_table ∙ c.exchange-nothing.ensures.0 ∙ c.draw_token.ensures.same in
+    let table = t.same.0 ∙ c.enqueue-answer.ensures.same_table ∙ c.put_in.ensures.same in
     let pass = invariant_of-self-2 g c in
     let opened = ap (λ (v : View g.row.T.Denot). v.opened) t.laid.0 ∙ opened_given c.self.invariant r l in
     let refuses = λ (a : Answer) (is : c.enqueue-answer.result ≡ a). refused c.self.invariant r l t.laid.0 t.laid.1 c.in_default-answer.not-Done a is c.take_back-back.result t.payload c.self.inside.seat.table_id c.take_back-back.new.seat.table_id in
