@@ -1,5 +1,5 @@
 -- Whether the number of a task comes again behind it.
-use Rattle.std.proofs.Common.{◌≡◌, ◌==◌, ℕ, List, [], ◌∷◌, true, false, refl, sym, subst, arith, length, inl, inr}
+use Rattle.std.proofs.Common.{◌≡◌, ◌==◌, ℕ, List, [], ◌∷◌, true, false, subst, arith, length, inl, inr}
 use Rattle.std.proofs.lemmas.Bool.{cases_Bool}
 use Rattle.std.proofs.lemmas.Map.Keys.{IsDistinct-cons, IsDistinct-head, IsDistinct-tail}
 use Rattle.std.specs.List.{AllByRecursion, IsDistinct, list_any}

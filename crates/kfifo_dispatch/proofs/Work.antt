@@ -2,7 +2,7 @@
 use Rattle.std.proofs.Common.{◌≡◌, ◌≤◌, ◌<◌, ◌^◌, ◌*◌, ◌+◌, ◌-◌, ℕ, List, length, Some, arith, zero, suc, slice_get, refl}
 use Rattle.std.proofs.lemmas.Option.{slice_get_within}
 use Rattle.kfifo_dispatch.specs.declared.task.Task.{Task}
-use Rattle.kfifo_dispatch.specs.Tasks.{work, total}
+use Rattle.kfifo_dispatch.specs.Tasks.{work}
 use Rattle.kfifo_dispatch.specs.Jobs.{IsOn, Progress, total_at}
 
 work_few : (most left : ℕ) → left ≤ most → work left ≤ left * most

@@ -1,5 +1,4 @@
-use Rattle.std.proofs.Common.{All}
-use Rattle.kfifo_live.specs.Pass.{IsOf, IsSame}
+use Rattle.kfifo_live.specs.Pass.{IsSame}
 use Rattle.kfifo_dispatch.proofs.dispatching.gather.Given as goal
 
 abbrev pub invariant-loop-done : goal.invariant-loop-done

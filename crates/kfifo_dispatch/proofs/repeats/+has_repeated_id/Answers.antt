@@ -1,6 +1,5 @@
 -- The first task's number comes again, or a later one's, or none does.
-use Rattle.std.proofs.Common.{◌≡◌, ◌∙◌, sym, subst}
-use Rattle.kfifo_dispatch.specs.Tasks.{HasRepeatedId}
+use Rattle.std.proofs.Common.{◌∙◌, sym}
 use Rattle.kfifo_dispatch.proofs.Again.{none_of, of_first, of_later, of_none}
 use Rattle.kfifo_dispatch.proofs.repeats.+has_repeated_id.Goals as goal
 

@@ -1,5 +1,4 @@
 -- What came to its end has come to what its task comes to.
-use Rattle.std.proofs.Common.{ℕ}
 use Rattle.kfifo_dispatch.proofs.Work.{comes_to}
 use Rattle.kfifo_dispatch.proofs.job.Done.sum.Goals as goal
 

@@ -1,6 +1,5 @@
 -- A job that begins has its task's sum and work.
-use Rattle.std.proofs.Common.{arith, sym, subst, ℕ}
-use Rattle.kfifo_dispatch.specs.Jobs.{IsOn}
+use Rattle.std.proofs.Common.{arith}
 use Rattle.kfifo_dispatch.proofs.Work.{begins}
 use Rattle.kfifo_dispatch.proofs.job.Job.new.Goals as goal
 
