@@ -538,3 +538,30 @@ fn memory_refused_to_a_report(rt: HostRuntime) -> Result<(), Fail> {
     assert!(&rt; report_again(rt.alloc(), &replay));
     Ok(())
 }
+
+/// The example of the page on replays, as it stands there.
+fn as_on_the_page(
+    alloc: Global,
+    shape: Shape,
+    scripts: &[Vec<Begin>],
+    picks: &[u32],
+    thread: u32,
+    count: u32,
+    stopped: u32,
+) -> Result<Report, ReplayFault> {
+    let mut replay = Replay::open(alloc, shape, scripts)?;
+    replay.feed(picks)?; // these picks, one by one
+    replay.feed_many(thread, count)?; // one pick so many times, with no list
+    replay.finish(stopped)?; // all threads but this one go to the ends of their scripts
+    let report = replay.report(alloc)?;
+    Ok(report)
+}
+
+#[test]
+fn the_page(rt: HostRuntime) -> Result<(), Fail> {
+    let scripts = scripts_of(rt.alloc(), &[&[dequeue(0, 1)], &[dequeue(0, 1)]])?;
+    let shape = Shape::new(1, 2, LAST)?;
+    let report = as_on_the_page(rt.alloc(), shape, scripts.as_slice(), &[0, 1], 1, 2, 1)?;
+    assert!(&rt; says(&report, plain(6, &[1, 0])));
+    Ok(())
+}

@@ -7,4 +7,6 @@ mod dispatch;
 #[cfg(test)]
 mod live;
 #[cfg(test)]
+mod pages;
+#[cfg(test)]
 mod record;
