@@ -152,6 +152,7 @@ fn count_items(
 }
 
 /// The same, where no call is inlined.
+// A function of its own: with calls that are not inlined beside it, the queue of `count_items` would lie in memory.
 fn count_called(
     alloc: Global,
     shape: Shape,
