@@ -2,7 +2,8 @@
 """Builds the queues that are compared, runs them round by round, and writes a table and plots.
 
 In each round all queues run one after the other, each round beginning with another one; a ratio is that of two rates of one round,
-and what is told is the median of these ratios over the rounds, with the quartiles. Each run checks that what went in came out.
+and what is told is the median of these ratios over the rounds, with the quartiles. Each run checks that what went in came out. The
+table begins with an overview, a row for each workload.
 
     bench/run.py [--rounds N] [--milliseconds M] [--only WORD] [--out FOLDER]
 
@@ -95,6 +96,17 @@ def table(title, rates):
     return "\n".join(lines) + "\n"
 
 
+def overview(all_rates):
+    """A row for each workload, with each queue's median ratio to ArrayQueue."""
+    columns = list(dict.fromkeys(queue for rates in all_rates.values() for queue in rates if queue != (BASE, 0)))
+    lines = ["| Workload | " + " | ".join(label(it) for it in columns) + " |", "|---" * (len(columns) + 1) + "|"]
+    for title, rates in all_rates.items():
+        base = rates[BASE, 0]
+        medians = [f"{statistics.median(it / by for it, by in zip(rates[queue], base)):.2f}" if queue in rates else "" for queue in columns]
+        lines.append(f"| {title} | " + " | ".join(medians) + " |")
+    return "\n".join(lines) + "\n"
+
+
 def plot(title, rates):
     """A bar for each queue's ratio to ArrayQueue, with a line from quartile to quartile."""
     ratios = {queue: quartiles([it / base for it, base in zip(values, rates[BASE, 0])]) for queue, values in rates.items()}
@@ -136,7 +148,8 @@ def main():
     load = os.getloadavg()[0]
     about = f"{machine()}; {words.rounds} rounds of {words.milliseconds} ms for each queue; load of the machine before: {load:.1f}.\n"
     print(about)
-    tables = [about]
+    tables = []
+    all_rates = {}
     for capacity in CAPACITIES:
         for name, *threads in WORKLOADS:
             for work in WORK:
@@ -144,13 +157,15 @@ def main():
                 if words.only not in title:
                     continue
                 rates = measure(capacity, threads, work, words.rounds, words.milliseconds)
+                all_rates[title] = rates
                 tables.append(table(title, rates))
                 print(tables[-1], flush=True)
                 file = title.replace(",", "").replace(" ", "_")
                 with open(f"{words.out}/{file}.svg", "w") as plotted:
                     plotted.write(plot(title, rates))
+    print(overview(all_rates))
     with open(f"{words.out}/table.md", "w") as written:
-        written.write("\n".join(tables))
+        written.write("\n".join([about, overview(all_rates), *tables]))
 
 
 if __name__ == "__main__":
