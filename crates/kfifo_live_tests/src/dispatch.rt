@@ -207,15 +207,18 @@ fn the_seed_picks_the_starts(rt: HostRuntime) -> Result<(), Fail> {
         let mut is_there = [true; 4];
         let mut wanted = 0u64;
         for _take in 0..4u32 {
-            let mut slot = starts.draw() as usize % 4;
+            let mut slot = starts.draw() as usize;
             for _look in 0..4u32 {
-                if is_there[slot] {
+                if is_there[slot % 4] {
                     break;
                 }
-                slot = (slot + 1) % 4;
+                slot = slot.wrapping_add(1);
             }
-            is_there[slot] = false;
-            wanted = wanted.wrapping_mul(10).wrapping_add(slot as u64 + 1);
+            is_there[slot % 4] = false;
+            wanted = wanted
+                .wrapping_mul(10)
+                .wrapping_add(slot as u64 % 4)
+                .wrapping_add(1);
         }
         assert_eq!(rt; order.tasks.load(Ordering::SeqCst), wanted);
     }
