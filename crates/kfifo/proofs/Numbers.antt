@@ -5,8 +5,8 @@ use Rattle.std.specs.Str.Parse.{digits_value, ParsesUnsigned, ExplainsUnsignedEr
 use Rattle.std.specs.declared.num.ParseIntError.{ParseIntError}
 use Rattle.clap.specs.Words.{ReadsOne}
 use Rattle.kfifo.specs.Options.{GivesNumber}
-use Rattle.kfifo_commands.specs.Words.{IsDigits}
-use Rattle.kfifo_commands.proofs.Numbers.{own}
+use Rattle.kfifo_texts.specs.Words.{IsDigits}
+use Rattle.kfifo_texts.proofs.Numbers.{own}
 
 -- what `parse` says of an unsigned number of so many bits
 abbrev ParsesTo : ℕ → List ℕ → Result ℕ ParseIntError → Type 0

@@ -2,11 +2,11 @@
 use Rattle.std.proofs.Common.{◌≡◌, ◌∙◌, ℕ, List, Option, ap, inl, inr, sym}
 use Rattle.clap.specs.Words.{Text}
 use Rattle.kfifo.specs.Requests.{IsMisuse}
-use Rattle.kfifo_commands.specs.declared.fault.Fault.{Fault}
-use Rattle.kfifo_commands.specs.declared.printing.Printer.{Printer}
-use Rattle.kfifo_commands.specs.Faults.{fault_line}
-use Rattle.kfifo_commands.specs.Printing.{OnPrinter, OnWriter, Stays}
-use Rattle.kfifo_commands.specs.Endings.{Ends, Nothing, Part, Tells, Whole, Written}
+use Rattle.kfifo_texts.specs.declared.fault.Fault.{Fault}
+use Rattle.kfifo_texts.specs.declared.printing.Printer.{Printer}
+use Rattle.kfifo_texts.specs.Faults.{fault_line}
+use Rattle.kfifo_texts.specs.Printing.{Nothing, OnPrinter, OnWriter, Part, Stays, Tells, Whole, Written}
+use Rattle.kfifo_commands.specs.Endings.{Ends}
 
 -- a run that ends so, ends so by weaker facts of what may be printed, told, and is at fault
 pub ends_as : (answers answers' : List ℕ → ℕ → Type 0) (causes causes' : Fault → Type 0) (misuse misuse' : Type 0) (output faults : Written → Type 0) (status : ℕ)

@@ -11,7 +11,7 @@ use Rattle.kfifo_commands.specs.declared.options.RecordOptions.{RecordOptions}
 use Rattle.kfifo_commands.specs.declared.options.ReplayOptions.{ReplayOptions}
 use Rattle.kfifo_commands.specs.declared.options.RunOptions.{RunOptions}
 use Rattle.kfifo_commands.specs.declared.sizes.Sizes.{Sizes}
-use Rattle.kfifo_commands.specs.Words.{IsDigits}
+use Rattle.kfifo_texts.specs.Words.{IsDigits}
 
 -- an option with no text gives no number, and one whose digits write a number of so many bits gives that number
 abbrev pub GivesNumber : ℕ → Option (List ℕ) → Option ℕ → Type 0

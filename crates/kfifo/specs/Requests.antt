@@ -5,11 +5,12 @@ use Rattle.clap.specs.Words.{Row, Text}
 use Rattle.clap.specs.declared.error.kind.ErrorKind.{ErrorKind}
 use Rattle.clap.specs.declared.error.kind.ErrorKind.TheVariants.{DisplayHelp, DisplayVersion}
 use Rattle.clap.specs.declared.parser.matches.Found.{Found}
-use Rattle.kfifo_commands.specs.declared.fault.Fault.{Fault}
-use Rattle.kfifo_commands.specs.declared.fault.Fault.TheVariants.{Memory}
+use Rattle.kfifo_texts.specs.declared.fault.Fault.{Fault}
+use Rattle.kfifo_texts.specs.declared.fault.Fault.TheVariants.{Memory}
 use Rattle.kfifo_commands.specs.declared.options.Request.{Request}
 use Rattle.kfifo_commands.specs.declared.options.Request.TheVariants.{Run, Check, Measure, Replay, Judge, Least, Record, Import, Draw, Dispatch}
-use Rattle.kfifo_commands.specs.Endings.{IsAnswered, IsRefused, Nothing, Tells, Written}
+use Rattle.kfifo_commands.specs.Endings.{IsAnswered, IsRefused}
+use Rattle.kfifo_texts.specs.Printing.{Nothing, Tells, Written}
 use Rattle.kfifo.specs.CommandLine.{Names, NamesNone, kinds, named}
 use Rattle.kfifo.specs.Options.{GivesCheck, GivesDispatch, GivesDraw, GivesJudge, GivesRecord, GivesReplay, GivesRun, GivesTries}
 

@@ -4,18 +4,18 @@ ghost use Rattle.clap.specs.Kinds.{FailsBy};
 ghost use Rattle.clap.specs.Words.{kind_of, subcommand_rows_of};
 ghost use Rattle.kfifo.specs.CommandLine.{IsCommand, NamesNone, kfifo, kinds, named};
 ghost use Rattle.kfifo.specs.Requests.{IsFault, IsMisuse, IsPrinted, Requests, Shows};
-ghost use Rattle.kfifo_commands.specs.Endings.{Ends, Tells};
-ghost use Rattle.kfifo_commands.specs.Printing.{OnPrinter, OnWriter};
+ghost use Rattle.kfifo_commands.specs.Endings.{Ends};
+ghost use Rattle.kfifo_texts.specs.Printing.{OnPrinter, OnWriter, Tells};
 ghost use Rattle.kfifo_commands.specs.Statuses.{status_number};
 
 use crate::commands::{check, dispatch, draw, import, judge, least, measure, record, replay, run};
 use clap::error::ErrorKind;
 use clap::{ArgMatches, Command, Error};
 use kfifo_commands::{
-    Fault, Notice, Printer, Progress, Request, Silent, Status, carry_out, end_with_fault,
-    end_with_text,
+    Notice, Progress, Request, Silent, Status, carry_out, end_with_fault, end_with_text,
 };
 use kfifo_judge::{FromStd, Source};
+use kfifo_texts::{Fault, Printer};
 use std::alloc::{AllocError, Global};
 use std::io::{Read, Write};
 use std::rt::Files;

@@ -5,12 +5,12 @@ use Rattle.kfifo_dispatch.specs.declared.fault.DispatchFault.{DispatchFault}
 use Rattle.kfifo_dispatch.specs.declared.fault.DispatchFault.TheVariants as refusals
 use Rattle.kfifo_dispatch.specs.declared.task.Task.{Task}
 use Rattle.kfifo_dispatch.specs.Tasks.{HasRepeatedId}
-use Rattle.kfifo_commands.specs.declared.fault.Fault.{Fault}
-use Rattle.kfifo_commands.specs.declared.fault.Fault.TheVariants.{Dispatch, Memory, Word}
+use Rattle.kfifo_texts.specs.declared.fault.Fault.{Fault}
+use Rattle.kfifo_texts.specs.declared.fault.Fault.TheVariants.{Dispatch, Memory, Word}
 use Rattle.kfifo_commands.specs.declared.options.DispatchOptions.{DispatchOptions}
-use Rattle.kfifo_commands.specs.Dispatches.{GivesTasks, IsDispatchRefusal, IsTasksFault}
+use Rattle.kfifo_commands.specs.Dispatches.{IsDispatchRefusal, IsTasksFault}
 use Rattle.kfifo_commands.specs.Runs.{IsShapeOf}
-use Rattle.kfifo_commands.specs.Tasks.{IsFirstUnreadTask, WriteTasks}
+use Rattle.kfifo_texts.specs.Tasks.{IsFirstUnreadTask, WriteTasks}
 
 -- why tasks are refused, by the fault
 pub tasks_fault : (tasks : List Task) (workers : ℕ) (fault : DispatchFault) → (fault ≡ refusals.TooManyTasks → 1024 < length tasks)

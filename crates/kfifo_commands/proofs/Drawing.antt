@@ -1,9 +1,9 @@
 -- Why the command `draw` has no answer.
 use Rattle.std.proofs.Common.{◌≡◌, ℕ, List, Option, Some, subst, sym, ◌⊎◌, inl, inr, option_map}
-use Rattle.kfifo_commands.specs.declared.fault.Fault.{Fault}
-use Rattle.kfifo_commands.specs.declared.fault.Fault.TheVariants.{Shape, Word, Order, Picks, Replay, Open, Dispatch, Input, NotJson, Record, Search, RepeatedItem, Import, TooManyDrawn, Memory, Output}
+use Rattle.kfifo_texts.specs.declared.fault.Fault.{Fault}
+use Rattle.kfifo_texts.specs.declared.fault.Fault.TheVariants.{Shape, Word, Order, Picks, Replay, Open, Dispatch, Input, NotJson, Record, Search, RepeatedItem, Import, TooManyDrawn, Memory, Output}
 use Rattle.kfifo_commands.specs.declared.options.DrawOptions.{DrawOptions}
-use Rattle.kfifo_commands.specs.Orders.{GivesNoOrder}
+use Rattle.kfifo_texts.specs.Orders.{GivesNoOrder}
 use Rattle.kfifo_commands.specs.Pictures.{IsDrawRefusal, IsUndrawn}
 
 module _ (input : Option (List ℕ)) (before after : ℕ) (options : DrawOptions) where

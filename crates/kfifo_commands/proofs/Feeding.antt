@@ -8,8 +8,8 @@ use Rattle.kfifo_machine.specs.declared.event.Begin.{Begin}
 use Rattle.kfifo_replay.specs.declared.fault.ReplayFault.{ReplayFault}
 use Rattle.kfifo_replay.specs.declared.fault.ReplayFault.TheVariants.{BadPick}
 use Rattle.kfifo_replay.specs.Player.{IsRefused, Player, StandsFor, Stops, StopsAt}
-use Rattle.kfifo_commands.specs.declared.picks.Group.{Group}
-use Rattle.kfifo_commands.specs.Picks.{behind, count_of, picks_of}
+use Rattle.kfifo_texts.specs.declared.picks.Group.{Group}
+use Rattle.kfifo_texts.specs.Picks.{behind, count_of, picks_of}
 
 -- what stands past the end of a list of groups
 abbrev pub no_group : Group

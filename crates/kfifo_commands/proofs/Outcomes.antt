@@ -1,16 +1,11 @@
 -- What the command `run` comes to.
-use Rattle.std.proofs.Common.{◌≡◌, ℕ, ◌+◌, Result, Ok, Err, IfOk, sym, subst, refl, inl, inr, ◌⊎◌}
+use Rattle.std.proofs.Common.{◌≡◌, ℕ, ◌+◌, sym, subst, refl, inl, inr, ◌⊎◌}
 use Rattle.kfifo_words.specs.declared.shape.Shape.{Shape}
-use Rattle.kfifo_commands.specs.declared.fault.Fault.{Fault}
-use Rattle.kfifo_commands.specs.declared.fault.Fault.TheVariants.{Word, Memory}
+use Rattle.kfifo_texts.specs.declared.fault.Fault.{Fault}
+use Rattle.kfifo_texts.specs.declared.fault.Fault.TheVariants.{Word, Memory}
 use Rattle.kfifo_commands.specs.declared.options.RunOptions.{RunOptions}
 use Rattle.kfifo_commands.specs.Runs.{IsRunRefusal, IsShapeOf}
-use Rattle.kfifo_commands.specs.Words.{IsFirstUnread}
-
--- what the value of a result has, where another fact gives it
-pub ok_to : {T E : Type 0} (P Q : T → Type 0) → ((x : T) → P x → Q x) → (r : Result T E) → IfOk r P → IfOk r Q
-ok_to P Q give (Ok x) h = give x h
-ok_to P Q give (Err e) h = tt
+use Rattle.kfifo_texts.specs.Words.{IsFirstUnread}
 
 -- the fault of the words is one of the command
 pub word_refused : (options : RunOptions) (shape : Shape) (k : ℕ) (fault : Fault) → IsShapeOf options.sizes shape → k ≡ shape.k

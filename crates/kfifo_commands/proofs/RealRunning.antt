@@ -7,14 +7,14 @@ use Rattle.kfifo_live.specs.declared.fault.OpenFault.{OpenFault}
 use Rattle.kfifo_live.specs.declared.fault.OpenFault.TheVariants as opens
 use Rattle.kfifo_record.specs.Repeats.{IsFirstOver, all_repeated, last_shift}
 use Rattle.kfifo_record.specs.Scripts.{AreScripts, IsCall, longest}
-use Rattle.kfifo_commands.specs.declared.fault.Fault.{Fault}
-use Rattle.kfifo_commands.specs.declared.fault.Fault.TheVariants.{Memory, Open, Word}
+use Rattle.kfifo_texts.specs.declared.fault.Fault.{Fault}
+use Rattle.kfifo_texts.specs.declared.fault.Fault.TheVariants.{Memory, Open, Word}
 use Rattle.kfifo_commands.specs.declared.options.RecordOptions.{RecordOptions}
-use Rattle.kfifo_commands.specs.Orders.{comma_parts}
+use Rattle.kfifo_texts.specs.Orders.{comma_parts}
 use Rattle.kfifo_commands.specs.RealRuns.{GivesScripts, IsQueueFault, IsRealRunRefusal}
 use Rattle.kfifo_commands.specs.Runs.{IsShapeOf}
-use Rattle.kfifo_commands.specs.Scripts.{IsFirstUnreadScript, WriteScripts, WritesScript, texts_of}
-use Rattle.kfifo_commands.specs.Words.{EachWrites, WritesCall}
+use Rattle.kfifo_texts.specs.Scripts.{IsFirstUnreadScript, WriteScripts, WritesScript, texts_of}
+use Rattle.kfifo_texts.specs.Words.{EachWrites, WritesCall}
 
 -- why the queue is refused, by its fault
 pub queue_fault : (scripts : List (List Begin)) (fault : OpenFault) → (fault ≡ opens.ThreadsOutOfRange → (length scripts ≡ 0) ⊎ (64 < length scripts))

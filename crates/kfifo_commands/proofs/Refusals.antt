@@ -5,11 +5,11 @@ use Rattle.kfifo_judge.specs.declared.record.StreamFault.TheVariants as streams
 use Rattle.kfifo_judge.specs.Check.{IsCheckFault}
 use Rattle.kfifo_judge.specs.Measure.{IsMeasuringFault}
 use Rattle.kfifo_judge.specs.TextFaults.{IsTextFault}
-use Rattle.kfifo_commands.specs.declared.fault.Fault.{Fault}
-use Rattle.kfifo_commands.specs.declared.fault.Fault.TheVariants.{Memory, Order}
+use Rattle.kfifo_texts.specs.declared.fault.Fault.{Fault}
+use Rattle.kfifo_texts.specs.declared.fault.Fault.TheVariants.{Memory, Order}
 use Rattle.kfifo_commands.specs.declared.options.CheckOptions.{CheckOptions}
-use Rattle.kfifo_commands.specs.Faults.{stream_fault}
-use Rattle.kfifo_commands.specs.Orders.{GivesNoOrder, GivesOrder}
+use Rattle.kfifo_texts.specs.Faults.{stream_fault}
+use Rattle.kfifo_texts.specs.Orders.{GivesNoOrder, GivesOrder}
 use Rattle.kfifo_commands.specs.Records.{IsCheckRefusal, IsInput, IsMeasureRefusal, IsOfInput, IsOrder, IsStreamFault, GivesSomeOrder, IsUnread}
 use Rattle.kfifo_commands.specs.Verdicts.{IsVerdictRefusal}
 

@@ -4,14 +4,14 @@ use Rattle.kfifo_words.specs.declared.shape.Shape.{Shape}
 use Rattle.kfifo_machine.specs.declared.event.Begin.{Begin}
 use Rattle.kfifo_replay.specs.declared.fault.ReplayFault.{ReplayFault}
 use Rattle.kfifo_replay.specs.declared.fault.ReplayFault.TheVariants as replays
-use Rattle.kfifo_commands.specs.declared.fault.Fault.{Fault}
-use Rattle.kfifo_commands.specs.declared.fault.Fault.TheVariants.{Memory, Picks, Replay, Word}
+use Rattle.kfifo_texts.specs.declared.fault.Fault.{Fault}
+use Rattle.kfifo_texts.specs.declared.fault.Fault.TheVariants.{Memory, Picks, Replay, Word}
 use Rattle.kfifo_commands.specs.declared.options.ReplayOptions.{ReplayOptions}
-use Rattle.kfifo_commands.specs.declared.picks.Group.{Group}
-use Rattle.kfifo_commands.specs.Picks.{GivesGroups, GivesNoGroups, picks_of}
+use Rattle.kfifo_texts.specs.declared.picks.Group.{Group}
+use Rattle.kfifo_texts.specs.Picks.{GivesGroups, GivesNoGroups, picks_of}
 use Rattle.kfifo_commands.specs.Replays.{Gives, IsRefusal, IsReplayRefusal}
 use Rattle.kfifo_commands.specs.Runs.{IsShapeOf}
-use Rattle.kfifo_commands.specs.Scripts.{IsFirstUnreadScript, WriteScripts}
+use Rattle.kfifo_texts.specs.Scripts.{IsFirstUnreadScript, WriteScripts}
 
 module _ (options : ReplayOptions) (shape : Shape) (shaped : IsShapeOf options.sizes shape) (k : ℕ) (same : k ≡ shape.k) where
   -- the fault of the scripts is one of the command

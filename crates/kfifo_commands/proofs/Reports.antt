@@ -2,7 +2,7 @@
 use Rattle.std.proofs.Common.{◌≡◌, ◌≢◌, ℕ, ◌+◌, ◌<◌, List, [], ◌∷◌, ◌++◌, length, Some, arith, refl, sym, ◌∙◌, ap, subst, append_assoc, append-nil, add-one, get_or, take}
 use Rattle.std.proofs.Math.Seq.{take-suc}
 use Rattle.kfifo_words.specs.Ring.{slot_at}
-use Rattle.kfifo_commands.specs.Lines.{slot_line}
+use Rattle.kfifo_texts.specs.Lines.{slot_line}
 use Rattle.kfifo_words.specs.declared.shape.Shape.{Shape}
 use Rattle.kfifo_model.specs.declared.calls.Answer.{Answer}
 use Rattle.kfifo_machine.specs.declared.event.Begin.{Begin}

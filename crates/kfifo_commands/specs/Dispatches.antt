@@ -6,11 +6,11 @@ use Rattle.kfifo_dispatch.specs.declared.fault.DispatchFault.TheVariants as refu
 use Rattle.kfifo_dispatch.specs.declared.task.Task.{Task}
 use Rattle.kfifo_dispatch.specs.declared.task.Finished.{Finished}
 use Rattle.kfifo_dispatch.specs.Tasks.{HasRepeatedId, IsFinishedList}
-use Rattle.kfifo_commands.specs.declared.fault.Fault.{Fault}
-use Rattle.kfifo_commands.specs.declared.fault.Fault.TheVariants as faults
+use Rattle.kfifo_texts.specs.declared.fault.Fault.{Fault}
+use Rattle.kfifo_texts.specs.declared.fault.Fault.TheVariants as faults
 use Rattle.kfifo_commands.specs.declared.options.DispatchOptions.{DispatchOptions}
 use Rattle.kfifo_commands.specs.Runs.{IsShapeFault, IsShapeOf}
-use Rattle.kfifo_commands.specs.Tasks.{IsFirstUnreadTask, WriteTasks, finished_line}
+use Rattle.kfifo_texts.specs.Tasks.{IsFirstUnreadTask, WriteTasks, finished_line}
 
 -- the shape and the tasks that the options give
 pub record GivesTasks (options : DispatchOptions) (shape : Shape) (tasks : List Task) : Type 0 where

@@ -1,11 +1,12 @@
 -- What the commands come to, and how the program ends.
 use Rattle.std.specs.Prelude.{◌≡◌, ◌≢◌, ◌⊎◌, ◌≤◌, ℕ, List, Option}
-use Rattle.kfifo_commands.specs.declared.fault.Fault.{Fault}
-use Rattle.kfifo_commands.specs.declared.fault.Fault.TheVariants.{Input}
+use Rattle.kfifo_texts.specs.declared.fault.Fault.{Fault}
+use Rattle.kfifo_texts.specs.declared.fault.Fault.TheVariants.{Input}
 use Rattle.kfifo_commands.specs.declared.options.Request.{Request}
 use Rattle.kfifo_commands.specs.declared.options.Request.TheVariants.{Run, Check, Measure, Replay, Judge, Least, Record, Import, Draw, Dispatch}
 use Rattle.kfifo_commands.specs.Dispatches.{IsDispatch, IsDispatchRefusal}
-use Rattle.kfifo_commands.specs.Faults.{fault_line}
+use Rattle.kfifo_texts.specs.Faults.{fault_line}
+use Rattle.kfifo_texts.specs.Printing.{Nothing, Part, Tells, Whole, Written}
 use Rattle.kfifo_commands.specs.Imports.{IsImport, IsImportRefusal}
 use Rattle.kfifo_commands.specs.Pictures.{IsDraw, IsDrawRefusal}
 use Rattle.kfifo_commands.specs.Records.{IsCheck, IsCheckRefusal, IsMeasure, IsMeasureRefusal}
@@ -47,16 +48,6 @@ IsCause (Dispatch options) input before after fault = IsDispatchRefusal options 
 -- the same, and no read failed but where that is the fault
 abbrev pub IsRefused : Request → Option (List ℕ) → ℕ → ℕ → Fault → Type 0
 IsRefused request input before after fault = IsCause request input before after fault × (fault ≢ Input → after ≡ before)
-
--- what became of a text that was to be written: all of it, a beginning of it, or nothing was written at all
-pub data Written : Type 0 where
-  Whole : List ℕ → Written
-  Part : List ℕ → Written
-  Nothing : Written
-
--- the text was written as far as that could be done
-abbrev pub Tells : (Written → Type 0) → List ℕ → Type 0
-Tells faults text = faults (Whole text) ⊎ faults (Part text)
 
 -- How a run ends with a status. `answers` says which texts answer with which status, `causes` which faults are the cause
 -- of a failure, `misuse` when the command line is at fault; `output` and `faults` say what was written to either writer.

@@ -4,10 +4,10 @@ use Rattle.kfifo_model.specs.declared.calls.Call.{Call}
 use Rattle.kfifo_import.specs.declared.log.ImportFault.{ImportFault}
 use Rattle.kfifo_import.specs.Tables.{IsImported, IsUnimported}
 use Rattle.kfifo_judge.specs.Inputs.{IsRecordText}
-use Rattle.kfifo_commands.specs.declared.fault.Fault.{Fault}
-use Rattle.kfifo_commands.specs.declared.fault.Fault.TheVariants.{Shape, Word, Order, Picks, Replay, Open, Dispatch, Input, NotJson, Record, Search, RepeatedItem, Import, TooManyDrawn, Memory, Output}
-use Rattle.kfifo_commands.specs.Lines.{line}
-use Rattle.kfifo_commands.specs.RecordTexts.{record_text}
+use Rattle.kfifo_texts.specs.declared.fault.Fault.{Fault}
+use Rattle.kfifo_texts.specs.declared.fault.Fault.TheVariants.{Shape, Word, Order, Picks, Replay, Open, Dispatch, Input, NotJson, Record, Search, RepeatedItem, Import, TooManyDrawn, Memory, Output}
+use Rattle.kfifo_texts.specs.Lines.{line}
+use Rattle.kfifo_texts.specs.RecordTexts.{record_text}
 use Rattle.kfifo_commands.specs.Records.{IsInput, IsUnread}
 
 -- The answer: the line of the record of the log that the input is. Who reads it has its history

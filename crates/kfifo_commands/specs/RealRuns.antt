@@ -8,13 +8,13 @@ use Rattle.kfifo_live.specs.declared.fault.OpenFault.TheVariants as opens
 use Rattle.kfifo_record.specs.Repeats.{IsFirstOver, all_repeated, last_shift}
 use Rattle.kfifo_record.specs.Scripts.{IsRecord, longest}
 use Rattle.kfifo_judge.specs.Inputs.{IsRecordText}
-use Rattle.kfifo_commands.specs.declared.fault.Fault.{Fault}
-use Rattle.kfifo_commands.specs.declared.fault.Fault.TheVariants as faults
+use Rattle.kfifo_texts.specs.declared.fault.Fault.{Fault}
+use Rattle.kfifo_texts.specs.declared.fault.Fault.TheVariants as faults
 use Rattle.kfifo_commands.specs.declared.options.RecordOptions.{RecordOptions}
-use Rattle.kfifo_commands.specs.Lines.{line}
-use Rattle.kfifo_commands.specs.RecordTexts.{record_text}
+use Rattle.kfifo_texts.specs.Lines.{line}
+use Rattle.kfifo_texts.specs.RecordTexts.{record_text}
 use Rattle.kfifo_commands.specs.Runs.{IsShapeFault, IsShapeOf}
-use Rattle.kfifo_commands.specs.Scripts.{IsFirstUnreadScript, WriteScripts}
+use Rattle.kfifo_texts.specs.Scripts.{IsFirstUnreadScript, WriteScripts}
 
 -- the shape and the scripts that the options give
 pub record GivesScripts (options : RecordOptions) (shape : Shape) (scripts : List (List Begin)) : Type 0 where

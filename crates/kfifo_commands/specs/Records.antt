@@ -5,11 +5,11 @@ use Rattle.kfifo_judge.specs.declared.record.StreamFault.TheVariants as streams
 use Rattle.kfifo_judge.specs.Check.{IsChecked, IsCheckFault}
 use Rattle.kfifo_judge.specs.Measure.{IsMeasured, IsMeasuringFault}
 use Rattle.kfifo_judge.specs.Streams.{CountsOne}
-use Rattle.kfifo_commands.specs.declared.fault.Fault.{Fault}
-use Rattle.kfifo_commands.specs.declared.fault.Fault.TheVariants.{Shape, Word, Order, Picks, Replay, Open, Dispatch, Input, NotJson, Record, Search, RepeatedItem, Import, TooManyDrawn, Memory, Output}
+use Rattle.kfifo_texts.specs.declared.fault.Fault.{Fault}
+use Rattle.kfifo_texts.specs.declared.fault.Fault.TheVariants.{Shape, Word, Order, Picks, Replay, Open, Dispatch, Input, NotJson, Record, Search, RepeatedItem, Import, TooManyDrawn, Memory, Output}
 use Rattle.kfifo_commands.specs.declared.options.CheckOptions.{CheckOptions}
-use Rattle.kfifo_commands.specs.Faults.{stream_fault}
-use Rattle.kfifo_commands.specs.Orders.{GivesNoOrder, GivesOrder}
+use Rattle.kfifo_texts.specs.Faults.{stream_fault}
+use Rattle.kfifo_texts.specs.Orders.{GivesNoOrder, GivesOrder}
 
 -- these are the bytes of the input, where those are known, and they are at most 16,777,216
 abbrev pub IsInput : Option (List ℕ) → List ℕ → Type 0

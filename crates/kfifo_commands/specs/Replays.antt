@@ -1,5 +1,5 @@
 -- What the command `replay` comes to.
-use Rattle.std.specs.Prelude.{◌≡◌, ℕ, ◌+◌, ◌<◌, ◌≤◌, ◌⊎◌, Bool, true, false, List, [], ◌∷◌, ◌++◌, Option, Some, None, IsTrue, codes, decimal, is_some, length}
+use Rattle.std.specs.Prelude.{◌≡◌, ℕ, ◌+◌, ◌<◌, ◌≤◌, ◌⊎◌, Bool, true, false, List, [], ◌++◌, Option, Some, None, IsTrue, codes, decimal, is_some, length}
 use Rattle.kfifo_words.specs.declared.shape.Shape.{Shape}
 use Rattle.kfifo_model.specs.declared.calls.Call.{Call}
 use Rattle.kfifo_machine.specs.declared.event.Begin.{Begin}
@@ -12,15 +12,15 @@ use Rattle.kfifo_replay.specs.Picks.{events_of}
 use Rattle.kfifo_replay.specs.Player.{IsFirstRefused}
 use Rattle.kfifo_replay.specs.Reports.{ArePoints, IsHistoryOf, IsReport}
 use Rattle.kfifo_replay.specs.Scripts.{AreScripts}
-use Rattle.kfifo_commands.specs.declared.fault.Fault.{Fault}
-use Rattle.kfifo_commands.specs.declared.fault.Fault.TheVariants as faults
+use Rattle.kfifo_texts.specs.declared.fault.Fault.{Fault}
+use Rattle.kfifo_texts.specs.declared.fault.Fault.TheVariants as faults
 use Rattle.kfifo_commands.specs.declared.options.ReplayOptions.{ReplayOptions}
-use Rattle.kfifo_commands.specs.declared.picks.Group.{Group}
-use Rattle.kfifo_commands.specs.Lines.{line}
-use Rattle.kfifo_commands.specs.Picks.{GivesGroups, GivesNoGroups, picks_of}
-use Rattle.kfifo_commands.specs.RecordTexts.{record_text}
+use Rattle.kfifo_texts.specs.declared.picks.Group.{Group}
+use Rattle.kfifo_texts.specs.Lines.{line}
+use Rattle.kfifo_texts.specs.Picks.{GivesGroups, GivesNoGroups, picks_of}
+use Rattle.kfifo_texts.specs.RecordTexts.{record_text}
 use Rattle.kfifo_commands.specs.Runs.{IsShapeFault, IsShapeOf}
-use Rattle.kfifo_commands.specs.Scripts.{IsFirstUnreadScript, WriteScripts}
+use Rattle.kfifo_texts.specs.Scripts.{IsFirstUnreadScript, WriteScripts}
 
 -- ---- the lines
 

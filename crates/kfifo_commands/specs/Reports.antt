@@ -9,7 +9,7 @@ use Rattle.kfifo_machine.specs.declared.event.Event.{Event}
 use Rattle.kfifo_machine.specs.Machine.{World, after, word_at}
 use Rattle.kfifo_machine.specs.Runs.{CompleteExecution}
 use Rattle.kfifo_live.specs.Pass.{OpenQueue, Known, IsOf}
-use Rattle.kfifo_commands.specs.Lines.{enqueue_line, dequeue_line, ends_lines, slot_line}
+use Rattle.kfifo_texts.specs.Lines.{enqueue_line, dequeue_line, ends_lines, slot_line}
 
 -- the pass is the only one of its queue
 pub record IsAlone (queue : OpenQueue) (pass : Known) : Type 0 where

@@ -4,12 +4,12 @@ use Rattle.kfifo_words.specs.declared.shape.Shape.{Shape}
 use Rattle.kfifo_words.specs.declared.fault.ShapeFault.{ShapeFault}
 use Rattle.kfifo_words.specs.Sizes.{fault_of}
 use Rattle.kfifo_machine.specs.declared.event.Begin.{Begin}
-use Rattle.kfifo_commands.specs.declared.fault.Fault.{Fault}
-use Rattle.kfifo_commands.specs.declared.fault.Fault.TheVariants.{Shape as AtShape, Word, Order, Picks, Replay, Open, Dispatch, Input, NotJson, Record, Search, RepeatedItem, Import, TooManyDrawn, Memory, Output}
+use Rattle.kfifo_texts.specs.declared.fault.Fault.{Fault}
+use Rattle.kfifo_texts.specs.declared.fault.Fault.TheVariants.{Shape as AtShape, Word, Order, Picks, Replay, Open, Dispatch, Input, NotJson, Record, Search, RepeatedItem, Import, TooManyDrawn, Memory, Output}
 use Rattle.kfifo_commands.specs.declared.options.RunOptions.{RunOptions}
 use Rattle.kfifo_commands.specs.declared.sizes.Sizes.{Sizes}
 use Rattle.kfifo_commands.specs.Reports.{IsReport}
-use Rattle.kfifo_commands.specs.Words.{IsFirstUnread, WritesCalls}
+use Rattle.kfifo_texts.specs.Words.{IsFirstUnread, WritesCalls}
 
 -- the shape has these sizes, and k probes where none are given
 pub record IsShapeOf (sizes : Sizes) (shape : Shape) : Type 0 where

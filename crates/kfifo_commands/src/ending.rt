@@ -1,18 +1,17 @@
 //! How the program ends: with the answer of a command, the line of a fault, or a text in place of an answer.
 ghost use Rattle.std.specs.Prelude.{◌≡◌, ◌≢◌, ℕ, List, IfSome, IfOk, IfErr};
-ghost use Rattle.kfifo_commands.specs.Endings.{Answers, Ends, IsAnswered, IsRefused, Tells};
-ghost use Rattle.kfifo_commands.specs.Faults.{fault_line};
-ghost use Rattle.kfifo_commands.specs.Printing.{Breaks, OnPrinter, Writes};
+ghost use Rattle.kfifo_commands.specs.Endings.{Answers, Ends, IsAnswered, IsRefused};
+ghost use Rattle.kfifo_texts.specs.Faults.{fault_line};
+ghost use Rattle.kfifo_texts.specs.Printing.{Breaks, OnPrinter, Tells, Writes};
 ghost use Rattle.kfifo_commands.specs.Records.{ReadsWell};
 ghost use Rattle.kfifo_commands.specs.Statuses.{status_number};
 
 use crate::commands::{check, dispatch, draw, import, judge, least, measure, record, replay, run};
-use crate::fault::Fault;
 use crate::options::Request;
-use crate::printing::Printer;
 use crate::progress::Progress;
 use crate::status::Status;
 use kfifo_judge::Source;
+use kfifo_texts::{Fault, Printer};
 use std::alloc::Global;
 use std::fmt::Display;
 use std::io::Write;

@@ -2,8 +2,8 @@
 ghost use Rattle.std.specs.Prelude.{◌≡◌, ◌⊎◌, IfErr, IfOk};
 ghost use Rattle.kfifo_commands.specs.Records.{IsInput, IsUnread, ReadsWell};
 
-use crate::fault::Fault;
 use kfifo_judge::{ReadFault, Source, read_all};
+use kfifo_texts::Fault;
 use std::alloc::Global;
 
 /// All bytes of the input, at most 16,777,216.

@@ -1,14 +1,12 @@
 //! How a program is started: with its arguments and the standard streams.
 ghost use Rattle.std.specs.Prelude.{◌≡◌, ◌⊎◌};
-ghost use Rattle.kfifo_commands.specs.Endings.{Tells};
-ghost use Rattle.kfifo_commands.specs.Faults.{fault_line};
-ghost use Rattle.kfifo_commands.specs.Printing.{OnPrinter};
+ghost use Rattle.kfifo_texts.specs.Faults.{fault_line};
+ghost use Rattle.kfifo_texts.specs.Printing.{OnPrinter, Tells};
 
 use crate::ending::end_with_fault;
-use crate::fault::Fault;
-use crate::printing::Printer;
 use crate::progress::Progress;
 use crate::status::Status;
+use kfifo_texts::{Fault, Printer};
 use std::env;
 use std::io::{self, ErrorKind, IsTerminal, Read, Write};
 use std::rt::{Env, Stderr, Stdin, Stdout};
@@ -50,10 +48,10 @@ pub fn start(streams: &HostRuntime) -> Result<Started<'_>, u8> {
     let screen = screen.is_terminal().then_some(screen);
     Ok(Started {
         words,
-        input: Prompting { reader, hint },
+        input: Prompting::new(reader, hint),
         output: streams.stdout(),
         faults,
-        progress: Showing::new(streams, screen),
+        progress: Showing::new(streams, Instant::now(streams).ok(), screen),
     })
 }
 
@@ -85,6 +83,13 @@ pub struct Prompting<R, W> {
     hint: Option<W>,
 }
 
+impl<R, W> Prompting<R, W> {
+    /// The hint is written before the first read, where there is something to write it on.
+    pub fn new(reader: R, hint: Option<W>) -> Prompting<R, W> {
+        Prompting { reader, hint }
+    }
+}
+
 impl<R: Read, W: Write + Drop> Read for Prompting<R, W> {
     ghost remaining = { λ prompting. R.remaining prompting.reader };
 
@@ -108,11 +113,11 @@ pub struct Showing<'a, C, W> {
 }
 
 impl<'a, C: Clock, W: Write> Showing<'a, C, W> {
-    /// Of work that begins now.
-    fn new(clock: &'a C, screen: Option<W>) -> Showing<'a, C, W> {
+    /// Of work that began then, or at a time that the clock could not say: of that nothing is shown.
+    pub fn new(clock: &'a C, begun: Option<Instant>, screen: Option<W>) -> Showing<'a, C, W> {
         Showing {
             clock,
-            begun: Instant::now(clock).ok(),
+            begun,
             screen,
             shown: false,
         }
@@ -153,6 +158,3 @@ impl<C: Clock, W: Write> Progress for Showing<'_, C, W> {
         }
     }
 }
-
-#[cfg(test)]
-mod tests;

@@ -3,7 +3,7 @@ use crate::spans::Span;
 use std::alloc::{AllocError, Global};
 
 /// Room that has to lie between two places.
-#[derive(Clone, Copy, Debug, PartialEq, Eq)]
+#[derive(Clone, Copy)]
 struct Room {
     from: usize,
     to: usize,

@@ -2,7 +2,7 @@
 use kfifo_model::{Answer, Call, Op};
 
 /// What a call did.
-#[derive(Clone, Copy, Debug, PartialEq, Eq)]
+#[derive(Clone, Copy)]
 pub(crate) enum Kind {
     /// It put an item, or is about to.
     Puts,

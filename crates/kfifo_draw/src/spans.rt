@@ -4,7 +4,7 @@ use std::alloc::{AllocError, Global};
 
 /// From where to where a call reaches: places among all beginnings and ends by rising step, where at one step beginnings
 /// come before ends, and ends at one step have one place.
-#[derive(Clone, Copy, Debug, PartialEq, Eq)]
+#[derive(Clone, Copy)]
 pub(crate) struct Span {
     /// The place of the beginning.
     pub from: usize,

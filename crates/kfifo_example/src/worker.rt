@@ -17,7 +17,7 @@ const TURNS: u16 = 1_000;
 const TRIES: u64 = u64::MAX;
 
 /// How many items there were, and their sum.
-#[derive(Clone, Copy, PartialEq, Eq, Default)]
+#[derive(Clone, Copy, Default)]
 pub struct Tally {
     pub items: u64,
     pub sum: u64,

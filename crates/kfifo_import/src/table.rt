@@ -10,7 +10,7 @@ use kfifo_model::{Answer, Call, End, History, MOST_CALLS, Op};
 use std::alloc::Global;
 
 /// Where the fields of a call stand in a line.
-#[derive(Clone, Copy, Debug, PartialEq, Eq)]
+#[derive(Clone, Copy)]
 struct Columns {
     thread: usize,
     op: usize,

@@ -16,9 +16,7 @@ use std::alloc::{AllocError, Global};
 fn line_of(alloc: Global, text: &str) -> Result<String, AllocError>
     ensures { IfOk result (λ s. string_bytes s ≡ line text.now) }
 {
-    let mut line = String::from_str(alloc, text)?;
-    line.push('\n')?;
-    Ok(line)
+    format!(in alloc; "{text}\n")
 }
 
 /// What is said of an order.

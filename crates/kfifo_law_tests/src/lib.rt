@@ -11,4 +11,6 @@ mod model;
 #[cfg(test)]
 mod replay;
 #[cfg(test)]
+mod steps;
+#[cfg(test)]
 mod words;

@@ -8,7 +8,7 @@ use kfifo_words::{Ends, Shape, Word};
 
 /// What a step did, where it matters to the order: the step's name, and what it came to. Slots are named
 /// by the index of their words.
-#[derive(Clone, Copy, PartialEq, Eq, Debug)]
+#[derive(Clone, Copy)]
 pub enum Action {
     /// Any other step: a load that tells the order nothing, or an exchange that was lost.
     Unnoted,

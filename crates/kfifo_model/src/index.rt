@@ -64,7 +64,7 @@ impl From<AllocError> for MeasureFault {
 }
 
 /// A call that got an item which a call put.
-#[derive(Clone, Copy, Debug, PartialEq, Eq)]
+#[derive(Clone, Copy)]
 pub struct Rival {
     /// The first step of the call that put the item.
     pub put_first: u64,
@@ -73,7 +73,7 @@ pub struct Rival {
 }
 
 /// Which calls an index lists.
-#[derive(Clone, Copy, Debug, PartialEq, Eq)]
+#[derive(Clone, Copy)]
 pub enum Kind {
     /// Those that put an item.
     Puts,

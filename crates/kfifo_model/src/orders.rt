@@ -46,7 +46,7 @@ impl Verdict {
 }
 
 /// What became of a call that was tried in a list of items.
-#[derive(Clone, Copy, Debug, PartialEq, Eq)]
+#[derive(Clone, Copy)]
 pub enum Tried {
     /// Its answer is not legal there.
     NotLegal,

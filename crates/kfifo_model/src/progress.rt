@@ -5,7 +5,7 @@ ghost use Rattle.kfifo_model.specs.Progress.{LetsBegin, RisesFrom, state_after};
 use crate::calls::{Call, End};
 
 /// How far a thread has come with its calls.
-#[derive(Clone, Copy, Debug, PartialEq, Eq)]
+#[derive(Clone, Copy)]
 pub enum ThreadState {
     /// It has begun no call.
     Fresh,
@@ -16,7 +16,7 @@ pub enum ThreadState {
 }
 
 /// The calls so far: the first step of the latest one, and how far each thread has come.
-#[derive(Clone, Copy, Debug, PartialEq, Eq)]
+#[derive(Clone, Copy)]
 pub struct Progress {
     /// The first step of the latest call.
     pub latest: Option<u64>,

@@ -24,7 +24,7 @@ use std::alloc::Global;
 pub const MOST_CALLS: usize = 65_536;
 
 /// The operation that a record names.
-#[derive(Clone, Copy, Debug, PartialEq, Eq)]
+#[derive(Clone, Copy)]
 pub enum OpWord {
     /// `enq`
     Enq,
@@ -33,7 +33,7 @@ pub enum OpWord {
 }
 
 /// The answer that a record names.
-#[derive(Clone, Copy, Debug, PartialEq, Eq)]
+#[derive(Clone, Copy)]
 pub enum AnswerWord {
     /// `done`
     Done,
@@ -52,7 +52,7 @@ pub enum AnswerWord {
 }
 
 /// The last step and the answer of a call's object.
-#[derive(Clone, Copy, Debug, PartialEq, Eq)]
+#[derive(Clone, Copy)]
 pub struct Ending {
     /// The number at `last`.
     pub last: u64,
@@ -61,7 +61,7 @@ pub struct Ending {
 }
 
 /// What a call's object says, numbers of any size.
-#[derive(Clone, Copy, Debug, PartialEq, Eq)]
+#[derive(Clone, Copy)]
 pub struct Entry {
     /// The number at `thread`.
     pub thread: u64,
@@ -76,7 +76,7 @@ pub struct Entry {
 }
 
 /// What is wrong with one member of a record.
-#[derive(Clone, Copy, Debug, PartialEq, Eq)]
+#[derive(Clone, Copy)]
 pub enum Flaw {
     /// Fault 3.
     NotACall,

@@ -2,8 +2,9 @@
 //! not written to standard output, and that the exit status is the one that was answered.
 #![tactic(auto)]
 
-use kfifo_commands::{Printer, Request, RunOptions, Sizes, Started, carry_out, start_program};
+use kfifo_commands::{Request, RunOptions, Sizes, Started, carry_out, start_program};
 use kfifo_judge::FromStd;
+use kfifo_texts::Printer;
 use std::process::ExitCode;
 
 /// Asks for a queue whose segments have no slot.

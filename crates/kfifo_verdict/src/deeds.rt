@@ -7,7 +7,7 @@ ghost use Rattle.kfifo_verdict.specs.Finding.{IsDeed, side_effect, IsStart};
 use kfifo_model::{Answer, Call, Op};
 
 /// What a call does to the list of items.
-#[derive(Clone, Copy, Debug, PartialEq, Eq)]
+#[derive(Clone, Copy)]
 pub(crate) enum Deed {
     /// It puts this item in.
     PutIn(u32),
@@ -20,7 +20,7 @@ pub(crate) enum Deed {
 }
 
 /// Which calls a tally counts.
-#[derive(Clone, Copy, Debug, PartialEq, Eq)]
+#[derive(Clone, Copy)]
 pub(crate) enum Side {
     /// Those that put an item.
     In,

@@ -17,7 +17,7 @@ use kfifo_model::{Call, History};
 use std::alloc::{AllocError, Global};
 
 /// The put whose item stays longest, and the call until which it does.
-#[derive(Clone, Copy, Debug, PartialEq, Eq)]
+#[derive(Clone, Copy)]
 pub(crate) struct Stay {
     /// The put.
     pub put: usize,
@@ -145,7 +145,7 @@ fn reaches(calls: &[Call], from: usize, n: usize) -> bool
 }
 
 /// Whether items are certainly there throughout a call.
-#[derive(Debug, PartialEq, Eq, Drop)]
+#[derive(Drop)]
 pub(crate) enum Covered {
     /// At each moment of the call the item of one of these puts is.
     Whole(Vec<usize>),

@@ -9,7 +9,7 @@ use kfifo_model::Call;
 use std::alloc::{AllocError, Global};
 
 /// The calls that begin while the item of a put is certainly there: from number `start` on, below number `gone`.
-#[derive(Clone, Copy, Debug, PartialEq, Eq)]
+#[derive(Clone, Copy)]
 pub(crate) struct Presence {
     /// The first call that the put precedes, or the number of calls.
     pub start: usize,

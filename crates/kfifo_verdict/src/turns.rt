@@ -21,7 +21,7 @@ use std::alloc::{AllocError, Global};
 type Place = (usize, usize, usize);
 
 /// When a call has its turn: at a moment, and of those at one moment by rising rank.
-#[derive(Clone, Copy, Debug, PartialEq, Eq)]
+#[derive(Clone, Copy)]
 pub(crate) struct Turn {
     /// The moment: a call's number, for when it begins, or the number of calls, for the end.
     pub moment: usize,

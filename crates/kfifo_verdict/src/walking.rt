@@ -17,7 +17,7 @@ use std::collections::VecDeque;
 const MOST_LOOKED_AT: usize = 1_024;
 
 /// How urgent it is that a put goes, where another is to go: the less the more urgent, by the first field that differs.
-#[derive(Clone, Copy, Debug, PartialEq, Eq)]
+#[derive(Clone, Copy)]
 struct Urgency {
     /// 0 where it has to go first, 1 for the other put itself, 2 where its item is got first, 3 where it may be.
     class: u32,
@@ -28,7 +28,7 @@ struct Urgency {
 }
 
 /// A put that was chosen where others could have gone.
-#[derive(Clone, Copy, Debug, PartialEq, Eq)]
+#[derive(Clone, Copy)]
 struct Choice {
     /// How many calls went before it.
     placed: usize,
@@ -43,7 +43,7 @@ struct Choice {
 }
 
 /// What became of a step of the walk.
-#[derive(Clone, Copy, Debug, PartialEq, Eq)]
+#[derive(Clone, Copy)]
 enum Step {
     /// All finished calls stand in the order.
     Finished,

@@ -17,7 +17,7 @@ const TURNS: u16 = 10;
 const TRIES: u32 = 1_000;
 
 /// How many texts there were, and their bytes.
-#[derive(Clone, Copy, PartialEq, Eq, Default)]
+#[derive(Clone, Copy, Default)]
 pub struct Tally {
     pub texts: u64,
     pub bytes: u64,

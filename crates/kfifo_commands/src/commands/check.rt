@@ -2,15 +2,14 @@
 ghost use Rattle.std.specs.Prelude.{◌≡◌, ◌≢◌, ◌⊎◌, ◌≤◌, ℕ, List, IfOk, IfErr, option_map};
 ghost use Rattle.kfifo_judge.specs.Check.{IsCheckFault, IsChecked};
 ghost use Rattle.kfifo_judge.specs.declared.record.StreamFault.{StreamFault};
-ghost use Rattle.kfifo_commands.specs.Faults.{stream_fault};
+ghost use Rattle.kfifo_texts.specs.Faults.{stream_fault};
 ghost use Rattle.kfifo_commands.specs.Records.{IsCheck, IsCheckRefusal, IsInput, IsStreamFault, ReadsWell};
 ghost use Rattle.kfifo_commands.specs.Statuses.{status_number};
 
-use crate::fault::Fault;
 use crate::options::CheckOptions;
 use crate::status::Status;
-use crate::words;
 use kfifo_judge::{FromStd, Source, check_stream};
+use kfifo_texts::{Fault, order_of};
 use std::alloc::Global;
 use std::rt::Files;
 
@@ -30,7 +29,7 @@ pub fn answer<H: Files, S: Source>(
     let Some(text) = options.order else {
         return judge(alloc, input, options.k, None);
     };
-    let order = words::order_of(alloc, files, text)?;
+    let order = order_of(alloc, files, text)?;
     judge(alloc, input, options.k, Some(order.as_slice()))
 }
 

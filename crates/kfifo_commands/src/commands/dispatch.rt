@@ -3,10 +3,9 @@ ghost use Rattle.std.specs.Prelude.{◌≢◌, IfOk, IfErr, string_bytes};
 ghost use Rattle.kfifo_commands.specs.Dispatches.{IsDispatch, IsDispatchRefusal};
 ghost use Rattle.kfifo_commands.specs.Runs.{IsShapeOf};
 
-use crate::fault::Fault;
 use crate::options::DispatchOptions;
-use crate::tasks::{finished_lines, read_tasks};
 use kfifo_dispatch::{OpenGate, dispatch};
+use kfifo_texts::{Fault, finished_lines, read_tasks};
 use kfifo_words::Shape;
 use std::alloc::Global;
 use std::thread::Threads;

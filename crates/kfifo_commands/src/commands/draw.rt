@@ -3,12 +3,11 @@ ghost use Rattle.std.specs.Prelude.{◌≡◌, ◌≢◌, ◌≤◌, ℕ, List, 
 ghost use Rattle.kfifo_commands.specs.Pictures.{IsDraw, IsDrawRefusal, IsDrawn, IsUndrawn};
 ghost use Rattle.kfifo_commands.specs.Records.{ReadsWell};
 
-use crate::fault::Fault;
 use crate::input::read_input;
 use crate::options::DrawOptions;
-use crate::words;
 use kfifo_draw::{Style, draw};
 use kfifo_judge::{Source, read_record};
+use kfifo_texts::{Fault, order_of};
 use std::alloc::Global;
 use std::rt::Files;
 
@@ -28,7 +27,7 @@ pub fn answer<H: Files, S: Source>(
     let Some(text) = options.check.order else {
         return picture(alloc, input, style, options.check.k, None);
     };
-    let order = words::order_of(alloc, files, text)?;
+    let order = order_of(alloc, files, text)?;
     picture(alloc, input, style, options.check.k, Some(order.as_slice()))
 }
 

@@ -3,11 +3,10 @@ ghost use Rattle.std.specs.Prelude.{◌≡◌, ◌≢◌, IfErr, IfOk, string_by
 ghost use Rattle.kfifo_commands.specs.Imports.{IsImport, IsImportRefusal};
 ghost use Rattle.kfifo_commands.specs.Records.{ReadsWell};
 
-use crate::fault::Fault;
 use crate::input::read_input;
-use crate::recording::record_line;
 use kfifo_import::import_text;
 use kfifo_judge::Source;
+use kfifo_texts::{Fault, record_line};
 use std::alloc::Global;
 
 /// The line of the record of the log that the input is.

@@ -4,11 +4,11 @@ ghost use Rattle.kfifo_commands.specs.Records.{ReadsWell};
 ghost use Rattle.kfifo_commands.specs.Statuses.{status_number};
 ghost use Rattle.kfifo_commands.specs.Verdicts.{IsJudge, IsVerdictRefusal};
 
-use crate::fault::Fault;
 use crate::options::JudgeOptions;
 use crate::status::Status;
 use kfifo_explain::judge_stream;
 use kfifo_judge::{FromStd, Source};
+use kfifo_texts::Fault;
 use std::alloc::Global;
 
 /// The lines that answer the record of the input, and the status.

@@ -4,11 +4,11 @@ ghost use Rattle.kfifo_commands.specs.Records.{ReadsWell};
 ghost use Rattle.kfifo_commands.specs.Statuses.{status_number};
 ghost use Rattle.kfifo_commands.specs.Verdicts.{IsLeast, IsVerdictRefusal};
 
-use crate::fault::Fault;
 use crate::options::LeastOptions;
 use crate::status::Status;
 use kfifo_explain::least_stream;
 use kfifo_judge::{FromStd, Source};
+use kfifo_texts::Fault;
 use std::alloc::Global;
 
 /// The lines that answer the record of the input, and the status.

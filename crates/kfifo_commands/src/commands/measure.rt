@@ -2,8 +2,8 @@
 ghost use Rattle.std.specs.Prelude.{◌≡◌, ◌≢◌, IfOk, IfErr};
 ghost use Rattle.kfifo_commands.specs.Records.{IsMeasure, IsMeasureRefusal, ReadsWell};
 
-use crate::fault::Fault;
 use kfifo_judge::{FromStd, Source, measure_stream};
+use kfifo_texts::Fault;
 use std::alloc::Global;
 
 /// The lines that answer the record of the input.

@@ -5,12 +5,10 @@ ghost use Rattle.kfifo_record.specs.Scripts.{AreScripts, scripts_in};
 ghost use Rattle.kfifo_commands.specs.RealRuns.{IsRealRun, IsRealRunRefusal};
 ghost use Rattle.kfifo_commands.specs.Runs.{IsShapeOf};
 
-use crate::fault::Fault;
 use crate::options::RecordOptions;
-use crate::recording::record_line;
-use crate::words::read_scripts;
 use kfifo_machine::Begin;
 use kfifo_record::{OpenGate, first_over, record_scripts, repeat_scripts};
+use kfifo_texts::{Fault, read_scripts, record_line};
 use kfifo_words::Shape;
 use std::alloc::Global;
 use std::thread::Threads;

@@ -3,20 +3,17 @@ ghost use Rattle.std.specs.Prelude.{◌≡◌, ◌≢◌, ◌⊎◌, ◌≤◌, 
 ghost use Rattle.kfifo_words.specs.declared.shape.Shape.{Shape as ShapeData};
 ghost use Rattle.kfifo_machine.specs.declared.event.Begin.{Begin as BeginData};
 ghost use Rattle.kfifo_replay.specs.Player.{StandsFor, Stops};
-ghost use Rattle.kfifo_commands.specs.Picks as picks;
-ghost use Rattle.kfifo_commands.specs.Picks.{count_of, picks_of};
+ghost use Rattle.kfifo_texts.specs.Picks as picks;
+ghost use Rattle.kfifo_texts.specs.Picks.{count_of, picks_of};
 ghost use Rattle.kfifo_commands.specs.Replays.{IsPointsLine, IsRecordLine, IsRefusal, IsReplayAnswer, IsReplayRefusal, IsReplayText, IsReportText, Makes, first_lines, last_lines};
 ghost use Rattle.kfifo_commands.specs.Runs.{IsShapeOf};
 
-use crate::fault::Fault;
 use crate::options::ReplayOptions;
-use crate::picks::{Group, read_picks};
 use crate::progress::{Meter, Progress};
-use crate::recording::record_text;
-use crate::words::read_scripts;
 use kfifo_explain::push_numbers;
 use kfifo_machine::Begin;
 use kfifo_replay::{Replay, ReplayFault, Report};
+use kfifo_texts::{Fault, Group, read_picks, read_scripts, record_text};
 use kfifo_words::Shape;
 use std::alloc::{AllocError, Global};
 use std::fmt::Write;
@@ -222,6 +219,3 @@ fn push_last(text: &mut String, stopped: Option<u32>, report: &Report) -> Result
         None => Ok(()),
     }
 }
-
-#[cfg(test)]
-mod tests;

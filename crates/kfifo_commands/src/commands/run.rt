@@ -6,14 +6,13 @@ ghost use Rattle.kfifo_machine.specs.Runs.{CompleteExecution};
 ghost use Rattle.kfifo_live.specs.Schedule.{opening};
 ghost use Rattle.kfifo_live.specs.Pass.{IsOf, IsSame};
 ghost use Rattle.kfifo_commands.specs.Runs.{IsRunAnswer, IsRunRefusal, IsShapeOf};
-ghost use Rattle.kfifo_commands.specs.Words.{IsCall};
+ghost use Rattle.kfifo_texts.specs.Words.{IsCall};
 ghost use Rattle.kfifo_commands.specs.Reports.{IsAlone, IsReport, RunInTurn, call_line, slot_lines, world_lines};
 
-use crate::fault::Fault;
 use crate::options::RunOptions;
-use crate::{report, words};
 use kfifo_live::{Pass, Queue, close};
 use kfifo_machine::Begin;
+use kfifo_texts::{Fault, push_dequeue, push_ends, push_enqueue, push_slot, read_calls};
 use kfifo_words::{Ends, Shape, Word};
 use std::alloc::{AllocError, Global};
 
@@ -24,7 +23,7 @@ pub fn answer(alloc: Global, options: RunOptions<'_>) -> Result<String, Fault>
     ensures silent { IfErr result (λ fault. fault ≢ Fault.Output) }
 {
     let shape = shape_of(options)?;
-    let calls = words::read_calls(alloc, options.words, shape.k(), options.turns)?;
+    let calls = read_calls(alloc, options.words, shape.k(), options.turns)?;
     report_of(alloc, shape, calls.as_slice())
 }
 
@@ -108,11 +107,11 @@ fn make_call(
     match call {
         Begin::Enqueue { item, start, turns } => {
             let answer = pass.enqueue(queue, item, start, turns);
-            report::push_enqueue(text, item, answer)
+            push_enqueue(text, item, answer)
         }
         Begin::Dequeue { start, turns } => {
             let answer = pass.dequeue(queue, start, turns);
-            report::push_dequeue(text, answer)
+            push_dequeue(text, answer)
         }
         Begin::Tick => unreachable!(),
     }
@@ -127,7 +126,7 @@ fn push_words(queue: &Queue, pass: &mut Pass, text: &mut String) -> Result<(), A
         × (string_bytes text.new ≡ string_bytes text.old ++ world_lines queue.now.opened.shape world)) }
 {
     let shape = queue.shape();
-    report::push_ends(text, Ends::of_bits(load(queue, pass, 0)))?;
+    push_ends(text, Ends::of_bits(load(queue, pass, 0)))?;
     for segment in 0..shape.n() {
         push_slots(queue, pass, segment, text)?;
     }
@@ -150,7 +149,7 @@ fn push_slots(
     let shape = queue.shape();
     for slot in 0..shape.k() {
         let word = Word::of_bits(load(queue, pass, shape.slot_index(segment, slot)));
-        report::push_slot(text, segment, slot, word)?;
+        push_slot(text, segment, slot, word)?;
     }
     Ok(())
 }
@@ -164,6 +163,3 @@ fn load(queue: &Queue, pass: &mut Pass, index: usize) -> u64
 {
     pass.word(queue, index)
 }
-
-#[cfg(test)]
-mod tests;

@@ -1,8 +1,7 @@
-use Rattle.std.proofs.Common.{◌≡◌, ◌∙◌, ◌<◌, ◌≤◌, ◌⊎◌, ap, length, rules, subst, sym, Err, flat_map}
-use Rattle.kfifo_dispatch.specs.Tasks.{IsFinishedList}
-use Rattle.kfifo_commands.specs.declared.fault.Fault.TheVariants.{Dispatch}
+use Rattle.std.proofs.Common.{◌∙◌, ap, rules, Err, flat_map}
+use Rattle.kfifo_texts.specs.declared.fault.Fault.TheVariants.{Dispatch}
 use Rattle.kfifo_commands.specs.Dispatches.{IsDispatchRefusal, IsTasksFault}
-use Rattle.kfifo_commands.specs.Tasks.{finished_line}
+use Rattle.kfifo_texts.specs.Tasks.{finished_line}
 use Rattle.kfifo_commands.proofs.Dispatching.{admitted, tasks_fault, tasks_refused, unread_task}
 use Rattle.kfifo_commands.proofs.commands.dispatch.answer.Goals as goal
 

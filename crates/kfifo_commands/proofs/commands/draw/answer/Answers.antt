@@ -1,7 +1,7 @@
 use Rattle.std.proofs.Common.{refl, rules, Some}
 use Rattle.kfifo_commands.specs.Pictures.{IsDrawRefusal}
 use Rattle.kfifo_commands.proofs.Drawing.{no_order_refused, undrawn_refused}
-use Rattle.kfifo_commands.proofs.Outcomes.{ok_to}
+use Rattle.kfifo_texts.proofs.Outcomes.{ok_to}
 use Rattle.kfifo_commands.proofs.Refusals.{err_to, ordered}
 use Rattle.kfifo_commands.proofs.commands.draw.answer.Goals as goal
 

@@ -3,7 +3,7 @@ use Rattle.std.proofs.lemmas.List.{length-map}
 use Rattle.kfifo_machine.specs.declared.event.Begin.{Begin}
 use Rattle.kfifo_record.specs.Repeats.{all_repeated}
 use Rattle.kfifo_record.specs.Scripts.{AreScripts, IsRecord, longest, scripts_in}
-use Rattle.kfifo_commands.specs.declared.fault.Fault.TheVariants.{Open}
+use Rattle.kfifo_texts.specs.declared.fault.Fault.TheVariants.{Open}
 use Rattle.kfifo_commands.specs.RealRuns.{IsQueueFault, IsRealRunRefusal}
 use Rattle.kfifo_commands.proofs.RealRunning.{are_scripts, gives, over_refused, queue_fault, queue_refused, unread_refused}
 use Rattle.kfifo_commands.proofs.commands.record.answer.Goals as goal

@@ -1,7 +1,7 @@
 use Rattle.std.proofs.Common.{map, rules}
-use Rattle.kfifo_commands.specs.declared.fault.Fault.TheVariants.{Replay}
+use Rattle.kfifo_texts.specs.declared.fault.Fault.TheVariants.{Replay}
 use Rattle.kfifo_commands.specs.Replays.{IsReplayRefusal}
-use Rattle.kfifo_commands.proofs.Outcomes.{ok_to}
+use Rattle.kfifo_texts.proofs.Outcomes.{ok_to}
 use Rattle.kfifo_commands.proofs.Refusals.{err_to}
 use Rattle.kfifo_commands.proofs.Replaying.{gives, picks_refused, replay_refused, script_refused, text_refused}
 use Rattle.kfifo_commands.proofs.commands.replay.answer.Goals as goal

@@ -1,6 +1,6 @@
 use Rattle.std.proofs.Common.{refl, map, ◌<◌, List, ◌++◌, length, subst}
 use Rattle.kfifo_machine.specs.declared.event.Begin.{Begin}
-use Rattle.kfifo_commands.specs.Picks.{picks_of}
+use Rattle.kfifo_texts.specs.Picks.{picks_of}
 use Rattle.kfifo_commands.proofs.commands.replay.play.Goals as goal
 
 pub returns-in_ok-finish-in-Some-clause-ok : goal.returns-in_ok-finish-in-Some-clause-ok

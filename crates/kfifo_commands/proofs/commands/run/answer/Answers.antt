@@ -1,7 +1,8 @@
 use Rattle.std.proofs.Common.{rules}
 use Rattle.kfifo_commands.specs.Runs.{IsRunRefusal}
-use Rattle.kfifo_commands.proofs.Outcomes.{ok_to, word_refused}
-use Rattle.kfifo_commands.proofs.Scripts.{all_called}
+use Rattle.kfifo_texts.proofs.Outcomes.{ok_to}
+use Rattle.kfifo_commands.proofs.Outcomes.{word_refused}
+use Rattle.kfifo_texts.proofs.Scripts.{all_called}
 use Rattle.kfifo_commands.proofs.commands.run.answer.Goals as goal
 
 pub report_of-requires : goal.report_of-requires

@@ -1,6 +1,6 @@
 use Rattle.std.proofs.Common.{◌≡◌, ◌++◌, Some, string_bytes}
 use Rattle.kfifo_machine.specs.Machine.{World, after, word_at}
-use Rattle.kfifo_commands.specs.Lines.{ends_lines}
+use Rattle.kfifo_texts.specs.Lines.{ends_lines}
 use Rattle.kfifo_commands.specs.Reports.{segment_lines}
 use Rattle.kfifo_commands.proofs.commands.run.push_words.Given as goal
 

@@ -1,0 +1,11 @@
+pub mod Calls
+pub mod Each
+pub mod FirstCut
+pub mod Groups
+pub mod Numbers
+pub mod Orders
+pub mod Outcomes
+pub mod Recorded
+pub mod Scripts
+pub mod TaskWords
+pub mod Writings

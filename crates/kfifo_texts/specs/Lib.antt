@@ -1,0 +1,9 @@
+pub mod Faults
+pub mod Lines
+pub mod Orders
+pub mod Picks
+pub mod Printing
+pub mod RecordTexts
+pub mod Scripts
+pub mod Tasks
+pub mod Words

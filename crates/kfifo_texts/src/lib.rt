@@ -1,0 +1,19 @@
+//! How the program `kfifo` reads its words and writes its lines: numbers, calls, orders, picks and tasks, the records
+//! of histories, the lines of calls and of faults, and the printer that all of it goes to.
+#![tactic(auto)]
+
+mod fault;
+mod picks;
+mod printing;
+mod recording;
+mod report;
+mod tasks;
+mod words;
+
+pub use fault::Fault;
+pub use picks::{Group, read_picks};
+pub use printing::Printer;
+pub use recording::{record_line, record_text};
+pub use report::{push_dequeue, push_ends, push_enqueue, push_slot};
+pub use tasks::{finished_lines, read_tasks};
+pub use words::{order_of, read_calls, read_scripts};
