@@ -1,11 +1,7 @@
 //! The program `kfifo`: a bounded-size lock-free k-FIFO queue at the command line.
 #![tactic(auto)]
 
-mod commands;
-mod options;
-mod program;
-
-use crate::program::program_showing;
+use kfifo_command_line::program_showing;
 use kfifo_commands::{Started, start_program};
 use std::process::ExitCode;
 

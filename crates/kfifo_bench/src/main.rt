@@ -17,7 +17,7 @@ mod payloads;
 
 use kfifo_live::{Pass, PayQueue, Queue};
 use kfifo_model::Answer;
-use kfifo_words::Shape;
+use kfifo_words::{MAX_VERSION, Shape};
 use payloads::{TOKENS, fill as fill_with_payloads, give_and_take};
 use std::alloc::Global;
 use std::io;
@@ -190,7 +190,7 @@ fn main(rt: HostRuntime) -> io::Result<()> {
     if k == 0 {
         return println!(rt; "no such k");
     }
-    let Ok(shape) = Shape::new(k, 1024 / k, 1_099_511_627_775) else {
+    let Ok(shape) = Shape::new(k, 1024 / k, MAX_VERSION) else {
         return println!(rt; "no such k");
     };
     let starts = Starts { state: 12_345, k };

@@ -3,13 +3,13 @@ use Rattle.std.proofs.Common.{◌≡◌, ◌+◌, ◌*◌, ◌<◌, ◌≤◌, �
 use Rattle.std.specs.Prelude.{◌==◌}
 use Rattle.std.specs.List.{list_any}
 use Rattle.std.proofs.lemmas.List.{take_more, length-map, length-append, get_or-set_same, get_or-set_other}
-use Rattle.std.proofs.lemmas.List.Elements.{All-head, All-tail}
+use Rattle.std.proofs.lemmas.List.Elements.{All-cons, All-head, All-nil, All-tail}
 use Rattle.std.proofs.Math.ListN.{set, get_or-map as get_or_map}
 use Rattle.std.proofs.Math.Seq.{map-set_same}
 use Rattle.kfifo_words.specs.declared.shape.Shape.{Shape}
 use Rattle.kfifo_words.specs.Words.{head_of}
 use Rattle.kfifo_words.specs.Ring.{next_segment, slot_at}
-use Rattle.kfifo_live.specs.Pass.{OpenQueue, Known, IsOf, AllOf, IsComplete, Closes}
+use Rattle.kfifo_live.specs.Pass.{OpenQueue, Known, IsOf, IsComplete, Closes}
 use Rattle.kfifo_live.specs.Left.{item_in, slots_left, segments_left, items_left}
 use Rattle.kfifo_c.specs.declared.handle.Handle.{Handle}
 use Rattle.kfifo_c.specs.Seats.{Seated, seated}
@@ -54,9 +54,9 @@ pub passes_of_seats : (q : OpenQueue) (ps : List Known) → passes_in (map Some 
 passes_of_seats q [] = refl
 passes_of_seats q (p ∷ ps) = ap (λ l. p ∷ l) (passes_of_seats q ps)
 
-pub all_of_seats : (q : OpenQueue) (ps : List Known) → AreTheirs (map Some (seats_of q ps)) → AllOf q ps
-all_of_seats q [] all = tt
-all_of_seats q (p ∷ ps) all = (all.0, all_of_seats q ps all.1)
+pub all_of_seats : (q : OpenQueue) (ps : List Known) → AreTheirs (map Some (seats_of q ps)) → All (IsOf q) ps
+all_of_seats q [] all = All-nil (IsOf q)
+all_of_seats q (p ∷ ps) all = All-cons (IsOf q) p ps all.0 (all_of_seats q ps all.1)
 
 few_passes : (os : List (Option Seated)) → length (passes_in os) ≤ length os
 few_passes [] = omega arith
@@ -192,9 +192,9 @@ match_some {X} P Q o x m e = subst (λ (o' : Option X). MatchOption o' P Q) e m
 pub few_closed : (q : OpenQueue) (ps : List Known) (items : List ℕ) → Closes q ps items → length items ≤ q.opened.shape.n * q.opened.shape.k
 few_closed q ps items closes = subst (λ (l : List ℕ). length l ≤ q.opened.shape.n * q.opened.shape.k) (sym closes.items_are) (few_left q.opened.shape closes.world.words)
 
-pub closes_theirs : (os : List (Option Seated)) (room : ℕ) (q : OpenQueue) → MayClose q os room → AreTheirs os → AllOf q (passes_in os)
-closes_theirs os room q may theirs = subst (λ (l : List (Option Seated)). AllOf q (passes_in l)) (sym may.handles_are)
-    (subst (AllOf q) (sym (passes_of_seats q may.passes)) (all_of_seats q may.passes (subst AreTheirs may.handles_are theirs)))
+pub closes_theirs : (os : List (Option Seated)) (room : ℕ) (q : OpenQueue) → MayClose q os room → AreTheirs os → All (IsOf q) (passes_in os)
+closes_theirs os room q may theirs = subst (λ (l : List (Option Seated)). All (IsOf q) (passes_in l)) (sym may.handles_are)
+    (subst (All (IsOf q)) (sym (passes_of_seats q may.passes)) (all_of_seats q may.passes (subst AreTheirs may.handles_are theirs)))
 
 pub closes_passes : (os : List (Option Seated)) (room : ℕ) (q : OpenQueue) → MayClose q os room → os ≡ map Some (seats_of q (passes_in os))
 closes_passes os room q may = may.handles_are

@@ -2,21 +2,11 @@
 use Rattle.std.proofs.Common.{◌≡◌, ◌<◌, ◌+◌, arith, take, sym, ap, ◌∙◌, map, reverse, length, ℕ, zero, suc, List, [], ◌∷◌, ◌++◌, Option, Some, None, refl}
 use Rattle.std.proofs.lemmas.List.{append_assoc, take_more_set, map-append, reverse-append, length-reverse, length-map}
 use Rattle.std.proofs.Math.ListN.{set}
-use Rattle.kfifo_live.specs.Pass.{OpenQueue, Known, IsOf, AllOf, new_passes}
+use Rattle.kfifo_live.specs.Pass.{OpenQueue, new_passes}
 use Rattle.kfifo_c.specs.declared.handle.Handle.{Handle}
 use Rattle.kfifo_c.specs.Handles.{behind}
 use Rattle.kfifo_c.specs.Seats.{Seated, seated, starts_of}
 use Rattle.kfifo_c.specs.Exports.{seats_of}
-
--- new passes are of their opening
-pub new_all : (q : OpenQueue) (first count : ℕ) → AllOf q (new_passes q first count)
-new_all q first zero = tt
-new_all q first (suc count) = ((refl, refl), new_all q (suc first) count)
-
--- of a list whose passes are all of one opening, the last is, and so are those before it
-pub all_of_last : (q : OpenQueue) (ps : List Known) (p : Known) → AllOf q (ps ++ p ∷ []) → AllOf q ps × IsOf q p
-all_of_last q [] p all = (tt, all.0)
-all_of_last q (p' ∷ ps) p all = let r = all_of_last q ps p all.1 in ((all.0, r.0), r.1)
 
 -- a handle from which a scan may begin somewhere is open
 pub something : (o : Option Seated) → ¬ (starts_of o ≡ 0) → (x : Seated) × (o ≡ Some x)

@@ -73,7 +73,8 @@ pub record Called (call : Begin) (answer : Answer) (old new : Seated) : Type 0 w
 -- with its arguments. Else the pass behind the handle makes it, and is there still
 abbrev pub Tries : (Seated → Type 0) → Begin → Option Answer → Option Seated → Option Seated → Type 0
 Tries may call None old new = (new ≡ old) × IfSome old (λ seat. ¬ may seat)
-Tries may call (Some answer) old new = (seat after : Seated) × (old ≡ Some seat) × (new ≡ Some after) × may seat × Called call answer seat after
+Tries may call (Some answer) old new = (seat after : Seated) × (old ≡ Some seat) × (new ≡ Some after) × may seat
+    × Called call answer seat after
 
 -- the pass read this word, and saw what it says of the queue
 pub record HasRead (index word : ℕ) (old new : Seated) : Type 0 where
@@ -85,7 +86,8 @@ pub record HasRead (index word : ℕ) (old new : Seated) : Type 0 where
 -- A read by a handle, as a call is
 abbrev pub TriesRead : ℕ → Option ℕ → Option Seated → Option Seated → Type 0
 TriesRead index None old new = (new ≡ old) × IfSome old (λ seat. ¬ MayRead index seat)
-TriesRead index (Some word) old new = (seat after : Seated) × (old ≡ Some seat) × (new ≡ Some after) × MayRead index seat × HasRead index word seat after
+TriesRead index (Some word) old new = (seat after : Seated) × (old ≡ Some seat) × (new ≡ Some after) × MayRead index seat
+    × HasRead index word seat after
 
 -- the number of a read, and what it leaves in the variable of its word
 abbrev pub read_number : Option ℕ → ℕ

@@ -6,17 +6,15 @@ ghost use Rattle.kfifo_c.specs.Exports.{Tries, TriesRead, MayEnqueue, MayDequeue
 
 use crate::handle::Handle;
 use crate::status::{BAD_CALL, DONE, status};
-use kfifo_model::Answer;
+use kfifo_model::{Answer, MAX_ITEM};
 use std::alloc::Global;
-
-/// The most that an item can be, 2^24 - 1.
-const MAX_ITEM: u32 = 16_777_215;
 
 /// Puts an item into the queue of the handle: `Pass::enqueue`, and its answer's number. BAD_CALL, with nothing done, where the
 /// handle is closed, the item is not 1 to 2^24 - 1, `start` not below k, or `turns` 0.
 #[unsafe(no_mangle)]
 pub extern "C" fn kfifo_c_enqueue(pass: &mut Handle, item: u32, start: u32, turns: u16) -> u32
-    ensures answer { (answer : Option Answered) × (result ≡ number_of answer) × Tries (MayEnqueue item start turns) (Enqueue item start turns) answer pass.old.held.value pass.new.held.value }
+    ensures answer { (answer : Option Answered) × (result ≡ number_of answer)
+        × Tries (MayEnqueue item start turns) (Enqueue item start turns) answer pass.old.held.value pass.new.held.value }
     ensures address { pass.new.address ≡ pass.old.address }
 {
     // The look at the handle stands between two tests of registers: else the compiler makes one of them, and a longer one.
@@ -31,7 +29,8 @@ pub extern "C" fn kfifo_c_enqueue(pass: &mut Handle, item: u32, start: u32, turn
 /// written where there is one. BAD_CALL, with nothing done, where the handle is closed, `start` not below k, or `turns` 0.
 #[unsafe(no_mangle)]
 pub extern "C" fn kfifo_c_dequeue(pass: &mut Handle, item: &mut u32, start: u32, turns: u16) -> u32
-    ensures answer { (answer : Option Answered) × (result ≡ number_of answer) × (item.new ≡ item_after item.old answer) × Tries (MayDequeue start turns) (Dequeue start turns) answer pass.old.held.value pass.new.held.value }
+    ensures answer { (answer : Option Answered) × (result ≡ number_of answer) × (item.new ≡ item_after item.old answer)
+        × Tries (MayDequeue start turns) (Dequeue start turns) answer pass.old.held.value pass.new.held.value }
     ensures address { pass.new.address ≡ pass.old.address }
 {
     if !pass.has_start(start) {
@@ -47,7 +46,8 @@ pub extern "C" fn kfifo_c_dequeue(pass: &mut Handle, item: &mut u32, start: u32,
 /// Reads the word of this index: `Pass::word`. BAD_CALL, with nothing done, where the handle is closed or there is no such word.
 #[unsafe(no_mangle)]
 pub extern "C" fn kfifo_c_word(pass: &mut Handle, index: usize, word: &mut u64) -> u32
-    ensures read { (read : Option ℕ) × (result ≡ read_number read) × (word.new ≡ word_after word.old read) × TriesRead index read pass.old.held.value pass.new.held.value }
+    ensures read { (read : Option ℕ) × (result ≡ read_number read) × (word.new ≡ word_after word.old read)
+        × TriesRead index read pass.old.held.value pass.new.held.value }
     ensures address { pass.new.address ≡ pass.old.address }
 {
     if pass.starts == 0 {

@@ -15,7 +15,8 @@ use std::sync::Arc;
 fn first_queue(handles: &mut [Handle]) -> Result<Option<(Arc<Queue, Global>, u32)>, AllocError>
     ensures same { behind handles.new ≡ behind handles.old }
     ensures addresses { addresses handles.new ≡ addresses handles.old }
-    ensures first { IfOk result (λ found. MatchOption found (¬ ((queue : OpenQueue) × BeginsWith queue (behind handles.old))) (λ found. BeginsWith found.0.value (behind handles.old) × (found.1 ≡ found.0.value.opened.threads))) }
+    ensures first { IfOk result (λ found. MatchOption found (¬ ((queue : OpenQueue) × BeginsWith queue (behind handles.old)))
+        (λ found. BeginsWith found.0.value (behind handles.old) × (found.1 ≡ found.0.value.opened.threads))) }
 {
     let Some(first) = handles.first_mut() else {
         return Ok(None);
@@ -75,7 +76,8 @@ fn ready(
     requires { AreOfOneQueue (behind handles.old) }
     ensures same { behind handles.new ≡ behind handles.old }
     ensures addresses { addresses handles.new ≡ addresses handles.old }
-    ensures may { IfOk result (λ found. MatchOption found (¬ ((queue : OpenQueue) × MayClose queue (behind handles.old) room)) (λ queue. MayClose queue.value (behind handles.old) room)) }
+    ensures may { IfOk result (λ found. MatchOption found (¬ ((queue : OpenQueue) × MayClose queue (behind handles.old) room))
+        (λ queue. MayClose queue.value (behind handles.old) room)) }
 {
     let Some((queue, threads)) = first_queue(handles)? else {
         return Ok(None);
@@ -133,7 +135,8 @@ pub extern "C" fn kfifo_c_close(
     requires { AreOfOneQueue (behind passes.old) }
     ensures answers { (result ≡ 0) ⊎ (result ≡ 6) ⊎ (result ≡ 7) ⊎ (result ≡ 9) }
     ensures bad { result ≡ 6 → ¬ ((queue : OpenQueue) × MayClose queue (behind passes.old) (length items.old)) }
-    ensures nothing { (result ≡ 6) ⊎ (result ≡ 7) → (behind passes.new ≡ behind passes.old) × (addresses passes.new ≡ addresses passes.old) }
+    ensures nothing { (result ≡ 6) ⊎ (result ≡ 7) → (behind passes.new ≡ behind passes.old)
+        × (addresses passes.new ≡ addresses passes.old) }
     ensures closed { (result ≡ 0) ⊎ (result ≡ 9) → All (λ pass. pass.held.value ≡ None) passes.new }
     ensures done { result ≡ 0 → ClosesInto (behind passes.old) items.old items.new count.new }
     ensures kept { (result ≡ 6) ⊎ (result ≡ 7) ⊎ (result ≡ 9) → (items.new ≡ items.old) × (count.new ≡ count.old) }

@@ -2,7 +2,7 @@
 ghost use Rattle.std.specs.Prelude.{◌≡◌, ◌≢◌, ◌<◌, ◌≤◌, ◌⊎◌, ◌↔◌, None, Some, IfSome, IfOk, IsErrOf, All, length, map, reverse};
 ghost use denote.RawPtr.{Ptr};
 ghost use Rattle.kfifo_words.specs.Sizes.{fault_of};
-ghost use Rattle.kfifo_live.specs.Pass.{AllOf};
+ghost use Rattle.kfifo_live.specs.Pass.{IsOf};
 ghost use Rattle.kfifo_live.specs.declared.fault.OpenFault.TheVariants.{ThreadsOutOfRange};
 ghost use Rattle.kfifo_c.specs.Handles.{behind};
 ghost use Rattle.kfifo_c.specs.Exports.{seats_of, Opens, OpensSizes, shape_number};
@@ -23,7 +23,7 @@ fn seat_all(
     mut passes: Vec<Pass>,
     threads: u32,
 ) -> Result<Vec<Box<Seat, Global>>, AllocError>
-    requires of { AllOf queue passes.items }
+    requires of { All (IsOf queue) passes.items }
     requires threads { threads ≡ queue.opened.threads }
     ensures { IfOk result (λ seats. reverse (map (λ seat. seat.value) seats.items) ≡ seats_of queue passes.items) }
 {

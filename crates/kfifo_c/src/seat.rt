@@ -93,7 +93,8 @@ impl Seat {
     pub(crate) fn enqueue(&mut self, item: u32, start: u32, turns: u16) -> Option<Answer>
         requires item { (1 ≤ item) × (item < 2 ^ 24) }
         requires start { start < self.old.queue.opened.shape.k }
-        ensures { MatchOption result ((self.new ≡ self.old) × (¬ MayEnqueue item start turns self.old)) (λ answer. MayEnqueue item start turns self.old × Called (Enqueue item start turns) answer self.old self.new) }
+        ensures { MatchOption result ((self.new ≡ self.old) × (¬ MayEnqueue item start turns self.old))
+            (λ answer. MayEnqueue item start turns self.old × Called (Enqueue item start turns) answer self.old self.new) }
     {
         if turns < 1 {
             return None;
@@ -105,7 +106,8 @@ impl Seat {
     #[inline(always)]
     pub(crate) fn dequeue(&mut self, start: u32, turns: u16) -> Option<Answer>
         requires { start < self.old.queue.opened.shape.k }
-        ensures { MatchOption result ((self.new ≡ self.old) × (¬ MayDequeue start turns self.old)) (λ answer. MayDequeue start turns self.old × Called (Dequeue start turns) answer self.old self.new) }
+        ensures { MatchOption result ((self.new ≡ self.old) × (¬ MayDequeue start turns self.old))
+            (λ answer. MayDequeue start turns self.old × Called (Dequeue start turns) answer self.old self.new) }
     {
         if turns < 1 {
             return None;
@@ -115,7 +117,8 @@ impl Seat {
 
     /// The word of this index, if there is one.
     pub(crate) fn word(&mut self, index: usize) -> Option<u64>
-        ensures { MatchOption result ((self.new ≡ self.old) × (¬ MayRead index self.old)) (λ word. MayRead index self.old × HasRead index word self.old self.new) }
+        ensures { MatchOption result ((self.new ≡ self.old) × (¬ MayRead index self.old))
+            (λ word. MayRead index self.old × HasRead index word self.old self.new) }
     {
         let shape = self.queue.shape();
         if index >= 2 + shape.n() as usize * shape.k() as usize {

@@ -29,7 +29,8 @@ IsOfInput input IsFaulty given = (bytes : List ℕ) × IsInput input bytes × Is
 
 -- the fault of a command whose stream was refused: that of the stream, with its cause
 abbrev pub IsStreamFault : Option (List ℕ) → ℕ → ℕ → (List ℕ → StreamFault → Type 0) → Fault → Type 0
-IsStreamFault input before after IsFaulty fault = (given : StreamFault) × (fault ≡ stream_fault given) × (given ≡ streams.Input → IsUnread input before after)
+IsStreamFault input before after IsFaulty fault = (given : StreamFault) × (fault ≡ stream_fault given)
+    × (given ≡ streams.Input → IsUnread input before after)
     × (given ≢ streams.Input → given ≢ streams.Output → given ≢ streams.Memory → IsOfInput input IsFaulty given)
 
 -- the order that a text gives, or none where there is no text

@@ -39,7 +39,8 @@ last_lines stopped r = line (codes "worst rank " ++ decimal r.worst_rank) ++ lin
 -- the line of the points, where it is asked for
 abbrev pub IsPointsLine : Bool → Shape → List (List Begin) → List ℕ → List ℕ → Type 0
 IsPointsLine false shape scripts picks text = text ≡ []
-IsPointsLine true shape scripts picks text = (points : List ℕ) × ArePoints shape scripts picks points × (text ≡ numbers_line (codes "points ") points)
+IsPointsLine true shape scripts picks text = (points : List ℕ) × ArePoints shape scripts picks points
+    × (text ≡ numbers_line (codes "points ") points)
 
 -- the lines of the report of these picks
 pub record IsReportText (points : Bool) (stopped : Option ℕ) (shape : Shape) (scripts : List (List Begin)) (picks text : List ℕ) : Type 0 where
@@ -63,7 +64,8 @@ IsReplayText false points stopped shape scripts picks text = IsReportText points
 -- the picks that are made of those given: these, and where a thread is stopped behind them those with which each other thread goes to the end of its script
 abbrev pub Makes : Option ℕ → Shape → List (List Begin) → List ℕ → List ℕ → Type 0
 Makes None shape scripts given made = made ≡ given
-Makes (Some stopped) shape scripts given made = (more : List ℕ) × (made ≡ given ++ more) × (stopped < length scripts) × Finishes stopped shape scripts (length scripts) given more
+Makes (Some stopped) shape scripts given made = (more : List ℕ) × (made ≡ given ++ more) × (stopped < length scripts)
+    × Finishes stopped shape scripts (length scripts) given more
 
 -- the shape, the scripts and the groups of picks that the options give
 pub record Gives (options : ReplayOptions) (shape : Shape) (scripts : List (List Begin)) (groups : List Group) : Type 0 where
@@ -108,7 +110,8 @@ IsUnknown (Some stopped) scripts = length scripts ≤ stopped
 abbrev pub IsRefusal : Option ℕ → Shape → List (List Begin) → List ℕ → ReplayFault → Type 0
 IsRefusal stopped shape scripts picks (replays.BadPick place) = IsFirstRefused shape scripts picks place
 IsRefusal stopped shape scripts picks replays.Memory = Unit {0}
-IsRefusal stopped shape scripts picks replays.BadScript = (AreScripts shape scripts → ⊥) ⊎ (IsTrue (is_some (events_of shape scripts picks)) × IsUnknown stopped scripts)
+IsRefusal stopped shape scripts picks replays.BadScript = (AreScripts shape scripts → ⊥)
+    ⊎ (IsTrue (is_some (events_of shape scripts picks)) × IsUnknown stopped scripts)
 
 -- the replay that the options give refuses so
 pub record IsReplayFault (options : ReplayOptions) (fault : ReplayFault) : Type 0 where

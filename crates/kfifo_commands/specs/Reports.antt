@@ -29,7 +29,8 @@ abbrev pub RunInTurn : Shape → List Begin → List Answer → List Event → L
 RunInTurn shape [] [] old new text = (new ≡ old) × (text ≡ [])
 RunInTurn shape [] (answer ∷ answers) old new text = ⊥
 RunInTurn shape (call ∷ calls) [] old new text = ⊥
-RunInTurn shape (call ∷ calls) (answer ∷ answers) old new text = (mid : List Event) × (more : List ℕ) × CompleteExecution shape 1 0 call answer old mid
+RunInTurn shape (call ∷ calls) (answer ∷ answers) old new text = (mid : List Event) × (more : List ℕ)
+    × CompleteExecution shape 1 0 call answer old mid
     × RunInTurn shape calls answers mid new more × (text ≡ call_line call answer ++ more)
 
 -- the lines of the first slots of a segment

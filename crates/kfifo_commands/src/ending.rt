@@ -69,7 +69,8 @@ pub fn end_with_text<D: Display + Drop, W: Write, F: Write>(
     output: &mut Printer<'_, W>,
     faults: &mut Printer<'_, F>,
 ) -> Status
-    ensures { Ends (λ bytes status. (notice ≡ Notice.Help) × (status ≡ 0) × IfSome (D.output text) (λ known. bytes ≡ known)) (λ fault. fault ≡ Fault.Memory)
+    ensures { Ends (λ bytes status. (notice ≡ Notice.Help) × (status ≡ 0)
+        × IfSome (D.output text) (λ known. bytes ≡ known)) (λ fault. fault ≡ Fault.Memory)
         ((notice ≡ Notice.Misuse) × ((bytes : List ℕ) × IfSome (D.output text) (λ known. bytes ≡ known) × Tells (OnPrinter F.contents faults.old faults.new) bytes))
         (OnPrinter W.contents output.old output.new) (OnPrinter F.contents faults.old faults.new) (status_number result) }
 {
@@ -100,7 +101,8 @@ fn answer<H: Threads + Files + Sync, S: Source, W: Write, P: Progress>(
     ensures statuses { IfOk result (λ status. (status ≢ Status.Failed) × (status ≢ Status.Misused)) }
     ensures printed { IfOk result (λ status. (text : List ℕ) × Answers request.entry (S.remaining input.old) text (status_number status)
         × Writes W.contents output.old text output.new) }
-    ensures broken { IfErr result (λ fault. fault ≡ Fault.Output → (text : List ℕ) × (status : ℕ) × Answers request.entry (S.remaining input.old) text status
+    ensures broken { IfErr result (λ fault. fault ≡ Fault.Output → (text : List ℕ) × (status : ℕ)
+        × Answers request.entry (S.remaining input.old) text status
         × Breaks W.contents output.old text output.new) }
     ensures refused { IfErr result (λ fault. fault ≢ Fault.Output
         → IsRefused request.entry (S.remaining input.old) (S.failed input.old) (S.failed input.new) fault × (output.new ≡ output.old)) }

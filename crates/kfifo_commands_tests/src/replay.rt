@@ -3,6 +3,7 @@
 use kfifo_commands::{Progress, ReplayOptions, Request, Sizes, Status, carry_out};
 use kfifo_judge::FromStd;
 use kfifo_texts::Printer;
+use kfifo_words::MAX_VERSION;
 use std::alloc::{AllocError, Global};
 use std::fmt::Write;
 use std::io;
@@ -72,7 +73,7 @@ fn notes_of<R: Threads + Files + AllocGlobal + Sync>(
     let sizes = Sizes {
         k: 1,
         segments: 2,
-        last: 1_099_511_627_775,
+        last: MAX_VERSION,
         probes: None,
     };
     let options = ReplayOptions {

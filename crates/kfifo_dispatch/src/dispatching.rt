@@ -47,7 +47,8 @@ pub fn dispatch<R: Threads + Sync, G: Gate + Sync>(
     ensures ok { IfOk result (λ list. IsFinishedList tasks.now list.items) }
     ensures many { IsErrOf result TooManyTasks ↔ (1024 < length tasks.now) }
     ensures repeated { IsErrOf result RepeatedId ↔ ((length tasks.now ≤ 1024) × HasRepeatedId tasks.now) }
-    ensures workers { IsErrOf result WorkersOutOfRange ↔ ((length tasks.now ≤ 1024) × (HasRepeatedId tasks.now → ⊥) × ((workers ≡ 0) ⊎ (63 < workers))) }
+    ensures workers { IsErrOf result WorkersOutOfRange
+        ↔ ((length tasks.now ≤ 1024) × (HasRepeatedId tasks.now → ⊥) × ((workers ≡ 0) ⊎ (63 < workers))) }
 {
     if tasks.len() > MAX_TASKS {
         return Err(DispatchFault::TooManyTasks);

@@ -80,7 +80,8 @@ impl<L: Tasks> Worker<L> {
         gate: &G,
     ) -> Option<Done<L>>
         requires { MayWork queue.now self.old.pass.pass self.old.starts self.old.turns }
-        ensures { IsSame self.old.pass.pass self.new.pass.pass × (self.new.starts.k ≡ self.old.starts.k) × (self.new.turns ≡ self.old.turns) }
+        ensures { IsSame self.old.pass.pass self.new.pass.pass × (self.new.starts.k ≡ self.old.starts.k)
+            × (self.new.turns ≡ self.old.turns) }
     {
         let worker = self.pass.thread();
         job.work_once(worker, gate);

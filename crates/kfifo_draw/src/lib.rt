@@ -12,6 +12,3 @@ mod svg;
 mod words;
 
 pub use picture::{DrawFault, MOST_DRAWN, Style, draw};
-
-#[cfg(test)]
-mod tests;

@@ -2,20 +2,16 @@
 //! prints what was put and what came out, which is the same in every run.
 #![tactic(auto)]
 
-ghost use Rattle.std.specs.Prelude.{◌≡◌, IfOk};
-ghost use Rattle.kfifo_live.specs.Pass.{IsOf, AllOf};
-ghost use Rattle.kfifo_example.specs.Workers.{passes_of};
+ghost use Rattle.std.specs.Prelude.{◌≡◌, All, IfOk, map};
+ghost use Rattle.kfifo_live.specs.Pass.{IsOf};
 
 mod worker;
 
 use kfifo_live::{Pass, Queue, close};
-use kfifo_words::Shape;
+use kfifo_words::{MAX_VERSION, Shape};
 use std::alloc::{AllocError, Global};
 use std::thread::{Threads, join, map_vec};
 use worker::{Tally, Worker};
-
-/// The greatest version that a word can have, 2^40 - 1.
-const LAST: u64 = 1_099_511_627_775;
 
 /// What went into a queue, and what came out of it.
 #[derive(Clone, Copy)]
@@ -36,14 +32,14 @@ fn work(queue: &Queue, pass: Pass) -> Worker
 
 /// The workers' passes, in their order.
 fn passes_back(alloc: Global, workers: Vec<Worker>) -> Result<Vec<Pass>, AllocError>
-    ensures { IfOk result (λ passes. passes.items ≡ passes_of workers.items) }
+    ensures { IfOk result (λ passes. passes.items ≡ map (λ w. w.pass) workers.items) }
 {
     workers.into_iter().map(|worker| worker.pass).collect(alloc)
 }
 
 /// Closes the queue when its threads have ended, and adds up what was put, taken and left.
 fn finish(alloc: Global, queue: Queue, workers: Vec<Worker>) -> anyhow::Result<Totals>
-    requires { AllOf queue (passes_of workers.items) }
+    requires { All (λ w. IsOf queue w.pass) workers.items }
 {
     let mut put = Tally::default();
     let mut out = Tally::default();
@@ -60,14 +56,14 @@ fn finish(alloc: Global, queue: Queue, workers: Vec<Worker>) -> anyhow::Result<T
 
 /// Four threads share a queue with k = 4 and 256 segments. Each is handed a pass of the list, and hands it back.
 fn run_four<R: Threads + Sync>(rt: &R, alloc: Global) -> anyhow::Result<Totals> {
-    let (queue, passes) = Queue::open(alloc, Shape::new(4, 256, LAST)?, 4)?;
+    let (queue, passes) = Queue::open(alloc, Shape::new(4, 256, MAX_VERSION)?, 4)?;
     let workers = map_vec(rt, passes, &|pass| work(&queue, pass))?;
     finish(alloc, queue, workers)
 }
 
 /// Two threads share a strict queue of two slots, which is often full.
 fn run_two<R: Threads + Sync>(rt: &R, alloc: Global) -> anyhow::Result<Totals> {
-    let (queue, mut passes) = Queue::open(alloc, Shape::new(1, 2, LAST)?, 2)?;
+    let (queue, mut passes) = Queue::open(alloc, Shape::new(1, 2, MAX_VERSION)?, 2)?;
     let (Some(second), Some(first)) = (passes.pop(), passes.pop()) else {
         unreachable!()
     };

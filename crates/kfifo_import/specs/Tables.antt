@@ -29,7 +29,8 @@ pub record ReadsLog (bytes : List ℕ) (lines : List Line) : Type 0 where
 -- what was read of the first rows of a table: nothing yet, or the header and the lines below it
 abbrev pub Holds : List (List (List ℕ)) → Option Columns → List Line → Type 0
 Holds read None lines = (read ≡ []) × (lines ≡ [])
-Holds read (Some columns) lines = (names : List (List ℕ)) × (rows : List (List (List ℕ))) × (read ≡ names ∷ rows) × HasColumns names columns × AreLines columns rows lines
+Holds read (Some columns) lines = (names : List (List ℕ)) × (rows : List (List (List ℕ))) × (read ≡ names ∷ rows)
+    × HasColumns names columns × AreLines columns rows lines
 
 -- a fault that comes before those of records
 abbrev pub IsTextFault : ImportFault → Type 0

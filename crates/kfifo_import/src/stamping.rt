@@ -50,7 +50,8 @@ fn rank_at(ranks: &[usize], number: usize) -> usize
 
 /// The call, which has this number, with stamps.
 fn stamp(calls: &[Call], ends: &[usize], ranks: &[usize], number: usize, call: &Call) -> Call
-    requires few { (number < 2 ^ 32) × (length calls.now < 2 ^ 32) × (length ends.now < 2 ^ 32) × (slice_index_or ranks.now number 0 < 2 ^ 32) }
+    requires few { (number < 2 ^ 32) × (length calls.now < 2 ^ 32) × (length ends.now < 2 ^ 32)
+        × (slice_index_or ranks.now number 0 < 2 ^ 32) }
     requires by_first { IsNonDecreasingBy (λ c. c.first) calls.now }
     requires by_last { IsNonDecreasingBy (λ n. last_of calls.now n) ends.now }
     ensures { IsStampOf calls.now ends.now ranks.now number call.now result }

@@ -117,7 +117,8 @@ pub fn check_stream<R: Source, W: Sink>(
         IfErr result (λ f. f ≢ StreamFault.Input → f ≢ StreamFault.Output → f ≢ StreamFault.Memory →
         (bytes : List ℕ) × IfSome (R.remaining source.old) (λ given. given ≡ bytes) × IsCheckFault o bytes f) }
     // Every answer but Input and Memory: all that the source had to give, no longer than the limit, was read.
-    ensures short { result ≢ Err StreamFault.Input → result ≢ Err StreamFault.Memory → IfSome (R.remaining source.old) (λ given. length given ≤ 16777216) }
+    ensures short { result ≢ Err StreamFault.Input → result ≢ Err StreamFault.Memory
+        → IfSome (R.remaining source.old) (λ given. length given ≤ 16777216) }
     // No call failed but the one that was answered.
     ensures source_calls { (result ≢ Err StreamFault.Input) → R.failed source.new ≡ R.failed source.old }
     ensures sink_calls { (result ≢ Err StreamFault.Output) → W.failed sink.new ≡ W.failed sink.old }

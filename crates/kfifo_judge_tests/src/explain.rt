@@ -1,8 +1,8 @@
 //! Verdicts on records, whole and broken off.
 ghost use Rattle.std.specs.Prelude.{◌≤◌};
 
+use crate::plain::{judge_stream, least_stream};
 use crate::streams::{sink_with, source_of};
-use kfifo_explain::{judge_stream, least_stream};
 use kfifo_judge::StreamFault;
 use kfifo_model::RecordFault;
 use std::alloc::Global;

@@ -1,5 +1,6 @@
 //! Records of logs.
-use kfifo_import::{ImportFault, import_text};
+use crate::plain::import_text;
+use kfifo_import::ImportFault;
 use kfifo_model::{Answer, Call, End, Op};
 use std::test::Fail;
 

@@ -1,6 +1,7 @@
 //! What the commands answer to records, whole and broken off.
+use crate::plain::{check_stream, measure_stream};
 use crate::streams::{Pieces, sink_with, source_of};
-use kfifo_judge::{FromStd, StreamFault, check_stream, measure_stream};
+use kfifo_judge::{FromStd, StreamFault};
 use kfifo_model::{RecordFault, SearchFault};
 use std::alloc::Global;
 use std::test::Fail;

@@ -1,8 +1,9 @@
 //! What no contract says: that the calls answer where they must, and as the written rows say.
 ghost use Rattle.std.specs.Prelude.{◌≤◌};
 
-use kfifo_model::{Answer, Call, End, History, Op, RecordFault, has_order};
-use kfifo_verdict::{Bounds, Evidence, Judgement, evidence, judge, least_k, witness};
+use crate::plain::{evidence, has_order, history_of, judge, least_k, witness};
+use kfifo_model::{Answer, Call, End, History, Op, RecordFault};
+use kfifo_verdict::{Bounds, Evidence, Judgement};
 use std::alloc::{AllocError, Global};
 use std::test::Fail;
 use std::time::Instant;
@@ -59,7 +60,7 @@ fn coded(alloc: Global, code: u64, count: u32) -> Result<History, RecordFault> {
         calls.push(shaped(rest % 24, n, 2 * u64::from(n)))?;
         rest = rest / 24;
     }
-    History::new(calls)
+    history_of(calls)
 }
 
 /// Whether all calls are finished, and no item is put twice or got twice.
@@ -332,7 +333,7 @@ fn crossed(alloc: Global) -> Result<History, RecordFault> {
     calls.push(put(1, 2, 1, 9))?;
     calls.push(got(2, 2, 2, 3))?;
     calls.push(got(2, 1, 11, 12))?;
-    History::new(calls)
+    history_of(calls)
 }
 
 /// An Empty that fits only between the get of one item and the put of another.
@@ -342,7 +343,7 @@ fn between(alloc: Global) -> Result<History, RecordFault> {
     calls.push(empty(1, 2, 9))?;
     calls.push(got(2, 1, 4, 7))?;
     calls.push(put(0, 2, 5, 6))?;
-    History::new(calls)
+    history_of(calls)
 }
 
 /// Three calls after each other: item 2 is got before item 1, which was put before it.
@@ -352,7 +353,7 @@ fn reversed(alloc: Global) -> Result<History, RecordFault> {
     calls.push(put(0, 2, 2, 3))?;
     calls.push(got(1, 2, 4, 5))?;
     calls.push(got(1, 1, 6, 7))?;
-    History::new(calls)
+    history_of(calls)
 }
 
 /// An Empty in a time of which two items cover a part each.
@@ -362,7 +363,7 @@ fn covered(alloc: Global) -> Result<History, RecordFault> {
     calls.push(put(1, 2, 2, 12))?;
     calls.push(empty(2, 10, 20))?;
     calls.push(got(0, 1, 15, 30))?;
-    History::new(calls)
+    history_of(calls)
 }
 
 /// The same without the second item.
@@ -371,7 +372,7 @@ fn uncovered(alloc: Global) -> Result<History, RecordFault> {
     calls.push(put(0, 1, 0, 1))?;
     calls.push(empty(2, 10, 20))?;
     calls.push(got(0, 1, 15, 30))?;
-    History::new(calls)
+    history_of(calls)
 }
 
 /// A get of item 3, after an unfinished put of it or without.
@@ -386,7 +387,7 @@ fn taken_unfinished(alloc: Global, with_put: bool) -> Result<History, RecordFaul
         })?;
     }
     calls.push(got(1, 3, 6, 11))?;
-    History::new(calls)
+    history_of(calls)
 }
 
 /// An item that was put once and got twice.
@@ -395,11 +396,11 @@ fn doubled(alloc: Global) -> Result<History, RecordFault> {
     calls.push(put(0, 1, 0, 1))?;
     calls.push(got(0, 1, 2, 3))?;
     calls.push(got(1, 1, 4, 5))?;
-    History::new(calls)
+    history_of(calls)
 }
 
 fn nothing(alloc: Global) -> Result<History, RecordFault> {
-    History::new(Vec::new(alloc))
+    history_of(Vec::new(alloc))
 }
 
 #[test]
@@ -506,14 +507,14 @@ fn is_told_apart(
     requires { (1 ≤ k) × (k ≤ 64) }
 {
     let calls = simulated(alloc, threads, 20_000, k as usize, seed)?;
-    let history = History::new(calls)?;
+    let history = history_of(calls)?;
     let legal = match judge(alloc, &history, k, 1_000)? {
         Judgement::Legal(_) => true,
         _ => false,
     };
     let mut spoiled = history.into_calls();
     spoil(&mut spoiled);
-    let other = History::new(spoiled)?;
+    let other = history_of(spoiled)?;
     let still = match judge(alloc, &other, k, 1_000)? {
         Judgement::Legal(_) => true,
         _ => false,
@@ -548,7 +549,7 @@ fn queues_that_ran(rt: HostRuntime) -> Result<(), Fail> {
 fn longest_plain_history(rt: HostRuntime) -> Result<(), Fail> {
     for threads in [1usize, 8, 64] {
         let calls = finished(rt.alloc(), threads, 65_536, 7)?;
-        let history = History::new(calls)?;
+        let history = history_of(calls)?;
         let start = Instant::now(&rt)?;
         let judgement = judge(rt.alloc(), &history, 1, 0)?;
         let judged = start.elapsed(&rt)?;
@@ -566,7 +567,7 @@ fn longest_plain_history(rt: HostRuntime) -> Result<(), Fail> {
 fn longest_history(rt: HostRuntime) -> Result<(), Fail> {
     for k in [1u32, 4, 64] {
         let calls = simulated(rt.alloc(), 8, 65_536, k as usize, 7)?;
-        let history = History::new(calls)?;
+        let history = history_of(calls)?;
         let start = Instant::now(&rt)?;
         let found = evidence(rt.alloc(), &history, k)?;
         let searched = start.elapsed(&rt)?;

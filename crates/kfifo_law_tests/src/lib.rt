@@ -9,6 +9,8 @@ mod machine;
 #[cfg(test)]
 mod model;
 #[cfg(test)]
+mod plain;
+#[cfg(test)]
 mod replay;
 #[cfg(test)]
 mod steps;

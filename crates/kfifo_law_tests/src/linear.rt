@@ -1,14 +1,13 @@
 //! The orders of schedules worked out by hand, and of long ones.
 
-use kfifo_linear::{LinearFault, linearization_points, linearize};
-use kfifo_machine::{Begin, Event, history, start, step};
-use kfifo_model::{Verdict, check_order, ranks};
-use kfifo_words::Shape;
+use crate::plain::{check_order, history, linearization_points, linearize, ranks, start, step};
+use kfifo_linear::LinearFault;
+use kfifo_machine::{Begin, Event};
+use kfifo_model::Verdict;
+use kfifo_words::{MAX_VERSION, Shape};
 use std::alloc::{AllocError, Global};
 use std::process::Abort;
 use std::test::Fail;
-
-const LAST: u64 = 1_099_511_627_775;
 
 /// So many events of one thread, one after the other, of which the first may begin a call.
 #[derive(Clone, Copy)]
@@ -109,7 +108,7 @@ fn behind_the_late(alloc: Global, rows: &[Row]) -> Result<Vec<Event>, AllocError
 /// The order of these events of three threads on two segments of two slots is this one, and it is a
 /// legal order of their history.
 fn check(rt: &impl Abort, alloc: Global, events: &[Event], want: &[usize]) -> Result<(), Fail> {
-    let shape = Shape::new(2, 2, LAST)?;
+    let shape = Shape::new(2, 2, MAX_VERSION)?;
     let order = linearize(alloc, shape, 3, events)?;
     assert_eq!(rt; order.as_slice(), want);
     let calls = history(alloc, shape, 3, events)?;
@@ -127,7 +126,12 @@ fn a_put_behind_the_head(rt: HostRuntime) -> Result<(), Fail> {
 fn put_late_and_out_first(rt: HostRuntime) -> Result<(), Fail> {
     let events = behind_the_late(rt.alloc(), &put_late())?;
     check(&rt, rt.alloc(), events.as_slice(), &[0, 1, 2, 3, 4, 5])?;
-    let calls = history(rt.alloc(), Shape::new(2, 2, LAST)?, 3, events.as_slice())?;
+    let calls = history(
+        rt.alloc(),
+        Shape::new(2, 2, MAX_VERSION)?,
+        3,
+        events.as_slice(),
+    )?;
     let found = ranks(rt.alloc(), &calls, 2, &[0, 1, 2, 3, 4, 5])?;
     assert_eq!(&rt; found.as_slice(), [0, 0, 0].as_slice());
     Ok(())
@@ -142,7 +146,7 @@ fn taken_after_the_head_left(rt: HostRuntime) -> Result<(), Fail> {
     check(&rt, rt.alloc(), taken.as_slice(), &[0, 1, 2, 3, 4, 5])?;
     let chosen = behind_the_late(rt.alloc(), &taken_after()[..5])?;
     check(&rt, rt.alloc(), chosen.as_slice(), &[0, 2, 3, 5])?;
-    let shape = Shape::new(2, 2, LAST)?;
+    let shape = Shape::new(2, 2, MAX_VERSION)?;
     let points = linearization_points(rt.alloc(), shape, 3, events.as_slice())?;
     assert_eq!(&rt; points.as_slice(), [6, 14, 15, 24, 24, 28].as_slice());
     let calls = history(rt.alloc(), shape, 3, events.as_slice())?;
@@ -153,7 +157,7 @@ fn taken_after_the_head_left(rt: HostRuntime) -> Result<(), Fail> {
 
 #[test]
 fn what_is_no_schedule(rt: HostRuntime) -> Result<(), Fail> {
-    let shape = Shape::new(2, 2, LAST)?;
+    let shape = Shape::new(2, 2, MAX_VERSION)?;
     let none: &[Event] = &[];
     assert_eq!(&rt; linearize(rt.alloc(), shape, 1, none)?.len(), 0);
     for threads in [0, 65] {
@@ -206,7 +210,7 @@ fn long_schedule(alloc: Global, shape: Shape, length: u32) -> Result<Vec<Event>,
 
 #[test]
 fn a_long_schedule(rt: HostRuntime) -> Result<(), Fail> {
-    let shape = Shape::new(3, 2, LAST)?;
+    let shape = Shape::new(3, 2, MAX_VERSION)?;
     let events = long_schedule(rt.alloc(), shape, 20_000)?;
     assert_eq!(&rt; events.len(), 20_000);
     let order = linearize(rt.alloc(), shape, 4, events.as_slice())?;
@@ -235,7 +239,7 @@ fn in_turn(alloc: Global, threads: u32, events: u32) -> Result<Vec<Event>, Alloc
 /// ends again, and stands in the order at its last step.
 #[test]
 fn orders_64_threads(rt: HostRuntime) -> Result<(), Fail> {
-    let shape = Shape::new(64, 2, LAST)?;
+    let shape = Shape::new(64, 2, MAX_VERSION)?;
     let mut events = in_turn(rt.alloc(), 64, 66)?;
     assert_eq!(&rt; events.len(), 4_224);
     let order = linearize(rt.alloc(), shape, 64, &events)?;
@@ -276,7 +280,7 @@ fn numbers_and_tells_faults(rt: HostRuntime) -> Result<(), Fail> {
 /// Where one request for memory fails, the call is refused with Memory and answers when it is made again.
 #[test]
 fn memory_is_refused(rt: HostRuntime) -> Result<(), Fail> {
-    let shape = Shape::new(1, 2, LAST)?;
+    let shape = Shape::new(1, 2, MAX_VERSION)?;
     let first = Event {
         thread: 0,
         begin: Some(Begin::Dequeue { start: 0, turns: 1 }),

@@ -1,15 +1,12 @@
 //! Schedules worked out by hand, event by event.
 
-use kfifo_machine::{
-    Begin, Event, NotEnabled, Outcome, RunFault, StartFault, State, history, run, start, step,
-};
+use crate::plain::{history, run, start, step};
+use kfifo_machine::{Begin, Event, NotEnabled, Outcome, RunFault, StartFault, State};
 use kfifo_model::{Answer, Call, End, Op};
-use kfifo_words::{Ends, Shape, Word};
+use kfifo_words::{Ends, MAX_VERSION, Shape, Word};
 use std::alloc::{AllocError, Global};
 use std::process::Abort;
 use std::test::Fail;
-
-const LAST: u64 = 1_099_511_627_775;
 
 /// Events of one thread, one after the other, and how the last of them ends its call.
 #[derive(Clone, Copy)]
@@ -132,7 +129,7 @@ fn fills_a_ring_of_one_slot(rt: HostRuntime) -> Result<(), Fail> {
         enqueue(0, 9, 0, 1, 5, Some(Answer::Full)),
         dequeue(0, 0, 1, 4, Some(Answer::Got(7))),
     ];
-    let state = &mut open(&rt, rt.alloc(), 1, 2, LAST, 1)?;
+    let state = &mut open(&rt, rt.alloc(), 1, 2, MAX_VERSION, 1)?;
     play(&rt, state, &fills);
     let rest = [
         dequeue(0, 0, 2, 9, Some(Answer::Got(8))),
@@ -140,7 +137,7 @@ fn fills_a_ring_of_one_slot(rt: HostRuntime) -> Result<(), Fail> {
     ];
     check_calls(&rt, state, &rest, (0, 0, 5), &[(0, 2), (0, 2)]);
 
-    let state = &mut open(&rt, rt.alloc(), 1, 2, LAST, 1)?;
+    let state = &mut open(&rt, rt.alloc(), 1, 2, MAX_VERSION, 1)?;
     play(&rt, state, &fills);
     let busy = [dequeue(0, 0, 1, 4, Some(Answer::Busy))];
     check_calls(&rt, state, &busy, (1, 1, 3), &[(0, 2), (8, 1)]);
@@ -160,7 +157,7 @@ fn relaxes_and_wears(rt: HostRuntime) -> Result<(), Fail> {
         dequeue(0, 1, 2, 10, Some(Answer::Got(4))),
         dequeue(0, 1, 2, 5, Some(Answer::Got(3))),
     ];
-    let state = &mut open(&rt, rt.alloc(), 2, 2, LAST, 1)?;
+    let state = &mut open(&rt, rt.alloc(), 2, 2, MAX_VERSION, 1)?;
     check_calls(
         &rt,
         state,
@@ -183,7 +180,7 @@ fn relaxes_and_wears(rt: HostRuntime) -> Result<(), Fail> {
 
 #[test]
 fn rolls_back(rt: HostRuntime) -> Result<(), Fail> {
-    let state = &mut open(&rt, rt.alloc(), 2, 2, LAST, 2)?;
+    let state = &mut open(&rt, rt.alloc(), 2, 2, MAX_VERSION, 2)?;
     let rows = [
         enqueue(0, 5, 0, 1, 6, None),
         enqueue(1, 6, 1, 1, 7, Some(Answer::Done)),
@@ -198,7 +195,7 @@ fn rolls_back(rt: HostRuntime) -> Result<(), Fail> {
 
 #[test]
 fn puts_behind_the_head(rt: HostRuntime) -> Result<(), Fail> {
-    let state = &mut open(&rt, rt.alloc(), 2, 2, LAST, 3)?;
+    let state = &mut open(&rt, rt.alloc(), 2, 2, MAX_VERSION, 3)?;
     take_before_a_put(&rt, state);
     play(
         &rt,
@@ -220,7 +217,7 @@ fn puts_behind_the_head(rt: HostRuntime) -> Result<(), Fail> {
 
 #[test]
 fn puts_late(rt: HostRuntime) -> Result<(), Fail> {
-    let state = &mut open(&rt, rt.alloc(), 2, 2, LAST, 3)?;
+    let state = &mut open(&rt, rt.alloc(), 2, 2, MAX_VERSION, 3)?;
     take_before_a_put(&rt, state);
     play(
         &rt,
@@ -244,7 +241,7 @@ fn puts_late(rt: HostRuntime) -> Result<(), Fail> {
 
 #[test]
 fn takes_after_the_head_left(rt: HostRuntime) -> Result<(), Fail> {
-    let state = &mut open(&rt, rt.alloc(), 2, 2, LAST, 3)?;
+    let state = &mut open(&rt, rt.alloc(), 2, 2, MAX_VERSION, 3)?;
     take_before_a_put(&rt, state);
     play(
         &rt,
@@ -273,7 +270,7 @@ fn takes_after_the_head_left(rt: HostRuntime) -> Result<(), Fail> {
 
 #[test]
 fn refuses_steps(rt: HostRuntime) -> Result<(), Fail> {
-    let state = &mut open(&rt, rt.alloc(), 2, 2, LAST, 2)?;
+    let state = &mut open(&rt, rt.alloc(), 2, 2, MAX_VERSION, 2)?;
     let bad = [
         enqueue(0, 5, 2, 1, 1, None),
         enqueue(0, 5, 0, 0, 1, None),
@@ -358,7 +355,7 @@ fn numbers_and_tells_faults(rt: HostRuntime) -> Result<(), Fail> {
 
 #[test]
 fn runs_events(rt: HostRuntime) -> Result<(), Fail> {
-    let shape = Shape::new(1, 2, LAST)?;
+    let shape = Shape::new(1, 2, MAX_VERSION)?;
     let begin = event(1, Some(Begin::Dequeue { start: 0, turns: 1 }));
     let tick = event(0, Some(Begin::Tick));
     let events = [tick, begin, tick, event(1, None), event(1, None)];
@@ -419,7 +416,7 @@ fn writes_the_history(rt: HostRuntime) -> Result<(), Fail> {
         },
     ];
     let events = events_of(rt.alloc(), &rows)?;
-    let shape = Shape::new(2, 2, LAST)?;
+    let shape = Shape::new(2, 2, MAX_VERSION)?;
     let found = history(rt.alloc(), shape, 3, &events)?;
     let calls = [
         call(1, Op::Enqueue(6), 0, 6, Answer::Done),
@@ -458,7 +455,7 @@ fn in_turn(alloc: Global, threads: u32, events: u32) -> Result<Vec<Event>, Alloc
 /// ends again.
 #[test]
 fn runs_64_threads(rt: HostRuntime) -> Result<(), Fail> {
-    let shape = Shape::new(16, 2, LAST)?;
+    let shape = Shape::new(16, 2, MAX_VERSION)?;
     let opened = start(rt.alloc(), shape, 64)?;
     assert!(&rt; opened.place(63).is_none());
     let mut events = in_turn(rt.alloc(), 64, 18)?;
@@ -489,7 +486,7 @@ fn runs_64_threads(rt: HostRuntime) -> Result<(), Fail> {
 /// Where one request for memory fails, the call is refused with Memory and answers when it is made again.
 #[test]
 fn memory_is_refused(rt: HostRuntime) -> Result<(), Fail> {
-    let shape = Shape::new(1, 2, LAST)?;
+    let shape = Shape::new(1, 2, MAX_VERSION)?;
     let state = match start(rt.alloc(), shape, 64) {
         Err(StartFault::Memory) => start(rt.alloc(), shape, 64)?,
         state => state?,

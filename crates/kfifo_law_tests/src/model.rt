@@ -1,7 +1,8 @@
 //! Worked histories, records and refusals.
+use crate::plain::{check_order, has_order, measure, overtaken, ranks, read_history};
 use kfifo_model::{
     Answer, Call, End, History, MeasureFault, Op, OvertakenFault, RankFault, RecordFault,
-    SearchFault, Verdict, check_order, has_order, measure, overtaken, ranks, read_history,
+    SearchFault, Verdict,
 };
 use serde_json::Value;
 use std::alloc::{AllocError, Global};

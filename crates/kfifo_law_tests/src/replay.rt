@@ -6,11 +6,9 @@
 use kfifo_machine::Begin;
 use kfifo_model::{Answer, Call, End, Op};
 use kfifo_replay::{Replay, ReplayFault, Report, replay};
-use kfifo_words::Shape;
+use kfifo_words::{MAX_VERSION, Shape};
 use std::alloc::{AllocError, Global};
 use std::test::Fail;
-
-const LAST: u64 = 1_099_511_627_775;
 
 /// One thread is picked so many times in a row.
 #[derive(Clone, Copy)]
@@ -80,7 +78,7 @@ fn scripts_of(alloc: Global, scripts: &[&[Begin]]) -> Result<Vec<Vec<Begin>>, Al
 /// A replay of these scripts on two segments of k slots.
 fn open(alloc: Global, k: u32, scripts: &[&[Begin]]) -> Result<Replay, Fail> {
     let own = scripts_of(alloc, scripts)?;
-    Ok(Replay::open(alloc, Shape::new(k, 2, LAST)?, own.as_slice())?)
+    Ok(Replay::open(alloc, Shape::new(k, 2, MAX_VERSION)?, own.as_slice())?)
 }
 
 /// Feeds these groups of picks, and answers where that stops within its group.
@@ -118,7 +116,7 @@ fn comes_to(alloc: Global, replay: &mut Replay, groups: &[Group], want: Want) ->
 /// Whether the whole replay of two dequeues on a ring of two slots is answered so.
 fn is_whole(alloc: Global, picks: &[u32], want: Result<Want, ReplayFault>) -> Result<bool, Fail> {
     let scripts = scripts_of(alloc, &[&[dequeue(0, 2)], &[dequeue(0, 2)]])?;
-    let shape = Shape::new(1, 2, LAST)?;
+    let shape = Shape::new(1, 2, MAX_VERSION)?;
     Ok(
         match (replay(alloc, shape, scripts.as_slice(), picks), want) {
             (Ok(report), Ok(want)) => says(&report, want),
@@ -398,7 +396,7 @@ fn the_stopped_thread_has_a_script(rt: HostRuntime) -> Result<(), Fail> {
 /// The refusal of scripts of which the second holds this call.
 fn call_fault(alloc: Global, call: Begin) -> Result<Option<ReplayFault>, Fail> {
     let scripts = scripts_of(alloc, &[&[dequeue(0, 1)], &[dequeue(0, 1), call]])?;
-    Ok(Replay::open(alloc, Shape::new(2, 2, LAST)?, scripts.as_slice()).err())
+    Ok(Replay::open(alloc, Shape::new(2, 2, MAX_VERSION)?, scripts.as_slice()).err())
 }
 
 #[test]
@@ -437,7 +435,7 @@ fn dequeues(alloc: Global, scripts: usize, calls: usize) -> Result<Vec<Vec<Begin
 /// The refusal of so many scripts of so many calls.
 fn size_fault(alloc: Global, scripts: usize, calls: usize) -> Result<Option<ReplayFault>, Fail> {
     let scripts = dequeues(alloc, scripts, calls)?;
-    Ok(Replay::open(alloc, Shape::new(2, 2, LAST)?, scripts.as_slice()).err())
+    Ok(Replay::open(alloc, Shape::new(2, 2, MAX_VERSION)?, scripts.as_slice()).err())
 }
 
 #[test]
@@ -455,7 +453,7 @@ fn as_many_scripts_as_there_may_be(rt: HostRuntime) -> Result<(), Fail> {
 /// after the other goes to its end; the last of them is stopped, and then picked.
 fn largest(alloc: Global) -> Result<Report, Fail> {
     let scripts = dequeues(alloc, 64, 64)?;
-    let mut replay = Replay::open(alloc, Shape::new(1, 2, LAST)?, scripts.as_slice())?;
+    let mut replay = Replay::open(alloc, Shape::new(1, 2, MAX_VERSION)?, scripts.as_slice())?;
     replay.finish(63)?;
     replay.feed_many(63, 192)?;
     Ok(replay.report(alloc)?)
@@ -491,7 +489,7 @@ fn replay_again(alloc: Global, shape: Shape, scripts: &[Vec<Begin>]) -> bool {
 /// Whichever request for memory fails, a whole replay is refused for that, or answered as it is without.
 #[test]
 fn memory_refused_to_a_whole_replay(rt: HostRuntime) -> Result<(), Fail> {
-    let shape = Shape::new(1, 2, LAST)?;
+    let shape = Shape::new(1, 2, MAX_VERSION)?;
     if let Some(scripts) = two_dequeues(rt.alloc()) {
         assert!(&rt; replay_again(rt.alloc(), shape, scripts.as_slice()));
     }
@@ -526,7 +524,7 @@ fn report_again(alloc: Global, replay: &Replay) -> bool {
 /// report stands after it.
 #[test]
 fn memory_refused_to_a_report(rt: HostRuntime) -> Result<(), Fail> {
-    let shape = Shape::new(1, 2, LAST)?;
+    let shape = Shape::new(1, 2, MAX_VERSION)?;
     let Some(scripts) = two_dequeues(rt.alloc()) else {
         return Ok(());
     };
@@ -560,7 +558,7 @@ fn as_on_the_page(
 #[test]
 fn the_page(rt: HostRuntime) -> Result<(), Fail> {
     let scripts = scripts_of(rt.alloc(), &[&[dequeue(0, 1)], &[dequeue(0, 1)]])?;
-    let shape = Shape::new(1, 2, LAST)?;
+    let shape = Shape::new(1, 2, MAX_VERSION)?;
     let report = as_on_the_page(rt.alloc(), shape, scripts.as_slice(), &[0, 1], 1, 2, 1)?;
     assert!(&rt; says(&report, plain(6, &[1, 0])));
     Ok(())

@@ -1,12 +1,11 @@
 //! How many atomic steps the machine makes for the calls of scripts.
 
-use kfifo_machine::{Begin, Event, Outcome, State, start, step};
+use crate::plain::{start, step};
+use kfifo_machine::{Begin, Event, Outcome, State};
 use kfifo_model::Answer;
-use kfifo_words::Shape;
+use kfifo_words::{MAX_VERSION, Shape};
 use std::alloc::Global;
 use std::test::Fail;
-
-const LAST: u64 = 1_099_511_627_775;
 
 /// The steps of a call by the only thread, and its answer.
 fn run_call(state: &mut State, call: Begin) -> Option<(u32, Answer)> {
@@ -53,7 +52,7 @@ fn counts_the_steps_of_fewer_probes(rt: HostRuntime) -> Result<(), Fail> {
     let calls = [put(1, 0, 2), put(2, 0, 2), put(3, 0, 2), put(3, 1, 2)];
     let told = run_calls(
         rt.alloc(),
-        Shape::with_probes(2, 2, LAST, 1)?,
+        Shape::with_probes(2, 2, MAX_VERSION, 1)?,
         calls.as_slice(),
     )?;
     assert_eq!(rt; told.len(), 4);
@@ -69,7 +68,7 @@ fn counts_the_steps_round_a_ring(rt: HostRuntime) -> Result<(), Fail> {
     // The head moves, then the tail, and then the item is put.
     let take = Begin::Dequeue { start: 0, turns: 3 };
     let calls = [put(7, 0, 3), put(8, 0, 3), take, put(9, 0, 3)];
-    let told = run_calls(rt.alloc(), Shape::new(1, 2, LAST)?, calls.as_slice())?;
+    let told = run_calls(rt.alloc(), Shape::new(1, 2, MAX_VERSION)?, calls.as_slice())?;
     assert_eq!(rt; told.len(), 4);
     assert_eq!(rt; told[3], Some((5 + 4 + 6, Answer::Done)));
     Ok(())
@@ -86,7 +85,7 @@ fn counts_the_steps_of_a_full_ring(rt: HostRuntime) -> Result<(), Fail> {
         put(4, 0, 2),
         put(5, 0, 2),
     ];
-    let told = run_calls(rt.alloc(), Shape::new(2, 2, LAST)?, calls.as_slice())?;
+    let told = run_calls(rt.alloc(), Shape::new(2, 2, MAX_VERSION)?, calls.as_slice())?;
     assert_eq!(rt; told.len(), 6);
     assert_eq!(rt; told[2].is_some_and(|told| told.1 == Answer::Got(1)), true);
     assert_eq!(rt; told[5], Some((7, Answer::Full)));

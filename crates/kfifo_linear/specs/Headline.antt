@@ -59,7 +59,8 @@ pub record OrderLaws (h : List Call) (m : Marks) : Type 0 where
   -- enqueue of an item of that visit has its point there or before
   pub empty_point : (e : ℕ) (end : End) → does h e ≡ Finds_none → (call h e).end ≡ Some end → m.point e ≡ end.last
   pub empty_ends : (e : ℕ) (end : End) → does h e ≡ Finds_none → (call h e).end ≡ Some end → m.head end.last ≡ m.tail end.last
-  pub empty_visit : (e c : ℕ) (end : End) → does h e ≡ Finds_none → (call h e).end ≡ Some end → IsAdd (does h) m c → m.visit c ≡ m.head end.last → end.last < m.point c
+  pub empty_visit : (e c : ℕ) (end : End) → does h e ≡ Finds_none → (call h e).end ≡ Some end → IsAdd (does h) m c
+      → m.visit c ≡ m.head end.last → end.last < m.point c
 
 -- These laws hold of every schedule
 abbrev pub LawsHold : Shape → ℕ → Type 0
@@ -76,14 +77,16 @@ PutsInVisit shape threads = (events : List Event) (here : World) → after shape
 -- steps of the last 2n visits of head and tail have both points
 abbrev pub TakesInTime : Shape → ℕ → Type 0
 TakesInTime shape threads = (events : List Event) (here : World) → after shape threads events ≡ Some here
-    → (thread start left ends index filled : ℕ) → place_of here thread ≡ Some (R.Dequeue start left (D.Take ends index filled)) → word_at here index ≡ filled
+    → (thread start left ends index filled : ℕ)
+    → place_of here thread ≡ Some (R.Dequeue start left (D.Take ends index filled)) → word_at here index ≡ filled
     → ((ledger_after_all shape threads events).head ≤ (ledger_after_all shape threads events).head_seen thread + shape.n)
     × ((ledger_after_all shape threads events).tail < (ledger_after_all shape threads events).head_seen thread + 2 * shape.n)
 
 -- The ledger's numbers of head and tail are those of the won head-ons and tail-ons
 abbrev pub NumbersAgree : Shape → ℕ → Type 0
 NumbersAgree shape threads = (events : List Event) (here : World) → after shape threads events ≡ Some here
-    → ((ledger_after_all shape threads events).head ≡ head_ons shape threads events) × ((ledger_after_all shape threads events).tail ≡ tail_ons shape threads events)
+    → ((ledger_after_all shape threads events).head ≡ head_ons shape threads events)
+    × ((ledger_after_all shape threads events).tail ≡ tail_ons shape threads events)
 
 -- A list with the calls that stand, sorted by point and number, is the order
 abbrev pub OneOrder : Shape → ℕ → Type 0

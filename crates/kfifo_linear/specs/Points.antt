@@ -47,7 +47,8 @@ pub record PointsFit (k : ℕ) (act : ℕ → Effect) (m : Marks) : Type 0 where
   pub left_behind : (c p : ℕ) → IsAdd act m c → m.visit c < m.head p → (g : ℕ) × IsTakeOf act m c g
   -- at the point of an Empty head and tail are in one visit, to which nothing has been added
   pub empty_ends : (e : ℕ) → m.stands e ≡ true → act e ≡ Finds_none → m.head (m.point e) ≡ m.tail (m.point e)
-  pub empty_visit : (e c : ℕ) → m.stands e ≡ true → act e ≡ Finds_none → IsAdd act m c → m.point c ≤ m.point e → m.visit c ≢ m.head (m.point e)
+  pub empty_visit : (e c : ℕ) → m.stands e ≡ true → act e ≡ Finds_none → IsAdd act m c → m.point c ≤ m.point e
+      → m.visit c ≢ m.head (m.point e)
   -- no standing call has an answer of the other operation
   pub sound : (c : ℕ) → m.stands c ≡ true → act c ≢ Wrong
 

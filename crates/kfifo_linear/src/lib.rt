@@ -31,7 +31,8 @@ pub fn points_give_an_order()
 pub fn few_overtake_in_the_order()
     ensures { (k steps : ℕ) (h : List Call) (m : Marks) → PointsFit k (does h) m → StandsFit h m
         → ((c : ℕ) → m.stands c ≡ true → m.point c < steps) → AddsAreDistinct (does h) (by_point m.stands m.point steps h)
-        → (c x : ℕ) → IsIn c (by_point m.stands m.point steps h) → does h c ≡ Adds x → overtaken_in h (by_point m.stands m.point steps h) c < k }
+        → (c x : ℕ) → IsIn c (by_point m.stands m.point steps h) → does h c ≡ Adds x
+        → overtaken_in h (by_point m.stands m.point steps h) c < k }
 {}
 
 /// Of the overtakings of an item fewer than k are certain by the history, where its items are distinct.

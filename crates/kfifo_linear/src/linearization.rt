@@ -85,7 +85,8 @@ fn followed(
     threads: u32,
     events: &[Event],
 ) -> Result<Linearizer, LinearFault>
-    ensures followed { IfOk result (λ l. (l.shape ≡ shape) × (0 < threads) × (threads ≤ 64) × Follows threads (calls_begun events.now) events.now l) }
+    ensures followed { IfOk result (λ l. (l.shape ≡ shape) × (0 < threads) × (threads ≤ 64)
+        × Follows threads (calls_begun events.now) events.now l) }
     ensures refused { IfErr result (IsLinearFault shape threads events.now) }
 {
     let mut linearizer = Linearizer::open(alloc, shape, threads, count_calls(events))?;
@@ -105,7 +106,8 @@ fn order_events(
     threads: u32,
     events: &[Event],
 ) -> Result<Vec<usize>, LinearFault>
-    ensures order { IfOk result (λ order. (0 < threads) × (threads ≤ 64) × IsSchedule shape threads events.now × (order.items ≡ order_of shape threads events.now)) }
+    ensures order { IfOk result (λ order. (0 < threads) × (threads ≤ 64) × IsSchedule shape threads events.now
+        × (order.items ≡ order_of shape threads events.now)) }
     ensures refused { IfErr result (IsLinearFault shape threads events.now) }
 {
     let linearizer = followed(alloc, shape, threads, events)?;
@@ -129,7 +131,8 @@ pub fn linearize(
     threads: u32,
     events: &[Event],
 ) -> Result<Vec<usize>, LinearFault>
-    ensures order { IfOk result (λ order. (0 < threads) × (threads ≤ 64) × IsSchedule shape threads events.now × (order.items ≡ order_of shape threads events.now)) }
+    ensures order { IfOk result (λ order. (0 < threads) × (threads ≤ 64) × IsSchedule shape threads events.now
+        × (order.items ≡ order_of shape threads events.now)) }
     ensures refused { IfErr result (IsLinearFault shape threads events.now) }
     ensures legal { threads ≤ 64 → HasLegalOrder shape threads }
     ensures overtaken { threads ≤ 64 → FewOvertake shape threads }

@@ -108,7 +108,8 @@ impl Linearizer {
         ensures made { IfOk result (λ outcome. Machine.step self.old.shape self.old.world event ≡ Ok (self.new.world, outcome)) }
         ensures refused { IfErr result (λ fault. Machine.step self.old.shape self.old.world event ≡ Err fault) }
         ensures unchanged { OnErr result (self.new ≡ self.old) }
-        ensures follows { IfOk result (λ _. (threads room : ℕ) (events : List Event) → Follows threads room events self.old → Follows threads room (events ++ event ∷ []) self.new) }
+        ensures follows { IfOk result (λ _. (threads room : ℕ) (events : List Event) → Follows threads room events self.old
+            → Follows threads room (events ++ event ∷ []) self.new) }
     {
         let shape = self.state.shape();
         let ends = Ends::of_bits(self.state.word(0));
@@ -120,7 +121,8 @@ impl Linearizer {
 
     /// The calls that stand, each behind its point, by rising point and number.
     fn sorted(&self, alloc: Global) -> Result<Vec<(u64, usize)>, AllocError>
-        ensures calls { IfOk result (λ placed. (threads room : ℕ) (events : List Event) → Follows threads room events self.now → threads ≤ 64
+        ensures calls { IfOk result (λ placed. (threads room : ℕ) (events : List Event)
+            → Follows threads room events self.now → threads ≤ 64
             → map (λ p. p.1) placed.items ≡ order_of self.now.shape threads events) }
         ensures points { IfOk result (λ placed. (threads room : ℕ) (events : List Event) → Follows threads room events self.now
             → map (λ p. p.0) placed.items ≡ map (point (ledger_after_all self.now.shape threads events)) (map (λ p. p.1) placed.items)) }

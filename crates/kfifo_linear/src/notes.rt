@@ -91,7 +91,17 @@ pub struct Notes {
 impl Model for Notes {
     ghost Value = { Notes };
 
-    ghost view = { λ n. record { step = n.step; head = n.head.number; tail = n.tail.number; heads = n.head.left.items; tails = n.tail.left.items; slots = n.slots.items; callers = n.callers.items; begun = n.begun; calls = n.calls.items } };
+    ghost view = { λ n. record {
+      step = n.step;
+      head = n.head.number;
+      tail = n.tail.number;
+      heads = n.head.left.items;
+      tails = n.tail.left.items;
+      slots = n.slots.items;
+      callers = n.callers.items;
+      begun = n.begun;
+      calls = n.calls.items;
+    } };
 
     ghost invariant = { λ n. (0 < length n.head.left.items) × (0 < length n.tail.left.items) };
 }

@@ -14,13 +14,9 @@ use Rattle.kfifo_live.specs.declared.view.View.{View}
 use Rattle.kfifo_live.specs.Schedule.{world_after, seen_of, AllBegin, OneSchedule}
 use Rattle.kfifo_live.specs.Left.{items_left}
 use Rattle.kfifo_live.specs.Balance.{times, undos, takes}
-use Rattle.kfifo_live.specs.Pass.{OpenQueue, Known, IsPass, IsOf, AllSeen, AllOf, IsGathered, Closes}
+use Rattle.kfifo_live.specs.Pass.{OpenQueue, Known, IsPass, AllSeen, IsGathered, Closes}
 use Rattle.kfifo_live.proofs.Balance.{balance}
 use Rattle.kfifo_live.proofs.Passes.{keeps_promise}
-
-pub all_of_last : (q : OpenQueue) (ps : List Known) (p : Known) → AllOf q (ps ++ p ∷ []) → AllOf q ps × IsOf q p
-all_of_last q [] p o = (tt, o.0)
-all_of_last q (x ∷ ps) p o = let r = all_of_last q ps p o.1 in ((o.0, r.0), r.1)
 
 pub all_seen_push : (ps : List Known) (p : Known) (all : List Event) → AllSeen ps all → Begins p.thread p.seen all → AllSeen (ps ++ p ∷ []) all
 all_seen_push [] p all s b = (b, tt)

@@ -11,7 +11,7 @@ use Rattle.atomic_table.specs.Seated.{TableId}
 use Rattle.kfifo_words.specs.declared.shape.Shape.{Shape}
 use Rattle.kfifo_words.specs.Words.{value_of, head_of}
 use Rattle.kfifo_words.specs.Ring.{clock_at, next_segment, slot_at}
-use Rattle.kfifo_model.specs.Lists.{Each}
+use Rattle.std.specs.List.{AllByRecursion}
 use Rattle.kfifo_machine.specs.declared.event.Event.{Event}
 use Rattle.kfifo_machine.specs.declared.place.Running.{Running}
 use Rattle.kfifo_machine.specs.Machine.{World, opening, run, word_at}
@@ -32,6 +32,7 @@ use Rattle.kfifo_live.proofs.Hands.{within_list}
 use Rattle.kfifo_live.proofs.Leftovers.{filled_item}
 use Rattle.kfifo_live.proofs.Passes.{keeps_promise, pass_thread}
 use Rattle.kfifo_live.proofs.Rotation.{sum, times_at, times-left}
+use Rattle.kfifo_model.proofs.Lists.{AllByRecursion-append}
 
 -- a sum of which one term at most is 1, the others 0
 sum_none : (f : ℕ → ℕ) (i m : ℕ) → ((j : ℕ) → i ≤ j → j < i + m → f j ≡ 0) → sum f i m ≡ 0
@@ -91,38 +92,34 @@ left_once x shape words head one =
     ]) in
     omega arith
 
-Each-append : {X : Type 0} (P : X → Type 0) (xs ys : List X) → Each P xs → Each P ys → Each P (xs ++ ys)
-Each-append P [] ys a b = b
-Each-append P (x ∷ xs) ys a b = (a.0, Each-append P xs ys a.1 b)
-
 next_below : (n s : ℕ) → s < n → next_segment n s < n
 unfolding next_segment
 next_below n s h = grind (arith, nat_tests)
 
 -- what is so of the item of each filled slot is so of all that is left
 module _ (shape : Shape) (words : List ℕ) (P : ℕ → Type 0) (each : (i : ℕ) → 0 < i → i < clock_at shape.k shape.n → value_of (get_or words i 0) ≢ 0 → P (value_of (get_or words i 0))) where
-  each_item : (i : ℕ) → 0 < i → i < clock_at shape.k shape.n → Each P (item_in (get_or words i 0))
+  each_item : (i : ℕ) → 0 < i → i < clock_at shape.k shape.n → AllByRecursion P (item_in (get_or words i 0))
   each_item i above within =
       elim (cases_eq (value_of (get_or words i 0)) 0) [
-        | inl empty ↦ subst (Each P) (sym (no_item (get_or words i 0) empty)) tt
-        | inr filled ↦ subst (Each P) (sym (filled_item (get_or words i 0) filled)) (each i above within filled, tt)
+        | inl empty ↦ subst (AllByRecursion P) (sym (no_item (get_or words i 0) empty)) tt
+        | inr filled ↦ subst (AllByRecursion P) (sym (filled_item (get_or words i 0) filled)) (each i above within filled, tt)
       ]
 
-  each_slot : (index count : ℕ) → 0 < index → index + count ≤ clock_at shape.k shape.n → Each P (slots_left words index count)
+  each_slot : (index count : ℕ) → 0 < index → index + count ≤ clock_at shape.k shape.n → AllByRecursion P (slots_left words index count)
   each_slot index zero above within = tt
   each_slot index (suc count) above within =
-      Each-append P (item_in (get_or words index 0)) (slots_left words (suc index) count) (each_item index above (omega arith)) (each_slot (suc index) count (omega arith) (omega arith))
+      AllByRecursion-append P (item_in (get_or words index 0)) (slots_left words (suc index) count) (each_item index above (omega arith)) (each_slot (suc index) count (omega arith) (omega arith))
 
-  each_segment : (segment count : ℕ) → segment < shape.n → Each P (segments_left shape words segment count)
+  each_segment : (segment count : ℕ) → segment < shape.n → AllByRecursion P (segments_left shape words segment count)
   each_segment segment zero less = tt
   each_segment segment (suc count) less =
       let up = mul-le-mul_right shape.k (let le : suc segment ≤ shape.n = omega arith in le) in
       let more = suc-mul segment shape.k in
-      Each-append P (slots_left words (slot_at shape.k segment 0) shape.k) (segments_left shape words (next_segment shape.n segment) count)
+      AllByRecursion-append P (slots_left words (slot_at shape.k segment 0) shape.k) (segments_left shape words (next_segment shape.n segment) count)
       (each_slot (slot_at shape.k segment 0) shape.k (omega arith) (omega (arith, up, more)))
       (each_segment (next_segment shape.n segment) count (next_below shape.n segment less))
 
-  pub each_left : head_of (get_or words 0 0) < shape.n → Each P (items_left shape words)
+  pub each_left : head_of (get_or words 0 0) < shape.n → AllByRecursion P (items_left shape words)
   each_left head = each_segment (head_of (get_or words 0 0)) shape.n head
 
 get_or_at : {A : Type 0} (d : A) (xs : List A) (i : ℕ) (x : A) → get_elem? xs i ≡ some x → get_or xs i d ≡ x
@@ -135,7 +132,7 @@ module _ {T : Type 0} where
   abbrev HasGift : List (Option T) → Gifts T → ℕ → Type 0
   HasGift slots gifts x = (0 < x) × (x ≤ length slots) × ((payload : T) × (in_slot slots x ≡ Some payload)) × (in_slot slots x ≡ beside x gifts)
 
-  have_payloads : (slots : List (Option T)) (gifts : Gifts T) (tokens : List ℕ) → Each (HasGift slots gifts) tokens → ((x : ℕ) → times x tokens ≤ 1) → HavePayloads slots tokens
+  have_payloads : (slots : List (Option T)) (gifts : Gifts T) (tokens : List ℕ) → AllByRecursion (HasGift slots gifts) tokens → ((x : ℕ) → times x tokens ≤ 1) → HavePayloads slots tokens
   have_payloads slots gifts [] all once = tt
   have_payloads slots gifts (x ∷ xs) all once =
       let one = once x in
@@ -144,7 +141,7 @@ module _ {T : Type 0} where
         have_payloads slots gifts xs all.1 (λ y. let le = once y in omega (arith, le)),
       )
 
-  gifts_are : (slots : List (Option T)) (gifts : Gifts T) (tokens : List ℕ) → Each (HasGift slots gifts) tokens → map (in_slot slots) tokens ≡ map (λ x. beside x gifts) tokens
+  gifts_are : (slots : List (Option T)) (gifts : Gifts T) (tokens : List ℕ) → AllByRecursion (HasGift slots gifts) tokens → map (in_slot slots) tokens ≡ map (λ x. beside x gifts) tokens
   gifts_are slots gifts [] all = refl
   gifts_are slots gifts (x ∷ xs) all = λ i. all.0.3 i ∷ gifts_are slots gifts xs all.1 i
 
@@ -259,7 +256,7 @@ module _ {T : Type 0} (q : OpenQueue) (table : TableId) {thread room id : ℕ} {
       not_zero zero ne = absurd (ne refl)
       not_zero (suc n) ne = omega arith
 
-  all_filled : Each (HasGift slots kept.gifts) tokens
+  all_filled : AllByRecursion (HasGift slots kept.gifts) tokens
   unfolding tokens
   all_filled = each_left q.opened.shape words (HasGift slots kept.gifts) filled_slot head
 

@@ -9,8 +9,10 @@ use Rattle.kfifo_model.specs.declared.calls.Answer.{Answer}
 use Rattle.kfifo_model.specs.declared.calls.Answer.TheVariants.{Busy}
 use Rattle.kfifo_model.specs.declared.calls.Call.{Call}
 use Rattle.kfifo_model.specs.declared.calls.End.{End}
-use Rattle.kfifo_model.specs.Lists.{Each, EachPair}
+use Rattle.std.specs.List.{AllByRecursion}
+use Rattle.kfifo_model.specs.Lists.{EachPair}
 use Rattle.kfifo_model.specs.Histories.{call, no_call, EndsBelow}
+use Rattle.kfifo_model.proofs.Lists.{AllByRecursion-push, AllByRecursion-weaker}
 use Rattle.kfifo_machine.specs.declared.event.Begin.{Begin}
 use Rattle.kfifo_machine.specs.declared.event.Begin.TheVariants.{Tick}
 use Rattle.kfifo_machine.specs.declared.event.Event.{Event}
@@ -196,17 +198,9 @@ no_ticks (e ∷ es) go_on = ap (λ b. length (cond (begins_tick b) (e ∷ filter
     filter_ticks : List Event → List Event
     filter_ticks es = filter (λ (x : Event). begins_tick x.begin) es
 
-pub Each-snoc : {X : Type 0} (P : X → Type 0) (xs : List X) (x : X) → Each P xs → P x → Each P (xs ++ x ∷ [])
-Each-snoc P [] x all last = (last, tt)
-Each-snoc P (y ∷ ys) x all last = (all.0, Each-snoc P ys x all.1 last)
-
-Each-mono : {X : Type 0} (P Q : X → Type 0) → ((x : X) → P x → Q x) → (xs : List X) → Each P xs → Each Q xs
-Each-mono P Q on [] all = tt
-Each-mono P Q on (x ∷ xs) all = (on x all.0, Each-mono P Q on xs all.1)
-
-EachPair-snoc : {X : Type 0} (R : X → X → Type 0) (xs : List X) (x : X) → EachPair R xs → Each (λ y. R y x) xs → EachPair R (xs ++ x ∷ [])
-EachPair-snoc R [] x pairs all = (tt, tt)
-EachPair-snoc R (y ∷ ys) x pairs all = (Each-snoc (R y) ys x pairs.0 all.0, EachPair-snoc R ys x pairs.1 all.1)
+EachPair-push : {X : Type 0} (R : X → X → Type 0) (xs : List X) (x : X) → EachPair R xs → AllByRecursion (λ y. R y x) xs → EachPair R (xs ++ x ∷ [])
+EachPair-push R [] x pairs all = (tt, tt)
+EachPair-push R (y ∷ ys) x pairs all = (AllByRecursion-push (R y) ys x pairs.0 all.0, EachPair-push R ys x pairs.1 all.1)
 
 ends_later : (end : Option End) (m n : ℕ) → m ≤ n → EndsBelow end m → EndsBelow end n
 ends_later None m n le below = below
@@ -309,9 +303,9 @@ module _ (o : Opening) (thread first last : ℕ) (begin : Begin) (answer : Answe
       let new_log : IsLogIn o thread new (log ++ the_call ∷ []) = record {
         count = let c = old_log.count in omega arith;
         room = omega arith;
-        mine = Each-snoc (λ c. c.thread ≡ thread) log the_call old_log.mine refl;
-        in_turn = EachPair-snoc (λ c d. EndsBelow c.end d.first) log the_call old_log.in_turn (Each-mono _ _ (λ c. ends_later c.end (ticks old) first from) log old_log.past);
-        past = Each-snoc (λ c. EndsBelow c.end (ticks new)) log the_call (Each-mono _ _ (λ c. ends_later c.end (ticks old) (ticks new) (omega arith)) log old_log.past) (omega arith);
+        mine = AllByRecursion-push (λ c. c.thread ≡ thread) log the_call old_log.mine refl;
+        in_turn = EachPair-push (λ c d. EndsBelow c.end d.first) log the_call old_log.in_turn (AllByRecursion-weaker _ _ (λ c. ends_later c.end (ticks old) first from) log old_log.past);
+        past = AllByRecursion-push (λ c. EndsBelow c.end (ticks new)) log the_call (AllByRecursion-weaker _ _ (λ c. ends_later c.end (ticks old) (ticks new) (omega arith)) log old_log.past) (omega arith);
         calls = has_more o new old more goes_on thread log the_call made_call old_log.calls adds refl stamped;
       } in
       (subst Q (λ i. (sym u_opened i, sym u_thread i, sym u_seen i)) new_log)

@@ -2,13 +2,14 @@
 use Rattle.std.proofs.Common.{◌≡◌, ◌≢◌, ℕ, zero, suc, ◌<◌, ◌≤◌, Some, List, [], ◌∷◌, ◌++◌, length, refl, sym, ap, ◌∙◌, subst, arith, append_assoc}
 use Rattle.std.proofs.lemmas.List.{append-nil}
 use Rattle.std.specs.Prelude.{◌==◌, ◌||◌, IsPermutation}
-use Rattle.std.specs.List.{list_any}
+use Rattle.std.specs.List.{list_any, AllByRecursion, All}
 use Rattle.std.specs.List.Sorted.{IsNonDecreasingBy}
 use Rattle.std.specs.Iterator.{Yields}
 use Rattle.std.specs.Vec.Iter.{into_iter_items, into_iter_steps}
 use Rattle.std.specs.declared.vec.IntoIter.{IntoIter}
+use Rattle.std.proofs.lemmas.List.Elements.{All-head, All-tail}
 use Rattle.kfifo_model.specs.declared.calls.Call.{Call}
-use Rattle.kfifo_model.specs.Lists.{Each, EachPair}
+use Rattle.kfifo_model.specs.Lists.{EachPair}
 use Rattle.kfifo_machine.specs.declared.event.Event.{Event}
 use Rattle.kfifo_model.specs.Histories.{call, no_call}
 use Rattle.kfifo_model.specs.Validity.{IsHistory}
@@ -17,7 +18,7 @@ use Rattle.kfifo_machine.specs.Runs.{Begins, own}
 use Rattle.kfifo_machine.proofs.OwnCalls.{KeepsCalls, others_keep}
 use Rattle.kfifo_machine.proofs.Schedules.{run_before}
 use Rattle.kfifo_live.specs.declared.view.Opening.{Opening}
-use Rattle.kfifo_live.specs.Pass.{AllOf, AllSeen, Closes, IsComplete, Known, OpenQueue, new_passes}
+use Rattle.kfifo_live.specs.Pass.{AllSeen, Closes, IsComplete, IsOf, Known, OpenQueue, new_passes}
 use Rattle.kfifo_live.specs.Promise.{KeepsPromise, calls_of}
 use Rattle.kfifo_live.specs.Schedule.{ticks, world_after}
 use Rattle.kfifo_live.specs.Stamps.{Gathers, calls_by, HasCalls, IsLog, Logged, all_logs, logged_by, new_logs, passes_of}
@@ -101,20 +102,22 @@ good_log o all here reached few p is opened b =
       in_turn = is.in_turn;
     }
 
-good_logs : (q : OpenQueue) (all : List Event) (here : World) → world_after q.opened all ≡ Some here → q.opened.threads ≤ 64 → (ps : List Logged) → Each (λ p. IsLog p.pass p.log) ps → AllOf q (passes_of ps) → AllSeen (passes_of ps) all
-    → Each (IsGoodLog q.opened all) ps
+good_logs : (q : OpenQueue) (all : List Event) (here : World) → world_after q.opened all ≡ Some here → q.opened.threads ≤ 64 → (ps : List Logged) → AllByRecursion (λ p. IsLog p.pass p.log) ps → All (λ p. IsOf q p.pass) ps → AllSeen (passes_of ps) all
+    → AllByRecursion (IsGoodLog q.opened all) ps
 good_logs q all here reached few [] is of seen = tt
-good_logs q all here reached few (p ∷ ps) is of seen = (good_log q.opened all here reached few p is.0 of.0.1 seen.0, good_logs q all here reached few ps is.1 of.1 seen.1)
+good_logs q all here reached few (p ∷ ps) is of seen =
+    let mine = All-head (λ p. IsOf q p.pass) p ps of in
+    (good_log q.opened all here reached few p is.0 mine.1 seen.0, good_logs q all here reached few ps is.1 (All-tail (λ p. IsOf q p.pass) p ps of) seen.1)
 
-each_mine : (ps : List Logged) → Each (λ p. IsLog p.pass p.log) ps → Each (λ q. Each (λ c. c.thread ≡ q.pass.thread) q.log) ps
+each_mine : (ps : List Logged) → AllByRecursion (λ p. IsLog p.pass p.log) ps → AllByRecursion (λ q. AllByRecursion (λ c. c.thread ≡ q.pass.thread) q.log) ps
 each_mine [] is = tt
 each_mine (p ∷ ps) is = (is.0.mine, each_mine ps is.1)
 
 -- What is gathered when a queue was closed
 module _ (q : OpenQueue) (ps : List Logged) (calls h : List Call) (plain : List Known) (items : List ℕ) (few : q.opened.threads ≤ 64) (passes : plain ≡ passes_of ps) (logs : calls ≡ all_logs ps)
-    (are_logs : Each (λ p. IsLog p.pass p.log) ps) (of : AllOf q (passes_of ps)) (complete : IsComplete q.opened.threads (passes_of ps)) (closed : Closes q plain items)
+    (are_logs : AllByRecursion (λ p. IsLog p.pass p.log) ps) (of : All (λ p. IsOf q p.pass) ps) (complete : IsComplete q.opened.threads (passes_of ps)) (closed : Closes q plain items)
     (shuffled : IsPermutation calls h) (sorted : IsNonDecreasingBy (λ c. c.first) h) where
-  good : Each (IsGoodLog q.opened closed.all) ps
+  good : AllByRecursion (IsGoodLog q.opened closed.all) ps
   good = good_logs q closed.all closed.world closed.reached few ps are_logs of (subst (λ (xs : List Known). AllSeen xs closed.all) passes closed.begin)
 
   once : EachPair (λ t u. t ≢ u) (threads_of ps)

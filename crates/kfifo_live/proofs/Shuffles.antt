@@ -1,14 +1,14 @@
 -- Pairs of a list in another order, and lists that have each number below their length.
 use Rattle.std.proofs.Common.{◌≡◌, ◌≢◌, ℕ, zero, suc, ◌<◌, List, [], ◌∷◌, ◌++◌, length, set, get_or, Bool, true, false, refl, sym, ap, ◌∙◌, subst, inl, inr, arith, cond}
 use Rattle.std.specs.Prelude.{IsPermutation, ◌==◌, ◌||◌}
-use Rattle.std.specs.List.{swap, list_any}
+use Rattle.std.specs.List.{swap, list_any, AllByRecursion}
 use Rattle.std.proofs.lemmas.Bool.{cases_eq}
 use Rattle.std.proofs.lemmas.Bool.Decides.{nat_tests}
 use Rattle.std.proofs.lemmas.Grind.{get_or-set_at}
 use Rattle.std.proofs.lemmas.List.{get_or-set_other, length-set}
 use Rattle.std.proofs.lemmas.List.Sorted.{IsPermutation-keeps}
 use Rattle.std.proofs.SliceLists.{swap_is}
-use Rattle.kfifo_model.specs.Lists.{Each, EachPair}
+use Rattle.kfifo_model.specs.Lists.{EachPair}
 
 -- where an element came from when two have changed places
 abbrev turned : ℕ → ℕ → ℕ → ℕ
@@ -78,17 +78,17 @@ without t (x ∷ xs) is = elim (cases_eq x t) [
     not_it : (b : Bool) → (x == t) ≡ b → x ≢ t → b ≡ false
     not_it b is ne = grind (arith, nat_tests)
 
-Each-insert : {X : Type 0} (P : X → Type 0) (us vs : List X) (x : X) → Each P (us ++ vs) → P x → Each P (us ++ x ∷ vs)
-Each-insert P [] vs x all mine = (mine, all)
-Each-insert P (u ∷ us) vs x all mine = (all.0, Each-insert P us vs x all.1 mine)
+AllByRecursion-insert : {X : Type 0} (P : X → Type 0) (us vs : List X) (x : X) → AllByRecursion P (us ++ vs) → P x → AllByRecursion P (us ++ x ∷ vs)
+AllByRecursion-insert P [] vs x all mine = (mine, all)
+AllByRecursion-insert P (u ∷ us) vs x all mine = (all.0, AllByRecursion-insert P us vs x all.1 mine)
 
-EachPair-insert : {X : Type 0} (R : X → X → Type 0) (us vs : List X) (x : X) → EachPair R (us ++ vs) → Each (λ y. R y x × R x y) (us ++ vs) → EachPair R (us ++ x ∷ vs)
+EachPair-insert : {X : Type 0} (R : X → X → Type 0) (us vs : List X) (x : X) → EachPair R (us ++ vs) → AllByRecursion (λ y. R y x × R x y) (us ++ vs) → EachPair R (us ++ x ∷ vs)
 EachPair-insert R [] vs x pairs all = (after vs all, pairs)
   where
-    after : (ys : List _) → Each (λ y. R y x × R x y) ys → Each (R x) ys
+    after : (ys : List _) → AllByRecursion (λ y. R y x × R x y) ys → AllByRecursion (R x) ys
     after [] all = tt
     after (y ∷ ys) all = (all.0.1, after ys all.1)
-EachPair-insert R (u ∷ us) vs x pairs all = (Each-insert (R u) us vs x pairs.0 all.0.0, EachPair-insert R us vs x pairs.1 all.1)
+EachPair-insert R (u ∷ us) vs x pairs all = (AllByRecursion-insert (R u) us vs x pairs.0 all.0.0, EachPair-insert R us vs x pairs.1 all.1)
 
 any_without : (t x : ℕ) (us vs : List ℕ) → x ≢ t → list_any (λ y. y == t) (us ++ x ∷ vs) ≡ true → list_any (λ y. y == t) (us ++ vs) ≡ true
 any_without t x [] vs ne is = later (x == t) (list_any (λ y. y == t) vs) (off (x == t) refl) is
@@ -102,7 +102,7 @@ any_without t x (u ∷ us) vs ne is = either_way (u == t) (λ rest. any_without 
     either_way true rest is = refl
     either_way false rest is = rest is
 
-pub all_once : (n : ℕ) (ts : List ℕ) → length ts ≡ n → ((t : ℕ) → t < n → list_any (λ y. y == t) ts ≡ true) → Each (λ t. t < n) ts × EachPair (λ a b. a ≢ b) ts
+pub all_once : (n : ℕ) (ts : List ℕ) → length ts ≡ n → ((t : ℕ) → t < n → list_any (λ y. y == t) ts ≡ true) → AllByRecursion (λ t. t < n) ts × EachPair (λ a b. a ≢ b) ts
 all_once zero [] size each = (tt, tt)
 all_once zero (t ∷ ts) size each = absurd (omega arith)
 all_once (suc n) ts size each =
@@ -112,8 +112,8 @@ all_once (suc n) ts size each =
     let total : length (us ++ n ∷ vs) ≡ suc n = ap (λ (l : List ℕ). length l) (sym w.2) ∙ size in
     let longer : length (us ++ n ∷ vs) ≡ suc (length (us ++ vs)) = longer_by_one us vs n in
     let rest = all_once n (us ++ vs) (omega arith) (λ t less. any_without t n us vs (λ same. absurd (omega arith)) (subst (λ (l : List ℕ). list_any (λ y. y == t) l ≡ true) w.2 (each t (omega arith)))) in
-    subst (λ (l : List ℕ). Each (λ t. t < suc n) l × EachPair (λ a b. a ≢ b) l) (sym w.2) (
-      Each-insert (λ t. t < suc n) us vs n (weaker n (us ++ vs) rest.0) (omega arith),
+    subst (λ (l : List ℕ). AllByRecursion (λ t. t < suc n) l × EachPair (λ a b. a ≢ b) l) (sym w.2) (
+      AllByRecursion-insert (λ t. t < suc n) us vs n (weaker n (us ++ vs) rest.0) (omega arith),
       EachPair-insert (λ a b. a ≢ b) us vs n rest.1 (apart n (us ++ vs) rest.0),
     )
   where
@@ -121,10 +121,10 @@ all_once (suc n) ts size each =
     longer_by_one [] vs x = refl
     longer_by_one (u ∷ us) vs x = ap suc (longer_by_one us vs x)
 
-    weaker : (n : ℕ) (ys : List ℕ) → Each (λ t. t < n) ys → Each (λ t. t < suc n) ys
+    weaker : (n : ℕ) (ys : List ℕ) → AllByRecursion (λ t. t < n) ys → AllByRecursion (λ t. t < suc n) ys
     weaker n [] all = tt
     weaker n (y ∷ ys) all = ((let h = all.0 in omega arith), weaker n ys all.1)
 
-    apart : (n : ℕ) (ys : List ℕ) → Each (λ t. t < n) ys → Each (λ y. (y ≢ n) × (n ≢ y)) ys
+    apart : (n : ℕ) (ys : List ℕ) → AllByRecursion (λ t. t < n) ys → AllByRecursion (λ y. (y ≢ n) × (n ≢ y)) ys
     apart n [] all = tt
     apart n (y ∷ ys) all = (((λ same. absurd (let h = all.0 in omega arith)), (λ same. absurd (let h = all.0 in omega arith))), apart n ys all.1)

@@ -2,16 +2,16 @@
 -- order that is legal for the one is legal for the other.
 use Rattle.std.proofs.Common.{◌≡◌, ◌≢◌, ◌⊎◌, ℕ, zero, suc, ◌+◌, ◌<◌, ◌≤◌, List, [], ◌∷◌, ◌++◌, length, map, get_or, true, Option, Some, None, refl, sym, ap, ◌∙◌, subst, inl, inr, arith, cond, append_assoc, length-append, ne_eqb, ◌-◌}
 use Rattle.std.specs.Prelude.{IsPermutation, ◌==◌}
-use Rattle.std.specs.List.{All, Contains, list_any}
+use Rattle.std.specs.List.{All, Contains, list_any, AllByRecursion}
 use Rattle.std.specs.List.Sorted.{IsNonDecreasingBy}
 use Rattle.std.proofs.lemmas.Bool.{cases_eq, cases_lt}
-use Rattle.std.proofs.lemmas.List.Elements.{All-append, All-from_get_or, All-get_or, All-head, All-nil, All-tail, Contains-append_left, Contains-append_right, Contains-get_or}
+use Rattle.std.proofs.lemmas.List.Elements.{All-append, All-from_get_or, All-get_or, All-nil, Contains-append_left, Contains-append_right, Contains-get_or, recursion_from_All}
 use Rattle.std.proofs.lemmas.List.Sorted.{All-permutation, Contains-permutation}
 use Rattle.kfifo_words.specs.declared.shape.Shape.{Shape}
 use Rattle.kfifo_model.specs.declared.calls.Call.{Call}
 use Rattle.kfifo_model.specs.declared.calls.End.{End}
 use Rattle.kfifo_model.specs.declared.calls.Op.{Op}
-use Rattle.kfifo_model.specs.Lists.{Each, EachPair}
+use Rattle.kfifo_model.specs.Lists.{EachPair}
 use Rattle.kfifo_model.specs.Histories.{call, no_call, EndsBelow, IsLegal}
 use Rattle.kfifo_model.specs.Matching.{Matches}
 use Rattle.kfifo_model.specs.Measures.{HasDistinctItems, IsDoneEnqueue}
@@ -19,6 +19,7 @@ use Rattle.kfifo_model.specs.Overtaking.{certainly_overtaken}
 use Rattle.kfifo_model.specs.Relaxed.{Wrong, effect}
 use Rattle.kfifo_model.specs.Validity.{Answers, EndInRange, EndsFrom, IsHistory, IsInRange, OpInRange}
 use Rattle.kfifo_model.proofs.Matching.{HasPartners, done_within, match_by, matched_distinct, matched_done, matched_legal, matched_overtaken}
+use Rattle.kfifo_model.proofs.Lists.{AllByRecursion-append}
 use Rattle.kfifo_machine.specs.declared.event.Begin.TheVariants.{Tick}
 use Rattle.kfifo_machine.specs.declared.event.Event.{Event}
 use Rattle.kfifo_machine.specs.Machine.{World, opening, run}
@@ -185,7 +186,7 @@ module _ (all : List Event) where
 -- A log, as one of the whole schedule
 pub record IsGoodLog (o : Opening) (all : List Event) (p : Logged) : Type 0 where
   pub calls : HasCalls o all p.pass.thread p.log
-  pub mine : Each (λ c. c.thread ≡ p.pass.thread) p.log
+  pub mine : AllByRecursion (λ c. c.thread ≡ p.pass.thread) p.log
   pub in_turn : EachPair (λ c d. EndsBelow c.end d.first) p.log
 
 -- no two of these calls have one first stamp, and of two of one thread one has ended before the other began
@@ -197,23 +198,15 @@ abbrev pub threads_of : List Logged → List ℕ
 threads_of [] = []
 threads_of (p ∷ ps) = p.pass.thread ∷ threads_of ps
 
-each_from_all : {X : Type 0} (P : X → Type 0) (xs : List X) → All P xs → Each P xs
-each_from_all P [] all = tt
-each_from_all P (x ∷ xs) all = (All-head P x xs all, each_from_all P xs (All-tail P x xs all))
-
-each_both : {X : Type 0} (P Q T : X → Type 0) → ((x : X) → P x → Q x → T x) → (xs : List X) → Each P xs → Each Q xs → Each T xs
+each_both : {X : Type 0} (P Q T : X → Type 0) → ((x : X) → P x → Q x → T x) → (xs : List X) → AllByRecursion P xs → AllByRecursion Q xs → AllByRecursion T xs
 each_both P Q T on [] p q = tt
 each_both P Q T on (x ∷ xs) p q = (on x p.0 q.0, each_both P Q T on xs p.1 q.1)
 
-each_append : {X : Type 0} (P : X → Type 0) (xs ys : List X) → Each P xs → Each P ys → Each P (xs ++ ys)
-each_append P [] ys a b = b
-each_append P (x ∷ xs) ys a b = (a.0, each_append P xs ys a.1 b)
-
-pairs_append : {X : Type 0} (R : X → X → Type 0) (xs ys : List X) → EachPair R xs → EachPair R ys → Each (λ x. Each (R x) ys) xs → EachPair R (xs ++ ys)
+pairs_append : {X : Type 0} (R : X → X → Type 0) (xs ys : List X) → EachPair R xs → EachPair R ys → AllByRecursion (λ x. AllByRecursion (R x) ys) xs → EachPair R (xs ++ ys)
 pairs_append R [] ys a b c = b
-pairs_append R (x ∷ xs) ys a b c = (each_append (R x) xs ys a.0 c.0, pairs_append R xs ys a.1 b c.1)
+pairs_append R (x ∷ xs) ys a b c = (AllByRecursion-append (R x) xs ys a.0 c.0, pairs_append R xs ys a.1 b c.1)
 
-each_at : {X : Type 0} (d : X) (P : X → Type 0) (xs : List X) (n : ℕ) → n < length xs → Each P xs → P (get_or xs n d)
+each_at : {X : Type 0} (d : X) (P : X → Type 0) (xs : List X) (n : ℕ) → n < length xs → AllByRecursion P xs → P (get_or xs n d)
 each_at d P [] n less all = absurd (omega arith)
 each_at d P (x ∷ xs) zero less all = all.0
 each_at d P (x ∷ xs) (suc n) less all = each_at d P xs n (omega arith) all.1
@@ -244,7 +237,7 @@ first_below None f g from below = absurd below
 first_below (Some end) f g from below = omega arith
 
 -- the first stamps of a log rise
-rising_log : (log : List Call) → Each (λ c. EndsFrom c.first c.end) log → EachPair (λ c d. EndsBelow c.end d.first) log → EachPair (λ c d. c.first < d.first) log
+rising_log : (log : List Call) → AllByRecursion (λ c. EndsFrom c.first c.end) log → EachPair (λ c d. EndsBelow c.end d.first) log → EachPair (λ c d. c.first < d.first) log
 rising_log [] from turn = tt
 rising_log (c ∷ cs) from turn = (each_both (λ d. EndsBelow c.end d.first) (λ d. EndsBelow c.end d.first) (λ d. c.first < d.first) (λ d below same. first_below c.end c.first d.first from.0 below) cs turn.0 turn.0, rising_log cs from.1 turn.1)
 
@@ -300,12 +293,12 @@ module _ (o : Opening) (all : List Event) (here : World) (reached : world_after 
   log_calls : (p : Logged) → IsGoodLog o all p → All Logs p.log
   log_calls p g = All-from_get_or Logs p.log no_call (λ i less. let m = g.calls.made i less in (m.0, m.1, m.3))
 
-  all_calls : (ps : List Logged) → Each (IsGoodLog o all) ps → All Logs (all_logs ps)
+  all_calls : (ps : List Logged) → AllByRecursion (IsGoodLog o all) ps → All Logs (all_logs ps)
   all_calls [] g = All-nil Logs
   all_calls (p ∷ ps) g = All-append Logs p.log (all_logs ps) (log_calls p g.0) (all_calls ps g.1)
 
   -- each call of the schedule is in a log
-  find_log : (m : ℕ) → m < length (calls_of o all) → (ps : List Logged) → Each (IsGoodLog o all) ps → list_any (λ p. p.thread == (call (calls_of o all) m).thread) (passes_of ps) ≡ true
+  find_log : (m : ℕ) → m < length (calls_of o all) → (ps : List Logged) → AllByRecursion (IsGoodLog o all) ps → list_any (λ p. p.thread == (call (calls_of o all) m).thread) (passes_of ps) ≡ true
       → (c : Call) × Contains (all_logs ps) c × IsStamped all c (call (calls_of o all) m)
   find_log m less [] g is = absurd (cc)
   find_log m less (p ∷ ps) g is =
@@ -323,41 +316,41 @@ module _ (o : Opening) (all : List Event) (here : World) (reached : world_after 
   call_ends c l = ends_after all c (call (calls_of o all) l.0) (made_history l.0 l.1).ends l.2
 
   pub log_rises : (p : Logged) → IsGoodLog o all p → EachPair (λ c d. c.first < d.first) p.log
-  log_rises p g = let logs = each_from_all Logs p.log (log_calls p g) in rising_log p.log (each_both Logs Logs (λ c. EndsFrom c.first c.end) (λ c l m. call_ends c l) p.log logs logs) g.in_turn
+  log_rises p g = let logs = recursion_from_All Logs p.log (log_calls p g) in rising_log p.log (each_both Logs Logs (λ c. EndsFrom c.first c.end) (λ c l m. call_ends c l) p.log logs logs) g.in_turn
 
-  in_log_pairs : (log : List Call) → Each (λ c. EndsFrom c.first c.end) log → EachPair (λ c d. EndsBelow c.end d.first) log → EachPair AreApart log
+  in_log_pairs : (log : List Call) → AllByRecursion (λ c. EndsFrom c.first c.end) log → EachPair (λ c d. EndsBelow c.end d.first) log → EachPair AreApart log
   in_log_pairs [] from turn = tt
   in_log_pairs (c ∷ cs) from turn =
       (each_both (λ d. EndsBelow c.end d.first) (λ d. EndsFrom d.first d.end) (AreApart c) (λ d below ends. ((first_apart c.end c.first d.first from.0 below), (λ same. inl below))) cs turn.0 from.1, in_log_pairs cs from.1 turn.1)
 
-  of_others : (t : ℕ) (ps : List Logged) → Each (IsGoodLog o all) ps → Each (λ u. t ≢ u) (threads_of ps) → Each (λ d. (t ≢ d.thread) × Logs d) (all_logs ps)
+  of_others : (t : ℕ) (ps : List Logged) → AllByRecursion (IsGoodLog o all) ps → AllByRecursion (λ u. t ≢ u) (threads_of ps) → AllByRecursion (λ d. (t ≢ d.thread) × Logs d) (all_logs ps)
   of_others t [] g apart = tt
   of_others t (p ∷ ps) g apart =
-      each_append (λ d. (t ≢ d.thread) × Logs d) p.log (all_logs ps)
-      (each_both (λ d. d.thread ≡ p.pass.thread) Logs (λ d. (t ≢ d.thread) × Logs d) (λ d mine logs. ((λ same. apart.0 (same ∙ mine)), logs)) p.log g.0.mine (each_from_all Logs p.log (log_calls p g.0)))
+      AllByRecursion-append (λ d. (t ≢ d.thread) × Logs d) p.log (all_logs ps)
+      (each_both (λ d. d.thread ≡ p.pass.thread) Logs (λ d. (t ≢ d.thread) × Logs d) (λ d mine logs. ((λ same. apart.0 (same ∙ mine)), logs)) p.log g.0.mine (recursion_from_All Logs p.log (log_calls p g.0)))
       (of_others t ps g.1 apart.1)
 
-  across : (c : Call) → Logs c → (ds : List Call) → Each (λ d. (c.thread ≢ d.thread) × Logs d) ds → Each (AreApart c) ds
+  across : (c : Call) → Logs c → (ds : List Call) → AllByRecursion (λ d. (c.thread ≢ d.thread) × Logs d) ds → AllByRecursion (AreApart c) ds
   across c logs [] others = tt
   across c logs (d ∷ ds) others =
       (((λ same. others.0.0 (same_tick all c _ d _ logs.2 others.0.1.2 same).1), (λ same. absurd (others.0.0 same))), across c logs ds others.1)
 
-  across_logs : (t : ℕ) (cs ds : List Call) → Each (λ c. c.thread ≡ t) cs → Each Logs cs → Each (λ d. (t ≢ d.thread) × Logs d) ds → Each (λ c. Each (AreApart c) ds) cs
+  across_logs : (t : ℕ) (cs ds : List Call) → AllByRecursion (λ c. c.thread ≡ t) cs → AllByRecursion Logs cs → AllByRecursion (λ d. (t ≢ d.thread) × Logs d) ds → AllByRecursion (λ c. AllByRecursion (AreApart c) ds) cs
   across_logs t [] ds mine logs others = tt
   across_logs t (c ∷ cs) ds mine logs others =
-      (across c logs.0 ds (subst (λ (u : ℕ). Each (λ d. (u ≢ d.thread) × Logs d) ds) (sym mine.0) others), across_logs t cs ds mine.1 logs.1 others)
+      (across c logs.0 ds (subst (λ (u : ℕ). AllByRecursion (λ d. (u ≢ d.thread) × Logs d) ds) (sym mine.0) others), across_logs t cs ds mine.1 logs.1 others)
 
-  all_pairs : (ps : List Logged) → Each (IsGoodLog o all) ps → EachPair (λ t u. t ≢ u) (threads_of ps) → EachPair AreApart (all_logs ps)
+  all_pairs : (ps : List Logged) → AllByRecursion (IsGoodLog o all) ps → EachPair (λ t u. t ≢ u) (threads_of ps) → EachPair AreApart (all_logs ps)
   all_pairs [] g apart = tt
   all_pairs (p ∷ ps) g apart =
-      let logs = each_from_all Logs p.log (log_calls p g.0) in
+      let logs = recursion_from_All Logs p.log (log_calls p g.0) in
       pairs_append AreApart p.log (all_logs ps)
       (in_log_pairs p.log (each_both Logs Logs (λ c. EndsFrom c.first c.end) (λ c l m. call_ends c l) p.log logs logs) g.0.in_turn)
       (all_pairs ps g.1 apart.1)
       (across_logs p.pass.thread p.log (all_logs ps) g.0.mine logs (of_others p.pass.thread ps g.1 apart.0))
 
   -- The calls of all logs by rising first stamps
-  module _ (ps : List Logged) (h : List Call) (g : Each (IsGoodLog o all) ps) (apart : EachPair (λ t u. t ≢ u) (threads_of ps)) (complete : (t : ℕ) → t < o.threads → list_any (λ p. p.thread == t) (passes_of ps) ≡ true)
+  module _ (ps : List Logged) (h : List Call) (g : AllByRecursion (IsGoodLog o all) ps) (apart : EachPair (λ t u. t ≢ u) (threads_of ps)) (complete : (t : ℕ) → t < o.threads → list_any (λ p. p.thread == t) (passes_of ps) ≡ true)
       (shuffled : IsPermutation (all_logs ps) h) (sorted : IsNonDecreasingBy (λ c. c.first) h) where
     calls : All Logs h
     calls = All-permutation Logs (all_logs ps) h shuffled (all_calls ps g)

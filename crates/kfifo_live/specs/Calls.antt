@@ -29,15 +29,18 @@ TakesFewSteps call old new = length (own old.thread (added old new)) ≤ most_ev
 abbrev pub HasCause : Begin → Answer → Known → Known → Type 0
 HasCause call Full old new = CauseOfFull old.opened.shape (start_of call) (looks old.opened.shape old.thread (world_after old.opened old.seen) (added old new))
 HasCause call Worn old new = CauseOfWorn old.opened.shape (looks old.opened.shape old.thread (world_after old.opened old.seen) (added old new))
-HasCause call Busy old new = (here : World) → world_after old.opened old.seen ≡ Some here → LosesAll old.opened.shape old.thread (turns_of call) here (added old new)
+HasCause call Busy old new = (here : World) → world_after old.opened old.seen ≡ Some here
+    → LosesAll old.opened.shape old.thread (turns_of call) here (added old new)
 HasCause call other old new = Unit {0}
 
 -- between the call's first and its last event another thread won an exchange
 abbrev pub IsDisturbed : Known → Known → Type 0
-IsDisturbed old new = (here : World) → world_after old.opened old.seen ≡ Some here → OtherWins old.opened.shape old.thread here (added old new)
+IsDisturbed old new = (here : World) → world_after old.opened old.seen ≡ Some here
+    → OtherWins old.opened.shape old.thread here (added old new)
 
 -- a word that the call put into a slot does not stand there when it has ended, nor ever after
 abbrev pub LeavesNoItem : Known → Known → Type 0
-LeavesNoItem old new = (before after : List Event) (e : Event) (index word : ℕ) → new.seen ≡ (old.seen ++ before) ++ e ∷ after → e.thread ≡ old.thread
+LeavesNoItem old new = (before after : List Event) (e : Event) (index word : ℕ)
+    → new.seen ≡ (old.seen ++ before) ++ e ∷ after → e.thread ≡ old.thread
     → PutsNext old.opened.shape old.opened.threads (old.seen ++ before) old.thread index word
     → (later : List Event) (here : World) → world_after old.opened (new.seen ++ later) ≡ Some here → word_at here index ≢ word

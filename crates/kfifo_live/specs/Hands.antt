@@ -162,7 +162,8 @@ module _ {T : Type 0} where
 
   -- an item that was put: as long as its word stands, the item's last gift is this
   abbrev pub PutFits : (ℕ → ℕ) → Gifts T → Option T → ℕ → ℕ → ℕ → Type 0
-  PutFits words gifts payload item index filled = (version_of filled ≤ version_of (words index)) × (words index ≡ filled → beside item gifts ≡ payload)
+  PutFits words gifts payload item index filled = (version_of filled ≤ version_of (words index))
+      × (words index ≡ filled → beside item gifts ≡ payload)
 
   -- the item's last gift is the enqueue's own, as long as it has not lost it
   abbrev pub GiftFits : (ℕ → ℕ) → Gifts T → Option T → ℕ → EnqueuePhase → Type 0
@@ -187,13 +188,15 @@ module _ {T : Type 0} where
   -- each token that a slot's word names is there, and its slot is at home and holds the token's last gift
   abbrev pub SlotsFit : ℕ → (ℕ → ℕ) → (ℕ → Where) → Gifts T → Homes T → Type 0
   SlotsFit clock words at gifts homes = (i : ℕ) → 0 < i → i < clock → value_of (words i) ≢ 0
-      → (at (value_of (words i)) ≡ In i) × ((payload : T) × (beside (value_of (words i)) gifts ≡ Some payload)) × (get_elem? homes (value_of (words i) - 1) ≡ some (some (beside (value_of (words i)) gifts)))
+      → (at (value_of (words i)) ≡ In i) × ((payload : T) × (beside (value_of (words i)) gifts ≡ Some payload))
+      × (get_elem? homes (value_of (words i) - 1) ≡ some (some (beside (value_of (words i)) gifts)))
 
   -- where steps of a call with this item and payload of its own leave its thread: the token that is out, and what its slot holds
   pub record Leaves (own : ℕ) (payload : Option T) (gifts : Gifts T) (hand : Hand T) (next : Next) : Type 0 where
     pub out : hand.out ≡ out_next own next
     pub kept : 0 < own → hand.payload ≡ payload
-    pub taken : (item : ℕ) → next ≡ Answers (Got item) → (0 < item) × (hand.payload ≡ beside item gifts) × ((found : T) × (beside item gifts ≡ Some found))
+    pub taken : (item : ℕ) → next ≡ Answers (Got item) → (0 < item) × (hand.payload ≡ beside item gifts)
+        × ((found : T) × (beside item gifts ≡ Some found))
     pub fits : FitsOwn own next
     pub same_own : (place : Running) → next ≡ Goes place → own_item place ≡ own
 

@@ -73,11 +73,6 @@ abbrev pub AllSeen : List Known → List Event → Type 0
 AllSeen [] all = Unit {0}
 AllSeen (p ∷ ps) all = Begins p.thread p.seen all × AllSeen ps all
 
--- all these passes came from this opening
-abbrev pub AllOf : OpenQueue → List Known → Type 0
-AllOf q [] = Unit {0}
-AllOf q (p ∷ ps) = IsOf q p × AllOf q ps
-
 -- each pass of the opening is there once
 pub record IsComplete (threads : ℕ) (ps : List Known) : Type 0 where
   pub count : length ps ≡ threads

@@ -95,7 +95,8 @@ module _ {T : Type 0} where
 
   -- What `give` did, by what it answers: Done gives up the first token. NoToken comes where the pass has none, and nothing is done
   abbrev pub Gives : ℕ → ℕ → T → Given T → PayKnown T → PayKnown T → Type 0
-  Gives start turns payload G.Done old new = (token : ℕ) × (old.tokens ≡ token ∷ new.tokens) × EnqueuesWith token start turns A.Done payload old new
+  Gives start turns payload G.Done old new = (token : ℕ) × (old.tokens ≡ token ∷ new.tokens)
+      × EnqueuesWith token start turns A.Done payload old new
   Gives start turns payload (G.Full back) old new = Refuses start turns A.Full payload back old new
   Gives start turns payload (G.Busy back) old new = Refuses start turns A.Busy payload back old new
   Gives start turns payload (G.Worn back) old new = Refuses start turns A.Worn payload back old new
@@ -103,7 +104,8 @@ module _ {T : Type 0} where
 
   -- What `take` did: Got gives the pass the token that was taken, and the last payload that was given with it
   abbrev pub TakesOut : ℕ → ℕ → Taken T → PayKnown T → PayKnown T → Type 0
-  TakesOut start turns (K.Got payload) old new = (token : ℕ) × (new.tokens ≡ token ∷ old.tokens) × (beside token new.gifts ≡ Some payload) × DequeuesWith start turns (A.Got token) old new
+  TakesOut start turns (K.Got payload) old new = (token : ℕ) × (new.tokens ≡ token ∷ old.tokens)
+      × (beside token new.gifts ≡ Some payload) × DequeuesWith start turns (A.Got token) old new
   TakesOut start turns K.Empty old new = (new.tokens ≡ old.tokens) × DequeuesWith start turns A.Empty old new
   TakesOut start turns K.Busy old new = (new.tokens ≡ old.tokens) × DequeuesWith start turns A.Busy old new
   TakesOut start turns K.Worn old new = (new.tokens ≡ old.tokens) × DequeuesWith start turns A.Worn old new

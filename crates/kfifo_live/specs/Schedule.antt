@@ -83,7 +83,8 @@ module _ {T : Type 0} where
   -- each thread has its tokens
   abbrev pub AllHands : (ℕ → ℕ) → (ℕ → Option Running) → (ℕ → Where) → Gifts T → Homes T → List (Part T) → Type 0
   AllHands words place at gifts homes [] = Unit {0}
-  AllHands words place at gifts homes (p ∷ ps) = HandFits words (place p.thread) at gifts homes p.thread p.hand × AllHands words place at gifts homes ps
+  AllHands words place at gifts homes (p ∷ ps) = HandFits words (place p.thread) at gifts homes p.thread p.hand
+      × AllHands words place at gifts homes ps
 
   -- each thread is acted for by one seat, at one place of its parts
   abbrev pub Owns : (ℕ → ℕ × ℕ) → ℕ → ℕ → List (Part T) → Type 0
@@ -111,7 +112,8 @@ module _ {T : Type 0} where
     pub fit : (seat : ℕ) (v : View T) → get_elem? views seat ≡ some v → Fits o all gifts owner seat v
     pub at : ℕ → Where
     pub slots : 0 < o.tokens → SlotsFit (clock_at o.shape.k o.shape.n) (word_at world) at gifts homes
-    pub hands : 0 < o.tokens → (seat : ℕ) (v : View T) → get_elem? views seat ≡ some v → AllHands (word_at world) (place_of world) at gifts homes v.parts
+    pub hands : 0 < o.tokens → (seat : ℕ) (v : View T) → get_elem? views seat ≡ some v
+        → AllHands (word_at world) (place_of world) at gifts homes v.parts
 
   -- the first part's thread, what was seen by it, and the other parts
   abbrev pub thread_in : List (Part T) → ℕ

@@ -5,7 +5,8 @@ use Rattle.kfifo_model.specs.declared.calls.Answer.{Answer}
 use Rattle.kfifo_model.specs.declared.calls.Answer.TheVariants.{Busy}
 use Rattle.kfifo_model.specs.declared.calls.Call.{Call}
 use Rattle.kfifo_model.specs.declared.calls.Op.{Op}
-use Rattle.kfifo_model.specs.Lists.{Each, EachPair}
+use Rattle.std.specs.List.{AllByRecursion}
+use Rattle.kfifo_model.specs.Lists.{EachPair}
 use Rattle.kfifo_model.specs.Histories.{call, EndsBelow, IsLegal}
 use Rattle.kfifo_model.specs.Measures.{HasDistinctItems, IsDoneEnqueue}
 use Rattle.kfifo_model.specs.Overtaking.{certainly_overtaken}
@@ -105,17 +106,19 @@ pub record IsStamped (all : List Event) (logged made : Call) : Type 0 where
 
 -- the log has the calls of this thread in the schedule
 pub record HasCalls (o : Opening) (all : List Event) (thread : ℕ) (log : List Call) : Type 0 where
-  pub made : (i : ℕ) → i < length log → (n : ℕ) × (n < length (calls_of o all)) × ((call (calls_of o all) n).thread ≡ thread) × IsStamped all (call log i) (call (calls_of o all) n)
-  pub logged : (n : ℕ) → n < length (calls_of o all) → (call (calls_of o all) n).thread ≡ thread → (i : ℕ) × (i < length log) × IsStamped all (call log i) (call (calls_of o all) n)
+  pub made : (i : ℕ) → i < length log → (n : ℕ) × (n < length (calls_of o all)) × ((call (calls_of o all) n).thread ≡ thread)
+      × IsStamped all (call log i) (call (calls_of o all) n)
+  pub logged : (n : ℕ) → n < length (calls_of o all) → (call (calls_of o all) n).thread ≡ thread → (i : ℕ) × (i < length log)
+      × IsStamped all (call log i) (call (calls_of o all) n)
 
 -- What is always so of a log: it has the calls of the pass in the schedule that it has seen, each between two ticks of its own,
 -- one after the other, and the pass has made no tick but these
 pub record IsLogIn (o : Opening) (thread : ℕ) (seen : List Event) (log : List Call) : Type 0 where
   pub count : ticks (own thread seen) ≡ 2 * length log
   pub room : length log ≤ o.calls
-  pub mine : Each (λ c. c.thread ≡ thread) log
+  pub mine : AllByRecursion (λ c. c.thread ≡ thread) log
   pub in_turn : EachPair (λ c d. EndsBelow c.end d.first) log
-  pub past : Each (λ c. EndsBelow c.end (ticks seen)) log
+  pub past : AllByRecursion (λ c. EndsBelow c.end (ticks seen)) log
   pub calls : HasCalls o seen thread log
 
 abbrev pub IsLog : Known → List Call → Type 0
@@ -131,7 +134,7 @@ new_logs ps = map (λ p. logged_by p []) ps
 pub record Gathers (o : Opening) (ps : List Logged) (h : List Call) : Type 0 where
   pub each_once : IsPermutation (all_logs ps) h
   pub rising : (i j : ℕ) → i < j → j < length h → (call h i).first < (call h j).first
-  pub each_log : Each (λ p. calls_by p.pass.thread h ≡ p.log) ps
+  pub each_log : AllByRecursion (λ p. calls_by p.pass.thread h ≡ p.log) ps
   pub order : List ℕ
   pub legal : IsLegal o.shape.k h order
   pub few_certainly_overtake : HasDistinctItems h → (c : ℕ) → IsDoneEnqueue h c → certainly_overtaken h c < o.shape.k

@@ -51,7 +51,8 @@ module _ {T : Type 0} where
     pub goes : going v.0.opened.shape (place_of here (thread_of v.0)) begin ≡ Some from
     pub word_is : word ≡ found v.0.opened.shape here from
     pub out : 0 < v.0.opened.tokens → (begun_hand begin v.1 (hand_of v.0)).out ≡ out_at from
-    pub taken : 0 < v.0.opened.tokens → (x : ℕ) → move from word ≡ Takes x → (0 < x) × ((payload : T) × (beside x ((gifts_of v.0 ++ given) ++ gift begin v.1) ≡ Some payload))
+    pub taken : 0 < v.0.opened.tokens → (x : ℕ) → move from word ≡ Takes x → (0 < x)
+        × ((payload : T) × (beside x ((gifts_of v.0 ++ given) ++ gift begin v.1) ≡ Some payload))
     pub in_turn : InTurn ((seen_of v.0 ++ between) ++ event (thread_of v.0) begin ∷ []) ((gifts_of v.0 ++ given) ++ gift begin v.1)
     pub hand : Hand T
     pub hand_is : hand ≡ hand_after (move from word) ((gifts_of v.0 ++ given) ++ gift begin v.1) (begun_hand begin v.1 (hand_of v.0))
@@ -118,7 +119,8 @@ module _ {T : Type 0} where
     pub in_turn : InTurn ((seen_of v.0 ++ between) ++ last ∷ []) (gifts_of v.0 ++ given)
     pub gift_is : (earlier : Gifts T) × (later : Gifts T) × (given ≡ earlier ++ (gift begin v.1 ++ later))
     pub at_home : hand.at_home ≡ (hand_of v.0).at_home
-    pub leaves : 0 < v.0.opened.tokens → (own : ℕ) (payload : Option T) → HasOwn begin v own payload → Leaves own payload (gifts_of v.0 ++ given) hand next
+    pub leaves : 0 < v.0.opened.tokens → (own : ℕ) (payload : Option T) → HasOwn begin v own payload
+        → Leaves own payload (gifts_of v.0 ++ given) hand next
     pub last_own : last.thread ≡ thread_of v.0
     pub own_run : IsOwnRun (thread_of v.0) begin (own (thread_of v.0) (between ++ last ∷ []))
     pub reached : world_after v.0.opened (seen_of v.0 ++ between) ≡ Some before

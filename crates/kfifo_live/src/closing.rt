@@ -1,10 +1,10 @@
 //! Closing a queue.
-ghost use Rattle.std.specs.Prelude.{◌≡◌, ◌<◌, ◌≤◌, ◌+◌, ◌*◌, ◌↔◌, ◌==◌, [], IfOk, length, slice_index, IsErrOf, IsTrue};
+ghost use Rattle.std.specs.Prelude.{◌≡◌, ◌<◌, ◌≤◌, ◌+◌, ◌*◌, ◌↔◌, ◌==◌, [], IfOk, length, slice_index, IsErrOf, IsTrue, All};
 ghost use Rattle.std.specs.List.{list_any};
 ghost use Rattle.core.specs.Mem.Slots.{slots_items, slots_len, IsFull};
 ghost use Rattle.kfifo_words.specs.Words.{head_of};
 ghost use Rattle.kfifo_live.specs.Left.{items_left};
-ghost use Rattle.kfifo_live.specs.Pass.{queue_of, AllOf, IsGathered, Closes, IsComplete};
+ghost use Rattle.kfifo_live.specs.Pass.{queue_of, IsOf, IsGathered, Closes, IsComplete};
 ghost use Rattle.kfifo_live.specs.declared.fault.CloseFault.TheVariants.{MissingPass};
 
 use crate::fault::CloseFault;
@@ -83,7 +83,7 @@ pub(crate) fn read_items(
 /// A seat with the parts of all passes.
 fn gather_all(shared: &Words<()>, mut seat: ThreadSeat<()>, mut passes: Vec<Pass>) -> ThreadSeat<()>
     requires table { (seat.table_id ≡ shared.now.table_id) × (0 < shared.now.table_id.words) }
-    requires of { AllOf (queue_of seat.table_id seat.me.0.opened) passes.items }
+    requires of { All (IsOf (queue_of seat.table_id seat.me.0.opened)) passes.items }
     ensures table { result.table_id ≡ seat.table_id }
     ensures all { IsGathered seat.me.0 passes.items result.me.0 }
 {
@@ -105,7 +105,7 @@ fn gather_all(shared: &Words<()>, mut seat: ThreadSeat<()>, mut passes: Vec<Pass
 /// MissingPass where not each pass of the opening is there once, which is tested first; Memory where
 /// an allocation failed. The items are then lost to the caller.
 pub fn close(alloc: Global, queue: Queue, mut passes: Vec<Pass>) -> Result<Vec<u32>, CloseFault>
-    requires { AllOf queue passes.items }
+    requires { All (IsOf queue) passes.items }
     ensures ok { IfOk result (λ items. Closes queue passes.items items.items) }
     ensures missing { IsErrOf result MissingPass ↔ ¬ IsComplete queue.opened.threads passes.items }
 {

@@ -25,7 +25,8 @@ pub fn meet(queue: &Queue, first: &mut Pass, second: &mut Pass)
     ensures same { IsSame second.old second.new }
     ensures all_of_first { Begins first.old.thread first.old.seen second.new.seen }
     ensures others { Begins second.old.thread second.old.seen second.new.seen }
-    ensures exactly { (before : List Event) → StartsWith second.old.seen before → StartsWith before first.old.seen → own first.old.thread before ≡ own first.old.thread first.old.seen }
+    ensures exactly { (before : List Event) → StartsWith second.old.seen before → StartsWith before first.old.seen
+        → own first.old.thread before ≡ own first.old.thread first.old.seen }
     ensures promise { KeepsPromise first.new.opened first.new.seen × KeepsPromise second.new.opened second.new.seen }
 {
     let shared = &queue.table.shared;

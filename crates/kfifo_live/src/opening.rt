@@ -1,8 +1,8 @@
 //! Opening a queue.
-ghost use Rattle.std.specs.Prelude.{◌≡◌, ◌<◌, ◌≤◌, ◌+◌, ◌⊎◌, ◌↔◌, [], IfOk, IsErrOf, length};
+ghost use Rattle.std.specs.Prelude.{◌≡◌, ◌<◌, ◌≤◌, ◌+◌, ◌⊎◌, ◌↔◌, [], IfOk, IsErrOf, length, All};
 ghost use Rattle.kfifo_linear.specs.Headline.{HasLegalOrder, FewOvertake, FewCertainlyOvertake};
 ghost use Rattle.kfifo_live.specs.Schedule.{IsSmall, opening, stamped_opening, fresh, view_of};
-ghost use Rattle.kfifo_live.specs.Pass.{IsZeroed, queue_of, new_passes};
+ghost use Rattle.kfifo_live.specs.Pass.{IsZeroed, queue_of, new_passes, IsOf};
 ghost use Rattle.kfifo_live.specs.declared.fault.OpenFault.TheVariants.{CallsOutOfRange, ThreadsOutOfRange, TokensOutOfRange};
 
 use crate::fault::OpenFault;
@@ -23,7 +23,8 @@ fn deal(
 ) -> Result<Vec<Pass>, AllocError>
     requires table { (seat.table_id ≡ shared.now.table_id) × (0 < shared.now.table_id.words) }
     requires few { IsSmall seat.me.0.opened }
-    requires seat { (seat.me.1 ≡ []) × (seat.me.0 ≡ view_of seat.me.0.opened (fresh seat.me.0.opened.tokens 0 threads)) × (seat.me.0.opened.threads ≡ threads) }
+    requires seat { (seat.me.1 ≡ []) × (seat.me.0 ≡ view_of seat.me.0.opened (fresh seat.me.0.opened.tokens 0 threads))
+        × (seat.me.0.opened.threads ≡ threads) }
     ensures { IfOk result (λ ps. ps.items ≡ new_passes (queue_of seat.table_id seat.me.0.opened) 0 threads) }
 {
     let mut passes = Vec::with_capacity(alloc, threads as usize)?;
@@ -75,6 +76,7 @@ impl Queue {
     /// order of its calls; in it, where the items are distinct, none is overtaken k times.
     pub fn open(alloc: Global, shape: Shape, threads: u32) -> Result<(Queue, Vec<Pass>), OpenFault>
         ensures ok { IfOk result (λ r. (r.0.opened ≡ opening shape threads) × (r.1.items ≡ new_passes r.0 0 threads)) }
+        ensures of { IfOk result (λ r. All (IsOf r.0) r.1.items) }
         ensures threads { IsErrOf result ThreadsOutOfRange ↔ ((threads ≡ 0) ⊎ (64 < threads)) }
         ensures tokens { ¬ IsErrOf result TokensOutOfRange }
         ensures calls { ¬ IsErrOf result CallsOutOfRange }

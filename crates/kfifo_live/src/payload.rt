@@ -35,7 +35,8 @@ impl<T: Drop> Model for PayQueue<T> {
 
     ghost view = { λ q. queue_of q.table.shared.table_id (pay_opening q.shape q.threads q.tokens) };
 
-    ghost invariant = { λ q. (q.table.shared.key ≡ pay_opening q.shape q.threads q.tokens) × (q.table.shared.table_id.words ≡ 2 + q.shape.n * q.shape.k) × (q.table.shared.table_id.slots ≡ q.threads * q.tokens) };
+    ghost invariant = { λ q. (q.table.shared.key ≡ pay_opening q.shape q.threads q.tokens)
+        × (q.table.shared.table_id.words ≡ 2 + q.shape.n * q.shape.k) × (q.table.shared.table_id.slots ≡ q.threads * q.tokens) };
 }
 
 /// What a thread gives and takes payloads with, and the tokens that it has. It may go to another thread between two

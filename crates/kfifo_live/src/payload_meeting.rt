@@ -20,7 +20,8 @@ impl<T: Drop> PayQueue<T> {
         ensures all_of_first { Begins first.old.pass.thread first.old.pass.seen second.new.pass.seen }
         ensures others { Begins second.old.pass.thread second.old.pass.seen second.new.pass.seen }
         ensures gifts { GivesOn first.old second.new × GivesOn second.old second.new }
-        ensures promise { KeepsPromise first.new.pass.opened first.new.pass.seen × KeepsPromise second.new.pass.opened second.new.pass.seen }
+        ensures promise { KeepsPromise first.new.pass.opened first.new.pass.seen
+            × KeepsPromise second.new.pass.opened second.new.pass.seen }
     {
         let shared = &self.table.shared;
         let whole = give_all(shared, &mut first.seat);

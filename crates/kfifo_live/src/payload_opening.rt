@@ -1,7 +1,7 @@
 //! Opening a queue of payloads.
-ghost use Rattle.std.specs.Prelude.{◌≡◌, ◌<◌, ◌≤◌, ◌+◌, ◌*◌, ◌⊎◌, ◌↔◌, [], IfOk, IsErrOf, reverse, vec_capacity};
+ghost use Rattle.std.specs.Prelude.{◌≡◌, ◌<◌, ◌≤◌, ◌+◌, ◌*◌, ◌⊎◌, ◌↔◌, [], IfOk, IsErrOf, reverse, vec_capacity, All};
 ghost use Rattle.kfifo_live.specs.Schedule.{IsSmall, count_up, fresh, view_of};
-ghost use Rattle.kfifo_live.specs.Pass.{IsZeroed, queue_of};
+ghost use Rattle.kfifo_live.specs.Pass.{IsZeroed, queue_of, IsOf};
 ghost use Rattle.kfifo_live.specs.Payloads.{new_pay_passes, pay_opening};
 ghost use Rattle.kfifo_live.specs.declared.fault.OpenFault.TheVariants.{CallsOutOfRange, ThreadsOutOfRange, TokensOutOfRange};
 
@@ -61,29 +61,17 @@ fn deal_tokens<T: Drop>(
 }
 
 impl<T: Drop> PayQueue<T> {
-    /// A queue, and one pass for each thread, numbered from 0, with so many tokens each: pass p has those from
-    /// `p * tokens + 1` to `(p + 1) * tokens`. The passes have seen the empty schedule, after which all words are 0.
-    ///
-    /// ThreadsOutOfRange where the number of threads is not 1 to 64; then TokensOutOfRange where the number of tokens is
-    /// not 1 to 1,024; Memory where an allocation failed. Nothing is kept after a refusal.
-    pub fn open(
+    /// A queue for so many threads, and its passes with so many tokens each.
+    fn open_for(
         alloc: Global,
         shape: Shape,
         threads: u32,
         tokens: u32,
-    ) -> Result<(PayQueue<T>, Vec<PayPass<T>>), OpenFault>
-        ensures ok { IfOk result (λ r. (r.0.opened ≡ pay_opening shape threads tokens) × (r.1.items ≡ new_pay_passes r.0 0 threads)) }
-        ensures threads { IsErrOf result ThreadsOutOfRange ↔ ((threads ≡ 0) ⊎ (64 < threads)) }
-        ensures tokens { IsErrOf result TokensOutOfRange ↔ ((1 ≤ threads) × (threads ≤ 64) × ((tokens ≡ 0) ⊎ (1024 < tokens))) }
-        ensures calls { ¬ IsErrOf result CallsOutOfRange }
-        ensures zeroed { IfOk result (λ r. IsZeroed r.0.opened) }
+    ) -> Result<(PayQueue<T>, Vec<PayPass<T>>), AllocError>
+        requires threads { (0 < threads) × (threads ≤ 64) }
+        requires tokens { (0 < tokens) × (tokens ≤ 1024) }
+        ensures { IfOk result (λ r. (r.0.opened ≡ pay_opening shape threads tokens) × (r.1.items ≡ new_pay_passes r.0 0 threads)) }
     {
-        if threads == 0 || threads > MAX_THREADS {
-            return Err(OpenFault::ThreadsOutOfRange);
-        }
-        if tokens == 0 || tokens > MAX_TOKENS {
-            return Err(OpenFault::TokensOutOfRange);
-        }
         let words = vec![in alloc; 0; 2 + shape.n() as usize * shape.k() as usize]?;
         let about = Opening {
             shape,
@@ -101,5 +89,33 @@ impl<T: Drop> PayQueue<T> {
             tokens,
         };
         Ok((queue, passes))
+    }
+
+    /// A queue, and one pass for each thread, numbered from 0, with so many tokens each: pass p has those from
+    /// `p * tokens + 1` to `(p + 1) * tokens`. The passes have seen the empty schedule, after which all words are 0.
+    ///
+    /// ThreadsOutOfRange where the number of threads is not 1 to 64; then TokensOutOfRange where the number of tokens is
+    /// not 1 to 1,024; Memory where an allocation failed. Nothing is kept after a refusal.
+    pub fn open(
+        alloc: Global,
+        shape: Shape,
+        threads: u32,
+        tokens: u32,
+    ) -> Result<(PayQueue<T>, Vec<PayPass<T>>), OpenFault>
+        ensures ok { IfOk result (λ r. (r.0.opened ≡ pay_opening shape threads tokens) × (r.1.items ≡ new_pay_passes r.0 0 threads)) }
+        ensures of { IfOk result (λ r. All (λ p. IsOf r.0 p.pass) r.1.items) }
+        ensures threads { IsErrOf result ThreadsOutOfRange ↔ ((threads ≡ 0) ⊎ (64 < threads)) }
+        ensures tokens { IsErrOf result TokensOutOfRange ↔ ((1 ≤ threads) × (threads ≤ 64) × ((tokens ≡ 0) ⊎ (1024 < tokens))) }
+        ensures calls { ¬ IsErrOf result CallsOutOfRange }
+        ensures zeroed { IfOk result (λ r. IsZeroed r.0.opened) }
+    {
+        if threads == 0 || threads > MAX_THREADS {
+            return Err(OpenFault::ThreadsOutOfRange);
+        }
+        if tokens == 0 || tokens > MAX_TOKENS {
+            return Err(OpenFault::TokensOutOfRange);
+        }
+        let opened = PayQueue::open_for(alloc, shape, threads, tokens)?;
+        Ok(opened)
     }
 }

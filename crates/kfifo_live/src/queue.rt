@@ -33,7 +33,9 @@ impl Model for Queue {
 
     ghost view = { λ q. queue_of q.table.shared.table_id (stamped_opening q.shape q.threads q.calls) };
 
-    ghost invariant = { λ q. (q.table.shared.key ≡ stamped_opening q.shape q.threads q.calls) × (q.table.shared.table_id.words ≡ 2 + q.shape.n * q.shape.k) × (q.table.shared.table_id.slots ≡ 0) × (0 < q.threads) × (q.threads ≤ 64) × (q.calls ≤ 1024) };
+    ghost invariant = { λ q. (q.table.shared.key ≡ stamped_opening q.shape q.threads q.calls)
+        × (q.table.shared.table_id.words ≡ 2 + q.shape.n * q.shape.k) × (q.table.shared.table_id.slots ≡ 0) × (0 < q.threads)
+        × (q.threads ≤ 64) × (q.calls ≤ 1024) };
 }
 
 /// What a thread makes its calls with. It may go to another thread between two calls.

@@ -1,9 +1,8 @@
 //! Opening a queue for stamped calls, and gathering their records.
-ghost use Rattle.std.specs.Prelude.{◌≡◌, ◌<◌, ◌≤◌, ◌⊎◌, ◌↔◌, ◌==◌, IfOk, IsErrOf, IsTrue, length};
-ghost use Rattle.std.specs.List.{list_any};
-ghost use Rattle.kfifo_model.specs.Lists.{Each};
+ghost use Rattle.std.specs.Prelude.{◌≡◌, ◌<◌, ◌≤◌, ◌⊎◌, ◌↔◌, ◌==◌, IfOk, IsErrOf, IsTrue, length, All};
+ghost use Rattle.std.specs.List.{list_any, AllByRecursion};
 ghost use Rattle.kfifo_live.specs.Schedule.{stamped_opening};
-ghost use Rattle.kfifo_live.specs.Pass.{AllOf, IsComplete, IsZeroed, new_passes};
+ghost use Rattle.kfifo_live.specs.Pass.{IsComplete, IsOf, IsZeroed, new_passes};
 ghost use Rattle.kfifo_live.specs.Stamps.{Gathers, IsLog, all_logs, new_logs, passes_of};
 ghost use Rattle.kfifo_live.specs.declared.fault.OpenFault.TheVariants.{CallsOutOfRange, ThreadsOutOfRange, TokensOutOfRange};
 ghost use Rattle.kfifo_live.specs.declared.fault.GatherFault.TheVariants.{MissingPass};
@@ -46,7 +45,9 @@ impl StampQueue {
         threads: u32,
         calls: u32,
     ) -> Result<(StampQueue, Vec<StampPass>), OpenFault>
-        ensures ok { IfOk result (λ r. (r.0.opened ≡ stamped_opening shape threads calls) × (r.1.items ≡ new_logs (new_passes r.0 0 threads))) }
+        ensures ok { IfOk result (λ r. (r.0.opened ≡ stamped_opening shape threads calls)
+            × (r.1.items ≡ new_logs (new_passes r.0 0 threads))) }
+        ensures of { IfOk result (λ r. All (λ p. IsOf r.0 p.pass) r.1.items) }
         ensures threads { IsErrOf result ThreadsOutOfRange ↔ ((threads ≡ 0) ⊎ (64 < threads)) }
         ensures calls { IsErrOf result CallsOutOfRange ↔ ((0 < threads) × (threads ≤ 64) × ((calls ≡ 0) ⊎ (1024 < calls))) }
         ensures tokens { ¬ IsErrOf result TokensOutOfRange }
@@ -90,7 +91,7 @@ fn are_complete(passes: &[StampPass], threads: u32) -> bool
 fn take_logs(alloc: Global, passes: Vec<StampPass>) -> Result<(Vec<Call>, Vec<Pass>), AllocError>
     ensures logs { IfOk result (λ r. r.0.items ≡ all_logs passes.items) }
     ensures passes { IfOk result (λ r. r.1.items ≡ passes_of passes.items) }
-    ensures are_logs { IfOk result (λ r. Each (λ p. IsLog p.pass p.log) passes.items) }
+    ensures are_logs { IfOk result (λ r. AllByRecursion (λ p. IsLog p.pass p.log) passes.items) }
 {
     let mut calls = Vec::new(alloc);
     let mut plain = Vec::with_capacity(alloc, passes.len())?;
@@ -112,7 +113,7 @@ pub fn gather(
     queue: StampQueue,
     passes: Vec<StampPass>,
 ) -> Result<History, GatherFault>
-    requires { AllOf queue (passes_of passes.items) }
+    requires { All (λ p. IsOf queue p.pass) passes.items }
     ensures ok { IfOk result (λ history. Gathers queue.opened passes.items history) }
     ensures missing { IsErrOf result MissingPass ↔ ¬ IsComplete queue.opened.threads (passes_of passes.items) }
 {

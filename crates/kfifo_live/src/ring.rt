@@ -67,7 +67,8 @@ impl<T> Ring<'_, T> {
         requires picked { C.begin ≡ begin }
         requires rests { Rests self (Some begin) seat.old }
         requires first { BeginsAtEnds self.shape.now begin }
-        ensures { (place : Running) → going self.entry.shape.now None (Some begin) ≡ Some place → Runs (Some begin) seat.old (advance self.entry.shape.now place result) seat.new }
+        ensures { (place : Running) → going self.entry.shape.now None (Some begin) ≡ Some place
+            → Runs (Some begin) seat.old (advance self.entry.shape.now place result) seat.new }
     {
         Ends::of_bits(self.words.load::<FirstStep<C>>(seat, ENDS))
     }

@@ -1,8 +1,7 @@
 //! Scans of a segment.
 ghost use Rattle.std.specs.Prelude.{◌≡◌, ◌<◌, ◌≤◌, ◌+◌, ◌-◌, ℕ, Bool};
 ghost use Rattle.kfifo_words.specs.Ring.{slot_at};
-ghost use Rattle.kfifo_live.specs.Step.{Comes, Stands};
-ghost use Rattle.kfifo_live.specs.Scans.{Row, Scan, after_row, is_empty, is_filled};
+ghost use Rattle.kfifo_live.specs.Scans.{EndsRow, EndsScan, MakesRow, MakesScan, is_empty, is_filled};
 
 use crate::ring::Ring;
 use crate::view::ThreadSeat;
@@ -46,8 +45,8 @@ impl<T> Ring<'_, T> {
     /// Looks for a filled slot, or for an empty one, from the index `first` up to before `end`, at one slot at least.
     #[inline(always)]
     fn scan_row<W: Wanted>(self, seat: &mut ThreadSeat<T>, first: usize, end: usize) -> Found
-        requires row { (row : Row self.shape.now W.stops first (end - first)) × Stands self seat.old (row.scan.looking row.offset) }
-        ensures { (row : Row self.entry.shape.now W.stops first (end - first)) → Stands self.entry seat.old (row.scan.looking row.offset) → Comes seat.old (after_row row result) seat.new }
+        requires row { MakesRow self W.stops first (end - first) seat.old }
+        ensures { EndsRow self.entry W.stops first (end - first) seat.old result seat.new }
     {
         let mut index = first;
         'slots: loop {
@@ -67,8 +66,8 @@ impl<T> Ring<'_, T> {
     /// It is for the second row of a scan, which few scans come to but those of an empty segment.
     #[inline(always)]
     fn scan_row_by_two<W: Wanted>(self, seat: &mut ThreadSeat<T>, first: usize, count: u32) -> Found
-        requires row { (row : Row self.shape.now W.stops first count) × Stands self seat.old (row.scan.looking row.offset) }
-        ensures { (row : Row self.entry.shape.now W.stops first count) → Stands self.entry seat.old (row.scan.looking row.offset) → Comes seat.old (after_row row result) seat.new }
+        requires row { MakesRow self W.stops first count seat.old }
+        ensures { EndsRow self.entry W.stops first count seat.old result seat.new }
     {
         let end = first + count as usize;
         let mut index = first;
@@ -116,8 +115,8 @@ impl<T> Ring<'_, T> {
         requires origin { origin ≡ slot_at self.shape.now.k segment 0 }
         requires start { start < self.shape.now.k }
         requires limit { (start + 1 < limit) × (limit ≡ self.shape.now.k) }
-        requires scan { (scan : Scan self.shape.now W.stops segment start limit) × Stands self seat.old (scan.looking 1) }
-        ensures { (scan : Scan self.entry.shape.now W.stops segment start limit) → Stands self.entry seat.old (scan.looking 1) → Comes seat.old (scan.leads result) seat.new }
+        requires scan { MakesScan self W.stops segment start limit 1 seat.old }
+        ensures { EndsScan self.entry W.stops segment start limit 1 seat.old result seat.new }
     {
         let first = origin + start as usize + 1;
         let end = origin + limit as usize;
@@ -144,8 +143,8 @@ impl<T> Ring<'_, T> {
         requires origin { origin ≡ slot_at self.shape.now.k segment 0 }
         requires start { start < self.shape.now.k }
         requires limit { (2 ≤ limit) × (limit ≤ self.shape.now.k) }
-        requires scan { (scan : Scan self.shape.now W.stops segment start limit) × Stands self seat.old (scan.looking 1) }
-        ensures { (scan : Scan self.entry.shape.now W.stops segment start limit) → Stands self.entry seat.old (scan.looking 1) → Comes seat.old (scan.leads result) seat.new }
+        requires scan { MakesScan self W.stops segment start limit 1 seat.old }
+        ensures { EndsScan self.entry W.stops segment start limit 1 seat.old result seat.new }
     {
         let first = origin + start as usize + 1;
         let upper = (limit - 1).min(self.shape.k() - start - 1);
@@ -174,8 +173,8 @@ impl<T> Ring<'_, T> {
         requires segment { segment < self.shape.now.n }
         requires start { start < self.shape.now.k }
         requires limit { (1 ≤ limit) × (limit ≤ self.shape.now.k) }
-        requires scan { (scan : Scan self.shape.now W.stops segment start limit) × Stands self seat.old (scan.looking 0) }
-        ensures { (scan : Scan self.entry.shape.now W.stops segment start limit) → Stands self.entry seat.old (scan.looking 0) → Comes seat.old (scan.leads result) seat.new }
+        requires scan { MakesScan self W.stops segment start limit 0 seat.old }
+        ensures { EndsScan self.entry W.stops segment start limit 0 seat.old result seat.new }
     {
         let origin = self.shape.slot_index(segment, 0);
         let index = origin + start as usize;
@@ -203,8 +202,8 @@ impl<T> Ring<'_, T> {
         requires segment { segment < self.shape.now.n }
         requires start { start < self.shape.now.k }
         requires limit { limit ≡ self.shape.now.k }
-        requires scan { (scan : Scan self.shape.now W.stops segment start limit) × Stands self seat.old (scan.looking 0) }
-        ensures { (scan : Scan self.entry.shape.now W.stops segment start limit) → Stands self.entry seat.old (scan.looking 0) → Comes seat.old (scan.leads result) seat.new }
+        requires scan { MakesScan self W.stops segment start limit 0 seat.old }
+        ensures { EndsScan self.entry W.stops segment start limit 0 seat.old result seat.new }
     {
         let origin = self.shape.slot_index(segment, 0);
         let index = origin + start as usize;

@@ -45,7 +45,8 @@ impl Model for StampPass {
 
     ghost view = { λ p. logged_by p.pass p.log.items };
 
-    ghost invariant = { λ p. IsLog p.pass p.log.items × KeepsPromise p.pass.opened p.pass.seen × (p.pass.opened.calls ≤ vec_capacity p.log) };
+    ghost invariant = { λ p. IsLog p.pass p.log.items × KeepsPromise p.pass.opened p.pass.seen
+        × (p.pass.opened.calls ≤ vec_capacity p.log) };
 }
 
 impl Pass {

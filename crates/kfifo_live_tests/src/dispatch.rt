@@ -1,14 +1,12 @@
 //! What no contract says of a dispatch: that workers do the work, and do it at the same time.
 
-use kfifo_dispatch::{DispatchFault, Finished, Gate, OpenGate, Starts, Task, dispatch};
-use kfifo_words::Shape;
+use crate::plain::dispatch;
+use kfifo_dispatch::{DispatchFault, Finished, Gate, OpenGate, Starts, Task};
+use kfifo_words::{MAX_VERSION, Shape};
 use std::sync::atomic::{AtomicU64, Ordering};
 use std::test::Fail;
 use std::thread::yield_now;
 use std::time::Instant;
-
-/// The greatest version that a word can have, 2^40 - 1.
-const LAST: u64 = 1_099_511_627_775;
 
 /// So many looks a worker waits for the others.
 const LOOKS: u32 = 16_777_216;
@@ -37,7 +35,7 @@ fn finishes_all_tasks(rt: HostRuntime) -> Result<(), Fail> {
             [finished(1, 6_442_418_175)].as_slice(),
         ),
     ] {
-        let shape = Shape::new(2, 2, LAST)?;
+        let shape = Shape::new(2, 2, MAX_VERSION)?;
         let done = dispatch(&rt, rt.alloc(), tasks, workers, shape, 0, &OpenGate)?;
         assert_eq!(rt; done.as_slice(), list);
     }
@@ -55,7 +53,7 @@ fn refuses_in_the_stated_order(rt: HostRuntime) -> Result<(), Fail> {
         (apart.as_slice(), 64, DispatchFault::WorkersOutOfRange),
         (apart.as_slice(), 0, DispatchFault::WorkersOutOfRange),
     ] {
-        let shape = Shape::new(2, 2, LAST)?;
+        let shape = Shape::new(2, 2, MAX_VERSION)?;
         let Err(refused) = dispatch(&rt, rt.alloc(), tasks, workers, shape, 0, &OpenGate) else {
             panic!(rt; "dispatched {} tasks", tasks.len());
         };
@@ -125,7 +123,7 @@ impl Gate for Counting {
 /// Two workers wait for each other before they take their first tasks.
 #[test]
 fn workers_run_at_the_same_time(rt: HostRuntime) -> Result<(), Fail> {
-    let shape = Shape::new(2, 2, LAST)?;
+    let shape = Shape::new(2, 2, MAX_VERSION)?;
     let gate = Counting::new(true, 0);
     let tasks = [task(1, 2, 0), task(2, 2, 0)];
     let done = dispatch(&rt, rt.alloc(), tasks.as_slice(), 2, shape, 0, &gate)?;
@@ -140,7 +138,7 @@ fn workers_run_at_the_same_time(rt: HostRuntime) -> Result<(), Fail> {
 /// While worker 1 is held back, worker 2 does all units of both tasks.
 #[test]
 fn one_worker_does_the_work_of_another(rt: HostRuntime) -> Result<(), Fail> {
-    let shape = Shape::new(2, 2, LAST)?;
+    let shape = Shape::new(2, 2, MAX_VERSION)?;
     let gate = Counting::new(false, 4);
     let tasks = [task(1, 2, 0), task(2, 2, 0)];
     let done = dispatch(&rt, rt.alloc(), tasks.as_slice(), 2, shape, 0, &gate)?;
@@ -176,7 +174,7 @@ impl Gate for Order {
 /// One worker on a ring of two slots does a unit of each task in turn.
 #[test]
 fn tasks_go_round(rt: HostRuntime) -> Result<(), Fail> {
-    let shape = Shape::new(1, 2, LAST)?;
+    let shape = Shape::new(1, 2, MAX_VERSION)?;
     let order = Order {
         workers: AtomicU64::new(0),
         tasks: AtomicU64::new(0),
@@ -195,7 +193,7 @@ fn tasks_go_round(rt: HostRuntime) -> Result<(), Fail> {
 /// One worker takes tasks in the order that its starts give: each time the first that is there from the start on, round the segment.
 #[test]
 fn the_seed_picks_the_starts(rt: HostRuntime) -> Result<(), Fail> {
-    let shape = Shape::new(4, 2, LAST)?;
+    let shape = Shape::new(4, 2, MAX_VERSION)?;
     let tasks = [task(1, 1, 0), task(2, 1, 0), task(3, 1, 0), task(4, 1, 0)];
     for seed in [0, 1, 7, 9_223_372_036_854_775_808u64] {
         let order = Order {
@@ -228,7 +226,7 @@ fn the_seed_picks_the_starts(rt: HostRuntime) -> Result<(), Fail> {
 /// A task that the queue refuses is worked off by the caller, who is worker 0.
 #[test]
 fn the_caller_works_off_what_is_refused(rt: HostRuntime) -> Result<(), Fail> {
-    let shape = Shape::new(1, 2, LAST)?;
+    let shape = Shape::new(1, 2, MAX_VERSION)?;
     let gate = Counting::new(false, 0);
     let tasks = [task(1, 2, 0), task(2, 3, 0), task(3, 4, 0)];
     let done = dispatch(&rt, rt.alloc(), tasks.as_slice(), 1, shape, 0, &gate)?;
@@ -242,7 +240,7 @@ fn the_caller_works_off_what_is_refused(rt: HostRuntime) -> Result<(), Fail> {
 /// A worker ends after 65,536 takes, and the caller works off what is left in the queue.
 #[test]
 fn a_worker_takes_so_often_at_most(rt: HostRuntime) -> Result<(), Fail> {
-    let shape = Shape::new(2, 2, LAST)?;
+    let shape = Shape::new(2, 2, MAX_VERSION)?;
     let gate = Counting::new(false, 0);
     let tasks = [task(1, 65_535, 0), task(2, 65_535, 0)];
     let done = dispatch(&rt, rt.alloc(), tasks.as_slice(), 1, shape, 0, &gate)?;
@@ -274,7 +272,7 @@ fn a_worn_queue_leaves_the_work_to_the_caller(rt: HostRuntime) -> Result<(), Fai
 /// Holds whichever one request of the dispatch for memory fails, and fails where a call always gives up.
 #[test]
 fn refused_memory(rt: HostRuntime) -> Result<(), Fail> {
-    let shape = Shape::new(1, 2, LAST)?;
+    let shape = Shape::new(1, 2, MAX_VERSION)?;
     let tasks = [task(9, 2, 5), task(2, 1, 1), task(3, 0, 7)];
     let done = match dispatch(&rt, rt.alloc(), tasks.as_slice(), 2, shape, 0, &OpenGate) {
         Err(DispatchFault::Memory) => {
@@ -309,7 +307,7 @@ impl Gate for Laborious {
 /// lists and the work done are the same.
 #[test]
 fn times_of_workers(rt: HostRuntime) -> Result<(), Fail> {
-    let shape = Shape::new(4, 32, LAST)?;
+    let shape = Shape::new(4, 32, MAX_VERSION)?;
     let mut tasks = Vec::new(rt.alloc());
     for id in 0..64u32 {
         tasks.push(task(id, 256, 0))?;

@@ -9,4 +9,6 @@ mod live;
 #[cfg(test)]
 mod pages;
 #[cfg(test)]
+mod plain;
+#[cfg(test)]
 mod record;

@@ -2,10 +2,12 @@
 ghost use Rattle.std.specs.Prelude.{◌≡◌, ◌<◌, ◌≤◌, ◌+◌, ◌*◌};
 ghost use Rattle.kfifo_live.specs.Pass.{IsOf, IsSame};
 
+use crate::plain;
+use crate::plain::{open_one, start, step};
 use kfifo_live::{CloseFault, OpenFault, Pass, Queue};
-use kfifo_machine::{Begin, Event, Outcome, State, start, step};
-use kfifo_model::Answer;
-use kfifo_words::{Ends, Shape, Word};
+use kfifo_machine::{Begin, Event, Outcome, State};
+use kfifo_model::{Answer, MAX_ITEM};
+use kfifo_words::{Ends, MAX_VERSION, Shape, Word};
 use std::alloc::Global;
 use std::process::Abort;
 use std::test::Fail;
@@ -13,8 +15,6 @@ use std::test::Fail;
 mod payloads;
 pub(crate) mod stamps;
 mod threads;
-
-const LAST: u64 = 1_099_511_627_775;
 
 fn enqueue(item: u32, start: u32, turns: u16) -> Begin {
     Begin::Enqueue { item, start, turns }
@@ -32,15 +32,15 @@ fn call(queue: &Queue, pass: &mut Pass, begin: Begin) -> Option<Answer>
     let k = queue.shape().k();
     match begin {
         Begin::Enqueue { item, start, turns } => {
-            if 0 < item && item < 1 << 24 && start < k && 0 < turns {
-                Some(pass.enqueue(queue, item, start, turns))
+            if 0 < item && item <= MAX_ITEM && start < k && 0 < turns {
+                Some(plain::enqueue(queue, pass, item, start, turns))
             } else {
                 None
             }
         }
         Begin::Dequeue { start, turns } => {
             if start < k && 0 < turns {
-                Some(pass.dequeue(queue, start, turns))
+                Some(plain::dequeue(queue, pass, start, turns))
             } else {
                 None
             }
@@ -86,11 +86,8 @@ fn check_calls(
     shape: Shape,
     calls: &[(Begin, Answer)],
 ) -> Result<(), Fail> {
-    let (queue, mut passes) = Queue::open(alloc, shape, 1)?;
+    let (queue, mut pass) = open_one(alloc, shape)?;
     let mut state = start(alloc, shape, 1)?;
-    let Some(mut pass) = passes.pop() else {
-        unreachable!()
-    };
     for (begin, answer) in calls {
         assert_eq!(rt; call(&queue, &mut pass, *begin), Some(*answer), "{begin:?}");
         assert_eq!(rt; drive(&mut state, *begin), Some(*answer), "{begin:?}");
@@ -101,7 +98,7 @@ fn check_calls(
 
 #[test]
 fn makes_calls_worked_out_by_hand(rt: HostRuntime) -> Result<(), Fail> {
-    let one = Shape::new(1, 2, LAST)?;
+    let one = Shape::new(1, 2, MAX_VERSION)?;
     let fill = [
         (enqueue(7, 0, 1), Answer::Done),
         (enqueue(8, 0, 2), Answer::Done),
@@ -129,7 +126,7 @@ fn makes_calls_worked_out_by_hand(rt: HostRuntime) -> Result<(), Fail> {
         (dequeue(1, 2), Answer::Got(4)),
         (dequeue(1, 2), Answer::Got(3)),
     ];
-    check_calls(&rt, rt.alloc(), Shape::new(2, 2, LAST)?, &relaxed)?;
+    check_calls(&rt, rt.alloc(), Shape::new(2, 2, MAX_VERSION)?, &relaxed)?;
     let worn = [
         (enqueue(7, 0, 1), Answer::Done),
         (dequeue(0, 1), Answer::Got(7)),
@@ -152,11 +149,8 @@ fn draw(seed: &mut u32, bound: u32) -> u32
 
 /// Makes many drawn calls on a queue and on the machine, and compares each answer and each word.
 fn compare(rt: &impl Abort, alloc: Global, shape: Shape, seed: &mut u32) -> Result<(), Fail> {
-    let (queue, mut passes) = Queue::open(alloc, shape, 1)?;
+    let (queue, mut pass) = open_one(alloc, shape)?;
     let mut state = start(alloc, shape, 1)?;
-    let Some(mut pass) = passes.pop() else {
-        unreachable!()
-    };
     let shape = queue.shape();
     for item in 1..200u32 {
         let start = draw(seed, 64) % shape.k();
@@ -179,7 +173,7 @@ fn makes_each_call_as_the_machine_does(rt: HostRuntime) -> Result<(), Fail> {
     let mut seed = 1;
     for k in [1u32, 2, 3, 4, 5, 8, 13] {
         for n in [2u32, 3, 7] {
-            for last in [2u64, 5, 40, LAST] {
+            for last in [2u64, 5, 40, MAX_VERSION] {
                 for probes in 1..k + 1 {
                     let shape = Shape::with_probes(k, n, last, probes)?;
                     compare(&rt, rt.alloc(), shape, &mut seed)?;
@@ -192,7 +186,7 @@ fn makes_each_call_as_the_machine_does(rt: HostRuntime) -> Result<(), Fail> {
 
 #[test]
 fn opens_with_one_pass_for_each_thread(rt: HostRuntime) -> Result<(), Fail> {
-    let shape = Shape::new(2, 3, LAST)?;
+    let shape = Shape::new(2, 3, MAX_VERSION)?;
     for threads in [0, 65, u32::MAX] {
         let Err(fault) = Queue::open(rt.alloc(), shape, threads) else {
             panic!(rt; "{threads} threads");
@@ -228,12 +222,9 @@ fn numbers_faults(rt: HostRuntime) -> Result<(), Fail> {
 
 #[test]
 fn reads_the_words_that_calls_left(rt: HostRuntime) -> Result<(), Fail> {
-    let (queue, mut passes) = Queue::open(rt.alloc(), Shape::new(1, 2, LAST)?, 1)?;
-    let Some(mut pass) = passes.pop() else {
-        unreachable!()
-    };
+    let (queue, mut pass) = open_one(rt.alloc(), Shape::new(1, 2, MAX_VERSION)?)?;
     for item in [7, 8] {
-        assert_eq!(rt; pass.enqueue(&queue, item, 0, 2), Answer::Done);
+        assert_eq!(rt; plain::enqueue(&queue, &mut pass, item, 0, 2), Answer::Done);
     }
     assert_eq!(rt; pass.word(&queue, 0), Ends::pack(0, 1, 2).bits());
     assert_eq!(rt; pass.word(&queue, 1), Word::pack(7, 1).bits());

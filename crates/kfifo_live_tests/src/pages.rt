@@ -3,13 +3,13 @@
 use kfifo_dispatch::{Finished, OpenGate, Task, dispatch};
 use kfifo_live::{Queue, StampQueue, close, gather};
 use kfifo_model::Answer;
-use kfifo_words::Shape;
+use kfifo_words::{MAX_VERSION, Shape};
 use std::test::Fail;
 
 #[test]
 fn the_queue(rt: HostRuntime) -> Result<(), Fail> {
     let alloc = rt.alloc();
-    let shape = Shape::new(4, 256, 1_099_511_627_775)?; // k, segments, greatest version
+    let shape = Shape::new(4, 256, MAX_VERSION)?; // k, segments, greatest version
     let (queue, mut passes) = Queue::open(alloc, shape, 1)?; // one pass for each thread
     let Some(mut pass) = passes.pop() else {
         unreachable!()
@@ -26,7 +26,7 @@ fn the_queue(rt: HostRuntime) -> Result<(), Fail> {
 #[test]
 fn stamped_calls(rt: HostRuntime) -> Result<(), Fail> {
     let alloc = rt.alloc();
-    let shape = Shape::new(4, 256, 1_099_511_627_775)?;
+    let shape = Shape::new(4, 256, MAX_VERSION)?;
     let (queue, mut passes) = StampQueue::open(alloc, shape, 1, 2)?; // room for two calls in each log
     let Some(mut pass) = passes.pop() else {
         unreachable!()
@@ -57,7 +57,7 @@ fn the_dispatcher(rt: HostRuntime) -> Result<(), Fail> {
             sum: 1,
         },
     ];
-    let shape = Shape::new(2, 16, 1_099_511_627_775)?; // k, segments, greatest version
+    let shape = Shape::new(2, 16, MAX_VERSION)?; // k, segments, greatest version
     let list = dispatch(&rt, alloc, tasks.as_slice(), 4, shape, 0, &OpenGate)?; // 4 workers, seed 0
     let finished = [Finished { id: 2, sum: 2 }, Finished { id: 9, sum: 5 }];
     assert_eq!(rt; list.as_slice(), finished.as_slice());

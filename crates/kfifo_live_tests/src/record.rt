@@ -3,19 +3,17 @@ ghost use Rattle.std.specs.Prelude.{◌≡◌, ◌<◌, All, IsTrue};
 ghost use Rattle.kfifo_record.specs.Scripts.{AreScripts, IsCall, scripts_in};
 
 use crate::live::stamps::count_overlaps;
+use crate::plain::{has_order, measure};
 use kfifo_live::OpenFault;
 use kfifo_machine::Begin;
-use kfifo_model::{Answer, Call, End, History, Op, has_order, measure};
+use kfifo_model::{Answer, Call, End, History, MAX_ITEM, Op};
 use kfifo_record::{Gate, OpenGate, record_scripts};
-use kfifo_words::Shape;
+use kfifo_words::{MAX_VERSION, Shape};
 use std::alloc::{AllocError, Global};
 use std::process::Abort;
 use std::sync::atomic::{AtomicU64, Ordering};
 use std::test::Fail;
 use std::thread::{Threads, yield_now};
-
-/// The greatest version that a word can have, 2^40 - 1.
-const LAST: u64 = 1_099_511_627_775;
 
 /// So many looks a thread waits for the others.
 const LOOKS: u32 = 16_777_216;
@@ -41,7 +39,7 @@ fn is_call(shape: &Shape, call: Begin) -> bool
 {
     match call {
         Begin::Enqueue { item, start, turns } => {
-            0 < item && item < 16_777_216 && start < shape.k() && 0 < turns
+            0 < item && item <= MAX_ITEM && start < shape.k() && 0 < turns
         }
         Begin::Dequeue { start, turns } => start < shape.k() && 0 < turns,
         Begin::Tick => false,
@@ -87,7 +85,7 @@ fn stamped(thread: u32, op: Op, first: u64, last: u64, answer: Answer) -> Call {
 
 #[test]
 fn records_one_script_exactly(rt: HostRuntime) -> Result<(), Fail> {
-    let shape = Shape::new(1, 2, LAST)?;
+    let shape = Shape::new(1, 2, MAX_VERSION)?;
     let script = vec![in rt.alloc(); enqueue(7), dequeue(), dequeue()]?;
     let scripts = vec![in rt.alloc(); script]?;
     let history = record(&rt, rt.alloc(), shape, scripts.as_slice(), &OpenGate)?;
@@ -111,7 +109,7 @@ fn dequeues(alloc: Global, scripts: usize, calls: usize) -> Result<Vec<Vec<Begin
 
 #[test]
 fn refuses_in_the_stated_order(rt: HostRuntime) -> Result<(), Fail> {
-    let shape = Shape::new(2, 2, LAST)?;
+    let shape = Shape::new(2, 2, MAX_VERSION)?;
     for (scripts, calls, fault) in [
         (0usize, 0usize, OpenFault::ThreadsOutOfRange),
         (65, 1_025, OpenFault::ThreadsOutOfRange),
@@ -163,7 +161,7 @@ impl Gate for Meeting {
 
 #[test]
 fn runs_scripts_at_the_same_time(rt: HostRuntime) -> Result<(), Fail> {
-    let shape = Shape::new(2, 2, LAST)?;
+    let shape = Shape::new(2, 2, MAX_VERSION)?;
     let first = vec![in rt.alloc(); enqueue(1), dequeue()]?;
     let second = vec![in rt.alloc(); enqueue(2), dequeue()]?;
     let scripts = vec![in rt.alloc(); first, second]?;
@@ -203,7 +201,7 @@ impl Gate for Count {
 
 #[test]
 fn passes_the_gate_before_each_call(rt: HostRuntime) -> Result<(), Fail> {
-    let shape = Shape::new(2, 2, LAST)?;
+    let shape = Shape::new(2, 2, MAX_VERSION)?;
     let scripts = dequeues(rt.alloc(), 3, 50)?;
     let count = Count {
         latest: [AtomicU64::new(0), AtomicU64::new(0), AtomicU64::new(0)],
@@ -315,7 +313,7 @@ fn record_drawn<R: Threads + Abort + Sync>(
 fn short_records_have_legal_orders(rt: HostRuntime) -> Result<(), Fail> {
     let mut seed = 0u32;
     for (k, n, threads, calls) in [(1u32, 2u32, 2u32, 6u32), (2, 2, 3, 4), (3, 2, 4, 3)] {
-        let shape = Shape::new(k, n, LAST)?;
+        let shape = Shape::new(k, n, MAX_VERSION)?;
         for round in 0..100 {
             let history = record_drawn(&rt, rt.alloc(), shape, &mut seed, threads, calls)?;
             assert!(rt; has_order(rt.alloc(), &history, k)?, "{shape:?} {round}");
@@ -333,7 +331,7 @@ fn long_records_overtake_little(rt: HostRuntime) -> Result<(), Fail> {
         (2, 3, 4, 1_024),
         (4, 2, 16, 256),
     ] {
-        let shape = Shape::new(k, n, LAST)?;
+        let shape = Shape::new(k, n, MAX_VERSION)?;
         let history = record_drawn(&rt, rt.alloc(), shape, &mut seed, threads, calls)?;
         overlaps = overlaps.saturating_add(count_overlaps(history.calls()));
         for overtaken in measure(rt.alloc(), &history)? {
@@ -348,7 +346,7 @@ fn long_records_overtake_little(rt: HostRuntime) -> Result<(), Fail> {
 /// Holds whichever one request of the recording for memory fails, and fails where a call always gives up.
 #[test]
 fn refused_memory(rt: HostRuntime) -> Result<(), Fail> {
-    let shape = Shape::new(2, 2, LAST)?;
+    let shape = Shape::new(2, 2, MAX_VERSION)?;
     let scripts = match dequeues(rt.alloc(), 3, 2) {
         Err(_) => dequeues(rt.alloc(), 3, 2)?,
         Ok(scripts) => scripts,

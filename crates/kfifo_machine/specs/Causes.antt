@@ -52,7 +52,8 @@ AllOfRound round (look ∷ looks) = (round_of look.running ≡ round) × AllOfRo
 abbrev pub AllFilled : Shape → ℕ → ℕ → ℕ → List Look → Type 0
 AllFilled shape segment start offset [] = Unit {0}
 AllFilled shape segment start offset (look ∷ looks) =
-    Loads shape look (scan_index shape segment start offset) look.word × (value_of look.word ≢ 0) × AllFilled shape segment start (offset + 1) looks
+    Loads shape look (scan_index shape segment start offset) look.word × (value_of look.word ≢ 0)
+    × AllFilled shape segment start (offset + 1) looks
 
 -- Full: in one round the call loaded the ends word twice as the same word, whose tail's segment is the last before the head's, and
 -- between these two it loaded `probes` filled slots of the tail's segment, from the start on; and it loaded that same word again, and
@@ -82,7 +83,8 @@ pub record CauseOfFull (shape : Shape) (start : ℕ) (all : List Look) : Type 0 
 pub record FindsWorn (shape : Shape) (look : Look) : Type 0 where
   pub index : ℕ
   pub loads : Loads shape look index look.word
-  pub worn : ((0 < index) × (value_of look.word ≡ 0) × (shape.last < version_of look.word + 2)) ⊎ ((index ≡ 0) × (version_of look.word ≡ shape.last))
+  pub worn : ((0 < index) × (value_of look.word ≡ 0) × (shape.last < version_of look.word + 2))
+      ⊎ ((index ≡ 0) × (version_of look.word ≡ shape.last))
 
 -- Worn: in its last round the call had such a look
 pub record CauseOfWorn (shape : Shape) (all : List Look) : Type 0 where
@@ -100,7 +102,8 @@ start_of (B.Dequeue start turns) = start
 start_of B.Tick = 0
 
 -- the looks of a complete execution
-abbrev pub looks_of : (shape : Shape) (threads thread : ℕ) (call : Begin) (answer : Answer) (old new : List Event) → CompleteExecution shape threads thread call answer old new → List Look
+abbrev pub looks_of : (shape : Shape) (threads thread : ℕ) (call : Begin) (answer : Answer) (old new : List Event)
+    → CompleteExecution shape threads thread call answer old new → List Look
 looks_of shape threads thread call answer old new whole = looks shape thread (after shape threads old) (whole.between ++ whole.last ∷ [])
 
 -- a call is answered Full and Worn only with their causes, in every schedule

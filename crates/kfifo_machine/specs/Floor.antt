@@ -14,7 +14,8 @@ abbrev pub NoOverlap : Shape → Option World → List Event → Type 0
 NoOverlap shape world [] = Unit {0}
 NoOverlap shape None (event ∷ events) = Unit {0}
 NoOverlap shape (Some world) (event ∷ events) =
-    (event.begin ≢ Some B.Tick → (other : ℕ) → other ≢ event.thread → place_of world other ≡ None) × NoOverlap shape (world_of (step shape world event)) events
+    (event.begin ≢ Some B.Tick → (other : ℕ) → other ≢ event.thread → place_of world other ≡ None)
+    × NoOverlap shape (world_of (step shape world event)) events
 
 -- 1 where an event ends a call with Done, and with Got
 abbrev pub done_with : Outcome → ℕ
@@ -37,6 +38,7 @@ answers shape one (Some world) (event ∷ events) = counts one (step shape world
 
 -- The floor: where no two calls overlap, an enqueue is Full only where Done was answered over (n - 1) * probes times more often than Got
 abbrev pub Floor : Shape → ℕ → Type 0
-Floor shape threads = (events : List Event) (last : Event) (here world : World) → after shape threads events ≡ Some here → NoOverlap shape (Some (opening shape threads)) (events ++ last ∷ [])
+Floor shape threads = (events : List Event) (last : Event) (here world : World) → after shape threads events ≡ Some here
+    → NoOverlap shape (Some (opening shape threads)) (events ++ last ∷ [])
     → step shape here last ≡ Ok (world, Ended Full)
     → answers shape got_with (Some (opening shape threads)) events + (shape.n - 1) * shape.probes < answers shape done_with (Some (opening shape threads)) events

@@ -76,7 +76,8 @@ tail_ons shape threads events = count shape moves_tail (Some (opening shape thre
 -- No wrap: in every schedule the won tail-ons less the won head-ons are 0 to n - 1
 abbrev pub NoWrap : Shape → ℕ → Type 0
 NoWrap shape threads = (events : List Event) (here : World) → after shape threads events ≡ Some here
-    → (head_ons shape threads events ≤ tail_ons shape threads events) × (tail_ons shape threads events < head_ons shape threads events + shape.n)
+    → (head_ons shape threads events ≤ tail_ons shape threads events)
+    × (tail_ons shape threads events < head_ons shape threads events + shape.n)
 
 -- the most events of a call; a tick has one
 abbrev pub most_events : Shape → Begin → ℕ
@@ -86,7 +87,8 @@ most_events shape B.Tick = 1
 
 -- A call of `turns` rounds has at most `turns * (2k + 9)` own events in every schedule, finished or not
 abbrev pub FewEvents : Shape → ℕ → Type 0
-FewEvents shape threads = (thread : ℕ) (call : Begin) (before events : List Event) (here : World) → after shape threads (before ++ events) ≡ Some here
+FewEvents shape threads = (thread : ℕ) (call : Begin) (before events : List Event) (here : World)
+    → after shape threads (before ++ events) ≡ Some here
     → BeginsOnce thread call (own thread events) → length (own thread events) ≤ most_events shape call
 
 -- an answer that refuses
@@ -110,22 +112,27 @@ pub record PutsNext (shape : Shape) (threads : ℕ) (events : List Event) (threa
 -- A call that ended with Full, Busy or Worn leaves no item of its own: a word that it put is not at its index when the call
 -- has ended, nor ever after
 abbrev pub LeavesNone : Shape → ℕ → Type 0
-LeavesNone shape threads = (thread : ℕ) (call : Begin) (answer : Answer) (old new : List Event) → CompleteExecution shape threads thread call answer old new → IsRefusal answer
-    → (some rest : List Event) (e : Event) (index word : ℕ) → new ≡ (old ++ some) ++ e ∷ rest → e.thread ≡ thread → PutsNext shape threads (old ++ some) thread index word
+LeavesNone shape threads = (thread : ℕ) (call : Begin) (answer : Answer) (old new : List Event)
+    → CompleteExecution shape threads thread call answer old new → IsRefusal answer
+    → (some rest : List Event) (e : Event) (index word : ℕ) → new ≡ (old ++ some) ++ e ∷ rest → e.thread ≡ thread
+    → PutsNext shape threads (old ++ some) thread index word
     → (later : List Event) (here : World) → after shape threads (new ++ later) ≡ Some here → word_at here index ≢ word
 
 -- as a schedule goes on, no word and no version falls
 abbrev pub VersionsRise : Shape → ℕ → Type 0
-VersionsRise shape threads = (events more : List Event) (old new : World) → after shape threads events ≡ Some old → after shape threads (events ++ more) ≡ Some new
+VersionsRise shape threads = (events more : List Event) (old new : World) → after shape threads events ≡ Some old
+    → after shape threads (events ++ more) ≡ Some new
     → NoneFalls old new
 
 -- so a word that stands where it stood before was not changed in between
 abbrev pub NoneReturns : Shape → ℕ → Type 0
 NoneReturns shape threads = (events some more : List Event) (first middle last : World) (i : ℕ)
-    → after shape threads events ≡ Some first → after shape threads (events ++ some) ≡ Some middle → after shape threads ((events ++ some) ++ more) ≡ Some last
+    → after shape threads events ≡ Some first → after shape threads (events ++ some) ≡ Some middle
+    → after shape threads ((events ++ some) ++ more) ≡ Some last
     → word_at last i ≡ word_at first i → word_at middle i ≡ word_at first i
 
 -- a thread is where its own events led it: the events of others leave it there
 abbrev pub OthersLeave : Shape → ℕ → Type 0
-OthersLeave shape threads = (thread : ℕ) (events more : List Event) (old new : World) → after shape threads events ≡ Some old → after shape threads (events ++ more) ≡ Some new
+OthersLeave shape threads = (thread : ℕ) (events more : List Event) (old new : World) → after shape threads events ≡ Some old
+    → after shape threads (events ++ more) ≡ Some new
     → own thread more ≡ [] → place_of new thread ≡ place_of old thread

@@ -30,7 +30,8 @@ IsEnqueuePhase shape (E.Recheck ends (Slot index seen)) = IsEnds shape ends × I
 IsEnqueuePhase shape (E.Put ends index empty) = IsEnds shape ends × (version_of empty + 2 ≤ shape.last) × IsSlotIndex shape index
 IsEnqueuePhase shape (E.ReloadSlot ends index filled) = IsEnds shape ends × (version_of filled < shape.last) × IsSlotIndex shape index
 IsEnqueuePhase shape (E.ReloadEnds ends index filled) = IsEnds shape ends × (version_of filled < shape.last) × IsSlotIndex shape index
-IsEnqueuePhase shape (E.HoldHead index filled held) = IsEnds shape held × (version_of held < shape.last) × (version_of filled < shape.last) × IsSlotIndex shape index
+IsEnqueuePhase shape (E.HoldHead index filled held) = IsEnds shape held × (version_of held < shape.last)
+    × (version_of filled < shape.last) × IsSlotIndex shape index
 IsEnqueuePhase shape (E.Undo index filled worn) = version_of filled < shape.last × IsSlotIndex shape index
 IsEnqueuePhase shape (E.ScanHead ends offset) = IsEnds shape ends × (offset < shape.k)
 IsEnqueuePhase shape (E.ConfirmFull ends) = IsEnds shape ends
@@ -43,7 +44,8 @@ IsDequeuePhase shape D.LoadEnds = Unit {0}
 IsDequeuePhase shape (D.ScanHead ends offset) = IsEnds shape ends × (offset < shape.k)
 IsDequeuePhase shape (D.Recheck ends Nothing) = IsEnds shape ends
 IsDequeuePhase shape (D.Recheck ends (Slot index seen)) = IsEnds shape ends × (version_of seen < shape.last) × IsSlotIndex shape index
-IsDequeuePhase shape (D.MoveTail ends index filled) = IsEnds shape ends × (version_of ends < shape.last) × (version_of filled < shape.last) × IsSlotIndex shape index
+IsDequeuePhase shape (D.MoveTail ends index filled) = IsEnds shape ends × (version_of ends < shape.last)
+    × (version_of filled < shape.last) × IsSlotIndex shape index
 IsDequeuePhase shape (D.Take ends index filled) = version_of filled < shape.last × IsSlotIndex shape index
 IsDequeuePhase shape (D.MoveHead ends) = IsEnds shape ends × (version_of ends < shape.last)
 

@@ -52,9 +52,11 @@ AllBeginFree shape (Some world) (e ∷ es) = BeginsFree shape world e.begin × A
 
 -- no two slots have one item
 abbrev pub NoItemTwice : Shape → World → Type 0
-NoItemTwice shape world = (i j : ℕ) → 0 < i → i < clock_at shape.k shape.n → 0 < j → j < clock_at shape.k shape.n → i ≢ j → value_of (word_at world i) ≢ 0
+NoItemTwice shape world = (i j : ℕ) → 0 < i → i < clock_at shape.k shape.n → 0 < j → j < clock_at shape.k shape.n → i ≢ j
+    → value_of (word_at world i) ≢ 0
     → value_of (word_at world i) ≢ value_of (word_at world j)
 
 -- The law, of every schedule
 abbrev pub ItemsAreTokens : Shape → ℕ → Type 0
-ItemsAreTokens shape threads = (events : List Event) (here : World) → after shape threads events ≡ Some here → AllBeginFree shape (Some (opening shape threads)) events → NoItemTwice shape here
+ItemsAreTokens shape threads = (events : List Event) (here : World) → after shape threads events ≡ Some here
+    → AllBeginFree shape (Some (opening shape threads)) events → NoItemTwice shape here

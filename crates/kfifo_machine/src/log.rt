@@ -76,7 +76,8 @@ impl Log {
     /// The event at this place was made, and came to this.
     fn note(&mut self, place: usize, event: Event, outcome: Outcome) -> Result<(), AllocError>
         requires thread { event.thread < length self.old.latest }
-        requires call { (answer : Answer) → event.begin ≡ None → outcome ≡ Outcome.Ended answer → get_or self.old.latest event.thread 0 < length self.old.calls }
+        requires call { (answer : Answer) → event.begin ≡ None → outcome ≡ Outcome.Ended answer
+            → get_or self.old.latest event.thread 0 < length self.old.calls }
         ensures { IfOk result (λ _. self.new ≡ logged place event.thread event.begin outcome self.old) }
     {
         match (event.begin, outcome) {

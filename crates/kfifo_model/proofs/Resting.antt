@@ -11,7 +11,8 @@ use Rattle.kfifo_model.specs.declared.calls.Answer.{Answer}
 use Rattle.kfifo_model.specs.declared.calls.Answer.TheVariants.{Done, Full, Got, Empty, Busy, Worn}
 use Rattle.kfifo_model.specs.declared.calls.Call.{Call}
 use Rattle.kfifo_model.specs.declared.calls.End.{End}
-use Rattle.kfifo_model.specs.Lists.{IsIn, Each}
+use Rattle.std.specs.List.{AllByRecursion}
+use Rattle.kfifo_model.specs.Lists.{IsIn}
 use Rattle.kfifo_model.specs.Relaxed.{Effect, Adds, Takes, Wrong, IsRun, next, effect}
 use Rattle.kfifo_model.specs.Histories.{call, no_call, does, effect_of, effect_at, CanStand, HasEnd, EndsBelow, Precedes}
 use Rattle.kfifo_model.specs.Validity.{IsHistory, EndsFrom, AnswerInRange, EndInRange}
@@ -76,7 +77,7 @@ not_below_itself (Some end) s e b = omega arith
 never_itself : (h : List Call) (n : ℕ) → IsHistory h → n < length h → Precedes h n n → ⊥
 never_itself h n v lt p = not_below_itself (call h n).end (call h n).first (v n lt).ends p
 
-stands_inside : (h : List Call) (n : ℕ) (rest : List ℕ) → Each (λ c. CanStand (call h c).end (call h c).op) (n ∷ rest) → n < length h
+stands_inside : (h : List Call) (n : ℕ) (rest : List ℕ) → AllByRecursion (λ c. CanStand (call h c).end (call h c).op) (n ∷ rest) → n < length h
 stands_inside h n rest c = in_bounds h n c.0
 
 -- the first of a rest may come next

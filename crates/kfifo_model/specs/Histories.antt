@@ -6,7 +6,8 @@ use Rattle.kfifo_model.specs.declared.calls.Op.{Op}
 use Rattle.kfifo_model.specs.declared.calls.Op.TheVariants.{Enqueue, Dequeue}
 use Rattle.kfifo_model.specs.declared.calls.End.{End}
 use Rattle.kfifo_model.specs.declared.calls.Call.{Call}
-use Rattle.kfifo_model.specs.Lists.{IsIn, Each, EachPair}
+use Rattle.std.specs.List.{AllByRecursion}
+use Rattle.kfifo_model.specs.Lists.{IsIn, EachPair}
 use Rattle.kfifo_model.specs.Relaxed.{Effect, Adds, Wrong, effect, IsRun}
 
 -- an unfinished enqueue is taken as Done; an unfinished dequeue stands in no order
@@ -57,7 +58,7 @@ HasNoRepeats order = EachPair (λ c d. c ≢ d) order
 
 -- each number is that of a finished call or of an unfinished enqueue
 abbrev pub HasOnlyCalls : List Call → List ℕ → Type 0
-HasOnlyCalls h order = Each (λ c. CanStand (call h c).end (call h c).op) order
+HasOnlyCalls h order = AllByRecursion (λ c. CanStand (call h c).end (call h c).op) order
 
 -- each finished call stands
 abbrev pub HasEachFinished : List Call → List ℕ → Type 0

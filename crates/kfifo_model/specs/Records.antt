@@ -68,12 +68,14 @@ IsAnswerWord t Got = t ≡ codes "got"
 IsAnswerWord t Empty = t ≡ codes "empty"
 IsAnswerWord t Busy = t ≡ codes "busy"
 IsAnswerWord t Worn = t ≡ codes "worn"
-IsAnswerWord t Other = (t ≢ codes "done") × (t ≢ codes "full") × (t ≢ codes "got") × (t ≢ codes "empty") × (t ≢ codes "busy") × (t ≢ codes "worn")
+IsAnswerWord t Other = (t ≢ codes "done") × (t ≢ codes "full") × (t ≢ codes "got") × (t ≢ codes "empty") × (t ≢ codes "busy")
+    × (t ≢ codes "worn")
 
 -- `last` and `answer` stand both or neither
 abbrev pub HasEnding : Data → Option Ending → Type 0
 HasEnding d None = (get (codes "last") d ≡ None) × (get (codes "answer") d ≡ None)
-HasEnding d (Some e) = (number_at (codes "last") d ≡ Some e.last) × (t : List ℕ) × (text_at (codes "answer") d ≡ Some t) × IsAnswerWord t e.answer
+HasEnding d (Some e) = (number_at (codes "last") d ≡ Some e.last) × (t : List ℕ) × (text_at (codes "answer") d ≡ Some t)
+    × IsAnswerWord t e.answer
 
 abbrev pub is_got_word : AnswerWord → Bool
 is_got_word Done = false

@@ -66,11 +66,14 @@ IsGoodBelow h n = (n < length h) × ((j : ℕ) → j < n → IsGood h j)
 abbrev pub IsFault : List Call → RecordFault → Type 0
 IsFault h (NumberOutOfRange n) = IsGoodBelow h n × (IsInRange (call h n) → ⊥)
 IsFault h (WrongAnswer n) = IsGoodBelow h n × IsInRange (call h n) × (Answers (call h n).op (call h n).end → ⊥)
-IsFault h (EndsEarly n) = IsGoodBelow h n × IsInRange (call h n) × Answers (call h n).op (call h n).end × (EndsFrom (call h n).first (call h n).end → ⊥)
+IsFault h (EndsEarly n) = IsGoodBelow h n × IsInRange (call h n) × Answers (call h n).op (call h n).end
+    × (EndsFrom (call h n).first (call h n).end → ⊥)
 IsFault h (OutOfOrder n) =
-    IsGoodBelow h n × IsInRange (call h n) × Answers (call h n).op (call h n).end × EndsFrom (call h n).first (call h n).end × (Rises h n → ⊥)
+    IsGoodBelow h n × IsInRange (call h n) × Answers (call h n).op (call h n).end
+    × EndsFrom (call h n).first (call h n).end × (Rises h n → ⊥)
 IsFault h (Overlap n) =
-    IsGoodBelow h n × IsInRange (call h n) × Answers (call h n).op (call h n).end × EndsFrom (call h n).first (call h n).end × Rises h n × (IsApart h n → ⊥)
+    IsGoodBelow h n × IsInRange (call h n) × Answers (call h n).op (call h n).end × EndsFrom (call h n).first (call h n).end
+    × Rises h n × (IsApart h n → ⊥)
 IsFault h NotAList = ⊥
 IsFault h TooMany = ⊥
 IsFault h (NotACall n) = ⊥

@@ -16,7 +16,8 @@ IsVerdict k h order Repeats = HasNoRepeats order → ⊥
 IsVerdict k h order NotACall = HasNoRepeats order × (HasOnlyCalls h order → ⊥)
 IsVerdict k h order LeavesOut = HasNoRepeats order × HasOnlyCalls h order × (HasEachFinished h order → ⊥)
 IsVerdict k h order BreaksBefore = HasNoRepeats order × HasOnlyCalls h order × HasEachFinished h order × (KeepsBefore h order → ⊥)
-IsVerdict k h order (NotARun p) = IsOrder h order × (p < length order) × IsRun k [] (map (does h) (take p order)) × (IsRun k [] (map (does h) (take (p + 1) order)) → ⊥)
+IsVerdict k h order (NotARun p) = IsOrder h order × (p < length order) × IsRun k [] (map (does h) (take p order))
+    × (IsRun k [] (map (does h) (take (p + 1) order)) → ⊥)
 
 -- what became of a call's effect that was tried in the list before
 abbrev pub IsTried : ℕ → List ℕ → List ℕ → Effect → Tried → Type 0

@@ -467,7 +467,8 @@ fn search(alloc: Global, calls: &[Call], k: usize) -> Result<bool, AllocError>
 /// Whether some order of the history is legal for a queue that may give any of its k oldest items.
 pub fn has_order(alloc: Global, history: &History, k: u32) -> Result<bool, SearchFault>
     requires { (1 ≤ k) × (k ≤ 64) }
-    ensures { MatchResult result (λ found. (length history.now ≤ 12) × (IsTrue found ↔ HasOrder k history.now)) (IsSearchFault history.now) }
+    ensures { MatchResult result (λ found. (length history.now ≤ 12) × (IsTrue found ↔ HasOrder k history.now))
+        (IsSearchFault history.now) }
 {
     let calls = history.calls();
     if calls.len() > MOST_SEARCHED {

@@ -1,21 +1,23 @@
 -- From calls that passes made in turn to the record of the run.
-use Rattle.std.proofs.Common.{◌≡◌, ◌<◌, ◌≤◌, ◌+◌, ◌⊎◌, ℕ, zero, suc, List, [], ◌∷◌, ◌++◌, length, map, get_or, Bool, true, false, refl, sym, ap, ◌∙◌, subst, inl, inr, arith, cond, ne_eqb, eq-eqb, All, zero-add, max, length-append, ◌*◌, suc-mul}
+use Rattle.std.proofs.Common.{◌≡◌, ◌<◌, ◌≤◌, ◌+◌, ◌⊎◌, ℕ, zero, suc, List, [], ◌∷◌, length, map, get_or, Bool, true, false, refl, sym, ap, ◌∙◌, subst, inl, inr, arith, cond, ne_eqb, eq-eqb, All, zero-add, max, length-append, ◌*◌, suc-mul}
 use Rattle.std.specs.Prelude.{◌==◌, ◌||◌, IsPermutation, IsSome}
-use Rattle.std.specs.List.{fold, list_any}
+use Rattle.std.specs.List.{fold, list_any, AllByRecursion}
 use Rattle.std.proofs.lemmas.List.Sorted.{All-permutation, length_permutation}
 use Rattle.std.proofs.lemmas.Bool.{cases_lt}
 use Rattle.std.proofs.lemmas.List.{get_or_past, length-map}
+use Rattle.std.proofs.lemmas.List.Elements.{All-cons, All-nil, All-from_recursion, recursion_from_All}
 use Rattle.kfifo_words.specs.declared.shape.Shape.{Shape}
 use Rattle.kfifo_model.specs.declared.calls.Call.{Call}
 use Rattle.kfifo_model.specs.declared.calls.Op.{Op}
-use Rattle.kfifo_model.specs.Lists.{Each}
+use Rattle.kfifo_model.proofs.Lists.{AllByRecursion-append, AllByRecursion-weaker}
 use Rattle.kfifo_machine.specs.declared.event.Begin.{Begin}
 use Rattle.kfifo_machine.specs.Calls.{op_asked}
 use Rattle.kfifo_live.specs.declared.view.Opening.{Opening}
 use Rattle.kfifo_live.specs.Schedule.{stamped_opening}
-use Rattle.kfifo_live.specs.Pass.{AllOf, IsComplete, IsOf, OpenQueue, new_passes}
+use Rattle.kfifo_live.specs.Pass.{IsComplete, IsOf, OpenQueue, new_passes}
 use Rattle.kfifo_live.specs.Stamps.{Gathers, Logged, all_logs, calls_by, new_logs, passes_of}
 use Rattle.kfifo_record.specs.Scripts.{AreScripts, EachMakes, IsCall, IsOpenFor, IsRecord, MakesInTurn, MayRun, longest, room_for, script_of}
+use Rattle.kfifo_live.proofs.Opens.{logs_of_new}
 use Rattle.kfifo_record.proofs.Turns.{grown}
 
 -- what a pass has run: it is of the queue and of this thread, and its log has the calls of the script
@@ -23,8 +25,8 @@ record Ran (q : OpenQueue) (script : List Begin) (thread : ℕ) (p : Logged) : T
   pub of : IsOf q p.pass
   pub thread_is : p.pass.thread ≡ thread
   pub ops : map (λ (c : Call). c.op) p.log ≡ map op_asked script
-  pub mine : Each (λ c. c.thread ≡ thread) p.log
-  pub ended : Each (λ c. IsSome c.end) p.log
+  pub mine : AllByRecursion (λ c. c.thread ≡ thread) p.log
+  pub ended : AllByRecursion (λ c. IsSome c.end) p.log
 
 abbrev EachRan : OpenQueue → ℕ → List (List Begin) → List Logged → Type 0
 EachRan q first [] [] = Unit {0}
@@ -42,8 +44,8 @@ each_ran q first (script ∷ scripts) (p ∷ ps) made =
         of = (g.same.0, g.same.1);
         thread_is = g.same.2;
         ops = ap (λ calls. map (λ (c : Call). c.op) calls) g.log_is ∙ g.ops;
-        mine = subst (Each (λ c. c.thread ≡ first)) (sym g.log_is) g.mine;
-        ended = subst (Each (λ c. IsSome c.end)) (sym g.log_is) g.ended;
+        mine = subst (AllByRecursion (λ c. c.thread ≡ first)) (sym g.log_is) g.mine;
+        ended = subst (AllByRecursion (λ c. IsSome c.end)) (sym g.log_is) g.ended;
       },
       each_ran q (suc first) scripts ps made.1,
     )
@@ -100,7 +102,7 @@ may_run shape scripts q ps opened calls few t d less =
     let sized : q.opened.shape ≡ shape = ap (λ (o : Opening). o.shape) opened.opened in
     let short = no_longer 0 scripts t within in
     record {
-      of = subst (λ (p : Logged). IsOf q p.pass) (sym is) (of_queue q 0 (length scripts) t d within);
+      of = subst (λ (p : Logged). IsOf q p.pass) (sym is) (logs_of_new q 0 (length scripts) t d (omega (arith, within, long q 0 (length scripts))));
       fresh = ap (λ (p : Logged). p.log) is ∙ no_log q 0 (length scripts) t d within;
       has_script = subst (λ (n : ℕ). n < length scripts) (sym thread) within;
       calls = subst (λ (x : Shape × ℕ). All (IsCall x.0) (script_of scripts x.1)) (λ i. (sym sized i, sym thread i)) (calls t [] within);
@@ -108,11 +110,6 @@ may_run shape scripts q ps opened calls few t d less =
       few = omega (arith, room, few);
     }
   where
-    of_queue : (q : OpenQueue) (first count t : ℕ) (d : Logged) → t < count → IsOf q (get_or (new_logs (new_passes q first count)) t d).pass
-    of_queue q first zero t d less = absurd (omega (arith, less))
-    of_queue q first (suc count) zero d less = (refl, refl)
-    of_queue q first (suc count) (suc t) d less = of_queue q (suc first) count t d (omega (arith, less))
-
     no_log : (q : OpenQueue) (first count t : ℕ) (d : Logged) → t < count → (get_or (new_logs (new_passes q first count)) t d).log ≡ []
     no_log q first zero t d less = absurd (omega (arith, less))
     no_log q first (suc count) zero d less = refl
@@ -125,13 +122,13 @@ ran_by shape scripts q olds news opened made = each_ran q 0 scripts news (subst 
 
 -- ---- the passes
 
-all_of : (q : OpenQueue) (first : ℕ) (scripts : List (List Begin)) (ps : List Logged) → EachRan q first scripts ps → AllOf q (passes_of ps)
-all_of q first [] [] ran = tt
+all_of : (q : OpenQueue) (first : ℕ) (scripts : List (List Begin)) (ps : List Logged) → EachRan q first scripts ps → All (λ p. IsOf q p.pass) ps
+all_of q first [] [] ran = All-nil (λ p. IsOf q p.pass)
 all_of q first [] (p ∷ ps) ran = absurd ran
-all_of q first (script ∷ scripts) [] ran = tt
-all_of q first (script ∷ scripts) (p ∷ ps) ran = (ran.0.of, all_of q (suc first) scripts ps ran.1)
+all_of q first (script ∷ scripts) [] ran = All-nil (λ p. IsOf q p.pass)
+all_of q first (script ∷ scripts) (p ∷ ps) ran = All-cons (λ p. IsOf q p.pass) p ps ran.0.of (all_of q (suc first) scripts ps ran.1)
 
-pub all_of_queue : (shape : Shape) (scripts : List (List Begin)) (q : OpenQueue) (olds news : List Logged) → IsOpenFor shape scripts q olds → EachMakes scripts olds news → AllOf q (passes_of news)
+pub all_of_queue : (shape : Shape) (scripts : List (List Begin)) (q : OpenQueue) (olds news : List Logged) → IsOpenFor shape scripts q olds → EachMakes scripts olds news → All (λ p. IsOf q p.pass) news
 all_of_queue shape scripts q olds news opened made = all_of q 0 scripts news (ran_by shape scripts q olds news opened made)
 
 counted : (q : OpenQueue) (first : ℕ) (scripts : List (List Begin)) (ps : List Logged) → EachRan q first scripts ps → length (passes_of ps) ≡ length scripts
@@ -165,51 +162,34 @@ complete_for shape scripts q olds news opened made =
 
 -- ---- the calls of all logs
 
-each_append : (P : Call → Type 0) (xs ys : List Call) → Each P xs → Each P ys → Each P (xs ++ ys)
-each_append P [] ys a b = b
-each_append P (x ∷ xs) ys a b = (a.0, each_append P xs ys a.1 b)
-
-each_as : (P Q : Call → Type 0) (xs : List Call) → ((c : Call) → P c → Q c) → Each P xs → Each Q xs
-each_as P Q [] on all = tt
-each_as P Q (x ∷ xs) on all = (on x all.0, each_as P Q xs on all.1)
-
-below : (q : OpenQueue) (first : ℕ) (scripts : List (List Begin)) (ps : List Logged) → EachRan q first scripts ps → Each (λ c. c.thread < first + length scripts) (all_logs ps)
+below : (q : OpenQueue) (first : ℕ) (scripts : List (List Begin)) (ps : List Logged) → EachRan q first scripts ps → AllByRecursion (λ c. c.thread < first + length scripts) (all_logs ps)
 below q first [] [] ran = tt
 below q first [] (p ∷ ps) ran = absurd ran
 below q first (script ∷ scripts) [] ran = absurd ran
 below q first (script ∷ scripts) (p ∷ ps) ran =
-    each_append (λ c. c.thread < first + length (script ∷ scripts)) p.log (all_logs ps)
-    (each_as (λ c. c.thread ≡ first) (λ c. c.thread < first + length (script ∷ scripts)) p.log (λ c is. omega (arith, is)) ran.0.mine)
-    (each_as (λ c. c.thread < suc first + length scripts) (λ c. c.thread < first + length (script ∷ scripts)) (all_logs ps) (λ c less. omega (arith, less)) (below q (suc first) scripts ps ran.1))
+    AllByRecursion-append (λ (c : Call). c.thread < first + length (script ∷ scripts)) p.log (all_logs ps)
+    (AllByRecursion-weaker (λ (c : Call). c.thread ≡ first) (λ c. c.thread < first + length (script ∷ scripts)) (λ c is. omega (arith, is)) p.log ran.0.mine)
+    (AllByRecursion-weaker (λ (c : Call). c.thread < suc first + length scripts) (λ c. c.thread < first + length (script ∷ scripts)) (λ c less. omega (arith, less)) (all_logs ps) (below q (suc first) scripts ps ran.1))
 
-all_ended : (q : OpenQueue) (first : ℕ) (scripts : List (List Begin)) (ps : List Logged) → EachRan q first scripts ps → Each (λ c. IsSome c.end) (all_logs ps)
+all_ended : (q : OpenQueue) (first : ℕ) (scripts : List (List Begin)) (ps : List Logged) → EachRan q first scripts ps → AllByRecursion (λ c. IsSome c.end) (all_logs ps)
 all_ended q first [] [] ran = tt
 all_ended q first [] (p ∷ ps) ran = absurd ran
 all_ended q first (script ∷ scripts) [] ran = absurd ran
-all_ended q first (script ∷ scripts) (p ∷ ps) ran = each_append (λ c. IsSome c.end) p.log (all_logs ps) ran.0.ended (all_ended q (suc first) scripts ps ran.1)
+all_ended q first (script ∷ scripts) (p ∷ ps) ran = AllByRecursion-append (λ (c : Call). IsSome c.end) p.log (all_logs ps) ran.0.ended (all_ended q (suc first) scripts ps ran.1)
 
 -- so it is of the calls in any other order
-shuffled : (P : Call → Type 0) (xs ys : List Call) → IsPermutation xs ys → Each P xs → Each P ys
-shuffled P xs ys same each = each_from ys (All-permutation P xs ys same (all_from xs each))
-  where
-    all_from : (zs : List Call) → Each P zs → All P zs
-    all_from [] each k d less = absurd (omega (arith, less))
-    all_from (z ∷ zs) each zero d less = each.0
-    all_from (z ∷ zs) each (suc k) d less = all_from zs each.1 k d (omega (arith, less))
-
-    each_from : (zs : List Call) → All P zs → Each P zs
-    each_from [] all = tt
-    each_from (z ∷ zs) all = (all 0 z (omega arith), each_from zs (λ k d less. all (suc k) d (omega (arith, less))))
+shuffled : (P : Call → Type 0) (xs ys : List Call) → IsPermutation xs ys → AllByRecursion P xs → AllByRecursion P ys
+shuffled P xs ys same each = recursion_from_All P ys (All-permutation P xs ys same (All-from_recursion P xs each))
 
 -- ---- the calls of a thread
 
-calls_of_none : (thread : ℕ) (calls : List Call) → Each (λ c. c.thread < thread) calls → calls_by thread calls ≡ []
+calls_of_none : (thread : ℕ) (calls : List Call) → AllByRecursion (λ c. c.thread < thread) calls → calls_by thread calls ≡ []
 calls_of_none thread [] all = refl
 calls_of_none thread (c ∷ calls) all =
     ap (λ b. cond b (c ∷ calls_by thread calls) (calls_by thread calls)) (ne_eqb c.thread thread (λ same. let less = all.0 in absurd (omega (arith, same, less))))
     ∙ calls_of_none thread calls all.1
 
-ops_of : (q : OpenQueue) (first : ℕ) (scripts : List (List Begin)) (ps : List Logged) (h : List Call) → EachRan q first scripts ps → Each (λ p. calls_by p.pass.thread h ≡ p.log) ps
+ops_of : (q : OpenQueue) (first : ℕ) (scripts : List (List Begin)) (ps : List Logged) (h : List Call) → EachRan q first scripts ps → AllByRecursion (λ p. calls_by p.pass.thread h ≡ p.log) ps
     → (i : ℕ) → i < length scripts → map (λ (c : Call). c.op) (calls_by (first + i) h) ≡ map op_asked (get_or scripts i [])
 ops_of q first [] ps h ran logs i less = absurd (omega (arith, less))
 ops_of q first (script ∷ scripts) [] h ran logs i less = absurd ran
@@ -220,13 +200,13 @@ ops_of q first (script ∷ scripts) (p ∷ ps) h ran logs (suc i) less =
     let e : first + suc i ≡ suc first + i = omega arith in
     ap (λ t. map (λ (c : Call). c.op) (calls_by t h)) e ∙ ops_of q (suc first) scripts ps h ran.1 logs.1 i (omega (arith, less))
 
-own_ops : (q : OpenQueue) (scripts : List (List Begin)) (ps : List Logged) (h : List Call) → EachRan q 0 scripts ps → Each (λ p. calls_by p.pass.thread h ≡ p.log) ps → IsPermutation (all_logs ps) h
+own_ops : (q : OpenQueue) (scripts : List (List Begin)) (ps : List Logged) (h : List Call) → EachRan q 0 scripts ps → AllByRecursion (λ p. calls_by p.pass.thread h ≡ p.log) ps → IsPermutation (all_logs ps) h
     → (thread : ℕ) → (thread < length scripts) ⊎ (length scripts ≤ thread) → map (λ (c : Call). c.op) (calls_by thread h) ≡ map op_asked (script_of scripts thread)
 own_ops q scripts ps h ran logs same thread (inl less) =
     ap (λ t. map (λ (c : Call). c.op) (calls_by t h)) (sym (zero-add thread)) ∙ ops_of q 0 scripts ps h ran logs thread less
 own_ops q scripts ps h ran logs same thread (inr past) =
-    ap (λ calls. map (λ (c : Call). c.op) calls) (calls_of_none thread h (each_as (λ c. c.thread < length scripts) (λ c. c.thread < thread) h (λ c less. omega (arith, less, past))
-    (shuffled (λ c. c.thread < length scripts) (all_logs ps) h same (subst (λ (n : ℕ). Each (λ c. c.thread < n) (all_logs ps)) (zero-add (length scripts)) (below q 0 scripts ps ran)))))
+    ap (λ calls. map (λ (c : Call). c.op) calls) (calls_of_none thread h (AllByRecursion-weaker (λ (c : Call). c.thread < length scripts) (λ c. c.thread < thread) (λ c less. omega (arith, less, past)) h
+    (shuffled (λ c. c.thread < length scripts) (all_logs ps) h same (subst (λ (n : ℕ). AllByRecursion (λ c. c.thread < n) (all_logs ps)) (zero-add (length scripts)) (below q 0 scripts ps ran)))))
     ∙ sym (ap (map op_asked) (get_or_past scripts thread [] past))
 
 -- ---- how many they are

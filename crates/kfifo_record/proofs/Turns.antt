@@ -3,7 +3,7 @@ use Rattle.std.proofs.Common.{◌≡◌, ◌<◌, ◌+◌, ℕ, suc, take, get_o
 use Rattle.std.specs.Prelude.{IsSome}
 use Rattle.std.proofs.Math.Seq.{take-suc}
 use Rattle.kfifo_model.specs.declared.calls.Call.{Call}
-use Rattle.kfifo_model.specs.Lists.{Each}
+use Rattle.std.specs.List.{AllByRecursion}
 use Rattle.kfifo_machine.specs.declared.event.Begin.{Begin}
 use Rattle.kfifo_machine.specs.Calls.{op_asked}
 use Rattle.kfifo_live.specs.Pass.{IsSame, Known}
@@ -32,8 +32,8 @@ pub record Grown (script : List Begin) (old new : Logged) : Type 0 where
   pub calls : List Call
   pub log_is : new.log ≡ old.log ++ calls
   pub ops : map (λ (c : Call). c.op) calls ≡ map op_asked script
-  pub mine : Each (λ c. c.thread ≡ old.pass.thread) calls
-  pub ended : Each (λ c. IsSome c.end) calls
+  pub mine : AllByRecursion (λ c. c.thread ≡ old.pass.thread) calls
+  pub ended : AllByRecursion (λ c. IsSome c.end) calls
   pub same : IsSame old.pass new.pass
 
 pub then_same : (p q r : Known) → IsSame p q → IsSame q r → IsSame p r
@@ -58,7 +58,7 @@ grown (begin ∷ script) old new made =
       calls = call ∷ later.calls;
       log_is = later.log_is ∙ ap (λ log. log ++ later.calls) stamped.log_is ∙ append_assoc old.log (call ∷ []) later.calls;
       ops = ap (λ ops. op_asked begin ∷ ops) later.ops;
-      mine = (refl, subst (λ (thread : ℕ). Each (λ c. c.thread ≡ thread) later.calls) same.2 later.mine);
+      mine = (refl, subst (λ (thread : ℕ). AllByRecursion (λ c. c.thread ≡ thread) later.calls) same.2 later.mine);
       ended = (refl, later.ended);
       same = then_same old.pass next.pass new.pass same later.same;
     }

@@ -1,10 +1,9 @@
 -- Scripts that threads run on a stamped queue, and the record of the run.
 use Rattle.std.specs.Prelude.{◌≡◌, ℕ, ◌^◌, ◌<◌, ◌≤◌, List, [], ◌∷◌, length, map, max, All, get_or, IsSome, Vec}
-use Rattle.std.specs.List.{fold}
+use Rattle.std.specs.List.{fold, AllByRecursion}
 use Rattle.kfifo_words.specs.declared.shape.Shape.{Shape}
 use Rattle.kfifo_model.specs.declared.calls.Answer.{Answer}
 use Rattle.kfifo_model.specs.declared.calls.Call.{Call}
-use Rattle.kfifo_model.specs.Lists.{Each}
 use Rattle.kfifo_machine.specs.declared.event.Begin.{Begin}
 use Rattle.kfifo_machine.specs.declared.event.Begin.TheVariants as B
 use Rattle.kfifo_machine.specs.Calls.{op_asked}
@@ -78,4 +77,4 @@ pub record IsRecord (shape : Shape) (scripts : List (List Begin)) (h : List Call
   pub made : EachMakes scripts fresh passes
   pub gathers : Gathers (stamped_opening shape (length scripts) (room_for scripts)) passes h
   pub ops : (thread : ℕ) → map (λ c. c.op) (calls_by thread h) ≡ map op_asked (script_of scripts thread)
-  pub ended : Each (λ c. IsSome c.end) h
+  pub ended : AllByRecursion (λ c. IsSome c.end) h

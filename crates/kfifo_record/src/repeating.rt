@@ -6,6 +6,7 @@ ghost use Rattle.kfifo_record.specs.Repeats as words;
 ghost use Rattle.kfifo_record.specs.Repeats.{AllFit, FitsTo, IsFirstOver, all_repeated, greatest_item, last_shift, repeated, shifted};
 
 use kfifo_machine::Begin;
+use kfifo_model::MAX_ITEM;
 use std::alloc::{AllocError, Global};
 
 /// The place, from 0, of the first script that would put an item over 2^24 - 1 if the scripts were made so many times
@@ -84,7 +85,7 @@ fn is_small(call: Begin, by: u64) -> bool
     ensures { IsTrue result ↔ (words.item_of (shifted by call) < 2 ^ 24) }
 {
     match call {
-        Begin::Enqueue { item, .. } => u64::from(item).saturating_add(by) < 16_777_216,
+        Begin::Enqueue { item, .. } => u64::from(item).saturating_add(by) <= u64::from(MAX_ITEM),
         Begin::Dequeue { .. } | Begin::Tick => true,
     }
 }

@@ -32,7 +32,8 @@ pub fn record_scripts<R: Threads + Sync, G: Gate + Sync>(
     ensures ok { IfOk result (λ history. IsRecord shape (scripts_in scripts.now) history) }
     ensures few { IfOk result (λ history. length history ≤ 65536) }
     ensures threads { IsErrOf result ThreadsOutOfRange ↔ ((length scripts.now ≡ 0) ⊎ (64 < length scripts.now)) }
-    ensures calls { IsErrOf result CallsOutOfRange ↔ ((0 < length scripts.now) × (length scripts.now ≤ 64) × (1024 < longest (scripts_in scripts.now))) }
+    ensures calls { IsErrOf result CallsOutOfRange ↔ ((0 < length scripts.now) × (length scripts.now ≤ 64)
+        × (1024 < longest (scripts_in scripts.now))) }
     ensures tokens { ¬ IsErrOf result TokensOutOfRange }
 {
     let (queue, passes) = open(alloc, shape, scripts)?;
@@ -71,7 +72,8 @@ fn open(
     ensures ok { IfOk result (λ r. IsOpenFor shape (scripts_in scripts.now) r.0 r.1.items) }
     ensures may_run { IfOk result (λ r. All (MayRun r.0 (scripts_in scripts.now)) r.1.items) }
     ensures threads { IsErrOf result ThreadsOutOfRange ↔ ((length scripts.now ≡ 0) ⊎ (64 < length scripts.now)) }
-    ensures calls { IsErrOf result CallsOutOfRange ↔ ((0 < length scripts.now) × (length scripts.now ≤ 64) × (1024 < longest (scripts_in scripts.now))) }
+    ensures calls { IsErrOf result CallsOutOfRange ↔ ((0 < length scripts.now) × (length scripts.now ≤ 64)
+        × (1024 < longest (scripts_in scripts.now))) }
     ensures tokens { ¬ IsErrOf result TokensOutOfRange }
 {
     let threads = capped(scripts.len());

@@ -73,6 +73,10 @@ pub record IsReplay (p : Player) : Type 0 where
   pub picks : List ℕ
   pub stands : StandsFor shape scripts picks p
 
+-- this is so of the picks that it stands for
+abbrev pub OfItsPicks : Player → (Shape → List (List Begin) → List ℕ → Type 0) → Type 0
+OfItsPicks p P = (shape : Shape) (scripts : List (List Begin)) (picks : List ℕ) → StandsFor shape scripts picks p → P shape scripts picks
+
 -- this pick is refused after those
 abbrev pub IsRefused : Shape → List (List Begin) → List ℕ → ℕ → Type 0
 IsRefused shape scripts picks thread = events_of shape scripts (picks ++ thread ∷ []) ≡ None

@@ -76,7 +76,8 @@ impl Book {
     pub fn note(&mut self, place: u64, event: Event, outcome: Outcome)
         requires thread { event.thread < length self.old.log.latest }
         requires room { begins_call event.begin ≡ true → length self.old.log.calls < self.old.room }
-        requires call { (answer : Answer) → event.begin ≡ None → outcome ≡ Outcome.Ended answer → get_or self.old.log.latest event.thread 0 < length self.old.log.calls }
+        requires call { (answer : Answer) → event.begin ≡ None → outcome ≡ Outcome.Ended answer
+            → get_or self.old.log.latest event.thread 0 < length self.old.log.calls }
         ensures log { self.new.log ≡ logged place event.thread event.begin outcome self.old.log }
         ensures room { self.old.room ≤ self.new.room }
     {

@@ -4,7 +4,7 @@ ghost use Rattle.kfifo_words.specs.declared.shape.Shape.{Shape};
 ghost use Rattle.kfifo_machine.specs.declared.event.Begin.{Begin};
 ghost use Rattle.kfifo_replay.specs.Scripts.{IsCall, IsScript, AreScripts};
 ghost use Rattle.kfifo_replay.specs.Picks.{script_of, event_at};
-ghost use Rattle.kfifo_replay.specs.Player.{StandsFor, IsRefused, Stops};
+ghost use Rattle.kfifo_replay.specs.Player.{StandsFor, IsRefused, Stops, OfItsPicks};
 ghost use Rattle.kfifo_replay.specs.Player;
 ghost use Rattle.kfifo_replay.specs.Finishing.{Ended, Finished};
 ghost use Rattle.kfifo_replay.specs.Reports.{ArePoints, IsHistoryOf, IsReport};
@@ -14,7 +14,7 @@ use crate::fault::ReplayFault;
 use crate::report::{Report, count_unfinished, greatest_of};
 use kfifo_linear::Linearizer;
 use kfifo_machine::{Begin, EnqueuePhase, Event, MAX_THREADS, Outcome, Running};
-use kfifo_model::{Answer, History, RankFault, ranks};
+use kfifo_model::{Answer, History, MAX_ITEM, RankFault, ranks};
 use kfifo_words::Shape;
 use std::alloc::{AllocError, Global};
 use std::marker::Model;
@@ -42,9 +42,23 @@ impl Model for Replay {
 
     ghost Value = { Player };
 
-    ghost view = { λ r. record { shape = r.shape; scripts = map (λ script. script.items) r.scripts.items; follower = r.linearizer; begun = r.begun.items; book = r.book; rollbacks = r.rollbacks } };
+    ghost view = { λ r. record {
+      shape = r.shape;
+      scripts = map (λ script. script.items) r.scripts.items;
+      follower = r.linearizer;
+      begun = r.begun.items;
+      book = r.book;
+      rollbacks = r.rollbacks;
+    } };
 
-    ghost invariant = { λ r. IsReplay (record { shape = r.shape; scripts = map (λ script. script.items) r.scripts.items; follower = r.linearizer; begun = r.begun.items; book = r.book; rollbacks = r.rollbacks }) };
+    ghost invariant = { λ r. IsReplay (record {
+      shape = r.shape;
+      scripts = map (λ script. script.items) r.scripts.items;
+      follower = r.linearizer;
+      begun = r.begun.items;
+      book = r.book;
+      rollbacks = r.rollbacks;
+    }) };
 }
 
 /// Whether a call is in range: its start below k, 1 to 65,535 rounds, an item from 1 to 2^24 - 1. A
@@ -54,7 +68,7 @@ fn is_call(shape: &Shape, call: Begin) -> bool
 {
     match call {
         Begin::Enqueue { item, start, turns } => {
-            start < shape.k() && 0 < turns && 0 < item && item < 16_777_216
+            start < shape.k() && 0 < turns && 0 < item && item <= MAX_ITEM
         }
         Begin::Dequeue { start, turns } => start < shape.k() && 0 < turns,
         Begin::Tick => false,
@@ -176,8 +190,8 @@ impl Replay {
 
     /// Makes the event of this pick, or answers false where it is refused, and stays as it was.
     fn pick(&mut self, thread: u32) -> bool
-        ensures made { result ≡ true → (shape : Shape) (scripts : List (List Begin)) (earlier : List ℕ) → StandsFor shape scripts earlier self.old → StandsFor shape scripts (earlier ++ thread ∷ []) self.new }
-        ensures refused { result ≡ false → (shape : Shape) (scripts : List (List Begin)) (earlier : List ℕ) → StandsFor shape scripts earlier self.old → IsRefused shape scripts earlier thread }
+        ensures made { result ≡ true → OfItsPicks self.old (λ shape scripts earlier. StandsFor shape scripts (earlier ++ thread ∷ []) self.new) }
+        ensures refused { result ≡ false → OfItsPicks self.old (λ shape scripts earlier. IsRefused shape scripts earlier thread) }
         ensures unchanged { result ≡ false → self.new ≡ self.old }
         ensures steps { result ≡ true → self.new.follower.notes.step ≡ self.old.follower.notes.step + 1 }
         ensures few { self.new.follower.notes.step < 2 ^ 64 }
@@ -205,8 +219,8 @@ impl Replay {
     /// thread whose script has ended: the picks before it are made, it and the later ones are not. It
     /// takes no memory.
     pub fn feed(&mut self, picks: &[u32]) -> Result<(), ReplayFault>
-        ensures made { OnOk result ((shape : Shape) (scripts : List (List Begin)) (earlier : List ℕ) → StandsFor shape scripts earlier self.old → StandsFor shape scripts (earlier ++ picks.now) self.new) }
-        ensures refused { IfErr result (λ fault. (shape : Shape) (scripts : List (List Begin)) (earlier : List ℕ) → StandsFor shape scripts earlier self.old → Stops shape scripts earlier picks.now fault self.new) }
+        ensures made { OnOk result (OfItsPicks self.old (λ shape scripts earlier. StandsFor shape scripts (earlier ++ picks.now) self.new)) }
+        ensures refused { IfErr result (λ fault. OfItsPicks self.old (λ shape scripts earlier. Stops shape scripts earlier picks.now fault self.new)) }
     {
         for (place, thread) in picks.iter().enumerate() {
             if !self.pick(*thread) {
@@ -218,8 +232,8 @@ impl Replay {
 
     /// As `feed` of a list with this pick so many times.
     pub fn feed_many(&mut self, pick: u32, count: u32) -> Result<(), ReplayFault>
-        ensures made { OnOk result ((shape : Shape) (scripts : List (List Begin)) (earlier : List ℕ) → StandsFor shape scripts earlier self.old → StandsFor shape scripts (earlier ++ replicate count pick) self.new) }
-        ensures refused { IfErr result (λ fault. (shape : Shape) (scripts : List (List Begin)) (earlier : List ℕ) → StandsFor shape scripts earlier self.old → Stops shape scripts earlier (replicate count pick) fault self.new) }
+        ensures made { OnOk result (OfItsPicks self.old (λ shape scripts earlier. StandsFor shape scripts (earlier ++ replicate count pick) self.new)) }
+        ensures refused { IfErr result (λ fault. OfItsPicks self.old (λ shape scripts earlier. Stops shape scripts earlier (replicate count pick) fault self.new)) }
     {
         for place in 0..count {
             if !self.pick(pick) {
@@ -231,7 +245,7 @@ impl Replay {
 
     /// A thread makes all events that its script still has.
     fn go_to_end(&mut self, thread: u32)
-        ensures { (shape : Shape) (scripts : List (List Begin)) (earlier : List ℕ) → StandsFor shape scripts earlier self.old → Ended shape scripts thread earlier self.new }
+        ensures { OfItsPicks self.old (λ shape scripts earlier. Ended shape scripts thread earlier self.new) }
     {
         while self.pick(thread) {}
     }
@@ -241,7 +255,7 @@ impl Replay {
     /// BadScript where no script has the number of the stopped thread; then nothing changes. It takes no
     /// memory.
     pub fn finish(&mut self, stopped: u32) -> Result<(), ReplayFault>
-        ensures finished { OnOk result ((shape : Shape) (scripts : List (List Begin)) (earlier : List ℕ) → StandsFor shape scripts earlier self.old → Finished stopped shape scripts (length scripts) earlier self.new) }
+        ensures finished { OnOk result (OfItsPicks self.old (λ shape scripts earlier. Finished stopped shape scripts (length scripts) earlier self.new)) }
         ensures stopped { OnOk result (stopped < length self.old.scripts) }
         ensures refused { IfErr result (λ fault. (fault ≡ ReplayFault.BadScript) × (length self.old.scripts ≤ stopped)) }
         ensures unchanged { OnErr result (self.new ≡ self.old) }
@@ -261,7 +275,7 @@ impl Replay {
     /// The points of the calls in the linearization order, in turn: each is a step of the schedule, between
     /// the first and the last of its call. Memory where an allocation failed.
     pub fn points(&self, alloc: Global) -> Result<Vec<u64>, ReplayFault>
-        ensures points { IfOk result (λ points. (shape : Shape) (scripts : List (List Begin)) (picks : List ℕ) → StandsFor shape scripts picks self.now → ArePoints shape scripts picks points.items) }
+        ensures points { IfOk result (λ points. OfItsPicks self.now (λ shape scripts picks. ArePoints shape scripts picks points.items)) }
         ensures memory { IfErr result (λ fault. fault ≡ ReplayFault.Memory) }
     {
         Ok(self.linearizer.points(alloc)?)
@@ -270,7 +284,7 @@ impl Replay {
     /// The calls so far, by their first events; a call's first and last step are the places of its
     /// events. Memory where an allocation failed.
     pub fn history(&self, alloc: Global) -> Result<History, ReplayFault>
-        ensures history { IfOk result (λ history. (shape : Shape) (scripts : List (List Begin)) (picks : List ℕ) → StandsFor shape scripts picks self.now → IsHistoryOf shape scripts picks history) }
+        ensures history { IfOk result (λ history. OfItsPicks self.now (λ shape scripts picks. IsHistoryOf shape scripts picks history)) }
         ensures memory { IfErr result (λ fault. fault ≡ ReplayFault.Memory) }
     {
         match History::new(Vec::from_slice(alloc, self.book.calls())?) {
@@ -284,7 +298,7 @@ impl Replay {
     ///
     /// Memory where an allocation failed.
     pub fn report(&self, alloc: Global) -> Result<Report, ReplayFault>
-        ensures report { IfOk result (λ report. (shape : Shape) (scripts : List (List Begin)) (picks : List ℕ) → StandsFor shape scripts picks self.now → IsReport shape scripts picks report) }
+        ensures report { IfOk result (λ report. OfItsPicks self.now (λ shape scripts picks. IsReport shape scripts picks report)) }
         ensures memory { IfErr result (λ fault. fault ≡ ReplayFault.Memory) }
     {
         let order = self.linearizer.order(alloc)?;

@@ -59,7 +59,8 @@ pub fn replay(
 ) -> Result<Report, ReplayFault>
     ensures report { IfOk result (λ report. IsReport shape (map (λ script. script.items) scripts.now) picks.now report) }
     ensures bad_script { (result ≡ Err ReplayFault.BadScript) ↔ (AreScripts shape (map (λ script. script.items) scripts.now) → ⊥) }
-    ensures bad_pick { (place : ℕ) → result ≡ Err (ReplayFault.BadPick place) → IsFirstRefused shape (map (λ script. script.items) scripts.now) picks.now place }
+    ensures bad_pick { (place : ℕ) → result ≡ Err (ReplayFault.BadPick place)
+        → IsFirstRefused shape (map (λ script. script.items) scripts.now) picks.now place }
 {
     let mut replay = Replay::open(alloc, shape, scripts)?;
     replay.feed(picks)?;

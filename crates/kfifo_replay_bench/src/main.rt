@@ -8,7 +8,7 @@
 
 use kfifo_machine::Begin;
 use kfifo_replay::Replay;
-use kfifo_words::Shape;
+use kfifo_words::{MAX_VERSION, Shape};
 use std::alloc::{AllocError, Global};
 use std::io;
 
@@ -51,7 +51,7 @@ fn main(rt: HostRuntime) -> io::Result<()> {
     let k = number(args.next(), 1);
     let n = number(args.next(), 2);
     let rounds = number(args.next(), 1000);
-    let Ok(shape) = Shape::new(k, n, 1_099_511_627_775) else {
+    let Ok(shape) = Shape::new(k, n, MAX_VERSION) else {
         return println!(rt; "no such shape");
     };
     let Ok(scripts) = scripts(rt.alloc()) else {

@@ -28,7 +28,8 @@ part_of false text = text
 
 -- the bytes of a file write an order as a text does, but white space may stand around each number and around none
 abbrev pub WritesSpacedOrder : List ℕ → List ℕ → Type 0
-WritesSpacedOrder bytes order = IsUtf8 bytes × (((trimmed bytes ≡ codes "none") × (order ≡ [])) ⊎ WriteNumbers (map trimmed (comma_parts bytes)) order)
+WritesSpacedOrder bytes order = IsUtf8 bytes
+    × (((trimmed bytes ≡ codes "none") × (order ≡ [])) ⊎ WriteNumbers (map trimmed (comma_parts bytes)) order)
 
 -- the value of the option gives this order: as a text, or by some bytes of the file that is named behind @ (64)
 abbrev pub GivesOrder : List ℕ → List ℕ → Type 0

@@ -43,4 +43,5 @@ GivesGroups text groups = WritesGroups text groups × (count_of groups ≤ 16777
 
 -- a text writes no groups, or groups of more picks than that
 abbrev pub GivesNoGroups : List ℕ → Type 0
-GivesNoGroups text = ((groups : List Group) → WritesGroups text groups → ⊥) ⊎ ((groups : List Group) × WritesGroups text groups × (16777216 < count_of groups))
+GivesNoGroups text = ((groups : List Group) → WritesGroups text groups → ⊥)
+    ⊎ ((groups : List Group) × WritesGroups text groups × (16777216 < count_of groups))

@@ -24,7 +24,8 @@ Writes contents old text new = Appends (contents old.writer.now) (contents new.w
 
 -- a beginning of the text was written, and then a call failed
 abbrev pub Breaks : {W : Type 0} → (W → Option (List ℕ)) → Printer W → List ℕ → Printer W → Type 0
-Breaks contents old text new = AppendsPart (contents old.writer.now) (contents new.writer.now) text × CountsOne old.failed new.failed × Stays old new
+Breaks contents old text new = AppendsPart (contents old.writer.now) (contents new.writer.now) text
+    × CountsOne old.failed new.failed × Stays old new
 
 -- what was written on a printer; a text broke off only where a call of the writer failed
 abbrev pub OnPrinter : {W : Type 0} → (W → Option (List ℕ)) → Printer W → Printer W → Written → Type 0

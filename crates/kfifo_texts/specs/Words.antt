@@ -66,7 +66,8 @@ IsCall k Tick = ⊥
 -- each word writes the call in its place
 pub record WritesCalls (k turns : ℕ) (words : List (Bor (List ℕ))) (calls : List Begin) : Type 0 where
   pub count : length calls ≡ length words
-  pub each : (i : ℕ) (word : Bor (List ℕ)) (call : Begin) → i < length words → WritesCall k turns (slice_index_or words i word).now (slice_index_or calls i call)
+  pub each : (i : ℕ) (word : Bor (List ℕ)) (call : Begin) → i < length words
+      → WritesCall k turns (slice_index_or words i word).now (slice_index_or calls i call)
 
 -- the word at this place, counted from 0, is the first that writes no call
 pub record IsFirstUnread (k turns : ℕ) (words : List (Bor (List ℕ))) (place : ℕ) : Type 0 where

@@ -8,6 +8,7 @@ ghost use Rattle.kfifo_machine.specs.declared.event.Begin.{Begin};
 use crate::fault::Fault;
 use kfifo_judge::{FromStd, ReadFault, read_all};
 use kfifo_machine::Begin;
+use kfifo_model::MAX_ITEM;
 use std::alloc::{AllocError, Global};
 use std::fs;
 use std::rt::Files;
@@ -68,7 +69,7 @@ pub fn read_call(word: &str, k: u32, turns: u16) -> Option<Begin>
     let (name, start) = read_start(word, k)?;
     match name.strip_prefix('e') {
         Some(number) => {
-            let item = read_within(number, 1, 16_777_216)?;
+            let item = read_within(number, 1, MAX_ITEM as u64 + 1)?;
             Some(Begin::Enqueue { item, start, turns })
         }
         None if name == "d" => Some(Begin::Dequeue { start, turns }),

@@ -2,7 +2,8 @@
 use Rattle.std.proofs.Common.{ℕ, zero, suc, ◌≡◌, ◌≢◌, ◌+◌, ◌<◌, ◌≤◌, Bool, true, cond, count_by, List, [], ◌∷◌, ◌++◌, length, refl, sym, ◌∙◌, ap, subst, inl, inr, arith, length-append}
 use Rattle.std.proofs.lemmas.Bool.{cases_Bool}
 use Rattle.std.proofs.lemmas.List.Sums.{sum_by-cons}
-use Rattle.kfifo_model.specs.Lists.{IsIn, Each, EachPair}
+use Rattle.std.specs.List.{AllByRecursion}
+use Rattle.kfifo_model.specs.Lists.{IsIn, EachPair}
 use Rattle.kfifo_model.proofs.Lists.{in_append, in_less, in_more, parted, each_at, each_from, pairs_less, pairs_across, pairs_back, Differ, cases_in}
 use Rattle.kfifo_verdict.specs.Evidence.{count_below}
 
@@ -72,7 +73,7 @@ count_within t (suc n) l d f =
     ]
 
 -- distinct numbers, each with an item of its own in another list, are no more than that list has
-pub as_many : (Has : ℕ → ℕ → Type 0) → ((x p q : ℕ) → Has p x → Has q x → p ≡ q) → (l items : List ℕ) → EachPair Differ l → Each (λ p. (x : ℕ) × IsIn x items × Has p x) l → length l ≤ length items
+pub as_many : (Has : ℕ → ℕ → Type 0) → ((x p q : ℕ) → Has p x → Has q x → p ≡ q) → (l items : List ℕ) → EachPair Differ l → AllByRecursion (λ p. (x : ℕ) × IsIn x items × Has p x) l → length l ≤ length items
 as_many Has once [] items d f = omega arith
 as_many Has once (p ∷ l) items d f =
     let x = f.0.0 in

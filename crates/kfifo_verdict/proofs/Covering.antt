@@ -2,10 +2,11 @@
 use Rattle.std.proofs.Common.{ℕ, ◌≡◌, ◌≢◌, ◌<◌, ◌≤◌, List, [], ◌∷◌, ◌++◌, length, get_or, refl, sym, subst, inl, inr, arith}
 use Rattle.std.proofs.lemmas.Bool.{cases_lt}
 use Rattle.kfifo_model.specs.declared.calls.Call.{Call}
-use Rattle.kfifo_model.specs.Lists.{IsIn, Each}
+use Rattle.std.specs.List.{AllByRecursion}
+use Rattle.kfifo_model.specs.Lists.{IsIn}
 use Rattle.kfifo_model.specs.Histories.{call, EndsBelow, HasNoRepeats}
 use Rattle.kfifo_model.specs.Validity.{IsHistory}
-use Rattle.kfifo_model.proofs.Lists.{in_left, in_right, each_at, each_from, pairs_push}
+use Rattle.kfifo_model.proofs.Lists.{in_left, in_right, each_at, each_from, pairs_push, AllByRecursion-push}
 use Rattle.kfifo_verdict.specs.declared.finding.Stay.{Stay}
 use Rattle.kfifo_verdict.specs.Evidence.{IsCertainlyThere, IsMomentOf}
 use Rattle.kfifo_verdict.specs.Finding.{first_of, IsStay, no_stay, AreStays}
@@ -17,26 +18,22 @@ use Rattle.kfifo_verdict.proofs.Moments.{rising, not_falling}
 pub record IsChain (h : List Call) (e n : ℕ) (puts : List ℕ) : Type 0 where
   pub from : e ≤ n
   pub covered : (moment : ℕ) → first_of h e ≤ moment → (n < length h → moment < first_of h n) → (p : ℕ) × IsIn p puts × IsCertainlyThere h p moment
-  pub met : Each (λ p. (moment : ℕ) × IsMomentOf h e moment × IsCertainlyThere h p moment) puts
+  pub met : AllByRecursion (λ p. (moment : ℕ) × IsMomentOf h e moment × IsCertainlyThere h p moment) puts
   pub distinct : HasNoRepeats puts
-  pub gone : Each (λ p. n < length h → (moment : ℕ) → first_of h n ≤ moment → IsCertainlyThere h p moment → ⊥) puts
+  pub gone : AllByRecursion (λ p. n < length h → (moment : ℕ) → first_of h n ≤ moment → IsCertainlyThere h p moment → ⊥) puts
 
 -- call n begins at a moment of call e
 pub moment_here : (h : List Call) (e n : ℕ) → IsHistory h → e ≤ n → n < length h → (EndsBelow (call h e).end (first_of h n) → ⊥) → IsMomentOf h e (first_of h n)
 moment_here h e n v le inside open_ = (not_falling h e n v le inside, not_ended (call h e).end (first_of h n) open_)
-
-each_push : (P : ℕ → Type 0) (l : List ℕ) (x : ℕ) → Each P l → P x → Each P (l ++ x ∷ [])
-each_push P [] x a p = (p, tt)
-each_push P (y ∷ l) x a p = (a.0, each_push P l x a.1 p)
 
 pub chain_more : (h : List Call) (e n : ℕ) (puts more : List ℕ) (s : Stay) → IsHistory h → IsStay h n s → n < length h → (EndsBelow (call h e).end (first_of h n) → ⊥) → n < s.gone → more ≡ puts ++ s.put ∷ [] → IsChain h e n puts → IsChain h e s.gone more
 chain_more h e n puts more s v r inside open_ lt is c =
     let moment = moment_here h e n v c.from inside open_ in
     let there = r.there lt in
     let now : IsCertainlyThere h s.put (first_of h n) = there (first_of h n) (omega arith) (λ gone_in. rising h n s.gone v lt gone_in) in
-    let M : List ℕ → Type 0 = λ w. Each (λ p. (m : ℕ) × IsMomentOf h e m × IsCertainlyThere h p m) w in
+    let M : List ℕ → Type 0 = λ w. AllByRecursion (λ p. (m : ℕ) × IsMomentOf h e m × IsCertainlyThere h p m) w in
     let D : List ℕ → Type 0 = λ w. HasNoRepeats w in
-    let G : List ℕ → Type 0 = λ w. Each (λ p. s.gone < length h → (m : ℕ) → first_of h s.gone ≤ m → IsCertainlyThere h p m → ⊥) w in
+    let G : List ℕ → Type 0 = λ w. AllByRecursion (λ p. s.gone < length h → (m : ℕ) → first_of h s.gone ≤ m → IsCertainlyThere h p m → ⊥) w in
     let I : ℕ → List ℕ → Type 0 = λ p w. IsIn p w in
     let old_gone = each_from (λ p. s.gone < length h → (m : ℕ) → first_of h s.gone ≤ m → IsCertainlyThere h p m → ⊥) puts (λ p i gone_in m le t.
     let up = rising h n s.gone v lt gone_in in
@@ -50,11 +47,11 @@ chain_more h e n puts more s v r inside open_ lt is c =
             | inl early ↦ (let p = c.covered m le (λ _. early) in (p.0, in_left p.0 puts (s.put ∷ []) p.1, p.2))
             | inr late ↦ (s.put, in_right s.put puts (s.put ∷ []) (inl refl), there m late below)
           ]);
-      met = subst M (sym is) (each_push (λ p. (m : ℕ) × IsMomentOf h e m × IsCertainlyThere h p m) puts s.put c.met (first_of h n, moment, now));
+      met = subst M (sym is) (AllByRecursion-push (λ (p : ℕ). (m : ℕ) × IsMomentOf h e m × IsCertainlyThere h p m) puts s.put c.met (first_of h n, moment, now));
       distinct = subst D (sym is) (pairs_push (λ p q. p ≢ q) puts s.put c.distinct (λ p i same.
           let P : ℕ → Type 0 = λ w. IsCertainlyThere h w (first_of h n) in
           each_at (λ q. n < length h → (m : ℕ) → first_of h n ≤ m → IsCertainlyThere h q m → ⊥) p puts c.gone i inside (first_of h n) (omega arith) (subst P (sym same) now)));
-      gone = subst G (sym is) (each_push (λ p. s.gone < length h → (m : ℕ) → first_of h s.gone ≤ m → IsCertainlyThere h p m → ⊥) puts s.put old_gone (λ gone_in m le t. let b = r.until lt m t gone_in in absurd (omega (arith, b, le))));
+      gone = subst G (sym is) (AllByRecursion-push (λ (p : ℕ). s.gone < length h → (m : ℕ) → first_of h s.gone ≤ m → IsCertainlyThere h p m → ⊥) puts s.put old_gone (λ gone_in m le t. let b = r.until lt m t gone_in in absurd (omega (arith, b, le))));
     }
 
 -- at the beginning of call n no item is certainly there

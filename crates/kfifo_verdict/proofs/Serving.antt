@@ -5,7 +5,8 @@ use Rattle.std.proofs.lemmas.List.{map_push}
 use Rattle.kfifo_model.specs.declared.calls.Call.{Call}
 use Rattle.kfifo_model.specs.declared.calls.Op.{Op}
 use Rattle.kfifo_model.specs.declared.calls.End.{End}
-use Rattle.kfifo_model.specs.Lists.{IsIn, Each, EachPair}
+use Rattle.std.specs.List.{AllByRecursion}
+use Rattle.kfifo_model.specs.Lists.{IsIn, EachPair}
 use Rattle.kfifo_model.specs.Relaxed.{Effect, Adds, Takes, Finds_none, Refused, Wrong, Leaves, IsRun}
 use Rattle.kfifo_model.specs.Histories.{call, does, HasEnd, CanStand, IsFinished, Precedes, IsLegal}
 use Rattle.kfifo_model.proofs.Lists.{in_append, in_left, in_right, each_at, each_from, pairs_push, pairs_weaker}
@@ -36,11 +37,11 @@ item h c = item_of (does h c)
 -- The queue, each item by its put, before the calls that are left.
 record Holds (h : List Call) (R : ℕ → ℕ → Type 0) (rest queue : List ℕ) : Type 0 where
   pub sorted : EachPair R rest
-  pub inside : Each (λ c. c < length h) rest
-  pub total : (d : ℕ) → d < length h → IsIn d rest ⊎ Each (R d) rest
+  pub inside : AllByRecursion (λ c. c < length h) rest
+  pub total : (d : ℕ) → d < length h → IsIn d rest ⊎ AllByRecursion (R d) rest
   pub line : EachPair R queue
-  pub held : (p : ℕ) → IsIn p queue → (x : ℕ) × Puts h x p × Each (R p) rest × ((g : ℕ) → Gets h x g → IsIn g rest)
-  pub kept : (x p g : ℕ) → Puts h x p → Gets h x g → Each (R p) rest → IsIn g rest → IsIn p queue
+  pub held : (p : ℕ) → IsIn p queue → (x : ℕ) × Puts h x p × AllByRecursion (R p) rest × ((g : ℕ) → Gets h x g → IsIn g rest)
+  pub kept : (x p g : ℕ) → Puts h x p → Gets h x g → AllByRecursion (R p) rest → IsIn g rest → IsIn p queue
 
 not_both : (h : List Call) (x y c : ℕ) → Puts h x c → Gets h y c → ⊥
 not_both h x y c p g = let e : Adds x ≡ Takes y = sym p ∙ g in cc
@@ -58,17 +59,17 @@ not_self h R c d f e r =
     f.apart c c s s
 
 -- a call that stands before all that is left but the next, and is not the next, stands before that too
-done_before : (h : List Call) (R : ℕ → ℕ → Type 0) (c : ℕ) (rest queue : List ℕ) → Fits h R → Holds h R (c ∷ rest) queue → (p : ℕ) → p < length h → p ≢ c → Each (R p) rest → Each (R p) (c ∷ rest)
+done_before : (h : List Call) (R : ℕ → ℕ → Type 0) (c : ℕ) (rest queue : List ℕ) → Fits h R → Holds h R (c ∷ rest) queue → (p : ℕ) → p < length h → p ≢ c → AllByRecursion (R p) rest → AllByRecursion (R p) (c ∷ rest)
 done_before h R c rest queue f t p inside ne past =
     elim (t.total p inside) [
       | inl i ↦ elim i [ inl e ↦ absurd (ne e) | inr j ↦ absurd (not_self h R p p f refl (each_at (R p) p rest past j)) ]
       | inr e ↦ e
     ]
 
-total_next : (h : List Call) (R : ℕ → ℕ → Type 0) (c : ℕ) (rest queue : List ℕ) → Holds h R (c ∷ rest) queue → (d : ℕ) → d < length h → IsIn d rest ⊎ Each (R d) rest
+total_next : (h : List Call) (R : ℕ → ℕ → Type 0) (c : ℕ) (rest queue : List ℕ) → Holds h R (c ∷ rest) queue → (d : ℕ) → d < length h → IsIn d rest ⊎ AllByRecursion (R d) rest
 total_next h R c rest queue t d inside =
     elim (t.total d inside) [
-      | inl i ↦ elim i [ inl e ↦ inr (let P : ℕ → Type 0 = λ w. Each (R w) rest in subst P (sym e) t.sorted.0) | inr j ↦ inl j ]
+      | inl i ↦ elim i [ inl e ↦ inr (let P : ℕ → Type 0 = λ w. AllByRecursion (R w) rest in subst P (sym e) t.sorted.0) | inr j ↦ inl j ]
       | inr e ↦ inr e.1
     ]
 
@@ -89,7 +90,7 @@ holds_added h R c x rest queue f puts t =
       | inl i ↦ elim i [ inl e ↦ absurd (not_both h x x c puts (get_at h x g c e is)) | inr j ↦ j ]
       | inr each ↦ absurd (f.apart c g (f.own x c g puts is) each.0)
     ] in
-    let P : ℕ → Type 0 = λ w. (y : ℕ) × Puts h y w × Each (R w) rest × ((g : ℕ) → Gets h y g → IsIn g rest) in
+    let P : ℕ → Type 0 = λ w. (y : ℕ) × Puts h y w × AllByRecursion (R w) rest × ((g : ℕ) → Gets h y g → IsIn g rest) in
     record {
       sorted = t.sorted.1;
       inside = t.inside.1;
@@ -134,7 +135,7 @@ holds_taken h R c x q rest queue f gets puts t = record {
 }
 
 -- the put of an item that a call gets is done
-source_past : (h : List Call) (R : ℕ → ℕ → Type 0) (c x p : ℕ) (rest queue : List ℕ) → Fits h R → Puts h x p → Gets h x c → Holds h R (c ∷ rest) queue → Each (R p) (c ∷ rest)
+source_past : (h : List Call) (R : ℕ → ℕ → Type 0) (c x p : ℕ) (rest queue : List ℕ) → Fits h R → Puts h x p → Gets h x c → Holds h R (c ∷ rest) queue → AllByRecursion (R p) (c ∷ rest)
 source_past h R c x p rest queue f puts gets t =
     elim (t.total p (put_inside h x p puts)) [
       | inl i ↦ elim i [

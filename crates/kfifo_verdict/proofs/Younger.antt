@@ -2,7 +2,8 @@
 use Rattle.std.proofs.Common.{ℕ, zero, suc, ◌≡◌, ◌≢◌, ◌+◌, ◌<◌, ◌≤◌, ◌↔◌, Bool, true, false, cond, count_by, leb, List, [], ◌∷◌, ◌++◌, length, get_or, add-one, refl, sym, ◌∙◌, ap, subst, inl, inr, arith, length-append}
 use Rattle.std.proofs.lemmas.Bool.{cases_lt, cases_Bool, and_parts, and_from, leb-true, le-leb}
 use Rattle.kfifo_model.specs.declared.calls.Call.{Call}
-use Rattle.kfifo_model.specs.Lists.{IsIn, Each}
+use Rattle.std.specs.List.{AllByRecursion}
+use Rattle.kfifo_model.specs.Lists.{IsIn}
 use Rattle.kfifo_model.specs.Histories.{call, HasNoRepeats}
 use Rattle.kfifo_model.specs.Validity.{IsHistory}
 use Rattle.kfifo_model.proofs.Lists.{in_append, each_at, each_from, pairs_push}
@@ -34,7 +35,7 @@ count_no test n fails =
     let none : ◌≡◌ {A = ℕ} (cond (test n) 1 0) 0 = ap (λ b. cond b 1 0) fails in
     ap (count_below test) (add-one n) ∙ omega (arith, none)
 
-count_all : (test : ℕ → Bool) (l : List ℕ) → Each (λ p. test p ≡ true) l → count_by test l ≡ length l
+count_all : (test : ℕ → Bool) (l : List ℕ) → AllByRecursion (λ p. test p ≡ true) l → count_by test l ≡ length l
 count_all test [] a = refl
 count_all test (x ∷ l) a =
     let on = count_all test l a.1 in
@@ -46,12 +47,12 @@ count_all test (x ∷ l) a =
 
 pub first_none : (test : ℕ → Bool) (k : ℕ) (found : List ℕ) → found ≡ [] → AreFirst test k 0 found
 first_none test k found e =
-    let P : List ℕ → Type 0 = λ w. Each (λ p. (p < 0) × (test p ≡ true)) w in
+    let P : List ℕ → Type 0 = λ w. AllByRecursion (λ p. (p < 0) × (test p ≡ true)) w in
     let D : List ℕ → Type 0 = λ w. HasNoRepeats w in
     let size = ap length e in
     record { count = omega (arith, size); pass = subst P (sym e) tt; distinct = subst D (sym e) tt }
 
-each_on : (test : ℕ → Bool) (n : ℕ) (found : List ℕ) → Each (λ p. (p < n) × (test p ≡ true)) found → Each (λ p. (p < n + 1) × (test p ≡ true)) found
+each_on : (test : ℕ → Bool) (n : ℕ) (found : List ℕ) → AllByRecursion (λ p. (p < n) × (test p ≡ true)) found → AllByRecursion (λ p. (p < n + 1) × (test p ≡ true)) found
 each_on test n found a = each_from (λ p. (p < n + 1) × (test p ≡ true)) found (λ p i.
     let b = each_at (λ p. (p < n) × (test p ≡ true)) p found a i in let lt = b.0 in (omega (arith, lt), b.1))
 
@@ -78,7 +79,7 @@ first_more test k n found more a room passes e =
     let size = a.count in
     let up = count_yes test n passes in
     let size_more = ap length e in
-    let P : List ℕ → Type 0 = λ w. Each (λ p. (p < n + 1) × (test p ≡ true)) w in
+    let P : List ℕ → Type 0 = λ w. AllByRecursion (λ p. (p < n + 1) × (test p ≡ true)) w in
     let D : List ℕ → Type 0 = λ w. HasNoRepeats w in
     record {
       count = omega (arith, size, up, size_more, length-append found (n ∷ []), room);
@@ -126,7 +127,7 @@ no_more_older h ps x g put after m v are start single gets young =
     let same_x = same_item h t.item x g t.gets gets in
     let P : ℕ → Type 0 = λ w. IsSingle h w t.put in
     let same = single.alone t.put (subst P same_x t.single).puts in
-    let Q : ℕ → Type 0 = λ w. Each (IsOlder h g w) puts in
+    let Q : ℕ → Type 0 = λ w. AllByRecursion (IsOlder h g w) puts in
     let older = subst Q same t.older in
     let below : (p : ℕ) → IsIn p puts → p < put = λ p i. let o = each_at (IsOlder h g put) p puts older i in precedes_below h p put v (put_inside h o.item p o.single.puts) o.before in
     let pass : (p : ℕ) → IsIn p puts → lasts_at ps put after p ≡ true = λ p i. (passes_older h ps g put after p are start inside (below p i)).0 (each_at (IsOlder h g put) p puts older i) in

@@ -3,7 +3,8 @@
 -- linearizability proofs", CONCUR 2013), with k older items in place of one.
 use Rattle.std.specs.Prelude.{ℕ, zero, suc, ◌≡◌, ◌+◌, ◌<◌, ◌≤◌, Bool, cond, List, length}
 use Rattle.kfifo_model.specs.declared.calls.Call.{Call}
-use Rattle.kfifo_model.specs.Lists.{IsIn, Each}
+use Rattle.std.specs.List.{AllByRecursion}
+use Rattle.kfifo_model.specs.Lists.{IsIn}
 use Rattle.kfifo_model.specs.Relaxed.{Adds, Takes, Finds_none}
 use Rattle.kfifo_model.specs.Overtaking.{adds, takes}
 use Rattle.kfifo_model.specs.Histories.{call, does, EndsBelow, Precedes, HasNoRepeats}
@@ -58,7 +59,7 @@ IsTakenTwice h get = (x : ℕ) × Gets h x get × ((g : ℕ) → Gets h x g → 
 pub record IsNotEmpty (h : List Call) (c : ℕ) (puts : List ℕ) : Type 0 where
   pub empty : does h c ≡ Finds_none
   pub covered : (moment : ℕ) → IsMomentOf h c moment → (p : ℕ) × IsIn p puts × IsCertainlyThere h p moment
-  pub met : Each (λ p. (moment : ℕ) × IsMomentOf h c moment × IsCertainlyThere h p moment) puts
+  pub met : AllByRecursion (λ p. (moment : ℕ) × IsMomentOf h c moment × IsCertainlyThere h p moment) puts
   pub distinct : HasNoRepeats puts
 
 -- The single item that p puts is certainly older than what `put` puts, and there at the call `get`: p precedes `put`, and
@@ -75,6 +76,6 @@ pub record IsTooYoung (k : ℕ) (h : List Call) (get : ℕ) (puts : List ℕ) : 
   pub put : ℕ
   pub gets : Gets h item get
   pub single : IsSingle h item put
-  pub older : Each (IsOlder h get put) puts
+  pub older : AllByRecursion (IsOlder h get put) puts
   pub distinct : HasNoRepeats puts
   pub count : length puts ≡ k

@@ -6,7 +6,7 @@ use Rattle.kfifo_model.specs.declared.calls.Call.{Call}
 use Rattle.kfifo_model.specs.declared.calls.End.{End}
 use Rattle.kfifo_model.specs.Relaxed.{Effect, Adds, Takes, Finds_none}
 use Rattle.kfifo_model.specs.Overtaking.{adds, takes}
-use Rattle.kfifo_model.specs.Lists.{Each}
+use Rattle.std.specs.List.{AllByRecursion}
 use Rattle.kfifo_model.specs.Histories.{call, does, EndsBelow, HasNoRepeats}
 use Rattle.kfifo_verdict.specs.declared.deeds.Deed.{Deed}
 use Rattle.kfifo_verdict.specs.declared.deeds.Deed.TheVariants.{PutIn, TookOut, FoundNone, Nothing}
@@ -98,7 +98,8 @@ ArePresences h n ps = (length ps ≡ n) × ((p : ℕ) → p < n → IsPresence h
 
 -- An item that is certainly there at the beginning of call c, and until when, if there is any such.
 pub record IsStay (h : List Call) (c : ℕ) (s : Stay) : Type 0 where
-  pub there : c < s.gone → (moment : ℕ) → first_of h c ≤ moment → (s.gone < length h → moment < first_of h s.gone) → IsCertainlyThere h s.put moment
+  pub there : c < s.gone → (moment : ℕ) → first_of h c ≤ moment → (s.gone < length h → moment < first_of h s.gone)
+      → IsCertainlyThere h s.put moment
   pub until : c < s.gone → (moment : ℕ) → IsCertainlyThere h s.put moment → s.gone < length h → moment < first_of h s.gone
 
 abbrev pub no_stay : Stay
@@ -113,14 +114,17 @@ pub record AreStays (h : List Call) (stays : List Stay) : Type 0 where
 -- for each call the time until which the longest item stays that is there from it or an earlier one on
 pub record AreLongest (ps : List Presence) (stays : List Stay) : Type 0 where
   pub sized : length stays ≡ length ps
-  pub longest : (c p : ℕ) → c < length ps → p < length ps → (slice_index_or ps p no_presence).start ≤ c → (slice_index_or ps p no_presence).gone ≤ (slice_index_or stays c no_stay).gone
+  pub longest : (c p : ℕ) → c < length ps → p < length ps → (slice_index_or ps p no_presence).start ≤ c
+      → (slice_index_or ps p no_presence).gone ≤ (slice_index_or stays c no_stay).gone
   pub held : (c : ℕ) → c < length ps → 0 < (slice_index_or stays c no_stay).gone
-      → (q : ℕ) × (q < length ps) × ((slice_index_or ps q no_presence).start ≤ c) × ((slice_index_or ps q no_presence).gone ≡ (slice_index_or stays c no_stay).gone)
+      → (q : ℕ) × (q < length ps) × ((slice_index_or ps q no_presence).start ≤ c)
+      × ((slice_index_or ps q no_presence).gone ≡ (slice_index_or stays c no_stay).gone)
 
 -- Whether items are certainly there at each moment of call e, or at the beginning of call n none is.
 abbrev pub IsCovered : List Call → List Stay → ℕ → Covered → Type 0
 IsCovered h stays e (Whole puts) = IsNotEmpty h e puts.items
-IsCovered h stays e (Gap n) = (FoundNotEmpty h e → ⊥) × (e ≤ n) × (n < length h) × (EndsBelow (call h e).end (first_of h n) → ⊥) × ((slice_index_or stays n no_stay).gone ≤ n)
+IsCovered h stays e (Gap n) = (FoundNotEmpty h e → ⊥) × (e ≤ n) × (n < length h)
+    × (EndsBelow (call h e).end (first_of h n) → ⊥) × ((slice_index_or stays n no_stay).gone ≤ n)
 
 -- the calls by their items
 pub record IsIndexed (h : List Call) (items : Items) : Type 0 where
@@ -136,7 +140,8 @@ pub record IsBucketed (h : List Call) (ps : List Presence) (n : ℕ) (stays : Li
   pub longest : (p c : ℕ) → p < n → c < length h → (slice_index_or ps p no_presence).start ≡ c
       → (slice_index_or ps p no_presence).gone ≤ (slice_index_or stays c no_stay).gone
   pub held : (c : ℕ) → c < length h → 0 < (slice_index_or stays c no_stay).gone
-      → (q : ℕ) × (q < length h) × ((slice_index_or ps q no_presence).start ≤ c) × ((slice_index_or ps q no_presence).gone ≡ (slice_index_or stays c no_stay).gone)
+      → (q : ℕ) × (q < length h) × ((slice_index_or ps q no_presence).start ≤ c)
+      × ((slice_index_or ps q no_presence).gone ≡ (slice_index_or stays c no_stay).gone)
 
 -- the item is certainly there from call `put` on, and got by no call below `after`
 abbrev pub outlast : ℕ → ℕ → Presence → Bool
@@ -159,5 +164,5 @@ pub record AreSkips (ps : List Presence) (n : ℕ) (skips : List ℕ) : Type 0 w
 -- The first k numbers below n that pass the test, or all where they are fewer.
 pub record AreFirst (test : ℕ → Bool) (k n : ℕ) (found : List ℕ) : Type 0 where
   pub count : length found ≡ min k (count_below test n)
-  pub pass : Each (λ p. (p < n) × (test p ≡ true)) found
+  pub pass : AllByRecursion (λ p. (p < n) × (test p ≡ true)) found
   pub distinct : HasNoRepeats found

@@ -36,7 +36,8 @@ IsFirstEvidence k h (TakenTwice get) = Never (IsNeverPut h) × IsTakenTwice h ge
 IsFirstEvidence k h (NotEmpty empty puts) =
     Never (IsNeverPut h) × Never (IsTakenTwice h) × IsNotEmpty h empty puts.items × NeverBefore (FoundNotEmpty h) empty
 IsFirstEvidence k h (TooYoung get puts) =
-    Never (IsNeverPut h) × Never (IsTakenTwice h) × Never (FoundNotEmpty h) × IsTooYoung k h get puts.items × NeverBefore (GotTooYoung k h) get
+    Never (IsNeverPut h) × Never (IsTakenTwice h) × Never (FoundNotEmpty h) × IsTooYoung k h get puts.items
+    × NeverBefore (GotTooYoung k h) get
 
 -- each item that is put is single, and each call has ended
 abbrev pub IsPlain : List Call → Type 0

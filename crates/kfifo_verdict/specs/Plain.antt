@@ -27,7 +27,8 @@ pub record IsDue (ps : List Presence) (p late due : ℕ) : Type 0 where
   pub put : due ≤ (presence ps p).start
   pub got : due ≤ late
   pub next : (q : ℕ) → q < length ps → late ≤ (presence ps q).gone → due ≤ (presence ps q).start
-  pub attained : (due ≡ (presence ps p).start) ⊎ ((due ≡ late) ⊎ ((q : ℕ) × (q < length ps) × (late ≤ (presence ps q).gone) × ((presence ps q).start ≤ due)))
+  pub attained : (due ≡ (presence ps p).start)
+      ⊎ ((due ≡ late) ⊎ ((q : ℕ) × (q < length ps) × (late ≤ (presence ps q).gone) × ((presence ps q).start ≤ due)))
 
 -- An item's place in the line: by when it has to be in, by when out, and its put.
 pub record IsPlace (h : List Call) (ps : List Presence) (e : ℕ × ℕ × ℕ) : Type 0 where
@@ -88,13 +89,15 @@ pub record IsItemTurn (h : List Call) (ps : List Presence) (line : List (ℕ × 
   pub inside : i < length line
   pub is : (place line i).2 ≡ p
   pub put : turn ts p ≡ record { moment = (place line i).0; rank = i }
-  pub get : (presence ps p).gone < length h → (latest : ℕ) × IsLatest ps line i latest × (turn ts (presence ps p).gone ≡ record { moment = latest; rank = length line + i })
+  pub get : (presence ps p).gone < length h → (latest : ℕ) × IsLatest ps line i latest
+      × (turn ts (presence ps p).gone ≡ record { moment = latest; rank = length line + i })
 
 -- the turns of all calls, those of the items at the first n places of the line among them
 pub record AreTurns (h : List Call) (ps : List Presence) (line : List (ℕ × ℕ × ℕ)) (n : ℕ) (ts : List Turn) : Type 0 where
   pub sized : length ts ≡ length h
   pub items : (j : ℕ) → j < n → (i : ℕ) × (i < n) × IsItemTurn h ps line ts (place line j).2 i
-  pub idle : (c : ℕ) → c < length h → ((x : ℕ) → Puts h x c → ⊥) → ((x : ℕ) → Gets h x c → ⊥) → IsIdleTurn h ps (length line + length line) c (turn ts c)
+  pub idle : (c : ℕ) → c < length h → ((x : ℕ) → Puts h x c → ⊥) → ((x : ℕ) → Gets h x c → ⊥)
+      → IsIdleTurn h ps (length line + length line) c (turn ts c)
 
 -- c has its turn before d: by the moment, the rank and the number
 abbrev pub IsBefore : List Turn → ℕ → ℕ → Type 0

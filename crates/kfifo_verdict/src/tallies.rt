@@ -32,7 +32,8 @@ pub(crate) type Tallies = BTreeMap<u32, Tally>;
 fn with(tally: Tally, n: usize, first: u64) -> Tally
     requires few { tally.count ≤ n }
     requires room { n < 2 ^ 63 }
-    ensures { (test : ℕ → Bool) (firsts : ℕ → ℕ) → IsTally test firsts n tally → test n ≡ true → firsts n ≡ first → IsTally test firsts (n + 1) result }
+    ensures { (test : ℕ → Bool) (firsts : ℕ → ℕ) → IsTally test firsts n tally → test n ≡ true → firsts n ≡ first
+        → IsTally test firsts (n + 1) result }
 {
     let earliest = if tally.count == 0 || first < tally.earliest {
         first

@@ -49,7 +49,8 @@ impl Shape {
     ///
     /// Refused as by `new`, and then where `probes` is not 1 to k.
     pub fn with_probes(k: u32, n: u32, last: u64, probes: u32) -> Result<Shape, ShapeFault>
-        ensures { MatchResult result (λ s. (s.k ≡ k) × (s.n ≡ n) × (s.last ≡ last) × (s.probes ≡ probes)) (λ f. fault_of k n last probes ≡ Some f) }
+        ensures { MatchResult result (λ s. (s.k ≡ k) × (s.n ≡ n) × (s.last ≡ last) × (s.probes ≡ probes))
+            (λ f. fault_of k n last probes ≡ Some f) }
     {
         if k < 1 || k > MAX_K {
             return Err(ShapeFault::KOutOfRange);

@@ -8,13 +8,10 @@ ghost use Rattle.kfifo_live.specs.Pass.{IsOf, IsSame};
 mod worker;
 
 use kfifo_live::{PayPass, PayQueue};
-use kfifo_words::Shape;
+use kfifo_words::{MAX_VERSION, Shape};
 use std::alloc::Global;
 use std::thread::{Threads, map_vec};
 use worker::{Tally, Worker};
-
-/// The greatest version that a word can have, 2^40 - 1.
-const LAST: u64 = 1_099_511_627_775;
 
 /// How many threads share the queue.
 const THREADS: u32 = 4;
@@ -84,7 +81,7 @@ fn meet_all(
 
 /// Four threads share a queue with k = 2 and 8 segments. Each is handed a pass of the list, and hands it back.
 fn run<R: Threads + Sync>(rt: &R, alloc: Global) -> anyhow::Result<Totals> {
-    let (queue, passes) = PayQueue::open(alloc, Shape::new(2, 8, LAST)?, THREADS, TOKENS)?;
+    let (queue, passes) = PayQueue::open(alloc, Shape::new(2, 8, MAX_VERSION)?, THREADS, TOKENS)?;
     let workers = map_vec(rt, passes, &|pass| work(alloc, &queue, pass))?;
     finish(alloc, queue, workers)
 }

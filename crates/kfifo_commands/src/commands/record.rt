@@ -44,7 +44,8 @@ fn shape_of(options: RecordOptions<'_>) -> Result<Shape, Fault>
 fn repeat(alloc: Global, scripts: &[Vec<Begin>], count: u32) -> Result<Vec<Vec<Begin>>, Fault>
     requires { 1 ≤ count }
     ensures ok { let own = scripts_in scripts.now in IfOk result (λ made. scripts_in made.items ≡ all_repeated count own) }
-    ensures range { (shape : _) → AreScripts shape (scripts_in scripts.now) → IfOk result (λ made. AreScripts shape (scripts_in made.items)) }
+    ensures range { (shape : _) → AreScripts shape (scripts_in scripts.now)
+        → IfOk result (λ made. AreScripts shape (scripts_in made.items)) }
     ensures err { let own = scripts_in scripts.now in IfErr result (λ fault. (fault ≡ Fault.Memory)
         ⊎ ((place : ℕ) × (fault ≡ Fault.Word (place + 1)) × IsFirstOver (last_shift count own) own place)) }
 {

@@ -2,7 +2,7 @@
 ghost use Rattle.std.specs.Prelude.{◌≡◌, ◌≢◌, ◌⊎◌, ◌≤◌, ◌+◌, ◌++◌, ◌∷◌, [], List, ℕ, IfOk, IfErr, OnOk, map, replicate, string_bytes};
 ghost use Rattle.kfifo_words.specs.declared.shape.Shape.{Shape as ShapeData};
 ghost use Rattle.kfifo_machine.specs.declared.event.Begin.{Begin as BeginData};
-ghost use Rattle.kfifo_replay.specs.Player.{StandsFor, Stops};
+ghost use Rattle.kfifo_replay.specs.Player.{OfItsPicks, StandsFor, Stops};
 ghost use Rattle.kfifo_texts.specs.Picks as picks;
 ghost use Rattle.kfifo_texts.specs.Picks.{count_of, picks_of};
 ghost use Rattle.kfifo_commands.specs.Replays.{IsPointsLine, IsRecordLine, IsRefusal, IsReplayAnswer, IsReplayRefusal, IsReplayText, IsReportText, Makes, first_lines, last_lines};
@@ -92,11 +92,12 @@ fn feed<P: Progress>(
     meter: &mut Meter<'_, P>,
 ) -> Result<(), ReplayFault>
     requires few { count_of groups.now ≤ 16777216 }
-    requires stands { (shape : ShapeData) × (scripts : List (List BeginData)) × (earlier : List ℕ) × StandsFor shape scripts earlier replay.old }
-    ensures made { OnOk result ((shape : ShapeData) (scripts : List (List BeginData)) (earlier : List ℕ)
-        → StandsFor shape scripts earlier replay.old → StandsFor shape scripts (earlier ++ picks_of groups.now) replay.new) }
-    ensures refused { IfErr result (λ fault. (shape : ShapeData) (scripts : List (List BeginData)) (earlier : List ℕ)
-        → StandsFor shape scripts earlier replay.old → Stops shape scripts earlier (picks_of groups.now) fault replay.new) }
+    requires stands { (shape : ShapeData) × (scripts : List (List BeginData)) × (earlier : List ℕ)
+        × StandsFor shape scripts earlier replay.old }
+    ensures made { OnOk result (OfItsPicks replay.old (λ shape scripts earlier.
+        StandsFor shape scripts (earlier ++ picks_of groups.now) replay.new)) }
+    ensures refused { IfErr result (λ fault. OfItsPicks replay.old (λ shape scripts earlier.
+        Stops shape scripts earlier (picks_of groups.now) fault replay.new)) }
 {
     let mut made: usize = 0;
     for group in groups {
@@ -115,11 +116,12 @@ fn feed_group<P: Progress>(
     meter: &mut Meter<'_, P>,
 ) -> Result<(), ReplayFault>
     requires few { group.count ≤ 16777216 }
-    requires stands { (shape : ShapeData) × (scripts : List (List BeginData)) × (earlier : List ℕ) × StandsFor shape scripts earlier replay.old }
-    ensures made { OnOk result ((shape : ShapeData) (scripts : List (List BeginData)) (earlier : List ℕ)
-        → StandsFor shape scripts earlier replay.old → StandsFor shape scripts (earlier ++ replicate group.count group.thread) replay.new) }
-    ensures refused { IfErr result (λ fault. (shape : ShapeData) (scripts : List (List BeginData)) (earlier : List ℕ)
-        → StandsFor shape scripts earlier replay.old → Stops shape scripts earlier (replicate group.count group.thread) fault replay.new) }
+    requires stands { (shape : ShapeData) × (scripts : List (List BeginData)) × (earlier : List ℕ)
+        × StandsFor shape scripts earlier replay.old }
+    ensures made { OnOk result (OfItsPicks replay.old (λ shape scripts earlier.
+        StandsFor shape scripts (earlier ++ replicate group.count group.thread) replay.new)) }
+    ensures refused { IfErr result (λ fault. OfItsPicks replay.old (λ shape scripts earlier.
+        Stops shape scripts earlier (replicate group.count group.thread) fault replay.new)) }
 {
     let mut fed: u32 = 0;
     while fed < group.count {
@@ -147,8 +149,8 @@ fn behind(made: usize, fault: ReplayFault) -> ReplayFault
 
 /// What is printed of a replay.
 fn text_of(alloc: Global, options: &ReplayOptions<'_>, replay: &Replay) -> Result<String, Fault>
-    ensures ok { IfOk result (λ text. (shape : ShapeData) (scripts : List (List BeginData)) (picks : List ℕ) → StandsFor shape scripts picks replay.now
-        → IsReplayText options.now.record options.now.points options.now.stopped shape scripts picks (string_bytes text)) }
+    ensures ok { IfOk result (λ text. OfItsPicks replay.now (λ shape scripts picks.
+        IsReplayText options.now.record options.now.points options.now.stopped shape scripts picks (string_bytes text))) }
     ensures err { IfErr result (λ fault. (fault ≡ Fault.Memory) ⊎ (fault ≡ Fault.Replay ReplayFault.Memory)) }
 {
     if options.record {
@@ -160,8 +162,8 @@ fn text_of(alloc: Global, options: &ReplayOptions<'_>, replay: &Replay) -> Resul
 
 /// The line of the record of its calls.
 fn record_of(alloc: Global, replay: &Replay) -> Result<String, Fault>
-    ensures ok { IfOk result (λ text. (shape : ShapeData) (scripts : List (List BeginData)) (picks : List ℕ) → StandsFor shape scripts picks replay.now
-        → IsRecordLine shape scripts picks (string_bytes text)) }
+    ensures ok { IfOk result (λ text. OfItsPicks replay.now (λ shape scripts picks.
+        IsRecordLine shape scripts picks (string_bytes text))) }
     ensures err { IfErr result (λ fault. (fault ≡ Fault.Memory) ⊎ (fault ≡ Fault.Replay ReplayFault.Memory)) }
 {
     let history = replay.history(alloc)?;
@@ -172,8 +174,8 @@ fn record_of(alloc: Global, replay: &Replay) -> Result<String, Fault>
 
 /// The lines of its report.
 fn report_of(alloc: Global, options: &ReplayOptions<'_>, replay: &Replay) -> Result<String, Fault>
-    ensures ok { IfOk result (λ text. (shape : ShapeData) (scripts : List (List BeginData)) (picks : List ℕ) → StandsFor shape scripts picks replay.now
-        → IsReportText options.now.points options.now.stopped shape scripts picks (string_bytes text)) }
+    ensures ok { IfOk result (λ text. OfItsPicks replay.now (λ shape scripts picks.
+        IsReportText options.now.points options.now.stopped shape scripts picks (string_bytes text))) }
     ensures err { IfErr result (λ fault. (fault ≡ Fault.Memory) ⊎ (fault ≡ Fault.Replay ReplayFault.Memory)) }
 {
     let report = replay.report(alloc)?;
@@ -195,8 +197,8 @@ fn push_first(text: &mut String, report: &Report) -> Result<(), AllocError>
 
 /// Adds the line of the points, where it is asked for.
 fn push_points(alloc: Global, text: &mut String, wanted: bool, replay: &Replay) -> Result<(), Fault>
-    ensures ok { OnOk result ((shape : ShapeData) (scripts : List (List BeginData)) (picks : List ℕ) → StandsFor shape scripts picks replay.now
-        → (middle : List ℕ) × IsPointsLine wanted shape scripts picks middle × (string_bytes text.new ≡ string_bytes text.old ++ middle)) }
+    ensures ok { OnOk result (OfItsPicks replay.now (λ shape scripts picks.
+        (middle : List ℕ) × IsPointsLine wanted shape scripts picks middle × (string_bytes text.new ≡ string_bytes text.old ++ middle))) }
     ensures err { IfErr result (λ fault. (fault ≡ Fault.Memory) ⊎ (fault ≡ Fault.Replay ReplayFault.Memory)) }
 {
     if wanted {

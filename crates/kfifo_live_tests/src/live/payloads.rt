@@ -1,10 +1,13 @@
 //! Owned payloads.
-ghost use Rattle.std.specs.Prelude.{◌≡◌, IfOk, IfSome, All};
+ghost use Rattle.std.specs.Prelude.{◌≡◌, ◌<◌, IfOk, IfSome, All};
 ghost use Rattle.kfifo_live.specs.Pass.{IsOf, IsSame};
 
-use super::{LAST, draw};
+use super::draw;
+use crate::plain::{
+    close_payloads, give, open_payloads, open_payloads_one, open_payloads_two, take,
+};
 use kfifo_live::{CloseFault, Given, MAX_TOKENS, OpenFault, PayPass, PayQueue, Taken};
-use kfifo_words::Shape;
+use kfifo_words::{MAX_VERSION, Shape};
 use std::alloc::{AllocError, Global};
 use std::process::Abort;
 use std::sync::Arc;
@@ -32,37 +35,59 @@ impl Drop for Counted {
     }
 }
 
+/// A pass gives a payload, which comes to this, and has then so many tokens.
+fn check_give(
+    rt: &impl Abort,
+    queue: &PayQueue<u64>,
+    pass: &mut PayPass<u64>,
+    payload: u64,
+    wanted: Given<u64>,
+    tokens: usize,
+)
+    requires of { IsOf queue.now pass.old.pass }
+    requires start { 0 < queue.now.opened.shape.k }
+    ensures { IsSame pass.old.pass pass.new.pass }
+{
+    assert_eq!(rt; give(queue, pass, payload, 0, 4), wanted);
+    assert_eq!(rt; pass.tokens(), tokens);
+}
+
+/// A pass takes a payload, or comes to this, and has then so many tokens.
+fn check_take(
+    rt: &impl Abort,
+    queue: &PayQueue<u64>,
+    pass: &mut PayPass<u64>,
+    wanted: Taken<u64>,
+    tokens: usize,
+)
+    requires of { IsOf queue.now pass.old.pass }
+    requires start { 0 < queue.now.opened.shape.k }
+    ensures { IsSame pass.old.pass pass.new.pass }
+{
+    assert_eq!(rt; take(queue, pass, 0, 4), wanted);
+    assert_eq!(rt; pass.tokens(), tokens);
+}
+
 #[test]
 fn gives_and_takes_in_turn(rt: HostRuntime) -> Result<(), Fail> {
-    let shape = Shape::new(1, 2, LAST)?;
-    let (queue, mut passes) = PayQueue::open(rt.alloc(), shape, 2, 2)?;
-    let Some(mut taker) = passes.pop() else {
-        unreachable!()
-    };
-    let Some(mut giver) = passes.pop() else {
-        unreachable!()
-    };
+    let shape = Shape::new(1, 2, MAX_VERSION)?;
+    let (queue, mut giver, mut taker) = open_payloads_two(rt.alloc(), shape, 2)?;
     assert_eq!(rt; queue.shape(), shape);
-    assert_eq!(rt; giver.thread(), 0);
-    assert_eq!(rt; taker.thread(), 1);
-    assert_eq!(rt; giver.tokens(), 2);
-    assert_eq!(rt; giver.give(&queue, 70u64, 0, 4), Given::Done);
-    assert_eq!(rt; giver.give(&queue, 80u64, 0, 4), Given::Done);
-    assert_eq!(rt; giver.tokens(), 0);
-    assert_eq!(rt; giver.give(&queue, 90u64, 0, 4), Given::NoToken(90));
-    assert_eq!(rt; taker.give(&queue, 95u64, 0, 4), Given::Full(95));
-    assert_eq!(rt; taker.tokens(), 2);
-    assert_eq!(rt; taker.take(&queue, 0, 4), Taken::Got(70));
-    assert_eq!(rt; taker.tokens(), 3);
-    assert_eq!(rt; taker.take(&queue, 0, 4), Taken::Got(80));
-    assert_eq!(rt; taker.take(&queue, 0, 4), Taken::Empty);
-    assert_eq!(rt; taker.tokens(), 4);
+    assert_eq!(rt; (giver.thread(), giver.tokens()), (0, 2));
+    assert_eq!(rt; (taker.thread(), taker.tokens()), (1, 2));
+    check_give(&rt, &queue, &mut giver, 70, Given::Done, 1);
+    check_give(&rt, &queue, &mut giver, 80, Given::Done, 0);
+    check_give(&rt, &queue, &mut giver, 90, Given::NoToken(90), 0);
+    check_give(&rt, &queue, &mut taker, 95, Given::Full(95), 2);
+    check_take(&rt, &queue, &mut taker, Taken::Got(70), 3);
+    check_take(&rt, &queue, &mut taker, Taken::Got(80), 4);
+    check_take(&rt, &queue, &mut taker, Taken::Empty, 4);
     Ok(())
 }
 
 #[test]
 fn refuses_an_opening_in_the_stated_order(rt: HostRuntime) -> Result<(), Fail> {
-    let shape = Shape::new(2, 2, LAST)?;
+    let shape = Shape::new(2, 2, MAX_VERSION)?;
     for (threads, tokens, fault, number) in [
         (0u32, 0u32, OpenFault::ThreadsOutOfRange, 1u32),
         (65, MAX_TOKENS, OpenFault::ThreadsOutOfRange, 1),
@@ -86,17 +111,13 @@ fn refuses_an_opening_in_the_stated_order(rt: HostRuntime) -> Result<(), Fail> {
 
 #[test]
 fn gives_a_token_back_and_forth(rt: HostRuntime) -> Result<(), Fail> {
-    let (queue, mut passes) = PayQueue::open(rt.alloc(), Shape::new(1, 2, LAST)?, 1, 1)?;
-    let Some(mut pass) = passes.pop() else {
-        unreachable!()
-    };
-    assert_eq!(rt; pass.give(&queue, "a", 0, 1), Given::Done);
-    assert_eq!(rt; pass.tokens(), 0);
-    assert_eq!(rt; pass.give(&queue, "b", 0, 1), Given::NoToken("b"));
-    assert_eq!(rt; pass.take(&queue, 0, 1), Taken::Got("a"));
-    assert_eq!(rt; pass.tokens(), 1);
-    assert_eq!(rt; pass.give(&queue, "b", 0, 1), Given::Done);
-    assert_eq!(rt; queue.close(rt.alloc(), pass)?.as_slice(), ["b"].as_slice());
+    let (queue, mut pass) = open_payloads_one(rt.alloc(), Shape::new(1, 2, MAX_VERSION)?, 1)?;
+    check_give(&rt, &queue, &mut pass, 7, Given::Done, 0);
+    check_give(&rt, &queue, &mut pass, 8, Given::NoToken(8), 0);
+    check_take(&rt, &queue, &mut pass, Taken::Got(7), 1);
+    check_give(&rt, &queue, &mut pass, 8, Given::Done, 0);
+    let left = close_payloads(rt.alloc(), queue, pass)?;
+    assert_eq!(rt; left.as_slice(), [8].as_slice());
     Ok(())
 }
 
@@ -141,9 +162,9 @@ fn check_steps(
         let came = match number {
             Some(number) => {
                 let payload = Counted::new(*number, drops)?;
-                given(pass.give(queue, payload, start, turns))
+                given(give(queue, pass, payload, start, turns))
             }
-            None => taken(pass.take(queue, start, turns)),
+            None => taken(take(queue, pass, start, turns)),
         };
         assert_eq!(rt; came, *answer);
     }
@@ -153,10 +174,11 @@ fn check_steps(
 #[test]
 fn closes_with_what_is_left(rt: HostRuntime) -> Result<(), Fail> {
     let drops = Arc::new(rt.alloc(), AtomicU64::new(0))?;
-    let (queue, mut passes) = PayQueue::open(rt.alloc(), Shape::new(2, 2, LAST)?, 2, 5)?;
-    let (Some(mut second), Some(mut first)) = (passes.pop(), passes.pop()) else {
-        unreachable!()
-    };
+    let (queue, mut first, mut second) = open_payloads_two(
+        rt.alloc(),
+        Shape::new(2, 2, MAX_VERSION)?,
+        5,
+    )?;
     let puts = [
         (Some(1), 2, ("Done", None)),
         (Some(2), 2, ("Done", None)),
@@ -178,7 +200,7 @@ fn closes_with_what_is_left(rt: HostRuntime) -> Result<(), Fail> {
         &[(Some(5), 2, ("Done", None))],
     )?;
     queue.meet(&mut second, &mut first);
-    let left = queue.close(rt.alloc(), first)?;
+    let left = close_payloads(rt.alloc(), queue, first)?;
     let numbers: Vec<u64> = left
         .iter()
         .map(|payload| payload.number)
@@ -190,10 +212,7 @@ fn closes_with_what_is_left(rt: HostRuntime) -> Result<(), Fail> {
 #[test]
 fn drops_each_payload_once(rt: HostRuntime) -> Result<(), Fail> {
     let drops = Arc::new(rt.alloc(), AtomicU64::new(0))?;
-    let (queue, mut passes) = PayQueue::open(rt.alloc(), Shape::new(1, 2, LAST)?, 1, 3)?;
-    let Some(mut pass) = passes.pop() else {
-        unreachable!()
-    };
+    let (queue, mut pass) = open_payloads_one(rt.alloc(), Shape::new(1, 2, MAX_VERSION)?, 3)?;
     let steps = [
         (None, 1, ("Empty", None)),
         (Some(7), 1, ("Done", None)),
@@ -213,10 +232,7 @@ fn drops_each_payload_once(rt: HostRuntime) -> Result<(), Fail> {
 #[test]
 fn drops_each_payload_once_at_a_close(rt: HostRuntime) -> Result<(), Fail> {
     let drops = Arc::new(rt.alloc(), AtomicU64::new(0))?;
-    let (queue, mut passes) = PayQueue::open(rt.alloc(), Shape::new(1, 2, 2)?, 1, 2)?;
-    let Some(mut pass) = passes.pop() else {
-        unreachable!()
-    };
+    let (queue, mut pass) = open_payloads_one(rt.alloc(), Shape::new(1, 2, 2)?, 2)?;
     let steps = [
         (Some(1), 1, ("Done", None)),
         (None, 1, ("Got", Some(1))),
@@ -226,7 +242,7 @@ fn drops_each_payload_once_at_a_close(rt: HostRuntime) -> Result<(), Fail> {
     ];
     check_steps(&rt, &queue, &mut pass, &drops, &steps)?;
     assert_eq!(rt; drops.load(Ordering::SeqCst), 2);
-    let left = queue.close(rt.alloc(), pass)?;
+    let left = close_payloads(rt.alloc(), queue, pass)?;
     assert_eq!(rt; left.len(), 1);
     assert_eq!(rt; drops.load(Ordering::SeqCst), 2);
     drop(left);
@@ -234,37 +250,21 @@ fn drops_each_payload_once_at_a_close(rt: HostRuntime) -> Result<(), Fail> {
     Ok(())
 }
 
-/// A queue of counted payloads, with passes of its own.
-fn open_counted(
-    alloc: Global,
-    shape: Shape,
-    threads: u32,
-    tokens: u32,
-) -> Result<(PayQueue<Counted>, Vec<PayPass<Counted>>), OpenFault>
-    ensures { IfOk result (λ r. All (λ p. IsOf r.0 p.pass) r.1.items) }
-{
-    let (queue, passes) = PayQueue::open(alloc, shape, threads, tokens)?;
-    Ok((queue, passes))
-}
-
 /// Puts one payload into a queue and closes it. Answers the number that came back, or 0 where memory was refused.
 fn close_one(alloc: Global, drops: &Arc<AtomicU64>) -> u64 {
-    let Ok(shape) = Shape::new(1, 2, LAST) else {
+    let Ok(shape) = Shape::new(1, 2, MAX_VERSION) else {
         return 0;
     };
-    let Ok((queue, mut passes)) = open_counted(alloc, shape, 1, 1) else {
-        return 0;
-    };
-    let Some(mut pass) = passes.pop() else {
+    let Ok((queue, mut pass)) = open_payloads_one(alloc, shape, 1) else {
         return 0;
     };
     let Ok(payload) = Counted::new(7, drops) else {
         return 0;
     };
-    if given(pass.give(&queue, payload, 0, 1)).1.is_some() {
+    if given(give(&queue, &mut pass, payload, 0, 1)).1.is_some() {
         return 0;
     }
-    match queue.close(alloc, pass) {
+    match close_payloads(alloc, queue, pass) {
         Ok(left) => match left.as_slice().first() {
             Some(payload) => payload.number,
             None => 0,
@@ -316,11 +316,11 @@ fn trade(
         let turns = if draw(&mut seed, 4) == 0 { 1 } else { 100 };
         let number = (u64::from(thread) << 32) | u64::from(call);
         let payload = Counted::new(number, drops)?;
-        let (_, back) = given(pass.give(queue, payload, draw(&mut seed, k), turns));
+        let (_, back) = given(give(queue, pass, payload, draw(&mut seed, k), turns));
         if let Some(number) = back {
             numbers.push(number)?;
         }
-        let (_, got) = taken(pass.take(queue, draw(&mut seed, k), turns));
+        let (_, got) = taken(take(queue, pass, draw(&mut seed, k), turns));
         if let Some(number) = got {
             numbers.push(number)?;
         }
@@ -352,7 +352,7 @@ fn trade_all<R: Threads + Sync>(
     calls: u32,
     drops: &Arc<AtomicU64>,
 ) -> Result<Vec<u64>, Fail> {
-    let (queue, passes) = open_counted(alloc, shape, threads, 3)?;
+    let (queue, passes) = open_payloads(alloc, shape, threads, 3)?;
     let mut traders = map_vec(
         rt,
         passes,
@@ -368,7 +368,7 @@ fn trade_all<R: Threads + Sync>(
     let Some(Trader { pass, numbers: _ }) = traders.pop() else {
         return Ok(numbers);
     };
-    for payload in queue.close(alloc, pass)? {
+    for payload in close_payloads(alloc, queue, pass)? {
         numbers.push(payload.number)?;
     }
     numbers.sort_unstable();
@@ -379,7 +379,7 @@ fn trade_all<R: Threads + Sync>(
 fn hands_each_payload_to_one_thread(rt: HostRuntime) -> Result<(), Fail> {
     for (k, n, threads) in [(1u32, 2u32, 2u32), (2, 2, 4), (4, 3, 8)] {
         let drops = Arc::new(rt.alloc(), AtomicU64::new(0))?;
-        let shape = Shape::new(k, n, LAST)?;
+        let shape = Shape::new(k, n, MAX_VERSION)?;
         let numbers = trade_all(&rt, rt.alloc(), shape, threads, 2_000, &drops)?;
         assert_eq!(rt; numbers.len(), threads as usize * 2_000);
         assert_eq!(rt; drops.load(Ordering::SeqCst), numbers.len() as u64);

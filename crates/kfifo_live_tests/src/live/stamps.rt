@@ -2,10 +2,13 @@
 ghost use Rattle.std.specs.Prelude.{◌≡◌, ◌<◌, ◌≤◌, ◌+◌, ◌*◌, ◌^◌, IfOk, All, map};
 ghost use Rattle.kfifo_live.specs.Pass.{IsOf, IsSame};
 
-use super::{LAST, draw};
-use kfifo_live::{GatherFault, MAX_CALLS, OpenFault, StampPass, StampQueue, gather};
-use kfifo_model::{Answer, Call, End, History, Op, has_order, measure};
-use kfifo_words::Shape;
+use super::draw;
+use crate::plain::{
+    dequeue_stamped, enqueue_stamped, gather, has_order, measure, open_stamped, open_stamped_one,
+};
+use kfifo_live::{GatherFault, MAX_CALLS, OpenFault, StampPass, StampQueue};
+use kfifo_model::{Answer, Call, End, History, Op};
+use kfifo_words::{MAX_VERSION, Shape};
 use std::alloc::Global;
 use std::process::Abort;
 use std::sync::atomic::{AtomicU64, Ordering};
@@ -26,17 +29,23 @@ fn stamped(thread: u32, op: Op, first: u64, last: u64, answer: Answer) -> Call {
 
 #[test]
 fn stamps_the_calls_of_one_thread(rt: HostRuntime) -> Result<(), Fail> {
-    let shape = Shape::new(1, 2, LAST)?;
-    let (queue, mut passes) = StampQueue::open(rt.alloc(), shape, 1, 3)?;
-    let Some(mut pass) = passes.pop() else {
-        unreachable!()
-    };
+    let shape = Shape::new(1, 2, MAX_VERSION)?;
+    let (queue, mut pass) = open_stamped_one(rt.alloc(), shape, 3)?;
     assert!(rt; pass.log().is_empty());
-    assert_eq!(rt; pass.enqueue(&queue, 7, 0, 2), Some(Answer::Done));
-    assert_eq!(rt; pass.dequeue(&queue, 0, 2), Some(Answer::Got(7)));
-    assert_eq!(rt; pass.dequeue(&queue, 0, 2), Some(Answer::Empty));
-    assert_eq!(rt; pass.dequeue(&queue, 0, 2), None);
-    assert_eq!(rt; pass.enqueue(&queue, 8, 0, 2), None);
+    assert_eq!(rt;
+        enqueue_stamped(&queue, &mut pass, 7, 0, 2),
+        Some(Answer::Done)
+    );
+    assert_eq!(rt;
+        dequeue_stamped(&queue, &mut pass, 0, 2),
+        Some(Answer::Got(7))
+    );
+    assert_eq!(rt;
+        dequeue_stamped(&queue, &mut pass, 0, 2),
+        Some(Answer::Empty)
+    );
+    assert_eq!(rt; dequeue_stamped(&queue, &mut pass, 0, 2), None);
+    assert_eq!(rt; enqueue_stamped(&queue, &mut pass, 8, 0, 2), None);
     let calls = [
         stamped(0, Op::Enqueue(7), 0, 1, Answer::Done),
         stamped(0, Op::Dequeue, 2, 3, Answer::Got(7)),
@@ -50,7 +59,7 @@ fn stamps_the_calls_of_one_thread(rt: HostRuntime) -> Result<(), Fail> {
 
 #[test]
 fn refuses_in_the_stated_order(rt: HostRuntime) -> Result<(), Fail> {
-    let shape = Shape::new(2, 2, LAST)?;
+    let shape = Shape::new(2, 2, MAX_VERSION)?;
     for (threads, calls, fault, number) in [
         (0u32, 0u32, OpenFault::ThreadsOutOfRange, 1u32),
         (65, MAX_CALLS, OpenFault::ThreadsOutOfRange, 1),
@@ -70,7 +79,7 @@ fn refuses_in_the_stated_order(rt: HostRuntime) -> Result<(), Fail> {
 
 #[test]
 fn gathers_only_with_each_pass(rt: HostRuntime) -> Result<(), Fail> {
-    let shape = Shape::new(2, 2, LAST)?;
+    let shape = Shape::new(2, 2, MAX_VERSION)?;
     let (queue, mut passes) = StampQueue::open(rt.alloc(), shape, 2, 1)?;
     let (Some(_), Some(first)) = (passes.pop(), passes.pop()) else {
         unreachable!()
@@ -81,19 +90,6 @@ fn gathers_only_with_each_pass(rt: HostRuntime) -> Result<(), Fail> {
     assert_eq!(rt; fault, GatherFault::MissingPass);
     assert_eq!(rt; (fault.number(), GatherFault::Memory.number()), (1, 2));
     Ok(())
-}
-
-/// A stamped queue with passes of its own.
-fn open_stamped(
-    alloc: Global,
-    shape: Shape,
-    threads: u32,
-    calls: u32,
-) -> Result<(StampQueue, Vec<StampPass>), OpenFault>
-    ensures { IfOk result (λ r. All (λ p. IsOf r.0 p.pass) r.1.items) }
-{
-    let (queue, passes) = StampQueue::open(alloc, shape, threads, calls)?;
-    Ok((queue, passes))
 }
 
 /// Lets a thread begin when all have come, or after many looks.
@@ -118,9 +114,9 @@ fn make_calls(queue: &StampQueue, pass: &mut StampPass, thread: u32, calls: u32)
         let start = draw(&mut seed, 64) % k;
         if draw(&mut seed, 9) < 5 {
             let item = (thread % 64) * 65_536 + number % 65_535 + 1;
-            pass.enqueue(queue, item, start, 100);
+            enqueue_stamped(queue, pass, item, start, 100);
         } else {
-            pass.dequeue(queue, start, 100);
+            dequeue_stamped(queue, pass, start, 100);
         }
     }
 }
@@ -163,7 +159,7 @@ fn record<R: Threads + Sync>(
 #[test]
 fn short_records_have_legal_orders(rt: HostRuntime) -> Result<(), Fail> {
     for (k, n, threads, calls) in [(1u32, 2u32, 2u32, 6u32), (2, 2, 3, 4), (3, 4, 4, 3)] {
-        let shape = Shape::new(k, n, LAST)?;
+        let shape = Shape::new(k, n, MAX_VERSION)?;
         for round in 0..100 {
             let history = record(&rt, rt.alloc(), shape, threads, calls)?;
             assert_eq!(rt; history.calls().len(), threads as usize * calls as usize);
@@ -197,7 +193,7 @@ fn long_records_overtake_little(rt: HostRuntime) -> Result<(), Fail> {
         (4, 2, 16, 128),
         (64, 4, 16, 128),
     ] {
-        let shape = Shape::new(k, n, LAST)?;
+        let shape = Shape::new(k, n, MAX_VERSION)?;
         let history = record(&rt, rt.alloc(), shape, threads, calls)?;
         assert_eq!(rt; history.calls().len(), threads as usize * calls as usize);
         overlaps = overlaps.saturating_add(count_overlaps(history.calls()));
@@ -212,8 +208,8 @@ fn long_records_overtake_little(rt: HostRuntime) -> Result<(), Fail> {
 /// Holds whichever request for memory fails.
 #[test]
 fn refused_memory_of_records(rt: HostRuntime) -> Result<(), Fail> {
-    let shape = Shape::new(2, 2, LAST)?;
-    match StampQueue::open(rt.alloc(), shape, 3, 2) {
+    let shape = Shape::new(2, 2, MAX_VERSION)?;
+    match open_stamped(rt.alloc(), shape, 3, 2) {
         Ok((queue, passes)) => match gather(rt.alloc(), queue, passes) {
             Ok(history) => assert!(rt; history.calls().is_empty()),
             Err(fault) => assert_eq!(rt; fault, GatherFault::Memory),

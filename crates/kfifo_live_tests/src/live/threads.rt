@@ -1,12 +1,13 @@
 //! Passes of several threads, and what closing gives back.
 ghost use Rattle.std.specs.Prelude.{◌≡◌, ◌<◌, ◌≤◌, ◌+◌, ◌*◌, ◌^◌, IfOk, All, map};
-ghost use Rattle.kfifo_live.specs.Pass.{AllOf, IsOf, IsSame};
+ghost use Rattle.kfifo_live.specs.Pass.{IsOf, IsSame};
 
-use super::{LAST, call, dequeue, draw, enqueue};
-use kfifo_live::{CloseFault, OpenFault, Pass, Queue, close, meet};
+use super::{call, dequeue, draw, enqueue};
+use crate::plain::{close, has_order, meet, open, open_two};
+use kfifo_live::{CloseFault, OpenFault, Pass, Queue};
 use kfifo_machine::Begin;
-use kfifo_model::{Answer, Call, End, History, Op, has_order};
-use kfifo_words::Shape;
+use kfifo_model::{Answer, Call, End, History, Op};
+use kfifo_words::{MAX_VERSION, Shape};
 use std::alloc::{AllocError, Global};
 use std::process::Abort;
 use std::sync::atomic::{AtomicU64, Ordering};
@@ -32,15 +33,9 @@ fn insist(queue: &Queue, pass: &mut Pass, begin: Begin) -> Option<Answer>
 
 #[test]
 fn hands_over_between_threads(rt: HostRuntime) -> Result<(), Fail> {
-    let shape = Shape::new(1, 2, LAST)?;
-    let (there, mut passes) = Queue::open(rt.alloc(), shape, 2)?;
-    let (Some(mut there_of_b), Some(mut there_of_a)) = (passes.pop(), passes.pop()) else {
-        unreachable!()
-    };
-    let (back, mut passes) = Queue::open(rt.alloc(), shape, 2)?;
-    let (Some(mut back_of_b), Some(mut back_of_a)) = (passes.pop(), passes.pop()) else {
-        unreachable!()
-    };
+    let shape = Shape::new(1, 2, MAX_VERSION)?;
+    let (there, mut there_of_a, mut there_of_b) = open_two(rt.alloc(), shape)?;
+    let (back, mut back_of_a, mut back_of_b) = open_two(rt.alloc(), shape)?;
     let (there, back) = (&there, &back);
     let (a, b) = join(
         &rt,
@@ -74,10 +69,7 @@ fn check_answers(rt: &impl Abort, queue: &Queue, pass: &mut Pass, calls: &[(Begi
 
 #[test]
 fn gives_back_what_is_left(rt: HostRuntime) -> Result<(), Fail> {
-    let (queue, mut passes) = Queue::open(rt.alloc(), Shape::new(2, 2, LAST)?, 2)?;
-    let (Some(mut second), Some(mut first)) = (passes.pop(), passes.pop()) else {
-        unreachable!()
-    };
+    let (queue, mut first, mut second) = open_two(rt.alloc(), Shape::new(2, 2, MAX_VERSION)?)?;
     let puts = [
         (enqueue(1, 0, 2), Answer::Done),
         (enqueue(2, 0, 2), Answer::Done),
@@ -100,7 +92,7 @@ fn gives_back_what_is_left(rt: HostRuntime) -> Result<(), Fail> {
 
 #[test]
 fn closes_only_with_each_pass(rt: HostRuntime) -> Result<(), Fail> {
-    let shape = Shape::new(2, 2, LAST)?;
+    let shape = Shape::new(2, 2, MAX_VERSION)?;
     let (queue, mut passes) = Queue::open(rt.alloc(), shape, 3)?;
     let (Some(last), Some(_), Some(first)) = (passes.pop(), passes.pop(), passes.pop()) else {
         unreachable!()
@@ -109,22 +101,22 @@ fn closes_only_with_each_pass(rt: HostRuntime) -> Result<(), Fail> {
         panic!(rt; "closed without the second pass");
     };
     assert_eq!(rt; fault, CloseFault::MissingPass);
-    let (queue, _) = Queue::open(rt.alloc(), shape, 3)?;
+    let (queue, _) = open(rt.alloc(), shape, 3)?;
     let Err(fault) = close(rt.alloc(), queue, Vec::new(rt.alloc())) else {
         panic!(rt; "closed with no pass");
     };
     assert_eq!(rt; fault, CloseFault::MissingPass);
-    let (queue, passes) = Queue::open(rt.alloc(), shape, 3)?;
+    let (queue, passes) = open(rt.alloc(), shape, 3)?;
     assert!(rt; close(rt.alloc(), queue, passes)?.is_empty());
     Ok(())
 }
 
 /// Three passes over a small ring; where a request for memory failed, the opening is tried once more.
 fn open_again(alloc: Global, shape: Shape) -> Result<(Queue, Vec<Pass>), OpenFault>
-    ensures { IfOk result (λ r. AllOf r.0 r.1.items) }
+    ensures { IfOk result (λ r. All (IsOf r.0) r.1.items) }
 {
-    match Queue::open(alloc, shape, 3) {
-        Err(OpenFault::Memory) => Queue::open(alloc, shape, 3),
+    match open(alloc, shape, 3) {
+        Err(OpenFault::Memory) => open(alloc, shape, 3),
         opened => opened,
     }
 }
@@ -132,11 +124,11 @@ fn open_again(alloc: Global, shape: Shape) -> Result<(Queue, Vec<Pass>), OpenFau
 /// Holds whichever one request for memory fails, and fails where a call always answers Memory.
 #[test]
 fn refused_memory(rt: HostRuntime) -> Result<(), Fail> {
-    let shape = Shape::new(2, 2, LAST)?;
+    let shape = Shape::new(2, 2, MAX_VERSION)?;
     let (queue, passes) = open_again(rt.alloc(), shape)?;
     let left = match close(rt.alloc(), queue, passes) {
         Err(CloseFault::Memory) => {
-            let (queue, passes) = Queue::open(rt.alloc(), shape, 3)?;
+            let (queue, passes) = open(rt.alloc(), shape, 3)?;
             close(rt.alloc(), queue, passes)?
         }
         closed => closed?,
@@ -217,14 +209,6 @@ fn race_one(
     Racer { pass, made }
 }
 
-/// A queue with passes of its own.
-fn open_for(alloc: Global, shape: Shape, threads: u32) -> Result<(Queue, Vec<Pass>), OpenFault>
-    ensures { IfOk result (λ r. All (IsOf r.0) r.1.items) }
-{
-    let (queue, passes) = Queue::open(alloc, shape, threads)?;
-    Ok((queue, passes))
-}
-
 /// The racers' passes, in their order.
 fn passes_back(alloc: Global, racers: Vec<Racer>) -> Result<Vec<Pass>, AllocError>
     ensures { IfOk result (λ passes. passes.items ≡ map (λ r. r.pass) racers.items) }
@@ -253,7 +237,7 @@ fn race<R: Threads + Sync>(
     threads: u32,
     calls: u32,
 ) -> Result<(Vec<Call>, Vec<u32>), Fail> {
-    let (queue, passes) = open_for(alloc, shape, threads)?;
+    let (queue, passes) = open(alloc, shape, threads)?;
     let clock = AtomicU64::new(0);
     let racers = map_vec(
         rt,
@@ -324,7 +308,7 @@ fn loses_nothing_and_doubles_nothing(rt: HostRuntime) -> Result<(), Fail> {
         (64, 2, 64),
         (64, 1_024, 64),
     ] {
-        let shape = Shape::with_probes(k, n, LAST, probes)?;
+        let shape = Shape::with_probes(k, n, MAX_VERSION, probes)?;
         let put = check_balance(&rt, rt.alloc(), shape, 4, 50_000)?;
         assert!(rt; put > 10_000, "{shape:?}");
     }
@@ -334,7 +318,7 @@ fn loses_nothing_and_doubles_nothing(rt: HostRuntime) -> Result<(), Fail> {
 #[test]
 fn sixteen_threads_lose_nothing(rt: HostRuntime) -> Result<(), Fail> {
     for (k, n) in [(1u32, 2u32), (1, 1_024), (64, 2), (64, 1_024)] {
-        let shape = Shape::new(k, n, LAST)?;
+        let shape = Shape::new(k, n, MAX_VERSION)?;
         let put = check_balance(&rt, rt.alloc(), shape, 16, 10_000)?;
         assert!(rt; put > 10_000, "{shape:?}");
     }
@@ -343,7 +327,7 @@ fn sixteen_threads_lose_nothing(rt: HostRuntime) -> Result<(), Fail> {
 
 #[test]
 fn sixty_four_passes_make_calls(rt: HostRuntime) -> Result<(), Fail> {
-    let shape = Shape::new(64, 1_024, LAST)?;
+    let shape = Shape::new(64, 1_024, MAX_VERSION)?;
     let put = check_balance(&rt, rt.alloc(), shape, 64, 500)?;
     assert!(rt; put > 10_000);
     Ok(())
@@ -381,7 +365,7 @@ fn wears_out_and_loses_nothing(rt: HostRuntime) -> Result<(), Fail> {
 #[test]
 fn short_races_have_legal_orders(rt: HostRuntime) -> Result<(), Fail> {
     for (k, n) in [(1u32, 2u32), (2, 2), (3, 4)] {
-        let shape = Shape::new(k, n, LAST)?;
+        let shape = Shape::new(k, n, MAX_VERSION)?;
         for round in 0..100 {
             let (made, _) = race(&rt, rt.alloc(), shape, 4, 3)?;
             let history = History::new(made)?;

@@ -1,5 +1,5 @@
-use Rattle.std.proofs.Common.{map, Some, ◌≡◌, ◌≤◌, ◌*◌, ◌++◌, length, drop, vec_len, sym, ap, subst, ◌∙◌, arith}
-use Rattle.kfifo_live.specs.Pass.{OpenQueue, AllOf}
+use Rattle.std.proofs.Common.{All, map, Some, ◌≡◌, ◌≤◌, ◌*◌, ◌++◌, length, drop, vec_len, sym, ap, subst, ◌∙◌, arith}
+use Rattle.kfifo_live.specs.Pass.{OpenQueue, IsOf}
 use Rattle.kfifo_c.specs.Handles.{behind}
 use Rattle.kfifo_c.specs.Exports.{MayClose, passes_in, seats_of, AreTheirs}
 use Rattle.kfifo_c.proofs.Closings.{match_some, few_closed, closes_theirs, closes_passes}
@@ -11,7 +11,7 @@ close-requires c =
     let may = match_some _ _ c.in-Ok-Some.field-0 c.in-Ok-Some.queue c.in-Ok-Some.ensures.may c.in-Ok-Some.field-0-is in
     let may' = subst (λ (q : OpenQueue). MayClose q os (length c.args.items.now)) (sym c.in-Some.ensures) may in
     let same = c.in-Ok-Some.ensures.same in
-    subst (AllOf c.in-Some.queue) (sym (c.in-Ok.ensures.taken ∙ ap passes_in same))
+    subst (All (IsOf c.in-Some.queue)) (sym (c.in-Ok.ensures.taken ∙ ap passes_in same))
     (closes_theirs os (length c.args.items.now) c.in-Some.queue may' (subst AreTheirs same c.in-Ok.ensures.of))
 
 pub write_items-requires : goal.write_items-requires

@@ -1,12 +1,10 @@
-use Rattle.std.proofs.Common.{subst, sym, ap, ◌∙◌}
-use Rattle.kfifo_live.specs.Pass.{AllOf}
+use Rattle.std.proofs.Common.{sym, ap, ◌∙◌}
 use Rattle.kfifo_c.specs.Exports.{seats_of}
-use Rattle.kfifo_c.proofs.Passes.{new_all}
 use Rattle.kfifo_c.proofs.opening.open_seats.Goals as goal
 
 pub seat_all-requires : goal.seat_all-requires
 seat_all-requires c = record {
-  of = subst (AllOf c.in_ok-queue.queue) (sym c.in_ok-queue.ensures.ok.1) (new_all _ 0 c.args.threads);
+  of = c.in_ok-queue.ensures.of;
   threads = ap (λ o. o.threads) (sym c.in_ok-queue.ensures.ok.0);
 }
 

@@ -1,20 +1,21 @@
-use Rattle.std.proofs.Common.{List, ap, sym, ◌∙◌, subst}
+use Rattle.std.proofs.Common.{Some, List, ap, sym, ◌∙◌, subst}
+use Rattle.std.proofs.lemmas.List.Elements.{All-pop}
 use Rattle.kfifo_live.specs.declared.view.Part.{Part}
 use Rattle.kfifo_live.specs.Schedule.{AllBegin}
-use Rattle.kfifo_live.specs.Pass.{Known, queue_of, AllSeen, AllOf}
-use Rattle.kfifo_live.proofs.Gathered.{all_of_last, all_seen_push, all_begin_parts, pass_begins}
+use Rattle.kfifo_live.specs.Pass.{Known, queue_of, AllSeen, IsOf}
+use Rattle.kfifo_live.proofs.Gathered.{all_seen_push, all_begin_parts, pass_begins}
 use Rattle.kfifo_live.proofs.closing.gather_all.Goals as goal
 
 pub gather-requires-clause-other : goal.gather-requires-clause-other
 gather-requires-clause-other c =
-    let of = all_of_last _ _ _ (subst (AllOf (queue_of c.args.seat.table_id c.args.seat.me.0.opened)) c.in-Some.ensures.items c.loop-pass.invariant.all_of) in
+    let of = All-pop (IsOf (queue_of c.args.seat.table_id c.args.seat.me.0.opened)) _ _ (Some c.in-Some.pass) c.in-Some.ensures.items c.loop-pass.invariant.all_of in
     (ap (λ (k : Known). k.table) c.pass.view_is ∙ of.1.0 ∙ c.requires.table.0, c.pass.invariant.held)
 
 pub loop-pass-preserved : goal.loop-pass-preserved
 loop-pass-preserved c =
     let i = c.loop-pass.invariant in
     let items = c.in-Some.ensures.items in
-    let of = all_of_last _ _ _ (subst (AllOf (queue_of c.args.seat.table_id c.args.seat.me.0.opened)) items i.all_of) in
+    let of = All-pop (IsOf (queue_of c.args.seat.table_id c.args.seat.me.0.opened)) _ _ (Some c.in-Some.pass) items i.all_of in
     let both = c.gather.ensures.both in record {
       table = c.gather.ensures.same.0 ∙ i.table;
       opened = ap (λ v. v.opened) both ∙ i.opened;

@@ -1,10 +1,11 @@
 -- The logs of a closed queue are a history with a legal order.
-use Rattle.std.proofs.Common.{◌≡◌, ℕ, ◌≤◌, List, ◌∙◌, ap, sym, subst, rules}
+use Rattle.std.proofs.Common.{◌≡◌, ℕ, ◌≤◌, All, List, ◌∙◌, ap, sym, subst, rules}
 use Rattle.std.specs.List.Sorted.{IsNonDecreasingBy}
+use Rattle.std.proofs.lemmas.List.Elements.{All-map}
 use Rattle.std.proofs.lemmas.List.Sorted.{IsNonDecreasingBy-from_sort_by_key}
 use Rattle.kfifo_model.specs.declared.calls.Call.{Call}
 use Rattle.kfifo_machine.proofs.Calls.{no_fault}
-use Rattle.kfifo_live.specs.Pass.{Closes, IsComplete, OpenQueue}
+use Rattle.kfifo_live.specs.Pass.{Closes, IsComplete, IsOf, Known, OpenQueue}
 use Rattle.kfifo_live.specs.Stamps.{Gathers, Logged, passes_of}
 use Rattle.kfifo_live.proofs.Records.{gathered, gathered_history}
 use Rattle.kfifo_live.proofs.recording.gather.Goals as goal
@@ -34,3 +35,9 @@ returns-clause-ok c =
     let all : Gathers q.opened c.args.passes.items c.sort_by_key.new.self.items =
     gathered q c.args.passes.items c.in_ok-calls.calls.items c.sort_by_key.new.self.items c.in_ok-calls.plain.items c.in-Ok._items.items few c.in_ok-calls.ensures.passes c.in_ok-calls.ensures.logs c.in_ok-calls.ensures.are_logs c.requires complete closed c.sort_by_key.ensures.permutation sorted in
     subst (Gathers q.opened c.args.passes.items) (sym c.in-Ok-new.ensures.0) all
+
+pub close-requires : goal.close-requires
+close-requires c =
+    let q = c.args.queue in
+    subst (λ (x : OpenQueue × List Known). All (IsOf x.0) x.1) (λ i. (sym c.queue.view_is i, sym c.in_ok-calls.ensures.passes i))
+    (All-map (IsOf q) (λ (p : Logged). p.pass) c.args.passes.items c.requires)

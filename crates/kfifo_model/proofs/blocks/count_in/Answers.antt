@@ -1,6 +1,5 @@
-use Rattle.std.proofs.Common.{◌≡◌, ◌≤◌, ◌<◌, ◌+◌, ◌∙◌, List, take, get_or, length, count_by, ap, sym, arith}
+use Rattle.std.proofs.Common.{◌≡◌, ◌<◌, ◌+◌, take, length, count_by, ap, arith}
 use Rattle.std.specs.List.{flat_map}
-use Rattle.kfifo_model.specs.declared.index.Rival.{Rival}
 use Rattle.kfifo_model.specs.Index.{is_beaten}
 use Rattle.kfifo_model.proofs.Counting.{next_block, few_in}
 use Rattle.kfifo_model.proofs.blocks.count_in.Goals as goal

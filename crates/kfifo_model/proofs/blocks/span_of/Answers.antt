@@ -1,4 +1,4 @@
-use Rattle.std.proofs.Common.{◌≡◌, ◌≤◌, min, take, get_or, length, sym, subst, arith}
+use Rattle.std.proofs.Common.{◌≡◌, min, take, get_or, sym, subst, arith}
 use Rattle.std.proofs.lemmas.List.{take_all, take_more}
 use Rattle.std.specs.Ordering.{nat_cmp, ord_max}
 use Rattle.kfifo_model.specs.declared.index.Rival.{Rival}

@@ -1,14 +1,11 @@
--- The table opens by the rule, with an empty slot for each token.
-use Rattle.std.proofs.Common.{◌≡◌, replicate, ◌+◌, ◌*◌, ◌∙◌, rules}
-use Rattle.kfifo_live.specs.Payloads.{pay_opening}
-use Rattle.kfifo_live.proofs.Cuts.{opens}
-use Rattle.kfifo_live.proofs.Opens.{zeroed}
+-- The passes came from the opening, after which all words are 0.
+use Rattle.std.proofs.Common.{All, subst, sym}
+use Rattle.kfifo_live.specs.Pass.{IsOf}
+use Rattle.kfifo_live.proofs.Opens.{pay_passes_of_new, zeroed}
 use Rattle.kfifo_live.proofs.payload.PayQueue.open.Goals as goal
 
-pub vacant-requires : goal.vacant-requires
-vacant-requires g c =
-    let zeros : c.in_ok-words.words.items ≡ replicate (2 + c.args.shape.n * c.args.shape.k) 0 = search rules in
-    opens _ _ (c.as_slice.ensures.value ∙ zeros)
-
 pub returns-clause-zeroed : goal.returns-clause-zeroed
-returns-clause-zeroed g c = zeroed (pay_opening c.args.shape c.args.threads c.args.tokens)
+returns-clause-zeroed g c = zeroed c.in_ok-opened.opened.0.opened
+
+pub returns-clause-of : goal.returns-clause-of
+returns-clause-of g c = subst (All (λ p. IsOf c.in_ok-opened.opened.0 p.pass)) (sym c.in_ok-opened.ensures.1) (pay_passes_of_new c.in_ok-opened.opened.0 0 c.args.threads)

@@ -1,7 +1,8 @@
 -- Every schedule of a queue with so many threads has a legal order.
 use Rattle.kfifo_linear.proofs.Schedule.{has_legal_order, few_overtake, few_certainly}
-use Rattle.std.proofs.Common.{arith}
-use Rattle.kfifo_live.proofs.Opens.{zeroed}
+use Rattle.std.proofs.Common.{All, arith, subst, sym}
+use Rattle.kfifo_live.specs.Pass.{IsOf}
+use Rattle.kfifo_live.proofs.Opens.{passes_of_new, zeroed}
 use Rattle.kfifo_live.proofs.queue.Queue.open.Goals as goal
 
 pub returns-clause-legal : goal.returns-clause-legal
@@ -15,3 +16,6 @@ returns-clause-few_certainly_overtake c = few_certainly c.args.shape c.args.thre
 
 pub returns-clause-zeroed : goal.returns-clause-zeroed
 returns-clause-zeroed c = zeroed c.in_ok-opened.opened.0.opened
+
+pub returns-clause-of : goal.returns-clause-of
+returns-clause-of c = subst (All (IsOf c.in_ok-opened.opened.0)) (sym c.in_ok-opened.ensures.1) (passes_of_new c.in_ok-opened.opened.0 0 c.args.threads)

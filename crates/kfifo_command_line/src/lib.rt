@@ -1,0 +1,8 @@
+//! The command line of `kfifo`: how it is written, its help, and all that the program does with it.
+#![tactic(auto)]
+
+mod commands;
+mod entry;
+mod options;
+
+pub use entry::{program, program_showing};
