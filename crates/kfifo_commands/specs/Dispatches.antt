@@ -53,17 +53,6 @@ pub record AreTasksRefused (options : DispatchOptions) (fault : DispatchFault) :
 abbrev pub IsDispatchRefusal : DispatchOptions → Fault → Type 0
 IsDispatchRefusal options (faults.Shape fault) = IsShapeFault options.sizes fault
 IsDispatchRefusal options (faults.Word number) = IsUnreadTask options number
-IsDispatchRefusal options faults.Order = ⊥
-IsDispatchRefusal options faults.Picks = ⊥
-IsDispatchRefusal options (faults.Replay fault) = ⊥
-IsDispatchRefusal options (faults.Open fault) = ⊥
 IsDispatchRefusal options (faults.Dispatch fault) = AreTasksRefused options fault
-IsDispatchRefusal options faults.Input = ⊥
-IsDispatchRefusal options faults.NotJson = ⊥
-IsDispatchRefusal options (faults.Record fault) = ⊥
-IsDispatchRefusal options (faults.Search fault) = ⊥
-IsDispatchRefusal options faults.RepeatedItem = ⊥
-IsDispatchRefusal options (faults.Import fault) = ⊥
-IsDispatchRefusal options faults.TooManyDrawn = ⊥
 IsDispatchRefusal options faults.Memory = Unit {0}
-IsDispatchRefusal options faults.Output = ⊥
+IsDispatchRefusal options _ = ⊥

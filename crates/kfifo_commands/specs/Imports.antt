@@ -5,7 +5,7 @@ use Rattle.kfifo_import.specs.declared.log.ImportFault.{ImportFault}
 use Rattle.kfifo_import.specs.Tables.{IsImported, IsUnimported}
 use Rattle.kfifo_judge.specs.Inputs.{IsRecordText}
 use Rattle.kfifo_texts.specs.declared.fault.Fault.{Fault}
-use Rattle.kfifo_texts.specs.declared.fault.Fault.TheVariants.{Shape, Word, Order, Picks, Replay, Open, Dispatch, Input, NotJson, Record, Search, RepeatedItem, Import, TooManyDrawn, Memory, Output}
+use Rattle.kfifo_texts.specs.declared.fault.Fault.TheVariants.{Input, Import, Memory}
 use Rattle.kfifo_texts.specs.Lines.{line}
 use Rattle.kfifo_texts.specs.RecordTexts.{record_text}
 use Rattle.kfifo_commands.specs.Records.{IsInput, IsUnread}
@@ -25,19 +25,7 @@ IsNoImport input fault = (bytes : List ℕ) × IsInput input bytes × IsUnimport
 
 -- why there is no answer
 abbrev pub IsImportRefusal : Option (List ℕ) → ℕ → ℕ → Fault → Type 0
-IsImportRefusal input before after (Shape fault) = ⊥
-IsImportRefusal input before after (Word number) = ⊥
-IsImportRefusal input before after Order = ⊥
-IsImportRefusal input before after Picks = ⊥
-IsImportRefusal input before after (Replay fault) = ⊥
-IsImportRefusal input before after (Open fault) = ⊥
-IsImportRefusal input before after (Dispatch fault) = ⊥
 IsImportRefusal input before after Input = IsUnread input before after
-IsImportRefusal input before after NotJson = ⊥
-IsImportRefusal input before after (Record fault) = ⊥
-IsImportRefusal input before after (Search fault) = ⊥
-IsImportRefusal input before after RepeatedItem = ⊥
 IsImportRefusal input before after (Import fault) = IsNoImport input fault
-IsImportRefusal input before after TooManyDrawn = ⊥
 IsImportRefusal input before after Memory = Unit {0}
-IsImportRefusal input before after Output = ⊥
+IsImportRefusal input before after _ = ⊥

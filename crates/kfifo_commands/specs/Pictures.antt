@@ -6,7 +6,7 @@ use Rattle.kfifo_judge.specs.declared.record.StreamFault.TheVariants as streams
 use Rattle.kfifo_judge.specs.Inputs.{IsRecordText}
 use Rattle.kfifo_judge.specs.TextFaults.{IsTextFault}
 use Rattle.kfifo_texts.specs.declared.fault.Fault.{Fault}
-use Rattle.kfifo_texts.specs.declared.fault.Fault.TheVariants.{Shape, Word, Order, Picks, Replay, Open, Dispatch, Input, NotJson, Record, Search, RepeatedItem, Import, TooManyDrawn, Memory, Output}
+use Rattle.kfifo_texts.specs.declared.fault.Fault.TheVariants.{Order, Input, NotJson, Record, TooManyDrawn, Memory}
 use Rattle.kfifo_commands.specs.declared.options.DrawOptions.{DrawOptions}
 use Rattle.kfifo_commands.specs.Records.{IsInput, IsOfInput, IsOrder, IsOrderFault, IsUnread}
 
@@ -34,22 +34,12 @@ pub record IsOverdrawn (input : Option (List ℕ)) : Type 0 where
 
 -- why an input is not drawn
 abbrev pub IsUndrawn : Option (List ℕ) → ℕ → ℕ → Fault → Type 0
-IsUndrawn input before after (Shape fault) = ⊥
-IsUndrawn input before after (Word number) = ⊥
-IsUndrawn input before after Order = ⊥
-IsUndrawn input before after Picks = ⊥
-IsUndrawn input before after (Replay fault) = ⊥
-IsUndrawn input before after (Open fault) = ⊥
-IsUndrawn input before after (Dispatch fault) = ⊥
 IsUndrawn input before after Input = IsUnread input before after
 IsUndrawn input before after NotJson = IsOfInput input IsTextFault streams.NotJson
 IsUndrawn input before after (Record fault) = IsOfInput input IsTextFault (streams.Record fault)
-IsUndrawn input before after (Search fault) = ⊥
-IsUndrawn input before after RepeatedItem = ⊥
-IsUndrawn input before after (Import fault) = ⊥
 IsUndrawn input before after TooManyDrawn = IsOverdrawn input
 IsUndrawn input before after Memory = Unit {0}
-IsUndrawn input before after Output = ⊥
+IsUndrawn input before after _ = ⊥
 
 -- why there is no picture: the value of `--order` gives no order, or the input is not drawn
 abbrev pub IsDrawRefusal : DrawOptions → Option (List ℕ) → ℕ → ℕ → Fault → Type 0

@@ -66,17 +66,6 @@ pub record IsQueueRefused (options : RecordOptions) (fault : OpenFault) : Type 0
 abbrev pub IsRealRunRefusal : RecordOptions → Fault → Type 0
 IsRealRunRefusal options (faults.Shape fault) = IsShapeFault options.sizes fault
 IsRealRunRefusal options (faults.Word number) = IsUnreadScript options number ⊎ IsScriptOver options number
-IsRealRunRefusal options faults.Order = ⊥
-IsRealRunRefusal options faults.Picks = ⊥
-IsRealRunRefusal options (faults.Replay fault) = ⊥
 IsRealRunRefusal options (faults.Open fault) = IsQueueRefused options fault
-IsRealRunRefusal options (faults.Dispatch fault) = ⊥
-IsRealRunRefusal options faults.Input = ⊥
-IsRealRunRefusal options faults.NotJson = ⊥
-IsRealRunRefusal options (faults.Record fault) = ⊥
-IsRealRunRefusal options (faults.Search fault) = ⊥
-IsRealRunRefusal options faults.RepeatedItem = ⊥
-IsRealRunRefusal options (faults.Import fault) = ⊥
-IsRealRunRefusal options faults.TooManyDrawn = ⊥
 IsRealRunRefusal options faults.Memory = Unit {0}
-IsRealRunRefusal options faults.Output = ⊥
+IsRealRunRefusal options _ = ⊥

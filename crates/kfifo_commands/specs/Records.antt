@@ -6,7 +6,7 @@ use Rattle.kfifo_judge.specs.Check.{IsChecked, IsCheckFault}
 use Rattle.kfifo_judge.specs.Measure.{IsMeasured, IsMeasuringFault}
 use Rattle.kfifo_judge.specs.Streams.{CountsOne}
 use Rattle.kfifo_texts.specs.declared.fault.Fault.{Fault}
-use Rattle.kfifo_texts.specs.declared.fault.Fault.TheVariants.{Shape, Word, Order, Picks, Replay, Open, Dispatch, Input, NotJson, Record, Search, RepeatedItem, Import, TooManyDrawn, Memory, Output}
+use Rattle.kfifo_texts.specs.declared.fault.Fault.TheVariants.{Order, Input, NotJson, Record, Search, RepeatedItem, Memory}
 use Rattle.kfifo_commands.specs.declared.options.CheckOptions.{CheckOptions}
 use Rattle.kfifo_texts.specs.Faults.{stream_fault}
 use Rattle.kfifo_texts.specs.Orders.{GivesNoOrder, GivesOrder}
@@ -66,22 +66,13 @@ pub record IsOrderFault (options : CheckOptions) : Type 0 where
 
 -- why `check` has no answer
 abbrev pub IsCheckRefusal : CheckOptions → Option (List ℕ) → ℕ → ℕ → Fault → Type 0
-IsCheckRefusal options input before after (Shape fault) = ⊥
-IsCheckRefusal options input before after (Word number) = ⊥
 IsCheckRefusal options input before after Order = IsOrderFault options
-IsCheckRefusal options input before after Picks = ⊥
-IsCheckRefusal options input before after (Replay fault) = ⊥
-IsCheckRefusal options input before after (Open fault) = ⊥
-IsCheckRefusal options input before after (Dispatch fault) = ⊥
 IsCheckRefusal options input before after Input = IsUnread input before after
 IsCheckRefusal options input before after NotJson = IsUnchecked options input streams.NotJson
 IsCheckRefusal options input before after (Record fault) = IsUnchecked options input (streams.Record fault)
 IsCheckRefusal options input before after (Search fault) = IsUnchecked options input (streams.Search fault)
-IsCheckRefusal options input before after RepeatedItem = ⊥
-IsCheckRefusal options input before after (Import fault) = ⊥
-IsCheckRefusal options input before after TooManyDrawn = ⊥
 IsCheckRefusal options input before after Memory = Unit {0}
-IsCheckRefusal options input before after Output = ⊥
+IsCheckRefusal options input before after _ = ⊥
 
 -- the text of `measure`: the one that answers the record of the input
 pub record IsMeasure (input : Option (List ℕ)) (text : List ℕ) : Type 0 where
@@ -91,19 +82,9 @@ pub record IsMeasure (input : Option (List ℕ)) (text : List ℕ) : Type 0 wher
 
 -- why `measure` has no answer
 abbrev pub IsMeasureRefusal : Option (List ℕ) → ℕ → ℕ → Fault → Type 0
-IsMeasureRefusal input before after (Shape fault) = ⊥
-IsMeasureRefusal input before after (Word number) = ⊥
-IsMeasureRefusal input before after Order = ⊥
-IsMeasureRefusal input before after Picks = ⊥
-IsMeasureRefusal input before after (Replay fault) = ⊥
-IsMeasureRefusal input before after (Open fault) = ⊥
-IsMeasureRefusal input before after (Dispatch fault) = ⊥
 IsMeasureRefusal input before after Input = IsUnread input before after
 IsMeasureRefusal input before after NotJson = IsOfInput input IsMeasuringFault streams.NotJson
 IsMeasureRefusal input before after (Record fault) = IsOfInput input IsMeasuringFault (streams.Record fault)
-IsMeasureRefusal input before after (Search fault) = ⊥
 IsMeasureRefusal input before after RepeatedItem = IsOfInput input IsMeasuringFault streams.RepeatedItem
-IsMeasureRefusal input before after (Import fault) = ⊥
-IsMeasureRefusal input before after TooManyDrawn = ⊥
 IsMeasureRefusal input before after Memory = Unit {0}
-IsMeasureRefusal input before after Output = ⊥
+IsMeasureRefusal input before after _ = ⊥

@@ -125,17 +125,7 @@ pub record IsReplayFault (options : ReplayOptions) (fault : ReplayFault) : Type 
 abbrev pub IsReplayRefusal : ReplayOptions → Fault → Type 0
 IsReplayRefusal options (faults.Shape fault) = IsShapeFault options.sizes fault
 IsReplayRefusal options (faults.Word number) = IsScriptFault options number
-IsReplayRefusal options faults.Order = ⊥
 IsReplayRefusal options faults.Picks = IsPicksFault options
 IsReplayRefusal options (faults.Replay fault) = IsReplayFault options fault
-IsReplayRefusal options (faults.Open fault) = ⊥
-IsReplayRefusal options (faults.Dispatch fault) = ⊥
-IsReplayRefusal options faults.Input = ⊥
-IsReplayRefusal options faults.NotJson = ⊥
-IsReplayRefusal options (faults.Record fault) = ⊥
-IsReplayRefusal options (faults.Search fault) = ⊥
-IsReplayRefusal options faults.RepeatedItem = ⊥
-IsReplayRefusal options (faults.Import fault) = ⊥
-IsReplayRefusal options faults.TooManyDrawn = ⊥
 IsReplayRefusal options faults.Memory = Unit {0}
-IsReplayRefusal options faults.Output = ⊥
+IsReplayRefusal options _ = ⊥

@@ -5,7 +5,7 @@ use Rattle.kfifo_words.specs.declared.fault.ShapeFault.{ShapeFault}
 use Rattle.kfifo_words.specs.Sizes.{fault_of}
 use Rattle.kfifo_machine.specs.declared.event.Begin.{Begin}
 use Rattle.kfifo_texts.specs.declared.fault.Fault.{Fault}
-use Rattle.kfifo_texts.specs.declared.fault.Fault.TheVariants.{Shape as AtShape, Word, Order, Picks, Replay, Open, Dispatch, Input, NotJson, Record, Search, RepeatedItem, Import, TooManyDrawn, Memory, Output}
+use Rattle.kfifo_texts.specs.declared.fault.Fault.TheVariants.{Shape as AtShape, Word, Memory}
 use Rattle.kfifo_commands.specs.declared.options.RunOptions.{RunOptions}
 use Rattle.kfifo_commands.specs.declared.sizes.Sizes.{Sizes}
 use Rattle.kfifo_commands.specs.Reports.{IsReport}
@@ -42,17 +42,5 @@ pub record IsWordFault (options : RunOptions) (number : ℕ) : Type 0 where
 abbrev pub IsRunRefusal : RunOptions → Fault → Type 0
 IsRunRefusal options (AtShape fault) = IsShapeFault options.sizes fault
 IsRunRefusal options (Word number) = IsWordFault options number
-IsRunRefusal options Order = ⊥
-IsRunRefusal options Picks = ⊥
-IsRunRefusal options (Replay fault) = ⊥
-IsRunRefusal options (Open fault) = ⊥
-IsRunRefusal options (Dispatch fault) = ⊥
-IsRunRefusal options Input = ⊥
-IsRunRefusal options NotJson = ⊥
-IsRunRefusal options (Record fault) = ⊥
-IsRunRefusal options (Search fault) = ⊥
-IsRunRefusal options RepeatedItem = ⊥
-IsRunRefusal options (Import fault) = ⊥
-IsRunRefusal options TooManyDrawn = ⊥
 IsRunRefusal options Memory = Unit {0}
-IsRunRefusal options Output = ⊥
+IsRunRefusal options _ = ⊥

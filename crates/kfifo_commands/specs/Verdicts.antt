@@ -5,7 +5,7 @@ use Rattle.kfifo_judge.specs.TextFaults.{IsTextFault}
 use Rattle.kfifo_explain.specs.Bounds.{IsBounded}
 use Rattle.kfifo_explain.specs.Judgements.{IsJudged}
 use Rattle.kfifo_texts.specs.declared.fault.Fault.{Fault}
-use Rattle.kfifo_texts.specs.declared.fault.Fault.TheVariants.{Shape, Word, Order, Picks, Replay, Open, Dispatch, Input, NotJson, Record, Search, RepeatedItem, Import, TooManyDrawn, Memory, Output}
+use Rattle.kfifo_texts.specs.declared.fault.Fault.TheVariants.{Input, NotJson, Record, Memory}
 use Rattle.kfifo_commands.specs.declared.options.JudgeOptions.{JudgeOptions}
 use Rattle.kfifo_commands.specs.Records.{IsInput, IsOfInput, IsUnread}
 
@@ -23,19 +23,8 @@ pub record IsLeast (input : Option (List ℕ)) (text : List ℕ) (status : ℕ) 
 
 -- why neither has an answer
 abbrev pub IsVerdictRefusal : Option (List ℕ) → ℕ → ℕ → Fault → Type 0
-IsVerdictRefusal input before after (Shape fault) = ⊥
-IsVerdictRefusal input before after (Word number) = ⊥
-IsVerdictRefusal input before after Order = ⊥
-IsVerdictRefusal input before after Picks = ⊥
-IsVerdictRefusal input before after (Replay fault) = ⊥
-IsVerdictRefusal input before after (Open fault) = ⊥
-IsVerdictRefusal input before after (Dispatch fault) = ⊥
 IsVerdictRefusal input before after Input = IsUnread input before after
 IsVerdictRefusal input before after NotJson = IsOfInput input IsTextFault streams.NotJson
 IsVerdictRefusal input before after (Record fault) = IsOfInput input IsTextFault (streams.Record fault)
-IsVerdictRefusal input before after (Search fault) = ⊥
-IsVerdictRefusal input before after RepeatedItem = ⊥
-IsVerdictRefusal input before after (Import fault) = ⊥
-IsVerdictRefusal input before after TooManyDrawn = ⊥
 IsVerdictRefusal input before after Memory = Unit {0}
-IsVerdictRefusal input before after Output = ⊥
+IsVerdictRefusal input before after _ = ⊥

@@ -1,6 +1,5 @@
 //! The sizes of a queue, as a command is given them.
-ghost use Rattle.std.specs.Prelude.{◌≡◌, Some, MatchResult, unwrap_or};
-ghost use Rattle.kfifo_words.specs.Sizes.{fault_of};
+ghost use Rattle.std.specs.Prelude.{IfErr, IfOk};
 
 use kfifo_words::{Shape, ShapeFault};
 
@@ -18,12 +17,12 @@ pub struct Sizes {
 }
 
 impl Sizes {
-    ghost use Rattle.kfifo_commands.specs.Runs.{IsShapeOf};
+    ghost use Rattle.kfifo_commands.specs.Runs.{IsShapeFault, IsShapeOf};
 
     /// The shape of these sizes, or the first fault of them.
     pub fn shape(self) -> Result<Shape, ShapeFault>
-        ensures { MatchResult result (IsShapeOf self)
-            (λ fault. fault_of self.k self.segments self.last (unwrap_or self.probes self.k) ≡ Some fault) }
+        ensures ok { IfOk result (IsShapeOf self) }
+        ensures err { IfErr result (IsShapeFault self) }
     {
         let probes = self.probes.unwrap_or(self.k);
         Shape::with_probes(self.k, self.segments, self.last, probes)

@@ -1,6 +1,6 @@
 //! What ends a command without its answer.
 ghost use Rattle.std.specs.Prelude.{◌≡◌, ◌++◌, MatchBool, Some, codes, decimal};
-ghost use Rattle.kfifo_texts.specs.declared.fault.Fault.TheVariants.{Dispatch, Memory, Open, Replay};
+ghost use Rattle.kfifo_texts.specs.declared.fault.Fault.TheVariants.{Dispatch, Memory, Open, Replay, Shape};
 ghost use Rattle.kfifo_texts.specs.Faults.{at_line_text, fault_line, fault_text, import_fault_text, log_fault, numbered, picture_fault, stream_fault};
 ghost use Rattle.kfifo_texts.specs.Faults as replays;
 ghost use Rattle.kfifo_texts.specs.Printing.{Writes, Breaks};
@@ -224,6 +224,14 @@ impl<T: Drop> From<AllocFailed<T>> for Fault {
 
     fn from(_error: AllocFailed<T>) -> Fault {
         Fault::Memory
+    }
+}
+
+impl From<ShapeFault> for Fault {
+    ghost from_gives = { λ given fault. fault ≡ Shape given };
+
+    fn from(fault: ShapeFault) -> Fault {
+        Fault::Shape(fault)
     }
 }
 

@@ -1,12 +1,10 @@
 //! The command `dispatch`: tasks worked off by worker threads, and the finished list.
 ghost use Rattle.std.specs.Prelude.{◌≢◌, IfOk, IfErr, string_bytes};
 ghost use Rattle.kfifo_commands.specs.Dispatches.{IsDispatch, IsDispatchRefusal};
-ghost use Rattle.kfifo_commands.specs.Runs.{IsShapeOf};
 
 use crate::options::DispatchOptions;
 use kfifo_dispatch::{OpenGate, dispatch};
 use kfifo_texts::{Fault, finished_lines, read_tasks};
-use kfifo_words::Shape;
 use std::alloc::Global;
 use std::thread::Threads;
 
@@ -17,10 +15,10 @@ pub fn answer<R: Threads + Sync>(
     options: DispatchOptions<'_>,
 ) -> Result<String, Fault>
     ensures ok { IfOk result (λ text. IsDispatch options.entry (string_bytes text)) }
-    ensures err { IfErr result (λ fault. IsDispatchRefusal options.entry fault) }
+    ensures err { IfErr result (IsDispatchRefusal options.entry) }
     ensures silent { IfErr result (λ fault. fault ≢ Fault.Output) }
 {
-    let shape = shape_of(options)?;
+    let shape = options.sizes.shape()?;
     let tasks = read_tasks(alloc, options.words)?;
     let seed = u64::from(options.seed);
     let list = dispatch(
@@ -34,13 +32,4 @@ pub fn answer<R: Threads + Sync>(
     )?;
     let text = finished_lines(alloc, list.as_slice())?;
     Ok(text)
-}
-
-/// The shape of the sizes.
-fn shape_of(options: DispatchOptions<'_>) -> Result<Shape, Fault>
-    ensures ok { IfOk result (IsShapeOf options.entry.sizes) }
-    ensures err { IfErr result (λ fault. IsDispatchRefusal options.entry fault) }
-    ensures silent { IfErr result (λ fault. fault ≢ Fault.Output) }
-{
-    options.sizes.shape().map_err(Fault::Shape)
 }

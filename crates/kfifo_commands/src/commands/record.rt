@@ -3,13 +3,11 @@ ghost use Rattle.std.specs.Prelude.{◌≡◌, ◌≢◌, ◌⊎◌, ◌≤◌, 
 ghost use Rattle.kfifo_record.specs.Repeats.{IsFirstOver, all_repeated, last_shift};
 ghost use Rattle.kfifo_record.specs.Scripts.{AreScripts, scripts_in};
 ghost use Rattle.kfifo_commands.specs.RealRuns.{IsRealRun, IsRealRunRefusal};
-ghost use Rattle.kfifo_commands.specs.Runs.{IsShapeOf};
 
 use crate::options::RecordOptions;
 use kfifo_machine::Begin;
 use kfifo_record::{OpenGate, first_over, record_scripts, repeat_scripts};
 use kfifo_texts::{Fault, read_scripts, record_line};
-use kfifo_words::Shape;
 use std::alloc::Global;
 use std::thread::Threads;
 
@@ -20,24 +18,15 @@ pub fn answer<R: Threads + Sync>(
     options: RecordOptions<'_>,
 ) -> Result<String, Fault>
     ensures ok { IfOk result (λ text. IsRealRun options.entry (string_bytes text)) }
-    ensures err { IfErr result (λ fault. IsRealRunRefusal options.entry fault) }
+    ensures err { IfErr result (IsRealRunRefusal options.entry) }
     ensures silent { IfErr result (λ fault. fault ≢ Fault.Output) }
 {
-    let shape = shape_of(options)?;
+    let shape = options.sizes.shape()?;
     let once = read_scripts(alloc, options.scripts, shape.k(), options.turns)?;
     let scripts = repeat(alloc, once.as_slice(), options.repeat)?;
     let history = record_scripts(threads, alloc, shape, scripts.as_slice(), &OpenGate)?;
     let text = record_line(alloc, &history)?;
     Ok(text)
-}
-
-/// The shape of the sizes.
-fn shape_of(options: RecordOptions<'_>) -> Result<Shape, Fault>
-    ensures ok { IfOk result (IsShapeOf options.entry.sizes) }
-    ensures err { IfErr result (λ fault. IsRealRunRefusal options.entry fault) }
-    ensures silent { IfErr result (λ fault. fault ≢ Fault.Output) }
-{
-    options.sizes.shape().map_err(Fault::Shape)
 }
 
 /// The scripts made so many times over, with items of their own each time.

@@ -6,7 +6,6 @@ ghost use Rattle.kfifo_replay.specs.Player.{OfItsPicks, StandsFor, Stops};
 ghost use Rattle.kfifo_texts.specs.Picks as picks;
 ghost use Rattle.kfifo_texts.specs.Picks.{count_of, picks_of};
 ghost use Rattle.kfifo_commands.specs.Replays.{IsPointsLine, IsRecordLine, IsRefusal, IsReplayAnswer, IsReplayRefusal, IsReplayText, IsReportText, Makes, first_lines, last_lines};
-ghost use Rattle.kfifo_commands.specs.Runs.{IsShapeOf};
 
 use crate::options::ReplayOptions;
 use crate::progress::{Meter, Progress};
@@ -25,10 +24,10 @@ pub fn answer<P: Progress>(
     progress: &mut P,
 ) -> Result<String, Fault>
     ensures ok { IfOk result (λ text. IsReplayAnswer options.entry (string_bytes text)) }
-    ensures err { IfErr result (λ fault. IsReplayRefusal options.entry fault) }
+    ensures err { IfErr result (IsReplayRefusal options.entry) }
     ensures silent { IfErr result (λ fault. fault ≢ Fault.Output) }
 {
-    let shape = shape_of(options)?;
+    let shape = options.sizes.shape()?;
     let scripts = read_scripts(alloc, options.scripts, shape.k(), options.turns)?;
     let groups = read_picks(alloc, options.picks)?;
     let replay = play(
@@ -40,15 +39,6 @@ pub fn answer<P: Progress>(
         progress,
     )?;
     text_of(alloc, &options, &replay)
-}
-
-/// The shape of the sizes.
-fn shape_of(options: ReplayOptions<'_>) -> Result<Shape, Fault>
-    ensures ok { IfOk result (IsShapeOf options.entry.sizes) }
-    ensures err { IfErr result (λ fault. IsReplayRefusal options.entry fault) }
-    ensures silent { IfErr result (λ fault. fault ≢ Fault.Output) }
-{
-    options.sizes.shape().map_err(Fault::Shape)
 }
 
 /// The replay that has made these picks, and has then gone on to the ends of the scripts where a thread is stopped.

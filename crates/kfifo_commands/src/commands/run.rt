@@ -5,7 +5,7 @@ ghost use Rattle.kfifo_machine.specs.Machine.{World, after, word_at};
 ghost use Rattle.kfifo_machine.specs.Runs.{CompleteExecution};
 ghost use Rattle.kfifo_live.specs.Schedule.{opening};
 ghost use Rattle.kfifo_live.specs.Pass.{IsOf, IsSame};
-ghost use Rattle.kfifo_commands.specs.Runs.{IsRunAnswer, IsRunRefusal, IsShapeOf};
+ghost use Rattle.kfifo_commands.specs.Runs.{IsRunAnswer, IsRunRefusal};
 ghost use Rattle.kfifo_texts.specs.Words.{IsCall};
 ghost use Rattle.kfifo_commands.specs.Reports.{IsAlone, IsReport, RunInTurn, call_line, slot_lines, world_lines};
 
@@ -19,21 +19,12 @@ use std::alloc::{AllocError, Global};
 /// The answers of the calls, and then the words of the table, a line for each.
 pub fn answer(alloc: Global, options: RunOptions<'_>) -> Result<String, Fault>
     ensures ok { IfOk result (λ text. IsRunAnswer options.entry (string_bytes text)) }
-    ensures err { IfErr result (λ fault. IsRunRefusal options.entry fault) }
+    ensures err { IfErr result (IsRunRefusal options.entry) }
     ensures silent { IfErr result (λ fault. fault ≢ Fault.Output) }
 {
-    let shape = shape_of(options)?;
+    let shape = options.sizes.shape()?;
     let calls = read_calls(alloc, options.words, shape.k(), options.turns)?;
     report_of(alloc, shape, calls.as_slice())
-}
-
-/// The shape of the sizes.
-fn shape_of(options: RunOptions<'_>) -> Result<Shape, Fault>
-    ensures ok { IfOk result (IsShapeOf options.entry.sizes) }
-    ensures err { IfErr result (λ fault. IsRunRefusal options.entry fault) }
-    ensures silent { IfErr result (λ fault. fault ≢ Fault.Output) }
-{
-    options.sizes.shape().map_err(Fault::Shape)
 }
 
 /// What is printed of these calls, made one after the other on a new queue.
