@@ -1,8 +1,11 @@
 //! The program `kfifo`: a bounded-size lock-free k-FIFO queue at the command line.
 #![tactic(auto)]
 
+pub use kfifo_command_line::program;
 use kfifo_command_line::program_showing;
 use kfifo_commands::{Started, start_program};
+pub use kfifo_judge::{FromStd, Sink, Source, check_stream, measure_stream};
+pub use kfifo_record::record_scripts;
 use std::process::ExitCode;
 
 fn main(rt: HostRuntime) -> ExitCode {
