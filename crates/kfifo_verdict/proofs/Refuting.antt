@@ -8,14 +8,14 @@ use Rattle.kfifo_model.specs.declared.calls.Op.{Op}
 use Rattle.kfifo_model.specs.declared.calls.Op.TheVariants.{Enqueue, Dequeue}
 use Rattle.kfifo_model.specs.Lists.{IsIn, EachPair}
 use Rattle.kfifo_model.specs.Relaxed.{Effect, Adds, Takes, Finds_none, Refused, Wrong, Leaves, IsRun}
-use Rattle.kfifo_model.specs.Histories.{call, does, effect_at, HasEnd, CanStand, IsFinished, EndsBelow, Precedes, IsLegal}
+use Rattle.kfifo_model.specs.Histories.{HasNoRepeats, call, does, effect_at, HasEnd, CanStand, IsFinished, EndsBelow, Precedes, IsLegal}
 use Rattle.kfifo_model.specs.Overtaking.{adds, takes}
 use Rattle.kfifo_model.specs.Validity.{IsHistory, EndsFrom}
 use Rattle.kfifo_model.specs.Searching.{HasOrder}
-use Rattle.kfifo_model.proofs.Lists.{in_append, in_left, in_right, parted, each_at, each_from, pairs_back, pairs_front, pairs_across, Differ}
+use Rattle.kfifo_model.proofs.Lists.{in_append, in_left, in_right, parted, each_at, each_from, pairs_back, pairs_front, pairs_across, pairs_weaker, Differ}
 use Rattle.kfifo_model.proofs.Forgetting.{Has}
 use Rattle.kfifo_model.proofs.Checking.{in_bounds}
-use Rattle.kfifo_verdict.specs.Evidence.{Puts, Gets, IsSingle, IsNeverPut, IsTakenTwice, IsNotEmpty, IsOlder, IsTooYoung}
+use Rattle.kfifo_verdict.specs.Evidence.{Puts, Gets, IsSingle, IsNeverPut, IsTakenTwice, IsNotEmpty, IsOlder, IsTooYoung, Rise}
 use Rattle.kfifo_verdict.proofs.Counting.{count_cons, count_into, count_within, as_many}
 use Rattle.kfifo_verdict.proofs.Runs.{RunsTo, run_split, runs_split, has_map, into_map, in_get, put_along, came_along, IsBehind, behind_along, place_behind, times, taken_as_often}
 
@@ -265,6 +265,10 @@ older_before k y q h order g p v l a single gets i older =
     untaken (into_map h (Takes older.item) a.front d.0 (subst G (sym b.2) (in_left d.0 b.0 (q ∷ b.1) d.1)) d.2) in
     b.6.kept older.item (put_along k older.item [] b.3 (map (does h) b.0) b.4 (into_map h (Adds older.item) b.0 p first older.single.puts) untaken_first) untaken
 
+-- rising numbers have no repeats
+pub rising_distinct : (l : List ℕ) → Rise l → HasNoRepeats l
+rising_distinct l rise = pairs_weaker (λ p q. p < q) (λ p q. p ≢ q) l (λ p q i j lt same. absurd (omega (arith, lt, same))) rise
+
 pub too_young_refutes : (k n : ℕ) (h : List Call) (g : ℕ) (puts : List ℕ) → IsHistory h → k ≤ n → IsTooYoung n h g puts → HasOrder k h → ⊥
 too_young_refutes k n h g puts v le t o =
     let y = t.item in
@@ -280,7 +284,7 @@ too_young_refutes k n h g puts v le t o =
     let G : List ℕ → Type 0 = λ w. slice_get w s.0 ≡ Some y in
     let far = place_behind y b.6.before b.6.behind s.0 (λ j. b.5 (b.6.was y j)) (subst G b.6.is s.2) in
     let R : ℕ → ℕ → Type 0 = λ p x. IsSingle h x p in
-    let many = as_many R (λ x p r sp sr. sym (sp.alone r sr.puts)) puts b.6.before t.distinct
+    let many = as_many R (λ x p r sp sr. sym (sp.alone r sr.puts)) puts b.6.before (rising_distinct puts t.rising)
     (each_from (λ p. (x : ℕ) × IsIn x b.6.before × R p x) puts (λ p j. let older = each_at (IsOlder h g q) p puts t.older j in (older.item, older_before k y q h o.0 g p v o.1 a t.single t.gets i older, older.single))) in
     let size = t.count in
     let near = s.1 in

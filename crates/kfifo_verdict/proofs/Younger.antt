@@ -4,15 +4,15 @@ use Rattle.std.proofs.lemmas.Bool.{cases_lt, cases_Bool, and_parts, and_from, le
 use Rattle.kfifo_model.specs.declared.calls.Call.{Call}
 use Rattle.std.specs.List.{AllByRecursion}
 use Rattle.kfifo_model.specs.Lists.{IsIn}
-use Rattle.kfifo_model.specs.Histories.{call, HasNoRepeats}
+use Rattle.kfifo_model.specs.Histories.{call}
 use Rattle.kfifo_model.specs.Validity.{IsHistory}
 use Rattle.kfifo_model.proofs.Lists.{in_append, each_at, each_from, pairs_push}
 use Rattle.kfifo_verdict.specs.declared.presences.Presence.{Presence}
-use Rattle.kfifo_verdict.specs.Evidence.{Gets, count_below, IsSingle, IsOlder, IsTooYoung}
+use Rattle.kfifo_verdict.specs.Evidence.{Gets, count_below, IsSingle, IsOlder, IsTooYoung, Rise}
 use Rattle.kfifo_verdict.specs.Finding.{IsStart, ArePresences, no_presence, lasts_at, IsCountedTo, AreFirst}
 use Rattle.kfifo_verdict.specs.Judging.{GotTooYoung}
 use Rattle.kfifo_verdict.proofs.Counting.{count_cons, count_within}
-use Rattle.kfifo_verdict.proofs.Refuting.{put_inside}
+use Rattle.kfifo_verdict.proofs.Refuting.{put_inside, rising_distinct}
 use Rattle.kfifo_verdict.proofs.Telling.{same_item}
 use Rattle.kfifo_verdict.proofs.Moments.{precedes_below}
 
@@ -48,9 +48,9 @@ count_all test (x ∷ l) a =
 pub first_none : (test : ℕ → Bool) (k : ℕ) (found : List ℕ) → found ≡ [] → AreFirst test k 0 found
 first_none test k found e =
     let P : List ℕ → Type 0 = λ w. AllByRecursion (λ p. (p < 0) × (test p ≡ true)) w in
-    let D : List ℕ → Type 0 = λ w. HasNoRepeats w in
+    let D : List ℕ → Type 0 = λ w. Rise w in
     let size = ap length e in
-    record { count = omega (arith, size); pass = subst P (sym e) tt; distinct = subst D (sym e) tt }
+    record { count = omega (arith, size); pass = subst P (sym e) tt; rising = subst D (sym e) tt }
 
 each_on : (test : ℕ → Bool) (n : ℕ) (found : List ℕ) → AllByRecursion (λ p. (p < n) × (test p ≡ true)) found → AllByRecursion (λ p. (p < n + 1) × (test p ≡ true)) found
 each_on test n found a = each_from (λ p. (p < n + 1) × (test p ≡ true)) found (λ p i.
@@ -60,7 +60,7 @@ pub first_skip : (test : ℕ → Bool) (k n : ℕ) (found : List ℕ) → AreFir
 first_skip test k n found a fails =
     let same = count_no test n fails in
     let size = a.count in
-    record { count = omega (arith, size, same); pass = each_on test n found a.pass; distinct = a.distinct }
+    record { count = omega (arith, size, same); pass = each_on test n found a.pass; rising = a.rising }
 
 pub first_full : (test : ℕ → Bool) (k n : ℕ) (found : List ℕ) → AreFirst test k n found → k ≤ length found → AreFirst test k (n + 1) found
 first_full test k n found a full =
@@ -71,7 +71,7 @@ first_full test k n found a full =
         | inr fails ↦ (let same = count_no test n fails in omega (arith, size, same))
       ];
       pass = each_on test n found a.pass;
-      distinct = a.distinct;
+      rising = a.rising;
     }
 
 pub first_more : (test : ℕ → Bool) (k n : ℕ) (found more : List ℕ) → AreFirst test k n found → length found < k → test n ≡ true → more ≡ found ++ n ∷ [] → AreFirst test k (n + 1) more
@@ -80,7 +80,7 @@ first_more test k n found more a room passes e =
     let up = count_yes test n passes in
     let size_more = ap length e in
     let P : List ℕ → Type 0 = λ w. AllByRecursion (λ p. (p < n + 1) × (test p ≡ true)) w in
-    let D : List ℕ → Type 0 = λ w. HasNoRepeats w in
+    let D : List ℕ → Type 0 = λ w. Rise w in
     record {
       count = omega (arith, size, up, size_more, length-append found (n ∷ []), room);
       pass = subst P (sym e) (each_from (λ p. (p < n + 1) × (test p ≡ true)) (found ++ n ∷ []) (λ p i. elim (in_append p found (n ∷ []) i) [
@@ -90,7 +90,7 @@ first_more test k n found more a room passes e =
           | inr none ↦ absurd none
         ]
       ]));
-      distinct = subst D (sym e) (pairs_push (λ p q. p ≢ q) found n a.distinct (λ p i same. let b = (each_at (λ p. (p < n) × (test p ≡ true)) p found a.pass i).0 in absurd (omega (arith, b, same))));
+      rising = subst D (sym e) (pairs_push (λ p q. p < q) found n a.rising (λ p i. (each_at (λ p. (p < n) × (test p ≡ true)) p found a.pass i).0));
     }
 
 -- all that pass
@@ -132,7 +132,7 @@ no_more_older h ps x g put after m v are start single gets young =
     let below : (p : ℕ) → IsIn p puts → p < put = λ p i. let o = each_at (IsOlder h g put) p puts older i in precedes_below h p put v (put_inside h o.item p o.single.puts) o.before in
     let pass : (p : ℕ) → IsIn p puts → lasts_at ps put after p ≡ true = λ p i. (passes_older h ps g put after p are start inside (below p i)).0 (each_at (IsOlder h g put) p puts older i) in
     let all = count_all (lasts_at ps put after) puts (each_from (λ p. lasts_at ps put after p ≡ true) puts pass) in
-    let within = count_within (lasts_at ps put after) put puts t.distinct (λ p i e. below p i) in
+    let within = count_within (lasts_at ps put after) put puts (rising_distinct puts t.rising) (λ p i e. below p i) in
     let size = t.count in
     omega (arith, all, within, size)
 
@@ -147,7 +147,7 @@ older_found h ps x g put after k found are start single gets enough first =
       gets = gets;
       single = single;
       older = each_from (IsOlder h g put) found (λ p i. let b = each_at (λ p. (p < put) × (lasts_at ps put after p ≡ true)) p found first.pass i in (passes_older h ps g put after p are start inside b.0).1 b.1);
-      distinct = first.distinct;
+      rising = first.rising;
       count = omega (arith, size, enough);
     }
 

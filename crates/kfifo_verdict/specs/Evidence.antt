@@ -4,7 +4,7 @@
 use Rattle.std.specs.Prelude.{ℕ, zero, suc, ◌≡◌, ◌+◌, ◌<◌, ◌≤◌, Bool, cond, List, length}
 use Rattle.kfifo_model.specs.declared.calls.Call.{Call}
 use Rattle.std.specs.List.{AllByRecursion}
-use Rattle.kfifo_model.specs.Lists.{IsIn}
+use Rattle.kfifo_model.specs.Lists.{EachPair, IsIn}
 use Rattle.kfifo_model.specs.Relaxed.{Adds, Takes, Finds_none}
 use Rattle.kfifo_model.specs.Overtaking.{adds, takes}
 use Rattle.kfifo_model.specs.Histories.{call, does, EndsBelow, Precedes, HasNoRepeats}
@@ -54,8 +54,8 @@ IsNeverPut h get = (x : ℕ) × Gets h x get × ((p : ℕ) → Puts h x p → Pr
 abbrev pub IsTakenTwice : List Call → ℕ → Type 0
 IsTakenTwice h get = (x : ℕ) × Gets h x get × ((g : ℕ) → Gets h x g → g ≤ get) × (puts_of h x < gets_of h x)
 
--- 3: A call was answered Empty, and at each of its moments the item of one of these puts was certainly there; each of
--- them is needed at some moment or other of the call.
+-- 3: A call was answered Empty, and at each of its moments the item of one of these puts was certainly there. The item of
+-- each of these puts was there at some moment of the call; a moment may have several.
 pub record IsNotEmpty (h : List Call) (c : ℕ) (puts : List ℕ) : Type 0 where
   pub empty : does h c ≡ Finds_none
   pub covered : (moment : ℕ) → IsMomentOf h c moment → (p : ℕ) × IsIn p puts × IsCertainlyThere h p moment
@@ -70,12 +70,16 @@ pub record IsOlder (h : List Call) (get put p : ℕ) : Type 0 where
   pub before : Precedes h p put
   pub kept : (g : ℕ) → Gets h item g → Precedes h get g
 
--- 4: A call gets a single item while the items of these k puts are certainly older and there.
+-- calls by rising number
+abbrev pub Rise : List ℕ → Type 0
+Rise calls = EachPair (λ c d. c < d) calls
+
+-- 4: A call gets a single item while the items of these k puts, by rising number, are certainly older and there.
 pub record IsTooYoung (k : ℕ) (h : List Call) (get : ℕ) (puts : List ℕ) : Type 0 where
   pub item : ℕ
   pub put : ℕ
   pub gets : Gets h item get
   pub single : IsSingle h item put
   pub older : AllByRecursion (IsOlder h get put) puts
-  pub distinct : HasNoRepeats puts
+  pub rising : Rise puts
   pub count : length puts ≡ k

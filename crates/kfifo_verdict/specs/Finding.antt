@@ -7,7 +7,7 @@ use Rattle.kfifo_model.specs.declared.calls.End.{End}
 use Rattle.kfifo_model.specs.Relaxed.{Effect, Adds, Takes, Finds_none}
 use Rattle.kfifo_model.specs.Overtaking.{adds, takes}
 use Rattle.std.specs.List.{AllByRecursion}
-use Rattle.kfifo_model.specs.Histories.{call, does, EndsBelow, HasNoRepeats}
+use Rattle.kfifo_model.specs.Histories.{call, does, EndsBelow}
 use Rattle.kfifo_verdict.specs.declared.deeds.Deed.{Deed}
 use Rattle.kfifo_verdict.specs.declared.deeds.Deed.TheVariants.{PutIn, TookOut, FoundNone, Nothing}
 use Rattle.kfifo_verdict.specs.declared.deeds.Side.{Side}
@@ -18,7 +18,7 @@ use Rattle.kfifo_verdict.specs.declared.presences.Items.{Items}
 use Rattle.kfifo_verdict.specs.declared.finding.Stay.{Stay}
 use Rattle.kfifo_verdict.specs.declared.finding.Covered.{Covered}
 use Rattle.kfifo_verdict.specs.declared.finding.Covered.TheVariants.{Whole, Gap}
-use Rattle.kfifo_verdict.specs.Evidence.{Puts, Gets, count_below, IsSingle, IsCertainlyThere, IsNotEmpty, IsOlder}
+use Rattle.kfifo_verdict.specs.Evidence.{Puts, Gets, count_below, IsSingle, IsCertainlyThere, IsNotEmpty, IsOlder, Rise}
 use Rattle.kfifo_verdict.specs.Judging.{FoundNotEmpty}
 
 abbrev pub IsDeed : Effect → Deed → Type 0
@@ -161,8 +161,8 @@ pub record AreSkips (ps : List Presence) (n : ℕ) (skips : List ℕ) : Type 0 w
   pub ahead : (i : ℕ) → i < length ps + 1 → (i ≤ slice_index_or skips i 0) × (slice_index_or skips i 0 ≤ length ps)
   pub gone : (i p : ℕ) → i < length ps + 1 → i ≤ p → p < slice_index_or skips i 0 → (slice_index_or ps p no_presence).gone ≤ n
 
--- The first k numbers below n that pass the test, or all where they are fewer.
+-- The first k numbers below n that pass the test, or all where they are fewer, by rising number.
 pub record AreFirst (test : ℕ → Bool) (k n : ℕ) (found : List ℕ) : Type 0 where
   pub count : length found ≡ min k (count_below test n)
   pub pass : AllByRecursion (λ p. (p < n) × (test p ≡ true)) found
-  pub distinct : HasNoRepeats found
+  pub rising : Rise found
