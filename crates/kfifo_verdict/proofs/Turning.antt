@@ -84,7 +84,7 @@ not_younger h ps x p late y q s a l b older kept =
           let g = (presence ps p).gone in
           let start = l.got (got_inside h x g got) in
           let is = ((s.are.1 q (put_inside h y q b)).older g p late inside start).1 (older, kept) in
-          s.clear.3 g (q ∷ [], record { item = x; put = p; gets = got; single = s.plain.0 x p a; older = (is, tt); distinct = (tt, tt); count = refl })
+          s.clear.3 g (q ∷ [], record { item = x; put = p; gets = got; single = s.plain.0 x p a; older = (is, tt); rising = (tt, tt); count = refl })
           )
     ]
 
