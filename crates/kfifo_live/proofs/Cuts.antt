@@ -16,7 +16,7 @@ use Rattle.kfifo_machine.specs.Machine.{opening, word_at, place_of}
 use Rattle.kfifo_live.specs.declared.view.Opening.{Opening}
 use Rattle.kfifo_live.specs.declared.view.Part.{Part}
 use Rattle.kfifo_live.specs.declared.view.View.{View}
-use Rattle.kfifo_live.specs.Schedule.{part, view_of, count_up, first_hand, fresh, first_view, thread_of, seen_of, gifts_of, hand_of, with_seen, more_in, IsSeated, AllBegin, AllGiven, AllHands, Owns, Fits, OneSchedule, FewTicks, both_parts}
+use Rattle.kfifo_live.specs.Schedule.{part, view_of, count_up, first_hand, fresh, first_view, thread_of, seen_of, gifts_of, hand_of, with_seen, more_in, IsSeated, AllBegin, AllGiven, AllHands, Owns, AreResting, Fits, OneSchedule, FewTicks, both_parts}
 use Rattle.kfifo_live.specs.Hands.{Gifts, Homes, InTurn, Where, Home, AllHome, CallFits, HandFits, SlotsFit}
 use Rattle.kfifo_live.specs.declared.view.Hand.{Hand}
 use Rattle.kfifo_live.specs.Step.{Looks}
@@ -38,7 +38,7 @@ looks_at {T} o s id thread seen gifts hand more i kept at =
       others = λ some_tokens u other ne fits. subst (λ (g : Gifts T). HandFits (word_at kept.world) (place_of kept.world u) kept.at g s.homes u other) (sym (append-nil kept.gifts)) fits;
     } in
     let k = adds o s.words (slice_set s.words i (slice_index s.words i)) s.homes s.homes s.views id thread seen gifts hand hand more kept at [] [] (λ u apart. refl) kept.world refl words (subst (FewTicks o) (sym (append-nil kept.all)) kept.few_ticks)
-    (subst (λ (x : List Event × Gifts T). InTurn x.0 x.1) (λ j. (sym (append-nil kept.all) j, sym (append-nil kept.gifts) j)) kept.in_turn) tokens in
+    (subst (λ (x : List Event × Gifts T). InTurn x.0 x.1) (λ j. (sym (append-nil kept.all) j, sym (append-nil kept.gifts) j)) kept.in_turn) tokens (kept.fit id (view_of o (part thread seen gifts hand ∷ more)) at).resting.0 in
     let mine = kept.fit id (view_of o (part thread seen gifts hand ∷ more)) at in (
       view_of o (part thread kept.all kept.gifts hand ∷ more),
       subst (λ (x : List Event × Gifts T). OneSchedule o (slice_set s.words i (slice_index s.words i)) s.homes (set s.views id (view_of o (part thread x.0 x.1 hand ∷ more)))) (λ j. (append-nil kept.all j, append-nil kept.gifts j)) k,
@@ -83,6 +83,20 @@ AllGiven-drop : {T : Type 0} (n : ℕ) (xs : List (Part T)) (gifts : Gifts T) �
 AllGiven-drop zero xs gifts a = a
 AllGiven-drop (suc n) [] gifts a = tt
 AllGiven-drop (suc n) (x ∷ xs) gifts a = AllGiven-drop n xs gifts a.1
+
+AreResting-append : {T : Type 0} (threads : ℕ) (xs ys : List (Part T)) → AreResting threads xs → AreResting threads ys → AreResting threads (xs ++ ys)
+AreResting-append threads [] ys a b = b
+AreResting-append threads (x ∷ xs) ys a b = (a.0, AreResting-append threads xs ys a.1 b)
+
+AreResting-take : {T : Type 0} (threads n : ℕ) (xs : List (Part T)) → AreResting threads xs → AreResting threads (take n xs)
+AreResting-take threads zero xs a = tt
+AreResting-take threads (suc n) [] a = tt
+AreResting-take threads (suc n) (x ∷ xs) a = (a.0, AreResting-take threads n xs a.1)
+
+AreResting-drop : {T : Type 0} (threads n : ℕ) (xs : List (Part T)) → AreResting threads xs → AreResting threads (drop n xs)
+AreResting-drop threads zero xs a = a
+AreResting-drop threads (suc n) [] a = tt
+AreResting-drop threads (suc n) (x ∷ xs) a = AreResting-drop threads n xs a.1
 
 AllHands-append : {T : Type 0} (words : ℕ → ℕ) (place : ℕ → Option Running) (at : ℕ → Where) (gifts : Gifts T) (homes : Homes T) (xs ys : List (Part T))
     → AllHands words place at gifts homes xs → AllHands words place at gifts homes ys → AllHands words place at gifts homes (xs ++ ys)
@@ -143,7 +157,7 @@ Owns-append : {T : Type 0} (owner : ℕ → ℕ × ℕ) (seat at : ℕ) (xs ys :
 Owns-append owner seat at [] ys a b = subst (λ (x : ℕ). Owns owner seat x ys) (let e : at + 0 ≡ at = omega arith in e) b
 Owns-append owner seat at (x ∷ xs) ys a b = (a.0, Owns-append owner seat (suc at) xs ys a.1 (subst (λ (n : ℕ). Owns owner seat n ys) (let e : at + length (x ∷ xs) ≡ suc at + length xs = omega arith in e) b))
 
-at_end : {A : Type 0} (l : List A) (a b : A) (j : ℕ) → get_elem? (l ++ a ∷ []) j ≡ some b → (get_elem? l j ≡ some b) ⊎ ((j ≡ length l) × (a ≡ b))
+pub at_end : {A : Type 0} (l : List A) (a b : A) (j : ℕ) → get_elem? (l ++ a ∷ []) j ≡ some b → (get_elem? l j ≡ some b) ⊎ ((j ≡ length l) × (a ≡ b))
 at_end [] a b zero e = inr (refl, some-injective a b e)
 at_end [] a b (suc j) e = absurd (some-ne-none b (sym e))
 at_end (x ∷ xs) a b zero e = inl e
@@ -154,7 +168,7 @@ at_within [] j b e = absurd (some-ne-none b (sym e))
 at_within (x ∷ xs) zero b e = omega arith
 at_within (x ∷ xs) (suc j) b e = let h = at_within xs j b e in omega arith
 
-length_set : {A : Type 0} (l : List A) (i : ℕ) (a : A) → length (set l i a) ≡ length l
+pub length_set : {A : Type 0} (l : List A) (i : ℕ) (a : A) → length (set l i a) ≡ length l
 length_set [] i a = refl
 length_set (x ∷ xs) zero a = refl
 length_set (x ∷ xs) (suc i) a = ap suc (length_set xs i a)
@@ -169,9 +183,9 @@ cuts {T} o id v n le s kept at =
     let new = length s.views in
     let inside : id < new = at_within s.views id v at in
     let owner = λ (t : ℕ). passed_on id n new 0 (kept.owner t) in
-    let at_left : Fits o kept.all kept.gifts owner id left = record { opened = mine.opened; begin = AllBegin-take n v.parts kept.all mine.begin; given = AllGiven-take n v.parts kept.gifts mine.given; owns = owns_first kept.owner id n new 0 0 n v.parts (omega arith) mine.owns } in
+    let at_left : Fits o kept.all kept.gifts owner id left = record { opened = mine.opened; begin = AllBegin-take n v.parts kept.all mine.begin; given = AllGiven-take n v.parts kept.gifts mine.given; owns = owns_first kept.owner id n new 0 0 n v.parts (omega arith) mine.owns; resting = AreResting-take o.threads n v.parts mine.resting } in
     let given = owns_given kept.owner id n new 0 (0 + n) (drop n v.parts) (omega arith) (owns_drop kept.owner id 0 n v.parts le mine.owns) in
-    let at_right : Fits o kept.all kept.gifts owner new right = record { opened = mine.opened; begin = AllBegin-drop n v.parts kept.all mine.begin; given = AllGiven-drop n v.parts kept.gifts mine.given; owns = subst (λ (x : ℕ). Owns owner new x (drop n v.parts)) (let e : 0 + (0 + n - n) ≡ 0 = omega arith in e) given } in
+    let at_right : Fits o kept.all kept.gifts owner new right = record { opened = mine.opened; begin = AllBegin-drop n v.parts kept.all mine.begin; given = AllGiven-drop n v.parts kept.gifts mine.given; owns = subst (λ (x : ℕ). Owns owner new x (drop n v.parts)) (let e : 0 + (0 + n - n) ≡ 0 = omega arith in e) given; resting = AreResting-drop o.threads n v.parts mine.resting } in
     record {
       all = kept.all;
       gifts = kept.gifts;
@@ -185,7 +199,7 @@ cuts {T} o id v n le s kept at =
           ⊎_elim
           (λ (x : get_elem? (set s.views id left) j ≡ some u).
           fits_set o kept.all kept.gifts owner s.views id left
-          (λ i y apart f. let theirs = kept.fit i y f in record { opened = theirs.opened; begin = theirs.begin; given = theirs.given; owns = owns_other kept.owner id n new 0 i 0 y.parts apart theirs.owns })
+          (λ i y apart f. let theirs = kept.fit i y f in record { opened = theirs.opened; begin = theirs.begin; given = theirs.given; owns = owns_other kept.owner id n new 0 i 0 y.parts apart theirs.owns; resting = theirs.resting })
           at_left j u x)
           (λ (x : (j ≡ length (set s.views id left)) × (right ≡ u)).
           subst (λ (y : ℕ × View T). Fits o kept.all kept.gifts owner y.0 y.1) (λ k. (sym (x.0 ∙ length_set s.views id left) k, x.1 k)) at_right)
@@ -222,8 +236,9 @@ gathers {T} o id v other w opened same s kept at apart there =
       begin = AllBegin-append v.parts w.parts kept.all mine.begin theirs.begin;
       given = AllGiven-append v.parts w.parts kept.gifts mine.given theirs.given;
       owns = Owns-append owner id 0 v.parts w.parts (owns_other kept.owner other 0 id m id 0 v.parts (λ e. apart (sym e)) mine.owns) (subst (λ (x : ℕ). Owns owner id x w.parts) (let e : m + (0 - 0) ≡ 0 + m = omega arith in e) given);
+      resting = AreResting-append o.threads v.parts w.parts mine.resting theirs.resting;
     } in
-    let at_other : Fits o kept.all kept.gifts owner other (view_of opened []) = record { opened = same ∙ mine.opened; begin = tt; given = tt; owns = tt } in
+    let at_other : Fits o kept.all kept.gifts owner other (view_of opened []) = record { opened = same ∙ mine.opened; begin = tt; given = tt; owns = tt; resting = tt } in
     record {
       all = kept.all;
       gifts = kept.gifts;
@@ -235,7 +250,7 @@ gathers {T} o id v other w opened same s kept at apart there =
       few_ticks = kept.few_ticks;
       fit = λ j u e. fits_set o kept.all kept.gifts owner (set s.views id both) other (view_of opened [])
           (λ i y not_other f. fits_at o kept.all kept.gifts owner s.views id both other
-          (λ i y not_id not_other f. let they = kept.fit i y f in record { opened = they.opened; begin = they.begin; given = they.given; owns = owns_other kept.owner other 0 id m i 0 y.parts not_other they.owns })
+          (λ i y not_id not_other f. let they = kept.fit i y f in record { opened = they.opened; begin = they.begin; given = they.given; owns = owns_other kept.owner other 0 id m i 0 y.parts not_other they.owns; resting = they.resting })
           at_both i y not_other f)
           at_other j u e;
       at = kept.at;
@@ -270,6 +285,10 @@ fresh_begin T tokens first (suc count) = (record { rest = []; goes_on = refl; no
 fresh_given : (T : Type 0) (tokens first count : ℕ) → AllGiven {T = T} (fresh tokens first count) []
 fresh_given T tokens first zero = tt
 fresh_given T tokens first (suc count) = (([], refl), fresh_given T tokens (suc first) count)
+
+fresh_resting : (T : Type 0) (threads tokens first count : ℕ) → first + count ≤ threads → AreResting {T = T} threads (fresh tokens first count)
+fresh_resting T threads tokens first zero le = tt
+fresh_resting T threads tokens first (suc count) le = (λ beyond. absurd (omega arith), fresh_resting T threads tokens (suc first) count (omega arith))
 
 fresh_owns : (T : Type 0) (tokens first count : ℕ) → Owns {T = T} (λ t. (0, t)) 0 first (fresh tokens first count)
 fresh_owns T tokens first zero = tt
@@ -371,7 +390,7 @@ opens {T} o words is = record {
     all_hands (suc seat) v e = absurd (some-ne-none v (sym e))
 
     one : (seat : ℕ) (v : View T) → get_elem? (first_view o ∷ []) seat ≡ some v → Fits o [] [] (λ t. (0, t)) seat v
-    one zero v e = subst (Fits o [] [] (λ t. (0, t)) 0) (some-injective _ _ e) record { opened = refl; begin = fresh_begin T o.tokens 0 o.threads; given = fresh_given T o.tokens 0 o.threads; owns = fresh_owns T o.tokens 0 o.threads }
+    one zero v e = subst (Fits o [] [] (λ t. (0, t)) 0) (some-injective _ _ e) record { opened = refl; begin = fresh_begin T o.tokens 0 o.threads; given = fresh_given T o.tokens 0 o.threads; owns = fresh_owns T o.tokens 0 o.threads; resting = fresh_resting T o.threads o.tokens 0 o.threads (omega arith) }
     one (suc seat) v e = absurd (some-ne-none v (sym e))
 
 -- with no tokens there are no slots

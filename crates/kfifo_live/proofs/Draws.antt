@@ -18,19 +18,19 @@ use Rattle.kfifo_live.specs.declared.view.Opening.{Opening}
 use Rattle.kfifo_live.specs.declared.view.Hand.{Hand}
 use Rattle.kfifo_live.specs.declared.view.Part.{Part}
 use Rattle.kfifo_live.specs.declared.view.View.{View}
-use Rattle.kfifo_live.specs.Schedule.{part, view_of, world_after, thread_of, seen_of, gifts_of, hand_of, with_seen, more_in, AllHands, OneSchedule}
+use Rattle.kfifo_live.specs.Schedule.{part, view_of, world_after, thread_of, seen_of, gifts_of, hand_of, with_seen, more_in, AllHands, IsResting, OneSchedule}
 use Rattle.kfifo_live.specs.Hands.{Gifts, Homes, Where, Home, Out, In, AllHome, CallFits, HandFits, SlotsFit}
 use Rattle.kfifo_live.specs.Step.{IsAt, DrawsToken, LaysBack}
 use Rattle.kfifo_live.proofs.Hands.{within_list}
 use Rattle.kfifo_live.proofs.Keeps.{Tokens, all_hands_on, fits_set}
-use Rattle.kfifo_live.proofs.Passes.{idle_on}
+use Rattle.kfifo_live.proofs.Passes.{idle_on, threads_are}
 
 -- the first thread of a seat has another hand, and nothing else is new
 rehands : {T : Type 0} (o : Opening) (words : List ℕ) (homes homes_now : Homes T) (views : List (View T)) (id thread : ℕ) (seen : List Event) (gifts : Gifts T) (hand hand_now : Hand T) (more : List (Part T))
     → (kept : OneSchedule o words homes views) → get_elem? views id ≡ some (view_of o (part thread seen gifts hand ∷ more))
-    → Tokens o homes homes_now views words kept kept.world kept.gifts thread hand_now
+    → Tokens o homes homes_now views words kept kept.world kept.gifts thread hand_now → IsResting o.threads thread hand_now
     → OneSchedule o words homes_now (set views id (view_of o (part thread seen gifts hand_now ∷ more)))
-rehands {T} o words homes homes_now views id thread seen gifts hand hand_now more kept at tokens =
+rehands {T} o words homes homes_now views id thread seen gifts hand hand_now more kept at tokens rests =
     let mine = kept.fit id (view_of o (part thread seen gifts hand ∷ more)) at in
     let owned : kept.owner thread ≡ (id, 0) = mine.owns.0 in
     record {
@@ -43,7 +43,7 @@ rehands {T} o words homes homes_now views id thread seen gifts hand hand_now mor
       in_turn = kept.in_turn;
       few_ticks = kept.few_ticks;
       fit = fits_set o kept.all kept.gifts kept.owner views id (view_of o (part thread seen gifts hand_now ∷ more)) (λ j u apart e. kept.fit j u e)
-          record { opened = refl; begin = mine.begin; given = mine.given; owns = mine.owns };
+          record { opened = refl; begin = mine.begin; given = mine.given; owns = mine.owns; resting = (rests, mine.resting.1) };
       at = tokens.at_now;
       slots = tokens.slots;
       hands = λ some_tokens j u e.
@@ -58,13 +58,13 @@ rehands {T} o words homes homes_now views id thread seen gifts hand hand_now mor
           (at_set views id j (view_of o (part thread seen gifts hand_now ∷ more)) u e);
     }
 
-Home-injective : (t u i j : ℕ) → Home t i ≡ Home u j → (t ≡ u) × (i ≡ j)
+pub Home-injective : (t u i j : ℕ) → Home t i ≡ Home u j → (t ≡ u) × (i ≡ j)
 Home-injective t u i j e = (cc, cc)
 
-Home-not-In : (t j i : ℕ) → Home t j ≡ In i → ⊥
+pub Home-not-In : (t j i : ℕ) → Home t j ≡ In i → ⊥
 Home-not-In t j i e = cc
 
-Home-not-Out : (t j u : ℕ) → Home t j ≡ Out u → ⊥
+pub Home-not-Out : (t j u : ℕ) → Home t j ≡ Out u → ⊥
 Home-not-Out t j u e = cc
 
 Out-not-In : (u i : ℕ) → Out u ≡ In i → ⊥
@@ -75,28 +75,28 @@ Out-injective t u e = cc
 
 -- one token x goes elsewhere, and what its home has is this
 module _ {T : Type 0} (at : ℕ → Where) (homes : Homes T) (x : ℕ) (positive : 0 < x) (to : Where) (value : Maybe (Option T)) where
-  abbrev elsewhere : ℕ → Where
+  abbrev pub elsewhere : ℕ → Where
   elsewhere y = cond (y == x) to (at y)
 
-  abbrev homes_there : Homes T
+  abbrev pub homes_there : Homes T
   homes_there = slice_set homes (x - 1) value
 
-  at_other : (y : ℕ) → y ≢ x → elsewhere y ≡ at y
+  pub at_other : (y : ℕ) → y ≢ x → elsewhere y ≡ at y
   at_other y ne = ap (λ b. cond b to (at y)) (ne_eqb y x ne)
 
-  at_this : elsewhere x ≡ to
+  pub at_this : elsewhere x ≡ to
   at_this = ap (λ b. cond b to (at x)) (eq-eqb x x refl)
 
   home_other : (y : ℕ) → 0 < y → y ≢ x → get_elem? homes_there (y - 1) ≡ get_elem? homes (y - 1)
   home_other y p ne = set_else homes (x - 1) (y - 1) value (λ e. ne (omega arith))
 
-  home_keeps : (t : ℕ) (ys : List ℕ) → ((j : ℕ) → j < length ys → at x ≢ Home t j) → AllHome at homes t ys → AllHome elsewhere homes_there t ys
+  pub home_keeps : (t : ℕ) (ys : List ℕ) → ((j : ℕ) → j < length ys → at x ≢ Home t j) → AllHome at homes t ys → AllHome elsewhere homes_there t ys
   home_keeps t [] apart a = tt
   home_keeps t (y ∷ ys) apart a =
       let ne : y ≢ x = λ e. apart (length ys) (omega arith) (ap at (sym e) ∙ a.0.1) in
       ((a.0.0, at_other y ne ∙ a.0.1, home_other y a.0.0 ne ∙ a.0.2), home_keeps t ys (λ j less. apart j (omega arith)) a.1)
 
-  slots_keep : (clock : ℕ) (words : ℕ → ℕ) (gifts : Gifts T) → ((i : ℕ) → at x ≢ In i) → SlotsFit clock words at gifts homes → SlotsFit clock words elsewhere gifts homes_there
+  pub slots_keep : (clock : ℕ) (words : ℕ → ℕ) (gifts : Gifts T) → ((i : ℕ) → at x ≢ In i) → SlotsFit clock words at gifts homes → SlotsFit clock words elsewhere gifts homes_there
   slots_keep clock words gifts apart fits i above below filled =
       let s = fits i above below filled in
       let ne : value_of (words i) ≢ x = λ e. apart i (ap at (sym e) ∙ s.0) in
@@ -106,7 +106,7 @@ module _ {T : Type 0} (at : ℕ → Where) (homes : Homes T) (x : ℕ) (positive
       above_zero zero ne = absurd (ne refl)
       above_zero (suc n) ne = omega arith
 
-  other_keeps : (words : ℕ → ℕ) (place : Option Running) (gifts : Gifts T) (u : ℕ) (hand : Hand T) → ((j : ℕ) → at x ≢ Home u j) → at x ≢ Out u → HandFits words place at gifts homes u hand
+  pub other_keeps : (words : ℕ → ℕ) (place : Option Running) (gifts : Gifts T) (u : ℕ) (hand : Hand T) → ((j : ℕ) → at x ≢ Home u j) → at x ≢ Out u → HandFits words place at gifts homes u hand
       → HandFits words place elsewhere gifts homes_there u hand
   other_keeps words place gifts u hand apart not_out fits = record {
     home = home_keeps u hand.at_home (λ j less. apart j) fits.home;
@@ -151,7 +151,7 @@ home_distinct at homes t (y ∷ ys) a = (apart_all ys a.1 (λ j less. not_there 
     apart_all [] b free = tt
     apart_all (z ∷ zs) b free = (ne_eqb y z (λ e. free (length zs) (omega arith) (ap at e ∙ b.0.1)), apart_all zs b.1 (λ j less. free j (omega arith)))
 
-home_room : {T : Type 0} (at : ℕ → Where) (homes : Homes T) (t : ℕ) (ys : List ℕ) → AllHome at homes t ys → length ys ≤ length homes
+pub home_room : {T : Type 0} (at : ℕ → Where) (homes : Homes T) (t : ℕ) (ys : List ℕ) → AllHome at homes t ys → length ys ≤ length homes
 unfolding IsDistinct
 home_room at homes t ys a =
     let zero_apart : IsDistinct (λ x y. x == y) (0 ∷ ys) = (no_zero ys a, home_distinct at homes t ys a) in
@@ -180,11 +180,14 @@ home_room at homes t ys a =
 module _ {T : Type 0} (o : Opening) (s : State (Option T) (View T)) (id thread : ℕ) (seen : List Event) (gifts : Gifts T) (hand : Hand T) (more : List (Part T)) (here : World)
     (reached : world_after o seen ≡ Some here) (within : thread < length here.places) (idle : place_of here thread ≡ None) (some_tokens : 0 < o.tokens)
     (kept : OneSchedule o s.words s.homes s.views) (at : get_elem? s.views id ≡ some (view_of o (part thread seen gifts hand ∷ more))) where
-  own_hand : HandFits (word_at kept.world) (place_of kept.world thread) kept.at kept.gifts s.homes thread hand
+  pub own_hand : HandFits (word_at kept.world) (place_of kept.world thread) kept.at kept.gifts s.homes thread hand
   own_hand = (kept.hands some_tokens id (view_of o (part thread seen gifts hand ∷ more)) at).0
 
-  still_idle : place_of kept.world thread ≡ None
+  pub still_idle : place_of kept.world thread ≡ None
   still_idle = (idle_on o thread seen kept.all here kept.world reached within idle (kept.fit id (view_of o (part thread seen gifts hand ∷ more)) at).begin.0 kept.runs).1
+
+  pub not_beyond : o.threads ≤ thread → ⊥
+  not_beyond le = let n = threads_are o seen here reached in let less = within in omega (arith, n, less, le)
 
   draws_at : (x : ℕ) (xs : List ℕ) → hand.at_home ≡ x ∷ xs
       → (0 < x) × (x - 1 < length s.homes) × (get_elem? s.homes (x - 1) ≡ some (some None))
@@ -208,7 +211,7 @@ module _ {T : Type 0} (o : Opening) (s : State (Option T) (View T)) (id thread :
             other_keeps kept.at s.homes x positive (Out thread) none (word_at kept.world) (place_of kept.world u) kept.gifts u other
             (λ j e. ne (sym (Home-injective thread u (length xs) j (sym home.0.1 ∙ e)).0)) (λ e. Home-not-Out thread (length xs) u (sym home.0.1 ∙ e)) fits;
       } in
-      (positive, inside, home.0.2, rehands o s.words s.homes (slice_set s.homes (x - 1) none) s.views id thread seen gifts hand hand_now more kept at tokens)
+      (positive, inside, home.0.2, rehands o s.words s.homes (slice_set s.homes (x - 1) none) s.views id thread seen gifts hand hand_now more kept at tokens (λ beyond. absurd (not_beyond beyond)))
 
   lays_at : hand.out ≢ 0
       → (length (hand.out ∷ hand.at_home) ≤ length s.homes)
@@ -236,7 +239,7 @@ module _ {T : Type 0} (o : Opening) (s : State (Option T) (View T)) (id thread :
             (λ j e. Home-not-Out u j thread (sym e ∙ there.0)) (λ e. ne (sym (Out-injective thread u (sym there.0 ∙ e)))) fits;
       } in
       let room = home_room at_now homes_now thread (x ∷ hand.at_home) all_home in
-      (omega (arith, room, size), rehands o s.words s.homes homes_now s.views id thread seen gifts hand hand_now more kept at tokens)
+      (omega (arith, room, size), rehands o s.words s.homes homes_now s.views id thread seen gifts hand hand_now more kept at tokens (λ beyond. absurd (not_beyond beyond)))
     where
       above_zero : (n : ℕ) → n ≢ 0 → 0 < n
       above_zero zero ne = absurd (ne refl)

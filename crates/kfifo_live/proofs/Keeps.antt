@@ -25,11 +25,12 @@ use Rattle.kfifo_machine.proofs.Schedules.{run_on, own-append, same_place, still
 use Rattle.kfifo_live.specs.declared.view.Opening.{Opening}
 use Rattle.kfifo_live.specs.declared.view.Part.{Part}
 use Rattle.kfifo_live.specs.declared.view.View.{View}
-use Rattle.kfifo_live.specs.Schedule.{part, view_of, world_after, AllBegin, AllGiven, AllHands, Owns, Fits, OneSchedule, FewTicks, IsSmall, ticks, thread_of, seen_of, gifts_of, hand_of, more_in, with_seen}
+use Rattle.kfifo_live.specs.Schedule.{part, view_of, world_after, AllBegin, AllGiven, AllHands, Owns, IsResting, Fits, OneSchedule, FewTicks, IsSmall, ticks, thread_of, seen_of, gifts_of, hand_of, more_in, with_seen}
 use Rattle.kfifo_live.specs.Step.{IsAt, Steps, DrawsStamp}
 use Rattle.kfifo_live.specs.Hands.{Gifts, Homes, InTurn, Where, beside, gift, move, hand_after, begun_hand, Carries, BeginsWith, HandFits, SlotsFit}
 use Rattle.kfifo_live.specs.declared.view.Hand.{Hand}
-use Rattle.kfifo_live.proofs.Turned.{turned}
+use Rattle.kfifo_live.proofs.Hands.{home_step}
+use Rattle.kfifo_live.proofs.Turned.{same_home, turned}
 use Rattle.kfifo_live.proofs.Ticks.{clock_below, few_more, few_tick, no_tick}
 use Rattle.kfifo_live.proofs.Turns.{in_turn_on}
 
@@ -94,9 +95,9 @@ pub adds : {T : Type 0} (o : Opening) (words after_words : List ℕ) (homes home
     → (kept : OneSchedule o words homes views) → get_elem? views id ≡ some (view_of o (part thread seen gifts hand ∷ more))
     → (tail : List Event) (given : Gifts T) → ((u : ℕ) → u ≢ thread → own u tail ≡ [])
     → (end : World) → run o.shape (Some kept.world) tail ≡ Some end → after_words ≡ end.words → FewTicks o (kept.all ++ tail) → InTurn (kept.all ++ tail) (kept.gifts ++ given)
-    → Tokens o homes homes_now views words kept end (kept.gifts ++ given) thread hand_now
+    → Tokens o homes homes_now views words kept end (kept.gifts ++ given) thread hand_now → IsResting o.threads thread hand_now
     → OneSchedule o after_words homes_now (set views id (view_of o (part thread (kept.all ++ tail) (kept.gifts ++ given) hand_now ∷ more)))
-adds {T} o words after_words homes homes_now views id thread seen gifts hand hand_now more kept at tail given others end runs words_are few in_turn tokens =
+adds {T} o words after_words homes homes_now views id thread seen gifts hand hand_now more kept at tail given others end runs words_are few in_turn tokens rests =
     let mine = kept.fit id (view_of o (part thread seen gifts hand ∷ more)) at in
     let owned : kept.owner thread ≡ (id, 0) = mine.owns.0 in
     record {
@@ -116,6 +117,7 @@ adds {T} o words after_words homes homes_now views id thread seen gifts hand han
             begin = all_begin_on kept.owner j 0 u.parts kept.all tail thread others (λ k le same. apart (ap (λ (x : ℕ × ℕ). x.0) (sym same ∙ owned))) theirs.owns theirs.begin;
             given = all_given_on u.parts kept.gifts given theirs.given;
             owns = theirs.owns;
+            resting = theirs.resting;
           })
           record {
             opened = refl;
@@ -125,6 +127,7 @@ adds {T} o words after_words homes homes_now views id thread seen gifts hand han
             );
             given = (([], sym (append-nil (kept.gifts ++ given))), all_given_on more kept.gifts given mine.given.1);
             owns = mine.owns;
+            resting = (rests, mine.resting.1);
           };
       at = tokens.at_now;
       slots = tokens.slots;
@@ -201,10 +204,12 @@ goes_at {T} o s id thread seen gifts hand more held place here reached within st
     let is_w : w' ≡ w = λ j. view_of o (part thread (b.goes_on j ++ e ∷ []) (g.1 j ++ new) hand_now ∷ more) in
     let homes = homes_after s.homes held t.act in
     let tokens : Tokens o s.homes homes s.views s.words kept end (kept.gifts ++ new) thread hand_now = record { at_now = t.at_now; slots = t.slots; own = t.own; others = t.others } in
+    let home : hand_now.at_home ≡ hand.at_home = home_step (move running (found o.shape kept.world running)) (kept.gifts ++ new) (begun_hand begin held hand) ∙ (same_home begin held hand).0 in
+    let rests : IsResting o.threads thread hand_now = λ beyond. let p = mine.resting.0 beyond in (p.0, home ∙ p.1) in
     let turns : InTurn (kept.all ++ e ∷ []) (kept.gifts ++ new) = in_turn_on kept.all kept.gifts thread begin held kept.in_turn in
     let made : run o.shape (Some kept.world) (e ∷ []) ≡ Some end = ap world_of (steps_on o.shape kept.world e running inside now) in
     let k = adds o s.words (slice_set s.words i (f (slice_index s.words i))) s.homes homes s.views id thread seen gifts hand hand_now more kept at (e ∷ []) new (λ u apart. own_other thread u begin apart) end made new_words
-    (few_more o kept.all e (no_tick o.shape place begin running from) kept.few_ticks) turns tokens in (
+    (few_more o kept.all e (no_tick o.shape place begin running from) kept.few_ticks) turns tokens rests in (
       w,
       t.act,
       t.valid,
@@ -302,7 +307,7 @@ draws_at {T} o s id thread seen gifts hand more here reached within idle small r
     let own_all : own thread kept.all ≡ own thread seen = ap (own thread) b.goes_on ∙ own-append thread seen b.rest ∙ ap (λ es. own thread seen ++ es) b.no_own ∙ append-nil (own thread seen) in
     let room_left : ticks (own thread kept.all) < 2 * o.calls = subst (λ (es : List Event). ticks es < 2 * o.calls) (sym own_all) room in
     let k = adds o s.words (slice_set s.words clock ((slice_index s.words clock + 1) % 2 ^ 64)) s.homes s.homes s.views id thread seen gifts hand hand more kept at (e ∷ []) [] (λ u apart. own_other thread u (Some Tick) apart) (ticked o.shape kept.world) made new_words
-    (few_tick o kept.all e room_left kept.few_ticks) (in_turn_on kept.all kept.gifts thread (Some Tick) [] kept.in_turn) tokens in (
+    (few_tick o kept.all e room_left kept.few_ticks) (in_turn_on kept.all kept.gifts thread (Some Tick) [] kept.in_turn) tokens mine.resting.0 in (
       w,
       subst (λ (x : View T). OneSchedule o (slice_set s.words clock ((slice_index s.words clock + 1) % 2 ^ 64)) s.homes (set s.views id x)) is_w k,
       record {

@@ -5,6 +5,7 @@ pub mod Turns
 pub mod Keeps
 pub mod Cuts
 pub mod Draws
+pub mod Resting
 pub mod Whole
 pub mod Opens
 pub mod Scans
@@ -22,3 +23,4 @@ pub mod Balance
 pub mod CallScans
 pub mod Made
 pub mod Pays
+pub mod Pools

@@ -1,6 +1,6 @@
 -- A pass that has seen more is still in no call.
 use Rattle.std.proofs.Common.{◌≡◌, ℕ, ◌<◌, ◌≤◌, List, [], ◌∷◌, ◌++◌, length, Option, Some, None, refl, sym, ap, ◌∙◌, subst, arith, append_assoc}
-use Rattle.std.proofs.lemmas.List.{append-nil}
+use Rattle.std.proofs.lemmas.List.{append-nil, length-replicate}
 use Rattle.atomic_table.specs.Table.{Me}
 use Rattle.atomic_table.specs.Seated.{TableId}
 use Rattle.atomic_table.specs.declared.shared.Seat.{Seat}
@@ -10,6 +10,7 @@ use Rattle.kfifo_machine.specs.declared.event.Begin.{Begin}
 use Rattle.kfifo_machine.specs.declared.event.Begin.TheVariants.{Tick}
 use Rattle.kfifo_machine.specs.declared.event.Event.{Event}
 use Rattle.kfifo_machine.specs.declared.place.Next.TheVariants.{Answers}
+use Rattle.kfifo_machine.specs.declared.place.Running.{Running}
 use Rattle.kfifo_machine.specs.Machine.{World, opening, place_of, run, ticked, word_at, world_of}
 use Rattle.kfifo_machine.specs.Runs.{Begins, CompleteExecution, event, own}
 use Rattle.kfifo_machine.proofs.Budget.{tick_leaves}
@@ -35,6 +36,13 @@ length-ticked shape world = refl
 -- a pass acts for its thread
 pub pass_thread : {T : Type 0} (thread : ℕ) (me : Me (Option T) (View T)) → IsPass thread me → thread_of me.0 ≡ thread
 pass_thread thread me p = ap thread_in p.alone
+
+-- a world of a schedule has the threads of the opening
+pub threads_are : (o : Opening) (seen : List Event) (here : World) → world_after o seen ≡ Some here → length here.places ≡ o.threads
+unfolding opening
+threads_are o seen here reached =
+    let idle : Option Running = None in
+    still_threads o.shape (opening o.shape o.threads) here seen reached ∙ length-replicate o.threads idle
 
 -- its thread is idle after others' events
 pub idle_on : (o : Opening) (thread : ℕ) (seen all : List Event) (here end : World) → world_after o seen ≡ Some here → thread < length here.places → place_of here thread ≡ None

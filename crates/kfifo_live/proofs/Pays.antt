@@ -37,14 +37,14 @@ module _ {T : Type 0} where
   abbrev pub IsAlone : ℕ → View T → Type 0
   IsAlone thread v = v.parts ≡ part thread (seen_of v) (gifts_of v) (hand_of v) ∷ []
 
-  alone_on : (thread : ℕ) (v w : View T) {seen : _} {gifts : Gifts T} {hand : Hand T} → IsAlone thread v → w ≡ with_seen v seen gifts hand → IsAlone thread w
+  pub alone_on : (thread : ℕ) (v w : View T) {seen : _} {gifts : Gifts T} {hand : Hand T} → IsAlone thread v → w ≡ with_seen v seen gifts hand → IsAlone thread w
   alone_on thread v w {seen} {gifts} {hand} alone is =
       ap (λ (x : View T). x.parts) is
       ∙ (λ i. part (thread_in (alone i)) seen gifts hand ∷ more_in (alone i))
       ∙ (λ i. part thread (sym (ap seen_of is) i) (sym (ap gifts_of is) i) (sym (ap hand_of is) i) ∷ [])
 
   -- an idle thread has another hand
-  idle_with : (old new : Me (Option T) (View T)) (hand : Hand T) (payload : Option T) → IsAt None old → new.0 ≡ with_seen old.0 (seen_of old.0) (gifts_of old.0) hand → new.1 ≡ carrying old.0.opened.tokens hand.out payload → IsAt None new
+  pub idle_with : (old new : Me (Option T) (View T)) (hand : Hand T) (payload : Option T) → IsAt None old → new.0 ≡ with_seen old.0 (seen_of old.0) (gifts_of old.0) hand → new.1 ≡ carrying old.0.opened.tokens hand.out payload → IsAt None new
   idle_with old new hand payload stood is held =
       let at : IsAt None (with_seen old.0 (seen_of old.0) (gifts_of old.0) hand, new.1) = record { here = stood.here; seated = refl; reached = stood.reached; within = stood.within; place_is = stood.place_is; carries = (payload, held) } in
       subst (λ (x : View T). IsAt None (x, new.1)) (sym is) at
@@ -68,11 +68,11 @@ module _ {T : Type 0} where
   pass_out {thread} {room} {me} {items} p = none_out me.0.opened.tokens (hand_of me.0).out p.pass.idle.carries.0 p.some_tokens (sym p.pass.held ∙ p.pass.idle.carries.1)
 
   -- gifts of a view that has seen this schedule
-  in_turn_as : {v w : View T} → v ≡ w → InTurn (seen_of w) (gifts_of w) → InTurn (seen_of v) (gifts_of v)
+  pub in_turn_as : {v w : View T} → v ≡ w → InTurn (seen_of w) (gifts_of w) → InTurn (seen_of v) (gifts_of v)
   in_turn_as is turns = subst (λ (x : View T). InTurn (seen_of x) (gifts_of x)) (sym is) turns
 
   -- the pass after moves of its own
-  again : {thread room room_now : ℕ} {old new : Me (Option T) (View T)} {items now : List ℕ} → IsPayPass thread old items room → IsAlone thread new.0 → new.1 ≡ [] → IsAt None new → new.0.opened ≡ old.0.opened
+  pub again : {thread room room_now : ℕ} {old new : Me (Option T) (View T)} {items now : List ℕ} → IsPayPass thread old items room → IsAlone thread new.0 → new.1 ≡ [] → IsAt None new → new.0.opened ≡ old.0.opened
       → (hand_of new.0).at_home ≡ reverse now → room_now ≡ room → InTurn (seen_of new.0) (gifts_of new.0) → IsPayPass thread new now room_now
   again {thread} {room} {room_now} {old} {new} p alone held idle same stacked roomy turns = record {
     pass = record { alone = alone; held = held; idle = idle; few = subst IsSmall (sym same) p.pass.few };

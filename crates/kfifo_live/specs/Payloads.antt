@@ -1,6 +1,7 @@
 -- A queue of owned payloads and its passes, as callers see them, and what a call with a payload does.
-use Rattle.std.specs.Prelude.{◌<◌, ◌≤◌, ◌≡◌, ℕ, zero, suc, ◌+◌, ◌-◌, ◌*◌, List, [], ◌∷◌, ◌++◌, Option, Some, None, get_or, length, map, reverse}
+use Rattle.std.specs.Prelude.{Bool, true, false, ◌<◌, ◌≤◌, ◌≡◌, ℕ, zero, suc, ◌+◌, ◌-◌, ◌*◌, List, [], ◌∷◌, ◌++◌, Option, Some, None, get_or, length, map, reverse}
 use Rattle.atomic_table.specs.Table.{Me}
+use Rattle.atomic_table.specs.Perched.{Roost}
 use Rattle.atomic_table.specs.Seated.{TableId}
 use Rattle.kfifo_words.specs.declared.shape.Shape.{Shape}
 use Rattle.kfifo_model.specs.declared.calls.Answer.{Answer}
@@ -22,7 +23,7 @@ use Rattle.kfifo_live.specs.Hands.{Gifts, InTurn, beside}
 use Rattle.kfifo_live.specs.Balance.{times, puts, undos, takes}
 use Rattle.kfifo_live.specs.Left.{items_left}
 use Rattle.kfifo_live.specs.Promise.{KeepsPromise}
-use Rattle.kfifo_live.specs.Schedule.{count_up, seen_of, gifts_of, hand_of, world_after}
+use Rattle.kfifo_live.specs.Schedule.{count_up, seen_of, gifts_of, hand_of, world_after, resting_view}
 use Rattle.kfifo_live.specs.Pass.{Known, OpenQueue, IsPass, known_of}
 use Rattle.kfifo_live.specs.Calls.{Makes, TakesFewSteps, HasCause, IsDisturbed, LeavesNoItem}
 
@@ -109,6 +110,27 @@ module _ {T : Type 0} where
   TakesOut start turns K.Empty old new = (new.tokens ≡ old.tokens) × DequeuesWith start turns A.Empty old new
   TakesOut start turns K.Busy old new = (new.tokens ≡ old.tokens) × DequeuesWith start turns A.Busy old new
   TakesOut start turns K.Worn old new = (new.tokens ≡ old.tokens) × DequeuesWith start turns A.Worn old new
+
+  -- these are words of a pool of this table, each of one token: the first of this one, the next of the next
+  abbrev pub IsPool : TableId → Opening → ℕ → List (Roost (View T)) → Type 0
+  IsPool table o token [] = Unit {0}
+  IsPool table o token (p ∷ ps) = ((p.table_id ≡ table) × (p.view ≡ resting_view o token)) × IsPool table o (suc token) ps
+
+  -- the words of so many tokens, the first of them this one
+  abbrev pub pool_for : TableId → Opening → ℕ → ℕ → List (Roost (View T))
+  pool_for table o token zero = []
+  pool_for table o token (suc count) = record { table_id = table; view = resting_view o token } ∷ pool_for table o (suc token) count
+
+  -- What `lay_down` did. True: the pass has one token less, the one that it would have used next. False: nothing changed. Either is no event,
+  -- and nothing more was seen
+  abbrev pub LaysDown : Bool → PayKnown T → PayKnown T → Type 0
+  LaysDown true old new = (token : ℕ) × (old.tokens ≡ token ∷ new.tokens) × (new.pass ≡ old.pass) × (new.gifts ≡ old.gifts)
+  LaysDown false old new = new ≡ old
+
+  -- What `pick_up` did. True: the pass has one token more, which it uses next. False: nothing changed. Either is no event, and nothing more was seen
+  abbrev pub PicksUp : Bool → PayKnown T → PayKnown T → Type 0
+  PicksUp true old new = (token : ℕ) × (0 < token) × (new.tokens ≡ token ∷ old.tokens) × (new.pass ≡ old.pass) × (new.gifts ≡ old.gifts)
+  PicksUp false old new = new ≡ old
 
   -- what the slot of a token holds
   abbrev pub in_slot : List (Option T) → ℕ → Option T

@@ -1,5 +1,5 @@
 -- The one schedule of a running queue, and what each seat of its table has seen of it.
-use Rattle.std.specs.Prelude.{◌≡◌, ℕ, zero, suc, ◌+◌, ◌*◌, ◌<◌, ◌≤◌, Bool, true, false, List, [], ◌∷◌, Option, Some, None, take, drop, length, filter, ◌++◌}
+use Rattle.std.specs.Prelude.{◌≡◌, ℕ, zero, suc, ◌+◌, ◌-◌, ◌*◌, ◌<◌, ◌≤◌, Bool, true, false, List, [], ◌∷◌, Option, Some, None, take, drop, length, filter, ◌++◌}
 use Rattle.std.proofs.Common.{lit<, lit≤}
 use mathlib.Core.Option.{some}
 use lib.ListN.{get_elem?}
@@ -91,11 +91,20 @@ module _ {T : Type 0} where
   Owns owner seat at [] = Unit {0}
   Owns owner seat at (p ∷ ps) = (owner p.thread ≡ (seat, at)) × Owns owner seat (suc at) ps
 
+  -- A resting token is a part of no thread: its number is that of its token, behind those of the threads
+  abbrev pub IsResting : ℕ → ℕ → Hand T → Type 0
+  IsResting threads number hand = threads ≤ number → (others : List ℕ) × (hand.at_home ≡ (number - threads) ∷ others)
+
+  abbrev pub AreResting : ℕ → List (Part T) → Type 0
+  AreResting threads [] = Unit {0}
+  AreResting threads (p ∷ ps) = IsResting threads p.thread p.hand × AreResting threads ps
+
   pub record Fits (o : Opening) (all : List Event) (gifts : Gifts T) (owner : ℕ → ℕ × ℕ) (seat : ℕ) (v : View T) : Type 0 where
     pub opened : v.opened ≡ o
     pub begin : AllBegin v.parts all
     pub given : AllGiven v.parts gifts
     pub owns : Owns owner seat 0 v.parts
+    pub resting : AreResting o.threads v.parts
 
   -- One schedule: the words of the table are those after it, what each seat has seen of its threads is a beginning of it with
   -- all their events, and the clock has ticked so seldom that it is not spent. The gifts are of its enqueues, in turn. Where there are
@@ -172,6 +181,37 @@ module _ {T : Type 0} where
 
   abbrev pub other_parts : View T → View T
   other_parts v = view_of v.opened (drop 1 v.parts)
+
+-- the token that a thread uses next, or 0
+abbrev pub next_of : List ℕ → ℕ
+next_of [] = 0
+next_of (x ∷ xs) = x
+
+module _ {T : Type 0} where
+  -- a resting token: what its seat has, which has seen nothing
+  abbrev pub resting_hand : ℕ → Hand T
+  resting_hand token = record { at_home = token ∷ []; out = 0; payload = None }
+
+  abbrev pub resting_view : Opening → ℕ → View T
+  resting_view o token = view_of o (part (o.threads + token) [] [] (resting_hand token) ∷ [])
+
+  abbrev pub next_token : View T → ℕ
+  next_token v = next_of (hand_of v).at_home
+
+  -- the first thread's tokens at home are these
+  abbrev pub with_home : View T → List ℕ → View T
+  with_home v tokens = with_seen v (seen_of v) (gifts_of v) (record { at_home = tokens; out = (hand_of v).out; payload = (hand_of v).payload })
+
+  -- a view cut in two: the first thread less the token that it uses next, and that token at rest
+  abbrev pub less_next : View T → View T
+  less_next v = with_home v (drop 1 (hand_of v).at_home)
+
+  abbrev pub resting_of : View T → View T
+  resting_of v = resting_view v.opened (next_token v)
+
+  -- the first thread of a view takes a resting token, which it uses next
+  abbrev pub with_resting : View T → View T → View T
+  with_resting v w = with_home v ((hand_of w).at_home ++ (hand_of v).at_home)
 
 -- any opening, for a seat that is spent
 abbrev pub small_opening : Opening

@@ -99,6 +99,11 @@ module _ {T : Type 0} where
     pub afterwards : w.0 ≡ with_seen v.0 (seen_of v.0) (gifts_of v.0) (record { at_home = (hand_of v.0).out ∷ (hand_of v.0).at_home; out = 0; payload = None })
     pub holds : w.1 ≡ []
 
+  -- it counts its tokens: they are no more than there are slots
+  pub record CountsTokens (slots : ℕ) (v w : Me (Option T) (View T)) : Type 0 where
+    pub few : length (hand_of v.0).at_home ≤ slots
+    pub same : w ≡ v
+
   -- the item and the payload of a call's own, at its first step or in progress
   abbrev pub HasOwn : Option Begin → Me (Option T) (View T) → ℕ → Option T → Type 0
   HasOwn (Some (B.Enqueue item start turns)) v own payload = (own ≡ item) × (payload ≡ carried v.1)

@@ -12,6 +12,7 @@ mod payload;
 mod payload_closing;
 mod payload_meeting;
 mod payload_opening;
+mod payload_pool;
 mod queue;
 mod recording;
 mod ring;

@@ -2,13 +2,14 @@
 //!
 //! While the queue has a payload, it lies in a slot of the queue's table. A *token* is an item of the plain queue
 //! that names such a slot, token x the slot x - 1. Who has a token may put its slot's payload into the queue.
-ghost use Rattle.std.specs.Prelude.{◌≡◌, ◌<◌, ◌≤◌, ◌+◌, ◌-◌, ◌*◌, ◌++◌, ℕ, List, [], ◌∷◌, length, reverse, Some, None, vec_capacity};
+ghost use Rattle.std.specs.Prelude.{◌≡◌, ◌<◌, ◌≤◌, ◌+◌, ◌-◌, ◌*◌, ◌^◌, ◌++◌, ℕ, List, [], ◌∷◌, length, reverse, Some, None, vec_capacity};
 ghost use Rattle.kfifo_live.specs.Schedule.{hand_of, seen_of, gifts_of, with_seen};
 ghost use Rattle.kfifo_live.specs.Step.{DrawsToken, IsAt};
 ghost use Rattle.kfifo_live.specs.Promise.{KeepsPromise};
 ghost use Rattle.kfifo_live.specs.Pass.{OpenQueue, queue_of, IsOf, IsSame};
-ghost use Rattle.kfifo_live.specs.Payloads.{PayKnown, pay_known_of, pay_opening, IsPayPass, Gives, TakesOut};
+ghost use Rattle.kfifo_live.specs.Payloads.{PayKnown, pay_known_of, pay_opening, IsPool, IsPayPass, Gives, TakesOut};
 
+use crate::payload_pool::PoolWord;
 use crate::ring::Ring;
 use crate::rule::QueueRule;
 use crate::seats::{draw_token, lay_back};
@@ -28,6 +29,7 @@ pub struct PayQueue<T: Drop> {
     pub(crate) shape: Shape,
     pub(crate) threads: u32,
     pub(crate) tokens: u32,
+    pub(crate) pool: Vec<PoolWord<T>>,
 }
 
 impl<T: Drop> Model for PayQueue<T> {
@@ -36,7 +38,8 @@ impl<T: Drop> Model for PayQueue<T> {
     ghost view = { λ q. queue_of q.table.shared.table_id (pay_opening q.shape q.threads q.tokens) };
 
     ghost invariant = { λ q. (q.table.shared.key ≡ pay_opening q.shape q.threads q.tokens)
-        × (q.table.shared.table_id.words ≡ 2 + q.shape.n * q.shape.k) × (q.table.shared.table_id.slots ≡ q.threads * q.tokens) };
+        × (q.table.shared.table_id.words ≡ 2 + q.shape.n * q.shape.k) × (q.table.shared.table_id.slots ≡ q.threads * q.tokens)
+        × (IsPool q.table.shared.table_id (pay_opening q.shape q.threads q.tokens) 1 q.pool.items × (length q.pool.items < 2 ^ 32)) };
 }
 
 /// What a thread gives and takes payloads with, and the tokens that it has. It may go to another thread between two
@@ -49,6 +52,8 @@ pub struct PayPass<T: Drop> {
     pub(crate) thread: u32,
     pub(crate) seat: ThreadSeat<T>,
     pub(crate) at_home: Vec<u32>,
+    /// The word of the pool at which the next look for a token begins.
+    pub(crate) look_from: usize,
 }
 
 impl<T: Drop> Model for PayPass<T> {

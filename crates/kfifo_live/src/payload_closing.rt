@@ -64,11 +64,13 @@ impl<T: Drop> PayQueue<T> {
             shape,
             threads,
             tokens,
+            pool: _,
         } = self;
         let PayPass {
             thread: _,
             seat,
             at_home: _,
+            look_from: _,
         } = pass;
         // The room is made first: after a refusal the table still drops what it holds.
         let slots = Vec::with_capacity(alloc, threads as usize * tokens as usize)?;

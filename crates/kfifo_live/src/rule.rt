@@ -3,8 +3,8 @@ ghost use Rattle.std.specs.Prelude.{◌≡◌, Some, None, []};
 ghost use Rattle.kfifo_live.specs.declared.view.Opening.{Opening};
 ghost use Rattle.kfifo_machine.specs.declared.event.Begin.{Begin};
 ghost use Rattle.kfifo_machine.specs.declared.event.Begin.TheVariants.{Tick};
-ghost use Rattle.kfifo_live.specs.Schedule.{OneSchedule, first_view, first_part, other_parts, no_part, both_parts, view_of, small_opening};
-ghost use Rattle.kfifo_live.specs.Step.{Steps, DrawsStamp, DrawsToken, LaysBack, Looks};
+ghost use Rattle.kfifo_live.specs.Schedule.{OneSchedule, first_view, first_part, other_parts, no_part, both_parts, view_of, small_opening, less_next, resting_of, with_resting};
+ghost use Rattle.kfifo_live.specs.Step.{Steps, DrawsStamp, DrawsToken, LaysBack, CountsTokens, Looks};
 
 use crate::view::{Opening, View};
 use atomic_table::{Join, Play, Split, TableRule};
@@ -74,6 +74,22 @@ impl<T> Play<Option<T>, View<T>> for LayBack {
     ghost then = { λ s v found w. LaysBack s.slots v w };
 }
 
+/// A load with which it learns that it has no more tokens than there are slots.
+pub struct CountTokens;
+
+impl<T> Play<Option<T>, View<T>> for CountTokens {
+    ghost then = { λ s v found w. CountsTokens s.slots v w };
+}
+
+/// Keeps all but the token that the first thread uses next, and gives a seat with that token alone.
+pub struct CutToken;
+
+impl<T> Split<View<T>> for CutToken {
+    ghost left = { less_next };
+
+    ghost right = { resting_of };
+}
+
 /// Keeps the first part, and gives the others.
 pub struct Rest;
 
@@ -108,6 +124,17 @@ pub struct Gather<O: Opened> {
 
 impl<T, O: Opened> Join<View<T>> for Gather<O> {
     ghost both = { both_parts };
+
+    ghost spent = { view_of O.opened [] };
+}
+
+/// Takes the token of a seat that has a token alone, and is spent.
+pub struct AddToken<O: Opened> {
+    of: PhantomData<O>,
+}
+
+impl<T, O: Opened> Join<View<T>> for AddToken<O> {
+    ghost both = { with_resting };
 
     ghost spent = { view_of O.opened [] };
 }

@@ -1,9 +1,11 @@
 //! Moves of seats that are no steps of a thread.
 ghost use Rattle.std.specs.Prelude.{◌≡◌, ◌≢◌, ◌<◌, ◌≤◌, ◌-◌, ℕ, List, [], ◌∷◌, length, None};
-ghost use Rattle.kfifo_live.specs.Schedule.{IsSeated, hand_of, first_part, other_parts, no_part, both_parts};
-ghost use Rattle.kfifo_live.specs.Step.{DrawsToken, IsAt, LaysBack, Looks};
+ghost use Rattle.kfifo_live.specs.Schedule.{IsSeated, hand_of, more_in, first_part, other_parts, no_part, both_parts, less_next, resting_of, resting_view, with_resting};
+ghost use Rattle.kfifo_live.specs.Step.{CountsTokens, DrawsToken, IsAt, LaysBack, Looks};
 
-use crate::rule::{All, DrawToken, Gather, LayBack, Observation, Opened, Rest};
+use crate::rule::{
+    AddToken, All, CountTokens, CutToken, DrawToken, Gather, LayBack, Observation, Opened, Rest,
+};
 use crate::view::{ThreadSeat, Words};
 
 /// One load of a word. All that was done up to now was then seen.
@@ -38,6 +40,47 @@ pub(crate) fn lay_back<T>(shared: &Words<T>, seat: &mut ThreadSeat<T>)
     ensures lays { LaysBack shared.now.table_id.slots seat.old.me seat.new.me }
 {
     shared.load::<LayBack>(seat, 0);
+}
+
+/// One load of the ends word. It tells that the thread has no more tokens than there are slots.
+#[inline(always)]
+pub(crate) fn count_tokens<T>(shared: &Words<T>, seat: &mut ThreadSeat<T>)
+    requires table { (seat.old.table_id ≡ shared.now.table_id) × (0 < shared.now.table_id.words) }
+    requires seated { IsSeated seat.old.me.0 × (0 < seat.old.me.0.opened.tokens) }
+    ensures same { seat.new.table_id ≡ seat.old.table_id }
+    ensures counts { CountsTokens shared.now.table_id.slots seat.old.me seat.new.me }
+{
+    shared.load::<CountTokens>(seat, 0);
+}
+
+/// Cuts off the token that the thread uses next, and gives a seat that has it alone. It is no event.
+#[inline(always)]
+pub(crate) fn cut_token<T>(shared: &Words<T>, seat: &mut ThreadSeat<T>) -> ThreadSeat<T>
+    requires table { (seat.old.table_id ≡ shared.now.table_id) × (0 < shared.now.table_id.words) }
+    requires idle { IsAt None seat.old.me × (0 < seat.old.me.0.opened.tokens) }
+    requires some { (x : ℕ) × (xs : List ℕ) × ((hand_of seat.old.me.0).at_home ≡ x ∷ xs) }
+    ensures same { (seat.new.table_id ≡ seat.old.table_id) × (seat.new.me ≡ (less_next seat.old.me.0, seat.old.me.1)) }
+    ensures resting { (result.table_id ≡ seat.old.table_id) × (result.me ≡ (resting_of seat.old.me.0, [])) }
+{
+    shared.split_seat::<CutToken>(seat)
+}
+
+/// Takes in the token of a seat that has it alone. The thread uses it next. It is no event.
+#[inline(always)]
+pub(crate) fn add_token<T, O: Opened>(
+    shared: &Words<T>,
+    seat: &mut ThreadSeat<T>,
+    resting: ThreadSeat<T>,
+    token: u32,
+)
+    requires table { (seat.old.table_id ≡ shared.now.table_id) × (0 < shared.now.table_id.words) }
+    requires idle { IsAt None seat.old.me × (0 < seat.old.me.0.opened.tokens) × (more_in seat.old.me.0.parts ≡ []) }
+    requires resting { (resting.table_id ≡ shared.now.table_id) × (resting.me ≡ (resting_view seat.old.me.0.opened token, [])) }
+    requires picked { O.opened ≡ seat.old.me.0.opened }
+    ensures same { seat.new.table_id ≡ seat.old.table_id }
+    ensures takes { seat.new.me ≡ (with_resting seat.old.me.0 (resting_view seat.old.me.0.opened token), seat.old.me.1) }
+{
+    shared.join_seat::<AddToken<O>>(seat, resting);
 }
 
 /// Keeps the first part of a seat's view, and gives a new seat the others.

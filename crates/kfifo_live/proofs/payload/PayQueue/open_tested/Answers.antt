@@ -2,7 +2,7 @@
 use Rattle.std.proofs.Common.{All, subst, sym}
 use Rattle.kfifo_live.specs.Pass.{IsOf}
 use Rattle.kfifo_live.proofs.Opens.{pay_passes_of_new, zeroed}
-use Rattle.kfifo_live.proofs.payload.PayQueue.open.Goals as goal
+use Rattle.kfifo_live.proofs.payload.PayQueue.open_tested.Goals as goal
 
 pub returns-clause-zeroed : goal.returns-clause-zeroed
 returns-clause-zeroed g c = zeroed c.in_ok-opened.opened.0.opened

@@ -1,0 +1,156 @@
+//! Tokens that come back: the pool of a queue, in which passes lay tokens down for others to pick up.
+//!
+//! A token that no pass holds has a seat of its own, whose one part is of no thread and has that token alone. It rests on
+//! the word of the token, which is 2 while it does, and 0 else.
+ghost use Rattle.std.specs.Prelude.{◌≡◌, ◌<◌, ◌+◌, ◌^◌, ◌++◌, ℕ, List, [], length, IfErr, IfOk, IfSome, None};
+ghost use Rattle.kfifo_live.specs.Schedule.{count_up, hand_of, more_in, resting_view};
+ghost use Rattle.kfifo_live.specs.Step.{IsAt};
+ghost use Rattle.kfifo_live.specs.Pass.{IsOf};
+ghost use Rattle.kfifo_live.specs.Payloads.{IsPool, LaysDown, PicksUp, pool_for};
+
+use crate::payload::{PayPass, PayQueue};
+use crate::rule::Opened;
+use crate::seats::{add_token, count_tokens, cut_token};
+use crate::view::{ThreadSeat, View, Words};
+use atomic_table::Perch;
+use std::alloc::AllocError;
+use std::marker::Brand;
+
+/// A word of the pool, in which its token rests or not.
+pub(crate) type PoolWord<T> = Perch<Option<T>, View<T>>;
+
+/// What a word of the pool is while no token rests in it.
+const EMPTY: u64 = 0;
+
+/// What a word of the pool is while its token rests in it.
+const RESTING: u64 = 2;
+
+/// Adds an empty word to the pool for each of `count` tokens of the thread, the first of them `token`. The thread keeps them.
+// A word is made like a seat that has its token alone. So each token is cut off, stays off while the words of those behind
+// it are made, since only the first one can be cut, and comes back after them.
+pub(crate) fn extend_pool<T, O: Opened>(
+    shared: &Words<T>,
+    seat: &mut ThreadSeat<T>,
+    pool: &mut Vec<PoolWord<T>>,
+    token: u32,
+    count: u32,
+) -> Result<(), AllocError>
+    requires table { (seat.old.table_id ≡ shared.now.table_id) × (0 < shared.now.table_id.words) }
+    requires idle { IsAt None seat.old.me × (0 < seat.old.me.0.opened.tokens) × (more_in seat.old.me.0.parts ≡ []) }
+    requires home { (others : List ℕ) × ((hand_of seat.old.me.0).at_home ≡ count_up token count ++ others) }
+    requires small { token + count < 2 ^ 32 }
+    requires picked { O.opened ≡ seat.old.me.0.opened }
+    ensures same { IfOk result (λ _. (seat.new.table_id ≡ seat.old.table_id) × (seat.new.me ≡ seat.old.me)) }
+    ensures pool { IfOk result (λ _. pool.new.items ≡ pool.old.items ++ pool_for seat.old.table_id seat.old.me.0.opened token count) }
+{
+    if count == 0 {
+        return Ok(());
+    }
+    let resting = cut_token(shared, seat);
+    pool.push(Perch::new(&resting, EMPTY))?;
+    extend_pool::<T, O>(shared, seat, pool, token + 1, count - 1)?;
+    add_token::<_, O>(shared, seat, resting, token);
+    Ok(())
+}
+
+/// Lets a token rest in its word. It comes back where the pool has no word for it.
+fn rest_token<T>(
+    shared: &Words<T>,
+    pool: &[PoolWord<T>],
+    resting: ThreadSeat<T>,
+    token: u32,
+) -> Result<(), ThreadSeat<T>>
+    requires pool { IsPool shared.now.table_id shared.now.key 1 pool.now }
+    requires resting { (resting.table_id ≡ shared.now.table_id) × (resting.me ≡ (resting_view shared.now.key token, [])) }
+    ensures { IfErr result (λ s. (s.table_id ≡ resting.table_id) × (s.me ≡ resting.me)) }
+{
+    if token == 0 || token as usize > pool.len() {
+        return Err(resting);
+    }
+    pool[token as usize - 1].give(resting, EMPTY, RESTING)
+}
+
+/// The token that rests in this word, unless there is none or another pass is faster.
+fn wake_token<T>(shared: &Words<T>, pool: &[PoolWord<T>], index: usize) -> Option<ThreadSeat<T>>
+    requires pool { IsPool shared.now.table_id shared.now.key 1 pool.now }
+    requires within { index < length pool.now }
+    ensures { IfSome result (λ s. (s.table_id ≡ shared.now.table_id) × (s.me ≡ (resting_view shared.now.key (index + 1), []))) }
+{
+    let word = &pool[index];
+    // Passes that look at an empty word only read it, and so do not take its line from each other.
+    if word.load() < RESTING {
+        return None;
+    }
+    let (_, resting) = word.take(EMPTY);
+    resting
+}
+
+/// The first token that is won, by one look at each word, from this one on round to it.
+fn find_token<T>(
+    shared: &Words<T>,
+    pool: &[PoolWord<T>],
+    first: usize,
+) -> Option<(u32, ThreadSeat<T>)>
+    requires pool { IsPool shared.now.table_id shared.now.key 1 pool.now }
+    requires few { length pool.now < 2 ^ 32 }
+    ensures { IfSome result (λ r. (0 < r.0) × (r.1.table_id ≡ shared.now.table_id) × (r.1.me ≡ (resting_view shared.now.key r.0, []))) }
+{
+    for index in first..pool.len() {
+        if let Some(resting) = wake_token(shared, pool, index) {
+            return Some((index as u32 + 1, resting));
+        }
+    }
+    for index in 0..first.min(pool.len()) {
+        if let Some(resting) = wake_token(shared, pool, index) {
+            return Some((index as u32 + 1, resting));
+        }
+    }
+    None
+}
+
+impl<T: Drop> PayPass<T> {
+    /// Lays the token that the pass would use next down in the pool of the queue.
+    ///
+    /// True where it did: the pass has that token less. False changes nothing; it comes where the pass has no token, and of a
+    /// queue without a pool. It is no event, and the pass has seen no more than before. It never allocates, waits or locks.
+    pub fn lay_down(&mut self, queue: &PayQueue<T>) -> bool
+        requires of { IsOf queue.now self.old.pass }
+        ensures lays { LaysDown result self.old self.new }
+    {
+        let Some(token) = self.at_home.pop() else {
+            return false;
+        };
+        let shared = &queue.table.shared;
+        let resting = cut_token(shared, &mut self.seat);
+        let Err(resting) = rest_token(shared, queue.pool.as_slice(), resting, token) else {
+            return true;
+        };
+        add_token::<_, Brand>(shared, &mut self.seat, resting, token);
+        self.at_home.push_reserved(token);
+        false
+    }
+
+    /// Picks a token up from the pool of the queue.
+    ///
+    /// True where it did: the pass has that token more, and uses it next. False changes nothing; it comes where one look at
+    /// each word found no token that could be taken, and of a queue without a pool. The look begins at the word where
+    /// the pass found a token last, at first at that of its own first token. It is no event, and the pass has seen no more than
+    /// before. It never allocates, waits or locks.
+    pub fn pick_up(&mut self, queue: &PayQueue<T>) -> bool
+        requires of { IsOf queue.now self.old.pass }
+        ensures picks { PicksUp result self.old self.new }
+    {
+        let shared = &queue.table.shared;
+        let pool = queue.pool.as_slice();
+        let Some((token, resting)) = find_token(shared, pool, self.look_from) else {
+            return false;
+        };
+        // Tokens come back in about the order in which they go through the queue, so the next one often lies close by.
+        self.look_from = token as usize - 1;
+        add_token::<_, Brand>(shared, &mut self.seat, resting, token);
+        // This load tells the proof that the list of tokens has room for one more.
+        count_tokens(shared, &mut self.seat);
+        self.at_home.push_reserved(token);
+        true
+    }
+}
