@@ -22,3 +22,4 @@ pub mod Balance
 pub mod CallScans
 pub mod Made
 pub mod Pays
+pub mod Spreads
