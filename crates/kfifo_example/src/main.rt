@@ -7,7 +7,7 @@ ghost use Rattle.kfifo_live.specs.Pass.{IsOf};
 
 mod worker;
 
-use kfifo_live::{Pass, Queue, close};
+use kfifo_live::{Handle, Pass, Queue, close};
 use kfifo_words::{MAX_VERSION, Shape};
 use std::alloc::{AllocError, Global};
 use std::thread::{Threads, join, map_vec};
@@ -23,23 +23,26 @@ struct Totals {
 /// What a thread does with its pass.
 fn work(queue: &Queue, pass: Pass) -> Worker
     requires { IsOf queue.now pass }
-    ensures { IsOf queue.now result.pass }
+    ensures { IsOf queue.now result.handle.pass }
 {
-    let mut worker = Worker::new(pass);
+    let mut worker = Worker::new(Handle::new(queue, pass));
     worker.work(queue);
     worker
 }
 
 /// The workers' passes, in their order.
 fn passes_back(alloc: Global, workers: Vec<Worker>) -> Result<Vec<Pass>, AllocError>
-    ensures { IfOk result (λ passes. passes.items ≡ map (λ w. w.pass) workers.items) }
+    ensures { IfOk result (λ passes. passes.items ≡ map (λ w. w.handle.pass) workers.items) }
 {
-    workers.into_iter().map(|worker| worker.pass).collect(alloc)
+    workers
+        .into_iter()
+        .map(|worker| worker.handle.into_pass())
+        .collect(alloc)
 }
 
 /// Closes the queue when its threads have ended, and adds up what was put, taken and left.
 fn finish(alloc: Global, queue: Queue, workers: Vec<Worker>) -> anyhow::Result<Totals>
-    requires { All (λ w. IsOf queue w.pass) workers.items }
+    requires { All (λ w. IsOf queue w.handle.pass) workers.items }
 {
     let mut put = Tally::default();
     let mut out = Tally::default();
@@ -72,11 +75,11 @@ fn run_two<R: Threads + Sync>(rt: &R, alloc: Global) -> anyhow::Result<Totals> {
         rt,
         move || -> Worker
             requires { IsOf shared.now first }
-            ensures { IsOf shared.entry.now result.pass }
+            ensures { IsOf shared.entry.now result.handle.pass }
         { work(shared, first) },
         move || -> Worker
             requires { IsOf shared.now second }
-            ensures { IsOf shared.entry.now result.pass }
+            ensures { IsOf shared.entry.now result.handle.pass }
         { work(shared, second) },
     );
     finish(alloc, queue, vec![in alloc; first, second]?)

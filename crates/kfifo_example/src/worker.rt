@@ -1,17 +1,13 @@
-//! What one thread does with its pass.
+//! What one thread does with its handle.
 ghost use Rattle.std.specs.Prelude.{◌≡◌, ◌<◌, ◌≤◌, ◌+◌, ◌%◌, ◌^◌};
 ghost use Rattle.kfifo_live.specs.Pass.{IsOf, IsSame};
 
-use kfifo_live::{Pass, Queue};
+use kfifo_live::{Handle, Queue};
 use kfifo_model::Answer;
 use std::fmt;
 
 /// How many items a thread puts.
 const ITEMS: u32 = 10_000;
-
-/// How many rounds a call makes before it answers Busy. With n + 2 of them, n being the number of segments, only other
-/// threads can make it answer so.
-const TURNS: u16 = 1_000;
 
 /// How often a put is tried: without end, in practice. No proof says that other threads let a call through.
 const TRIES: u64 = u64::MAX;
@@ -49,21 +45,21 @@ impl fmt::Display for Tally {
     }
 }
 
-/// A pass, and what was put and taken with it.
+/// The handle of a pass, and what was put and taken with it.
 #[derive(Drop)]
 pub struct Worker {
-    pub pass: Pass,
+    pub handle: Handle,
     pub put: Tally,
     pub taken: Tally,
 }
 
 impl Worker {
     /// One that has done nothing.
-    pub fn new(pass: Pass) -> Worker
-        ensures { result.pass ≡ pass }
+    pub fn new(handle: Handle) -> Worker
+        ensures { result.handle ≡ handle }
     {
         Worker {
-            pass,
+            handle,
             put: Tally::default(),
             taken: Tally::default(),
         }
@@ -71,28 +67,25 @@ impl Worker {
 
     /// Puts the numbers 1 to 10,000, and takes an item after each.
     pub fn work(&mut self, queue: &Queue)
-        requires { IsOf queue.now self.old.pass }
-        ensures { IsSame self.old.pass self.new.pass }
+        requires { IsOf queue.now self.old.handle.pass }
+        ensures { IsSame self.old.handle.pass self.new.handle.pass }
     {
-        let k = queue.shape().k();
         for item in 1..ITEMS + 1 {
-            let start = item % k;
-            self.put(queue, item, start);
-            self.take(queue, start);
+            self.put(queue, item);
+            self.take(queue);
         }
     }
 
     /// Puts an item. While the queue is full, takes others to make room.
-    fn put(&mut self, queue: &Queue, item: u32, start: u32)
-        requires of { IsOf queue.now self.old.pass }
+    fn put(&mut self, queue: &Queue, item: u32)
+        requires of { IsOf queue.now self.old.handle.pass }
         requires item { (1 ≤ item) × (item < 2 ^ 24) }
-        requires start { start < queue.now.opened.shape.k }
-        ensures { IsSame self.old.pass self.new.pass }
+        ensures { IsSame self.old.handle.pass self.new.handle.pass }
     {
         for _try in 0..TRIES {
-            match self.pass.enqueue(queue, item, start, TURNS) {
+            match self.handle.enqueue(queue, item) {
                 Answer::Done => return self.put.add(item),
-                Answer::Full => self.take(queue, start),
+                Answer::Full => self.take(queue),
                 // No version is left: the queue should be closed, and another opened.
                 Answer::Worn => return,
                 // Busy: others were faster.
@@ -102,12 +95,11 @@ impl Worker {
     }
 
     /// Takes one of the k oldest items, if there is one.
-    fn take(&mut self, queue: &Queue, start: u32)
-        requires of { IsOf queue.now self.old.pass }
-        requires start { start < queue.now.opened.shape.k }
-        ensures { IsSame self.old.pass self.new.pass }
+    fn take(&mut self, queue: &Queue)
+        requires { IsOf queue.now self.old.handle.pass }
+        ensures { IsSame self.old.handle.pass self.new.handle.pass }
     {
-        if let Answer::Got(item) = self.pass.dequeue(queue, start, TURNS) {
+        if let Answer::Got(item) = self.handle.dequeue(queue) {
             self.taken.add(item);
         }
     }

@@ -24,3 +24,4 @@ pub mod CallScans
 pub mod Made
 pub mod Pays
 pub mod Pools
+pub mod Spreads

@@ -7,7 +7,7 @@ ghost use Rattle.kfifo_live.specs.Pass.{IsOf, IsSame};
 
 mod worker;
 
-use kfifo_live::{PayPass, PayQueue};
+use kfifo_live::{PayHandle, PayPass, PayQueue};
 use kfifo_words::{MAX_VERSION, Shape};
 use std::alloc::Global;
 use std::thread::{Threads, map_vec};
@@ -29,9 +29,9 @@ struct Totals {
 /// What a thread does with its pass.
 fn work(alloc: Global, queue: &PayQueue<String>, pass: PayPass<String>) -> Worker
     requires { IsOf queue.now pass.pass }
-    ensures { IsOf queue.now result.pass.pass }
+    ensures { IsOf queue.now result.handle.pass.pass }
 {
-    let mut worker = Worker::new(pass);
+    let mut worker = Worker::new(PayHandle::new(queue, pass));
     worker.work(alloc, queue);
     worker
 }
@@ -43,7 +43,7 @@ fn finish(
     mut workers: Vec<Worker>,
 ) -> anyhow::Result<Totals>
     requires some { 0 < length workers.items }
-    requires of { All (λ worker. IsOf queue worker.pass.pass) workers.items }
+    requires of { All (λ worker. IsOf queue worker.handle.pass.pass) workers.items }
 {
     let first = workers.remove(0);
     first.ended?;
@@ -51,7 +51,7 @@ fn finish(
         made: first.made,
         out: first.out,
     };
-    let mut pass = first.pass;
+    let mut pass = first.handle.into_pass();
     meet_all(&queue, &mut pass, workers, &mut totals)?;
     for text in queue.close(alloc, pass)? {
         totals.out.add(text.as_str());
@@ -67,11 +67,12 @@ fn meet_all(
     totals: &mut Totals,
 ) -> anyhow::Result<()>
     requires own { IsOf queue.now pass.old.pass }
-    requires of { All (λ worker. IsOf queue.now worker.pass.pass) workers.items }
+    requires of { All (λ worker. IsOf queue.now worker.handle.pass.pass) workers.items }
     ensures { IsSame pass.old.pass pass.new.pass }
 {
-    for mut worker in workers {
-        queue.meet(&mut worker.pass, pass);
+    for worker in workers {
+        let mut other = worker.handle.into_pass();
+        queue.meet(&mut other, pass);
         totals.made.add_all(worker.made);
         totals.out.add_all(worker.out);
         worker.ended?;

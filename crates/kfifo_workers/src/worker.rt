@@ -1,17 +1,13 @@
-//! What one thread does with its pass.
-ghost use Rattle.std.specs.Prelude.{◌≡◌, ◌<◌, ◌≤◌, ◌+◌, ◌%◌, ◌^◌, length};
+//! What one thread does with its handle.
+ghost use Rattle.std.specs.Prelude.{◌≡◌, ◌+◌, ◌%◌, ◌^◌, length};
 ghost use Rattle.kfifo_live.specs.Pass.{IsOf, IsSame};
 
-use kfifo_live::{Given, PayPass, PayQueue, Taken};
+use kfifo_live::{Given, PayHandle, PayQueue, Taken};
 use std::alloc::{AllocError, Global};
 use std::fmt;
 
 /// How many texts a thread makes.
 const TEXTS: u32 = 1_000;
-
-/// How many rounds a call makes before it answers Busy. With n + 2 of them, n being the number of segments, only other
-/// threads can make it answer so.
-const TURNS: u16 = 10;
 
 /// How often a text is offered to the queue.
 const TRIES: u32 = 1_000;
@@ -49,10 +45,10 @@ impl fmt::Display for Tally {
     }
 }
 
-/// A pass, and what was made and taken with it.
+/// The handle of a pass, and what was made and taken with it.
 #[derive(Drop)]
 pub struct Worker {
-    pub pass: PayPass<String>,
+    pub handle: PayHandle<String>,
     pub made: Tally,
     /// The texts that it took, and those that it could not give.
     pub out: Tally,
@@ -62,11 +58,11 @@ pub struct Worker {
 
 impl Worker {
     /// One that has done nothing.
-    pub fn new(pass: PayPass<String>) -> Worker
-        ensures { result.pass ≡ pass }
+    pub fn new(handle: PayHandle<String>) -> Worker
+        ensures { result.handle ≡ handle }
     {
         Worker {
-            pass,
+            handle,
             made: Tally::default(),
             out: Tally::default(),
             ended: Ok(()),
@@ -75,42 +71,39 @@ impl Worker {
 
     /// Makes 1,000 texts, gives each to the queue, and takes one after each.
     pub fn work(&mut self, alloc: Global, queue: &PayQueue<String>)
-        requires { IsOf queue.now self.old.pass.pass }
-        ensures { IsSame self.old.pass.pass self.new.pass.pass }
+        requires { IsOf queue.now self.old.handle.pass.pass }
+        ensures { IsSame self.old.handle.pass.pass self.new.handle.pass.pass }
     {
         self.ended = self.make_texts(alloc, queue);
     }
 
     fn make_texts(&mut self, alloc: Global, queue: &PayQueue<String>) -> Result<(), AllocError>
-        requires { IsOf queue.now self.old.pass.pass }
-        ensures { IsSame self.old.pass.pass self.new.pass.pass }
+        requires { IsOf queue.now self.old.handle.pass.pass }
+        ensures { IsSame self.old.handle.pass.pass self.new.handle.pass.pass }
     {
-        let k = queue.shape().k();
-        let thread = self.pass.thread();
+        let thread = self.handle.pass().thread();
         for number in 0..TEXTS {
             let text = format!(in alloc; "text {number} of thread {thread}")?;
             self.made.add(text.as_str());
-            let start = number % k;
-            self.give(queue, text, start);
-            self.take(queue, start);
+            self.give(queue, text);
+            self.take(queue);
         }
         Ok(())
     }
 
     /// Gives a text. While the queue is full, takes others to make room. What the queue does not get, the thread keeps.
-    fn give(&mut self, queue: &PayQueue<String>, text: String, start: u32)
-        requires of { IsOf queue.now self.old.pass.pass }
-        requires start { start < queue.now.opened.shape.k }
-        ensures { IsSame self.old.pass.pass self.new.pass.pass }
+    fn give(&mut self, queue: &PayQueue<String>, text: String)
+        requires { IsOf queue.now self.old.handle.pass.pass }
+        ensures { IsSame self.old.handle.pass.pass self.new.handle.pass.pass }
     {
         let mut offered = text;
         for _try in 0..TRIES {
-            match self.pass.give(queue, offered, start, TURNS) {
+            match self.handle.give(queue, offered) {
                 Given::Done => return,
                 // The refused text is the thread's own again.
                 Given::Full(back) | Given::Busy(back) => {
                     offered = back;
-                    self.take(queue, start);
+                    self.take(queue);
                 }
                 // All tokens are with other threads, or no version is left.
                 Given::NoToken(back) | Given::Worn(back) => {
@@ -122,12 +115,11 @@ impl Worker {
     }
 
     /// Takes one of the k oldest texts, if there is one.
-    fn take(&mut self, queue: &PayQueue<String>, start: u32)
-        requires of { IsOf queue.now self.old.pass.pass }
-        requires start { start < queue.now.opened.shape.k }
-        ensures { IsSame self.old.pass.pass self.new.pass.pass }
+    fn take(&mut self, queue: &PayQueue<String>)
+        requires { IsOf queue.now self.old.handle.pass.pass }
+        ensures { IsSame self.old.handle.pass.pass self.new.handle.pass.pass }
     {
-        if let Taken::Got(text) = self.pass.take(queue, start, TURNS) {
+        if let Taken::Got(text) = self.handle.take(queue) {
             self.out.add(text.as_str());
         }
     }

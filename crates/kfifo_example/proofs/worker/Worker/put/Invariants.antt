@@ -2,4 +2,4 @@ use Rattle.kfifo_live.specs.Pass.{IsSame}
 use Rattle.kfifo_example.proofs.worker.Worker.put.Given as goal
 
 abbrev pub invariant-loop-try : goal.invariant-loop-try
-invariant-loop-try l = IsSame l.fn.self.pass l.self.pass
+invariant-loop-try l = IsSame l.fn.self.handle.pass l.self.handle.pass

@@ -1,0 +1,112 @@
+//! Calls of the running queue with nothing to choose.
+ghost use Rattle.std.specs.Prelude.{◌≡◌, ◌<◌, ◌≤◌, ◌+◌, ◌^◌};
+ghost use Rattle.kfifo_machine.specs.declared.event.Begin.TheVariants.{Enqueue, Dequeue};
+ghost use Rattle.kfifo_live.specs.Calls.{IsDisturbed};
+ghost use Rattle.kfifo_live.specs.Promise.{KeepsPromise};
+ghost use Rattle.kfifo_live.specs.Pass.{IsOf, IsSame};
+ghost use Rattle.kfifo_live.specs.Payloads.{MakesCall};
+ghost use Rattle.kfifo_live.specs.Handles.{Held, enough_turns, first_of, further};
+
+use crate::queue::{Pass, Queue};
+use crate::round_robin::RoundRobin;
+use kfifo_model::Answer;
+use std::marker::Model;
+
+/// A pass that chooses the starts and the rounds of its calls.
+///
+/// Each enqueue begins its scan one slot further than the enqueue before it, and so do dequeues, apart from enqueues. A
+/// call makes up to n + 2 rounds, n being the number of segments, so Busy is always another thread's doing.
+///
+/// Clauses see it as its pass, and the slots at which its next enqueue and its next dequeue begin.
+#[derive(Drop)]
+pub struct Handle {
+    pass: Pass,
+    enqueues: RoundRobin,
+    dequeues: RoundRobin,
+    turns: u16,
+}
+
+impl Model for Handle {
+    ghost Value = { Held };
+
+    ghost view = { λ h. record { pass = h.pass; enqueue_start = h.enqueues.start; dequeue_start = h.dequeues.start } };
+
+    ghost invariant = { λ h. (h.enqueues.k ≡ h.pass.opened.shape.k) × (h.dequeues.k ≡ h.pass.opened.shape.k)
+        × (h.turns ≡ h.pass.opened.shape.n + 2) };
+}
+
+/// The starts of the calls of a pass: where there are no more threads than slots, each thread begins at a slot of its own.
+fn starts_of(queue: &Queue, pass: &Pass) -> RoundRobin
+    requires { IsOf queue.now pass.now }
+    ensures { result ≡ record { k = pass.now.opened.shape.k; start = first_of pass.now } }
+{
+    RoundRobin::spread(pass.thread, queue.threads, queue.shape.k)
+}
+
+impl Handle {
+    /// The handle of a pass. Its first enqueue and its first dequeue begin at slot `thread * k / threads`, rounded down.
+    pub fn new(queue: &Queue, pass: Pass) -> Handle
+        requires { IsOf queue.now pass }
+        ensures { result ≡ record { pass = pass; enqueue_start = first_of pass; dequeue_start = first_of pass } }
+    {
+        let enqueues = starts_of(queue, &pass);
+        let dequeues = starts_of(queue, &pass);
+        Handle {
+            pass,
+            enqueues,
+            dequeues,
+            turns: queue.shape.n as u16 + 2,
+        }
+    }
+
+    /// The pass.
+    pub fn pass(&self) -> &Pass
+        ensures { result.now ≡ self.now.pass }
+    {
+        &self.pass
+    }
+
+    /// Gives the pass back, for `meet` and `close`.
+    pub fn into_pass(self) -> Pass
+        ensures { result ≡ self.pass }
+    {
+        self.pass
+    }
+
+    /// Puts an item, from 1 to 2^24 - 1, into the queue, as `Pass::enqueue` does.
+    ///
+    /// Answers Done, Full, Worn or Busy. Busy comes only where another thread won an exchange during the call. It never
+    /// allocates, waits or locks.
+    #[inline(always)]
+    pub fn enqueue(&mut self, queue: &Queue, item: u32) -> Answer
+        requires of { IsOf queue.now self.old.pass }
+        requires item { (1 ≤ item) × (item < 2 ^ 24) }
+        ensures same { IsSame self.old.pass self.new.pass }
+        ensures call { MakesCall (Enqueue item self.old.enqueue_start (enough_turns self.old.pass)) result self.old.pass self.new.pass }
+        ensures busy { result ≡ Answer.Busy → IsDisturbed self.old.pass self.new.pass }
+        ensures starts { (self.new.enqueue_start ≡ further self.old.pass self.old.enqueue_start)
+            × (self.new.dequeue_start ≡ self.old.dequeue_start) }
+        ensures promise { KeepsPromise self.new.pass.opened self.new.pass.seen }
+    {
+        let start = self.enqueues.next();
+        self.pass.enqueue(queue, item, start, self.turns)
+    }
+
+    /// Takes one of the k oldest items, as `Pass::dequeue` does.
+    ///
+    /// Answers Got with the item, Empty, Worn or Busy. Busy comes only where another thread won an exchange during the
+    /// call. It never allocates, waits or locks.
+    #[inline(always)]
+    pub fn dequeue(&mut self, queue: &Queue) -> Answer
+        requires of { IsOf queue.now self.old.pass }
+        ensures same { IsSame self.old.pass self.new.pass }
+        ensures call { MakesCall (Dequeue self.old.dequeue_start (enough_turns self.old.pass)) result self.old.pass self.new.pass }
+        ensures busy { result ≡ Answer.Busy → IsDisturbed self.old.pass self.new.pass }
+        ensures starts { (self.new.dequeue_start ≡ further self.old.pass self.old.dequeue_start)
+            × (self.new.enqueue_start ≡ self.old.enqueue_start) }
+        ensures promise { KeepsPromise self.new.pass.opened self.new.pass.seen }
+    {
+        let start = self.dequeues.next();
+        self.pass.dequeue(queue, start, self.turns)
+    }
+}
