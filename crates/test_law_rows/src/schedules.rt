@@ -77,11 +77,7 @@ fn threads_of(alloc: Global, run: &[Value]) -> Result<Vec<u32>, AllocError> {
 }
 
 /// Adds the events of groups.
-fn add_groups(
-    alloc: Global,
-    groups: &[Value],
-    events: &mut Vec<Event>,
-) -> Result<(), AllocError> {
+fn add_groups(alloc: Global, groups: &[Value], events: &mut Vec<Event>) -> Result<(), AllocError> {
     for group in groups {
         add_group(alloc, items(group), events)?;
     }

@@ -85,7 +85,10 @@ fn ring_line(alloc: Global, shape: &Shape, ask: &[Value]) -> Result<String, Allo
             format!(in alloc; "{:?}", plain::dist(shape, small(from), small(to)))
         }
         [_slot, segment, slot] => {
-            format!(in alloc; "{:?}", plain::slot_index(shape, small(segment), small(slot)))
+            format!(in alloc;
+                "{:?}",
+                plain::slot_index(shape, small(segment), small(slot))
+            )
         }
         _ => shape_line(alloc, shape),
     }
