@@ -1,5 +1,6 @@
-//! Tests of the public calls of the machine, its words, its orders and its replay, in a crate of their own: tests beside
-//! the proofs would have every proof made once more.
+//! Tests of the public calls of the machine, its orders and its replay where memory is refused, in a crate of their
+//! own: tests beside the proofs would have every proof made once more. What the calls return is checked by the rows
+//! of `test_law_rows`.
 #![tactic(auto)]
 
 #[cfg(test)]
@@ -12,7 +13,3 @@ mod model;
 mod plain;
 #[cfg(test)]
 mod replay;
-#[cfg(test)]
-mod steps;
-#[cfg(test)]
-mod words;

@@ -3,10 +3,8 @@
 ghost use Rattle.std.specs.Prelude.{◌≤◌};
 
 use kfifo_linear::LinearFault;
-use kfifo_machine::{Event, NotEnabled, Outcome, RunFault, StartFault, State};
-use kfifo_model::{
-    History, MeasureFault, Overtaken, OvertakenFault, RankFault, RecordFault, SearchFault, Verdict,
-};
+use kfifo_machine::{Event, RunFault, StartFault, State};
+use kfifo_model::{History, MeasureFault, Overtaken, RankFault, RecordFault, SearchFault, Verdict};
 use kfifo_words::Shape;
 use serde_json::Value;
 use std::alloc::{AllocError, Global};
@@ -43,10 +41,6 @@ pub fn measure(alloc: Global, history: &History) -> Result<Vec<Overtaken>, Measu
     kfifo_model::measure(alloc, history)
 }
 
-pub fn overtaken(history: &History, call: usize) -> Result<usize, OvertakenFault> {
-    kfifo_model::overtaken(history, call)
-}
-
 pub fn read_history(alloc: Global, json: &Value) -> Result<History, RecordFault> {
     kfifo_model::read_history(alloc, json)
 }
@@ -55,8 +49,14 @@ pub fn start(alloc: Global, shape: Shape, threads: u32) -> Result<State, StartFa
     kfifo_machine::start(alloc, shape, threads)
 }
 
-pub fn step(state: &mut State, event: Event) -> Result<Outcome, NotEnabled> {
-    kfifo_machine::step(state, event)
+/// A word of the table, the clock as the last one; none where no word has this index.
+pub fn word(state: &State, index: usize) -> Option<u64> {
+    let slots = state.shape().n() as usize * state.shape().k() as usize;
+    if index < slots + 2 {
+        Some(state.word(index))
+    } else {
+        None
+    }
 }
 
 pub fn run(alloc: Global, shape: Shape, threads: u32, events: &[Event]) -> Result<State, RunFault> {
