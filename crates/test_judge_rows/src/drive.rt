@@ -1,6 +1,7 @@
 //! What the rows come to, line by line.
 //!
-//! A row has a `name`, an input, questions under `asks`, and under `says` the lines of all answers in turn. The input is
+//! A row has a `name`, an input, questions under `asks`, and under `says` the lines of all answers in turn. The
+//! input is
 //! - `record`: a JSON value, whose text it is; or
 //! - `text`: a string, or a list of lines, of which each is followed by a line feed. In the list `{"repeat": line,
 //!   "times": number}` is a line so many times; in it `{i}` is 0, 1, .., `{item}` is i + 1, `{thread}` i modulo 64,
@@ -10,15 +11,16 @@
 //!
 //! | `ask` | What it prints |
 //! |---|---|
-//! | `check`, `measure`, `judge`, `least` | what the stream writes, and then its status or its fault; `judge` shows the order where `show` is true |
+//! | `check`, `measure`, `judge`, `least` | what the stream writes, and then its status or its fault |
 //! | `evidence`, `witness`, `verdict`, `bounds` | what `evidence`, `witness`, `judge` and `least_k` return |
 //! | `import` | the calls of a log, or its fault |
 //! | `draw`, `svg` | the picture in characters, or as SVG; or its fault |
 //! | `form` | whether the picture as SVG is well formed |
 //! | `text` | whether the input is well formed, so that a row can show what is not |
 //!
-//! Its further keys: `k` (1 where it is missing), `tries` (1,000 where it is missing), `order` (a list of calls; no order
-//! where it is missing); `with`: only the lines that have this text count; `count`: their number in place of the lines.
+//! Its further keys are `k` (1 where it is missing), `tries` (1,000 where it is missing), `order` (a list of calls; no
+//! order where it is missing), and `show`, for `judge` to show its order. Where there is a `with`, only the lines that
+//! have this text are kept; `count` prints the number of lines in place of them.
 
 use crate::input::input_of;
 use crate::pictures::{add_picture, form_line};

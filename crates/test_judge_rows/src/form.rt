@@ -21,8 +21,8 @@ fn names_attribute(piece: &str) -> bool {
     }
 }
 
-/// Whether what stands behind the name of a tag is attributes: of each a space, its name, an equals sign and its value in
-/// quotation marks.
+/// Whether what stands behind the name of a tag is attributes: of each a space, its name, an equals sign and its value
+/// in quotation marks.
 fn are_attributes(rest: &str) -> bool {
     let mut in_value = false;
     let mut ended = false;

@@ -1,5 +1,5 @@
-//! The calls that the rows ask for, with nothing said of what they return. Where a call wants k to be 1 to 64, another k
-//! gives a line of its own.
+//! The calls that the rows ask for, with nothing said of what they return. Where a call wants k to be 1 to 64, another
+//! k gives a line of its own.
 
 use crate::streams::{Input, Output};
 use kfifo_draw::{DrawFault, Style};
