@@ -24,9 +24,16 @@ fn add_line(input: &mut String, line: &str) -> Result<(), AllocError> {
 /// Adds a line that is repeated.
 fn add_repeated(alloc: Global, input: &mut String, part: &Value) -> Result<(), AllocError> {
     let times = part.get("times").map_or(0, number);
+    let line = text(part, "repeat");
+    // Without this test most of the run would go on the longest texts, which repeat one line as it stands.
+    let has_names = line.contains('{');
     for i in 0..times {
-        let line = filled(alloc, text(part, "repeat"), i)?;
-        add_line(input, line.as_str())?;
+        if has_names {
+            let line = filled(alloc, line, i)?;
+            add_line(input, line.as_str())?;
+        } else {
+            add_line(input, line)?;
+        }
     }
     Ok(())
 }
