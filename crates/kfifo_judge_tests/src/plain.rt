@@ -6,7 +6,7 @@ use kfifo_draw::{DrawFault, Style};
 use kfifo_import::ImportFault;
 use kfifo_judge::{Sink, Source, StreamFault};
 use kfifo_model::{Call, History, RecordFault, SearchFault};
-use kfifo_verdict::{Bounds, Evidence, Judgement};
+use kfifo_verdict::{Evidence, Judgement};
 use std::alloc::{AllocError, Global};
 
 pub fn history_of(calls: Vec<Call>) -> Result<History, RecordFault> {
@@ -29,10 +29,6 @@ pub fn judge(alloc: Global, history: &History, k: u32, tries: u64) -> Result<Jud
     requires { (1 ≤ k) × (k ≤ 64) }
 {
     kfifo_verdict::judge(alloc, history, k, tries)
-}
-
-pub fn least_k(alloc: Global, history: &History, tries: u64) -> Result<Bounds, AllocError> {
-    kfifo_verdict::least_k(alloc, history, tries)
 }
 
 pub fn witness(

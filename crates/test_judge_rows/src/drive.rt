@@ -1,0 +1,271 @@
+//! What the rows come to, line by line.
+//!
+//! A row has a `name`, an input, questions under `asks`, and under `says` the lines of all answers in turn. The
+//! input is
+//! - `record`: a JSON value, whose text it is; or
+//! - `text`: a string, or a list of lines, of which each is followed by a line feed. In the list `{"repeat": line,
+//!   "times": number}` is a line so many times; in it `{i}` is 0, 1, .., `{item}` is i + 1, `{thread}` i modulo 64,
+//!   `{first}` 2i and `{last}` 2i + 1.
+//!
+//! A question is an object with the key `ask`:
+//!
+//! | `ask` | What it prints |
+//! |---|---|
+//! | `check`, `measure`, `judge`, `least` | what the stream writes, and then its status or its fault |
+//! | `evidence`, `witness`, `verdict`, `bounds` | what `evidence`, `witness`, `judge` and `least_k` return |
+//! | `import` | the calls of a log, or its fault |
+//! | `draw`, `svg` | the picture in characters, or as SVG; or its fault |
+//! | `form` | whether the picture as SVG is well formed |
+//! | `text` | whether the input is well formed, so that a row can show what is not |
+//!
+//! Its further keys are `k` (1 where it is missing), `tries` (1,000 where it is missing), `order` (a list of calls; no
+//! order where it is missing), and `show`, for `judge` to show its order. Where there is a `with`, only the lines that
+//! have this text are kept; `count` prints the number of lines in place of them.
+
+use crate::input::input_of;
+use crate::pictures::{add_picture, form_line};
+use crate::plain;
+use crate::streams::{Input, Output, Page, Pieces};
+use kfifo_judge::FromStd;
+use kfifo_model::History;
+use serde_json::Value;
+use std::alloc::{AllocError, Global};
+use test_rows::{flag, items, list, number, small, text};
+
+/// The k of a question.
+pub(crate) fn k_of(ask: &Value) -> u32 {
+    ask.get("k").map_or(1, small)
+}
+
+/// How many choices a search may undo.
+fn tries_of(ask: &Value) -> u64 {
+    ask.get("tries").map_or(1_000, number)
+}
+
+/// A call of an order; the greatest number where it is none.
+fn place(value: &Value) -> usize {
+    usize::try_from(number(value)).unwrap_or(usize::MAX)
+}
+
+/// The order of a question.
+pub(crate) fn order_of(alloc: Global, ask: &Value) -> Result<Option<Vec<usize>>, AllocError> {
+    let Some(value) = ask.get("order") else {
+        return Ok(None);
+    };
+    let mut order = Vec::new(alloc);
+    for call in items(value) {
+        order.push(place(call))?;
+    }
+    Ok(Some(order))
+}
+
+/// Adds the lines of a text that was written. Without the last branch a last line with no line feed would look like one
+/// that has it.
+pub(crate) fn add_written(
+    alloc: Global,
+    written: &str,
+    lines: &mut Vec<String>,
+) -> Result<(), AllocError> {
+    if written.is_empty() {
+        return Ok(());
+    }
+    let ended = written.strip_suffix('\n');
+    for line in ended.unwrap_or(written).split('\n') {
+        lines.push(line.to_string(alloc)?)?;
+    }
+    if ended.is_none() {
+        lines.push("no line feed".to_string(alloc)?)?;
+    }
+    Ok(())
+}
+
+/// Checks a record, with an order or without.
+fn checked(
+    alloc: Global,
+    source: &mut Input<'_>,
+    sink: &mut Output,
+    ask: &Value,
+) -> Result<String, AllocError> {
+    let k = k_of(ask);
+    match order_of(alloc, ask)? {
+        Some(order) => plain::check(alloc, source, sink, k, Some(order.as_slice())),
+        None => plain::check(alloc, source, sink, k, None),
+    }
+}
+
+/// Carries a stream out; returns how it ends.
+fn carried_out(
+    alloc: Global,
+    source: &mut Input<'_>,
+    sink: &mut Output,
+    ask: &Value,
+) -> Result<String, AllocError> {
+    let name = text(ask, "ask");
+    let tries = tries_of(ask);
+    if name == "check" {
+        checked(alloc, source, sink, ask)
+    } else if name == "measure" {
+        plain::measure(alloc, source, sink)
+    } else if name == "judge" {
+        plain::judge(alloc, source, sink, k_of(ask), tries, flag(ask, "show"))
+    } else {
+        plain::least(alloc, source, sink, tries)
+    }
+}
+
+/// Adds what was written, and a line where a call was counted that failed or a call wrote nothing.
+fn add_page(
+    alloc: Global,
+    sink: &Output,
+    failed: u64,
+    lines: &mut Vec<String>,
+) -> Result<(), AllocError> {
+    let page = &sink.inner;
+    match str::from_utf8(page.taken.as_slice()) {
+        Ok(written) => add_written(alloc, written, lines)?,
+        Err(_) => lines.push("no UTF-8".to_string(alloc)?)?,
+    }
+    let (failed, calls) = (failed.saturating_add(sink.failed), page.calls);
+    if failed > 0 || (calls > 0 && page.taken.is_empty()) {
+        lines.push(format!(in alloc; "{failed} failed calls, {calls} writes")?)?;
+    }
+    Ok(())
+}
+
+/// Adds the lines of a stream.
+fn add_stream(
+    alloc: Global,
+    input: &str,
+    ask: &Value,
+    lines: &mut Vec<String>,
+) -> Result<(), AllocError> {
+    let mut source = FromStd::new(Pieces {
+        bytes: input.as_bytes(),
+    });
+    let mut sink = FromStd::new(Page {
+        taken: Vec::new(alloc),
+        calls: 0,
+    });
+    let ending = carried_out(alloc, &mut source, &mut sink, ask)?;
+    add_page(alloc, &sink, source.failed, lines)?;
+    Ok(lines.push(ending)?)
+}
+
+/// The line of a verdict on a history.
+fn verdict_line(alloc: Global, history: &History, ask: &Value) -> Result<String, AllocError> {
+    let name = text(ask, "ask");
+    let (k, tries) = (k_of(ask), tries_of(ask));
+    if name == "evidence" {
+        plain::evidence(alloc, history, k)
+    } else if name == "witness" {
+        plain::witness(alloc, history, k, tries)
+    } else if name == "verdict" {
+        plain::verdict(alloc, history, k, tries)
+    } else {
+        plain::bounds(alloc, history, tries)
+    }
+}
+
+/// Adds the lines of a question on a history.
+fn add_of_history(
+    alloc: Global,
+    history: &History,
+    ask: &Value,
+    lines: &mut Vec<String>,
+) -> Result<(), AllocError> {
+    let name = text(ask, "ask");
+    if name == "draw" || name == "svg" || name == "form" {
+        add_picture(alloc, history, ask, lines)
+    } else {
+        Ok(lines.push(verdict_line(alloc, history, ask)?)?)
+    }
+}
+
+/// Adds the lines of a question on the record that the input is.
+fn add_of_record(
+    alloc: Global,
+    input: &str,
+    ask: &Value,
+    lines: &mut Vec<String>,
+) -> Result<(), AllocError> {
+    match plain::read_record(alloc, input.as_bytes()) {
+        Ok(history) => add_of_history(alloc, &history, ask, lines),
+        Err(fault) => Ok(lines.push(plain::told(alloc, &fault)?)?),
+    }
+}
+
+/// Adds a line for each call of a log, or its fault.
+fn add_log(alloc: Global, input: &str, lines: &mut Vec<String>) -> Result<(), AllocError> {
+    match plain::import_text(alloc, input.as_bytes()) {
+        Ok(history) => add_calls(alloc, &history, lines),
+        Err(fault) => Ok(lines.push(plain::told(alloc, &fault)?)?),
+    }
+}
+
+/// Adds a line for each call.
+fn add_calls(alloc: Global, history: &History, lines: &mut Vec<String>) -> Result<(), AllocError> {
+    for call in history.calls() {
+        lines.push(plain::told(alloc, call)?)?;
+    }
+    Ok(())
+}
+
+/// Adds all lines of an answer.
+fn add_answer(
+    alloc: Global,
+    input: &str,
+    ask: &Value,
+    lines: &mut Vec<String>,
+) -> Result<(), AllocError> {
+    let name = text(ask, "ask");
+    let streams = ["check", "measure", "judge", "least"];
+    let verdicts = [
+        "evidence", "witness", "verdict", "bounds", "draw", "svg", "form",
+    ];
+    if streams.contains(&name) {
+        add_stream(alloc, input, ask, lines)
+    } else if verdicts.contains(&name) {
+        add_of_record(alloc, input, ask, lines)
+    } else if name == "import" {
+        add_log(alloc, input, lines)
+    } else if name == "text" {
+        Ok(lines.push(form_line(alloc, input)?)?)
+    } else {
+        Ok(lines.push("no such question".to_string(alloc)?)?)
+    }
+}
+
+/// Adds the lines that a question counts, or their number.
+fn add_kept(
+    alloc: Global,
+    found: Vec<String>,
+    ask: &Value,
+    lines: &mut Vec<String>,
+) -> Result<(), AllocError> {
+    let mut kept = Vec::new(alloc);
+    for line in found {
+        if line.as_str().contains(text(ask, "with")) {
+            kept.push(line)?;
+        }
+    }
+    if flag(ask, "count") {
+        let count = kept.len();
+        return Ok(lines.push(format!(in alloc; "{count} lines")?)?);
+    }
+    for line in kept {
+        lines.push(line)?;
+    }
+    Ok(())
+}
+
+/// The lines of a row.
+pub(crate) fn lines_of(alloc: Global, row: &Value) -> Result<Vec<String>, AllocError> {
+    let input = input_of(alloc, row)?;
+    let mut lines = Vec::new(alloc);
+    for ask in list(row, "asks") {
+        let mut found = Vec::new(alloc);
+        add_answer(alloc, input.as_str(), ask, &mut found)?;
+        add_kept(alloc, found, ask, &mut lines)?;
+    }
+    Ok(lines)
+}

@@ -1,0 +1,153 @@
+//! The calls that the rows ask for, with nothing said of what they return. Where a call wants k to be 1 to 64, another
+//! k gives a line of its own.
+
+use crate::streams::{Input, Output};
+use kfifo_draw::{DrawFault, Style};
+use kfifo_import::ImportFault;
+use kfifo_judge::StreamFault;
+use kfifo_model::History;
+use serde_json::Value;
+use std::alloc::{AllocError, Global};
+use std::fmt::Debug;
+
+/// A value, as its type prints it.
+pub(crate) fn told<T: Debug>(alloc: Global, value: &T) -> Result<String, AllocError> {
+    format!(in alloc; "{value:?}")
+}
+
+/// The line of a k that no queue has.
+pub(crate) fn no_such_k(alloc: Global, k: u32) -> Result<String, AllocError> {
+    format!(in alloc; "k = {k} is not 1 to 64")
+}
+
+/// A text with a number in place of a name.
+pub(crate) fn replaced(
+    alloc: Global,
+    text: &str,
+    name: &str,
+    number: u64,
+) -> Result<String, AllocError> {
+    let digits = format!(in alloc; "{number}")?;
+    text.replace(alloc, name, digits.as_str())
+}
+
+pub(crate) fn json_text(alloc: Global, value: &Value) -> Result<String, AllocError> {
+    value.to_string(alloc)
+}
+
+/// How a stream ends.
+fn ending(alloc: Global, found: Result<u8, StreamFault>) -> Result<String, AllocError> {
+    match found {
+        Ok(status) => format!(in alloc; "status {status}"),
+        Err(fault) => told(alloc, &fault),
+    }
+}
+
+pub(crate) fn check(
+    alloc: Global,
+    source: &mut Input<'_>,
+    sink: &mut Output,
+    k: u32,
+    order: Option<&[usize]>,
+) -> Result<String, AllocError> {
+    if k < 1 || k > 64 {
+        return no_such_k(alloc, k);
+    }
+    let found = kfifo_judge::check_stream(alloc, source, sink, k, order);
+    ending(alloc, found)
+}
+
+pub(crate) fn measure(
+    alloc: Global,
+    source: &mut Input<'_>,
+    sink: &mut Output,
+) -> Result<String, AllocError> {
+    let found = kfifo_judge::measure_stream(alloc, source, sink);
+    ending(alloc, found)
+}
+
+pub(crate) fn judge(
+    alloc: Global,
+    source: &mut Input<'_>,
+    sink: &mut Output,
+    k: u32,
+    tries: u64,
+    show: bool,
+) -> Result<String, AllocError> {
+    if k < 1 || k > 64 {
+        return no_such_k(alloc, k);
+    }
+    let found = kfifo_explain::judge_stream(alloc, source, sink, k, tries, show);
+    ending(alloc, found)
+}
+
+pub(crate) fn least(
+    alloc: Global,
+    source: &mut Input<'_>,
+    sink: &mut Output,
+    tries: u64,
+) -> Result<String, AllocError> {
+    let found = kfifo_explain::least_stream(alloc, source, sink, tries);
+    ending(alloc, found)
+}
+
+pub(crate) fn read_record(alloc: Global, bytes: &[u8]) -> Result<History, StreamFault> {
+    kfifo_judge::read_record(alloc, bytes)
+}
+
+pub(crate) fn import_text(alloc: Global, bytes: &[u8]) -> Result<History, ImportFault> {
+    kfifo_import::import_text(alloc, bytes)
+}
+
+pub(crate) fn evidence(alloc: Global, history: &History, k: u32) -> Result<String, AllocError> {
+    if k < 1 || k > 64 {
+        return no_such_k(alloc, k);
+    }
+    let found = kfifo_verdict::evidence(alloc, history, k)?;
+    told(alloc, &found)
+}
+
+pub(crate) fn witness(
+    alloc: Global,
+    history: &History,
+    k: u32,
+    tries: u64,
+) -> Result<String, AllocError> {
+    if k < 1 || k > 64 {
+        return no_such_k(alloc, k);
+    }
+    let found = kfifo_verdict::witness(alloc, history, k, tries)?;
+    told(alloc, &found)
+}
+
+pub(crate) fn verdict(
+    alloc: Global,
+    history: &History,
+    k: u32,
+    tries: u64,
+) -> Result<String, AllocError> {
+    if k < 1 || k > 64 {
+        return no_such_k(alloc, k);
+    }
+    let found = kfifo_verdict::judge(alloc, history, k, tries)?;
+    told(alloc, &found)
+}
+
+pub(crate) fn bounds(alloc: Global, history: &History, tries: u64) -> Result<String, AllocError> {
+    let found = kfifo_verdict::least_k(alloc, history, tries)?;
+    told(alloc, &found)
+}
+
+/// A picture; the line of another k in place of one.
+pub(crate) fn draw(
+    alloc: Global,
+    history: &History,
+    style: Style,
+    k: u32,
+    order: Option<&[usize]>,
+) -> Result<String, DrawFault> {
+    if k < 1 || k > 64 {
+        return Ok(no_such_k(alloc, k)?);
+    }
+    kfifo_draw::draw(alloc, history, style, k, order)
+}
