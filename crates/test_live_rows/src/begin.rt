@@ -60,3 +60,8 @@ pub fn call_of(alloc: Global, step: &Value) -> Result<Begin, AllocError> {
     let numbers = numbers(alloc, step)?;
     Ok(begin_of(numbers.as_slice()))
 }
+
+/// Whether a list has this number.
+pub fn has(list: &Value, wanted: u32) -> bool {
+    items(list).iter().any(|one| small(one) == wanted)
+}

@@ -6,9 +6,9 @@
 //!   `give`, with the number of the payload, and `take`; `["meet", from, to]` of two passes; `["words", pass]`: the ends with
 //!   their version, each slot with its version, and the clock; `["shape"]`; `["passes"]`: their threads, or how many there are
 //!   of a stamped queue; `["pass", pass]`: its thread and tokens; `["log", pass]`; `["drops"]` of payloads.
-//! - `close`, or `gather` of a stamped queue: the places of the passes that are given back, each counted in the list that is
-//!   left then; of payloads the place of one pass. The line has what is left, or the fault. With payloads one line
-//!   more has the drops of all.
+//! - `close`, or `gather` of a stamped queue: the threads whose passes are given back, the last one first, or `true` for all
+//!   in their order; of payloads the place of one pass. The line has what is left, or the fault. A queue of payloads with no
+//!   `close` is dropped while its passes are kept, and the line counts the drops. Its last line counts them at the very end.
 //! - `drawn`: k of shapes with each of the `segments`, each of the greatest `versions` and each number of probes. For each,
 //!   199 calls are drawn from `seed` on, and made on a queue and on the machine.
 //! - `memory`: the faults of refused memory.

@@ -2,7 +2,7 @@
 ghost use Rattle.std.specs.Prelude.{IfOk, All};
 ghost use Rattle.kfifo_live.specs.Pass.{IsOf, IsSame};
 
-use crate::begin::{call_of, place_of, shape_text, size, word_of};
+use crate::begin::{call_of, has, place_of, shape_text, size, word_of};
 use crate::faults::{close_text, open_text};
 use crate::plain;
 use kfifo_live::{Pass, Queue};
@@ -11,7 +11,7 @@ use kfifo_model::Answer;
 use kfifo_words::{Ends, Shape, Word};
 use serde_json::Value;
 use std::alloc::{AllocError, Global};
-use test_rows::{items, list};
+use test_rows::list;
 
 /// Makes a call on the machine, by one thread to its end.
 pub fn drive(state: &mut State, thread: u32, begin: Begin) -> Option<Answer> {
@@ -203,22 +203,24 @@ fn add_steps(
     Ok(())
 }
 
-/// Takes the passes at these places out of the list, one after the other.
+/// Gives back all passes, or those of some threads, the last one first.
 fn pick(
     alloc: Global,
     queue: &Queue,
-    passes: &mut Vec<Pass>,
-    places: &Value,
+    mut passes: Vec<Pass>,
+    threads: &Value,
 ) -> Result<Vec<Pass>, AllocError>
-    requires { All (IsOf queue.now) passes.old.items }
+    requires { All (IsOf queue.now) passes.items }
     ensures { IfOk result (λ picked. All (IsOf queue.now) picked.items) }
 {
     let _shape = queue.shape();
+    if threads.as_bool().unwrap_or(false) {
+        return Ok(passes);
+    }
     let mut picked = Vec::new(alloc);
-    for step in items(places) {
-        let place = test_rows::small(step) as usize;
-        if place < passes.len() {
-            picked.push(passes.remove(place))?;
+    while let Some(pass) = passes.pop() {
+        if has(threads, pass.thread()) {
+            picked.push(pass)?;
         }
     }
     Ok(picked)
@@ -241,14 +243,14 @@ fn closed(alloc: Global, queue: Queue, passes: Vec<Pass>) -> Result<String, Allo
 fn end(
     alloc: Global,
     queue: Queue,
-    mut passes: Vec<Pass>,
+    passes: Vec<Pass>,
     row: &Value,
     lines: &mut Vec<String>,
 ) -> Result<(), AllocError>
     requires { All (IsOf queue) passes.items }
 {
-    if let Some(places) = row.get("close") {
-        let picked = pick(alloc, &queue, &mut passes, places)?;
+    if let Some(threads) = row.get("close") {
+        let picked = pick(alloc, &queue, passes, threads)?;
         lines.push(closed(alloc, queue, picked)?)?;
     }
     Ok(())

@@ -240,10 +240,17 @@ fn end_by(
     closed(alloc, queue, pass, drops)
 }
 
-/// Drops the queue while the passes are kept.
-fn drop_queue(queue: PayQueue<Counted>, passes: Vec<PayPass<Counted>>) -> usize {
+/// Drops the queue, and counts the drops while the passes are kept.
+fn drop_queue(
+    alloc: Global,
+    queue: PayQueue<Counted>,
+    passes: Vec<PayPass<Counted>>,
+    drops: &Arc<AtomicU64>,
+) -> Result<String, AllocError> {
     drop(queue);
-    passes.len()
+    let text = drops_text(alloc, drops)?;
+    drop(passes);
+    Ok(text)
 }
 
 /// Adds the lines of the steps on an open queue, and that of the close, or drops the queue where the row has none.
@@ -263,9 +270,7 @@ fn run(
             let place = size(row, "close") as usize;
             lines.push(end_by(alloc, queue, passes, place, drops)?)?;
         }
-        None => {
-            drop_queue(queue, passes);
-        }
+        None => lines.push(drop_queue(alloc, queue, passes, drops)?)?,
     }
     Ok(())
 }

@@ -2,7 +2,7 @@
 ghost use Rattle.std.specs.Prelude.{IfOk, All};
 ghost use Rattle.kfifo_live.specs.Pass.{IsOf, IsSame};
 
-use crate::begin::{call_of, place_of, size, word_of};
+use crate::begin::{call_of, has, place_of, size, word_of};
 use crate::faults::{gather_text, open_text};
 use crate::plain;
 use kfifo_live::{StampPass, StampQueue};
@@ -10,7 +10,7 @@ use kfifo_model::Call;
 use kfifo_words::Shape;
 use serde_json::Value;
 use std::alloc::{AllocError, Global};
-use test_rows::{items, list, small};
+use test_rows::list;
 
 /// The text of calls: thread, call, first and last stamp, and answer of each.
 fn calls_text(alloc: Global, calls: &[Call]) -> Result<String, AllocError> {
@@ -85,22 +85,24 @@ fn add_steps(
     Ok(())
 }
 
-/// Takes the passes at these places out of the list, one after the other.
+/// Gives back all passes, or those of some threads, the last one first.
 fn pick(
     alloc: Global,
     queue: &StampQueue,
-    passes: &mut Vec<StampPass>,
-    places: &Value,
+    mut passes: Vec<StampPass>,
+    threads: &Value,
 ) -> Result<Vec<StampPass>, AllocError>
-    requires { All (λ p. IsOf queue.now p.pass) passes.old.items }
+    requires { All (λ p. IsOf queue.now p.pass) passes.items }
     ensures { IfOk result (λ picked. All (λ p. IsOf queue.now p.pass) picked.items) }
 {
     let _shape = queue.shape();
+    if threads.as_bool().unwrap_or(false) {
+        return Ok(passes);
+    }
     let mut picked = Vec::new(alloc);
-    for step in items(places) {
-        let place = small(step) as usize;
-        if place < passes.len() {
-            picked.push(passes.remove(place))?;
+    while let Some(pass) = passes.pop() {
+        if has(threads, pass.thread()) {
+            picked.push(pass)?;
         }
     }
     Ok(picked)
@@ -120,14 +122,14 @@ fn gathered(alloc: Global, queue: StampQueue, passes: Vec<StampPass>) -> Result<
 fn end(
     alloc: Global,
     queue: StampQueue,
-    mut passes: Vec<StampPass>,
+    passes: Vec<StampPass>,
     row: &Value,
     lines: &mut Vec<String>,
 ) -> Result<(), AllocError>
     requires { All (λ p. IsOf queue p.pass) passes.items }
 {
-    if let Some(places) = row.get("gather") {
-        let picked = pick(alloc, &queue, &mut passes, places)?;
+    if let Some(threads) = row.get("gather") {
+        let picked = pick(alloc, &queue, passes, threads)?;
         lines.push(gathered(alloc, queue, picked)?)?;
     }
     Ok(())
