@@ -1,11 +1,15 @@
 //! What no contract says of a dispatch: that workers do the work, and do it at the same time.
 
+ghost use Rattle.std.specs.Prelude.{◌<◌};
+
 use crate::plain::dispatch;
 use kfifo_dispatch::{DispatchFault, Finished, Gate, OpenGate, Starts, Task};
 use kfifo_words::{MAX_VERSION, Shape};
+use std::alloc::{AllocError, Global};
+use std::process::Abort;
 use std::sync::atomic::{AtomicU64, Ordering};
 use std::test::Fail;
-use std::thread::yield_now;
+use std::thread::{Threads, yield_now};
 use std::time::Instant;
 
 /// So many looks a worker waits for the others.
@@ -19,47 +23,57 @@ fn finished(id: u32, sum: u64) -> Finished {
     Finished { id, sum }
 }
 
+/// So many workers come to this finished list.
+fn check_finished<R: Threads + Abort + Sync>(
+    rt: &R,
+    alloc: Global,
+    tasks: &[Task],
+    workers: u32,
+    list: &[Finished],
+) -> Result<(), Fail> {
+    let shape = Shape::new(2, 2, MAX_VERSION)?;
+    let done = dispatch(rt, alloc, tasks, workers, shape, 0, &OpenGate)?;
+    assert_eq!(rt; done.as_slice(), list);
+    Ok(())
+}
+
 #[test]
 fn finishes_all_tasks(rt: HostRuntime) -> Result<(), Fail> {
-    for (tasks, workers, list) in [
-        ([].as_slice(), 2, [].as_slice()),
-        ([task(4, 3, 0)].as_slice(), 8, [finished(4, 6)].as_slice()),
-        (
-            [task(9, 0, 5), task(2, 1, 1)].as_slice(),
-            2,
-            [finished(2, 2), finished(9, 5)].as_slice(),
-        ),
-        (
-            [task(1, 65_535, 4_294_967_295)].as_slice(),
-            63,
-            [finished(1, 6_442_418_175)].as_slice(),
-        ),
-    ] {
-        let shape = Shape::new(2, 2, MAX_VERSION)?;
-        let done = dispatch(&rt, rt.alloc(), tasks, workers, shape, 0, &OpenGate)?;
-        assert_eq!(rt; done.as_slice(), list);
-    }
+    let alloc = rt.alloc();
+    check_finished(&rt, alloc, &[], 2, &[])?;
+    check_finished(&rt, alloc, &[task(4, 3, 0)], 8, &[finished(4, 6)])?;
+    let two = [task(9, 0, 5), task(2, 1, 1)];
+    check_finished(&rt, alloc, &two, 2, &[finished(2, 2), finished(9, 5)])?;
+    let long = [task(1, 65_535, 4_294_967_295)];
+    check_finished(&rt, alloc, &long, 63, &[finished(1, 6_442_418_175)])
+}
+
+/// These tasks and workers are refused for this.
+fn check_refusal<R: Threads + Abort + Sync>(
+    rt: &R,
+    alloc: Global,
+    tasks: &[Task],
+    workers: u32,
+    fault: DispatchFault,
+) -> Result<(), Fail> {
+    let shape = Shape::new(2, 2, MAX_VERSION)?;
+    let Err(refused) = dispatch(rt, alloc, tasks, workers, shape, 0, &OpenGate) else {
+        panic!(rt; "dispatched {} tasks", tasks.len());
+    };
+    assert_eq!(rt; refused, fault);
     Ok(())
 }
 
 #[test]
 fn refuses_in_the_stated_order(rt: HostRuntime) -> Result<(), Fail> {
-    let many = vec![in rt.alloc(); task(7, 1, 0); 1_025]?;
+    let alloc = rt.alloc();
+    let many = vec![in alloc; task(7, 1, 0); 1_025]?;
+    check_refusal(&rt, alloc, many.as_slice(), 64, DispatchFault::TooManyTasks)?;
     let twice = [task(4, 3, 0), task(4, 1, 0)];
+    check_refusal(&rt, alloc, &twice, 64, DispatchFault::RepeatedId)?;
     let apart = [task(4, 3, 0), task(5, 1, 0)];
-    for (tasks, workers, fault) in [
-        (many.as_slice(), 64, DispatchFault::TooManyTasks),
-        (twice.as_slice(), 64, DispatchFault::RepeatedId),
-        (apart.as_slice(), 64, DispatchFault::WorkersOutOfRange),
-        (apart.as_slice(), 0, DispatchFault::WorkersOutOfRange),
-    ] {
-        let shape = Shape::new(2, 2, MAX_VERSION)?;
-        let Err(refused) = dispatch(&rt, rt.alloc(), tasks, workers, shape, 0, &OpenGate) else {
-            panic!(rt; "dispatched {} tasks", tasks.len());
-        };
-        assert_eq!(rt; refused, fault);
-    }
-    Ok(())
+    check_refusal(&rt, alloc, &apart, 64, DispatchFault::WorkersOutOfRange)?;
+    check_refusal(&rt, alloc, &apart, 0, DispatchFault::WorkersOutOfRange)
 }
 
 /// Counts the units that each of some workers did, and can hold two of them back.
@@ -190,35 +204,54 @@ fn tasks_go_round(rt: HostRuntime) -> Result<(), Fail> {
     Ok(())
 }
 
+/// The first of four slots that is filled, from the start on and round the segment.
+fn first_filled(is_there: &[bool; 4], start: u32) -> usize
+    ensures { result < 4 }
+{
+    let mut slot = start as usize % 4;
+    for _look in 0..4u32 {
+        if is_there[slot] {
+            break;
+        }
+        slot = (slot + 1) % 4;
+    }
+    slot
+}
+
+/// The order in which one worker takes four tasks from a segment of four slots, by the starts of a seed, as digits of a number.
+fn order_of_starts(seed: u64) -> u64 {
+    let mut starts = Starts::new(seed, 1, 4);
+    let mut is_there = [true; 4];
+    let mut order = 0u64;
+    for _take in 0..4u32 {
+        let slot = first_filled(&is_there, starts.draw());
+        is_there[slot] = false;
+        order = order
+            .wrapping_mul(10)
+            .wrapping_add(slot as u64)
+            .wrapping_add(1);
+    }
+    order
+}
+
+/// The order in which one worker does four tasks of one unit, as digits of a number.
+fn order_of_tasks<R: Threads + Sync>(rt: &R, alloc: Global, seed: u64) -> Result<u64, Fail> {
+    let shape = Shape::new(4, 2, MAX_VERSION)?;
+    let tasks = [task(1, 1, 0), task(2, 1, 0), task(3, 1, 0), task(4, 1, 0)];
+    let order = Order {
+        workers: AtomicU64::new(0),
+        tasks: AtomicU64::new(0),
+    };
+    dispatch(rt, alloc, tasks.as_slice(), 1, shape, seed, &order)?;
+    Ok(order.tasks.load(Ordering::SeqCst))
+}
+
 /// One worker takes tasks in the order that its starts give: each time the first that is there from the start on, round the segment.
 #[test]
 fn the_seed_picks_the_starts(rt: HostRuntime) -> Result<(), Fail> {
-    let shape = Shape::new(4, 2, MAX_VERSION)?;
-    let tasks = [task(1, 1, 0), task(2, 1, 0), task(3, 1, 0), task(4, 1, 0)];
-    for seed in [0, 1, 7, 9_223_372_036_854_775_808u64] {
-        let order = Order {
-            workers: AtomicU64::new(0),
-            tasks: AtomicU64::new(0),
-        };
-        dispatch(&rt, rt.alloc(), tasks.as_slice(), 1, shape, seed, &order)?;
-        let mut starts = Starts::new(seed, 1, 4);
-        let mut is_there = [true; 4];
-        let mut wanted = 0u64;
-        for _take in 0..4u32 {
-            let mut slot = starts.draw() as usize;
-            for _look in 0..4u32 {
-                if is_there[slot % 4] {
-                    break;
-                }
-                slot = slot.wrapping_add(1);
-            }
-            is_there[slot % 4] = false;
-            wanted = wanted
-                .wrapping_mul(10)
-                .wrapping_add(slot as u64 % 4)
-                .wrapping_add(1);
-        }
-        assert_eq!(rt; order.tasks.load(Ordering::SeqCst), wanted);
+    for seed in &[0, 1, 7, 9_223_372_036_854_775_808u64] {
+        let order = order_of_tasks(&rt, rt.alloc(), *seed)?;
+        assert_eq!(rt; order, order_of_starts(*seed));
     }
     Ok(())
 }
@@ -303,29 +336,43 @@ impl Gate for Laborious {
     }
 }
 
+/// So many workers work off tasks of 256 units. Returns the work done.
+fn labor<R: Threads + Abort + Sync>(
+    rt: &R,
+    alloc: Global,
+    tasks: &[Task],
+    workers: u32,
+) -> Result<u64, Fail> {
+    let shape = Shape::new(4, 32, MAX_VERSION)?;
+    let gate = Laborious {
+        sum: AtomicU64::new(0),
+    };
+    let done = dispatch(rt, alloc, tasks, workers, shape, 0, &gate)?;
+    assert_eq!(rt; done.len(), 64);
+    assert!(rt; done.iter().all(|each| each.sum == 32_896));
+    Ok(gate.sum.load(Ordering::SeqCst))
+}
+
+/// Sixty-four tasks of 256 units.
+fn long_tasks(alloc: Global) -> Result<Vec<Task>, AllocError> {
+    let mut tasks = Vec::new(alloc);
+    for id in 0..64u32 {
+        tasks.push(task(id, 256, 0))?;
+    }
+    Ok(tasks)
+}
+
 /// Prints how long one, two and four workers take where a unit of work takes longer than the calls of the queue. The finished
 /// lists and the work done are the same.
 #[test]
 fn times_of_workers(rt: HostRuntime) -> Result<(), Fail> {
-    let shape = Shape::new(4, 32, MAX_VERSION)?;
-    let mut tasks = Vec::new(rt.alloc());
-    for id in 0..64u32 {
-        tasks.push(task(id, 256, 0))?;
-    }
-    let mut sum = None;
-    for workers in [1u32, 2, 4] {
-        let gate = Laborious {
-            sum: AtomicU64::new(0),
-        };
+    let tasks = long_tasks(rt.alloc())?;
+    let wanted = labor(&rt, rt.alloc(), tasks.as_slice(), 1)?;
+    for workers in &[1u32, 2, 4] {
         let start = Instant::now(&rt)?;
-        let done = dispatch(&rt, rt.alloc(), &tasks, workers, shape, 0, &gate)?;
+        let work = labor(&rt, rt.alloc(), tasks.as_slice(), *workers)?;
         let taken = start.elapsed(&rt)?;
-        assert_eq!(rt; done.len(), 64);
-        for each in &done {
-            assert_eq!(rt; each.sum, 32_896);
-        }
-        let own = gate.sum.load(Ordering::SeqCst);
-        assert_eq!(rt; *sum.get_or_insert(own), own);
+        assert_eq!(rt; work, wanted);
         eprintln!(rt; "workers {workers}: {taken:?}")?;
     }
     Ok(())

@@ -8,7 +8,6 @@ use kfifo_live::{
     CloseFault, GatherFault, Given, OpenFault, Pass, PayPass, PayQueue, Queue, StampPass,
     StampQueue, Taken,
 };
-use kfifo_machine::{Event, NotEnabled, Outcome, StartFault, State};
 use kfifo_model::{Answer, History, MeasureFault, Overtaken, SearchFault};
 use kfifo_words::Shape;
 use std::alloc::Global;
@@ -19,17 +18,6 @@ pub fn open(alloc: Global, shape: Shape, threads: u32) -> Result<(Queue, Vec<Pas
     ensures { IfOk result (λ r. All (IsOf r.0) r.1.items) }
 {
     Queue::open(alloc, shape, threads)
-}
-
-/// A queue for one thread, with its pass.
-pub fn open_one(alloc: Global, shape: Shape) -> Result<(Queue, Pass), OpenFault>
-    ensures { IfOk result (λ r. (r.0.opened.shape ≡ shape) × IsOf r.0 r.1) }
-{
-    let (queue, mut passes) = Queue::open(alloc, shape, 1)?;
-    let Some(pass) = passes.pop() else {
-        unreachable!()
-    };
-    Ok((queue, pass))
 }
 
 /// A queue for two threads, with the pass of each.
@@ -62,14 +50,6 @@ pub fn dequeue(queue: &Queue, pass: &mut Pass, start: u32, turns: u16) -> Answer
     pass.dequeue(queue, start, turns)
 }
 
-pub fn meet(queue: &Queue, first: &mut Pass, second: &mut Pass)
-    requires first { IsOf queue.now first.old }
-    requires second { IsOf queue.now second.old }
-    ensures { IsSame first.old first.new × IsSame second.old second.new }
-{
-    kfifo_live::meet(queue, first, second)
-}
-
 pub fn close(alloc: Global, queue: Queue, passes: Vec<Pass>) -> Result<Vec<u32>, CloseFault>
     requires { All (IsOf queue) passes.items }
 {
@@ -86,21 +66,6 @@ pub fn open_stamped(
     ensures { IfOk result (λ r. All (λ p. IsOf r.0 p.pass) r.1.items) }
 {
     StampQueue::open(alloc, shape, threads, calls)
-}
-
-/// A stamped queue for one thread, with its pass.
-pub fn open_stamped_one(
-    alloc: Global,
-    shape: Shape,
-    calls: u32,
-) -> Result<(StampQueue, StampPass), OpenFault>
-    ensures { IfOk result (λ r. (r.0.opened.shape ≡ shape) × IsOf r.0 r.1.pass) }
-{
-    let (queue, mut passes) = StampQueue::open(alloc, shape, 1, calls)?;
-    let Some(pass) = passes.pop() else {
-        unreachable!()
-    };
-    Ok((queue, pass))
 }
 
 pub fn enqueue_stamped(
@@ -170,21 +135,6 @@ pub fn open_payloads_one<T: Drop>(
     Ok((queue, pass))
 }
 
-/// A queue of payloads for two threads, with the pass of each.
-pub fn open_payloads_two<T: Drop>(
-    alloc: Global,
-    shape: Shape,
-    tokens: u32,
-) -> Result<(PayQueue<T>, PayPass<T>, PayPass<T>), OpenFault>
-    ensures { IfOk result (λ r. (r.0.opened.shape ≡ shape) × IsOf r.0 r.1.pass × IsOf r.0 r.2.pass) }
-{
-    let (queue, mut passes) = PayQueue::open(alloc, shape, 2, tokens)?;
-    let (Some(second), Some(first)) = (passes.pop(), passes.pop()) else {
-        unreachable!()
-    };
-    Ok((queue, first, second))
-}
-
 pub fn give<T: Drop>(
     queue: &PayQueue<T>,
     pass: &mut PayPass<T>,
@@ -229,14 +179,6 @@ pub fn dispatch<R: Threads + Sync, G: kfifo_dispatch::Gate + Sync>(
     gate: &G,
 ) -> Result<Vec<Finished>, DispatchFault> {
     kfifo_dispatch::dispatch(threads, alloc, tasks, workers, shape, seed, gate)
-}
-
-pub fn start(alloc: Global, shape: Shape, threads: u32) -> Result<State, StartFault> {
-    kfifo_machine::start(alloc, shape, threads)
-}
-
-pub fn step(state: &mut State, event: Event) -> Result<Outcome, NotEnabled> {
-    kfifo_machine::step(state, event)
 }
 
 pub fn has_order(alloc: Global, history: &History, k: u32) -> Result<bool, SearchFault>

@@ -107,26 +107,33 @@ fn dequeues(alloc: Global, scripts: usize, calls: usize) -> Result<Vec<Vec<Begin
     Ok(made)
 }
 
+/// How many calls the record of so many scripts of so many dequeues has.
+fn count_recorded<R: Threads + Abort + Sync>(
+    rt: &R,
+    alloc: Global,
+    scripts: usize,
+    calls: usize,
+) -> Result<Result<usize, OpenFault>, Fail> {
+    let shape = Shape::new(2, 2, MAX_VERSION)?;
+    let scripts = dequeues(alloc, scripts, calls)?;
+    match record(rt, alloc, shape, scripts.as_slice(), &OpenGate) {
+        Ok(history) => Ok(Ok(history.calls().len())),
+        Err(fault) => Ok(Err(fault)),
+    }
+}
+
 #[test]
 fn refuses_in_the_stated_order(rt: HostRuntime) -> Result<(), Fail> {
-    let shape = Shape::new(2, 2, MAX_VERSION)?;
-    for (scripts, calls, fault) in [
-        (0usize, 0usize, OpenFault::ThreadsOutOfRange),
-        (65, 1_025, OpenFault::ThreadsOutOfRange),
-        (64, 1_025, OpenFault::CallsOutOfRange),
-        (1, 1_025, OpenFault::CallsOutOfRange),
-    ] {
-        let scripts = dequeues(rt.alloc(), scripts, calls)?;
-        let Err(refused) = record(&rt, rt.alloc(), shape, scripts.as_slice(), &OpenGate) else {
-            panic!(rt; "recorded {} scripts", scripts.len());
-        };
-        assert_eq!(rt; refused, fault);
-    }
-    for (scripts, calls) in [(1usize, 1_024usize), (64, 2), (3, 0)] {
-        let made = dequeues(rt.alloc(), scripts, calls)?;
-        let history = record(&rt, rt.alloc(), shape, made.as_slice(), &OpenGate)?;
-        assert_eq!(rt; history.calls().len(), scripts * calls);
-    }
+    let alloc = rt.alloc();
+    let threads = Err(OpenFault::ThreadsOutOfRange);
+    assert_eq!(rt; count_recorded(&rt, alloc, 0, 0)?, threads);
+    assert_eq!(rt; count_recorded(&rt, alloc, 65, 1_025)?, threads);
+    let calls = Err(OpenFault::CallsOutOfRange);
+    assert_eq!(rt; count_recorded(&rt, alloc, 64, 1_025)?, calls);
+    assert_eq!(rt; count_recorded(&rt, alloc, 1, 1_025)?, calls);
+    assert_eq!(rt; count_recorded(&rt, alloc, 1, 1_024)?, Ok(1_024));
+    assert_eq!(rt; count_recorded(&rt, alloc, 64, 2)?, Ok(128));
+    assert_eq!(rt; count_recorded(&rt, alloc, 3, 0)?, Ok(0));
     Ok(())
 }
 
@@ -309,34 +316,64 @@ fn record_drawn<R: Threads + Abort + Sync>(
     Ok(record(rt, alloc, shape, scripts.as_slice(), &start)?)
 }
 
+/// A hundred records of drawn scripts each have a legal order.
+fn check_orders<R: Threads + Abort + Sync>(
+    rt: &R,
+    alloc: Global,
+    shape: Shape,
+    seed: &mut u32,
+    threads: u32,
+    calls: u32,
+) -> Result<(), Fail> {
+    for round in 0..100 {
+        let history = record_drawn(rt, alloc, shape, seed, threads, calls)?;
+        assert!(rt; has_order(alloc, &history, shape.k())?, "{shape:?} {round}");
+    }
+    Ok(())
+}
+
 #[test]
 fn short_records_have_legal_orders(rt: HostRuntime) -> Result<(), Fail> {
     let mut seed = 0u32;
-    for (k, n, threads, calls) in [(1u32, 2u32, 2u32, 6u32), (2, 2, 3, 4), (3, 2, 4, 3)] {
-        let shape = Shape::new(k, n, MAX_VERSION)?;
-        for round in 0..100 {
-            let history = record_drawn(&rt, rt.alloc(), shape, &mut seed, threads, calls)?;
-            assert!(rt; has_order(rt.alloc(), &history, k)?, "{shape:?} {round}");
-        }
+    let shape = Shape::new(1, 2, MAX_VERSION)?;
+    check_orders(&rt, rt.alloc(), shape, &mut seed, 2, 6)?;
+    let shape = Shape::new(2, 2, MAX_VERSION)?;
+    check_orders(&rt, rt.alloc(), shape, &mut seed, 3, 4)?;
+    let shape = Shape::new(3, 2, MAX_VERSION)?;
+    check_orders(&rt, rt.alloc(), shape, &mut seed, 4, 3)
+}
+
+/// A record of drawn scripts overtakes less than k. Returns how many calls began before an earlier one had ended.
+fn check_overtaking<R: Threads + Abort + Sync>(
+    rt: &R,
+    alloc: Global,
+    shape: Shape,
+    seed: &mut u32,
+    threads: u32,
+    calls: u32,
+) -> Result<usize, Fail> {
+    let history = record_drawn(rt, alloc, shape, seed, threads, calls)?;
+    for overtaken in measure(alloc, &history)? {
+        assert!(rt;
+            overtaken.count < shape.k() as usize,
+            "{shape:?} {overtaken:?}"
+        );
     }
-    Ok(())
+    Ok(count_overlaps(history.calls()))
 }
 
 #[test]
 fn long_records_overtake_little(rt: HostRuntime) -> Result<(), Fail> {
     let mut seed = 1u32;
     let mut overlaps = 0usize;
-    for (k, n, threads, calls) in [
+    for (k, n, threads, calls) in &[
         (1u32, 2u32, 2u32, 1_024u32),
         (2, 3, 4, 1_024),
         (4, 2, 16, 256),
     ] {
-        let shape = Shape::new(k, n, MAX_VERSION)?;
-        let history = record_drawn(&rt, rt.alloc(), shape, &mut seed, threads, calls)?;
-        overlaps = overlaps.saturating_add(count_overlaps(history.calls()));
-        for overtaken in measure(rt.alloc(), &history)? {
-            assert!(rt; overtaken.count < k as usize, "{shape:?} {overtaken:?}");
-        }
+        let shape = Shape::new(*k, *n, MAX_VERSION)?;
+        let some = check_overtaking(&rt, rt.alloc(), shape, &mut seed, *threads, *calls)?;
+        overlaps = overlaps.saturating_add(some);
     }
     println!(rt; "{overlaps} calls began while another ran")?;
     assert!(rt; overlaps > 0);

@@ -3,13 +3,10 @@ ghost use Rattle.std.specs.Prelude.{◌≡◌, ◌<◌, IfOk, IfSome, All};
 ghost use Rattle.kfifo_live.specs.Pass.{IsOf, IsSame};
 
 use super::draw;
-use crate::plain::{
-    close_payloads, give, open_payloads, open_payloads_one, open_payloads_two, take,
-};
-use kfifo_live::{CloseFault, Given, MAX_TOKENS, OpenFault, PayPass, PayQueue, Taken};
+use crate::plain::{close_payloads, give, open_payloads, open_payloads_one, take};
+use kfifo_live::{CloseFault, Given, PayPass, PayQueue, Taken};
 use kfifo_words::{MAX_VERSION, Shape};
 use std::alloc::{AllocError, Global};
-use std::process::Abort;
 use std::sync::Arc;
 use std::sync::atomic::{AtomicU64, Ordering};
 use std::test::Fail;
@@ -35,92 +32,6 @@ impl Drop for Counted {
     }
 }
 
-/// A pass gives a payload, which comes to this, and has then so many tokens.
-fn check_give(
-    rt: &impl Abort,
-    queue: &PayQueue<u64>,
-    pass: &mut PayPass<u64>,
-    payload: u64,
-    wanted: Given<u64>,
-    tokens: usize,
-)
-    requires of { IsOf queue.now pass.old.pass }
-    requires start { 0 < queue.now.opened.shape.k }
-    ensures { IsSame pass.old.pass pass.new.pass }
-{
-    assert_eq!(rt; give(queue, pass, payload, 0, 4), wanted);
-    assert_eq!(rt; pass.tokens(), tokens);
-}
-
-/// A pass takes a payload, or comes to this, and has then so many tokens.
-fn check_take(
-    rt: &impl Abort,
-    queue: &PayQueue<u64>,
-    pass: &mut PayPass<u64>,
-    wanted: Taken<u64>,
-    tokens: usize,
-)
-    requires of { IsOf queue.now pass.old.pass }
-    requires start { 0 < queue.now.opened.shape.k }
-    ensures { IsSame pass.old.pass pass.new.pass }
-{
-    assert_eq!(rt; take(queue, pass, 0, 4), wanted);
-    assert_eq!(rt; pass.tokens(), tokens);
-}
-
-#[test]
-fn gives_and_takes_in_turn(rt: HostRuntime) -> Result<(), Fail> {
-    let shape = Shape::new(1, 2, MAX_VERSION)?;
-    let (queue, mut giver, mut taker) = open_payloads_two(rt.alloc(), shape, 2)?;
-    assert_eq!(rt; queue.shape(), shape);
-    assert_eq!(rt; (giver.thread(), giver.tokens()), (0, 2));
-    assert_eq!(rt; (taker.thread(), taker.tokens()), (1, 2));
-    check_give(&rt, &queue, &mut giver, 70, Given::Done, 1);
-    check_give(&rt, &queue, &mut giver, 80, Given::Done, 0);
-    check_give(&rt, &queue, &mut giver, 90, Given::NoToken(90), 0);
-    check_give(&rt, &queue, &mut taker, 95, Given::Full(95), 2);
-    check_take(&rt, &queue, &mut taker, Taken::Got(70), 3);
-    check_take(&rt, &queue, &mut taker, Taken::Got(80), 4);
-    check_take(&rt, &queue, &mut taker, Taken::Empty, 4);
-    Ok(())
-}
-
-#[test]
-fn refuses_an_opening_in_the_stated_order(rt: HostRuntime) -> Result<(), Fail> {
-    let shape = Shape::new(2, 2, MAX_VERSION)?;
-    for (threads, tokens, fault, number) in [
-        (0u32, 0u32, OpenFault::ThreadsOutOfRange, 1u32),
-        (65, MAX_TOKENS, OpenFault::ThreadsOutOfRange, 1),
-        (64, 0, OpenFault::TokensOutOfRange, 3),
-        (1, MAX_TOKENS + 1, OpenFault::TokensOutOfRange, 3),
-    ] {
-        let opened: Result<(PayQueue<u64>, Vec<PayPass<u64>>), OpenFault> = PayQueue::open(
-            rt.alloc(),
-            shape,
-            threads,
-            tokens,
-        );
-        let Err(refused) = opened else {
-            panic!(rt; "opened for {threads} threads and {tokens} tokens");
-        };
-        assert_eq!(rt; refused, fault);
-        assert_eq!(rt; refused.number(), number);
-    }
-    Ok(())
-}
-
-#[test]
-fn gives_a_token_back_and_forth(rt: HostRuntime) -> Result<(), Fail> {
-    let (queue, mut pass) = open_payloads_one(rt.alloc(), Shape::new(1, 2, MAX_VERSION)?, 1)?;
-    check_give(&rt, &queue, &mut pass, 7, Given::Done, 0);
-    check_give(&rt, &queue, &mut pass, 8, Given::NoToken(8), 0);
-    check_take(&rt, &queue, &mut pass, Taken::Got(7), 1);
-    check_give(&rt, &queue, &mut pass, 8, Given::Done, 0);
-    let left = close_payloads(rt.alloc(), queue, pass)?;
-    assert_eq!(rt; left.as_slice(), [8].as_slice());
-    Ok(())
-}
-
 /// What `give` answers, and the number of the payload that it hands back, which is then dropped.
 fn given(given: Given<Counted>) -> (&'static str, Option<u64>) {
     match given {
@@ -140,114 +51,6 @@ fn taken(taken: Taken<Counted>) -> (&'static str, Option<u64>) {
         Taken::Busy => ("Busy", None),
         Taken::Worn => ("Worn", None),
     }
-}
-
-/// A call: what number it gives, or that it takes, its rounds, and what it comes to.
-type Step = (Option<u64>, u16, (&'static str, Option<u64>));
-
-/// A pass makes these calls, whose scans begin at the last slot, and which come to what they say.
-fn check_steps(
-    rt: &impl Abort,
-    queue: &PayQueue<Counted>,
-    pass: &mut PayPass<Counted>,
-    drops: &Arc<AtomicU64>,
-    steps: &[Step],
-) -> Result<(), Fail>
-    requires { IsOf queue.now pass.old.pass }
-    ensures { IsSame pass.old.pass pass.new.pass }
-{
-    let start = queue.shape().k() - 1;
-    for (number, turns, answer) in steps {
-        let turns = (*turns).max(1);
-        let came = match number {
-            Some(number) => {
-                let payload = Counted::new(*number, drops)?;
-                given(give(queue, pass, payload, start, turns))
-            }
-            None => taken(take(queue, pass, start, turns)),
-        };
-        assert_eq!(rt; came, *answer);
-    }
-    Ok(())
-}
-
-#[test]
-fn closes_with_what_is_left(rt: HostRuntime) -> Result<(), Fail> {
-    let drops = Arc::new(rt.alloc(), AtomicU64::new(0))?;
-    let (queue, mut first, mut second) = open_payloads_two(
-        rt.alloc(),
-        Shape::new(2, 2, MAX_VERSION)?,
-        5,
-    )?;
-    let puts = [
-        (Some(1), 2, ("Done", None)),
-        (Some(2), 2, ("Done", None)),
-        (Some(3), 2, ("Done", None)),
-        (Some(4), 2, ("Done", None)),
-    ];
-    check_steps(&rt, &queue, &mut first, &drops, &puts)?;
-    let takes = [
-        (None, 2, ("Got", Some(1))),
-        (None, 2, ("Got", Some(2))),
-        (None, 2, ("Got", Some(3))),
-    ];
-    check_steps(&rt, &queue, &mut second, &drops, &takes)?;
-    check_steps(
-        &rt,
-        &queue,
-        &mut first,
-        &drops,
-        &[(Some(5), 2, ("Done", None))],
-    )?;
-    queue.meet(&mut second, &mut first);
-    let left = close_payloads(rt.alloc(), queue, first)?;
-    let numbers: Vec<u64> = left
-        .iter()
-        .map(|payload| payload.number)
-        .collect(rt.alloc())?;
-    assert_eq!(rt; numbers.as_slice(), [4, 5].as_slice());
-    Ok(())
-}
-
-#[test]
-fn drops_each_payload_once(rt: HostRuntime) -> Result<(), Fail> {
-    let drops = Arc::new(rt.alloc(), AtomicU64::new(0))?;
-    let (queue, mut pass) = open_payloads_one(rt.alloc(), Shape::new(1, 2, MAX_VERSION)?, 3)?;
-    let steps = [
-        (None, 1, ("Empty", None)),
-        (Some(7), 1, ("Done", None)),
-        (Some(8), 1, ("Busy", Some(8))),
-        (Some(8), 2, ("Done", None)),
-        (Some(9), 1, ("Full", Some(9))),
-        (None, 1, ("Got", Some(7))),
-        (None, 1, ("Busy", None)),
-    ];
-    check_steps(&rt, &queue, &mut pass, &drops, &steps)?;
-    assert_eq!(rt; drops.load(Ordering::SeqCst), 3);
-    drop(queue);
-    assert_eq!(rt; drops.load(Ordering::SeqCst), 4);
-    Ok(())
-}
-
-#[test]
-fn drops_each_payload_once_at_a_close(rt: HostRuntime) -> Result<(), Fail> {
-    let drops = Arc::new(rt.alloc(), AtomicU64::new(0))?;
-    let (queue, mut pass) = open_payloads_one(rt.alloc(), Shape::new(1, 2, 2)?, 2)?;
-    let steps = [
-        (Some(1), 1, ("Done", None)),
-        (None, 1, ("Got", Some(1))),
-        (Some(2), 1, ("Done", None)),
-        (None, 2, ("Worn", None)),
-        (Some(3), 1, ("Worn", Some(3))),
-    ];
-    check_steps(&rt, &queue, &mut pass, &drops, &steps)?;
-    assert_eq!(rt; drops.load(Ordering::SeqCst), 2);
-    let left = close_payloads(rt.alloc(), queue, pass)?;
-    assert_eq!(rt; left.len(), 1);
-    assert_eq!(rt; drops.load(Ordering::SeqCst), 2);
-    drop(left);
-    assert_eq!(rt; drops.load(Ordering::SeqCst), 3);
-    Ok(())
 }
 
 /// Puts one payload into a queue and closes it. Answers the number that came back, or 0 where memory was refused.

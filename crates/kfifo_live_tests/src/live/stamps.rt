@@ -3,11 +3,9 @@ ghost use Rattle.std.specs.Prelude.{◌≡◌, ◌<◌, ◌≤◌, ◌+◌, ◌*
 ghost use Rattle.kfifo_live.specs.Pass.{IsOf, IsSame};
 
 use super::draw;
-use crate::plain::{
-    dequeue_stamped, enqueue_stamped, gather, has_order, measure, open_stamped, open_stamped_one,
-};
+use crate::plain::{dequeue_stamped, enqueue_stamped, gather, has_order, measure, open_stamped};
 use kfifo_live::{GatherFault, MAX_CALLS, OpenFault, StampPass, StampQueue};
-use kfifo_model::{Answer, Call, End, History, Op};
+use kfifo_model::{Call, History};
 use kfifo_words::{MAX_VERSION, Shape};
 use std::alloc::Global;
 use std::process::Abort;
@@ -17,80 +15,6 @@ use std::thread::{Threads, map_vec, yield_now};
 
 /// So many looks a thread waits for the others.
 const LOOKS: u32 = 16_777_216;
-
-fn stamped(thread: u32, op: Op, first: u64, last: u64, answer: Answer) -> Call {
-    Call {
-        thread,
-        op,
-        first,
-        end: Some(End { last, answer }),
-    }
-}
-
-#[test]
-fn stamps_the_calls_of_one_thread(rt: HostRuntime) -> Result<(), Fail> {
-    let shape = Shape::new(1, 2, MAX_VERSION)?;
-    let (queue, mut pass) = open_stamped_one(rt.alloc(), shape, 3)?;
-    assert!(rt; pass.log().is_empty());
-    assert_eq!(rt;
-        enqueue_stamped(&queue, &mut pass, 7, 0, 2),
-        Some(Answer::Done)
-    );
-    assert_eq!(rt;
-        dequeue_stamped(&queue, &mut pass, 0, 2),
-        Some(Answer::Got(7))
-    );
-    assert_eq!(rt;
-        dequeue_stamped(&queue, &mut pass, 0, 2),
-        Some(Answer::Empty)
-    );
-    assert_eq!(rt; dequeue_stamped(&queue, &mut pass, 0, 2), None);
-    assert_eq!(rt; enqueue_stamped(&queue, &mut pass, 8, 0, 2), None);
-    let calls = [
-        stamped(0, Op::Enqueue(7), 0, 1, Answer::Done),
-        stamped(0, Op::Dequeue, 2, 3, Answer::Got(7)),
-        stamped(0, Op::Dequeue, 4, 5, Answer::Empty),
-    ];
-    assert_eq!(rt; pass.log(), calls.as_slice());
-    let history = gather(rt.alloc(), queue, vec![in rt.alloc(); pass]?)?;
-    assert_eq!(rt; history.calls(), calls.as_slice());
-    Ok(())
-}
-
-#[test]
-fn refuses_in_the_stated_order(rt: HostRuntime) -> Result<(), Fail> {
-    let shape = Shape::new(2, 2, MAX_VERSION)?;
-    for (threads, calls, fault, number) in [
-        (0u32, 0u32, OpenFault::ThreadsOutOfRange, 1u32),
-        (65, MAX_CALLS, OpenFault::ThreadsOutOfRange, 1),
-        (64, 0, OpenFault::CallsOutOfRange, 4),
-        (1, MAX_CALLS + 1, OpenFault::CallsOutOfRange, 4),
-    ] {
-        let Err(refused) = StampQueue::open(rt.alloc(), shape, threads, calls) else {
-            panic!(rt; "opened for {threads} threads and {calls} calls");
-        };
-        assert_eq!(rt; refused, fault);
-        assert_eq!(rt; refused.number(), number);
-    }
-    let (_queue, passes) = StampQueue::open(rt.alloc(), shape, 64, MAX_CALLS)?;
-    assert_eq!(rt; passes.len(), 64);
-    Ok(())
-}
-
-#[test]
-fn gathers_only_with_each_pass(rt: HostRuntime) -> Result<(), Fail> {
-    let shape = Shape::new(2, 2, MAX_VERSION)?;
-    let (queue, mut passes) = StampQueue::open(rt.alloc(), shape, 2, 1)?;
-    let (Some(_), Some(first)) = (passes.pop(), passes.pop()) else {
-        unreachable!()
-    };
-    let Err(fault) = gather(rt.alloc(), queue, vec![in rt.alloc(); first]?) else {
-        panic!(rt; "gathered without the second pass");
-    };
-    assert_eq!(rt; fault, GatherFault::MissingPass);
-    assert_eq!(rt; (fault.number(), GatherFault::Memory.number()), (1, 2));
-    Ok(())
-}
 
 /// Lets a thread begin when all have come, or after many looks.
 fn wait_for_all(come: &AtomicU64, threads: u32) {
@@ -156,17 +80,28 @@ fn record<R: Threads + Sync>(
     Ok(gather(alloc, queue, passes)?)
 }
 
-#[test]
-fn short_records_have_legal_orders(rt: HostRuntime) -> Result<(), Fail> {
-    for (k, n, threads, calls) in [(1u32, 2u32, 2u32, 6u32), (2, 2, 3, 4), (3, 4, 4, 3)] {
-        let shape = Shape::new(k, n, MAX_VERSION)?;
-        for round in 0..100 {
-            let history = record(&rt, rt.alloc(), shape, threads, calls)?;
-            assert_eq!(rt; history.calls().len(), threads as usize * calls as usize);
-            assert!(rt; has_order(rt.alloc(), &history, k)?, "{shape:?} {round}");
-        }
+/// A hundred records of this many calls each have a legal order.
+fn check_orders<R: Threads + Abort + Sync>(
+    rt: &R,
+    alloc: Global,
+    shape: Shape,
+    threads: u32,
+    calls: u32,
+) -> Result<(), Fail> {
+    for round in 0..100 {
+        let history = record(rt, alloc, shape, threads, calls)?;
+        assert_eq!(rt; history.calls().len(), threads as usize * calls as usize);
+        assert!(rt; has_order(alloc, &history, shape.k())?, "{shape:?} {round}");
     }
     Ok(())
+}
+
+#[test]
+fn short_records_have_legal_orders(rt: HostRuntime) -> Result<(), Fail> {
+    let alloc = rt.alloc();
+    check_orders(&rt, alloc, Shape::new(1, 2, MAX_VERSION)?, 2, 6)?;
+    check_orders(&rt, alloc, Shape::new(2, 2, MAX_VERSION)?, 3, 4)?;
+    check_orders(&rt, alloc, Shape::new(3, 4, MAX_VERSION)?, 4, 3)
 }
 
 /// How many calls began before an earlier one had ended.
@@ -184,22 +119,37 @@ pub(crate) fn count_overlaps(calls: &[Call]) -> usize {
     overlaps
 }
 
+/// A record of this many calls overtakes less than k. Returns how many calls began before an earlier one had ended.
+fn check_overtaking<R: Threads + Abort + Sync>(
+    rt: &R,
+    alloc: Global,
+    shape: Shape,
+    threads: u32,
+    calls: u32,
+) -> Result<usize, Fail> {
+    let history = record(rt, alloc, shape, threads, calls)?;
+    assert_eq!(rt; history.calls().len(), threads as usize * calls as usize);
+    for overtaken in measure(alloc, &history)? {
+        assert!(rt;
+            overtaken.count < shape.k() as usize,
+            "{shape:?} {overtaken:?}"
+        );
+    }
+    Ok(count_overlaps(history.calls()))
+}
+
 #[test]
 fn long_records_overtake_little(rt: HostRuntime) -> Result<(), Fail> {
     let mut overlaps = 0usize;
-    for (k, n, threads, calls) in [
+    for (k, n, threads, calls) in &[
         (1u32, 2u32, 2u32, MAX_CALLS),
         (2, 3, 4, 512),
         (4, 2, 16, 128),
         (64, 4, 16, 128),
     ] {
-        let shape = Shape::new(k, n, MAX_VERSION)?;
-        let history = record(&rt, rt.alloc(), shape, threads, calls)?;
-        assert_eq!(rt; history.calls().len(), threads as usize * calls as usize);
-        overlaps = overlaps.saturating_add(count_overlaps(history.calls()));
-        for overtaken in measure(rt.alloc(), &history)? {
-            assert!(rt; overtaken.count < k as usize, "{shape:?} {overtaken:?}");
-        }
+        let shape = Shape::new(*k, *n, MAX_VERSION)?;
+        let some = check_overtaking(&rt, rt.alloc(), shape, *threads, *calls)?;
+        overlaps = overlaps.saturating_add(some);
     }
     assert!(rt; overlaps > 0);
     Ok(())

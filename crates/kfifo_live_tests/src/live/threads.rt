@@ -3,7 +3,7 @@ ghost use Rattle.std.specs.Prelude.{◌≡◌, ◌<◌, ◌≤◌, ◌+◌, ◌*
 ghost use Rattle.kfifo_live.specs.Pass.{IsOf, IsSame};
 
 use super::{call, dequeue, draw, enqueue};
-use crate::plain::{close, has_order, meet, open, open_two};
+use crate::plain::{close, has_order, open, open_two};
 use kfifo_live::{CloseFault, OpenFault, Pass, Queue};
 use kfifo_machine::Begin;
 use kfifo_model::{Answer, Call, End, History, Op};
@@ -54,60 +54,6 @@ fn hands_over_between_threads(rt: HostRuntime) -> Result<(), Fail> {
     );
     assert_eq!(rt; a, (Some(Answer::Done), Some(Answer::Got(2))));
     assert_eq!(rt; b, (Some(Answer::Got(1)), Some(Answer::Done)));
-    Ok(())
-}
-
-/// A pass makes these calls, and gets the answers.
-fn check_answers(rt: &impl Abort, queue: &Queue, pass: &mut Pass, calls: &[(Begin, Answer)])
-    requires { IsOf queue.now pass.old }
-    ensures { IsSame pass.old pass.new }
-{
-    for (begin, answer) in calls {
-        assert_eq!(rt; call(queue, pass, *begin), Some(*answer), "{begin:?}");
-    }
-}
-
-#[test]
-fn gives_back_what_is_left(rt: HostRuntime) -> Result<(), Fail> {
-    let (queue, mut first, mut second) = open_two(rt.alloc(), Shape::new(2, 2, MAX_VERSION)?)?;
-    let puts = [
-        (enqueue(1, 0, 2), Answer::Done),
-        (enqueue(2, 0, 2), Answer::Done),
-        (enqueue(3, 0, 2), Answer::Done),
-        (enqueue(4, 0, 2), Answer::Done),
-    ];
-    check_answers(&rt, &queue, &mut first, &puts);
-    let takes = [
-        (dequeue(0, 2), Answer::Got(1)),
-        (dequeue(0, 2), Answer::Got(2)),
-        (dequeue(0, 2), Answer::Got(3)),
-    ];
-    check_answers(&rt, &queue, &mut second, &takes);
-    check_answers(&rt, &queue, &mut first, &[(enqueue(5, 0, 2), Answer::Done)]);
-    meet(&queue, &mut first, &mut second);
-    let items = close(rt.alloc(), queue, vec![in rt.alloc(); second, first]?)?;
-    assert_eq!(rt; items.as_slice(), [4, 5].as_slice());
-    Ok(())
-}
-
-#[test]
-fn closes_only_with_each_pass(rt: HostRuntime) -> Result<(), Fail> {
-    let shape = Shape::new(2, 2, MAX_VERSION)?;
-    let (queue, mut passes) = Queue::open(rt.alloc(), shape, 3)?;
-    let (Some(last), Some(_), Some(first)) = (passes.pop(), passes.pop(), passes.pop()) else {
-        unreachable!()
-    };
-    let Err(fault) = close(rt.alloc(), queue, vec![in rt.alloc(); last, first]?) else {
-        panic!(rt; "closed without the second pass");
-    };
-    assert_eq!(rt; fault, CloseFault::MissingPass);
-    let (queue, _) = open(rt.alloc(), shape, 3)?;
-    let Err(fault) = close(rt.alloc(), queue, Vec::new(rt.alloc())) else {
-        panic!(rt; "closed with no pass");
-    };
-    assert_eq!(rt; fault, CloseFault::MissingPass);
-    let (queue, passes) = open(rt.alloc(), shape, 3)?;
-    assert!(rt; close(rt.alloc(), queue, passes)?.is_empty());
     Ok(())
 }
 

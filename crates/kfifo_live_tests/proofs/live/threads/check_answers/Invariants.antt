@@ -1,5 +1,0 @@
-use Rattle.kfifo_live.specs.Pass.{IsSame}
-use Rattle.kfifo_live_tests.proofs.live.threads.check_answers.Given as goal
-
-abbrev pub invariant-loop-begin : goal.invariant-loop-begin
-invariant-loop-begin g l = IsSame l.fn.pass l.pass

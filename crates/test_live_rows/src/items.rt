@@ -1,0 +1,297 @@
+//! Rows of a queue of items, each call made beside the same call of the machine.
+ghost use Rattle.std.specs.Prelude.{IfOk, All};
+ghost use Rattle.kfifo_live.specs.Pass.{IsOf, IsSame};
+
+use crate::begin::{call_of, has, place_of, shape_text, size, word_of};
+use crate::faults::{close_text, open_text};
+use crate::plain;
+use kfifo_live::{Pass, Queue};
+use kfifo_machine::{Begin, Event, Outcome, State};
+use kfifo_model::Answer;
+use kfifo_words::{Ends, Shape, Word};
+use serde_json::Value;
+use std::alloc::{AllocError, Global};
+use test_rows::list;
+
+/// Makes a call on the machine, by one thread to its end.
+pub fn drive(state: &mut State, thread: u32, begin: Begin) -> Option<Answer> {
+    let mut next = Some(begin);
+    for _step in 0..10_000_000u32 {
+        let event = Event {
+            thread,
+            begin: next,
+        };
+        match plain::step(state, event) {
+            Ok(Outcome::Went) => next = None,
+            Ok(Outcome::Ended(answer)) => return Some(answer),
+            Err(_) => return None,
+        }
+    }
+    None
+}
+
+/// How many words of the queue are not those of the machine.
+pub fn words_that_differ(queue: &Queue, pass: &mut Pass, state: &State) -> u32
+    requires { IsOf queue.now pass.old }
+    ensures { IsSame pass.old pass.new }
+{
+    let shape = queue.shape();
+    let mut differ: u32 = 0;
+    for index in 0..2 + shape.n() as usize * shape.k() as usize {
+        if plain::word(queue, pass, index) != plain::machine_word(state, index) {
+            differ = differ.saturating_add(1);
+        }
+    }
+    differ
+}
+
+/// Makes a call on the queue and on the machine: the answer, and what the machine has else.
+fn call_both(
+    alloc: Global,
+    queue: &Queue,
+    pass: &mut Pass,
+    state: &mut State,
+    begin: Begin,
+) -> Result<String, AllocError>
+    requires { IsOf queue.now pass.old }
+    ensures { IsSame pass.old pass.new }
+{
+    let answer = plain::call(queue, pass, begin);
+    let machine = drive(state, pass.thread(), begin);
+    let differ = words_that_differ(queue, pass, state);
+    answer_text(alloc, answer, machine, differ)
+}
+
+/// The text of an answer that the machine gives too, with the same words; else what differs.
+fn answer_text(
+    alloc: Global,
+    answer: Option<Answer>,
+    machine: Option<Answer>,
+    differ: u32,
+) -> Result<String, AllocError> {
+    match answer {
+        Some(answer) if machine == Some(answer) && differ == 0 => {
+            format!(in alloc; "{answer:?}")
+        }
+        _ => format!(in alloc; "{answer:?}, the machine {machine:?}, {differ} words differ"),
+    }
+}
+
+/// The words of the queue: the ends and each slot with its version, and the clock.
+fn words_text(alloc: Global, queue: &Queue, pass: &mut Pass) -> Result<String, AllocError>
+    requires { IsOf queue.now pass.old }
+    ensures { IsSame pass.old pass.new }
+{
+    let clock = queue.shape().clock_index();
+    let ends = Ends::of_bits(plain::word(queue, pass, 0).unwrap_or(0));
+    let (head, tail, version) = (ends.head(), ends.tail(), ends.version());
+    let mut text = format!(in alloc; "{head} {tail} v{version}")?;
+    for index in 1..clock {
+        let word = Word::of_bits(plain::word(queue, pass, index).unwrap_or(0));
+        let (value, version) = (word.value(), word.version());
+        write!(text, ", {value} v{version}")?;
+    }
+    let ticks = plain::word(queue, pass, clock).unwrap_or(0);
+    write!(text, ", {ticks}")?;
+    Ok(text)
+}
+
+/// The threads of the passes, in their order.
+fn threads_text(alloc: Global, passes: &[Pass]) -> Result<String, AllocError> {
+    let mut text = String::new(alloc);
+    for pass in passes {
+        let thread = pass.thread();
+        write!(text, "{thread} ")?;
+    }
+    Ok(text)
+}
+
+/// The line of a step by one pass.
+fn line_by(
+    alloc: Global,
+    queue: &Queue,
+    pass: &mut Pass,
+    state: &mut State,
+    step: &Value,
+) -> Result<String, AllocError>
+    requires { IsOf queue.now pass.old }
+    ensures { IsSame pass.old pass.new }
+{
+    if word_of(step) == "words" {
+        words_text(alloc, queue, pass)
+    } else {
+        let begin = call_of(alloc, step)?;
+        call_both(alloc, queue, pass, state, begin)
+    }
+}
+
+/// The first two passes learn what the other one saw: the second from the first, or the other way round.
+fn meet_two(queue: &Queue, passes: &mut Vec<Pass>, is_second_first: bool) -> Result<(), AllocError>
+    requires { All (IsOf queue.now) passes.old.items }
+    ensures { IfOk result (λ _. All (IsOf queue.now) passes.new.items) }
+{
+    let (Some(mut second), Some(mut first)) = (passes.pop(), passes.pop()) else {
+        return Ok(());
+    };
+    if is_second_first {
+        plain::meet(queue, &mut second, &mut first);
+    } else {
+        plain::meet(queue, &mut first, &mut second);
+    }
+    passes.push(first)?;
+    passes.push(second)?;
+    Ok(())
+}
+
+/// The line of a step by the pass that it names.
+fn line_of_call(
+    alloc: Global,
+    queue: &Queue,
+    passes: &mut Vec<Pass>,
+    state: &mut State,
+    step: &Value,
+) -> Result<String, AllocError>
+    requires { All (IsOf queue.now) passes.old.items }
+    ensures { IfOk result (λ _. All (IsOf queue.now) passes.new.items) }
+{
+    let place = place_of(step, 1);
+    if place >= passes.len() {
+        return "no such pass".to_string(alloc);
+    }
+    line_by(alloc, queue, &mut passes[place], state, step)
+}
+
+/// The line of a step.
+fn line_of(
+    alloc: Global,
+    queue: &Queue,
+    passes: &mut Vec<Pass>,
+    state: &mut State,
+    step: &Value,
+) -> Result<String, AllocError>
+    requires { All (IsOf queue.now) passes.old.items }
+    ensures { IfOk result (λ _. All (IsOf queue.now) passes.new.items) }
+{
+    let word = word_of(step);
+    if word == "shape" {
+        shape_text(alloc, queue.shape())
+    } else if word == "passes" {
+        threads_text(alloc, passes.as_slice())
+    } else if word == "meet" {
+        meet_two(queue, passes, place_of(step, 1) == 1)?;
+        "met".to_string(alloc)
+    } else {
+        line_of_call(alloc, queue, passes, state, step)
+    }
+}
+
+/// Adds the line of each step.
+fn add_steps(
+    alloc: Global,
+    queue: &Queue,
+    passes: &mut Vec<Pass>,
+    state: &mut State,
+    steps: &[Value],
+    lines: &mut Vec<String>,
+) -> Result<(), AllocError>
+    requires { All (IsOf queue.now) passes.old.items }
+    ensures { IfOk result (λ _. All (IsOf queue.now) passes.new.items) }
+{
+    for step in steps {
+        lines.push(line_of(alloc, queue, passes, state, step)?)?;
+    }
+    Ok(())
+}
+
+/// Gives back all passes, or those of some threads, the last one first.
+fn pick(
+    alloc: Global,
+    queue: &Queue,
+    mut passes: Vec<Pass>,
+    threads: &Value,
+) -> Result<Vec<Pass>, AllocError>
+    requires { All (IsOf queue.now) passes.items }
+    ensures { IfOk result (λ picked. All (IsOf queue.now) picked.items) }
+{
+    let _shape = queue.shape();
+    if threads.as_bool().unwrap_or(false) {
+        return Ok(passes);
+    }
+    let mut picked = Vec::new(alloc);
+    while let Some(pass) = passes.pop() {
+        if has(threads, pass.thread()) {
+            picked.push(pass)?;
+        }
+    }
+    Ok(picked)
+}
+
+/// The items that are left at a close, or its fault.
+fn closed(alloc: Global, queue: Queue, passes: Vec<Pass>) -> Result<String, AllocError>
+    requires { All (IsOf queue) passes.items }
+{
+    match plain::close(alloc, queue, passes) {
+        Ok(left) => {
+            let left = left.as_slice();
+            format!(in alloc; "left {left:?}")
+        }
+        Err(fault) => close_text(alloc, fault),
+    }
+}
+
+/// Closes the queue with the passes that the row gives back, where it gives any list of them.
+fn end(
+    alloc: Global,
+    queue: Queue,
+    passes: Vec<Pass>,
+    row: &Value,
+    lines: &mut Vec<String>,
+) -> Result<(), AllocError>
+    requires { All (IsOf queue) passes.items }
+{
+    if let Some(threads) = row.get("close") {
+        let picked = pick(alloc, &queue, passes, threads)?;
+        lines.push(closed(alloc, queue, picked)?)?;
+    }
+    Ok(())
+}
+
+/// Adds the lines of the steps on an open queue and a machine, and that of the close.
+fn run(
+    alloc: Global,
+    queue: Queue,
+    mut passes: Vec<Pass>,
+    mut state: State,
+    row: &Value,
+    lines: &mut Vec<String>,
+) -> Result<(), AllocError>
+    requires { All (IsOf queue) passes.items }
+{
+    add_steps(
+        alloc,
+        &queue,
+        &mut passes,
+        &mut state,
+        list(row, "steps"),
+        lines,
+    )?;
+    end(alloc, queue, passes, row, lines)
+}
+
+/// Adds the lines of a row.
+pub fn add_lines(
+    alloc: Global,
+    row: &Value,
+    shape: Shape,
+    lines: &mut Vec<String>,
+) -> Result<(), AllocError> {
+    let threads = size(row, "threads");
+    match plain::open(alloc, shape, threads) {
+        Ok((queue, passes)) => match plain::start(alloc, shape, threads) {
+            Ok(state) => run(alloc, queue, passes, state, row, lines)?,
+            Err(_) => lines.push("no machine".to_string(alloc)?)?,
+        },
+        Err(fault) => lines.push(open_text(alloc, fault)?)?,
+    }
+    Ok(())
+}
