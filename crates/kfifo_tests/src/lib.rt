@@ -1,24 +1,12 @@
-//! Tests of the whole program over readers and writers in memory, in a crate of their own: tests beside the proofs would have every
-//! proof made once more.
+//! Tests of the whole program over readers and writers in memory that fail, and over memory that is refused. What needs neither is a
+//! row of `rows/`. They stand in a crate of their own: tests beside the proofs would have every proof made once more.
 #![tactic(auto)]
 
 #[cfg(test)]
-mod closed;
+mod broken;
 #[cfg(test)]
-mod dispatched;
+mod closed;
 #[cfg(test)]
 mod memory;
 #[cfg(test)]
-mod recorded;
-#[cfg(test)]
-mod records;
-#[cfg(test)]
-mod replays;
-#[cfg(test)]
-mod runs;
-#[cfg(test)]
 mod told;
-#[cfg(test)]
-mod usage;
-#[cfg(test)]
-mod verdicts;

@@ -1,7 +1,6 @@
 //! Runs of the whole program over readers and writers in memory.
 
 use std::alloc::{AllocError, Global};
-use std::io;
 use std::io::{Read, Write};
 use std::rt::Files;
 use std::thread::Threads;
@@ -60,31 +59,4 @@ pub fn run_from<R: Threads + Files + AllocGlobal + Sync, I: Read>(
         output,
         faults,
     })
-}
-
-/// Runs the program on these words and no input.
-pub fn run_words<R: Threads + Files + AllocGlobal + Sync>(
-    rt: &R,
-    texts: &[&str],
-) -> Result<Told, AllocError> {
-    run_from(rt, texts, &mut io::empty())
-}
-
-/// Runs the program on a line of words with a space between each two.
-pub fn run_line<R: Threads + Files + AllocGlobal + Sync>(
-    rt: &R,
-    line: &str,
-) -> Result<Told, AllocError> {
-    run_on(rt, line, "")
-}
-
-/// Runs the program on a line of words, and a text as its input.
-pub fn run_on<R: Threads + Files + AllocGlobal + Sync>(
-    rt: &R,
-    line: &str,
-    text: &str,
-) -> Result<Told, AllocError> {
-    let texts: Vec<&str> = line.split(' ').collect(rt.alloc())?;
-    let mut input = text.as_bytes();
-    run_from(rt, texts.as_slice(), &mut input)
 }
