@@ -263,7 +263,7 @@ pub fn add_history(alloc: Global, row: &Value, lines: &mut Vec<String>) -> Resul
 
 /// The text of a record with so many calls of one thread, which finds the queue empty each time.
 fn empty_takes(alloc: Global, calls: u32) -> Result<String, AllocError> {
-    let mut text = String::new(alloc);
+    let mut text = String::with_capacity(alloc, 80 * calls as usize + 2)?;
     text.push('[')?;
     for n in 0..calls {
         if n > 0 {
