@@ -1,16 +1,19 @@
 //! What the rows come to, line by line.
 //!
-//! - `shape`: k, n, and then maybe the greatest version and the probes; `threads`: how many passes there are. With `tokens`
-//!   the queue is one of payloads, with so many tokens a pass; with `logs` a stamped one, with room for so many calls a log.
-//! - `steps`, a line for each: `["enqueue", pass, item, start, turns]` and `["dequeue", pass, start, turns]`, of payloads
-//!   `give`, with the number of the payload, and `take`; `["meet", from, to]` of two passes; `["words", pass]`: the ends with
-//!   their version, each slot with its version, and the clock; `["shape"]`; `["passes"]`: their threads, or how many there are
-//!   of a stamped queue; `["pass", pass]`: its thread and tokens; `["log", pass]`; `["drops"]` of payloads.
-//! - `close`, or `gather` of a stamped queue: the threads whose passes are given back, the last one first, or `true` for all
-//!   in their order; of payloads the place of one pass. The line has what is left, or the fault. A queue of payloads with no
-//!   `close` is dropped while its passes are kept, and the line counts the drops. Its last line counts them at the very end.
-//! - `drawn`: k of shapes with each of the `segments`, each of the greatest `versions` and each number of probes. For each,
-//!   199 calls are drawn from `seed` on, and made on a queue and on the machine.
+//! - `shape`: k, n, and then maybe the greatest version and the probes; `threads`: how many passes there are. With
+//!   `tokens` the queue is one of payloads, with so many tokens a pass; with `logs` a stamped one, with room for so
+//!   many calls a log.
+//! - `steps`, a line for each: `["enqueue", pass, item, start, turns]` and `["dequeue", pass, start, turns]`, of
+//!   payloads `give`, with the number of the payload, and `take`; `["meet", from, to]` of two passes; `["words",
+//!   pass]`: the ends with their version, each slot with its version, and the clock; `["shape"]`; `["passes"]`:
+//!   their threads, or how many there are of a stamped queue; `["pass", pass]`: its thread and tokens; `["log",
+//!   pass]`; `["drops"]` of payloads.
+//! - `close`, or `gather` of a stamped queue: the threads whose passes are given back, the last one first, or
+//!   `true` for all in their order; of payloads the place of one pass. The line has what is left, or the fault. A
+//!   queue of payloads with no `close` is dropped while its passes are kept, and the line counts the drops. Its
+//!   last line counts them at the very end.
+//! - `drawn`: k of shapes with each of the `segments`, each of the greatest `versions` and each number of probes.
+//!   For each, 199 calls are drawn from `seed` on, and made on a queue and on the machine.
 //! - `memory`: the faults of refused memory.
 //!
 //! A call of a queue of items is made on the machine too: where the answer or a word differs, the line says so.

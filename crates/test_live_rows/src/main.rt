@@ -1,5 +1,5 @@
-//! Worked rows of the running queue by one thread: of its calls beside the machine, of payloads, of stamped calls, and of what
-//! each opening, dispatch and recording refuses. Reads them from a file, and says which of them do not come to what they say.
+//! Worked rows of the running queue by one thread: its calls beside the machine, payloads, stamped calls, and what each
+//! opening and each close refuses. Prints which rows do not come to what they say.
 #![tactic(auto)]
 
 mod begin;
