@@ -13,6 +13,7 @@ use std::process::Abort;
 use std::test::Fail;
 
 mod payloads;
+mod pool;
 pub(crate) mod stamps;
 mod threads;
 
