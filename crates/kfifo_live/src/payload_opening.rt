@@ -33,8 +33,8 @@ fn own_tokens(alloc: Global, thread: u32, tokens: u32, room: usize) -> Result<Ve
     Ok(at_home)
 }
 
-/// A pass for each thread, which has seen nothing and has its tokens, and a pool with words for `pooled` tokens of each
-/// pass: for all of them or for none.
+/// A pass for each thread, which has seen nothing and has its tokens, and a pool with words for `pooled` tokens of
+/// each pass: for all of them or for none.
 fn deal_tokens<T: Drop>(
     alloc: Global,
     shared: &Words<T>,
@@ -71,7 +71,8 @@ fn deal_tokens<T: Drop>(
 }
 
 impl<T: Drop> PayQueue<T> {
-    /// A queue for so many threads, and its passes with so many tokens each, `pooled` of which have a word in its pool.
+    /// A queue for so many threads, and its passes with so many tokens each, `pooled` of which have a word in its
+    /// pool.
     fn open_for(
         alloc: Global,
         shape: Shape,
@@ -133,8 +134,8 @@ impl<T: Drop> PayQueue<T> {
     /// A queue, and one pass for each thread, numbered from 0, with so many tokens each: pass p has those from
     /// `p * tokens + 1` to `(p + 1) * tokens`. The passes have seen the empty schedule, after which all words are 0.
     ///
-    /// ThreadsOutOfRange where the number of threads is not 1 to 64; then TokensOutOfRange where the number of tokens is
-    /// not 1 to 1,024; Memory where an allocation failed. Nothing is kept after a refusal.
+    /// ThreadsOutOfRange where the number of threads is not 1 to 64; then TokensOutOfRange where the number of tokens
+    /// is not 1 to 1,024; Memory where an allocation failed. Nothing is kept after a refusal.
     pub fn open(
         alloc: Global,
         shape: Shape,
@@ -151,8 +152,8 @@ impl<T: Drop> PayQueue<T> {
         PayQueue::open_tested(alloc, shape, threads, tokens, 0)
     }
 
-    /// As `open`, with a pool: beside its table a word for each token, in which `PayPass::lay_down` lets the token rest
-    /// until some `PayPass::pick_up` takes it. No token rests yet.
+    /// As `open`, with a pool: beside its table a word for each token, in which `PayPass::lay_down` lets it rest
+    /// until a `PayPass::pick_up` takes it. No token rests yet.
     pub fn open_with_pool(
         alloc: Global,
         shape: Shape,

@@ -1,6 +1,6 @@
 //! Tokens that come back: the pool of a queue, in which passes lay tokens down for others to pick up.
 //!
-//! A token that no pass holds has a seat of its own, whose one part is of no thread and has that token alone. It rests on
+//! A token in the pool has a seat of its own, whose one part is of no thread and has that token alone. It rests on
 //! the word of the token, which is 2 while it does, and 0 else.
 ghost use Rattle.std.specs.Prelude.{◌≡◌, ◌<◌, ◌+◌, ◌^◌, ◌++◌, ℕ, List, [], length, IfErr, IfOk, IfSome, None};
 ghost use Rattle.kfifo_live.specs.Schedule.{count_up, hand_of, more_in, resting_view};
@@ -25,9 +25,10 @@ const EMPTY: u64 = 0;
 /// What a word of the pool is while its token rests in it.
 const RESTING: u64 = 2;
 
-/// Adds an empty word to the pool for each of `count` tokens of the thread, the first of them `token`. The thread keeps them.
-// A word is made like a seat that has its token alone. So each token is cut off, stays off while the words of those behind
-// it are made, since only the first one can be cut, and comes back after them.
+/// Adds an empty word to the pool for each of `count` tokens of the thread, the first of them `token`. The thread
+/// keeps them.
+// A word is made like a seat that has its token alone. So each token is cut off, and comes back after the words of
+// those behind it are made, since only the first one can be cut.
 pub(crate) fn extend_pool<T, O: Opened>(
     shared: &Words<T>,
     seat: &mut ThreadSeat<T>,
@@ -111,8 +112,9 @@ fn find_token<T>(
 impl<T: Drop> PayPass<T> {
     /// Lays the token that the pass would use next down in the pool of the queue.
     ///
-    /// True where it did: the pass has that token less. False changes nothing; it comes where the pass has no token, and of a
-    /// queue without a pool. It is no event, and the pass has seen no more than before. It never allocates, waits or locks.
+    /// True where it did: the pass has that token less. False changes nothing; it comes where the pass has no token,
+    /// and of a queue without a pool. It is no event, and the pass has seen no more than before. It never allocates,
+    /// waits or locks.
     pub fn lay_down(&mut self, queue: &PayQueue<T>) -> bool
         requires of { IsOf queue.now self.old.pass }
         ensures lays { LaysDown result self.old self.new }
@@ -132,10 +134,10 @@ impl<T: Drop> PayPass<T> {
 
     /// Picks a token up from the pool of the queue.
     ///
-    /// True where it did: the pass has that token more, and uses it next. False changes nothing; it comes where one look at
-    /// each word found no token that could be taken, and of a queue without a pool. The look begins at the word where
-    /// the pass found a token last, at first at that of its own first token. It is no event, and the pass has seen no more than
-    /// before. It never allocates, waits or locks.
+    /// True where it did: the pass has that token more, and uses it next. False changes nothing; it comes where one
+    /// look at each word found no token that could be taken, and of a queue without a pool. The look begins at the
+    /// word where the pass found a token last, at first at that of its own first token. It is no event, and the pass
+    /// has seen no more than before. It never allocates, waits or locks.
     pub fn pick_up(&mut self, queue: &PayQueue<T>) -> bool
         requires of { IsOf queue.now self.old.pass }
         ensures picks { PicksUp result self.old self.new }
@@ -145,7 +147,7 @@ impl<T: Drop> PayPass<T> {
         let Some((token, resting)) = find_token(shared, pool, self.look_from) else {
             return false;
         };
-        // Tokens come back in about the order in which they go through the queue, so the next one often lies close by.
+        // Tokens come back in about the order in which they go through the queue, so the next one is often close by.
         self.look_from = token as usize - 1;
         add_token::<_, Brand>(shared, &mut self.seat, resting, token);
         // This load tells the proof that the list of tokens has room for one more.

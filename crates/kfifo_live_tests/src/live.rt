@@ -8,6 +8,7 @@ use kfifo_machine::Begin;
 use kfifo_model::{Answer, MAX_ITEM};
 
 mod payloads;
+mod pool;
 pub(crate) mod stamps;
 mod threads;
 
