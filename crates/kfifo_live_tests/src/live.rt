@@ -12,6 +12,7 @@ use std::alloc::Global;
 use std::process::Abort;
 use std::test::Fail;
 
+mod handles;
 mod payloads;
 pub(crate) mod stamps;
 mod threads;
