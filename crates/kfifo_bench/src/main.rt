@@ -1,9 +1,10 @@
 //! Makes many calls of a running queue by one thread, so that their instructions can be counted.
 //!
-//! The arguments are k, 1 to 64; `half`, `empty`, `payloads`, `half-called` or `empty-called`; and the number of turns. The ring
-//! has 1,024 slots. With `half` it is filled half, and each turn makes an enqueue and a dequeue; with `payloads` likewise, in a
-//! queue of payloads of 16 bytes; with `empty` each turn makes a dequeue of an empty queue. The two modes that end in `called` do
-//! the same by functions that are not inlined. It prints how many calls had the answer that is wanted.
+//! The arguments are k, 1 to 64; `half`, `empty` or `payloads`, the first two also with `-called`, all three also with `-handle`; and
+//! the number of turns. The ring has 1,024 slots. With `half` it is filled half, and each turn makes an enqueue and a dequeue; with
+//! `payloads` likewise, in a queue of payloads of 16 bytes; with `empty` each turn makes a dequeue of an empty queue. Starts are random.
+//! The modes that end in `called` do the same by functions that are not inlined, and those that end in `handle` by the calls of a
+//! handle, with its starts. It prints how many calls had the answer that is wanted.
 #![tactic(auto)]
 
 ghost use Rattle.std.specs.Prelude.{◌≡◌, ◌<◌, ◌≤◌, ◌+◌, ◌*◌, ◌++◌};
@@ -13,9 +14,10 @@ ghost use Rattle.kfifo_bench.specs.Calls;
 ghost use Rattle.kfifo_bench.specs.Calls.{calls, items_put, next_state, spread};
 
 mod called;
+mod handles;
 mod payloads;
 
-use kfifo_live::{Pass, PayQueue, Queue};
+use kfifo_live::{Handle, Pass, PayHandle, PayQueue, Queue};
 use kfifo_model::Answer;
 use kfifo_words::{MAX_VERSION, Shape};
 use payloads::{TOKENS, fill as fill_with_payloads, give_and_take};
@@ -119,6 +121,9 @@ enum Mode {
     Payloads,
     HalfCalled,
     EmptyCalled,
+    HalfHandle,
+    EmptyHandle,
+    PayloadsHandle,
 }
 
 /// The mode that an argument names, half full where it names none.
@@ -128,6 +133,9 @@ fn named(word: Option<String>) -> Mode {
         Some(text) if text.as_str() == "payloads" => Mode::Payloads,
         Some(text) if text.as_str() == "half-called" => Mode::HalfCalled,
         Some(text) if text.as_str() == "empty-called" => Mode::EmptyCalled,
+        Some(text) if text.as_str() == "half-handle" => Mode::HalfHandle,
+        Some(text) if text.as_str() == "empty-handle" => Mode::EmptyHandle,
+        Some(text) if text.as_str() == "payloads-handle" => Mode::PayloadsHandle,
         _ => Mode::Half,
     }
 }
@@ -181,6 +189,43 @@ fn count_payloads(alloc: Global, shape: Shape, mut starts: Starts, calls: u32) -
     Some(give_and_take(&queue, &mut pass, &mut starts, calls))
 }
 
+/// The same by the calls of a handle.
+fn count_by_handle(
+    alloc: Global,
+    shape: Shape,
+    mut starts: Starts,
+    is_empty: bool,
+    calls: u32,
+) -> Option<u64>
+    requires { starts.k ≡ shape.k }
+{
+    let (queue, mut passes) = Queue::open(alloc, shape, 1).ok()?;
+    let mut pass = passes.pop()?;
+    if is_empty {
+        let mut handle = Handle::new(&queue, pass);
+        return Some(handles::take_none(&queue, &mut handle, calls));
+    }
+    fill(&queue, &mut pass, &mut starts);
+    let mut handle = Handle::new(&queue, pass);
+    Some(handles::put_and_take(&queue, &mut handle, calls))
+}
+
+/// Makes calls of a queue of payloads by a handle.
+fn count_payloads_by_handle(
+    alloc: Global,
+    shape: Shape,
+    mut starts: Starts,
+    calls: u32,
+) -> Option<u64>
+    requires { starts.k ≡ shape.k }
+{
+    let (queue, mut passes) = PayQueue::open(alloc, shape, 1, TOKENS).ok()?;
+    let mut pass = passes.pop()?;
+    fill_with_payloads(&queue, &mut pass, &mut starts);
+    let mut handle = PayHandle::new(&queue, pass);
+    Some(handles::give_and_take(&queue, &mut handle, calls))
+}
+
 fn main(rt: HostRuntime) -> io::Result<()> {
     let mut args = std::env::args(&rt)?;
     args.next();
@@ -200,6 +245,9 @@ fn main(rt: HostRuntime) -> io::Result<()> {
         Mode::Payloads => count_payloads(rt.alloc(), shape, starts, calls),
         Mode::HalfCalled => count_called(rt.alloc(), shape, starts, false, calls),
         Mode::EmptyCalled => count_called(rt.alloc(), shape, starts, true, calls),
+        Mode::HalfHandle => count_by_handle(rt.alloc(), shape, starts, false, calls),
+        Mode::EmptyHandle => count_by_handle(rt.alloc(), shape, starts, true, calls),
+        Mode::PayloadsHandle => count_payloads_by_handle(rt.alloc(), shape, starts, calls),
     };
     match wanted {
         Some(wanted) => println!(rt; "{wanted}"),

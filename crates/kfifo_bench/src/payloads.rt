@@ -8,8 +8,8 @@ use kfifo_live::{Given, PayPass, PayQueue, Taken};
 /// A payload of 16 bytes.
 #[derive(Clone, Copy, Drop)]
 pub(crate) struct Parcel {
-    number: u64,
-    weight: u64,
+    pub(crate) number: u64,
+    pub(crate) weight: u64,
 }
 
 /// How many tokens the pass has: those of the payloads in the queue, and as many to give with.

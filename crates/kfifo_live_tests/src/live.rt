@@ -7,6 +7,7 @@ use kfifo_live::{Pass, Queue};
 use kfifo_machine::Begin;
 use kfifo_model::{Answer, MAX_ITEM};
 
+mod handles;
 mod payloads;
 mod pool;
 pub(crate) mod stamps;

@@ -1,5 +1,5 @@
 -- The pass is of a thread of the queue.
-use Rattle.std.proofs.Common.{◌≡◌, ◌<◌, ◌∙◌, ap, sym, subst}
+use Rattle.std.proofs.Common.{◌<◌, ◌∙◌, ap, sym, subst}
 use Rattle.kfifo_live.specs.Pass.{OpenQueue}
 use Rattle.kfifo_live.specs.Payloads.{PayKnown}
 use Rattle.kfifo_live.specs.declared.view.Opening.{Opening}
