@@ -122,6 +122,26 @@ fn line_of_call(
     line_by(alloc, queue, &mut passes[place], drops, step)
 }
 
+/// Two passes, of which one has learned what the other one saw: the second, or the first.
+fn met(
+    queue: &PayQueue<Counted>,
+    first: PayPass<Counted>,
+    second: PayPass<Counted>,
+    is_second_first: bool,
+) -> (PayPass<Counted>, PayPass<Counted>)
+    requires first { IsOf queue.now first.pass }
+    requires second { IsOf queue.now second.pass }
+    ensures { IsOf queue.now result.0.pass × IsOf queue.now result.1.pass }
+{
+    let (mut first, mut second) = (first, second);
+    if is_second_first {
+        plain::meet_payloads(queue, &mut second, &mut first);
+    } else {
+        plain::meet_payloads(queue, &mut first, &mut second);
+    }
+    (first, second)
+}
+
 /// The first two passes learn what the other one saw: the second from the first, or the other way round.
 fn meet_two(
     queue: &PayQueue<Counted>,
@@ -131,14 +151,10 @@ fn meet_two(
     requires { All (λ p. IsOf queue.now p.pass) passes.old.items }
     ensures { IfOk result (λ _. All (λ p. IsOf queue.now p.pass) passes.new.items) }
 {
-    let (Some(mut second), Some(mut first)) = (passes.pop(), passes.pop()) else {
+    let (Some(second), Some(first)) = (passes.pop(), passes.pop()) else {
         return Ok(());
     };
-    if is_second_first {
-        plain::meet_payloads(queue, &mut second, &mut first);
-    } else {
-        plain::meet_payloads(queue, &mut first, &mut second);
-    }
+    let (first, second) = met(queue, first, second, is_second_first);
     passes.push(first)?;
     passes.push(second)?;
     Ok(())
