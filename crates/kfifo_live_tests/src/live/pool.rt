@@ -413,10 +413,11 @@ fn work_all<R: Threads + Sync>(
         }
     }
     let mut left = Vec::new(alloc);
-    if let Some(Worker { pass, numbers: _ }) = workers.pop() {
-        for payload in close_payloads(alloc, queue, pass)? {
-            left.push(payload.number)?;
-        }
+    let Some(Worker { pass, numbers: _ }) = workers.pop() else {
+        return Ok((numbers, left));
+    };
+    for payload in close_payloads(alloc, queue, pass)? {
+        left.push(payload.number)?;
     }
     Ok((numbers, left))
 }
