@@ -1,0 +1,61 @@
+"""A queue.Queue, logged: two threads put items in and two take them out, and then the queue is emptied. Prints the log.
+With the argument broken the queue gives an item that nobody put, and with short the logs are too small.
+"""
+import pathlib
+import queue
+import sys
+import threading
+
+sys.path.insert(0, str(pathlib.Path(__file__).resolve().parent.parent))
+import kfifo_log
+
+ITEMS = 1000
+
+
+class BrokenQueue(queue.Queue):
+    """Gives item 100 with one bit too many."""
+
+    def get_nowait(self):
+        item = super().get_nowait()
+        return item + 65536 if item == 100 else item
+
+
+def produce(shared, log, start, first):
+    start.wait()
+    for item in range(first, first + ITEMS):
+        log.enqueue(item, shared.put_nowait)
+
+
+def consume(shared, log, start):
+    start.wait()
+    for _ in range(ITEMS):
+        log.dequeue(shared.get_nowait)
+
+
+def main():
+    mode = sys.argv[1] if len(sys.argv) > 1 else ""
+    shared = BrokenQueue() if mode == "broken" else queue.Queue()
+    # The last log, that of the main thread, has room for all items and the Empty behind them.
+    room = 10 if mode == "short" else 2 * ITEMS + 1
+    logs = [kfifo_log.ThreadLog(thread, room) for thread in range(5)]
+    start = threading.Barrier(4)  # so that the threads run side by side
+    threads = [
+        threading.Thread(target=produce, args=(shared, logs[0], start, 1)),
+        threading.Thread(target=produce, args=(shared, logs[1], start, ITEMS + 1)),
+        threading.Thread(target=consume, args=(shared, logs[2], start)),
+        threading.Thread(target=consume, args=(shared, logs[3], start)),
+    ]
+    for thread in threads:
+        thread.start()
+    for thread in threads:
+        thread.join()
+    while logs[4].dequeue(shared.get_nowait) is not None:
+        pass
+    try:
+        kfifo_log.write(logs, sys.stdout)
+    except kfifo_log.MissedCalls as fault:
+        sys.exit(f"log_python: {fault}")
+
+
+if __name__ == "__main__":
+    main()

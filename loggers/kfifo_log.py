@@ -1,0 +1,132 @@
+"""Logs each call that threads make of your own queue, so that `kfifo` can judge the run. It needs the standard library alone.
+
+How to use it:
+ 1. Copy this file beside your queue, and say `import kfifo_log`.
+ 2. Before the threads start, make a log for each: `logs = [kfifo_log.ThreadLog(t, calls) for t in range(threads)]`, t below 64.
+ 3. Make each call through it: `log.enqueue(item, queue.put_nowait)` and `log.dequeue(queue.get_nowait)`. An enqueue that raises
+    `queue.Full` is logged as full, and a dequeue that raises `queue.Empty` as empty. For other answers call `begin_enqueue(item)` or
+    `begin_dequeue()`, and behind the call `end(answer)`, or `end("got", item)`.
+ 4. Give each item a number of its own, 1 to 16,777,215, as from a counter of each producer that starts where no other gets to.
+ 5. Join the threads, and dequeue, logged too, until the queue is empty: else nobody can see that an item is lost.
+ 6. `kfifo_log.write(logs, sys.stdout)`, and then: `python3 my_test.py > log.csv && kfifo import < log.csv | kfifo judge --k 1`
+
+A log that is full takes no more calls, and `write` refuses it: calls that are missing would make the verdict wrong. `kfifo` takes
+65,536 calls in all. Each log is its thread's alone: there is no lock, and its arrays are made before the run. (The numbers that
+pass through them are objects, which the interpreter makes as it goes.)
+"""
+import array
+import queue
+import time
+
+ANSWERS = ("", "done", "full", "got", "empty", "busy", "worn")
+NUMBERS = {answer: number for number, answer in enumerate(ANSWERS)}
+
+
+class MissedCalls(Exception):
+    """A log was full, so that calls are missing."""
+
+
+class ThreadLog:
+    """The log of one thread, with room for so many calls."""
+
+    def __init__(self, thread, calls):
+        if not 0 <= thread <= 63:
+            raise ValueError("a thread is 0 to 63")
+        self.thread = thread
+        self.missed = 0
+        self._room = calls
+        self._length = 0
+        self._stamp = 0
+        self._enqueues = bytearray(calls)
+        self._answers = bytearray(calls)
+        self._items = array.array("Q", bytes(8 * calls))
+        self._firsts = array.array("Q", bytes(8 * calls))
+        self._lasts = array.array("Q", bytes(8 * calls))
+
+    def _next_stamp(self):
+        """Nanoseconds of time.perf_counter_ns, read until they are past the thread's latest stamp.
+
+        It is the finest of Python's monotonic clocks (on Linux CLOCK_MONOTONIC), one for all threads, and no correction of the time
+        of day sets it back. `kfifo` refuses a call that begins when the one before it ends. To add 1 instead would let the call
+        begin after its true beginning. Python has no fences: the interpreter makes the steps of a thread in their order.
+        """
+        now = time.perf_counter_ns()
+        while now <= self._stamp:
+            now = time.perf_counter_ns()
+        self._stamp = now
+        return now
+
+    def _begin(self, enqueues, item):
+        place = self._length
+        if place == self._room:
+            self.missed += 1
+            return
+        self._enqueues[place] = enqueues
+        self._items[place] = item
+        self._length = place + 1
+        self._firsts[place] = self._next_stamp()
+
+    def begin_enqueue(self, item):
+        """Just before an enqueue of this item."""
+        self._begin(True, item)
+
+    def begin_dequeue(self):
+        """Just before a dequeue."""
+        self._begin(False, 0)
+
+    def end(self, answer, item=None):
+        """Just after the call that was begun last, with its answer: one of ANSWERS, and with the item where it is "got"."""
+        if self.missed:
+            return
+        last = self._next_stamp()
+        place = self._length - 1
+        if answer == "got":
+            self._items[place] = item
+        self._lasts[place] = last
+        self._answers[place] = NUMBERS[answer]
+
+    def enqueue(self, item, put):
+        """Calls put(item), and returns whether it is done. It is full where it raises queue.Full."""
+        self.begin_enqueue(item)
+        try:
+            put(item)
+        except queue.Full:
+            self.end("full")
+            return False
+        self.end("done")
+        return True
+
+    def dequeue(self, get):
+        """Calls get(), and returns the item, or None where it raises queue.Empty."""
+        self.begin_dequeue()
+        try:
+            item = get()
+        except queue.Empty:
+            self.end("empty")
+            return None
+        self.end("got", item)
+        return item
+
+    def lines(self):
+        """The lines of the calls in CSV."""
+        for place in range(self._length):
+            enqueues = self._enqueues[place]
+            answer = ANSWERS[self._answers[place]]
+            op = "enq" if enqueues else "deq"
+            item = self._items[place] if enqueues or answer == "got" else ""
+            last = self._lasts[place] if answer else ""
+            yield f"{self.thread},{op},{item},{self._firsts[place]},{last},{answer}\n"
+
+
+def write(logs, out):
+    """Writes the logs as CSV for `kfifo import`, after their threads have ended. Where calls are missing it raises MissedCalls and
+    writes nothing. A call that never returned, since it raised another exception, has no last time and no answer. `kfifo` takes
+    such a dequeue to have taken nothing, so let dequeues return.
+    """
+    for log in logs:
+        if log.missed:
+            raise MissedCalls(f"the log of thread {log.thread} was full, and {log.missed} calls are missing")
+    out.write("thread,op,item,first,last,answer\n")
+    for log in logs:
+        out.writelines(log.lines())
+    out.flush()
