@@ -61,9 +61,10 @@ fn puts_one_slot_further_each_time(rt: HostRuntime) -> Result<(), Fail> {
     let mut first = Handle::new(&queue, first);
     let mut second = Handle::new(&queue, second);
     assert_eq!(rt; second.pass().thread(), 1);
-    for item in [1u32, 2, 3, 4] {
-        assert_eq!(rt; enqueue(&queue, &mut second, item), Answer::Done);
-    }
+    assert_eq!(rt; enqueue(&queue, &mut second, 1), Answer::Done);
+    assert_eq!(rt; enqueue(&queue, &mut second, 2), Answer::Done);
+    assert_eq!(rt; enqueue(&queue, &mut second, 3), Answer::Done);
+    assert_eq!(rt; enqueue(&queue, &mut second, 4), Answer::Done);
     assert_eq!(rt; dequeue(&queue, &mut first), Answer::Got(2));
     let passes = vec![in rt.alloc(); first.into_pass(), second.into_pass()]?;
     let items = close(rt.alloc(), queue, passes)?;
