@@ -9,13 +9,15 @@
  *          bool done = my_enqueue(queue, item);
  *          kfifo_log_end(&logs[t], done ? KFIFO_LOG_DONE : KFIFO_LOG_FULL, 0);
  *      and kfifo_log_begin_dequeue(&logs[t]) with KFIFO_LOG_GOT and the item, or with KFIFO_LOG_EMPTY and 0.
- *   4. Give each item a number of its own, 1 to 16,777,215, as from a counter of each producer that starts where no other gets to.
+ *   4. Give each item a number of its own, 1 to 16,777,215, as from a counter of each producer that starts where no
+ *      other gets to.
  *   5. Join the threads, and dequeue, logged too, until the queue is empty: else nobody can see that an item is lost.
- *   6. kfifo_log_write(stdout, logs, count), and then:  ./my_test > log.csv && kfifo import < log.csv | kfifo judge --k 1
+ *   6. kfifo_log_write(stdout, logs, count), and then:
+ *          ./my_test > log.csv && kfifo import < log.csv | kfifo judge --k 1
  *
- * A log that is full takes no more calls, and kfifo_log_write refuses it: calls that are missing would make the verdict wrong. A
- * log costs 32 bytes a call; kfifo takes 65,536 calls in all. Each log is its thread's alone: there is no lock, and memory is
- * taken by kfifo_log_open only.
+ * A log that is full takes no more calls, and kfifo_log_write refuses it: calls that are missing would make the
+ * verdict wrong. A log costs 32 bytes a call; kfifo takes 65,536 calls in all. Each log is its thread's alone: there
+ * is no lock, and memory is taken by kfifo_log_open only.
  */
 #ifndef KFIFO_LOG_H
 #define KFIFO_LOG_H
@@ -93,8 +95,8 @@ static inline uint64_t kfifo_log_now_(void) {
     return (uint64_t)now.tv_sec * 1000000000u + (uint64_t)now.tv_nsec;
 }
 
-/* The time, read until it is past the thread's latest stamp: kfifo refuses a call that begins when the one before it ends. To
-   add 1 instead would let the call begin after its true beginning. */
+/* The time, read until it is past the thread's latest stamp: kfifo refuses a call that begins when the one before it
+   ends. To add 1 instead would let the call begin after its true beginning. */
 static inline uint64_t kfifo_log_stamp_(kfifo_log *log) {
     uint64_t now;
     do {
@@ -104,9 +106,9 @@ static inline uint64_t kfifo_log_stamp_(kfifo_log *log) {
     return now;
 }
 
-/* Between a stamp and the call. Compilers move nothing over it, and x86-64 waits for the stores before it. Without it a store
-   of the call could become visible after the call's last stamp, or a load be made before its first one, and a sound queue be
-   found broken. On other processors it orders accesses to memory alone, and the clock may be none. */
+/* Between a stamp and the call. Compilers move nothing over it, and x86-64 waits for the stores before it. Without it
+   a store of the call could become visible after the call's last stamp, or a load be made before its first one, and a
+   sound queue be found broken. On other processors it orders accesses to memory alone, and the clock may be none. */
 static inline void kfifo_log_fence_(void) {
 #ifdef __cplusplus
     std::atomic_thread_fence(std::memory_order_seq_cst);
@@ -129,11 +131,13 @@ static inline void kfifo_log_begin_(kfifo_log *log, bool enqueues, uint64_t item
     kfifo_log_fence_();
 }
 
-/* Makes the log of a thread, with room for so many calls. False where there is no memory or no clock, or the thread is over 63. */
+/* Makes the log of a thread, with room for so many calls. False where there is no memory or no clock, or the thread
+   is over 63. */
 static inline bool kfifo_log_open(kfifo_log *log, unsigned thread, size_t calls) {
     struct timespec now;
     memset(log, 0, sizeof *log);
-    if (thread > 63 || calls > SIZE_MAX / sizeof(kfifo_log_call) || clock_gettime(CLOCK_MONOTONIC, &now) != 0) return false;
+    if (thread > 63 || calls > SIZE_MAX / sizeof(kfifo_log_call)) return false;
+    if (clock_gettime(CLOCK_MONOTONIC, &now) != 0) return false;
     log->calls = (kfifo_log_call *)malloc(calls > 0 ? calls * sizeof(kfifo_log_call) : 1);
     if (log->calls == NULL) return false;
     /* Each page is written now, so that none has to be found while the run goes on. */
@@ -175,8 +179,8 @@ static inline void kfifo_log_write_calls_(FILE *out, const kfifo_log *log) {
     }
 }
 
-/* Writes the logs as CSV for `kfifo import`, after their threads have ended. A call that never returned has no last time and no
-   answer. kfifo takes such a dequeue to have taken nothing, so let dequeues return. */
+/* Writes the logs as CSV for `kfifo import`, after their threads have ended. A call that never returned has no last
+   time and no answer. kfifo takes such a dequeue to have taken nothing, so let dequeues return. */
 static inline kfifo_log_status kfifo_log_write(FILE *out, const kfifo_log *logs, size_t count) {
     for (size_t i = 0; i < count; i++) {
         if (logs[i].missed > 0) return KFIFO_LOG_MISSED_CALLS;

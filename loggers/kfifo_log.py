@@ -1,18 +1,23 @@
-"""Logs each call that threads make of your own queue, so that `kfifo` can judge the run. It needs the standard library alone.
+"""Logs each call that threads make of your own queue, so that `kfifo` can judge the run.
+
+It needs the standard library alone.
 
 How to use it:
  1. Copy this file beside your queue, and say `import kfifo_log`.
- 2. Before the threads start, make a log for each: `logs = [kfifo_log.ThreadLog(t, calls) for t in range(threads)]`, t below 64.
- 3. Make each call through it: `log.enqueue(item, queue.put_nowait)` and `log.dequeue(queue.get_nowait)`. An enqueue that raises
-    `queue.Full` is logged as full, and a dequeue that raises `queue.Empty` as empty. For other answers call `begin_enqueue(item)` or
-    `begin_dequeue()`, and behind the call `end(answer)`, or `end("got", item)`.
- 4. Give each item a number of its own, 1 to 16,777,215, as from a counter of each producer that starts where no other gets to.
+ 2. Before the threads start, make a log for each: `logs = [kfifo_log.ThreadLog(t, calls) for t in range(threads)]`, t
+    below 64.
+ 3. Make each call through it: `log.enqueue(item, queue.put_nowait)` and `log.dequeue(queue.get_nowait)`. An enqueue
+    that raises `queue.Full` is logged as full, and a dequeue that raises `queue.Empty` as empty. For other answers
+    call `begin_enqueue(item)` or `begin_dequeue()`, and behind the call `end(answer)`, or `end("got", item)`.
+ 4. Give each item a number of its own, 1 to 16,777,215, as from a counter of each producer that starts where no other
+    gets to.
  5. Join the threads, and dequeue, logged too, until the queue is empty: else nobody can see that an item is lost.
- 6. `kfifo_log.write(logs, sys.stdout)`, and then: `python3 my_test.py > log.csv && kfifo import < log.csv | kfifo judge --k 1`
+ 6. `kfifo_log.write(logs, sys.stdout)`, and then:
+    `python3 my_test.py > log.csv && kfifo import < log.csv | kfifo judge --k 1`
 
-A log that is full takes no more calls, and `write` refuses it: calls that are missing would make the verdict wrong. `kfifo` takes
-65,536 calls in all. Each log is its thread's alone: there is no lock, and its arrays are made before the run. (The numbers that
-pass through them are objects, which the interpreter makes as it goes.)
+A log that is full takes no more calls, and `write` refuses it: calls that are missing would make the verdict wrong.
+`kfifo` takes 65,536 calls in all. Each log is its thread's alone: there is no lock, and its arrays are made before
+the run. (The numbers that pass through them are objects, which the interpreter makes as it goes.)
 """
 import array
 import queue
@@ -46,9 +51,10 @@ class ThreadLog:
     def _next_stamp(self):
         """Nanoseconds of time.perf_counter_ns, read until they are past the thread's latest stamp.
 
-        It is the finest of Python's monotonic clocks (on Linux CLOCK_MONOTONIC), one for all threads, and no correction of the time
-        of day sets it back. `kfifo` refuses a call that begins when the one before it ends. To add 1 instead would let the call
-        begin after its true beginning. Python has no fences: the interpreter makes the steps of a thread in their order.
+        It is the finest of Python's monotonic clocks (on Linux CLOCK_MONOTONIC), one for all threads, and no
+        correction of the time of day sets it back. `kfifo` refuses a call that begins when the one before it ends. To
+        add 1 instead would let the call begin after its true beginning. Python has no fences: the interpreter makes
+        the steps of a thread in their order.
         """
         now = time.perf_counter_ns()
         while now <= self._stamp:
@@ -75,7 +81,7 @@ class ThreadLog:
         self._begin(False, 0)
 
     def end(self, answer, item=None):
-        """Just after the call that was begun last, with its answer: one of ANSWERS, and with the item where it is "got"."""
+        """Just after the call that was begun last, with its answer, and with the item where that is "got"."""
         if self.missed:
             return
         last = self._next_stamp()
@@ -119,9 +125,9 @@ class ThreadLog:
 
 
 def write(logs, out):
-    """Writes the logs as CSV for `kfifo import`, after their threads have ended. Where calls are missing it raises MissedCalls and
-    writes nothing. A call that never returned, since it raised another exception, has no last time and no answer. `kfifo` takes
-    such a dequeue to have taken nothing, so let dequeues return.
+    """Writes the logs as CSV for `kfifo import`, after their threads have ended. Where calls are missing it raises
+    MissedCalls and writes nothing. A call that never returned, since it raised another exception, has no last time
+    and no answer. `kfifo` takes such a dequeue to have taken nothing, so let dequeues return.
     """
     for log in logs:
         if log.missed:

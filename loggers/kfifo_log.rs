@@ -2,16 +2,20 @@
 //!
 //! How to use it:
 //! 1. Copy this file beside your queue, and say `mod kfifo_log;`.
-//! 2. Before the threads start: `let mut logs = kfifo_log::thread_logs(threads, calls);`, at most 64 threads. Give each thread its own,
-//!    as by `logs.iter_mut()` in a `std::thread::scope`.
-//! 3. Make each call through it: `log.enqueue(item, || queue.push(item))` and `log.dequeue(|| queue.pop())`. A `bool` is taken as done or
-//!    full, an `Option<u32>` as got or empty; for other answers return an `Enqueued` or a `Dequeued`.
-//! 4. Give each item a number of its own, 1 to 16,777,215, as from a counter of each producer that starts where no other gets to.
+//! 2. Before the threads start: `let mut logs = kfifo_log::thread_logs(threads, calls);`, at most 64 threads. Give
+//!    each thread its own, as by `logs.iter_mut()` in a `std::thread::scope`.
+//! 3. Make each call through it: `log.enqueue(item, || queue.push(item))` and `log.dequeue(|| queue.pop())`. A `bool`
+//!    is taken as done or full, an `Option<u32>` as got or empty; for other answers return an `Enqueued` or a
+//!    `Dequeued`.
+//! 4. Give each item a number of its own, 1 to 16,777,215, as from a counter of each producer that starts where no
+//!    other gets to.
 //! 5. Join the threads, and dequeue, logged too, until the queue is empty: else nobody can see that an item is lost.
-//! 6. `kfifo_log::write(&logs, std::io::stdout())?`, and then: `my_test > log.csv && kfifo import < log.csv | kfifo judge --k 1`
+//! 6. `kfifo_log::write(&logs, std::io::stdout())?`, and then:
+//!    `my_test > log.csv && kfifo import < log.csv | kfifo judge --k 1`
 //!
-//! A log that is full takes no more calls, and `write` refuses it: calls that are missing would make the verdict wrong. `kfifo` takes
-//! 65,536 calls in all. Each log is its thread's alone: there is no lock, and memory is taken by `thread_logs` only.
+//! A log that is full takes no more calls, and `write` refuses it: calls that are missing would make the verdict
+//! wrong. `kfifo` takes 65,536 calls in all. Each log is its thread's alone: there is no lock, and memory is taken by
+//! `thread_logs` only.
 
 #![allow(dead_code)] // a queue need not have every answer
 
@@ -107,10 +111,11 @@ impl ThreadLog {
         }
     }
 
-    /// Nanoseconds of `Instant`, read until they are past the thread's latest stamp. It is a monotonic clock, one for all threads
-    /// (on Linux CLOCK_MONOTONIC), and no correction of the time of day sets it back.
+    /// Nanoseconds of `Instant`, read until they are past the thread's latest stamp. It is a monotonic clock, one for
+    /// all threads (on Linux CLOCK_MONOTONIC), and no correction of the time of day sets it back.
     ///
-    /// `kfifo` refuses a call that begins when the one before it ends. To add 1 instead would let the call begin after its true beginning.
+    /// `kfifo` refuses a call that begins when the one before it ends. To add 1 instead would let the call begin
+    /// after its true beginning.
     fn next_stamp(&mut self) -> u64 {
         loop {
             let now = self.origin.elapsed().as_nanos() as u64;
@@ -129,9 +134,10 @@ impl ThreadLog {
         }
         let first = self.next_stamp();
         self.calls.push((first, call));
-        // The compiler moves nothing over a fence, and x86-64 waits for the stores before it, that of the stamp among them. Without the
-        // fences a load of the call could be made before its first stamp, or a store become visible after its last one, and a sound
-        // queue be found broken. On other processors a fence orders accesses to memory alone, and the clock may be none.
+        // The compiler moves nothing over a fence, and x86-64 waits for the stores before it, that of the stamp among
+        // them. Without the fences a load of the call could be made before its first stamp, or a store become visible
+        // after its last one, and a sound queue be found broken. On other processors a fence orders accesses to
+        // memory alone, and the clock may be none.
         fence(Ordering::SeqCst);
         true
     }
@@ -192,8 +198,8 @@ fn fields(first: u64, call: Call) -> String {
     }
 }
 
-/// Writes the logs as CSV for `kfifo import`. A call that never returned, since it panicked, has no last time and no answer. `kfifo`
-/// takes such a dequeue to have taken nothing, so let dequeues return.
+/// Writes the logs as CSV for `kfifo import`. A call that never returned, since it panicked, has no last time and no
+/// answer. `kfifo` takes such a dequeue to have taken nothing, so let dequeues return.
 ///
 /// # Errors
 ///

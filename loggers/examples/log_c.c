@@ -1,5 +1,6 @@
-/* A ring behind a mutex, logged: two threads put items in and two take them out, and then the queue is emptied. Prints the log.
-   With the argument broken the newest item is taken in place of the oldest one, and with short the logs are too small. */
+/* A ring behind a mutex, logged: two threads put items in and two take them out, and then the queue is emptied.
+   Prints the log. With the argument broken the newest item is taken in place of the oldest one, and with short the
+   logs are too small. */
 #include "../kfifo_log.h"
 #include <pthread.h>
 

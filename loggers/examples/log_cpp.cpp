@@ -1,5 +1,5 @@
-// A std::deque behind a mutex, logged: two threads put items in and two take them out, and then the queue is emptied. Prints the log.
-// With the argument broken the queue loses an item, and with short the logs are too small.
+// A std::deque behind a mutex, logged: two threads put items in and two take them out, and then the queue is emptied.
+// Prints the log. With the argument broken the queue loses an item, and with short the logs are too small.
 #include "../kfifo_log.h"
 #include <cstdint>
 #include <deque>

@@ -1,5 +1,6 @@
-//! A `VecDeque` behind a mutex, logged: two threads put items in and two take them out, and then the queue is emptied. Prints the log.
-//! With the argument `broken` the queue gives one item twice, and with `short` the logs are too small.
+//! A `VecDeque` behind a mutex, logged: two threads put items in and two take them out, and then the queue is
+//! emptied. Prints the log. With the argument `broken` the queue gives one item twice, and with `short` the logs are
+//! too small.
 
 #[path = "../kfifo_log.rs"]
 mod kfifo_log;
