@@ -2,7 +2,7 @@
 ghost use Rattle.std.specs.Prelude.{◌≡◌, ◌<◌, IfOk, All};
 ghost use Rattle.kfifo_live.specs.Pass.{IsOf, IsSame};
 
-use crate::plain::{close_payloads, give, open_payloads_two, take};
+use crate::plain::{close_payloads, give, take};
 use kfifo_live::{Given, MAX_TOKENS, OpenFault, PayPass, PayQueue, Taken};
 use kfifo_words::{MAX_VERSION, Shape};
 use std::alloc::{AllocError, Global};
@@ -33,6 +33,21 @@ fn open_pool_two<T: Drop>(
     ensures { IfOk result (λ r. (r.0.opened.shape ≡ shape) × IsOf r.0 r.1.pass × IsOf r.0 r.2.pass) }
 {
     let (queue, mut passes) = PayQueue::open_with_pool(alloc, shape, 2, tokens)?;
+    let (Some(second), Some(first)) = (passes.pop(), passes.pop()) else {
+        unreachable!()
+    };
+    Ok((queue, first, second))
+}
+
+/// A queue without a pool for two threads, with the pass of each.
+fn open_without_pool<T: Drop>(
+    alloc: Global,
+    shape: Shape,
+    tokens: u32,
+) -> Result<(PayQueue<T>, PayPass<T>, PayPass<T>), OpenFault>
+    ensures { IfOk result (λ r. (r.0.opened.shape ≡ shape) × IsOf r.0 r.1.pass × IsOf r.0 r.2.pass) }
+{
+    let (queue, mut passes) = PayQueue::open(alloc, shape, 2, tokens)?;
     let (Some(second), Some(first)) = (passes.pop(), passes.pop()) else {
         unreachable!()
     };
@@ -137,7 +152,7 @@ fn looks_round_to_the_first_word(rt: HostRuntime) -> Result<(), Fail> {
 #[test]
 fn nothing_rests_without_a_pool(rt: HostRuntime) -> Result<(), Fail> {
     let shape = Shape::new(1, 2, MAX_VERSION)?;
-    let (queue, mut first, mut second) = open_payloads_two(rt.alloc(), shape, 2)?;
+    let (queue, mut first, mut second) = open_without_pool(rt.alloc(), shape, 2)?;
     let moves = [(Move::Down, false, 2), (Move::Up, false, 2)];
     check_moves(&rt, &queue, &mut first, &moves);
     check_moves(&rt, &queue, &mut second, &moves);
