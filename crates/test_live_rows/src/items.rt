@@ -1,5 +1,5 @@
 //! Rows of a queue of items, each call made beside the same call of the machine.
-ghost use Rattle.std.specs.Prelude.{IfOk, All};
+ghost use Rattle.std.specs.Prelude.{IfOk, All, IfSome};
 ghost use Rattle.kfifo_live.specs.Pass.{IsOf, IsSame};
 
 use crate::begin::{call_of, has, place_of, shape_text, size, word_of};
@@ -125,12 +125,34 @@ fn line_by(
     }
 }
 
+/// Takes the last pass out of the list.
+fn take_last(queue: &Queue, passes: &mut Vec<Pass>) -> Option<Pass>
+    requires { All (IsOf queue.now) passes.old.items }
+    ensures rest { All (IsOf queue.now) passes.new.items }
+    ensures last { IfSome result (IsOf queue.now) }
+{
+    let _of = queue;
+    passes.pop()
+}
+
+/// Puts a pass behind the others of the list.
+fn put_back(queue: &Queue, passes: &mut Vec<Pass>, pass: Pass) -> Result<(), AllocError>
+    requires others { All (IsOf queue.now) passes.old.items }
+    requires pass { IsOf queue.now pass }
+    ensures { IfOk result (λ _. All (IsOf queue.now) passes.new.items) }
+{
+    let _of = queue;
+    passes.push(pass)?;
+    Ok(())
+}
+
 /// The first two passes learn what the other one saw: the second from the first, or the other way round.
 fn meet_two(queue: &Queue, passes: &mut Vec<Pass>, is_second_first: bool) -> Result<(), AllocError>
     requires { All (IsOf queue.now) passes.old.items }
     ensures { IfOk result (λ _. All (IsOf queue.now) passes.new.items) }
 {
-    let (Some(mut second), Some(mut first)) = (passes.pop(), passes.pop()) else {
+    let (Some(mut second), Some(mut first)) = (take_last(queue, passes), take_last(queue, passes))
+    else {
         return Ok(());
     };
     if is_second_first {
@@ -138,9 +160,8 @@ fn meet_two(queue: &Queue, passes: &mut Vec<Pass>, is_second_first: bool) -> Res
     } else {
         plain::meet(queue, &mut first, &mut second);
     }
-    passes.push(first)?;
-    passes.push(second)?;
-    Ok(())
+    put_back(queue, passes, first)?;
+    put_back(queue, passes, second)
 }
 
 /// The line of a step by the pass that it names.

@@ -1,5 +1,5 @@
 //! Rows of a queue of payloads, which count their drops.
-ghost use Rattle.std.specs.Prelude.{IfOk, All};
+ghost use Rattle.std.specs.Prelude.{IfOk, All, IfSome};
 ghost use Rattle.kfifo_live.specs.Pass.{IsOf, IsSame};
 
 use crate::begin::{call_of, place_of, shape_text, size, word_of};
@@ -142,6 +142,34 @@ fn met(
     (first, second)
 }
 
+/// Takes the last pass out of the list.
+fn take_last(
+    queue: &PayQueue<Counted>,
+    passes: &mut Vec<PayPass<Counted>>,
+) -> Option<PayPass<Counted>>
+    requires { All (λ p. IsOf queue.now p.pass) passes.old.items }
+    ensures rest { All (λ p. IsOf queue.now p.pass) passes.new.items }
+    ensures last { IfSome result (λ p. IsOf queue.now p.pass) }
+{
+    let _of = queue;
+    passes.pop()
+}
+
+/// Puts a pass behind the others of the list.
+fn put_back(
+    queue: &PayQueue<Counted>,
+    passes: &mut Vec<PayPass<Counted>>,
+    pass: PayPass<Counted>,
+) -> Result<(), AllocError>
+    requires others { All (λ p. IsOf queue.now p.pass) passes.old.items }
+    requires pass { IsOf queue.now pass.pass }
+    ensures { IfOk result (λ _. All (λ p. IsOf queue.now p.pass) passes.new.items) }
+{
+    let _of = queue;
+    passes.push(pass)?;
+    Ok(())
+}
+
 /// The first two passes learn what the other one saw: the second from the first, or the other way round.
 fn meet_two(
     queue: &PayQueue<Counted>,
@@ -151,13 +179,12 @@ fn meet_two(
     requires { All (λ p. IsOf queue.now p.pass) passes.old.items }
     ensures { IfOk result (λ _. All (λ p. IsOf queue.now p.pass) passes.new.items) }
 {
-    let (Some(second), Some(first)) = (passes.pop(), passes.pop()) else {
+    let (Some(second), Some(first)) = (take_last(queue, passes), take_last(queue, passes)) else {
         return Ok(());
     };
     let (first, second) = met(queue, first, second, is_second_first);
-    passes.push(first)?;
-    passes.push(second)?;
-    Ok(())
+    put_back(queue, passes, first)?;
+    put_back(queue, passes, second)
 }
 
 /// How many payloads were dropped.
