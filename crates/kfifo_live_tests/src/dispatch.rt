@@ -208,14 +208,14 @@ fn tasks_go_round(rt: HostRuntime) -> Result<(), Fail> {
 fn first_filled(is_there: &[bool; 4], start: u32) -> usize
     ensures { result < 4 }
 {
-    let mut slot = start as usize % 4;
+    let mut slot = start as usize;
     for _look in 0..4u32 {
-        if is_there[slot] {
+        if is_there[slot % 4] {
             break;
         }
-        slot = (slot + 1) % 4;
+        slot = slot.wrapping_add(1);
     }
-    slot
+    slot % 4
 }
 
 /// The order in which one worker takes four tasks from a segment of four slots, by the starts of a seed, as digits of a number.

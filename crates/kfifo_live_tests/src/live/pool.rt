@@ -1,5 +1,5 @@
 //! Tokens that come back.
-ghost use Rattle.std.specs.Prelude.{◌≡◌, ◌<◌, IfOk, All};
+ghost use Rattle.std.specs.Prelude.{◌≡◌, ◌<◌, IfOk, IfSome, All};
 ghost use Rattle.kfifo_live.specs.Pass.{IsOf, IsSame};
 
 use crate::plain::{close_payloads, give, take};
@@ -19,7 +19,7 @@ fn open_pool<T: Drop>(
     threads: u32,
     tokens: u32,
 ) -> Result<(PayQueue<T>, Vec<PayPass<T>>), OpenFault>
-    ensures { IfOk result (λ r. (r.0.opened.shape ≡ shape) × All (λ p. IsOf r.0 p.pass) r.1.items) }
+    ensures { IfOk result (λ r. All (λ p. IsOf r.0 p.pass) r.1.items) }
 {
     PayQueue::open_with_pool(alloc, shape, threads, tokens)
 }
@@ -405,7 +405,59 @@ fn work(
     Worker { pass, numbers }
 }
 
-/// The numbers of all payloads that were taken or could not be given, and of those that were left.
+/// The numbers of all payloads that were taken or could not be given.
+fn numbers_of(alloc: Global, workers: &[Worker]) -> Result<Vec<u64>, Fail> {
+    let mut numbers = Vec::new(alloc);
+    for worker in workers {
+        match &worker.numbers {
+            Ok(own) => numbers.extend_from_slice(own.as_slice())?,
+            Err(fault) => return Err((*fault).into()),
+        }
+    }
+    Ok(numbers)
+}
+
+/// The numbers of the payloads that are left in a queue.
+fn left_in(
+    alloc: Global,
+    queue: PayQueue<Counted>,
+    pass: PayPass<Counted>,
+) -> Result<Vec<u64>, Fail>
+    requires { IsOf queue pass.pass }
+{
+    let mut left = Vec::new(alloc);
+    for payload in close_payloads(alloc, queue, pass)? {
+        left.push(payload.number)?;
+    }
+    Ok(left)
+}
+
+/// The pass of the last worker.
+fn last_pass(queue: &PayQueue<Counted>, workers: &mut Vec<Worker>) -> Option<PayPass<Counted>>
+    requires { All (λ worker. IsOf queue.now worker.pass.pass) workers.old.items }
+    ensures { IfSome result (λ pass. IsOf queue.now pass.pass) }
+{
+    let _of = queue;
+    let Worker { pass, numbers: _ } = workers.pop()?;
+    Some(pass)
+}
+
+/// The numbers of all payloads that were taken or could not be given, and of those that are left.
+fn finish(
+    alloc: Global,
+    queue: PayQueue<Counted>,
+    mut workers: Vec<Worker>,
+) -> Result<(Vec<u64>, Vec<u64>), Fail>
+    requires { All (λ worker. IsOf queue worker.pass.pass) workers.items }
+{
+    let numbers = numbers_of(alloc, workers.as_slice())?;
+    let Some(pass) = last_pass(&queue, &mut workers) else {
+        return Ok((numbers, Vec::new(alloc)));
+    };
+    Ok((numbers, left_in(alloc, queue, pass)?))
+}
+
+/// What so many threads that give, so many payloads each, and as many that take come to.
 fn work_all<R: Threads + Sync>(
     rt: &R,
     alloc: Global,
@@ -415,26 +467,12 @@ fn work_all<R: Threads + Sync>(
     drops: &Arc<AtomicU64>,
 ) -> Result<(Vec<u64>, Vec<u64>), Fail> {
     let (queue, passes) = open_pool(alloc, shape, givers.saturating_mul(2), TOKENS)?;
-    let mut workers = map_vec(
+    let workers = map_vec(
         rt,
         passes,
         &|pass| work(alloc, &queue, pass, drops, givers, payloads),
     )?;
-    let mut numbers = Vec::new(alloc);
-    for worker in workers.iter() {
-        match &worker.numbers {
-            Ok(own) => numbers.extend_from_slice(own.as_slice())?,
-            Err(fault) => return Err((*fault).into()),
-        }
-    }
-    let mut left = Vec::new(alloc);
-    let Some(Worker { pass, numbers: _ }) = workers.pop() else {
-        return Ok((numbers, left));
-    };
-    for payload in close_payloads(alloc, queue, pass)? {
-        left.push(payload.number)?;
-    }
-    Ok((numbers, left))
+    finish(alloc, queue, workers)
 }
 
 /// Nothing is lost and nothing comes twice where so many threads only give, so many payloads each, and as many only
