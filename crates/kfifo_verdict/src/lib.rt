@@ -2,10 +2,14 @@
 #![tactic(auto)]
 
 mod deeds;
+mod facts;
 mod finding;
 mod judging;
-mod pairing;
+mod picks;
 mod presences;
+mod rings;
+mod seen;
+mod state;
 mod tallies;
 mod turns;
 mod verdicts;
