@@ -25,13 +25,13 @@ legal_text k show h order = worst_lines (greatest (ranks_of k h order)) ++ shown
 abbrev pub judgement_text : ℕ → Bool → List Call → Judgement → List ℕ
 judgement_text k show h (Legal order) = legal_text k show h order.items
 judgement_text k show h (NoOrder found) = no_order_text h found
-judgement_text k show h Undecided = line (codes "undecided")
+judgement_text k show h (Undecided stuck) = line (codes "undecided")
 
 -- 3 where no order is legal, 4 where nothing is said
 abbrev pub judgement_status : Judgement → ℕ
 judgement_status (Legal order) = 0
 judgement_status (NoOrder found) = 3
-judgement_status Undecided = 4
+judgement_status (Undecided stuck) = 4
 
 -- The text and the status that answer a history: what is to be said of a verdict on it, the order shown or not.
 pub record IsJudgeAnswer (k : ℕ) (show : Bool) (h : List Call) (text : List ℕ) (status : ℕ) : Type 0 where

@@ -74,7 +74,7 @@ fn status_of(judgement: &Judgement) -> u8
     match judgement {
         Judgement::Legal(_) => 0,
         Judgement::NoOrder(_) => 3,
-        Judgement::Undecided => 4,
+        Judgement::Undecided(_) => 4,
     }
 }
 
@@ -94,7 +94,7 @@ fn answer(
     match &judgement {
         Judgement::Legal(order) => push_legal(alloc, &mut text, history, k, order, show)?,
         Judgement::NoOrder(found) => push_no_order(&mut text, history, found)?,
-        Judgement::Undecided => text.push_str("undecided\n")?,
+        Judgement::Undecided(_) => text.push_str("undecided\n")?,
     }
     Ok((text, status_of(&judgement)))
 }

@@ -91,6 +91,8 @@ struct Counts {
     undecided: u64,
     /// Of the undecided those whose items are single and whose calls are finished.
     plain: u64,
+    /// Of the undecided those that have a legal order.
+    missed: u64,
     wrong: u64,
 }
 
@@ -106,10 +108,13 @@ fn count(counts: Counts, judgement: &Judgement, plain: bool, has: bool) -> Count
             more.no_order = more.no_order.wrapping_add(1);
             has
         }
-        Judgement::Undecided => {
+        Judgement::Undecided(_) => {
             more.undecided = more.undecided.wrapping_add(1);
             if plain {
                 more.plain = more.plain.wrapping_add(1);
+            }
+            if has {
+                more.missed = more.missed.wrapping_add(1);
             }
             false
         }
@@ -136,6 +141,7 @@ fn judged(
         no_order: 0,
         undecided: 0,
         plain: 0,
+        missed: 0,
         wrong: 0,
     };
     let mut code = from;
@@ -333,7 +339,9 @@ fn three_calls(rt: HostRuntime) -> Result<(), Fail> {
     eprintln!(rt; "{plain:?} {relaxed:?}")?;
     assert_eq!(rt; plain.wrong, 0);
     assert_eq!(rt; plain.plain, 0);
+    assert_eq!(rt; plain.missed, 0);
     assert_eq!(rt; relaxed.wrong, 0);
+    assert_eq!(rt; relaxed.missed, 0);
     Ok(())
 }
 
@@ -343,6 +351,7 @@ fn four_calls(rt: HostRuntime) -> Result<(), Fail> {
     eprintln!(rt; "{plain:?}")?;
     assert_eq!(rt; plain.wrong, 0);
     assert_eq!(rt; plain.plain, 0);
+    assert_eq!(rt; plain.missed, 0);
     Ok(())
 }
 
@@ -352,7 +361,9 @@ fn five_to_eight_calls(rt: HostRuntime) -> Result<(), Fail> {
     let eight = judged(rt.alloc(), 8, 1, 1_000_003, 20_000, 2)?;
     eprintln!(rt; "{five:?} {eight:?}")?;
     assert_eq!(rt; five.wrong, 0);
+    assert_eq!(rt; five.missed, 0);
     assert_eq!(rt; eight.wrong, 0);
+    assert_eq!(rt; eight.missed, 0);
     Ok(())
 }
 

@@ -2,10 +2,14 @@
 #![tactic(auto)]
 
 mod deeds;
+mod facts;
 mod finding;
 mod judging;
-mod pairing;
+mod picks;
 mod presences;
+mod rings;
+mod seen;
+mod state;
 mod tallies;
 mod turns;
 mod verdicts;
@@ -13,5 +17,5 @@ mod walking;
 
 pub use finding::evidence;
 pub use judging::{judge, least_k};
-pub use verdicts::{Bounds, Evidence, Judgement};
+pub use verdicts::{Bounds, Evidence, Judgement, Stuck};
 pub use walking::witness;

@@ -1,51 +1,48 @@
 //! The search for a legal order.
 //!
-//! It walks through the finished calls by rising last step. Of the calls that have begun, those that can go at no cost
-//! go at once: a dequeue whose item is among the k oldest, an Empty where no item is there, and a call that changes
-//! nothing. A put goes only where it is due, or the call that gets its item; puts whose items are got before that item is
-//! called for go first. Where a due call cannot go, the last such choice is undone and another put goes first.
+//! It walks through the finished calls by rising last step, and lets each go when it is due, or when another needs it to.
+//! Which of two overlapping puts comes first is left open until a get needs to know. Of all puts of its item a due get
+//! takes one that has begun. Puts that precede that one have to stand before it: their items come to the *front*, where
+//! fewer than k have room. Where there is no room, the item of a waiting get leaves the front. An Empty needs an empty
+//! front, and that no put has ended whose item is there.
+//!
+//! So few choices are left: which put of an item that was put more than once, which item leaves the front, and when an
+//! Empty goes. Where a due call cannot go, the last of them is changed. A state in which the walk has been before is not
+//! gone through again, since from there on it would only fail once more.
 ghost use Rattle.std.specs.Prelude.{◌≤◌, IfOk, IfSome};
 ghost use Rattle.kfifo_model.specs.Histories.{IsLegal};
 
-use crate::deeds::{Deed, deed_of};
-use crate::pairing::{Plan, first_step, last_step};
+use crate::deeds::Deed;
+use crate::facts::Facts;
+use crate::picks::{Picks, next_pick};
+use crate::seen::Seen;
+use crate::state::{Mark, State};
+use crate::verdicts::Stuck;
 use kfifo_model::{Call, History, Verdict, check_order};
 use std::alloc::{AllocError, Global};
-use std::collections::VecDeque;
 
-/// How many items are looked at to see how many are got late.
-const MOST_LOOKED_AT: usize = 1_024;
-
-/// How urgent it is that a put goes, where another is to go: the less the more urgent, by the first field that differs.
-#[derive(Clone, Copy)]
-struct Urgency {
-    /// 0 where it has to go first, 1 for the other put itself, 2 where its item is got first, 3 where it may be.
-    class: u32,
-    /// The last step of the call that gets its item.
-    got: u64,
-    /// The put.
-    put: usize,
-}
-
-/// A put that was chosen where others could have gone.
+/// A choice that can still be changed.
 #[derive(Clone, Copy)]
 struct Choice {
-    /// How many calls went before it.
-    placed: usize,
-    /// Where the walk was.
-    at: usize,
-    /// How many calls had begun.
-    begun: usize,
-    /// The put that was to go.
-    wanted: usize,
-    /// The put that was chosen.
-    chosen: Urgency,
+    /// Where it was made.
+    mark: Mark,
+    /// The next of the ways to go on from there.
+    next: usize,
+}
+
+/// What became of a way to go on.
+#[derive(Clone, Copy)]
+struct Outcome {
+    /// Whether the due call went, or may stay.
+    went: bool,
+    /// The next way, if there is one.
+    next: Option<usize>,
 }
 
 /// What became of a step of the walk.
 #[derive(Clone, Copy)]
 enum Step {
-    /// All finished calls stand in the order.
+    /// All finished calls went.
     Finished,
     /// The walk came on.
     Went,
@@ -53,372 +50,383 @@ enum Step {
     Stuck,
 }
 
-/// A beginning of an order, and how it came about.
+/// A waiting get, and the place of its item at the front.
+#[derive(Clone, Copy)]
+struct Exit {
+    /// The get.
+    get: usize,
+    /// The last step of the get.
+    last: u64,
+    /// The place.
+    place: usize,
+}
+
+/// The search for an order.
 #[derive(Drop)]
 struct Walk {
-    /// The calls that went, in turn.
-    order: Vec<usize>,
-    /// For each of them the place of the item that it took, or 0.
-    places: Vec<usize>,
-    /// Which calls went.
-    gone: Vec<bool>,
-    /// The items that are there, by the calls that put them, the oldest first.
-    items: VecDeque<usize>,
-    /// How many calls have begun.
-    begun: usize,
-    /// Those of them that may go and did not: at most one of each thread.
-    waiting: Vec<usize>,
-    /// How many finished calls the walk has passed.
-    at: usize,
-    /// The choices that can still be undone.
+    /// What is known of the calls.
+    facts: Facts,
+    /// How many of the oldest items may be got.
+    k: usize,
+    /// How far it is.
+    state: State,
+    /// The choices that can still be changed.
     choices: Vec<Choice>,
+    /// The states of earlier choices.
+    seen: Seen,
+}
+
+/// The exit whose get ends first, or last.
+fn better(exit: Exit, best: Option<Exit>, latest: bool) -> Exit {
+    match best {
+        Some(best) if (exit.last < best.last) == latest => best,
+        _ => exit,
+    }
 }
 
 impl Walk {
-    /// No call yet.
-    fn new(alloc: Global, count: usize) -> Result<Walk, AllocError> {
+    /// No call went yet.
+    fn new(alloc: Global, calls: &[Call], k: usize) -> Result<Walk, AllocError> {
+        let facts = Facts::of(alloc, calls)?;
+        let state = State::new(alloc, &facts)?;
         Ok(Walk {
-            order: Vec::new(alloc),
-            places: Vec::new(alloc),
-            gone: vec![in alloc; false; count]?,
-            items: VecDeque::new(alloc),
-            begun: 0,
-            waiting: Vec::new(alloc),
-            at: 0,
+            facts,
+            k,
+            state,
             choices: Vec::new(alloc),
+            seen: Seen::new(alloc, calls.len())?,
         })
     }
 
     /// The order.
-    fn into_order(self) -> Vec<usize> {
-        let Walk { order, .. } = self;
-        order
+    fn into_order(self, alloc: Global) -> Result<Vec<usize>, AllocError> {
+        let Walk { facts, state, .. } = self;
+        state.into_order(alloc, &facts)
     }
 
-    /// Whether the call went.
-    fn is_gone(&self, n: usize) -> bool {
-        self.gone.get(n).copied().unwrap_or(true)
-    }
-
-    /// Notes whether the call went.
-    fn mark(&mut self, n: usize, gone: bool) {
-        if n < self.gone.len() {
-            self.gone[n] = gone;
-        }
-    }
-
-    /// The call goes next, and takes the item at this place, if it takes one.
-    fn note(&mut self, n: usize, place: usize) -> Result<(), AllocError> {
-        self.order.push(n)?;
-        self.places.push(place)?;
-        self.mark(n, true);
-        Ok(())
-    }
-
-    /// The calls begin that do so up to this step.
-    fn begin(&mut self, calls: &[Call], plan: &Plan, step: u64) -> Result<(), AllocError> {
-        for n in self.begun..calls.len() {
-            if step < calls[n].first {
-                return Ok(());
-            }
-            if plan.may_go(n) {
-                self.waiting.push(n)?;
-            }
-            self.begun = n + 1;
-        }
-        Ok(())
-    }
-
-    /// The waiting dequeues go whose items are among the k oldest.
-    fn take(&mut self, plan: &Plan, k: usize) -> Result<(), AllocError> {
-        let mut place = 0;
-        for _ in 0..self.items.len() {
-            if place >= k || place >= self.items.len() {
-                return Ok(());
-            }
-            let get = plan.partner(self.items[place]);
-            if get < self.begun && !self.is_gone(get) {
-                self.items.remove(place);
-                self.note(get, place)?;
-            } else {
-                place += 1;
-            }
-        }
-        Ok(())
-    }
-
-    /// Whether a waiting call can go and changes nothing.
-    fn is_idle(&self, calls: &[Call], n: usize) -> bool {
-        if n >= calls.len() || self.is_gone(n) {
-            return false;
-        }
-        match deed_of(&calls[n]) {
-            Deed::Nothing => true,
-            Deed::FoundNone => self.items.is_empty(),
-            Deed::PutIn(_) | Deed::TookOut(_) => false,
-        }
-    }
-
-    /// The waiting calls go that change nothing where the items are as they are.
-    fn pass(&mut self, calls: &[Call]) -> Result<(), AllocError> {
-        for i in 0..self.waiting.len() {
-            if i < self.waiting.len() {
-                let n = self.waiting[i];
-                if self.is_idle(calls, n) {
-                    self.note(n, 0)?;
-                }
-            }
-        }
-        Ok(())
-    }
-
-    /// All waiting calls go that can at no cost.
-    fn settle(&mut self, calls: &[Call], plan: &Plan, k: usize) -> Result<(), AllocError> {
-        self.take(plan, k)?;
-        self.pass(calls)?;
-        let gone = &self.gone;
-        self.waiting
-            .retain(|n| !gone.get(*n).copied().unwrap_or(true));
-        Ok(())
-    }
-
-    /// How many of the youngest items are got by no call that begins up to this step: k, if they are more, and of the items
-    /// before the last `MOST_LOOKED_AT` none.
-    fn count_late(&self, calls: &[Call], plan: &Plan, k: usize, step: u64) -> usize {
-        let mut late = 0;
-        let count = self.items.len();
-        for place in count.saturating_sub(MOST_LOOKED_AT)..count {
-            if late >= k || place >= self.items.len() {
-                return late;
-            }
-            if step < first_step(calls, plan.partner(self.items[place])) {
-                late += 1;
-            }
-        }
-        late
-    }
-
-    /// How urgent it is that a waiting put goes where put `wanted` is to go, or none where it had better go later.
-    fn urgency_of(
-        &self,
-        calls: &[Call],
-        plan: &Plan,
-        k: usize,
-        wanted: usize,
-        n: usize,
-    ) -> Option<Urgency> {
-        if n >= calls.len() {
-            return None;
-        }
-        let Deed::PutIn(_) = deed_of(&calls[n]) else {
-            return None;
-        };
-        let got = plan.partner(n);
-        let rest = plan.partner(wanted);
-        let last = last_step(calls, got);
-        let class = if n == wanted {
-            1
-        } else if got >= calls.len() || last_step(calls, rest) < calls[got].first {
-            return None;
-        } else if last >= first_step(calls, rest) {
-            3
-        } else if k <= self.count_late(calls, plan, k, last).saturating_add(1) {
-            0
-        } else {
-            2
-        };
-        Some(Urgency {
-            class,
-            got: last,
-            put: n,
-        })
-    }
-
-    /// The most urgent waiting put that is less urgent than another, where put `wanted` is to go, and whether others wait.
-    fn most_urgent(
-        &self,
-        calls: &[Call],
-        plan: &Plan,
-        k: usize,
-        wanted: usize,
-        below: Option<Urgency>,
-    ) -> Option<(Urgency, bool)> {
-        let mut best: Option<Urgency> = None;
+    /// The get of an item at the front that waits, other than this call: the one that ends first, or last; and whether
+    /// there are others.
+    fn exit(&self, but: usize, latest: bool) -> (Option<Exit>, bool) {
+        let mut best: Option<Exit> = None;
         let mut others = false;
-        for n in &self.waiting {
-            if let Some(urgency) = self.urgency_of(calls, plan, k, wanted, *n) {
-                if is_less_urgent(urgency, below) {
-                    others = best.is_some();
-                    best = Some(more_urgent(urgency, best));
-                }
+        for (place, put) in self.state.front.iter().enumerate() {
+            let item = self.facts.at(*put).item;
+            if let Some(get) = self.state.get_that_waits(&self.facts, item, but) {
+                let last = self.facts.at(get).last;
+                others = best.is_some();
+                best = Some(better(Exit { get, last, place }, best, latest));
             }
         }
-        match best {
-            Some(urgency) => Some((urgency, others)),
-            None => None,
-        }
+        (best, others)
     }
 
-    /// A waiting put goes, so that put `wanted` can, and the choice is kept where another could go instead.
-    fn choose(
-        &mut self,
-        calls: &[Call],
-        plan: &Plan,
-        k: usize,
-        wanted: usize,
-        below: Option<Urgency>,
-    ) -> Result<Step, AllocError> {
-        let Some((chosen, others)) = self.most_urgent(calls, plan, k, wanted, below) else {
-            return Ok(Step::Stuck);
-        };
+    /// An item leaves the front, if any can, so that get `but` has room. The one whose get ends first goes, since it has
+    /// to go first anyhow; or, where that led nowhere, the one whose get ends last.
+    fn make_room(&mut self, but: usize, step: u64, picks: &mut Picks) -> Result<bool, AllocError> {
+        let (exit, others) = self.exit(but, picks.is_turned());
         if others {
-            self.choices.push(Choice {
-                placed: self.order.len(),
-                at: self.at,
-                begun: self.begun,
-                wanted,
-                chosen,
-            })?;
+            picks.pass();
         }
-        self.items.push_back(chosen.put)?;
-        self.note(chosen.put, 0)?;
-        Ok(Step::Went)
+        let Some(exit) = exit else {
+            return Ok(false);
+        };
+        self.state.take(exit.place)?;
+        self.state.go(exit.get, step)?;
+        Ok(true)
     }
 
-    /// The next finished call that did not go.
-    fn next_due(&mut self, plan: &Plan) -> Option<usize> {
-        for i in self.at..plan.due.len() {
-            let n = plan.due[i];
-            if !self.is_gone(n) {
-                return Some(n);
+    /// The puts that precede a put get their places before it; returns whether there was room for them.
+    fn settle_before(
+        &mut self,
+        put: usize,
+        get: usize,
+        step: u64,
+        picks: &mut Picks,
+    ) -> Result<bool, AllocError> {
+        let first = self.facts.at(put).first;
+        for _ in 0..self.facts.count() {
+            match self.state.loose.first_to_end() {
+                Some(oldest) if self.facts.at(oldest).last < first => {
+                    self.state.settle(oldest)?;
+                    if self.state.front.len() >= self.k && !self.make_room(get, step, picks)? {
+                        return Ok(false);
+                    }
+                }
+                _ => return Ok(true),
             }
-            self.at = i + 1;
+        }
+        Ok(true)
+    }
+
+    /// The place at the front of an item.
+    fn place_of(&self, item: usize) -> Option<usize> {
+        for (place, put) in self.state.front.iter().enumerate() {
+            if self.facts.at(*put).item == item {
+                return Some(place);
+            }
         }
         None
     }
 
-    /// One step of the walk.
-    fn step(&mut self, calls: &[Call], plan: &Plan, k: usize) -> Result<Step, AllocError> {
-        let Some(n) = self.next_due(plan) else {
+    /// The puts of an item that have begun and of which the best may be any, from number `at` on: each begins later than
+    /// the one before it, and ends sooner. Any other begins later and ends later than one of these, which then is better:
+    /// fewer puts precede it, and it precedes more. Returns the one at this place, and whether there is a next one.
+    fn candidate(&self, item: usize, at: usize) -> (Option<usize>, bool) {
+        let mut found: Option<usize> = None;
+        let mut best = u64::MAX;
+        let mut passed = 0;
+        let mut next = self.state.loose.first_of(item);
+        for _ in 0..self.facts.count() {
+            let Some(put) = next else {
+                return (found, false);
+            };
+            let fact = self.facts.at(put);
+            if !self.state.has_begun(put) || best < fact.first {
+                return (found, false);
+            }
+            if passed == 0 || fact.last < best {
+                if passed > at {
+                    return (found, true);
+                }
+                if passed == at {
+                    found = Some(put);
+                }
+                best = fact.last;
+                passed = passed.saturating_add(1);
+            }
+            next = self.state.loose.next_of(put);
+        }
+        (found, false)
+    }
+
+    /// A due get takes an item. One at the front is best: then there is more room. Else it takes that of a put, in one of
+    /// several ways.
+    fn serve(&mut self, get: usize, step: u64, way: usize) -> Result<Outcome, AllocError> {
+        let item = self.facts.at(get).item;
+        if let Some(place) = self.place_of(item) {
+            self.state.take(place)?;
+            self.state.go(get, step)?;
+            return Ok(Outcome {
+                went: true,
+                next: None,
+            });
+        }
+        let mut picks = Picks::of(way);
+        let (candidate, more) = self.candidate(item, picks.candidate);
+        let Some(put) = candidate else {
+            return Ok(Outcome {
+                went: false,
+                next: None,
+            });
+        };
+        let went = self.settle_before(put, get, step, &mut picks)?;
+        if went {
+            self.state.pick(put)?;
+            self.state.go(get, step)?;
+        }
+        Ok(Outcome {
+            went,
+            next: next_pick(&picks, more),
+        })
+    }
+
+    /// All items leave the list that are there for certain: those at the front, and those of puts that have ended. Returns
+    /// whether waiting gets took them all.
+    fn drain(&mut self, step: u64) -> Result<bool, AllocError> {
+        for _ in 0..self.facts.count() {
+            if self.state.is_free(&self.facts, step) {
+                return Ok(true);
+            }
+            let at_front = self.state.front.first().copied();
+            let Some(put) = at_front.or(self.state.loose.first_to_end()) else {
+                return Ok(true);
+            };
+            let item = self.facts.at(put).item;
+            let Some(get) = self.state.get_that_waits(&self.facts, item, usize::MAX) else {
+                return Ok(false);
+            };
+            if at_front.is_some() {
+                self.state.take(0)?;
+            } else {
+                self.state.pick(put)?;
+            }
+            self.state.go(get, step)?;
+        }
+        Ok(true)
+    }
+
+    /// The list gets empty, if it can, and the Empties go that wait.
+    fn empty_out(&mut self, step: u64) -> Result<bool, AllocError> {
+        let drained = self.drain(step)?;
+        if drained {
+            self.state.find_none(&self.facts, step)?;
+        }
+        Ok(drained)
+    }
+
+    /// A put ends. From here on its item is there for certain until it is got, so Empties that wait had better go before,
+    /// if they can. They may also go later.
+    fn end_put(&mut self, put: usize, step: u64, way: usize) -> Result<Outcome, AllocError> {
+        let waits = self.state.empty_that_waits(&self.facts).is_some();
+        if way > 0 || !waits || !self.state.loose.has(put) {
+            return Ok(Outcome {
+                went: true,
+                next: None,
+            });
+        }
+        let went = self.empty_out(step)?;
+        Ok(Outcome {
+            went,
+            next: Some(1),
+        })
+    }
+
+    /// A call is due. What it needs is done in this way.
+    fn attempt(&mut self, n: usize, step: u64, way: usize) -> Result<Outcome, AllocError> {
+        match self.facts.at(n).deed {
+            Deed::PutIn(_) => self.end_put(n, step, way),
+            Deed::TookOut(_) => {
+                let outcome = self.serve(n, step, way)?;
+                if outcome.went && self.state.is_free(&self.facts, step) {
+                    self.state.find_none(&self.facts, step)?;
+                }
+                Ok(outcome)
+            }
+            Deed::FoundNone => {
+                let went = self.empty_out(step)?;
+                Ok(Outcome { went, next: None })
+            }
+            Deed::Nothing => Ok(Outcome {
+                went: true,
+                next: None,
+            }),
+        }
+    }
+
+    /// Keeps a choice; returns whether the walk has been in this state before.
+    fn keep_choice(
+        &mut self,
+        mark: Mark,
+        next: usize,
+        state: Option<u64>,
+    ) -> Result<bool, AllocError> {
+        if let Some(print) = state {
+            if self.seen.meet(print) {
+                return Ok(true);
+            }
+        }
+        self.choices.push(Choice { mark, next })?;
+        Ok(false)
+    }
+
+    /// The due call goes in the first way that works, from this one on.
+    fn go_on(&mut self, n: usize, step: u64, from: usize) -> Result<Step, AllocError> {
+        let mark = self.state.mark();
+        let print = if from == 0 {
+            Some(self.state.print())
+        } else {
+            None
+        };
+        let mut way = from;
+        for _ in 0..u64::MAX {
+            let outcome = self.attempt(n, step, way)?;
+            let known = match outcome.next {
+                Some(next) if outcome.went => self.keep_choice(mark, next, print)?,
+                _ => false,
+            };
+            if outcome.went && !known {
+                self.state.at = self.state.at.saturating_add(1);
+                return Ok(Step::Went);
+            }
+            self.state.go_back(mark)?;
+            match outcome.next {
+                Some(next) if !known => way = next,
+                _ => return Ok(Step::Stuck),
+            }
+        }
+        Ok(Step::Stuck)
+    }
+
+    /// The next finished call is due. One that puts nothing may have gone before.
+    fn step(&mut self, from: usize) -> Result<Step, AllocError> {
+        let at = self.state.at;
+        let Some(n) = self.facts.due.get(at).copied() else {
             return Ok(Step::Finished);
         };
-        self.begin(calls, plan, last_step(calls, n))?;
-        self.settle(calls, plan, k)?;
-        if self.is_gone(n) || n >= calls.len() {
+        let step = self.facts.at(n).last;
+        self.state.begin(&self.facts, step)?;
+        if self.state.is_gone(n) {
+            self.state.at = at.saturating_add(1);
             return Ok(Step::Went);
         }
-        match deed_of(&calls[n]) {
-            Deed::PutIn(_) => self.choose(calls, plan, k, n, None),
-            Deed::TookOut(_) if !self.is_gone(plan.partner(n)) => {
-                self.choose(calls, plan, k, plan.partner(n), None)
-            }
-            Deed::TookOut(_) | Deed::FoundNone | Deed::Nothing => Ok(Step::Stuck),
-        }
+        self.go_on(n, step, from)
     }
 
-    /// The last call of the order did not go.
-    fn undo_last(&mut self, calls: &[Call], plan: &Plan, begun: usize) -> Result<(), AllocError> {
-        let Some(n) = self.order.pop() else {
-            return Ok(());
+    /// All is again as it was at the last choice; returns the next way to go on from there.
+    fn go_back(&mut self) -> Result<Option<usize>, AllocError> {
+        let Some(choice) = self.choices.pop() else {
+            return Ok(None);
         };
-        let place = self.places.pop().unwrap_or(0);
-        self.mark(n, false);
-        if n < begun {
-            self.waiting.push(n)?;
-        }
-        if n >= calls.len() {
-            return Ok(());
-        }
-        match deed_of(&calls[n]) {
-            Deed::PutIn(_) => {
-                self.items.pop_back();
-            }
-            Deed::TookOut(_) => {
-                if place <= self.items.len() {
-                    self.items.insert(place, plan.partner(n))?;
+        self.state.go_back(choice.mark)?;
+        Ok(Some(choice.next))
+    }
+
+    /// Walks until all finished calls went, or none can that is due. At most `tries` choices are changed.
+    fn run(&mut self, tries: u64) -> Result<Option<Stuck>, AllocError> {
+        let mut left = tries;
+        let mut way = 0;
+        for _ in 0..u64::MAX {
+            match self.step(way)? {
+                Step::Finished => return Ok(None),
+                Step::Went => way = 0,
+                Step::Stuck => {
+                    if left == 0 && !self.choices.is_empty() {
+                        return Ok(Some(Stuck::TriesRanOut));
+                    }
+                    let Some(next) = self.go_back()? else {
+                        return Ok(Some(Stuck::NothingLeft));
+                    };
+                    left = left.saturating_sub(1);
+                    way = next;
                 }
             }
-            Deed::FoundNone | Deed::Nothing => {}
         }
-        Ok(())
-    }
-
-    /// All is as it was before the choice.
-    fn undo(&mut self, calls: &[Call], plan: &Plan, choice: Choice) -> Result<(), AllocError> {
-        let begun = choice.begun;
-        self.waiting.retain(|n| *n < begun);
-        for _ in choice.placed..self.order.len() {
-            self.undo_last(calls, plan, begun)?;
-        }
-        self.at = choice.at;
-        self.begun = begun;
-        Ok(())
-    }
-
-    /// The last choice is undone, and another put goes in its place; if none is left, the choice before it. At most
-    /// `tries` are undone; the number of those that are left is the result, or none where the walk cannot go on.
-    fn go_back(
-        &mut self,
-        calls: &[Call],
-        plan: &Plan,
-        k: usize,
-        tries: u64,
-    ) -> Result<Option<u64>, AllocError> {
-        for undone in 0..tries {
-            let Some(choice) = self.choices.pop() else {
-                return Ok(None);
-            };
-            self.undo(calls, plan, choice)?;
-            if let Step::Went = self.choose(calls, plan, k, choice.wanted, Some(choice.chosen))? {
-                return Ok(Some(tries - undone - 1));
-            }
-        }
-        Ok(None)
+        Ok(Some(Stuck::TriesRanOut))
     }
 }
 
-/// Whether a put is less urgent than this one.
-fn is_less_urgent(urgency: Urgency, below: Option<Urgency>) -> bool {
-    match below {
-        Some(most) => {
-            most.class < urgency.class
-                || (most.class == urgency.class
-                    && (most.got < urgency.got
-                        || (most.got == urgency.got && most.put < urgency.put)))
-        }
-        None => true,
-    }
-}
-
-/// The more urgent of two.
-fn more_urgent(urgency: Urgency, best: Option<Urgency>) -> Urgency {
-    match best {
-        Some(best) if is_less_urgent(urgency, Some(best)) => best,
-        _ => urgency,
-    }
-}
-
-/// An order of the finished calls and some unfinished enqueues, or none where none was found.
+/// An order of the finished calls and some unfinished enqueues, or why none was found.
 fn found_order(
     alloc: Global,
     calls: &[Call],
     k: usize,
     tries: u64,
-) -> Result<Option<Vec<usize>>, AllocError> {
-    let plan = Plan::of(alloc, calls)?;
-    let mut walk = Walk::new(alloc, calls.len())?;
-    let mut left = tries;
-    for _ in 0..u64::MAX {
-        match walk.step(calls, &plan, k)? {
-            Step::Finished => return Ok(Some(walk.into_order())),
-            Step::Went => {}
-            Step::Stuck => match walk.go_back(calls, &plan, k, left)? {
-                Some(rest) => left = rest,
-                None => return Ok(None),
-            },
-        }
+) -> Result<Result<Vec<usize>, Stuck>, AllocError> {
+    let mut walk = Walk::new(alloc, calls, k)?;
+    match walk.run(tries)? {
+        None => Ok(Ok(walk.into_order(alloc)?)),
+        Some(stuck) => Ok(Err(stuck)),
     }
-    Ok(None)
+}
+
+/// A legal order of the history, or why none was found.
+pub(crate) fn search(
+    alloc: Global,
+    history: &History,
+    k: u32,
+    tries: u64,
+) -> Result<Result<Vec<usize>, Stuck>, AllocError>
+    requires { (1 ≤ k) × (k ≤ 64) }
+    ensures { IfOk result (λ found. IfOk found (λ order. IsLegal k history.now order.items)) }
+{
+    let order = match found_order(alloc, history.calls(), k as usize, tries)? {
+        Ok(order) => order,
+        Err(stuck) => return Ok(Err(stuck)),
+    };
+    match check_order(alloc, history, k, &order)? {
+        Verdict::Legal => Ok(Ok(order)),
+        _ => Ok(Err(Stuck::NothingLeft)),
+    }
 }
 
 /// A legal order of the history for a queue that may give any of its k oldest items, or none where none was found: then
@@ -433,11 +441,8 @@ pub fn witness(
     requires { (1 ≤ k) × (k ≤ 64) }
     ensures { IfOk result (λ found. IfSome found (λ order. IsLegal k history.now order.items)) }
 {
-    let Some(order) = found_order(alloc, history.calls(), k as usize, tries)? else {
-        return Ok(None);
-    };
-    match check_order(alloc, history, k, &order)? {
-        Verdict::Legal => Ok(Some(order)),
-        _ => Ok(None),
+    match search(alloc, history, k, tries)? {
+        Ok(order) => Ok(Some(order)),
+        Err(_) => Ok(None),
     }
 }
