@@ -6,8 +6,8 @@ use Rattle.kfifo_verdict.specs.declared.verdicts.Bounds.{Bounds}
 use Rattle.kfifo_verdict.specs.Judging.{AreBounds, HasNoEvidence, IsFirstEvidence}
 use Rattle.kfifo_verdict.proofs.Concluding.{first_refutes}
 use Rattle.kfifo_explain.specs.Bounds.{IsLeastAnswer, NamesNoK, bounds_text}
-use Rattle.kfifo_explain.proofs.bounds.answer.Goals as goal
-use Rattle.kfifo_explain.proofs.bounds.answer.Goals.{in-Some+else-names_no_k, in_default}
+use Rattle.kfifo_explain.proofs.bounds.least_text.Goals as goal
+use Rattle.kfifo_explain.proofs.bounds.least_text.Goals.{in-Some+else-names_no_k, in_default}
 
 -- evidence that names no k is evidence for each
 for_each : (j k : ℕ) (h : List Call) (found : Evidence) → NamesNoK found → IsFirstEvidence j h found → IsFirstEvidence k h found
