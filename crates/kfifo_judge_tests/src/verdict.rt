@@ -106,7 +106,7 @@ fn count(counts: Counts, judgement: &Judgement, plain: bool, has: bool) -> Count
             more.no_order = more.no_order.wrapping_add(1);
             has
         }
-        Judgement::Undecided => {
+        Judgement::Undecided(_) => {
             more.undecided = more.undecided.wrapping_add(1);
             if plain {
                 more.plain = more.plain.wrapping_add(1);

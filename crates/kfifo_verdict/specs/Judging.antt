@@ -47,13 +47,13 @@ IsPlain h = ((x p : ℕ) → Puts h x p → IsSingle h x p) × ((c : ℕ) → c 
 abbrev pub IsJudgement : ℕ → List Call → Judgement → Type 0
 IsJudgement k h (Legal order) = IsLegal k h order.items
 IsJudgement k h (NoOrder found) = IsFirstEvidence k h found × (HasOrder k h → ⊥)
-IsJudgement k h Undecided = HasNoEvidence k h
+IsJudgement k h (Undecided stuck) = HasNoEvidence k h
 
 -- the verdict says whether there is a legal order
 abbrev pub IsDecided : Judgement → Type 0
 IsDecided (Legal order) = Unit {0}
 IsDecided (NoOrder found) = Unit {0}
-IsDecided Undecided = ⊥
+IsDecided (Undecided stuck) = ⊥
 
 -- one more than the greatest number of items that are certainly older and there at a get of a single item
 pub record IsLowerBound (h : List Call) (bound : ℕ) : Type 0 where

@@ -7,7 +7,7 @@ use crate::finding::{evidence, no_skips, older_at};
 use crate::presences::Items;
 use crate::turns::order_of_plain;
 use crate::verdicts::{Bounds, Judgement};
-use crate::walking::witness;
+use crate::walking::{search, witness};
 use kfifo_model::{Call, History};
 use std::alloc::{AllocError, Global};
 
@@ -27,9 +27,9 @@ pub fn judge(alloc: Global, history: &History, k: u32, tries: u64) -> Result<Jud
             return Ok(Judgement::Legal(order));
         }
     }
-    match witness(alloc, history, k, tries)? {
-        Some(order) => Ok(Judgement::Legal(order)),
-        None => Ok(Judgement::Undecided),
+    match search(alloc, history, k, tries)? {
+        Ok(order) => Ok(Judgement::Legal(order)),
+        Err(stuck) => Ok(Judgement::Undecided(stuck)),
     }
 }
 

@@ -13,5 +13,5 @@ mod walking;
 
 pub use finding::evidence;
 pub use judging::{judge, least_k};
-pub use verdicts::{Bounds, Evidence, Judgement};
+pub use verdicts::{Bounds, Evidence, Judgement, Stuck};
 pub use walking::witness;

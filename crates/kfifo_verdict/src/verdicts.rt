@@ -23,6 +23,15 @@ pub enum Evidence {
     },
 }
 
+/// Why the search for an order found none.
+#[derive(Clone, Copy, Debug, PartialEq, Eq)]
+pub enum Stuck {
+    /// As many choices were undone as were allowed: with more tries it may find one.
+    TriesRanOut,
+    /// There was nothing that it could have done otherwise: more tries do not help.
+    NothingLeft,
+}
+
 /// A verdict on a history for one k.
 #[derive(Debug, PartialEq, Eq, Drop)]
 pub enum Judgement {
@@ -30,8 +39,8 @@ pub enum Judgement {
     Legal(Vec<usize>),
     /// No order is legal, because of this.
     NoOrder(Evidence),
-    /// There is none of the four kinds of evidence, and no order was found.
-    Undecided,
+    /// There is none of the four kinds of evidence, and no order was found, for this reason: there may be one all the same.
+    Undecided(Stuck),
 }
 
 /// Between which bounds the least k lies for which a history has a legal order, if it has one for some k.

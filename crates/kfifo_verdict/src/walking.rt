@@ -9,6 +9,7 @@ ghost use Rattle.kfifo_model.specs.Histories.{IsLegal};
 
 use crate::deeds::{Deed, deed_of};
 use crate::pairing::{Plan, first_step, last_step};
+use crate::verdicts::Stuck;
 use kfifo_model::{Call, History, Verdict, check_order};
 use std::alloc::{AllocError, Global};
 use std::collections::VecDeque;
@@ -356,24 +357,28 @@ impl Walk {
     }
 
     /// The last choice is undone, and another put goes in its place; if none is left, the choice before it. At most
-    /// `tries` are undone; the number of those that are left is the result, or none where the walk cannot go on.
+    /// `tries` are undone; the number of those that are left is the result, or why the walk cannot go on.
     fn go_back(
         &mut self,
         calls: &[Call],
         plan: &Plan,
         k: usize,
         tries: u64,
-    ) -> Result<Option<u64>, AllocError> {
+    ) -> Result<Result<u64, Stuck>, AllocError> {
         for undone in 0..tries {
             let Some(choice) = self.choices.pop() else {
-                return Ok(None);
+                return Ok(Err(Stuck::NothingLeft));
             };
             self.undo(calls, plan, choice)?;
             if let Step::Went = self.choose(calls, plan, k, choice.wanted, Some(choice.chosen))? {
-                return Ok(Some(tries - undone - 1));
+                return Ok(Ok(tries - undone - 1));
             }
         }
-        Ok(None)
+        if self.choices.is_empty() {
+            Ok(Err(Stuck::NothingLeft))
+        } else {
+            Ok(Err(Stuck::TriesRanOut))
+        }
     }
 }
 
@@ -398,27 +403,47 @@ fn more_urgent(urgency: Urgency, best: Option<Urgency>) -> Urgency {
     }
 }
 
-/// An order of the finished calls and some unfinished enqueues, or none where none was found.
+/// An order of the finished calls and some unfinished enqueues, or why none was found.
 fn found_order(
     alloc: Global,
     calls: &[Call],
     k: usize,
     tries: u64,
-) -> Result<Option<Vec<usize>>, AllocError> {
+) -> Result<Result<Vec<usize>, Stuck>, AllocError> {
     let plan = Plan::of(alloc, calls)?;
     let mut walk = Walk::new(alloc, calls.len())?;
     let mut left = tries;
     for _ in 0..u64::MAX {
         match walk.step(calls, &plan, k)? {
-            Step::Finished => return Ok(Some(walk.into_order())),
+            Step::Finished => return Ok(Ok(walk.into_order())),
             Step::Went => {}
             Step::Stuck => match walk.go_back(calls, &plan, k, left)? {
-                Some(rest) => left = rest,
-                None => return Ok(None),
+                Ok(rest) => left = rest,
+                Err(stuck) => return Ok(Err(stuck)),
             },
         }
     }
-    Ok(None)
+    Ok(Err(Stuck::TriesRanOut))
+}
+
+/// A legal order of the history, or why none was found.
+pub(crate) fn search(
+    alloc: Global,
+    history: &History,
+    k: u32,
+    tries: u64,
+) -> Result<Result<Vec<usize>, Stuck>, AllocError>
+    requires { (1 ≤ k) × (k ≤ 64) }
+    ensures { IfOk result (λ found. IfOk found (λ order. IsLegal k history.now order.items)) }
+{
+    let order = match found_order(alloc, history.calls(), k as usize, tries)? {
+        Ok(order) => order,
+        Err(stuck) => return Ok(Err(stuck)),
+    };
+    match check_order(alloc, history, k, &order)? {
+        Verdict::Legal => Ok(Ok(order)),
+        _ => Ok(Err(Stuck::NothingLeft)),
+    }
 }
 
 /// A legal order of the history for a queue that may give any of its k oldest items, or none where none was found: then
@@ -433,11 +458,8 @@ pub fn witness(
     requires { (1 ≤ k) × (k ≤ 64) }
     ensures { IfOk result (λ found. IfSome found (λ order. IsLegal k history.now order.items)) }
 {
-    let Some(order) = found_order(alloc, history.calls(), k as usize, tries)? else {
-        return Ok(None);
-    };
-    match check_order(alloc, history, k, &order)? {
-        Verdict::Legal => Ok(Some(order)),
-        _ => Ok(None),
+    match search(alloc, history, k, tries)? {
+        Ok(order) => Ok(Some(order)),
+        Err(_) => Ok(None),
     }
 }

@@ -13,8 +13,8 @@ order_of_plain-requires-clause-clear c =
     let H : List Call → Type 0 = λ w. HasNoEvidence 1 w in
     subst H (sym c.calls.ensures.calls) (subst K c.if-k-eq1.true none)
 
-pub returns-in-None-clause-complete : goal.returns-in-None-clause-complete
-returns-in-None-clause-complete c = λ one plain. elim c.if-k-eq1.branch [
+pub returns-in-Err-clause-complete : goal.returns-in-Err-clause-complete
+returns-in-Err-clause-complete c = λ one plain. elim c.if-k-eq1.branch [
   | then-k-eq1+in_ok-order+in_default-2 w ↦ (
       let P : List Call → Type 0 = λ v. IsPlain v in
       let some = w.in_ok-order.ensures.complete (subst P (sym w.calls.ensures.calls) plain) in
