@@ -133,12 +133,12 @@ fn answer<H: Threads + Files + Sync, S: Source, W: Write, P: Progress>(
         }
         Request::Judge(options) => {
             let (text, status) = judge::answer(alloc, options, input)?;
-            output.print(text.as_slice())?;
+            output.print(text.as_bytes())?;
             Ok(status)
         }
         Request::Least(options) => {
             let (text, status) = least::answer(alloc, options, input)?;
-            output.print(text.as_slice())?;
+            output.print(text.as_bytes())?;
             Ok(status)
         }
         Request::Record(options) => {
