@@ -34,16 +34,16 @@ FollowsReason h (TakenTwice get) text = text ≡ []
 FollowsReason h (NotEmpty empty puts) text = text ≡ []
 FollowsReason h (TooYoung get puts) text = (b : Bounds) × AreBounds h b × (text ≡ bounds_text b)
 
-abbrev pub no_least_text : Option (List LoggedCall) → List Call → Evidence → List ℕ
-no_least_text log h found = line (codes "no order") ++ reason_lines log h found
+abbrev pub no_least_text : List LoggedCall → List Call → Evidence → List ℕ
+no_least_text logged h found = line (codes "no order") ++ reason_lines logged h found
 
 -- There is evidence of the kinds 1 to 3, so no k has an order; it is told.
-pub record HasNoLeast (log : Option (List LoggedCall)) (h : List Call) (text : List ℕ) (said : Outcome) : Type 0 where
+pub record HasNoLeast (logged : List LoggedCall) (h : List Call) (text : List ℕ) (said : Outcome) : Type 0 where
   pub found : Evidence
   pub first : (k : ℕ) → IsFirstEvidence k h found
   pub named : NamesNoK found
   pub refuted : (k : ℕ) → HasOrder k h → ⊥
-  pub told : text ≡ no_least_text log h found
+  pub told : text ≡ no_least_text logged h found
   pub ended : said ≡ Unordered
 
 -- There is none, and bounds of the least k are told.
@@ -57,5 +57,5 @@ pub record HasBounds (h : List Call) (text : List ℕ) (said : Outcome) : Type 0
   pub ended : said ≡ Answered
 
 -- the text and the outcome answer a history
-abbrev pub IsLeastAnswer : Option (List LoggedCall) → List Call → List ℕ → Outcome → Type 0
-IsLeastAnswer log h text said = HasNoLeast log h text said ⊎ HasBounds h text said
+abbrev pub IsLeastAnswer : List LoggedCall → List Call → List ℕ → Outcome → Type 0
+IsLeastAnswer logged h text said = HasNoLeast logged h text said ⊎ HasBounds h text said

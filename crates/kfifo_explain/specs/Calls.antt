@@ -37,10 +37,9 @@ abbrev pub logged_or : Call → Option LoggedCall → Occurrence
 logged_or c (Some logged) = in_log logged
 logged_or c None = in_record c
 
--- when the call with this number was, by the log if there is one
-abbrev pub occurrence : Option (List LoggedCall) → Call → ℕ → Occurrence
-occurrence None c number = in_record c
-occurrence (Some log) c number = logged_or c (slice_get log number)
+-- when the call with this number was, by the log if it is one of a log
+abbrev pub occurrence : List LoggedCall → Call → ℕ → Occurrence
+occurrence logged c number = logged_or c (slice_get logged number)
 
 abbrev pub line_part : Option ℕ → List ℕ
 line_part (Some line) = codes ", line " ++ decimal line
@@ -76,10 +75,10 @@ abbrev pub deed_text : List Call → ℕ → Action → Occurrence → List ℕ
 deed_text h thread a o = codes ": thread " ++ decimal thread ++ codes " " ++ action_text a ++ times_text o ++ fate_part h a
 
 -- the line of a call
-abbrev pub call_line : Option (List LoggedCall) → List Call → ℕ → List ℕ
-call_line log h n =
-    line (name_text n (occurrence log (call h n) n).line ++ deed_text h (call h n).thread (action (does h n)) (occurrence log (call h n) n))
+abbrev pub call_line : List LoggedCall → List Call → ℕ → List ℕ
+call_line logged h n =
+    line (name_text n (occurrence logged (call h n) n).line ++ deed_text h (call h n).thread (action (does h n)) (occurrence logged (call h n) n))
 
 -- the lines of these calls
-abbrev pub call_lines : Option (List LoggedCall) → List Call → List ℕ → List ℕ
-call_lines log h numbers = flat_map (call_line log h) numbers
+abbrev pub call_lines : List LoggedCall → List Call → List ℕ → List ℕ
+call_lines logged h numbers = flat_map (call_line logged h) numbers

@@ -34,9 +34,9 @@ abbrev pub legal_text : ℕ → Bool → List Call → List ℕ → List ℕ
 legal_text k show h order = about (codes "legal") k ++ worst_line (greatest (ranks_of k h order)) ++ shown_line show order
 
 -- the evidence with the calls that it names, and what follows it
-abbrev pub IsNoOrderText : ℕ → Option (List LoggedCall) → List Call → Evidence → List ℕ → Type 0
-IsNoOrderText k log h found text =
-    (rest : List ℕ) × FollowsReason h found rest × (text ≡ about (codes "no order") k ++ reason_lines log h found ++ rest)
+abbrev pub IsNoOrderText : ℕ → List LoggedCall → List Call → Evidence → List ℕ → Type 0
+IsNoOrderText k logged h found text =
+    (rest : List ℕ) × FollowsReason h found rest × (text ≡ about (codes "no order") k ++ reason_lines logged h found ++ rest)
 
 -- why the search stopped
 abbrev pub stuck_text : Stuck → List ℕ
@@ -49,10 +49,10 @@ IsUndecidedText k h stuck text =
     (note : List ℕ) × IsRepeatNote h note × (text ≡ about (codes "undecided") k ++ line (stuck_text stuck ++ note))
 
 -- the text says this verdict
-abbrev pub IsJudgementText : ℕ → Bool → Option (List LoggedCall) → List Call → Judgement → List ℕ → Type 0
-IsJudgementText k show log h (Legal order) text = text ≡ legal_text k show h order.items
-IsJudgementText k show log h (NoOrder found) text = IsNoOrderText k log h found text
-IsJudgementText k show log h (Undecided stuck) text = IsUndecidedText k h stuck text
+abbrev pub IsJudgementText : ℕ → Bool → List LoggedCall → List Call → Judgement → List ℕ → Type 0
+IsJudgementText k show logged h (Legal order) text = text ≡ legal_text k show h order.items
+IsJudgementText k show logged h (NoOrder found) text = IsNoOrderText k logged h found text
+IsJudgementText k show logged h (Undecided stuck) text = IsUndecidedText k h stuck text
 
 abbrev pub outcome : Judgement → Outcome
 outcome (Legal order) = outcomes.Answered
@@ -60,8 +60,8 @@ outcome (NoOrder found) = outcomes.Unordered
 outcome (Undecided stuck) = outcomes.Undecided
 
 -- The text and the outcome answer a history: what is to be said of a verdict on it, the order shown or not.
-pub record IsJudgeAnswer (k : ℕ) (show : Bool) (log : Option (List LoggedCall)) (h : List Call) (text : List ℕ) (said : Outcome) : Type 0 where
+pub record IsJudgeAnswer (k : ℕ) (show : Bool) (logged : List LoggedCall) (h : List Call) (text : List ℕ) (said : Outcome) : Type 0 where
   pub judgement : Judgement
   pub judged : IsJudgement k h judgement
-  pub told : IsJudgementText k show log h judgement text
+  pub told : IsJudgementText k show logged h judgement text
   pub ended : said ≡ outcome judgement

@@ -43,5 +43,5 @@ named (NotEmpty empty puts) = empty ∷ puts.items
 named (TooYoung get puts) = get ∷ puts.items
 
 -- the evidence in a line, and a line for each of the first 32 calls that it names
-abbrev pub reason_lines : Option (List LoggedCall) → List Call → Evidence → List ℕ
-reason_lines log h found = line (reason_text h found) ++ call_lines log h (take 32 (named found))
+abbrev pub reason_lines : List LoggedCall → List Call → Evidence → List ℕ
+reason_lines logged h found = line (reason_text h found) ++ call_lines logged h (take 32 (named found))

@@ -1,5 +1,5 @@
 //! The answer of the command `least`.
-ghost use Rattle.std.specs.Prelude.{ℕ, ◌≡◌, ◌++◌, ◌↔◌, List, OnOk, IfOk, IsTrue, option_map, string_bytes};
+ghost use Rattle.std.specs.Prelude.{ℕ, ◌≡◌, ◌++◌, ◌↔◌, List, OnOk, IfOk, IsTrue, string_bytes};
 ghost use Rattle.kfifo_model.specs.Validity.{IsHistory};
 ghost use Rattle.kfifo_explain.specs.Bounds.{FollowsReason, IsLeastAnswer, NamesNoK, bounds_text, no_least_text};
 
@@ -57,33 +57,33 @@ pub(crate) fn push_following(
 fn no_least(
     alloc: Global,
     history: &History,
-    log: Option<&[LoggedCall]>,
+    logged: &[LoggedCall],
     found: &Evidence,
 ) -> Result<String, AllocError>
-    ensures { IfOk result (λ text. string_bytes text ≡ no_least_text (option_map (λ l. l.now) log.entry) history.now found.now) }
+    ensures { IfOk result (λ text. string_bytes text ≡ no_least_text logged.now history.now found.now) }
 {
     let mut text = String::new(alloc);
     text.push_str("no order\n")?;
-    push_reasons(&mut text, history, log, found)?;
+    push_reasons(&mut text, history, logged, found)?;
     Ok(text)
 }
 
 /// Between which bounds the least k lies for which a history has a legal order, as a text; or `no order` with the evidence
-/// and the calls that it names, where there is evidence that names no k. `log` has the line and the times of each call,
-/// where the history is the record of a log. `tries` is the number of choices that each search for an order may undo.
+/// and the calls that it names, where there is evidence that names no k. `logged` has the line and the times of each call of
+/// a log, and nothing of a record. `tries` is the number of choices that each search for an order may undo.
 pub fn least_text(
     alloc: Global,
     history: &History,
-    log: Option<&[LoggedCall]>,
+    logged: &[LoggedCall],
     tries: u64,
 ) -> Result<(String, Outcome), AllocError>
     requires { IsHistory history.now }
-    ensures { IfOk result (λ a. IsLeastAnswer (option_map (λ l. l.now) log.entry) history.now (string_bytes a.0) a.1) }
+    ensures { IfOk result (λ a. IsLeastAnswer logged.now history.now (string_bytes a.0) a.1) }
 {
     let found = evidence(alloc, history, MAX_K)?;
     if let Some(found) = &found {
         if names_no_k(found) {
-            return Ok((no_least(alloc, history, log, found)?, Outcome::Unordered));
+            return Ok((no_least(alloc, history, logged, found)?, Outcome::Unordered));
         }
     }
     let mut text = String::new(alloc);

@@ -1,5 +1,5 @@
 //! The line of a call that a reason names.
-ghost use Rattle.std.specs.Prelude.{◌≡◌, ◌++◌, Bool, OnOk, option_map, string_bytes, take};
+ghost use Rattle.std.specs.Prelude.{◌≡◌, ◌++◌, Bool, OnOk, string_bytes, take};
 ghost use Rattle.kfifo_model.specs.Histories.{call, does, effect_of};
 ghost use Rattle.kfifo_model.specs.Overtaking.{takes};
 ghost use Rattle.kfifo_explain.specs.Calls.{action, action_text, call_line, call_lines, deed_text, fate_part, in_log, in_record, last_part, name_text, occurrence, taker, taker_part, times_text};
@@ -9,8 +9,8 @@ use kfifo_model::{Answer, Call, End, History, Op};
 use std::alloc::AllocError;
 use std::fmt::Write;
 
-/// The greatest number of calls that have a line each.
-const MAX_NAMED: usize = 32;
+/// How many puts have a line each behind that of the call that they are named beside: 32 calls in all.
+const MAX_PUTS: usize = 31;
 
 /// A call past the last one.
 const NO_CALL: Call = Call {
@@ -99,14 +99,11 @@ fn in_log(logged: &LoggedCall) -> Occurrence
     }
 }
 
-/// When the call with this number was, by the log if there is one.
-fn occurrence_of(log: Option<&[LoggedCall]>, call: &Call, number: usize) -> Occurrence
-    ensures { result ≡ occurrence (option_map (λ l. l.now) log.entry) call.now number }
+/// When the call with this number was, by the log if it is one of a log.
+fn occurrence_of(logged: &[LoggedCall], call: &Call, number: usize) -> Occurrence
+    ensures { result ≡ occurrence logged.now call.now number }
 {
-    let Some(log) = log else {
-        return in_record(call);
-    };
-    match log.get(number) {
+    match logged.get(number) {
         Some(logged) => in_log(logged),
         None => in_record(call),
     }
@@ -205,31 +202,41 @@ fn push_deed(
 pub(crate) fn push_call(
     text: &mut String,
     history: &History,
-    log: Option<&[LoggedCall]>,
+    logged: &[LoggedCall],
     number: usize,
 ) -> Result<(), AllocError>
     ensures { OnOk result (string_bytes text.new
-        ≡ string_bytes text.old ++ call_line (option_map (λ l. l.now) log.entry) history.now number) }
+        ≡ string_bytes text.old ++ call_line logged.now history.now number) }
 {
     let call = call_at(history, number);
-    let occurrence = occurrence_of(log, &call, number);
+    let occurrence = occurrence_of(logged, &call, number);
     push_name(text, number, occurrence.line)?;
     push_deed(text, history, call.thread, action_of(&call), occurrence)?;
     text.push('\n')
 }
 
-/// Adds the lines of the first calls of these, so many as have a line behind another call's.
+/// The first of these calls, so many as have a line behind another call's.
+#[tactic(auto, using(std::proofs::lemmas::List::take_min))]
+fn with_lines(puts: &[usize]) -> &[usize]
+    ensures { result.now ≡ take 31 puts.now }
+{
+    let few = MAX_PUTS.min(puts.len());
+    &puts[..few]
+}
+
+/// Adds the lines of the first of these calls, so many as have a line behind another call's.
 pub(crate) fn push_puts(
     text: &mut String,
     history: &History,
-    log: Option<&[LoggedCall]>,
+    logged: &[LoggedCall],
     puts: &[usize],
 ) -> Result<(), AllocError>
     ensures { OnOk result (string_bytes text.new
-        ≡ string_bytes text.old ++ call_lines (option_map (λ l. l.now) log.entry) history.now (take 31 puts.now)) }
+        ≡ string_bytes text.old ++ call_lines logged.now history.now (take 31 puts.now)) }
 {
-    for put in puts.iter().take(MAX_NAMED - 1) {
-        push_call(text, history, log, *put)?;
+    let named = with_lines(puts);
+    for put in named {
+        push_call(text, history, logged, *put)?;
     }
     Ok(())
 }

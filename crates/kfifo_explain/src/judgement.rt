@@ -1,5 +1,5 @@
 //! The answer of the command `judge`.
-ghost use Rattle.std.specs.Prelude.{◌≡◌, ◌≤◌, ◌++◌, IfOk, List, OnOk, option_map, string_bytes, ℕ};
+ghost use Rattle.std.specs.Prelude.{◌≡◌, ◌≤◌, ◌++◌, IfOk, List, OnOk, string_bytes, ℕ};
 ghost use Rattle.kfifo_model.specs.Histories.{IsLegal};
 ghost use Rattle.kfifo_model.specs.Ranks.{ranks_of};
 ghost use Rattle.kfifo_explain.specs.Bounds.{FollowsReason};
@@ -80,16 +80,16 @@ fn legal(
 fn no_order(
     alloc: Global,
     history: &History,
-    log: Option<&[LoggedCall]>,
+    logged: &[LoggedCall],
     k: u32,
     tries: u64,
     found: &Evidence,
 ) -> Result<String, AllocError>
-    ensures { IfOk result (λ text. IsNoOrderText k (option_map (λ l. l.now) log.entry) history.now found.now (string_bytes text)) }
+    ensures { IfOk result (λ text. IsNoOrderText k logged.now history.now found.now (string_bytes text)) }
 {
     let mut text = String::new(alloc);
     push_about(&mut text, "no order", k)?;
-    push_reasons(&mut text, history, log, found)?;
+    push_reasons(&mut text, history, logged, found)?;
     push_following(alloc, &mut text, history, tries, found)?;
     Ok(text)
 }
@@ -146,18 +146,18 @@ fn outcome_of(judgement: &Judgement) -> Outcome
 pub fn judge_text(
     alloc: Global,
     history: &History,
-    log: Option<&[LoggedCall]>,
+    logged: &[LoggedCall],
     k: u32,
     tries: u64,
     show: bool,
 ) -> Result<(String, Outcome), AllocError>
     requires { (1 ≤ k) × (k ≤ 64) }
-    ensures { IfOk result (λ a. IsJudgeAnswer k show (option_map (λ l. l.now) log.entry) history.now (string_bytes a.0) a.1) }
+    ensures { IfOk result (λ a. IsJudgeAnswer k show logged.now history.now (string_bytes a.0) a.1) }
 {
     let judgement = judge(alloc, history, k, tries)?;
     let text = match &judgement {
         Judgement::Legal(order) => legal(alloc, history, k, order, show)?,
-        Judgement::NoOrder(found) => no_order(alloc, history, log, k, tries, found)?,
+        Judgement::NoOrder(found) => no_order(alloc, history, logged, k, tries, found)?,
         Judgement::Undecided(stuck) => undecided(alloc, history, k, *stuck)?,
     };
     Ok((text, outcome_of(&judgement)))

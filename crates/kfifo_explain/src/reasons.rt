@@ -1,5 +1,5 @@
 //! Why a history has no legal order: the evidence, and the calls that it names.
-ghost use Rattle.std.specs.Prelude.{◌≡◌, ◌++◌, OnOk, option_map, string_bytes, take};
+ghost use Rattle.std.specs.Prelude.{◌≡◌, ◌++◌, OnOk, string_bytes, take};
 ghost use Rattle.kfifo_model.specs.Histories.{does};
 ghost use Rattle.kfifo_explain.specs.Calls.{call_lines};
 ghost use Rattle.kfifo_explain.specs.Reasons.{named, reason_lines, reason_text, taken};
@@ -65,21 +65,23 @@ fn push_reason(text: &mut String, history: &History, found: &Evidence) -> Result
 fn push_named(
     text: &mut String,
     history: &History,
-    log: Option<&[LoggedCall]>,
+    logged: &[LoggedCall],
     found: &Evidence,
 ) -> Result<(), AllocError>
     ensures { OnOk result (string_bytes text.new
-        ≡ string_bytes text.old ++ call_lines (option_map (λ l. l.now) log.entry) history.now (take 32 (named found.now))) }
+        ≡ string_bytes text.old ++ call_lines logged.now history.now (take 32 (named found.now))) }
 {
     match found {
-        Evidence::NeverPut(get) | Evidence::TakenTwice(get) => push_call(text, history, log, *get),
+        Evidence::NeverPut(get) | Evidence::TakenTwice(get) => push_call(
+            text, history, logged, *get,
+        ),
         Evidence::NotEmpty { empty, puts } => {
-            push_call(text, history, log, *empty)?;
-            push_puts(text, history, log, puts.as_slice())
+            push_call(text, history, logged, *empty)?;
+            push_puts(text, history, logged, puts.as_slice())
         }
         Evidence::TooYoung { get, puts } => {
-            push_call(text, history, log, *get)?;
-            push_puts(text, history, log, puts.as_slice())
+            push_call(text, history, logged, *get)?;
+            push_puts(text, history, logged, puts.as_slice())
         }
     }
 }
@@ -88,13 +90,13 @@ fn push_named(
 pub(crate) fn push_reasons(
     text: &mut String,
     history: &History,
-    log: Option<&[LoggedCall]>,
+    logged: &[LoggedCall],
     found: &Evidence,
 ) -> Result<(), AllocError>
     ensures { OnOk result (string_bytes text.new
-        ≡ string_bytes text.old ++ reason_lines (option_map (λ l. l.now) log.entry) history.now found.now) }
+        ≡ string_bytes text.old ++ reason_lines logged.now history.now found.now) }
 {
     push_reason(text, history, found)?;
     text.push('\n')?;
-    push_named(text, history, log, found)
+    push_named(text, history, logged, found)
 }

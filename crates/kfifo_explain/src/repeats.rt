@@ -58,10 +58,10 @@ pub(crate) fn items_repeat(alloc: Global, history: &History) -> Result<bool, All
     ensures { IfOk result (λ repeat. MatchBool repeat (HasDistinctItems history.now → ⊥) (HasDistinctItems history.now)) }
 {
     let calls = history.calls();
-    let Some(_) = firsts_of(alloc, calls, Side::Puts)? else {
+    let Some(_puts) = firsts_of(alloc, calls, Side::Puts)? else {
         return Ok(true);
     };
-    let Some(_) = firsts_of(alloc, calls, Side::Gots)? else {
+    let Some(_gots) = firsts_of(alloc, calls, Side::Gots)? else {
         return Ok(true);
     };
     Ok(false)

@@ -1,8 +1,9 @@
 //! The command `least`: between which bounds the least k of a history lies.
-ghost use Rattle.std.specs.Prelude.{◌≡◌, ◌≢◌, ◌⊎◌, IfErr, IfOk, string_bytes};
+ghost use Rattle.std.specs.Prelude.{◌≡◌, ◌≢◌, ◌⊎◌, IfErr, IfOk, MatchResult, string_bytes};
+ghost use Rattle.kfifo_commands.specs.Inputs.{IsNoCalls};
 ghost use Rattle.kfifo_commands.specs.Records.{ReadsWell};
 ghost use Rattle.kfifo_commands.specs.Statuses.{status_number};
-ghost use Rattle.kfifo_commands.specs.Verdicts.{IsLeast, IsVerdictRefusal};
+ghost use Rattle.kfifo_commands.specs.Verdicts.{IsLeast, IsBounded, IsVerdictRefusal};
 
 use crate::input::{read_calls, read_input};
 use crate::options::LeastOptions;
@@ -25,7 +26,17 @@ pub fn answer<S: Source>(
     ensures reads { ReadsWell result (S.failed input.old) (S.failed input.new) }
 {
     let bytes = read_input(alloc, input)?;
-    let calls = read_calls(alloc, bytes.as_slice())?;
-    let (text, said) = least_text(alloc, &calls.history, calls.log(), options.tries)?;
+    let (text, status) = text_of(alloc, options, bytes.as_slice())?;
+    Ok((text, status))
+}
+
+/// The lines that answer the calls of these bytes, and the status.
+fn text_of(alloc: Global, options: LeastOptions, bytes: &[u8]) -> Result<(String, Status), Fault>
+    ensures said { MatchResult result (λ a. IsBounded bytes.now (string_bytes a.0) (status_number a.1)) (IsNoCalls bytes.now) }
+    ensures status { IfOk result (λ a. (a.1 ≡ Status.Answered) ⊎ (a.1 ≡ Status.Unordered)) }
+{
+    let calls = read_calls(alloc, bytes)?;
+    let tries = options.tries;
+    let (text, said) = least_text(alloc, &calls.history, calls.logged(), tries)?;
     Ok((text, status_of(said)))
 }

@@ -82,3 +82,11 @@ returns-in_err-print-in-Dispatch-clause-broken g c = any_err c.from_residual-in_
   rw (c.in-Dispatch.is, c.as_bytes-in-Dispatch.ensures.value) (c.in_ok-text-in-Dispatch.ensures.ok, refl),
   c.in_err-print-in-Dispatch.ensures.err,
 ))
+
+pub returns-in_err-print-in-Explain-clause-broken : goal.returns-in_err-print-in-Explain-clause-broken
+returns-in_err-print-in-Explain-clause-broken g c = any_err c.from_residual-in_err-print-in-Explain.result _ (λ fault is. (
+  c.as_bytes-in-Explain.result.now,
+  0,
+  rw c.in-Explain.is refl,
+  c.in_err-print-in-Explain.ensures.err,
+))
