@@ -479,7 +479,7 @@ To do: read the line below it: it says why the search stopped.
 ",
     },
     Topic {
-        words: "the tries ran out",
+        words: "the tries ran",
         help: judge::DETAILS,
         line: "  the tries ran out",
         advice: "\
