@@ -40,8 +40,8 @@ default_rule p d name default numbers text pe de te = (
 )
 
 -- a short name of the option for k
-pub places_rule : (d s : Arg) (least most : ℕ) → IsArg (default_option (codes "k") (small_numbers least most) (codes "2")) d → s ≡ record d { short = Some 107 } → IsArg (places_option least most) s
-places_rule d s least most de se = (ap rule_of se ∙ ap (λ (r : Rule). record r { short = Some 107 }) de.0, ap (λ (a : Arg). a.global) se ∙ de.1)
+pub places_rule : (d s : Arg) (least most : ℕ) (text : Text) → IsArg (default_option (codes "k") (small_numbers least most) text) d → s ≡ record d { short = Some 107 } → IsArg (places_option least most text) s
+places_rule d s least most text de se = (ap rule_of se ∙ ap (λ (r : Rule). record r { short = Some 107 }) de.0, ap (λ (a : Arg). a.global) se ∙ de.1)
 
 -- a text of help
 pub help_rule : (a h : Arg) (rule : Rule) (text : Option (Bor (List ℕ))) → IsArg rule a → h ≡ record a { help = text } → IsArg rule h

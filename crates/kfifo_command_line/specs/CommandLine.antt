@@ -35,9 +35,9 @@ default_option name numbers default = record (number_option name numbers) { defa
 abbrev pub small_numbers : ℕ → ℕ → ValueParser
 small_numbers least most = Signed (pos least) (pos most)
 
--- the option `-k` or `--k`, a number from least to most, 2 where it is left out
-abbrev pub places_option : ℕ → ℕ → Rule
-places_option least most = record (default_option (codes "k") (small_numbers least most) (codes "2")) { short = Some 107 }
+-- the option `-k` or `--k`, a number from least to most, with a default
+abbrev pub places_option : ℕ → ℕ → Text → Rule
+places_option least most default = record (default_option (codes "k") (small_numbers least most) default) { short = Some 107 }
 
 -- numbers up to the greatest version
 abbrev pub versions : ValueParser
@@ -46,7 +46,7 @@ versions = Unsigned 0 1099511627775
 -- the options of sizes
 abbrev pub with_sizes : App → App
 with_sizes app = with_rule (with_rule (with_rule (with_rule app
-    (places_option 0 4294967295))
+    (places_option 0 4294967295 (codes "2")))
     (default_option (codes "segments") (small_numbers 0 4294967295) (codes "2")))
     (default_option (codes "last") versions (codes "1099511627775")))
     (number_option (codes "probes") (small_numbers 0 4294967295))
@@ -55,9 +55,9 @@ with_sizes app = with_rule (with_rule (with_rule (with_rule app
 abbrev pub with_turns : App → App
 with_turns app = with_rule app (default_option (codes "turns") (small_numbers 1 65535) (codes "2"))
 
--- the option `--k` of those that ask for an order
-abbrev pub with_places : App → App
-with_places app = with_rule app (places_option 1 64)
+-- the option `--k` of those that ask for an order, with this default
+abbrev pub with_places : Text → App → App
+with_places default app = with_rule app (places_option 1 64 default)
 
 -- the option of the choices that a search may undo
 abbrev pub with_tries : App → App
@@ -81,7 +81,7 @@ run_command = with_rule (with_turns (with_sizes (new_app (codes "run")))) script
 
 -- the command `check`
 abbrev pub check_command : App
-check_command = with_rule (with_places (new_app (codes "check"))) (text_option (codes "order"))
+check_command = with_rule (with_places (codes "2") (new_app (codes "check"))) (text_option (codes "order"))
 
 -- the command `measure`
 abbrev pub measure_command : App
@@ -98,7 +98,7 @@ replay_command = with_rule (with_rule (with_rule (with_rule (with_rule (with_tur
 
 -- the command `judge`
 abbrev pub judge_command : App
-judge_command = with_rule (with_tries (with_places (new_app (codes "judge")))) (flag (codes "show"))
+judge_command = with_rule (with_tries (with_places (codes "1") (new_app (codes "judge")))) (flag (codes "show"))
 
 -- the command `least`
 abbrev pub least_command : App
@@ -116,7 +116,11 @@ import_command = new_app (codes "import")
 
 -- the command `draw`
 abbrev pub draw_command : App
-draw_command = with_rule (with_rule (with_places (new_app (codes "draw"))) (text_option (codes "order"))) (flag (codes "text"))
+draw_command = with_rule (with_rule (with_places (codes "2") (new_app (codes "draw"))) (text_option (codes "order"))) (flag (codes "text"))
+
+-- the command `explain`
+abbrev pub explain_command : App
+explain_command = with_rule (new_app (codes "explain")) script
 
 -- the command `dispatch`
 abbrev pub dispatch_command : App
@@ -139,8 +143,8 @@ bare_program = record {
 
 -- the program with its commands
 abbrev pub kfifo : App
-kfifo = with_subcommand (with_subcommand (with_subcommand (with_subcommand (with_subcommand (with_subcommand (with_subcommand (with_subcommand (with_subcommand (with_subcommand bare_program
-    run_command.top) check_command.top) measure_command.top) replay_command.top) judge_command.top) least_command.top) record_command.top) import_command.top) draw_command.top) dispatch_command.top
+kfifo = with_subcommand (with_subcommand (with_subcommand (with_subcommand (with_subcommand (with_subcommand (with_subcommand (with_subcommand (with_subcommand (with_subcommand (with_subcommand bare_program
+    run_command.top) check_command.top) measure_command.top) replay_command.top) judge_command.top) least_command.top) record_command.top) import_command.top) draw_command.top) dispatch_command.top) explain_command.top
 
 -- the command that was named is this one, and its options have these entries
 abbrev pub Names : Option (Text × List Row) → Text → Found → Type 0
@@ -152,7 +156,7 @@ NamesNone command = (found : Found) → ¬ (Names command (codes "run") found) �
     × ¬ (Names command (codes "measure") found)
     × ¬ (Names command (codes "replay") found) × ¬ (Names command (codes "judge") found) × ¬ (Names command (codes "least") found)
     × ¬ (Names command (codes "record") found) × ¬ (Names command (codes "import") found) × ¬ (Names command (codes "draw") found)
-    × ¬ (Names command (codes "dispatch") found)
+    × ¬ (Names command (codes "dispatch") found) × ¬ (Names command (codes "explain") found)
 
 -- a parse reads this of the command, and no argument of it is global
 abbrev pub IsCommand : App → Command → Type 0

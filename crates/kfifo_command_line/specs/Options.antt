@@ -6,6 +6,7 @@ use Rattle.clap.specs.Words.{first_value, matched_of, one_text, raw_values}
 use Rattle.kfifo_commands.specs.declared.options.CheckOptions.{CheckOptions}
 use Rattle.kfifo_commands.specs.declared.options.DispatchOptions.{DispatchOptions}
 use Rattle.kfifo_commands.specs.declared.options.DrawOptions.{DrawOptions}
+use Rattle.kfifo_commands.specs.declared.options.ExplainOptions.{ExplainOptions}
 use Rattle.kfifo_commands.specs.declared.options.JudgeOptions.{JudgeOptions}
 use Rattle.kfifo_commands.specs.declared.options.RecordOptions.{RecordOptions}
 use Rattle.kfifo_commands.specs.declared.options.ReplayOptions.{ReplayOptions}
@@ -71,9 +72,9 @@ pub record GivesRecord (found : Found) (options : RecordOptions) : Type 0 where
   pub times : GivesTimes found options.repeat
   pub scripts : map (λ script. script.now) options.scripts.now ≡ given_words found
 
--- the option `--k` of those that ask for an order, from 1 to 64
-abbrev pub GivesPlaces : Found → ℕ → Type 0
-GivesPlaces found k = (given : ℕ) × GivesOr 32 (one_text found (codes "k")) 2 given × (k ≡ min (max given 1) 64)
+-- the option `--k` of those that ask for an order, from 1 to 64, with this default
+abbrev pub GivesPlaces : Found → ℕ → ℕ → Type 0
+GivesPlaces found default k = (given : ℕ) × GivesOr 32 (one_text found (codes "k")) default given × (k ≡ min (max given 1) 64)
 
 -- the option `--tries`
 abbrev pub GivesTries : Found → ℕ → Type 0
@@ -81,19 +82,23 @@ GivesTries found tries = GivesOr 32 (one_text found (codes "tries")) 1000000 tri
 
 -- the options of `judge`
 pub record GivesJudge (found : Found) (options : JudgeOptions) : Type 0 where
-  pub k : GivesPlaces found options.k
+  pub k : GivesPlaces found 1 options.k
   pub tries : GivesTries found options.tries
   pub show : GivesFlag (one_text found (codes "show")) options.show
 
 -- the options of `check`
 pub record GivesCheck (found : Found) (options : CheckOptions) : Type 0 where
-  pub k : GivesPlaces found options.k
+  pub k : GivesPlaces found 2 options.k
   pub order : option_map (λ text. text.now) options.order ≡ first_value found (codes "order")
 
 -- the options of `draw`
 pub record GivesDraw (found : Found) (options : DrawOptions) : Type 0 where
   pub check : GivesCheck found options.check
   pub text : GivesFlag (one_text found (codes "text")) options.text
+
+-- the words of `explain`
+abbrev pub GivesExplain : Found → ExplainOptions → Type 0
+GivesExplain found options = map (λ word. word.now) options.words.now ≡ given_words found
 
 -- the options of `dispatch`
 pub record GivesDispatch (found : Found) (options : DispatchOptions) : Type 0 where

@@ -8,11 +8,11 @@ use Rattle.clap.specs.declared.parser.matches.Found.{Found}
 use Rattle.kfifo_texts.specs.declared.fault.Fault.{Fault}
 use Rattle.kfifo_texts.specs.declared.fault.Fault.TheVariants.{Memory}
 use Rattle.kfifo_commands.specs.declared.options.Request.{Request}
-use Rattle.kfifo_commands.specs.declared.options.Request.TheVariants.{Run, Check, Measure, Replay, Judge, Least, Record, Import, Draw, Dispatch}
+use Rattle.kfifo_commands.specs.declared.options.Request.TheVariants.{Run, Check, Measure, Replay, Judge, Least, Record, Import, Draw, Dispatch, Explain}
 use Rattle.kfifo_commands.specs.Endings.{IsAnswered, IsRefused}
 use Rattle.kfifo_texts.specs.Printing.{Nothing, Tells, Written}
 use Rattle.kfifo_command_line.specs.CommandLine.{Names, NamesNone, kinds, named}
-use Rattle.kfifo_command_line.specs.Options.{GivesCheck, GivesDispatch, GivesDraw, GivesJudge, GivesRecord, GivesReplay, GivesRun, GivesTries}
+use Rattle.kfifo_command_line.specs.Options.{GivesCheck, GivesDispatch, GivesDraw, GivesExplain, GivesJudge, GivesRecord, GivesReplay, GivesRun, GivesTries}
 
 -- the command that was named, with what its options were given, makes this request
 abbrev pub Requests : Option (Text × List Row) → Request → Type 0
@@ -26,6 +26,7 @@ Requests command (Record options) = (found : Found) × Names command (codes "rec
 Requests command Import = (found : Found) × Names command (codes "import") found
 Requests command (Draw options) = (found : Found) × Names command (codes "draw") found × GivesDraw found options
 Requests command (Dispatch options) = (found : Found) × Names command (codes "dispatch") found × GivesDispatch found options
+Requests command (Explain options) = (found : Found) × Names command (codes "explain") found × GivesExplain found options
 
 -- the words have no fault and make this request
 abbrev pub MakeRequest : List Text → Request → Type 0

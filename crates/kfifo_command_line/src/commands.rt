@@ -3,6 +3,7 @@
 pub mod check;
 pub mod dispatch;
 pub mod draw;
+pub mod explain;
 pub mod import;
 pub mod judge;
 pub mod least;

@@ -8,7 +8,10 @@ ghost use Rattle.kfifo_commands.specs.Endings.{Ends};
 ghost use Rattle.kfifo_texts.specs.Printing.{OnPrinter, OnWriter, Tells};
 ghost use Rattle.kfifo_commands.specs.Statuses.{status_number};
 
-use crate::commands::{check, dispatch, draw, import, judge, least, measure, record, replay, run};
+use crate::commands::{
+    check, dispatch, draw, explain, import, judge, least, measure, record, replay, run,
+};
+use crate::mistakes::mistake;
 use clap::error::ErrorKind;
 use clap::{ArgMatches, Command, Error};
 use kfifo_commands::{
@@ -29,10 +32,10 @@ Examples:
   kfifo run e7 e8 d   puts 7 and 8 into a queue, takes one, and prints the words of the queue
   kfifo check < record.json
                       says whether a recorded run of a queue has a legal order
+  kfifo judge < log.csv
+                      says of a log of your own queue whether it is that of a plain queue, and why not
   kfifo import < log.csv > record.json
-                      makes a record of a log of your own queue
-  kfifo judge < record.json
-                      the same as `check` of a record of any length, with the reason
+                      makes a record of such a log
   kfifo draw < record.json > run.svg
                       draws a record, a lane for each thread
   kfifo replay --picks 0x6,1x7,0x2 --turns 1 e5 e6:1
@@ -42,6 +45,8 @@ Examples:
   kfifo dispatch --workers 4 1:1000:0 2:2000:0
                       works off two tasks by four real threads
   kfifo run --help    says how a script is written, and what its options and faults are
+  kfifo explain record fault 3
+                      says what this fault means, what is allowed, and what to do
 
 Exit status: 0 for an answer; 1 for a fault of the data, a size, the memory, reading or writing; 2 for
 a fault of the command line; 3 where a record has no order, or its order is not legal; 4 where `judge`
@@ -128,13 +133,14 @@ fn perform<H: Threads + Files + Sync, S: Source, W: Write, F: Write, P: Progress
             ).number(),
             None => Status::Misused.number(),
         },
-        Err(error) => end_with_error(alloc, error, output, faults).number(),
+        Err(error) => end_with_error(alloc, words, error, output, faults).number(),
     }
 }
 
 /// Writes what a command line came to that names no command to be done: help, or what is wrong with it.
 fn end_with_error<W: Write, F: Write>(
     alloc: Global,
+    words: &[String],
     error: Error,
     output: &mut Printer<'_, W>,
     faults: &mut Printer<'_, F>,
@@ -148,7 +154,10 @@ fn end_with_error<W: Write, F: Write>(
         ErrorKind::DisplayHelp | ErrorKind::DisplayVersion => {
             end_with_text(alloc, Notice::Help, error, output, faults)
         }
-        _ => end_with_text(alloc, Notice::Misuse, error, output, faults),
+        _ => match mistake(alloc, words, error) {
+            Ok(text) => end_with_text(alloc, Notice::Misuse, text, output, faults),
+            Err(AllocError) => end_with_fault(Fault::Memory, faults),
+        },
     }
 }
 
@@ -187,6 +196,9 @@ fn request_of<'a>(matches: &'a ArgMatches<'_>) -> Option<Request<'a>>
     if let Some(options) = matches.subcommand_matches(dispatch::NAME) {
         return Some(Request::Dispatch(dispatch::options_of(options)));
     }
+    if let Some(options) = matches.subcommand_matches(explain::NAME) {
+        return Some(Request::Explain(explain::options_of(options)));
+    }
     None
 }
 
@@ -221,5 +233,6 @@ fn command<'a>(alloc: Global) -> Result<Command<'a>, AllocError>
         .subcommand(record::command(alloc)?)?
         .subcommand(import::command(alloc)?)?
         .subcommand(draw::command(alloc)?)?
-        .subcommand(dispatch::command(alloc)?)
+        .subcommand(dispatch::command(alloc)?)?
+        .subcommand(explain::command(alloc)?)
 }

@@ -3,6 +3,7 @@
 
 mod commands;
 mod entry;
+mod mistakes;
 mod options;
 
 pub use entry::{program, program_showing};

@@ -100,26 +100,30 @@ pub fn turns_of(matches: &ArgMatches<'_>) -> u16
     matches.get_one(TURNS).unwrap_or(DEFAULT_TURNS).max(1)
 }
 
-/// Adds the option `--k` of those that ask for an order, 1 to 64.
-pub fn with_places<'a>(alloc: Global, command: Command<'a>) -> Result<Command<'a>, AllocError>
-    ensures { IfOk result (λ c. (app_of c ≡ line.with_places (app_of command.entry))
+/// Adds the option `--k` of those that ask for an order, 1 to 64, with this default.
+pub fn with_places<'a>(
+    alloc: Global,
+    command: Command<'a>,
+    default: &'a str,
+) -> Result<Command<'a>, AllocError>
+    ensures { IfOk result (λ c. (app_of c ≡ line.with_places default.entry.now (app_of command.entry))
         × ((fields_of c).has_globals ≡ (fields_of command.entry).has_globals)) }
 {
     let k = option(alloc, K)
         .value_name("PLACES")
         .value_parser(value_parser!(u32).range(1..=64))
-        .default_value("2")
+        .default_value(default)
         .short('k')
         .help("A dequeue takes one of the k oldest items, 1 to 64");
     command.arg(k)
 }
 
 /// The option `--k` of those that ask for an order, 1 to 64: the option admits no other.
-pub fn places_of(matches: &ArgMatches<'_>) -> u32
-    ensures given { GivesPlaces (found_of matches.now) result }
+pub fn places_of(matches: &ArgMatches<'_>, default: u32) -> u32
+    ensures given { GivesPlaces (found_of matches.now) default result }
     ensures range { (1 ≤ result) × (result ≤ 64) }
 {
-    count_of(matches, K, DEFAULT_K).max(1).min(64)
+    count_of(matches, K, default).max(1).min(64)
 }
 
 /// Adds the option `--tries`.

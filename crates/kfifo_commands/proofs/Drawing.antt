@@ -1,7 +1,7 @@
 -- Why the command `draw` has no answer.
 use Rattle.std.proofs.Common.{◌≡◌, ℕ, List, Option, Some, subst, sym, ◌⊎◌, inl, inr, option_map}
 use Rattle.kfifo_texts.specs.declared.fault.Fault.{Fault}
-use Rattle.kfifo_texts.specs.declared.fault.Fault.TheVariants.{Shape, Word, Order, Picks, Replay, Open, Dispatch, Input, NotJson, Record, Search, RepeatedItem, Import, TooManyDrawn, Memory, Output}
+use Rattle.kfifo_texts.specs.declared.fault.Fault.TheVariants.{Shape, Word, Order, Picks, Replay, Open, Dispatch, Input, NotJson, Record, Search, RepeatedItem, Import, TooManyDrawn, Unexplained, Memory, Output}
 use Rattle.kfifo_commands.specs.declared.options.DrawOptions.{DrawOptions}
 use Rattle.kfifo_texts.specs.Orders.{GivesNoOrder}
 use Rattle.kfifo_commands.specs.Pictures.{IsDrawRefusal, IsUndrawn}
@@ -23,6 +23,7 @@ module _ (input : Option (List ℕ)) (before after : ℕ) (options : DrawOptions
   undrawn_refused RepeatedItem u = u
   undrawn_refused (Import fault) u = u
   undrawn_refused TooManyDrawn u = u
+  undrawn_refused Unexplained u = u
   undrawn_refused Memory u = u
   undrawn_refused Output u = u
 

@@ -1,17 +1,16 @@
 -- Why the commands that read a record have no answer, and what their answers are.
-use Rattle.std.proofs.Common.{◌≡◌, ◌≢◌, ◌≤◌, ℕ, List, length, Option, None, Some, IfSome, refl, Result, Ok, Err, IfErr, sym, subst, inl, inr, ◌⊎◌, option_map}
+use Rattle.std.proofs.Common.{◌≡◌, ◌≢◌, ◌≤◌, ℕ, List, length, Option, None, Some, IfSome, refl, Result, Ok, Err, IfErr, MatchResult, sym, subst, inl, inr, ◌⊎◌, option_map}
 use Rattle.kfifo_judge.specs.declared.record.StreamFault.{StreamFault}
 use Rattle.kfifo_judge.specs.declared.record.StreamFault.TheVariants as streams
 use Rattle.kfifo_judge.specs.Check.{IsCheckFault}
 use Rattle.kfifo_judge.specs.Measure.{IsMeasuringFault}
-use Rattle.kfifo_judge.specs.TextFaults.{IsTextFault}
 use Rattle.kfifo_texts.specs.declared.fault.Fault.{Fault}
-use Rattle.kfifo_texts.specs.declared.fault.Fault.TheVariants.{Memory, Order}
+use Rattle.kfifo_texts.specs.declared.fault.Fault.TheVariants.{Memory, Order, Input, Output}
 use Rattle.kfifo_commands.specs.declared.options.CheckOptions.{CheckOptions}
 use Rattle.kfifo_texts.specs.Faults.{stream_fault}
 use Rattle.kfifo_texts.specs.Orders.{GivesNoOrder, GivesOrder}
 use Rattle.kfifo_commands.specs.Records.{IsCheckRefusal, IsInput, IsMeasureRefusal, IsOfInput, IsOrder, IsStreamFault, GivesSomeOrder, IsUnread}
-use Rattle.kfifo_commands.specs.Verdicts.{IsVerdictRefusal}
+use Rattle.kfifo_commands.specs.Inputs.{IsNoCalls}
 
 -- bytes that an input of at most 16,777,216 gives are what was read of it
 pub of_short : (input : Option (List ℕ)) (bytes : List ℕ) → IfSome input (λ given. given ≡ bytes) → IfSome input (λ given. length given ≤ 16777216) → IsInput input bytes
@@ -56,21 +55,6 @@ module _ (input : Option (List ℕ)) (before after : ℕ) where
   pub measure_refused : (fault : Fault) → IsStreamFault input before after IsMeasuringFault fault → IsMeasureRefusal input before after fault
   measure_refused fault f = subst (λ f. IsMeasureRefusal input before after f) (sym f.1) (unmeasured f.0 f.2 f.3)
 
-  unjudged : (given : StreamFault) → (given ≡ streams.Input → IsUnread input before after)
-      → (given ≢ streams.Input → given ≢ streams.Output → given ≢ streams.Memory → IsOfInput input IsTextFault given)
-      → IsVerdictRefusal input before after (stream_fault given)
-  unjudged streams.Input unread h = unread refl
-  unjudged streams.NotJson unread h = h (λ e. cc) (λ e. cc) (λ e. cc)
-  unjudged (streams.Record f) unread h = h (λ e. cc) (λ e. cc) (λ e. cc)
-  unjudged (streams.Search f) unread h = let x = h (λ e. cc) (λ e. cc) (λ e. cc) in x.2
-  unjudged streams.RepeatedItem unread h = let x = h (λ e. cc) (λ e. cc) (λ e. cc) in x.2
-  unjudged streams.Memory unread h = tt
-  unjudged streams.Output unread h = tt
-
-  -- a fault of the streams of `judge` and `least` is a refusal
-  pub verdict_refused : (fault : Fault) → IsStreamFault input before after IsTextFault fault → IsVerdictRefusal input before after fault
-  verdict_refused fault f = subst (λ f. IsVerdictRefusal input before after f) (sym f.1) (unjudged f.0 f.2 f.3)
-
   -- a text that writes no order is a refusal
   pub order_refused : (options : CheckOptions) (text : List ℕ) (fault : Fault) → option_map (λ t. t.now) options.order ≡ Some text
       → (fault ≡ Memory) ⊎ ((fault ≡ Order) × GivesNoOrder text) → IsCheckRefusal options input before after fault
@@ -91,3 +75,11 @@ any_err (Err e) P h = h e
 pub ordered : (options : CheckOptions) (text order numbers : List ℕ) → option_map (λ t. t.now) options.order ≡ Some text → numbers ≡ order → GivesOrder text order → IsOrder options (Some numbers)
 ordered options text order numbers given same written =
     subst (λ t. GivesSomeOrder t (Some numbers)) (sym given) (numbers, refl, subst (λ o. GivesOrder text o) (sym same) written)
+
+-- an input that has no calls is no failure of writing
+no_output : (bytes : List ℕ) (fault : Fault) → IsNoCalls bytes fault → fault ≡ Output → ⊥
+no_output bytes fault none is = subst (λ f. IsNoCalls bytes f) is none
+
+pub silent : {T : Type 0} (bytes : List ℕ) (P : T → Type 0) (r : Result T Fault) (fault : Fault) → r ≡ Err fault → MatchResult r P (IsNoCalls bytes) → fault ≢ Output
+silent bytes P (Ok x) fault is h = absurd (cc)
+silent bytes P (Err other) fault is h = λ output. no_output bytes other h (let same : other ≡ Output = cc in same)

@@ -3,10 +3,11 @@ use Rattle.std.specs.Prelude.{◌≡◌, ◌≢◌, ◌⊎◌, ◌≤◌, ℕ, L
 use Rattle.kfifo_texts.specs.declared.fault.Fault.{Fault}
 use Rattle.kfifo_texts.specs.declared.fault.Fault.TheVariants.{Input}
 use Rattle.kfifo_commands.specs.declared.options.Request.{Request}
-use Rattle.kfifo_commands.specs.declared.options.Request.TheVariants.{Run, Check, Measure, Replay, Judge, Least, Record, Import, Draw, Dispatch}
+use Rattle.kfifo_commands.specs.declared.options.Request.TheVariants.{Run, Check, Measure, Replay, Judge, Least, Record, Import, Draw, Dispatch, Explain}
 use Rattle.kfifo_commands.specs.Dispatches.{IsDispatch, IsDispatchRefusal}
 use Rattle.kfifo_texts.specs.Faults.{fault_line}
 use Rattle.kfifo_texts.specs.Printing.{Nothing, Part, Tells, Whole, Written}
+use Rattle.kfifo_commands.specs.Explanations.{IsExplainRefusal}
 use Rattle.kfifo_commands.specs.Imports.{IsImport, IsImportRefusal}
 use Rattle.kfifo_commands.specs.Pictures.{IsDraw, IsDrawRefusal}
 use Rattle.kfifo_commands.specs.Records.{IsCheck, IsCheckRefusal, IsMeasure, IsMeasureRefusal}
@@ -27,6 +28,7 @@ Answers (Record options) input text status = IsRealRun options text × (status �
 Answers Import input text status = IsImport input text × (status ≡ 0)
 Answers (Draw options) input text status = IsDraw options input × (status ≡ 0)
 Answers (Dispatch options) input text status = IsDispatch options text × (status ≡ 0)
+Answers (Explain options) input text status = status ≡ 0
 
 -- the same, and no read failed
 abbrev pub IsAnswered : Request → Option (List ℕ) → ℕ → ℕ → List ℕ → ℕ → Type 0
@@ -44,6 +46,7 @@ IsCause (Record options) input before after fault = IsRealRunRefusal options fau
 IsCause Import input before after fault = IsImportRefusal input before after fault
 IsCause (Draw options) input before after fault = IsDrawRefusal options input before after fault
 IsCause (Dispatch options) input before after fault = IsDispatchRefusal options fault
+IsCause (Explain options) input before after fault = IsExplainRefusal fault
 
 -- the same, and no read failed but where that is the fault
 abbrev pub IsRefused : Request → Option (List ℕ) → ℕ → ℕ → Fault → Type 0

@@ -1,5 +1,5 @@
 -- What the commands `judge`, `least` and `draw` read: a record in JSON, or a log in CSV.
-use Rattle.std.specs.Prelude.{◌≡◌, ◌≢◌, ◌⊎◌, ◌<◌, ℕ, List, Option, Some, None, length, slice_index}
+use Rattle.std.specs.Prelude.{◌≡◌, ◌≢◌, ◌⊎◌, ◌<◌, ℕ, List, [], Option, Some, None, length, slice_index}
 use Rattle.kfifo_model.specs.declared.calls.Call.{Call}
 use Rattle.kfifo_model.specs.declared.history.RecordFault.{RecordFault}
 use Rattle.kfifo_import.specs.declared.log.ImportFault.{ImportFault}
@@ -26,6 +26,11 @@ pub record BeginsRecord (bytes : List ℕ) : Type 0 where
 abbrev pub IsCalls : List ℕ → List Call → Option (List LoggedCall) → Type 0
 IsCalls bytes history None = BeginsRecord bytes × IsRecordText bytes history
 IsCalls bytes history (Some calls) = ¬ (BeginsRecord bytes) × IsReadLog bytes history calls × (length calls ≡ length history)
+
+-- what the log says of each call, and nothing of a record
+abbrev pub logged_calls : Option (List LoggedCall) → List LoggedCall
+logged_calls (Some calls) = calls
+logged_calls None = []
 
 -- why an input has no calls
 abbrev pub IsNoCalls : List ℕ → Fault → Type 0

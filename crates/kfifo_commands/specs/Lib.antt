@@ -1,5 +1,6 @@
 pub mod Dispatches
 pub mod Endings
+pub mod Explanations
 pub mod Imports
 pub mod Inputs
 pub mod Pictures

@@ -6,7 +6,9 @@ ghost use Rattle.kfifo_texts.specs.Printing.{Breaks, OnPrinter, Tells, Writes};
 ghost use Rattle.kfifo_commands.specs.Records.{ReadsWell};
 ghost use Rattle.kfifo_commands.specs.Statuses.{status_number};
 
-use crate::commands::{check, dispatch, draw, import, judge, least, measure, record, replay, run};
+use crate::commands::{
+    check, dispatch, draw, explain, import, judge, least, measure, record, replay, run,
+};
 use crate::options::Request;
 use crate::progress::Progress;
 use crate::status::Status;
@@ -133,12 +135,12 @@ fn answer<H: Threads + Files + Sync, S: Source, W: Write, P: Progress>(
         }
         Request::Judge(options) => {
             let (text, status) = judge::answer(alloc, options, input)?;
-            output.print(text.as_slice())?;
+            output.print(text.as_bytes())?;
             Ok(status)
         }
         Request::Least(options) => {
             let (text, status) = least::answer(alloc, options, input)?;
-            output.print(text.as_slice())?;
+            output.print(text.as_bytes())?;
             Ok(status)
         }
         Request::Record(options) => {
@@ -158,6 +160,11 @@ fn answer<H: Threads + Files + Sync, S: Source, W: Write, P: Progress>(
         }
         Request::Dispatch(options) => {
             let text = dispatch::answer(rt, alloc, options)?;
+            output.print(text.as_bytes())?;
+            Ok(Status::Answered)
+        }
+        Request::Explain(options) => {
+            let text = explain::answer(alloc, options)?;
             output.print(text.as_bytes())?;
             Ok(Status::Answered)
         }

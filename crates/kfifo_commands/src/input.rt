@@ -1,6 +1,6 @@
 //! What the commands read.
 ghost use Rattle.std.specs.Prelude.{◌≡◌, ◌⊎◌, ◌↔◌, IfErr, IfOk, IsTrue, MatchResult, option_map};
-ghost use Rattle.kfifo_commands.specs.Inputs.{BeginsRecord, IsCalls, IsNoCalls, IsSpace};
+ghost use Rattle.kfifo_commands.specs.Inputs.{BeginsRecord, IsCalls, IsNoCalls, IsSpace, logged_calls};
 ghost use Rattle.kfifo_commands.specs.Records.{IsInput, IsUnread, ReadsWell};
 
 use kfifo_import::{LoggedCall, read_log};
@@ -16,6 +16,18 @@ pub(crate) struct Calls {
     pub(crate) history: History,
     /// Of a log: where each call of the history stands in it and when it was, by its number. None of a record in JSON.
     pub(crate) logged: Option<Vec<LoggedCall>>,
+}
+
+impl Calls {
+    /// Where each call stands in its log and when it was; nothing of the calls of a record in JSON.
+    pub(crate) fn logged(&self) -> &[LoggedCall]
+        ensures { result.now ≡ logged_calls (option_map (λ logged. logged.items) self.now.logged) }
+    {
+        match &self.logged {
+            Some(logged) => logged.as_slice(),
+            None => &[],
+        }
+    }
 }
 
 /// All bytes of the input, at most 16,777,216.

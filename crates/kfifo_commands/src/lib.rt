@@ -13,8 +13,8 @@ mod status;
 
 pub use ending::{Notice, carry_out, end_with_fault, end_with_text};
 pub use options::{
-    CheckOptions, DispatchOptions, DrawOptions, JudgeOptions, LeastOptions, RecordOptions,
-    ReplayOptions, Request, RunOptions,
+    CheckOptions, DispatchOptions, DrawOptions, ExplainOptions, JudgeOptions, LeastOptions,
+    RecordOptions, ReplayOptions, Request, RunOptions,
 };
 pub use progress::{Progress, Silent};
 pub use sizes::Sizes;

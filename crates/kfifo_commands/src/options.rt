@@ -2,6 +2,7 @@
 ghost use Rattle.std.specs.Prelude.{◌≤◌};
 
 use crate::sizes::Sizes;
+use kfifo_texts::Topic;
 
 /// What `run` is given.
 #[derive(Clone, Copy)]
@@ -104,6 +105,15 @@ pub struct DispatchOptions<'a> {
     pub words: &'a [&'a str],
 }
 
+/// What `explain` is given.
+#[derive(Clone, Copy)]
+pub struct ExplainOptions<'a> {
+    /// The words of a fault or an answer, as they were printed.
+    pub words: &'a [&'a str],
+    /// The faults and answers that are known.
+    pub topics: &'a [Topic],
+}
+
 /// A command with its options.
 #[derive(Clone, Copy)]
 pub enum Request<'a> {
@@ -127,4 +137,6 @@ pub enum Request<'a> {
     Draw(DrawOptions<'a>),
     /// Works off tasks by worker threads.
     Dispatch(DispatchOptions<'a>),
+    /// Says what a fault or an answer means.
+    Explain(ExplainOptions<'a>),
 }

@@ -1,6 +1,8 @@
 //! How the program ends.
 ghost use Rattle.std.specs.Prelude.{◌≡◌};
-ghost use Rattle.kfifo_commands.specs.Statuses.{status_number};
+ghost use Rattle.kfifo_commands.specs.Statuses.{outcome_status, status_number};
+
+use kfifo_explain::Outcome;
 
 /// The exit status.
 #[derive(Clone, Copy, PartialEq, Eq, Debug)]
@@ -23,5 +25,16 @@ impl Status {
         ensures { result ≡ status_number self }
     {
         self as u8
+    }
+}
+
+/// The status after what is said of a history.
+pub(crate) fn status_of(said: Outcome) -> Status
+    ensures { result ≡ outcome_status said }
+{
+    match said {
+        Outcome::Answered => Status::Answered,
+        Outcome::Unordered => Status::Unordered,
+        Outcome::Undecided => Status::Undecided,
     }
 }

@@ -42,6 +42,7 @@ fn a_fault_shows_its_line(rt: HostRuntime) -> Result<(), Fail> {
             "record fault 8 at line 10",
         ),
         (Fault::TooManyDrawn, "draw fault 1"),
+        (Fault::Unexplained, "explain fault 1"),
         (Fault::Memory, "memory"),
     ] {
         let text = format!(in rt.alloc(); "{fault}")?;

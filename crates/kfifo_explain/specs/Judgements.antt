@@ -1,18 +1,29 @@
--- What `judge` writes, and the statuses that it ends with.
-use Rattle.std.specs.Prelude.{ℕ, ◌≡◌, Bool, true, false, List, [], ◌++◌, codes, decimal}
+-- What `judge` says of a history.
+use Rattle.std.specs.Prelude.{ℕ, ◌≡◌, Bool, true, false, List, [], ◌++◌, Option, codes, decimal}
 use Rattle.kfifo_model.specs.declared.calls.Call.{Call}
 use Rattle.kfifo_model.specs.Ranks.{ranks_of}
+use Rattle.kfifo_verdict.specs.declared.verdicts.Evidence.{Evidence}
 use Rattle.kfifo_verdict.specs.declared.verdicts.Judgement.{Judgement}
 use Rattle.kfifo_verdict.specs.declared.verdicts.Judgement.TheVariants.{Legal, NoOrder, Undecided}
+use Rattle.kfifo_verdict.specs.declared.verdicts.Stuck.{Stuck}
+use Rattle.kfifo_verdict.specs.declared.verdicts.Stuck.TheVariants.{TriesRanOut, NothingLeft}
 use Rattle.kfifo_verdict.specs.Judging.{IsJudgement}
+use Rattle.kfifo_import.specs.declared.log.LoggedCall.{LoggedCall}
 use Rattle.kfifo_judge.specs.Check.{line}
-use Rattle.kfifo_judge.specs.Inputs.{IsRecordText}
+use Rattle.kfifo_explain.specs.declared.outcome.Outcome.{Outcome}
+use Rattle.kfifo_explain.specs.declared.outcome.Outcome.TheVariants as outcomes
+use Rattle.kfifo_explain.specs.Bounds.{FollowsReason}
 use Rattle.kfifo_explain.specs.Numbers.{greatest, numbers_line}
-use Rattle.kfifo_explain.specs.Reasons.{no_order_text}
+use Rattle.kfifo_explain.specs.Reasons.{reason_lines}
+use Rattle.kfifo_explain.specs.Repeats.{IsRepeatNote}
 
--- that an order is legal, and its greatest rank
-abbrev pub worst_lines : ℕ → List ℕ
-worst_lines worst = line (codes "legal") ++ line (codes "worst rank " ++ decimal worst)
+-- a verdict and the k that it is about
+abbrev pub about : List ℕ → ℕ → List ℕ
+about verdict k = line (verdict ++ (codes " for k = " ++ decimal k))
+
+-- the greatest rank of an order
+abbrev pub worst_line : ℕ → List ℕ
+worst_line worst = line (codes "worst rank " ++ decimal worst)
 
 -- the order, where it is to be shown
 abbrev pub shown_line : Bool → List ℕ → List ℕ
@@ -20,28 +31,37 @@ shown_line true order = numbers_line (codes "order ") order
 shown_line false order = []
 
 abbrev pub legal_text : ℕ → Bool → List Call → List ℕ → List ℕ
-legal_text k show h order = worst_lines (greatest (ranks_of k h order)) ++ shown_line show order
+legal_text k show h order = about (codes "legal") k ++ worst_line (greatest (ranks_of k h order)) ++ shown_line show order
 
-abbrev pub judgement_text : ℕ → Bool → List Call → Judgement → List ℕ
-judgement_text k show h (Legal order) = legal_text k show h order.items
-judgement_text k show h (NoOrder found) = no_order_text h found
-judgement_text k show h (Undecided stuck) = line (codes "undecided")
+-- the evidence with the calls that it names, and what follows it
+abbrev pub IsNoOrderText : ℕ → List LoggedCall → List Call → Evidence → List ℕ → Type 0
+IsNoOrderText k logged h found text =
+    (rest : List ℕ) × FollowsReason h found rest × (text ≡ about (codes "no order") k ++ reason_lines logged h found ++ rest)
 
--- 3 where no order is legal, 4 where nothing is said
-abbrev pub judgement_status : Judgement → ℕ
-judgement_status (Legal order) = 0
-judgement_status (NoOrder found) = 3
-judgement_status (Undecided stuck) = 4
+-- why the search stopped
+abbrev pub stuck_text : Stuck → List ℕ
+stuck_text TriesRanOut = codes "the tries ran out"
+stuck_text NothingLeft = codes "nothing is left to try"
 
--- The text and the status that answer a history: what is to be said of a verdict on it, the order shown or not.
-pub record IsJudgeAnswer (k : ℕ) (show : Bool) (h : List Call) (text : List ℕ) (status : ℕ) : Type 0 where
+-- why the search stopped, and whether items repeat
+abbrev pub IsUndecidedText : ℕ → List Call → Stuck → List ℕ → Type 0
+IsUndecidedText k h stuck text =
+    (note : List ℕ) × IsRepeatNote h note × (text ≡ about (codes "undecided") k ++ line (stuck_text stuck ++ note))
+
+-- the text says this verdict
+abbrev pub IsJudgementText : ℕ → Bool → List LoggedCall → List Call → Judgement → List ℕ → Type 0
+IsJudgementText k show logged h (Legal order) text = text ≡ legal_text k show h order.items
+IsJudgementText k show logged h (NoOrder found) text = IsNoOrderText k logged h found text
+IsJudgementText k show logged h (Undecided stuck) text = IsUndecidedText k h stuck text
+
+abbrev pub outcome : Judgement → Outcome
+outcome (Legal order) = outcomes.Answered
+outcome (NoOrder found) = outcomes.Unordered
+outcome (Undecided stuck) = outcomes.Undecided
+
+-- The text and the outcome answer a history: what is to be said of a verdict on it, the order shown or not.
+pub record IsJudgeAnswer (k : ℕ) (show : Bool) (logged : List LoggedCall) (h : List Call) (text : List ℕ) (said : Outcome) : Type 0 where
   pub judgement : Judgement
   pub judged : IsJudgement k h judgement
-  pub told : text ≡ judgement_text k show h judgement
-  pub ended : status ≡ judgement_status judgement
-
--- The text and the status answer the record that the bytes are.
-pub record IsJudged (k : ℕ) (show : Bool) (bytes text : List ℕ) (status : ℕ) : Type 0 where
-  pub calls : List Call
-  pub recorded : IsRecordText bytes calls
-  pub answer : IsJudgeAnswer k show calls text status
+  pub told : IsJudgementText k show logged h judgement text
+  pub ended : said ≡ outcome judgement

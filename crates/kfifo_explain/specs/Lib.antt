@@ -1,4 +1,6 @@
 pub mod Numbers
+pub mod Calls
 pub mod Reasons
-pub mod Judgements
+pub mod Repeats
 pub mod Bounds
+pub mod Judgements

@@ -1,20 +1,18 @@
 //! The answer of the command `least`.
-ghost use Rattle.std.specs.Prelude.{ℕ, ◌≡◌, ◌≢◌, ◌≤◌, ◌<◌, ◌⊎◌, ◌++◌, ◌↔◌, List, Err, OnOk, IfOk, IfErr, IfSome, IsTrue, MatchResult, length, string_bytes};
-ghost use Rattle.std.specs.Io.KnownBytes.{Appends, Keeps};
+ghost use Rattle.std.specs.Prelude.{ℕ, ◌≡◌, ◌++◌, ◌↔◌, List, OnOk, IfOk, IsTrue, string_bytes};
 ghost use Rattle.kfifo_model.specs.Validity.{IsHistory};
-ghost use Rattle.kfifo_judge.specs.Streams.{CountsOne, AppendsPart};
-ghost use Rattle.kfifo_judge.specs.TextFaults.{IsTextFault};
-ghost use Rattle.kfifo_explain.specs.Bounds.{IsBounded, IsLeastAnswer, NamesNoK, bounds_text};
+ghost use Rattle.kfifo_explain.specs.Bounds.{FollowsReason, IsLeastAnswer, NamesNoK, bounds_text, no_least_text};
 
-use crate::reasons::push_no_order;
-use kfifo_judge::{Sink, Source, StreamFault, read_all, read_record, write_all};
+use crate::outcome::Outcome;
+use crate::reasons::push_reasons;
+use kfifo_import::LoggedCall;
 use kfifo_model::History;
 use kfifo_verdict::{Bounds, Evidence, evidence, least_k};
 use std::alloc::{AllocError, Global};
 use std::fmt::Write;
 
 /// The greatest k that is asked for.
-const GREATEST_K: u32 = 64;
+const MAX_K: u32 = 64;
 
 /// Whether the evidence is there for each k.
 fn names_no_k(found: &Evidence) -> bool
@@ -38,73 +36,57 @@ fn push_bounds(text: &mut String, bounds: Bounds) -> Result<(), AllocError>
     }
 }
 
-/// The text and the status that answer a history.
-fn answer(alloc: Global, history: &History, tries: u64) -> Result<(String, u8), AllocError>
-    requires { IsHistory history.now }
-    ensures { IfOk result (λ a. IsLeastAnswer history.now (string_bytes a.0) a.1) }
+/// Adds bounds of the least k behind evidence that is about one k alone.
+pub(crate) fn push_following(
+    alloc: Global,
+    text: &mut String,
+    history: &History,
+    tries: u64,
+    found: &Evidence,
+) -> Result<(), AllocError>
+    ensures { OnOk result ((rest : List ℕ) × FollowsReason history.now found.now rest
+        × (string_bytes text.new ≡ string_bytes text.old ++ rest)) }
+{
+    if names_no_k(found) {
+        return Ok(());
+    }
+    push_bounds(text, least_k(alloc, history, tries)?)
+}
+
+/// What is said where no k has an order.
+fn no_least(
+    alloc: Global,
+    history: &History,
+    logged: &[LoggedCall],
+    found: &Evidence,
+) -> Result<String, AllocError>
+    ensures { IfOk result (λ text. string_bytes text ≡ no_least_text logged.now history.now found.now) }
 {
     let mut text = String::new(alloc);
-    let found = evidence(alloc, history, GREATEST_K)?;
+    text.push_str("no order\n")?;
+    push_reasons(&mut text, history, logged, found)?;
+    Ok(text)
+}
+
+/// Between which bounds the least k lies for which a history has a legal order, as a text; or `no order` with the evidence
+/// and the calls that it names, where there is evidence that names no k. `logged` has the line and the times of each call of
+/// a log, and nothing of a record. `tries` is the number of choices that each search for an order may undo.
+pub fn least_text(
+    alloc: Global,
+    history: &History,
+    logged: &[LoggedCall],
+    tries: u64,
+) -> Result<(String, Outcome), AllocError>
+    requires { IsHistory history.now }
+    ensures { IfOk result (λ a. IsLeastAnswer logged.now history.now (string_bytes a.0) a.1) }
+{
+    let found = evidence(alloc, history, MAX_K)?;
     if let Some(found) = &found {
         if names_no_k(found) {
-            push_no_order(&mut text, history, found)?;
-            return Ok((text, 3));
+            return Ok((no_least(alloc, history, logged, found)?, Outcome::Unordered));
         }
     }
+    let mut text = String::new(alloc);
     push_bounds(&mut text, least_k(alloc, history, tries)?)?;
-    Ok((text, 0))
-}
-
-/// The text and the status that answer a record's text.
-fn answer_text(alloc: Global, bytes: &[u8], tries: u64) -> Result<(String, u8), StreamFault>
-    ensures { MatchResult result (λ a. IsBounded bytes.now (string_bytes a.0) a.1) (IsTextFault bytes.now) }
-{
-    let history = read_record(alloc, bytes)?;
-    Ok(answer(alloc, &history, tries)?)
-}
-
-/// Reads a record from the source and writes to the sink between which bounds the least k lies for which it has a legal
-/// order; or `no order` with the evidence, where there is evidence that names no k. `tries` is the number of choices that
-/// each search for an order may undo. The answer is the exit status: 0 or 3. A failed call of the source or the sink is
-/// not made again.
-pub fn least_stream<R: Source, W: Sink>(
-    alloc: Global,
-    source: &mut R,
-    sink: &mut W,
-    tries: u64,
-) -> Result<u8, StreamFault>
-    // A status: the answer to what was read is written.
-    ensures answered { IfOk result (λ status. (bytes : List ℕ) × (text : List ℕ) × IfSome (R.remaining source.old) (λ given. given ≡ bytes)
-        × IsBounded bytes text status × Appends (W.contents sink.old) (W.contents sink.new) text) }
-    // A fault of writing: a beginning of the answer is.
-    ensures cut { result ≡ Err StreamFault.Output → (bytes : List ℕ) × (text : List ℕ) × (status : ℕ)
-        × IfSome (R.remaining source.old) (λ given. given ≡ bytes)
-        × IsBounded bytes text status × AppendsPart (W.contents sink.old) (W.contents sink.new) text }
-    // Another fault: nothing is.
-    ensures nothing { IfErr result (λ f. f ≢ StreamFault.Output → Keeps (W.contents sink.old) (W.contents sink.new)) }
-    // The causes.
-    ensures input { result ≡ Err StreamFault.Input →
-        CountsOne (R.failed source.old) (R.failed source.new)
-        ⊎ ((R.failed source.new ≡ R.failed source.old) × IfSome (R.remaining source.old) (λ given. 16777216 < length given)) }
-    ensures faults { IfErr result (λ f. f ≢ StreamFault.Input → f ≢ StreamFault.Output → f ≢ StreamFault.Memory →
-        (bytes : List ℕ) × IfSome (R.remaining source.old) (λ given. given ≡ bytes) × IsTextFault bytes f) }
-    // Every answer but Input and Memory: all that the source had to give, no longer than the limit, was read.
-    ensures short { result ≢ Err StreamFault.Input → result ≢ Err StreamFault.Memory
-        → IfSome (R.remaining source.old) (λ given. length given ≤ 16777216) }
-    // No call failed but the one that was answered.
-    ensures source_calls { (result ≢ Err StreamFault.Input) → R.failed source.new ≡ R.failed source.old }
-    ensures sink_calls { (result ≢ Err StreamFault.Output) → W.failed sink.new ≡ W.failed sink.old }
-    ensures sink_failed { result ≡ Err StreamFault.Output → CountsOne (W.failed sink.old) (W.failed sink.new) }
-{
-    let bytes = read_all(alloc, source)?;
-    match answer_text(alloc, &bytes, tries) {
-        Ok((text, status)) => {
-            if write_all(sink, text.as_bytes()) {
-                Ok(status)
-            } else {
-                Err(StreamFault::Output)
-            }
-        }
-        Err(fault) => Err(fault),
-    }
+    Ok((text, Outcome::Answered))
 }

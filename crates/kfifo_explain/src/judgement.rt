@@ -1,39 +1,48 @@
 //! The answer of the command `judge`.
-ghost use Rattle.std.specs.Prelude.{ℕ, ◌≡◌, ◌≢◌, ◌≤◌, ◌<◌, ◌⊎◌, ◌++◌, List, Err, OnOk, IfOk, IfErr, IfSome, MatchResult, length, string_bytes};
-ghost use Rattle.std.specs.Io.KnownBytes.{Appends, Keeps};
+ghost use Rattle.std.specs.Prelude.{◌≡◌, ◌≤◌, ◌++◌, IfOk, List, OnOk, string_bytes, ℕ};
 ghost use Rattle.kfifo_model.specs.Histories.{IsLegal};
 ghost use Rattle.kfifo_model.specs.Ranks.{ranks_of};
-ghost use Rattle.kfifo_judge.specs.Streams.{CountsOne, AppendsPart};
-ghost use Rattle.kfifo_judge.specs.TextFaults.{IsTextFault};
-ghost use Rattle.kfifo_explain.specs.Judgements.{IsJudgeAnswer, IsJudged, judgement_status, legal_text, shown_line, worst_lines};
+ghost use Rattle.kfifo_explain.specs.Bounds.{FollowsReason};
+ghost use Rattle.kfifo_explain.specs.Judgements.{IsJudgeAnswer, IsNoOrderText, IsUndecidedText, about, legal_text, outcome, shown_line, stuck_text, worst_line};
 ghost use Rattle.kfifo_explain.specs.Numbers.{greatest};
+ghost use Rattle.kfifo_explain.specs.Repeats.{IsRepeatNote};
 
+use crate::bounds::push_following;
 use crate::numbers::{greatest_of, push_numbers};
-use crate::reasons::push_no_order;
-use kfifo_judge::{Sink, Source, StreamFault, read_all, read_record, write_all};
+use crate::outcome::Outcome;
+use crate::reasons::push_reasons;
+use crate::repeats::items_repeat;
+use kfifo_import::LoggedCall;
 use kfifo_model::{History, RankFault, ranks};
-use kfifo_verdict::{Judgement, judge};
+use kfifo_verdict::{Evidence, Judgement, Stuck, judge};
 use std::alloc::{AllocError, Global};
 use std::fmt::Write;
 
+/// Adds a verdict and the k that it is about.
+fn push_about(text: &mut String, verdict: &str, k: u32) -> Result<(), AllocError>
+    ensures { OnOk result (string_bytes text.new ≡ string_bytes text.old ++ about verdict.now k) }
+{
+    writeln!(text, "{verdict} for k = {k}")
+}
+
 /// The greatest rank of a dequeue in a legal order.
-fn worst_rank(alloc: Global, history: &History, k: u32, order: &[usize]) -> Result<u32, StreamFault>
+fn worst_rank(alloc: Global, history: &History, k: u32, order: &[usize]) -> Result<u32, AllocError>
     requires places { (1 ≤ k) × (k ≤ 64) }
     requires legal { IsLegal k history.now order.now }
-    ensures { MatchResult result (λ rank. rank ≡ greatest (ranks_of k history.now order.now)) (λ fault. fault ≡ StreamFault.Memory) }
+    ensures { IfOk result (λ rank. rank ≡ greatest (ranks_of k history.now order.now)) }
 {
     match ranks(alloc, history, k, order) {
         Ok(found) => Ok(greatest_of(found.as_slice())),
-        Err(RankFault::Memory) => Err(StreamFault::Memory),
+        Err(RankFault::Memory) => Err(AllocError),
         Err(RankFault::NotLegal) => unreachable!(),
     }
 }
 
-/// Adds that an order is legal, and its greatest rank.
+/// Adds the greatest rank of an order.
 fn push_worst(text: &mut String, worst: u32) -> Result<(), AllocError>
-    ensures { OnOk result (string_bytes text.new ≡ string_bytes text.old ++ worst_lines worst) }
+    ensures { OnOk result (string_bytes text.new ≡ string_bytes text.old ++ worst_line worst) }
 {
-    writeln!(text, "legal\nworst rank {worst}")
+    writeln!(text, "worst rank {worst}")
 }
 
 /// Adds the order, where it is to be shown.
@@ -47,118 +56,109 @@ fn push_shown(text: &mut String, order: &[usize], show: bool) -> Result<(), Allo
     }
 }
 
-/// Adds what is said of a legal order.
-fn push_legal(
+/// What is said of a legal order.
+fn legal(
     alloc: Global,
-    text: &mut String,
     history: &History,
     k: u32,
     order: &[usize],
     show: bool,
-) -> Result<(), StreamFault>
+) -> Result<String, AllocError>
     requires places { (1 ≤ k) × (k ≤ 64) }
     requires legal { IsLegal k history.now order.now }
-    ensures told { OnOk result (string_bytes text.new ≡ string_bytes text.old ++ legal_text k show history.now order.now) }
-    ensures memory { IfErr result (λ fault. fault ≡ StreamFault.Memory) }
+    ensures { IfOk result (λ text. string_bytes text ≡ legal_text k show history.now order.now) }
 {
     let worst = worst_rank(alloc, history, k, order)?;
-    push_worst(text, worst)?;
-    push_shown(text, order, show)?;
-    Ok(())
+    let mut text = String::new(alloc);
+    push_about(&mut text, "legal", k)?;
+    push_worst(&mut text, worst)?;
+    push_shown(&mut text, order, show)?;
+    Ok(text)
 }
 
-/// The status after a verdict.
-fn status_of(judgement: &Judgement) -> u8
-    ensures { result ≡ judgement_status judgement.now }
-{
-    match judgement {
-        Judgement::Legal(_) => 0,
-        Judgement::NoOrder(_) => 3,
-        Judgement::Undecided(_) => 4,
-    }
-}
-
-/// The text and the status that answer a history.
-fn answer(
+/// What is said of evidence that there is no order.
+fn no_order(
     alloc: Global,
     history: &History,
+    logged: &[LoggedCall],
+    k: u32,
+    tries: u64,
+    found: &Evidence,
+) -> Result<String, AllocError>
+    ensures { IfOk result (λ text. IsNoOrderText k logged.now history.now found.now (string_bytes text)) }
+{
+    let mut text = String::new(alloc);
+    push_about(&mut text, "no order", k)?;
+    push_reasons(&mut text, history, logged, found)?;
+    push_following(alloc, &mut text, history, tries, found)?;
+    Ok(text)
+}
+
+/// Why the search stopped.
+fn reason_of(stuck: Stuck) -> &'static str
+    ensures { result.now ≡ stuck_text stuck }
+{
+    match stuck {
+        Stuck::TriesRanOut => "the tries ran out",
+        Stuck::NothingLeft => "nothing is left to try",
+    }
+}
+
+/// Adds that items repeat, where they do.
+fn push_repeat_note(alloc: Global, text: &mut String, history: &History) -> Result<(), AllocError>
+    ensures { OnOk result ((note : List ℕ) × IsRepeatNote history.now note × (string_bytes text.new ≡ string_bytes text.old ++ note)) }
+{
+    if items_repeat(alloc, history)? {
+        text.push_str("; items repeat")
+    } else {
+        Ok(())
+    }
+}
+
+/// What is said where neither an order nor evidence was found.
+fn undecided(alloc: Global, history: &History, k: u32, stuck: Stuck) -> Result<String, AllocError>
+    ensures { IfOk result (λ text. IsUndecidedText k history.now stuck (string_bytes text)) }
+{
+    let mut text = String::new(alloc);
+    push_about(&mut text, "undecided", k)?;
+    text.push_str(reason_of(stuck))?;
+    push_repeat_note(alloc, &mut text, history)?;
+    text.push('\n')?;
+    Ok(text)
+}
+
+/// What a verdict says of a history.
+fn outcome_of(judgement: &Judgement) -> Outcome
+    ensures { result ≡ outcome judgement.now }
+{
+    match judgement {
+        Judgement::Legal(_) => Outcome::Answered,
+        Judgement::NoOrder(_) => Outcome::Unordered,
+        Judgement::Undecided(_) => Outcome::Undecided,
+    }
+}
+
+/// A verdict on a history for a queue that may give any of its k oldest items, 1 to 64, as a text: `legal` with the
+/// greatest rank of the order that was found, and the order itself where it is to be shown; or `no order` with the
+/// evidence, the calls that it names and, where it is about this k alone, bounds of the least k; or `undecided` with the
+/// reason. `log` has the line and the times of each call, where the history is the record of a log. `tries` is the number
+/// of choices that each search for an order may undo.
+pub fn judge_text(
+    alloc: Global,
+    history: &History,
+    logged: &[LoggedCall],
     k: u32,
     tries: u64,
     show: bool,
-) -> Result<(String, u8), StreamFault>
+) -> Result<(String, Outcome), AllocError>
     requires { (1 ≤ k) × (k ≤ 64) }
-    ensures { MatchResult result (λ a. IsJudgeAnswer k show history.now (string_bytes a.0) a.1) (λ fault. fault ≡ StreamFault.Memory) }
+    ensures { IfOk result (λ a. IsJudgeAnswer k show logged.now history.now (string_bytes a.0) a.1) }
 {
     let judgement = judge(alloc, history, k, tries)?;
-    let mut text = String::new(alloc);
-    match &judgement {
-        Judgement::Legal(order) => push_legal(alloc, &mut text, history, k, order, show)?,
-        Judgement::NoOrder(found) => push_no_order(&mut text, history, found)?,
-        Judgement::Undecided(_) => text.push_str("undecided\n")?,
-    }
-    Ok((text, status_of(&judgement)))
-}
-
-/// The text and the status that answer a record's text.
-fn answer_text(
-    alloc: Global,
-    bytes: &[u8],
-    k: u32,
-    tries: u64,
-    show: bool,
-) -> Result<(String, u8), StreamFault>
-    requires { (1 ≤ k) × (k ≤ 64) }
-    ensures { MatchResult result (λ a. IsJudged k show bytes.now (string_bytes a.0) a.1) (IsTextFault bytes.now) }
-{
-    let history = read_record(alloc, bytes)?;
-    answer(alloc, &history, k, tries, show)
-}
-
-/// Reads a record from the source and writes to the sink a verdict on it for a queue that may give any of its k oldest
-/// items, 1 to 64: `legal` with the greatest rank of the order that was found, and the order itself where it is to be
-/// shown; or `no order` with the evidence; or `undecided`. `tries` is the number of choices that the search for an order
-/// may undo. The answer is the exit status: 0, 3 or 4. A failed call of the source or the sink is not made again.
-pub fn judge_stream<R: Source, W: Sink>(
-    alloc: Global,
-    source: &mut R,
-    sink: &mut W,
-    k: u32,
-    tries: u64,
-    show: bool,
-) -> Result<u8, StreamFault>
-    requires { (1 ≤ k) × (k ≤ 64) }
-    // A status: the answer to what was read is written.
-    ensures answered { IfOk result (λ status. (bytes : List ℕ) × (text : List ℕ) × IfSome (R.remaining source.old) (λ given. given ≡ bytes)
-        × IsJudged k show bytes text status × Appends (W.contents sink.old) (W.contents sink.new) text) }
-    // A fault of writing: a beginning of the answer is.
-    ensures cut { result ≡ Err StreamFault.Output → (bytes : List ℕ) × (text : List ℕ) × (status : ℕ)
-        × IfSome (R.remaining source.old) (λ given. given ≡ bytes)
-        × IsJudged k show bytes text status × AppendsPart (W.contents sink.old) (W.contents sink.new) text }
-    // Another fault: nothing is.
-    ensures nothing { IfErr result (λ f. f ≢ StreamFault.Output → Keeps (W.contents sink.old) (W.contents sink.new)) }
-    // The causes.
-    ensures input { result ≡ Err StreamFault.Input →
-        CountsOne (R.failed source.old) (R.failed source.new)
-        ⊎ ((R.failed source.new ≡ R.failed source.old) × IfSome (R.remaining source.old) (λ given. 16777216 < length given)) }
-    ensures faults { IfErr result (λ f. f ≢ StreamFault.Input → f ≢ StreamFault.Output → f ≢ StreamFault.Memory →
-        (bytes : List ℕ) × IfSome (R.remaining source.old) (λ given. given ≡ bytes) × IsTextFault bytes f) }
-    // Every answer but Input and Memory: all that the source had to give, no longer than the limit, was read.
-    ensures short { result ≢ Err StreamFault.Input → result ≢ Err StreamFault.Memory
-        → IfSome (R.remaining source.old) (λ given. length given ≤ 16777216) }
-    // No call failed but the one that was answered.
-    ensures source_calls { (result ≢ Err StreamFault.Input) → R.failed source.new ≡ R.failed source.old }
-    ensures sink_calls { (result ≢ Err StreamFault.Output) → W.failed sink.new ≡ W.failed sink.old }
-    ensures sink_failed { result ≡ Err StreamFault.Output → CountsOne (W.failed sink.old) (W.failed sink.new) }
-{
-    let bytes = read_all(alloc, source)?;
-    match answer_text(alloc, &bytes, k, tries, show) {
-        Ok((text, status)) => {
-            if write_all(sink, text.as_bytes()) {
-                Ok(status)
-            } else {
-                Err(StreamFault::Output)
-            }
-        }
-        Err(fault) => Err(fault),
-    }
+    let text = match &judgement {
+        Judgement::Legal(order) => legal(alloc, history, k, order, show)?,
+        Judgement::NoOrder(found) => no_order(alloc, history, logged, k, tries, found)?,
+        Judgement::Undecided(stuck) => undecided(alloc, history, k, *stuck)?,
+    };
+    Ok((text, outcome_of(&judgement)))
 }

@@ -1,10 +1,13 @@
-//! Why a history has no legal order, in a line.
-ghost use Rattle.std.specs.Prelude.{◌≡◌, ◌++◌, OnOk, string_bytes};
+//! Why a history has no legal order: the evidence, and the calls that it names.
+ghost use Rattle.std.specs.Prelude.{◌≡◌, ◌++◌, OnOk, string_bytes, take};
 ghost use Rattle.kfifo_model.specs.Histories.{does};
-ghost use Rattle.kfifo_explain.specs.Reasons.{no_order_text, reason_text, taken};
+ghost use Rattle.kfifo_explain.specs.Calls.{call_lines};
+ghost use Rattle.kfifo_explain.specs.Reasons.{named, reason_lines, reason_text, taken};
 
+use crate::calls::{Action, action_at, push_call, push_puts};
 use crate::numbers::push_joined;
-use kfifo_model::{Answer, Call, End, History, Op};
+use kfifo_import::LoggedCall;
+use kfifo_model::History;
 use kfifo_verdict::Evidence;
 use std::alloc::AllocError;
 use std::fmt::Write;
@@ -13,19 +16,8 @@ use std::fmt::Write;
 fn item_got(history: &History, number: usize) -> u32
     ensures { result ≡ taken (does history.now number) }
 {
-    match history.calls().get(number) {
-        Some(
-            Call {
-                op: Op::Dequeue,
-                end: Some(
-                    End {
-                        answer: Answer::Got(item),
-                        ..
-                    },
-                ),
-                ..
-            },
-        ) => *item,
+    match action_at(history, number) {
+        Action::Got(item) => item,
         _ => 0,
     }
 }
@@ -69,15 +61,42 @@ fn push_reason(text: &mut String, history: &History, found: &Evidence) -> Result
     }
 }
 
-/// Adds that there is no order, and why.
-pub(crate) fn push_no_order(
+/// Adds a line for each of the first 32 calls that the evidence names.
+fn push_named(
     text: &mut String,
     history: &History,
+    logged: &[LoggedCall],
     found: &Evidence,
 ) -> Result<(), AllocError>
-    ensures { OnOk result (string_bytes text.new ≡ string_bytes text.old ++ no_order_text history.now found.now) }
+    ensures { OnOk result (string_bytes text.new
+        ≡ string_bytes text.old ++ call_lines logged.now history.now (take 32 (named found.now))) }
 {
-    text.push_str("no order\n")?;
+    match found {
+        Evidence::NeverPut(get) | Evidence::TakenTwice(get) => push_call(
+            text, history, logged, *get,
+        ),
+        Evidence::NotEmpty { empty, puts } => {
+            push_call(text, history, logged, *empty)?;
+            push_puts(text, history, logged, puts.as_slice())
+        }
+        Evidence::TooYoung { get, puts } => {
+            push_call(text, history, logged, *get)?;
+            push_puts(text, history, logged, puts.as_slice())
+        }
+    }
+}
+
+/// Adds the evidence in a line, and a line for each of the first 32 calls that it names.
+pub(crate) fn push_reasons(
+    text: &mut String,
+    history: &History,
+    logged: &[LoggedCall],
+    found: &Evidence,
+) -> Result<(), AllocError>
+    ensures { OnOk result (string_bytes text.new
+        ≡ string_bytes text.old ++ reason_lines logged.now history.now found.now) }
+{
     push_reason(text, history, found)?;
-    text.push('\n')
+    text.push('\n')?;
+    push_named(text, history, logged, found)
 }

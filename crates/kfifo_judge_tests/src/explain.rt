@@ -1,7 +1,6 @@
-//! What the streams of verdicts answer where reading, writing or memory fails.
-use crate::plain::{judge_stream, least_stream};
-use crate::streams::{sink_with, source_of};
-use kfifo_judge::StreamFault;
+//! What a verdict says where memory is refused.
+use crate::plain::{judge_record, least_record};
+use kfifo_explain::Outcome;
 use std::test::Fail;
 
 /// Two items are got in the other order than they were put.
@@ -10,73 +9,58 @@ const EXCHANGED: &str = r#"[{"thread":0,"op":"enq","item":1,"first":0,"last":1,"
 {"thread":1,"op":"deq","first":4,"last":5,"answer":"got","item":2},
 {"thread":1,"op":"deq","first":6,"last":7,"answer":"got","item":1}]"#;
 
-/// A read or a write that failed is not made again.
+const NO_ORDER: &str = "\
+no order for k = 1
+call 2 got item 2, while 1 older items were there: calls 0
+  call 2: thread 1 got 2 from 4 to 5
+  call 0: thread 0 put 1 from 0 to 1, got by call 3
+k at least 2
+k at most 2
+";
+
+/// Item 1 is put twice, and one of the enqueues has not ended.
+const REPEATED: &str = r#"[{"thread":0,"op":"enq","item":1,"first":0,"last":1,"answer":"done"},
+{"thread":1,"op":"enq","item":1,"first":2},
+{"thread":2,"op":"deq","first":4,"last":5,"answer":"got","item":1}]"#;
+
+/// Holds with each allocation failing in turn: what is said after a refusal is the answer.
 #[test]
-fn broken_off(rt: HostRuntime) -> Result<(), Fail> {
-    let mut source = source_of(EXCHANGED, 2);
-    let mut sink = sink_with(rt.alloc(), 0, 0);
-    let found = judge_stream(rt.alloc(), &mut source, &mut sink, 1, 0, false);
-    assert_eq!(rt; found, Err(StreamFault::Input));
-    assert_eq!(rt;
-        (source.inner.calls, source.failed, sink.inner.calls),
-        (2, 1, 0)
-    );
-    let mut source = source_of(EXCHANGED, 2);
-    let found = least_stream(rt.alloc(), &mut source, &mut sink, 0);
-    assert_eq!(rt; found, Err(StreamFault::Input));
-    assert_eq!(rt;
-        (source.inner.calls, source.failed, sink.inner.calls),
-        (2, 1, 0)
-    );
-    for (fails_at, stalls_at) in [(2, 0), (0, 2)] {
-        let mut sink = sink_with(rt.alloc(), fails_at, stalls_at);
-        let found = judge_stream(
-            rt.alloc(),
-            &mut source_of(EXCHANGED, 0),
-            &mut sink,
-            2,
-            1_000,
-            false,
+fn refused_memory(rt: HostRuntime) -> Result<(), Fail> {
+    let found = match judge_record(rt.alloc(), EXCHANGED, 1, 9, true) {
+        Ok(answer) => Ok(answer),
+        Err(_) => judge_record(rt.alloc(), EXCHANGED, 1, 9, true),
+    };
+    if let Ok((text, said)) = found {
+        assert_eq!(rt; (text.as_str(), said), (NO_ORDER, Outcome::Unordered));
+    } else {
+        assert!(rt; false, "judge was refused memory twice");
+    }
+    let found = match least_record(rt.alloc(), EXCHANGED, 9) {
+        Ok(answer) => Ok(answer),
+        Err(_) => least_record(rt.alloc(), EXCHANGED, 9),
+    };
+    if let Ok((text, said)) = found {
+        assert_eq!(rt;
+            (text.as_str(), said),
+            ("k at least 2\nk at most 2\n", Outcome::Answered)
         );
-        assert_eq!(rt; found, Err(StreamFault::Output));
-        assert_eq!(rt; sink.inner.taken.as_slice(), "leg".as_bytes());
-        assert_eq!(rt; (sink.inner.calls, sink.failed), (2, 1));
-        let mut sink = sink_with(rt.alloc(), fails_at, stalls_at);
-        let found = least_stream(rt.alloc(), &mut source_of(EXCHANGED, 0), &mut sink, 1_000);
-        assert_eq!(rt; found, Err(StreamFault::Output));
-        assert_eq!(rt; (sink.inner.calls, sink.failed), (2, 1));
+    } else {
+        assert!(rt; false, "least was refused memory twice");
     }
     Ok(())
 }
 
-/// Holds with each allocation failing in turn: what is answered after a refusal is the answer.
+/// The same of items that repeat.
 #[test]
-fn refused_memory(rt: HostRuntime) -> Result<(), Fail> {
-    let mut first = sink_with(rt.alloc(), 0, 0);
-    let mut again = sink_with(rt.alloc(), 0, 0);
-    let found = match judge_stream(
-        rt.alloc(),
-        &mut source_of(EXCHANGED, 0),
-        &mut first,
-        2,
-        9,
-        true,
-    ) {
-        Ok(status) => Ok(status),
-        Err(_) => judge_stream(
-            rt.alloc(),
-            &mut source_of(EXCHANGED, 0),
-            &mut again,
-            2,
-            9,
-            true,
-        ),
+fn refused_memory_of_repeats(rt: HostRuntime) -> Result<(), Fail> {
+    let found = match judge_record(rt.alloc(), REPEATED, 1, 9, true) {
+        Ok(answer) => Ok(answer),
+        Err(_) => judge_record(rt.alloc(), REPEATED, 1, 9, true),
     };
-    assert_eq!(rt; found, Ok(0));
-    let found = match least_stream(rt.alloc(), &mut source_of(EXCHANGED, 0), &mut first, 9) {
-        Ok(status) => Ok(status),
-        Err(_) => least_stream(rt.alloc(), &mut source_of(EXCHANGED, 0), &mut again, 9),
-    };
-    assert_eq!(rt; found, Ok(0));
+    if let Ok((text, _)) = found {
+        assert!(rt; text.as_str().ends_with("\n"), "no line feed");
+    } else {
+        assert!(rt; false, "judge was refused memory twice");
+    }
     Ok(())
 }

@@ -3,6 +3,7 @@
 ghost use Rattle.std.specs.Prelude.{◌≤◌};
 
 use kfifo_draw::{DrawFault, Style};
+use kfifo_explain::Outcome;
 use kfifo_import::ImportFault;
 use kfifo_judge::{Sink, Source, StreamFault};
 use kfifo_model::{Call, History, RecordFault, SearchFault};
@@ -62,26 +63,26 @@ pub fn measure_stream<R: Source, W: Sink>(
     kfifo_judge::measure_stream(alloc, source, sink)
 }
 
-pub fn judge_stream<R: Source, W: Sink>(
+pub fn judge_record(
     alloc: Global,
-    source: &mut R,
-    sink: &mut W,
+    text: &str,
     k: u32,
     tries: u64,
     show: bool,
-) -> Result<u8, StreamFault>
+) -> Result<(String, Outcome), StreamFault>
     requires { (1 ≤ k) × (k ≤ 64) }
 {
-    kfifo_explain::judge_stream(alloc, source, sink, k, tries, show)
+    let history = kfifo_judge::read_record(alloc, text.as_bytes())?;
+    Ok(kfifo_explain::judge_text(alloc, &history, &[], k, tries, show)?)
 }
 
-pub fn least_stream<R: Source, W: Sink>(
+pub fn least_record(
     alloc: Global,
-    source: &mut R,
-    sink: &mut W,
+    text: &str,
     tries: u64,
-) -> Result<u8, StreamFault> {
-    kfifo_explain::least_stream(alloc, source, sink, tries)
+) -> Result<(String, Outcome), StreamFault> {
+    let history = kfifo_judge::read_record(alloc, text.as_bytes())?;
+    Ok(kfifo_explain::least_text(alloc, &history, &[], tries)?)
 }
 
 pub fn import_text(alloc: Global, text: &[u8]) -> Result<History, ImportFault> {

@@ -51,6 +51,8 @@ pub enum Fault {
     Import(ImportFault),
     /// There are more calls than a picture may have.
     TooManyDrawn,
+    /// The words to be explained are those of no fault and no answer.
+    Unexplained,
     /// A growth was refused.
     Memory,
     /// Writing an answer failed. No line is printed for it.
@@ -101,6 +103,7 @@ impl Fault {
             Fault::RepeatedItem => Line::plain("measure fault 2"),
             Fault::Import(fault) => log_line(fault),
             Fault::TooManyDrawn => Line::plain("draw fault 1"),
+            Fault::Unexplained => Line::plain("explain fault 1"),
             Fault::Memory => Line::plain("memory"),
             Fault::Output => Line::plain("output"),
         }

@@ -8,6 +8,7 @@ mod printing;
 mod recording;
 mod report;
 mod tasks;
+mod topics;
 mod words;
 
 pub use fault::Fault;
@@ -16,4 +17,5 @@ pub use printing::Printer;
 pub use recording::{record_line, record_text};
 pub use report::{push_dequeue, push_ends, push_enqueue, push_slot};
 pub use tasks::{finished_lines, read_tasks};
+pub use topics::{Topic, explanation};
 pub use words::{order_of, read_calls, read_scripts};

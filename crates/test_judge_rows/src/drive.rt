@@ -11,7 +11,8 @@
 //!
 //! | `ask` | What it prints |
 //! |---|---|
-//! | `check`, `measure`, `judge`, `least` | what the stream writes, and then its status or its fault |
+//! | `check`, `measure` | what the stream writes, and then its status or its fault |
+//! | `judge`, `least` | what is said of the record, and then its outcome; or its fault |
 //! | `evidence`, `witness`, `verdict`, `bounds` | what `evidence`, `witness`, `judge` and `least_k` return |
 //! | `import` | the calls of a log, or its fault |
 //! | `draw`, `svg` | the picture in characters, or as SVG; or its fault |
@@ -100,16 +101,10 @@ fn carried_out(
     sink: &mut Output,
     ask: &Value,
 ) -> Result<String, AllocError> {
-    let name = text(ask, "ask");
-    let tries = tries_of(ask);
-    if name == "check" {
+    if text(ask, "ask") == "check" {
         checked(alloc, source, sink, ask)
-    } else if name == "measure" {
-        plain::measure(alloc, source, sink)
-    } else if name == "judge" {
-        plain::judge(alloc, source, sink, k_of(ask), tries, flag(ask, "show"))
     } else {
-        plain::least(alloc, source, sink, tries)
+        plain::measure(alloc, source, sink)
     }
 }
 
@@ -149,6 +144,25 @@ fn add_stream(
     let ending = carried_out(alloc, &mut source, &mut sink, ask)?;
     add_page(alloc, &sink, source.failed, lines)?;
     Ok(lines.push(ending)?)
+}
+
+/// Adds the lines of a verdict in words.
+fn add_explained(
+    alloc: Global,
+    input: &str,
+    ask: &Value,
+    lines: &mut Vec<String>,
+) -> Result<(), AllocError> {
+    let (bytes, tries) = (input.as_bytes(), tries_of(ask));
+    let found = if text(ask, "ask") == "judge" {
+        plain::judge(alloc, bytes, k_of(ask), tries, flag(ask, "show"))
+    } else {
+        plain::least(alloc, bytes, tries)
+    };
+    match found {
+        Ok(said) => add_written(alloc, said.as_str(), lines),
+        Err(fault) => Ok(lines.push(plain::told(alloc, &fault)?)?),
+    }
 }
 
 /// The line of a verdict on a history.
@@ -218,12 +232,14 @@ fn add_answer(
     lines: &mut Vec<String>,
 ) -> Result<(), AllocError> {
     let name = text(ask, "ask");
-    let streams = ["check", "measure", "judge", "least"];
+    let streams = ["check", "measure"];
     let verdicts = [
         "evidence", "witness", "verdict", "bounds", "draw", "svg", "form",
     ];
     if streams.contains(&name) {
         add_stream(alloc, input, ask, lines)
+    } else if name == "judge" || name == "least" {
+        add_explained(alloc, input, ask, lines)
     } else if verdicts.contains(&name) {
         add_of_record(alloc, input, ask, lines)
     } else if name == "import" {

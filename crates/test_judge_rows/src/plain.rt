@@ -3,6 +3,7 @@
 
 use crate::streams::{Input, Output};
 use kfifo_draw::{DrawFault, Style};
+use kfifo_explain::Outcome;
 use kfifo_import::ImportFault;
 use kfifo_judge::StreamFault;
 use kfifo_model::History;
@@ -66,29 +67,34 @@ pub(crate) fn measure(
     ending(alloc, found)
 }
 
+/// What a text says of a history, as a line behind it.
+fn add_outcome(alloc: Global, text: String, said: Outcome) -> Result<String, AllocError> {
+    let mut text = text;
+    let line = told(alloc, &said)?;
+    text.push_str(line.as_str())?;
+    text.push('\n')?;
+    Ok(text)
+}
+
 pub(crate) fn judge(
     alloc: Global,
-    source: &mut Input<'_>,
-    sink: &mut Output,
+    bytes: &[u8],
     k: u32,
     tries: u64,
     show: bool,
-) -> Result<String, AllocError> {
+) -> Result<String, StreamFault> {
     if k < 1 || k > 64 {
-        return no_such_k(alloc, k);
+        return Ok(no_such_k(alloc, k)?);
     }
-    let found = kfifo_explain::judge_stream(alloc, source, sink, k, tries, show);
-    ending(alloc, found)
+    let history = kfifo_judge::read_record(alloc, bytes)?;
+    let (text, said) = kfifo_explain::judge_text(alloc, &history, &[], k, tries, show)?;
+    Ok(add_outcome(alloc, text, said)?)
 }
 
-pub(crate) fn least(
-    alloc: Global,
-    source: &mut Input<'_>,
-    sink: &mut Output,
-    tries: u64,
-) -> Result<String, AllocError> {
-    let found = kfifo_explain::least_stream(alloc, source, sink, tries);
-    ending(alloc, found)
+pub(crate) fn least(alloc: Global, bytes: &[u8], tries: u64) -> Result<String, StreamFault> {
+    let history = kfifo_judge::read_record(alloc, bytes)?;
+    let (text, said) = kfifo_explain::least_text(alloc, &history, &[], tries)?;
+    Ok(add_outcome(alloc, text, said)?)
 }
 
 pub(crate) fn read_record(alloc: Global, bytes: &[u8]) -> Result<History, StreamFault> {

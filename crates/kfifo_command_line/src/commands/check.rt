@@ -20,7 +20,7 @@ Examples:
   kfifo check < record.json                     look for a legal order
   kfifo check -k 1 --order 0,2,1 < record.json  judge this order for a plain queue";
 
-const DETAILS: &str = "\
+pub(super) const DETAILS: &str = "\
 The record is a JSON array on standard input, with an object for each call, by rising first step:
   {\"thread\":0,\"op\":\"enq\",\"item\":7,\"first\":0,\"last\":8,\"answer\":\"done\"}
   {\"thread\":1,\"op\":\"deq\",\"first\":9,\"last\":13,\"answer\":\"got\",\"item\":7}
@@ -87,7 +87,7 @@ pub fn command<'a>(alloc: Global) -> Result<Command<'a>, AllocError>
         .about("Reads a record of calls, and says whether an order of them is legal")
         .after_help(EXAMPLES)
         .after_long_help(DETAILS);
-    options::with_places(alloc, command)?.arg(order)
+    options::with_places(alloc, command, "2")?.arg(order)
 }
 
 /// What the options give.
@@ -95,7 +95,7 @@ pub fn options_of<'a>(matches: &'a ArgMatches<'_>) -> CheckOptions<'a>
     ensures { GivesCheck (found_of matches.now) result }
 {
     CheckOptions {
-        k: options::places_of(matches),
+        k: options::places_of(matches, 2),
         order: matches.get_str(ORDER),
     }
 }

@@ -21,7 +21,7 @@ Examples:
   kfifo draw --text < record.json               one for the terminal
   kfifo draw -k 1 --order 0,2,1 < record.json   with an order, for a plain queue";
 
-const DETAILS: &str = "\
+pub(super) const DETAILS: &str = "\
 The record is one as `kfifo check --help` says, on standard input: at most 16777216 bytes, and here
 at most 4096 calls.
 
@@ -76,7 +76,9 @@ pub fn command<'a>(alloc: Global) -> Result<Command<'a>, AllocError>
         .about("Reads a record of calls, and prints a picture of it")
         .after_help(EXAMPLES)
         .after_long_help(DETAILS);
-    options::with_places(alloc, command)?.arg(order)?.arg(text)
+    options::with_places(alloc, command, "2")?
+        .arg(order)?
+        .arg(text)
 }
 
 /// What the options give.

@@ -30,7 +30,7 @@ Examples:
                            the first thread stops within its call, the other goes on to its end
   kfifo replay --picks 0x57 --record e1,e2,e3,e4,d:1,d:1,d:1,d:1 | kfifo check --order 0,1,2,3,4,5,6,7";
 
-const DETAILS: &str = "\
+pub(super) const DETAILS: &str = "\
 Each SCRIPT is what one thread calls, in turn: words joined by commas. The first script is that of thread 0.
   e<ITEM>          put ITEM, 1 to 16777215, into the queue
   e<ITEM>:<START>  the same, looking at the slots of a segment from START on, 0 to k - 1

@@ -1,34 +1,42 @@
-//! The command `judge`: a verdict on a record of any length.
-ghost use Rattle.std.specs.Prelude.{◌≡◌, ◌≢◌, ◌⊎◌, IfOk, IfErr};
+//! The command `judge`: a verdict on a history of any length.
+ghost use Rattle.std.specs.Prelude.{◌≡◌, ◌≢◌, ◌⊎◌, IfErr, IfOk, MatchResult, string_bytes};
+ghost use Rattle.kfifo_commands.specs.Inputs.{IsNoCalls};
 ghost use Rattle.kfifo_commands.specs.Records.{ReadsWell};
 ghost use Rattle.kfifo_commands.specs.Statuses.{status_number};
-ghost use Rattle.kfifo_commands.specs.Verdicts.{IsJudge, IsVerdictRefusal};
+ghost use Rattle.kfifo_commands.specs.Verdicts.{IsJudge, IsJudged, IsVerdictRefusal};
 
+use crate::input::{read_calls, read_input};
 use crate::options::JudgeOptions;
-use crate::status::Status;
-use kfifo_explain::judge_stream;
-use kfifo_judge::{FromStd, Source};
+use crate::status::{Status, status_of};
+use kfifo_explain::judge_text;
+use kfifo_judge::Source;
 use kfifo_texts::Fault;
 use std::alloc::Global;
 
-/// The lines that answer the record of the input, and the status.
+/// The lines that answer the calls of the input, and the status.
 pub fn answer<S: Source>(
     alloc: Global,
     options: JudgeOptions,
     input: &mut S,
-) -> Result<(Vec<u8>, Status), Fault>
-    ensures ok { IfOk result (λ a. IsJudge options (S.remaining input.old) a.0.items (status_number a.1)) }
+) -> Result<(String, Status), Fault>
+    ensures ok { IfOk result (λ a. IsJudge options (S.remaining input.old) (string_bytes a.0) (status_number a.1)) }
     ensures status { IfOk result (λ a. (a.1 ≡ Status.Answered) ⊎ (a.1 ≡ Status.Unordered) ⊎ (a.1 ≡ Status.Undecided)) }
     ensures err { IfErr result (IsVerdictRefusal (S.remaining input.old) (S.failed input.old) (S.failed input.new)) }
     ensures silent { IfErr result (λ fault. fault ≢ Fault.Output) }
     ensures reads { ReadsWell result (S.failed input.old) (S.failed input.new) }
 {
-    let mut sink = FromStd::new(Vec::new(alloc));
+    let bytes = read_input(alloc, input)?;
+    let (text, status) = text_of(alloc, options, bytes.as_slice())?;
+    Ok((text, status))
+}
+
+/// The lines that answer the calls of these bytes, and the status.
+fn text_of(alloc: Global, options: JudgeOptions, bytes: &[u8]) -> Result<(String, Status), Fault>
+    ensures said { MatchResult result (λ a. IsJudged options bytes.now (string_bytes a.0) (status_number a.1)) (IsNoCalls bytes.now) }
+    ensures status { IfOk result (λ a. (a.1 ≡ Status.Answered) ⊎ (a.1 ≡ Status.Unordered) ⊎ (a.1 ≡ Status.Undecided)) }
+{
+    let calls = read_calls(alloc, bytes)?;
     let (k, tries, show) = (options.k, options.tries, options.show);
-    match judge_stream(alloc, input, &mut sink, k, tries, show) {
-        Ok(0) => Ok((sink.inner, Status::Answered)),
-        Ok(3) => Ok((sink.inner, Status::Unordered)),
-        Ok(_) => Ok((sink.inner, Status::Undecided)),
-        Err(fault) => Err(Fault::from(fault)),
-    }
+    let (text, said) = judge_text(alloc, &calls.history, calls.logged(), k, tries, show)?;
+    Ok((text, status_of(said)))
 }

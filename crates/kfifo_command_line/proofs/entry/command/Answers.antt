@@ -15,4 +15,5 @@ returns c =
     let seven = adds_command _ _ c.in_ok-subcommand-7.field-0 _ _ six c.in_ok-command-7.ensures c.in_ok-subcommand-7.ensures in
     let eight = adds_command _ _ c.in_ok-subcommand-8.field-0 _ _ seven c.in_ok-command-8.ensures c.in_ok-subcommand-8.ensures in
     let nine = adds_command _ _ c.in_ok-subcommand-9.field-0 _ _ eight c.in_ok-command-9.ensures c.in_ok-subcommand-9.ensures in
-    IfOk-weaker c.subcommand-10.result _ _ (λ r h. adds_command _ _ r _ _ nine c.in_ok-command-10.ensures h) c.subcommand-10.ensures
+    let ten = adds_command _ _ c.in_ok-subcommand-10.field-0 _ _ nine c.in_ok-command-10.ensures c.in_ok-subcommand-10.ensures in
+    IfOk-weaker c.subcommand-11.result _ _ (λ r h. adds_command _ _ r _ _ ten c.in_ok-command-11.ensures h) c.subcommand-11.ensures

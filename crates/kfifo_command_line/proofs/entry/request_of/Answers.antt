@@ -79,3 +79,11 @@ returns-in-Some-subcommand_matches-9-clause-some c =
       named_as c.args.matches.now (codes "dispatch") (found_of found.options.now) (found.ensures.found.0 refl) found.ensures.rows,
       c.options_of-in-Some-subcommand_matches-9.ensures,
     )
+
+pub returns-in-Some-subcommand_matches-10-clause-some : goal.returns-in-Some-subcommand_matches-10-clause-some
+returns-in-Some-subcommand_matches-10-clause-some c =
+    let found = c.in-Some-subcommand_matches-10 in (
+      found_of found.options.now,
+      named_as c.args.matches.now (codes "explain") (found_of found.options.now) (found.ensures.found.0 refl) found.ensures.rows,
+      c.options_of-in-Some-subcommand_matches-10.ensures,
+    )

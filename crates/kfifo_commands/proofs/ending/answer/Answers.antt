@@ -37,17 +37,17 @@ returns-in_err-print-in-Replay-clause-broken g c = any_err c.from_residual-in_er
 
 pub returns-in_err-print-in-Judge-clause-broken : goal.returns-in_err-print-in-Judge-clause-broken
 returns-in_err-print-in-Judge-clause-broken g c = any_err c.from_residual-in_err-print-in-Judge.result _ (λ fault is. (
-  c.as_slice-in-Judge.result.now,
+  c.as_bytes-in-Judge.result.now,
   status_number c.in_ok-text-in-Judge.status,
-  rw (c.in-Judge.is, c.as_slice-in-Judge.ensures.value) c.in_ok-text-in-Judge.ensures.ok,
+  rw (c.in-Judge.is, c.as_bytes-in-Judge.ensures.value) c.in_ok-text-in-Judge.ensures.ok,
   c.in_err-print-in-Judge.ensures.err,
 ))
 
 pub returns-in_err-print-in-Least-clause-broken : goal.returns-in_err-print-in-Least-clause-broken
 returns-in_err-print-in-Least-clause-broken g c = any_err c.from_residual-in_err-print-in-Least.result _ (λ fault is. (
-  c.as_slice-in-Least.result.now,
+  c.as_bytes-in-Least.result.now,
   status_number c.in_ok-text-in-Least.status,
-  rw (c.in-Least.is, c.as_slice-in-Least.ensures.value) c.in_ok-text-in-Least.ensures.ok,
+  rw (c.in-Least.is, c.as_bytes-in-Least.ensures.value) c.in_ok-text-in-Least.ensures.ok,
   c.in_err-print-in-Least.ensures.err,
 ))
 
@@ -81,4 +81,12 @@ returns-in_err-print-in-Dispatch-clause-broken g c = any_err c.from_residual-in_
   0,
   rw (c.in-Dispatch.is, c.as_bytes-in-Dispatch.ensures.value) (c.in_ok-text-in-Dispatch.ensures.ok, refl),
   c.in_err-print-in-Dispatch.ensures.err,
+))
+
+pub returns-in_err-print-in-Explain-clause-broken : goal.returns-in_err-print-in-Explain-clause-broken
+returns-in_err-print-in-Explain-clause-broken g c = any_err c.from_residual-in_err-print-in-Explain.result _ (λ fault is. (
+  c.as_bytes-in-Explain.result.now,
+  0,
+  rw c.in-Explain.is refl,
+  c.in_err-print-in-Explain.ensures.err,
 ))

@@ -11,7 +11,7 @@ returns c =
     let text = help_rule c.flag.result c.help-text.result _ _ (c.flag.ensures.rule, c.flag.ensures.own) c.help-text.ensures in
     let bare = bare_command c.new.result c.about.result c.after_help.result c.after_long_help-command.result (codes "draw") _ _ _ c.new.ensures.app c.new.ensures.local
     c.about.ensures c.after_help.ensures c.after_long_help-command.ensures in
-    let placed = c.in_ok-with_places.ensures.0 ∙ ap with_places bare.0 in
+    let placed = c.in_ok-with_places.ensures.0 ∙ ap (with_places (codes "2")) bare.0 in
     let one = adds _ c.in_ok-arg.field-0 c.help-order.result _ _ placed order c.in_ok-arg.ensures in
     IfOk-weaker c.arg-2.result _ _ (λ r h.
     let all = adds _ r c.help-text.result _ _ one.0 text h in

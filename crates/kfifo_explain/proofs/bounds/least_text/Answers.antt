@@ -1,13 +1,15 @@
 use Rattle.std.proofs.Common.{rules, ℕ, ◌≡◌, inl, inr, refl, List, Option, Some, None, IfSome, MatchOption}
 use Rattle.kfifo_model.specs.declared.calls.Call.{Call}
+use Rattle.kfifo_import.specs.declared.log.LoggedCall.{LoggedCall}
 use Rattle.kfifo_verdict.specs.declared.verdicts.Evidence.{Evidence}
 use Rattle.kfifo_verdict.specs.declared.verdicts.Evidence.TheVariants.{NeverPut, TakenTwice, NotEmpty, TooYoung}
 use Rattle.kfifo_verdict.specs.declared.verdicts.Bounds.{Bounds}
 use Rattle.kfifo_verdict.specs.Judging.{AreBounds, HasNoEvidence, IsFirstEvidence}
 use Rattle.kfifo_verdict.proofs.Concluding.{first_refutes}
+use Rattle.kfifo_explain.specs.declared.outcome.Outcome.TheVariants.{Answered}
 use Rattle.kfifo_explain.specs.Bounds.{IsLeastAnswer, NamesNoK, bounds_text}
-use Rattle.kfifo_explain.proofs.bounds.answer.Goals as goal
-use Rattle.kfifo_explain.proofs.bounds.answer.Goals.{in-Some+else-names_no_k, in_default}
+use Rattle.kfifo_explain.proofs.bounds.least_text.Goals as goal
+use Rattle.kfifo_explain.proofs.bounds.least_text.Goals.{in-Some+else-names_no_k, in_default}
 
 -- evidence that names no k is evidence for each
 for_each : (j k : ℕ) (h : List Call) (found : Evidence) → NamesNoK found → IsFirstEvidence j h found → IsFirstEvidence k h found
@@ -30,14 +32,14 @@ returns-then-names_no_k c =
     })
 
 -- with no evidence that names no k, the bounds are the answer
-bounded : (h : List Call) (text : List ℕ) (found : Option Evidence) (b : Bounds) → MatchOption found (HasNoEvidence 64 h) (IsFirstEvidence 64 h)
-    → IfSome found (λ e. NamesNoK e → ⊥) → AreBounds h b → text ≡ bounds_text b → IsLeastAnswer h text 0
-bounded h text None b none named are told = inr (record { put = none.0; taken_once = none.1; empty = none.2; bounds = b; are = are; told = told; ended = refl })
-bounded h text (Some (TooYoung get puts)) b first named are told =
+bounded : (logged : List LoggedCall) (h : List Call) (text : List ℕ) (found : Option Evidence) (b : Bounds) → MatchOption found (HasNoEvidence 64 h) (IsFirstEvidence 64 h)
+    → IfSome found (λ e. NamesNoK e → ⊥) → AreBounds h b → text ≡ bounds_text b → IsLeastAnswer logged h text Answered
+bounded logged h text None b none named are told = inr (record { put = none.0; taken_once = none.1; empty = none.2; bounds = b; are = are; told = told; ended = refl })
+bounded logged h text (Some (TooYoung get puts)) b first named are told =
     inr (record { put = first.0; taken_once = first.1; empty = first.2; bounds = b; are = are; told = told; ended = refl })
-bounded h text (Some (NeverPut get)) b first named are told = absurd (named tt)
-bounded h text (Some (TakenTwice get)) b first named are told = absurd (named tt)
-bounded h text (Some (NotEmpty empty puts)) b first named are told = absurd (named tt)
+bounded logged h text (Some (NeverPut get)) b first named are told = absurd (named tt)
+bounded logged h text (Some (TakenTwice get)) b first named are told = absurd (named tt)
+bounded logged h text (Some (NotEmpty empty puts)) b first named are told = absurd (named tt)
 
 pub returns : goal.returns
 returns c =
@@ -45,4 +47,4 @@ returns c =
       | in-Some+else-names_no_k w ↦ rw w.in-Some.is (search rules)
       | in_default w ↦ search rules
     ] in
-    bounded c.args.history.now _ c.in_ok-found.found c.in_ok-least_k.field-0 c.in_ok-found.ensures.first named c.in_ok-least_k.ensures (search rules)
+    bounded c.args.logged.now c.args.history.now _ c.in_ok-found.found c.in_ok-least_k.field-0 c.in_ok-found.ensures.first named c.in_ok-least_k.ensures (search rules)

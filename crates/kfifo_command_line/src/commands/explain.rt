@@ -1,0 +1,927 @@
+//! The command `explain`: what a fault or an answer means, in the words of the help, what is allowed, and what to do.
+ghost use Rattle.std.specs.Prelude.{IfOk};
+ghost use Rattle.clap.specs.Words.{found_of};
+ghost use Rattle.kfifo_command_line.specs.CommandLine.{IsCommand, explain_command};
+ghost use Rattle.kfifo_command_line.specs.Options.{GivesExplain};
+
+use crate::commands::{check, dispatch, draw, import, judge, least, measure, record, replay, run};
+use clap::{Arg, ArgAction, ArgMatches, Command};
+use kfifo_commands::ExplainOptions;
+use kfifo_texts::Topic;
+use std::alloc::{AllocError, Global};
+
+/// The name of the command.
+pub const NAME: &str = "explain";
+
+const WORDS: &str = "words";
+
+const EXAMPLES: &str = "\
+Examples:
+  kfifo explain record fault 3
+  kfifo explain undecided";
+
+const DETAILS: &str = "\
+The words are those of a fault or an answer, as the program printed it: `record fault 3 at line 12`, with
+or without `kfifo:` before it, or the beginning of it that tells it from others, as `csv fault`. Quote words
+that your shell would take for its own.
+
+The answer is what the help of the command says of it, what is allowed, and what to do.
+
+Some answers stand in no other list:
+  legal                       of `check --order`: the order is legal
+  order                       of `check`: an order of the calls is legal; with call numbers behind it, the
+                              order itself
+  the order fails             of `draw --order`: the order is not legal, for the reason behind it; or `the
+                              order is legal`
+  no calls                    of `draw --text`: the record is empty
+  call <N> item <X> overtaken <C>   of `measure`: so many items that were put after X were got before it
+  most <C>                    of `measure`: the greatest of these counts
+  head <S> v<V>               of `run`: the head's segment, and the version of the word
+  tail <S> v<V>               of `run`: the tail's segment, and the version of the word
+  slot <S>.<P> <X> v<V>       of `run`: the item in place P of segment S, 0 of none, and the slot's version
+  <ID> <SUM>                  of `dispatch`: what the task came to
+
+Faults, each one line on standard error:
+  kfifo: explain fault 1      the words are those of no fault and no answer
+  kfifo: memory               an allocation failed
+  error: <TEXT>               of each command: the command line is at fault, and the status is 2
+
+Exit status:
+  0  the answer was printed
+  1  there was a fault of this list, or standard output could not be written
+  2  the command line is at fault
+
+Examples:
+  kfifo explain record fault 3
+  kfifo explain undecided
+  kfifo explain \"call 5 got item 9, while 1 older items were there: calls 3\"
+
+docs/PROGRAM.md and docs/JUDGE.md, where this program comes from, say more.";
+
+/// The faults and answers: of those that begin alike, the longer one first.
+const TOPICS: &[Topic] = &[
+    Topic {
+        words: "shape fault 1",
+        help: run::DETAILS,
+        line: "  kfifo: shape fault 1",
+        advice: "\
+Allowed: -k from 1 to 64, by default 2.
+To do: give another -k.
+",
+    },
+    Topic {
+        words: "shape fault 2",
+        help: run::DETAILS,
+        line: "  kfifo: shape fault 2",
+        advice: "\
+Allowed: --segments from 2 to 1024, by default 2.
+To do: give another --segments.
+",
+    },
+    Topic {
+        words: "shape fault 3",
+        help: run::DETAILS,
+        line: "  kfifo: shape fault 3",
+        advice: "\
+Allowed: --last from 2 to 1099511627775, the default.
+To do: give another --last, or none.
+",
+    },
+    Topic {
+        words: "shape fault 4",
+        help: run::DETAILS,
+        line: "  kfifo: shape fault 4",
+        advice: "\
+Allowed: --probes from 1 to the k of -k, by default k.
+To do: give another --probes, or none.
+",
+    },
+    Topic {
+        words: "word fault",
+        help: run::DETAILS,
+        line: "  kfifo: word fault",
+        advice: "\
+Allowed: e<ITEM>, e<ITEM>:<START>, d and d:<START>, an item from 1 to 16777215 and a start from 0 to k - 1;
+of `replay` and `record` such words joined by commas, of `dispatch` <ID>:<LEFT>:<SUM>.
+To do: correct the word with this number, counted from 1; of `replay` and `record` it is the script with this number.
+",
+    },
+    Topic {
+        words: "order fault",
+        help: check::DETAILS,
+        line: "  kfifo: order fault",
+        advice: "\
+Allowed: call numbers of 1 to 10 digits joined by commas, `none`, or @ and the path of a file with such a text.
+To do: correct the value of --order, or the file, of at most 16777216 bytes.
+",
+    },
+    Topic {
+        words: "picks fault",
+        help: replay::DETAILS,
+        line: "  kfifo: picks fault",
+        advice: "\
+Allowed: `none`, or groups <THREAD> or <THREAD>x<COUNT> joined by commas, at most 16777216 picks in all.
+To do: correct the value of --picks.
+",
+    },
+    Topic {
+        words: "replay fault 1",
+        help: replay::DETAILS,
+        line: "  kfifo: replay fault 1",
+        advice: "\
+Allowed: the numbers of scripts, from 0, that have not ended.
+To do: leave this pick out, or give its thread a longer script.
+",
+    },
+    Topic {
+        words: "replay fault 2",
+        help: replay::DETAILS,
+        line: "  kfifo: replay fault 2",
+        advice: "\
+To do: give the program more memory, or make fewer picks.
+",
+    },
+    Topic {
+        words: "replay fault 3",
+        help: replay::DETAILS,
+        line: "  kfifo: replay fault 3",
+        advice: "\
+Allowed: 1 to 64 scripts of at most 64 calls, and with --stop the number of one of them, from 0.
+To do: make fewer or shorter scripts, or name another thread.
+",
+    },
+    Topic {
+        words: "open fault 1",
+        help: record::DETAILS,
+        line: "  kfifo: open fault 1",
+        advice: "\
+Allowed: 1 to 64 scripts, a thread for each.
+To do: make fewer scripts.
+",
+    },
+    Topic {
+        words: "open fault 2",
+        help: record::DETAILS,
+        line: "  kfifo: open fault 2",
+        advice: "\
+To do: give the program more memory, or make the queue smaller.
+",
+    },
+    Topic {
+        words: "open fault 4",
+        help: record::DETAILS,
+        line: "  kfifo: open fault 4",
+        advice: "\
+Allowed: at most 1024 calls of a script times --repeat.
+To do: make the script shorter, or --repeat less.
+",
+    },
+    Topic {
+        words: "dispatch fault 1",
+        help: dispatch::DETAILS,
+        line: "  kfifo: dispatch fault 1",
+        advice: "\
+Allowed: at most 1024 tasks.
+To do: dispatch them in several runs.
+",
+    },
+    Topic {
+        words: "dispatch fault 2",
+        help: dispatch::DETAILS,
+        line: "  kfifo: dispatch fault 2",
+        advice: "\
+Allowed: each ID once.
+To do: give one of the two tasks another ID.
+",
+    },
+    Topic {
+        words: "dispatch fault 3",
+        help: dispatch::DETAILS,
+        line: "  kfifo: dispatch fault 3",
+        advice: "\
+To do: give the program more memory, or dispatch fewer tasks.
+",
+    },
+    Topic {
+        words: "dispatch fault 4",
+        help: dispatch::DETAILS,
+        line: "  kfifo: dispatch fault 4",
+        advice: "\
+Allowed: --workers from 1 to 63, by default 2.
+To do: give another --workers.
+",
+    },
+    Topic {
+        words: "input",
+        help: check::DETAILS,
+        line: "  kfifo: input",
+        advice: "\
+Allowed: at most 16777216 bytes on standard input.
+To do: see that the input can be read, and judge a shorter run.
+",
+    },
+    Topic {
+        words: "not json",
+        help: check::DETAILS,
+        line: "  kfifo: not json",
+        advice: "\
+Allowed: a JSON array of calls, as `kfifo check --help` shows, of at most 127 levels.
+To do: see that the whole record was written. `judge`, `least` and `draw` read a log in CSV, too; `check` and `measure`
+read what `kfifo import < log.csv` prints.
+",
+    },
+    Topic {
+        words: "record fault 1",
+        help: check::DETAILS,
+        line: "  kfifo: record fault 1",
+        advice: "\
+Allowed: a JSON array, with an object for each call.
+To do: put the calls between [ and ].
+",
+    },
+    Topic {
+        words: "record fault 2",
+        help: check::DETAILS,
+        line: "  kfifo: record fault 2",
+        advice: "\
+Allowed: at most 65536 calls.
+To do: judge a shorter run.
+",
+    },
+    Topic {
+        words: "record fault 3 at line",
+        help: import::DETAILS,
+        line: "  kfifo: record fault 3 at line",
+        advice: "\
+Allowed: `thread`, `op` and `first` always; `item` in each enq, and in a deq exactly if it was answered got; `last`
+and `answer` both or neither; no other key in a record; `op` enq or deq; numbers that are whole and at least 0.
+To do: look at the call with this number, from 0, or at this line of the log, from 1.
+",
+    },
+    Topic {
+        words: "record fault 3",
+        help: check::DETAILS,
+        line: "  kfifo: record fault 3",
+        advice: "\
+Allowed: `thread`, `op` and `first` always; `item` in each enq, and in a deq exactly if it was answered got; `last`
+and `answer` both or neither; no other key in a record; `op` enq or deq; numbers that are whole and at least 0.
+To do: look at the call with this number, from 0, or at this line of the log, from 1.
+",
+    },
+    Topic {
+        words: "record fault 4 at line",
+        help: import::DETAILS,
+        line: "  kfifo: record fault 4 at line",
+        advice: "\
+Allowed: a thread from 0 to 63, an item from 1 to 16777215.
+To do: number threads from 0, and items from 1, each with a number of its own.
+",
+    },
+    Topic {
+        words: "record fault 4",
+        help: check::DETAILS,
+        line: "  kfifo: record fault 4",
+        advice: "\
+Allowed: a thread from 0 to 63, an item from 1 to 16777215.
+To do: number threads from 0, and items from 1, each with a number of its own.
+",
+    },
+    Topic {
+        words: "record fault 5 at line",
+        help: import::DETAILS,
+        line: "  kfifo: record fault 5 at line",
+        advice: "\
+Allowed: done, full, busy and worn of an enq; got, empty, busy and worn of a deq.
+To do: correct the answer, or the op.
+",
+    },
+    Topic {
+        words: "record fault 5",
+        help: check::DETAILS,
+        line: "  kfifo: record fault 5",
+        advice: "\
+Allowed: done, full, busy and worn of an enq; got, empty, busy and worn of a deq.
+To do: correct the answer, or the op.
+",
+    },
+    Topic {
+        words: "record fault 6 at line",
+        help: import::DETAILS,
+        line: "  kfifo: record fault 6 at line",
+        advice: "\
+Allowed: `last` equal to `first` or greater.
+To do: read one monotonic clock before and after the call, and write the earlier value as `first`.
+",
+    },
+    Topic {
+        words: "record fault 6",
+        help: check::DETAILS,
+        line: "  kfifo: record fault 6",
+        advice: "\
+Allowed: `last` equal to `first` or greater.
+To do: read one monotonic clock before and after the call, and write the earlier value as `first`.
+",
+    },
+    Topic {
+        words: "record fault 7",
+        help: check::DETAILS,
+        line: "  kfifo: record fault 7",
+        advice: "\
+Allowed: calls by rising `first`, no two of which begin at one stamp.
+To do: sort the calls by `first`. In a log in CSV lines may stand in any order, and two calls may begin at one time.
+",
+    },
+    Topic {
+        words: "record fault 8 at line",
+        help: import::DETAILS,
+        line: "  kfifo: record fault 8 at line",
+        advice: "\
+Allowed: calls of one thread that follow one another: the next begins after the one before has ended.
+To do: give each thread a number of its own. A thread whose call never returned makes no more calls.
+",
+    },
+    Topic {
+        words: "record fault 8",
+        help: check::DETAILS,
+        line: "  kfifo: record fault 8",
+        advice: "\
+Allowed: calls of one thread that follow one another: the next begins after the one before has ended.
+To do: give each thread a number of its own. A thread whose call never returned makes no more calls.
+",
+    },
+    Topic {
+        words: "record fault 9",
+        help: check::DETAILS,
+        line: "  kfifo: record fault 9",
+        advice: "\
+To do: give the program more memory, or judge a shorter run.
+",
+    },
+    Topic {
+        words: "csv fault",
+        help: import::DETAILS,
+        line: "  kfifo: csv fault",
+        advice: "\
+Allowed: a header with thread, op, item, first, last and answer, in any order, and below it a call a line, with as many
+fields; a field that does not apply is empty.
+To do: look at this line, counted from 1. A record in JSON begins with [.
+",
+    },
+    Topic {
+        words: "search fault 1",
+        help: check::DETAILS,
+        line: "  kfifo: search fault 1",
+        advice: "\
+Allowed: at most 12 calls where no order is given.
+To do: use `kfifo judge`, which takes 65536 calls, or give an --order.
+",
+    },
+    Topic {
+        words: "search fault 2",
+        help: check::DETAILS,
+        line: "  kfifo: search fault 2",
+        advice: "\
+To do: give the program more memory, or use `kfifo judge`.
+",
+    },
+    Topic {
+        words: "measure fault 2",
+        help: measure::DETAILS,
+        line: "  kfifo: measure fault 2",
+        advice: "\
+Allowed: items of which no two enqueues that are done or unfinished carry one, and no two dequeues got one.
+To do: give each item a number of its own.
+",
+    },
+    Topic {
+        words: "draw fault 1",
+        help: draw::DETAILS,
+        line: "  kfifo: draw fault 1",
+        advice: "\
+Allowed: at most 4096 calls in a picture.
+To do: draw a part of the run.
+",
+    },
+    Topic {
+        words: "draw fault 2",
+        help: draw::DETAILS,
+        line: "  kfifo: draw fault 2",
+        advice: "\
+Allowed: options that do not contradict each other, as `kfifo draw --help` says.
+To do: leave one of them out.
+",
+    },
+    Topic {
+        words: "draw fault 3",
+        help: draw::DETAILS,
+        line: "  kfifo: draw fault 3",
+        advice: "\
+Allowed: two numbers joined by -, the first no greater than the second.
+To do: correct the value of --calls or --lines.
+",
+    },
+    Topic {
+        words: "draw fault 4",
+        help: draw::DETAILS,
+        line: "  kfifo: draw fault 4",
+        advice: "\
+Allowed: --lines of a log in CSV.
+To do: use --calls of a record.
+",
+    },
+    Topic {
+        words: "explain fault 1",
+        help: DETAILS,
+        line: "  kfifo: explain fault 1",
+        advice: "\
+Allowed: the words of a fault or an answer, as they were printed.
+To do: write them as they were printed, or see the help of the command that printed them.
+",
+    },
+    Topic {
+        words: "memory",
+        help: check::DETAILS,
+        line: "  kfifo: memory",
+        advice: "\
+To do: give the program more memory, or judge a shorter run.
+",
+    },
+    Topic {
+        words: "error:",
+        help: DETAILS,
+        line: "  error:",
+        advice: "\
+To do: see the usage below the error, or `kfifo --help`.
+",
+    },
+    Topic {
+        words: "no order for",
+        help: judge::DETAILS,
+        line: "  no order for k = <K>",
+        advice: "\
+To do: read the line below it: it names the calls because of which no order is legal.
+",
+    },
+    Topic {
+        words: "legal for",
+        help: judge::DETAILS,
+        line: "  legal for k = <K>",
+        advice: "\
+To do: nothing: the calls may be those of a queue that gives any of its k oldest items. `--show` prints the order.
+",
+    },
+    Topic {
+        words: "undecided",
+        help: judge::DETAILS,
+        line: "  undecided for k = <K>",
+        advice: "\
+To do: read the line below it: it says why the search stopped.
+",
+    },
+    Topic {
+        words: "the tries ran",
+        help: judge::DETAILS,
+        line: "  the tries ran out",
+        advice: "\
+Allowed: --tries from 0 to 4294967295, by default 1000000.
+To do: give more --tries, or judge a shorter run.
+",
+    },
+    Topic {
+        words: "nothing is left",
+        help: judge::DETAILS,
+        line: "  nothing is left to try",
+        advice: "\
+To do: give each item a number of its own, let each call end, and judge a shorter run.
+",
+    },
+    Topic {
+        words: "items repeat",
+        help: judge::DETAILS,
+        line: "  ; items repeat",
+        advice: "\
+To do: give each item a number of its own: then k = 1 is always decided if each call ends.
+",
+    },
+    Topic {
+        words: "; items repeat",
+        help: judge::DETAILS,
+        line: "  ; items repeat",
+        advice: "\
+To do: give each item a number of its own: then k = 1 is always decided if each call ends.
+",
+    },
+    Topic {
+        words: "no order",
+        help: least::DETAILS,
+        line: "  no order ",
+        advice: "\
+To do: of `check`, use `kfifo judge`, which says why; of `least`, read the line below it.
+",
+    },
+    Topic {
+        words: "call # got item #, which no",
+        help: judge::DETAILS,
+        line: "  call <N> got item <X>, which no",
+        advice: "\
+To do: look for a dequeue that returns what was not put, or too soon; or for a call that is missing in the log.
+",
+    },
+    Topic {
+        words: "call # got item #, which was",
+        help: judge::DETAILS,
+        line: "  call <N> got item <X>, which was",
+        advice: "\
+To do: look for a dequeue that takes an item which another one takes, too; or for a put that is missing in the log.
+",
+    },
+    Topic {
+        words: "call # found nothing,",
+        help: judge::DETAILS,
+        line: "  call <N> found nothing, while",
+        advice: "\
+To do: see behind each put whether its item was got later: then the queue said empty too early; or never: then it was
+lost, or was left inside at the end of the log. Drain the queue until it answers empty before the log ends.
+",
+    },
+    Topic {
+        words: "call # got item #, while",
+        help: judge::DETAILS,
+        line: "  call <N> got item <X>, while",
+        advice: "\
+To do: see below for which k there may be an order: for those the queue is a k-relaxed one.
+",
+    },
+    Topic {
+        words: "call #: thread",
+        help: judge::DETAILS,
+        line: "  call <N>: thread",
+        advice: "\
+To do: compare its stamps with those of the other calls that are named.
+",
+    },
+    Topic {
+        words: "call #, line #:",
+        help: judge::DETAILS,
+        line: "  call <N>, line <L>: thread",
+        advice: "\
+To do: see this line of the log, counted from 1.
+",
+    },
+    Topic {
+        words: ", got by call",
+        help: judge::DETAILS,
+        line: "  , got by call",
+        advice: "\
+To do: see call M: it got the item after the call that found nothing, or after one that got a younger item.
+",
+    },
+    Topic {
+        words: "got by call",
+        help: judge::DETAILS,
+        line: "  , got by call",
+        advice: "\
+To do: see call M: it got the item after the call that found nothing, or after one that got a younger item.
+",
+    },
+    Topic {
+        words: ", never got",
+        help: judge::DETAILS,
+        line: "  , never got",
+        advice: "\
+To do: drain the queue until it answers empty before the log ends: what is never got then is lost.
+",
+    },
+    Topic {
+        words: "never got",
+        help: judge::DETAILS,
+        line: "  , never got",
+        advice: "\
+To do: drain the queue until it answers empty before the log ends: what is never got then is lost.
+",
+    },
+    Topic {
+        words: "k at least",
+        help: least::DETAILS,
+        line: "  k at least",
+        advice: "\
+To do: nothing: it is a bound that is proved.
+",
+    },
+    Topic {
+        words: "k at most",
+        help: least::DETAILS,
+        line: "  k at most",
+        advice: "\
+To do: nothing: an order is legal for this k. A greater --tries may find one for a lesser k.
+",
+    },
+    Topic {
+        words: "k unknown",
+        help: least::DETAILS,
+        line: "  k unknown",
+        advice: "\
+To do: give a greater --tries, if the bound is at most 64.
+",
+    },
+    Topic {
+        words: "worst rank",
+        help: judge::DETAILS,
+        line: "  worst rank",
+        advice: "\
+To do: nothing: it is at most k - 1, and 0 in a plain queue.
+",
+    },
+    Topic {
+        words: "fault 1 repeats",
+        help: check::DETAILS,
+        line: "  fault 1 repeats",
+        advice: "\
+To do: name each call once in --order.
+",
+    },
+    Topic {
+        words: "fault 2 not a call",
+        help: check::DETAILS,
+        line: "  fault 2 not a call",
+        advice: "\
+To do: name finished calls and unfinished enqueues, by their places from 0.
+",
+    },
+    Topic {
+        words: "fault 3 leaves out",
+        help: check::DETAILS,
+        line: "  fault 3 leaves out",
+        advice: "\
+To do: name each finished call in --order.
+",
+    },
+    Topic {
+        words: "fault 4 breaks before",
+        help: check::DETAILS,
+        line: "  fault 4 breaks before",
+        advice: "\
+To do: put a call that has ended before another began in front of that one.
+",
+    },
+    Topic {
+        words: "fault 5 not a run at",
+        help: check::DETAILS,
+        line: "  fault 5 not a run at",
+        advice: "\
+To do: look at the call at this place of the order, from 0: an Empty needs an empty list, a Got one of the k
+oldest items.
+",
+    },
+    Topic {
+        words: "the order",
+        help: DETAILS,
+        line: "  the order fails",
+        advice: "\
+To do: look at the call that is marked.
+",
+    },
+    Topic {
+        words: "legal",
+        help: DETAILS,
+        line: "  legal",
+        advice: "\
+To do: nothing.
+",
+    },
+    Topic {
+        words: "call # item # overtaken",
+        help: DETAILS,
+        line: "  call <N> item <X> overtaken <C>",
+        advice: "\
+To do: nothing: in a plain queue each count is 0.
+",
+    },
+    Topic {
+        words: "most",
+        help: DETAILS,
+        line: "  most <C>",
+        advice: "\
+To do: nothing: in a plain queue it is 0.
+",
+    },
+    Topic {
+        words: "enqueue #: done",
+        help: run::DETAILS,
+        line: "  done ",
+        advice: "\
+To do: nothing.
+",
+    },
+    Topic {
+        words: "enqueue #: full",
+        help: run::DETAILS,
+        line: "  full ",
+        advice: "\
+To do: take items first, or make the queue larger by --segments.
+",
+    },
+    Topic {
+        words: "enqueue #: busy",
+        help: run::DETAILS,
+        line: "  busy ",
+        advice: "\
+To do: give more --turns: the number of segments plus 2 is enough where no other call disturbs.
+",
+    },
+    Topic {
+        words: "enqueue #: worn",
+        help: run::DETAILS,
+        line: "  worn ",
+        advice: "\
+To do: make a new queue, or give a greater --last.
+",
+    },
+    Topic {
+        words: "dequeue: got",
+        help: run::DETAILS,
+        line: "  got <ITEM> ",
+        advice: "\
+To do: nothing.
+",
+    },
+    Topic {
+        words: "dequeue: empty",
+        help: run::DETAILS,
+        line: "  empty ",
+        advice: "\
+To do: nothing.
+",
+    },
+    Topic {
+        words: "dequeue: busy",
+        help: run::DETAILS,
+        line: "  busy ",
+        advice: "\
+To do: give more --turns: the number of segments plus 2 is enough where no other call disturbs.
+",
+    },
+    Topic {
+        words: "dequeue: worn",
+        help: run::DETAILS,
+        line: "  worn ",
+        advice: "\
+To do: make a new queue, or give a greater --last.
+",
+    },
+    Topic {
+        words: "done",
+        help: run::DETAILS,
+        line: "  done ",
+        advice: "\
+To do: nothing.
+",
+    },
+    Topic {
+        words: "full",
+        help: run::DETAILS,
+        line: "  full ",
+        advice: "\
+To do: take items first, or make the queue larger by --segments.
+",
+    },
+    Topic {
+        words: "got",
+        help: run::DETAILS,
+        line: "  got <ITEM> ",
+        advice: "\
+To do: nothing.
+",
+    },
+    Topic {
+        words: "empty",
+        help: run::DETAILS,
+        line: "  empty ",
+        advice: "\
+To do: nothing.
+",
+    },
+    Topic {
+        words: "busy",
+        help: run::DETAILS,
+        line: "  busy ",
+        advice: "\
+To do: give more --turns: the number of segments plus 2 is enough where no other call disturbs.
+",
+    },
+    Topic {
+        words: "worn",
+        help: run::DETAILS,
+        line: "  worn ",
+        advice: "\
+To do: make a new queue, or give a greater --last.
+",
+    },
+    Topic {
+        words: "head",
+        help: DETAILS,
+        line: "  head <S> v<V>",
+        advice: "\
+To do: nothing.
+",
+    },
+    Topic {
+        words: "tail",
+        help: DETAILS,
+        line: "  tail <S> v<V>",
+        advice: "\
+To do: nothing.
+",
+    },
+    Topic {
+        words: "slot",
+        help: DETAILS,
+        line: "  slot <S>.<P> <X> v<V>",
+        advice: "\
+To do: nothing.
+",
+    },
+    Topic {
+        words: "steps",
+        help: replay::DETAILS,
+        line: "  steps <N>",
+        advice: "\
+To do: nothing.
+",
+    },
+    Topic {
+        words: "points",
+        help: replay::DETAILS,
+        line: "  points <STEPS>",
+        advice: "\
+To do: nothing.
+",
+    },
+    Topic {
+        words: "rollbacks",
+        help: replay::DETAILS,
+        line: "  rollbacks <N>",
+        advice: "\
+To do: nothing.
+",
+    },
+    Topic {
+        words: "completed",
+        help: replay::DETAILS,
+        line: "  completed <N>",
+        advice: "\
+To do: nothing.
+",
+    },
+    Topic {
+        words: "order",
+        help: DETAILS,
+        line: "  order",
+        advice: "\
+To do: of `check`, use `kfifo judge --show` to see the order.
+",
+    },
+    Topic {
+        words: "no calls",
+        help: DETAILS,
+        line: "  no calls",
+        advice: "\
+To do: nothing.
+",
+    },
+    Topic {
+        words: "# #",
+        help: DETAILS,
+        line: "  <ID> <SUM>",
+        advice: "\
+To do: nothing.
+",
+    },
+];
+
+/// How the command is written, and its help.
+pub fn command<'a>(alloc: Global) -> Result<Command<'a>, AllocError>
+    ensures { IfOk result (IsCommand explain_command) }
+{
+    let words = Arg::new(alloc, WORDS)
+        .value_name("WORD")
+        .action(ArgAction::Append)
+        .num_args(1..)
+        .required(true)
+        .help("The words of a fault or an answer, as they were printed");
+    Command::new(alloc, NAME)
+        .about("Says what a fault or an answer means, what is allowed, and what to do")
+        .after_help(EXAMPLES)
+        .after_long_help(DETAILS)
+        .arg(words)
+}
+
+/// What the words give.
+pub fn options_of<'a>(matches: &'a ArgMatches<'_>) -> ExplainOptions<'a>
+    ensures { GivesExplain (found_of matches.now) result }
+{
+    ExplainOptions {
+        words: matches.get_strs(WORDS).unwrap_or(&[]),
+        topics: TOPICS,
+    }
+}

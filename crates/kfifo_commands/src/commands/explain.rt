@@ -1,0 +1,18 @@
+//! The command `explain`: what a fault or an answer means.
+ghost use Rattle.std.specs.Prelude.{◌≢◌, IfErr};
+ghost use Rattle.kfifo_commands.specs.Explanations.{IsExplainRefusal};
+
+use crate::options::ExplainOptions;
+use kfifo_texts::{Fault, explanation};
+use std::alloc::Global;
+
+/// What the words mean, what is allowed, and what to do.
+pub fn answer(alloc: Global, options: ExplainOptions<'_>) -> Result<String, Fault>
+    ensures err { IfErr result IsExplainRefusal }
+    ensures silent { IfErr result (λ fault. fault ≢ Fault.Output) }
+{
+    match explanation(alloc, options.words, options.topics)? {
+        Some(text) => Ok(text),
+        None => Err(Fault::Unexplained),
+    }
+}

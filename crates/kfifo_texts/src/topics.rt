@@ -1,0 +1,86 @@
+//! What faults and answers mean: found in the help, by their words as they are printed.
+
+use std::alloc::{AllocError, Global};
+
+/// How a line of help begins that goes on with the line before it.
+const CONTINUED: &str = "               ";
+
+/// A fault or an answer.
+#[derive(Clone, Copy)]
+pub struct Topic {
+    /// The words that it is printed with, up to where they tell it from others; in them `#` stands for a number.
+    pub words: &'static str,
+    /// The help that says what it means.
+    pub help: &'static str,
+    /// How the line begins that says so.
+    pub line: &'static str,
+    /// What is allowed, and what to do: whole lines.
+    pub advice: &'static str,
+}
+
+/// Whether the word is the one of the pattern.
+fn fits(word: &str, pattern: &str) -> bool {
+    match pattern.strip_prefix('#') {
+        Some(rest) => {
+            let after = word.trim_start_matches(|c: char| c.is_ascii_digit());
+            after.len() < word.len() && after == rest
+        }
+        None => word == pattern,
+    }
+}
+
+/// Whether the words begin with those of the pattern.
+fn begin_with(words: &[&str], pattern: &str) -> bool {
+    for (place, wanted) in pattern.split(' ').enumerate() {
+        match words.get(place) {
+            Some(word) if fits(word, wanted) => {}
+            _ => return false,
+        }
+    }
+    true
+}
+
+/// The words in the arguments, without the program's name, which stands before a fault.
+fn words_in<'a>(alloc: Global, arguments: &[&'a str]) -> Result<Vec<&'a str>, AllocError> {
+    let mut words = Vec::new(alloc);
+    for argument in arguments {
+        for word in argument.split_whitespace() {
+            if word != "kfifo:" {
+                words.push(word)?;
+            }
+        }
+    }
+    Ok(words)
+}
+
+/// Adds the lines of the help that say what a topic means.
+fn push_meaning(text: &mut String, topic: &Topic) -> Result<(), AllocError> {
+    let mut inside = false;
+    for line in topic.help.lines() {
+        inside = line.starts_with(topic.line) || (inside && line.starts_with(CONTINUED));
+        if inside {
+            text.push_str(line)?;
+            text.push('\n')?;
+        }
+    }
+    Ok(())
+}
+
+/// What is said of the first of the topics with which the arguments begin, none where they begin with none: its lines of
+/// the help, and what is allowed and what to do.
+pub fn explanation(
+    alloc: Global,
+    arguments: &[&str],
+    topics: &[Topic],
+) -> Result<Option<String>, AllocError> {
+    let words = words_in(alloc, arguments)?;
+    for topic in topics {
+        if begin_with(words.as_slice(), topic.words) {
+            let mut text = String::new(alloc);
+            push_meaning(&mut text, topic)?;
+            text.push_str(topic.advice)?;
+            return Ok(Some(text));
+        }
+    }
+    Ok(None)
+}
