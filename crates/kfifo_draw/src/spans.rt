@@ -50,3 +50,21 @@ pub(crate) fn spans_of(alloc: Global, calls: &[Call]) -> Result<Vec<Span>, Alloc
     }
     Ok(spans)
 }
+
+/// What of a span lies among the places from one to another, counted from the first of them; none where nothing does. It has
+/// no end where the span ends behind them.
+pub(crate) fn clipped(span: Span, from: usize, to: usize) -> Option<Span> {
+    let begun = span.from < to;
+    let over = span.to.map_or(false, |end| end < from);
+    if !begun || over {
+        return None;
+    }
+    let end = match span.to {
+        Some(end) if end < to => Some(end.saturating_sub(from)),
+        _ => None,
+    };
+    Some(Span {
+        from: span.from.saturating_sub(from),
+        to: end,
+    })
+}

@@ -103,6 +103,9 @@ fault_text (faults.Search fault) = codes "search fault " ++ decimal (search_faul
 fault_text faults.RepeatedItem = codes "measure fault 2"
 fault_text (faults.Import fault) = import_fault_text fault
 fault_text faults.TooManyDrawn = codes "draw fault 1"
+fault_text faults.Contradiction = codes "draw fault 2"
+fault_text faults.Stretch = codes "draw fault 3"
+fault_text faults.NoLines = codes "draw fault 4"
 fault_text faults.Memory = codes "memory"
 fault_text faults.Output = codes "output"
 

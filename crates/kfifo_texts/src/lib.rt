@@ -7,6 +7,7 @@ mod picks;
 mod printing;
 mod recording;
 mod report;
+mod stretch;
 mod tasks;
 mod words;
 
@@ -15,5 +16,6 @@ pub use picks::{Group, read_picks};
 pub use printing::Printer;
 pub use recording::{record_line, record_text};
 pub use report::{push_dequeue, push_ends, push_enqueue, push_slot};
+pub use stretch::{Stretch, read_stretch};
 pub use tasks::{finished_lines, read_tasks};
 pub use words::{order_of, read_calls, read_scripts};
