@@ -1,6 +1,7 @@
 pub mod Dispatches
 pub mod Endings
 pub mod Imports
+pub mod Inputs
 pub mod Pictures
 pub mod RealRuns
 pub mod Records

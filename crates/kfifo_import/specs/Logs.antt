@@ -1,5 +1,5 @@
 -- The records of logs, and why a log has none.
-use Rattle.std.specs.Prelude.{ℕ, ◌≡◌, ◌<◌, ◌≤◌, List, length, map, slice_index_or}
+use Rattle.std.specs.Prelude.{ℕ, ◌≡◌, ◌<◌, ◌≤◌, List, length, map, option_map, slice_index_or}
 use Rattle.std.specs.List.Sorted.{IsNonDecreasingBy, IsPermutation, IsStableByKey}
 use Rattle.std.specs.Ordering.{nat_cmp}
 use Rattle.kfifo_model.specs.declared.calls.Call.{Call}
@@ -10,6 +10,7 @@ use Rattle.kfifo_model.specs.Validity.{IsFault, IsHistory}
 use Rattle.kfifo_import.specs.declared.log.ImportFault.{ImportFault}
 use Rattle.kfifo_import.specs.declared.log.ImportFault.TheVariants.{Csv, TooMany, NotACall, NumberOutOfRange, WrongAnswer, EndsEarly, Overlap, Memory}
 use Rattle.kfifo_import.specs.declared.log.Line.{Line}
+use Rattle.kfifo_import.specs.declared.log.LoggedCall.{LoggedCall}
 use Rattle.kfifo_import.specs.Stamping.{AreStamped}
 
 abbrev pub first_time : Line → ℕ
@@ -28,13 +29,23 @@ pub record AreByFirst (lines sorted : List Line) : Type 0 where
   pub rise : IsNonDecreasingBy first_time sorted
   pub stable : IsStableByKey first_time nat_cmp lines sorted
 
+-- what a log says of the call of a line beside its record: where it stands and when it was
+abbrev pub logged_call : Line → LoggedCall
+logged_call line = record { line = line.number; first = line.call.first; last = option_map (λ end. end.last) line.call.end }
+
 -- The history is the record of the log, which has at most 65,536 lines: its calls by rising first time, with stamps.
-pub record IsRecordOfLog (lines : List Line) (h : List Call) : Type 0 where
+-- The calls of the log, by the numbers of the record, are these.
+pub record IsLogOf (lines : List Line) (h : List Call) (calls : List LoggedCall) : Type 0 where
   pub few : length lines ≤ 65536
   pub sorted : List Line
   pub by_first : AreByFirst lines sorted
   pub stamped : AreStamped (calls_of sorted) h
   pub valid : IsHistory h
+  pub logged : calls ≡ map logged_call sorted
+
+-- the history is the record of the log
+abbrev pub IsRecordOfLog : List Line → List Call → Type 0
+IsRecordOfLog lines h = (calls : List LoggedCall) × IsLogOf lines h calls
 
 -- a fault of the record, at the line of its call
 abbrev pub import_fault : List Line → RecordFault → ImportFault

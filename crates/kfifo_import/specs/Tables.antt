@@ -6,9 +6,10 @@ use Rattle.kfifo_model.specs.declared.calls.Call.{Call}
 use Rattle.kfifo_import.specs.declared.log.ImportFault.{ImportFault}
 use Rattle.kfifo_import.specs.declared.log.ImportFault.TheVariants.{Csv, TooMany, NotACall, NumberOutOfRange, WrongAnswer, EndsEarly, Overlap, Memory}
 use Rattle.kfifo_import.specs.declared.log.Line.{Line}
+use Rattle.kfifo_import.specs.declared.log.LoggedCall.{LoggedCall}
 use Rattle.kfifo_import.specs.declared.table.Columns.{Columns}
 use Rattle.kfifo_import.specs.Fields.{HasColumns, IsCallOf}
-use Rattle.kfifo_import.specs.Logs.{IsImportFault, IsRecordOfLog}
+use Rattle.kfifo_import.specs.Logs.{IsImportFault, IsLogOf}
 
 -- each line has the call of the row in its place
 abbrev pub AreLines : Columns → List (List (List ℕ)) → List Line → Type 0
@@ -43,11 +44,15 @@ IsTextFault (EndsEarly n) = ⊥
 IsTextFault (Overlap n) = ⊥
 IsTextFault Memory = Unit {0}
 
--- The history is the record of the lines of a text.
-pub record IsImported (bytes : List ℕ) (h : List Call) : Type 0 where
+-- The history is the record of the lines of a text, and its calls stand in it and were as these say.
+pub record IsReadLog (bytes : List ℕ) (h : List Call) (calls : List LoggedCall) : Type 0 where
   pub lines : List Line
   pub read : ReadsLog bytes lines
-  pub recorded : IsRecordOfLog lines h
+  pub log : IsLogOf lines h calls
+
+-- the history is the record of a text
+abbrev pub IsImported : List ℕ → List Call → Type 0
+IsImported bytes h = (calls : List LoggedCall) × IsReadLog bytes h calls
 
 -- the lines of a text have this fault
 abbrev pub IsOfLines : List ℕ → ImportFault → Type 0

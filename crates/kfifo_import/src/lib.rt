@@ -6,5 +6,5 @@ mod log;
 mod stamping;
 mod table;
 
-pub use log::{ImportFault, Line, record_of};
-pub use table::import_text;
+pub use log::{ImportFault, Line, Log, LoggedCall, log_of, record_of};
+pub use table::{import_text, read_log};

@@ -1,7 +1,7 @@
 //! Logs of calls, whose steps are times of a clock.
-ghost use Rattle.std.specs.Prelude.{◌≡◌, IfOk, MatchResult};
+ghost use Rattle.std.specs.Prelude.{◌≡◌, IfOk, MatchResult, map};
 ghost use Rattle.kfifo_import.specs.Logs as specs;
-ghost use Rattle.kfifo_import.specs.Logs.{AreByFirst, IsImportFault, IsRecordOfLog, import_fault, line_number};
+ghost use Rattle.kfifo_import.specs.Logs.{AreByFirst, IsImportFault, IsLogOf, IsRecordOfLog, import_fault, line_number, logged_call};
 
 use crate::stamping::stamped;
 use kfifo_model::{Call, History, MOST_CALLS, RecordFault};
@@ -15,6 +15,26 @@ pub struct Line {
     pub number: u64,
     /// The call. Its first and last step are times, which need not be distinct.
     pub call: Call,
+}
+
+/// What a log says of a call beside its record.
+#[derive(Clone, Copy, Debug, PartialEq, Eq)]
+pub struct LoggedCall {
+    /// The number of the line that the call stands in, from 1.
+    pub line: u64,
+    /// When the call began, as the log gives it.
+    pub first: u64,
+    /// When the call ended, as the log gives it; none of an unfinished call.
+    pub last: Option<u64>,
+}
+
+/// A log that was read.
+#[derive(Drop)]
+pub struct Log {
+    /// The record: the calls by rising first time, of equal ones the earlier line first, with stamps in place of times.
+    pub history: History,
+    /// Where each call of the history stands in the log and when it was, by its number.
+    pub calls: Vec<LoggedCall>,
 }
 
 /// Why a log gives no record. A fault of one call carries the number of its line.
@@ -108,14 +128,33 @@ fn calls_of(alloc: Global, lines: &[Line]) -> Result<Vec<Call>, AllocError>
     lines.iter().map(|line| line.call).collect(alloc)
 }
 
-/// The record of a log: its calls by rising first time, of equal ones the earlier line first, with stamps in place of
-/// times. Stamps are the places of the calls' beginnings and ends by rising time, where at one time beginnings come before
-/// ends. So a call precedes another in the record exactly where its last time is less than the other's first.
+/// Where the call of a line stands and when it was.
+fn logged(line: &Line) -> LoggedCall
+    ensures { result ≡ logged_call line.now }
+{
+    LoggedCall {
+        line: line.number,
+        first: line.call.first,
+        last: line.call.end.map(|end| end.last),
+    }
+}
+
+/// Where the calls of the lines stand and when they were.
+fn all_logged(alloc: Global, lines: &[Line]) -> Result<Vec<LoggedCall>, AllocError>
+    ensures { IfOk result (λ calls. calls.items ≡ map logged_call lines.now) }
+{
+    lines.iter().map(|line| logged(line)).collect(alloc)
+}
+
+/// The log that has these lines: its record, with the calls by rising first time, of equal ones the earlier line first, and
+/// with stamps in place of times; and where each of them stands and when it was. Stamps are the places of the calls' beginnings
+/// and ends by rising time, where at one time beginnings come before ends. So a call precedes another in the record exactly
+/// where its last time is less than the other's first.
 ///
 /// Refused: TooMany of over 65,536 lines; else the first fault of the record, at the line of its call; Memory where an
 /// allocation failed.
-pub fn record_of(alloc: Global, lines: Vec<Line>) -> Result<History, ImportFault>
-    ensures { MatchResult result (IsRecordOfLog lines.items) (IsImportFault lines.items) }
+pub fn log_of(alloc: Global, lines: Vec<Line>) -> Result<Log, ImportFault>
+    ensures { MatchResult result (λ log. IsLogOf lines.items log.history log.calls.items) (IsImportFault lines.items) }
 {
     if lines.len() > MOST_CALLS {
         return Err(ImportFault::TooMany);
@@ -123,8 +162,20 @@ pub fn record_of(alloc: Global, lines: Vec<Line>) -> Result<History, ImportFault
     let lines = by_first(lines)?;
     let calls = calls_of(alloc, lines.as_slice())?;
     let found = stamped(alloc, calls.as_slice())?;
+    let logged = all_logged(alloc, lines.as_slice())?;
     match History::new(found) {
-        Ok(history) => Ok(history),
+        Ok(history) => Ok(Log {
+            history,
+            calls: logged,
+        }),
         Err(fault) => Err(fault_of(lines.as_slice(), fault)),
     }
+}
+
+/// The record alone of the log that has these lines, with the refusals of `log_of`.
+pub fn record_of(alloc: Global, lines: Vec<Line>) -> Result<History, ImportFault>
+    ensures { MatchResult result (IsRecordOfLog lines.items) (IsImportFault lines.items) }
+{
+    let log = log_of(alloc, lines)?;
+    Ok(log.history)
 }

@@ -2,9 +2,9 @@
 ghost use Rattle.std.specs.Prelude.{◌≡◌, ◌≤◌, ◌↔◌, ◌++◌, ◌∷◌, [], ℕ, List, IfErr, IfOk, IfSome, IsTrue, None, OnOk, Some, MatchResult, length, option_map};
 ghost use Rattle.csv.specs.Records.{field_at, fields_of};
 ghost use Rattle.kfifo_import.specs.Fields.{Gives, GivesText, HasColumns, IsAnswer, IsCallOf, IsDigits, IsEnd, IsOp, IsPutAnswer, IsTakeAnswer, WritesSmall, WritesWhole};
-ghost use Rattle.kfifo_import.specs.Tables.{Holds, IsImported, IsTextFault, IsUnimported, ReadsLog};
+ghost use Rattle.kfifo_import.specs.Tables.{Holds, IsImported, IsReadLog, IsTextFault, IsUnimported, ReadsLog};
 
-use crate::log::{ImportFault, Line, record_of};
+use crate::log::{ImportFault, Line, Log, log_of};
 use csv::{ByteRecord, ErrorKind, ReaderBuilder};
 use kfifo_model::{Answer, Call, End, History, MOST_CALLS, Op};
 use std::alloc::Global;
@@ -274,15 +274,25 @@ fn lines_of(alloc: Global, text: &[u8]) -> Result<Vec<Line>, ImportFault>
     }
 }
 
-/// The record of a log in CSV, with a header that has, in any order, `thread`, `op`, `item`, `first`, `last` and `answer`,
+/// The log that a text in CSV is, with a header that has, in any order, `thread`, `op`, `item`, `first`, `last` and `answer`,
 /// and a call a line, in any order. A field that does not apply is empty. `first` and `last` are whole numbers, as nanoseconds
-/// of a clock.
+/// of a clock. Each call comes with the number of its line in the text, from 1, and its times.
 ///
-/// Refused: first what a line itself has wrong, by lines: Csv, NotACall, and TooMany at line 65,537; then as by `record_of`.
+/// Refused: first what a line itself has wrong, by lines: Csv, NotACall, and TooMany at line 65,537; then as by `log_of`.
+pub fn read_log(alloc: Global, text: &[u8]) -> Result<Log, ImportFault>
+    ensures read { MatchResult result (λ log. IsReadLog text.now log.history log.calls.items) (IsUnimported text.now) }
+    ensures few { IfOk result (λ log. length log.history ≤ 65536) }
+    ensures each { IfOk result (λ log. length log.calls.items ≡ length log.history) }
+{
+    let lines = lines_of(alloc, text)?;
+    log_of(alloc, lines)
+}
+
+/// The record alone of the log that a text in CSV is, with the refusals of `read_log`.
 pub fn import_text(alloc: Global, text: &[u8]) -> Result<History, ImportFault>
     ensures record { MatchResult result (IsImported text.now) (IsUnimported text.now) }
     ensures few { IfOk result (λ history. length history ≤ 65536) }
 {
-    let lines = lines_of(alloc, text)?;
-    record_of(alloc, lines)
+    let log = read_log(alloc, text)?;
+    Ok(log.history)
 }

@@ -5,7 +5,7 @@ use Rattle.kfifo_import.specs.declared.log.Line.{Line}
 use Rattle.kfifo_import.specs.Logs.{calls_of}
 use Rattle.kfifo_import.specs.Stamping.{AreStamped}
 use Rattle.kfifo_import.proofs.Logs.{calls_rise, refused}
-use Rattle.kfifo_import.proofs.log.record_of.Goals as goal
+use Rattle.kfifo_import.proofs.log.log_of.Goals as goal
 
 pub stamped-requires-clause-few : goal.stamped-requires-clause-few
 stamped-requires-clause-few c =
@@ -25,7 +25,14 @@ pub returns-in-Ok : goal.returns-in-Ok
 returns-in-Ok c =
     let same : c.as_slice-2.result.now ≡ calls_of c.in_ok-lines.lines.items = c.as_slice-2.ensures.value ∙ rw c.as_slice.ensures.value at c.in_ok-calls.ensures in
     let made : AreStamped (calls_of c.in_ok-lines.lines.items) c.in_ok-found.found.items = rw same at c.in_ok-found.ensures in
-    record { few = search rules; sorted = c.in_ok-lines.lines.items; by_first = c.in_ok-lines.ensures; stamped = rw c.in-Ok.ensures.0 made; valid = rw c.in-Ok.ensures.0 c.in-Ok.ensures.1 }
+    record {
+      few = search rules;
+      sorted = c.in_ok-lines.lines.items;
+      by_first = c.in_ok-lines.ensures;
+      stamped = rw c.in-Ok.ensures.0 made;
+      valid = rw c.in-Ok.ensures.0 c.in-Ok.ensures.1;
+      logged = rw c.as_slice-3.ensures.value at c.in_ok-logged.ensures;
+    }
 
 pub returns : goal.returns
 returns c =
