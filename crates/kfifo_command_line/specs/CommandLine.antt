@@ -114,9 +114,25 @@ record_command = with_rule (with_rule (with_turns (with_sizes (new_app (codes "r
 abbrev pub import_command : App
 import_command = new_app (codes "import")
 
+-- the option `-k` or `--k` of `draw`, 1 where it is left out
+abbrev pub plain_places : Rule
+plain_places = record (default_option (codes "k") (small_numbers 1 64) (codes "1")) { short = Some 107 }
+
+abbrev pub with_plain_places : App → App
+with_plain_places app = with_rule app plain_places
+
+-- the options of `draw` on evidence
+abbrev pub with_evidence_options : App → App
+with_evidence_options app = with_rule (with_rule app (flag (codes "evidence"))) (number_option (codes "around") (small_numbers 0 4294967295))
+
+-- the options of `draw` that say from where to where
+abbrev pub with_stretch_options : App → App
+with_stretch_options app = with_rule (with_rule app (text_option (codes "calls"))) (text_option (codes "lines"))
+
 -- the command `draw`
 abbrev pub draw_command : App
-draw_command = with_rule (with_rule (with_places (new_app (codes "draw"))) (text_option (codes "order"))) (flag (codes "text"))
+draw_command = with_stretch_options (with_evidence_options
+    (with_rule (with_rule (with_plain_places (new_app (codes "draw"))) (text_option (codes "order"))) (flag (codes "text"))))
 
 -- the command `dispatch`
 abbrev pub dispatch_command : App

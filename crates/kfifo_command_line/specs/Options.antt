@@ -90,10 +90,19 @@ pub record GivesCheck (found : Found) (options : CheckOptions) : Type 0 where
   pub k : GivesPlaces found options.k
   pub order : option_map (λ text. text.now) options.order ≡ first_value found (codes "order")
 
+-- the option `--k` of `draw`, from 1 to 64
+abbrev pub GivesPlainPlaces : Found → ℕ → Type 0
+GivesPlainPlaces found k = (given : ℕ) × GivesOr 32 (one_text found (codes "k")) 1 given × (k ≡ min (max given 1) 64)
+
 -- the options of `draw`
 pub record GivesDraw (found : Found) (options : DrawOptions) : Type 0 where
-  pub check : GivesCheck found options.check
+  pub k : GivesPlainPlaces found options.check.k
+  pub order : option_map (λ text. text.now) options.check.order ≡ first_value found (codes "order")
   pub text : GivesFlag (one_text found (codes "text")) options.text
+  pub evidence : GivesFlag (one_text found (codes "evidence")) options.evidence
+  pub around : GivesNumber 32 (one_text found (codes "around")) options.around
+  pub calls : option_map (λ text. text.now) options.calls ≡ first_value found (codes "calls")
+  pub lines : option_map (λ text. text.now) options.lines ≡ first_value found (codes "lines")
 
 -- the options of `dispatch`
 pub record GivesDispatch (found : Found) (options : DispatchOptions) : Type 0 where

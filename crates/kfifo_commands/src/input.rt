@@ -61,8 +61,14 @@ pub(crate) fn read_calls(alloc: Global, bytes: &[u8]) -> Result<Calls, Fault>
 {
     if begins_record(bytes) {
         let history = read_record(alloc, bytes)?;
-        return Ok(Calls { history, logged: None });
+        return Ok(Calls {
+            history,
+            logged: None,
+        });
     }
     let log = read_log(alloc, bytes)?;
-    Ok(Calls { history: log.history, logged: Some(log.calls) })
+    Ok(Calls {
+        history: log.history,
+        logged: Some(log.calls),
+    })
 }

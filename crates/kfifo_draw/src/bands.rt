@@ -1,6 +1,6 @@
 //! Stretches of lanes that stand below each other, where one would be too long.
 use crate::columns::{column_at, columns_of, places_of};
-use crate::spans::{Span, clipped};
+use crate::spans::{Span, clipped, goes_on};
 use std::alloc::{AllocError, Global};
 
 /// How a bar ends at the right.
@@ -72,7 +72,8 @@ struct Parts {
     widths: Vec<usize>,
 }
 
-/// The parts of these spans that lie among the places from one to another.
+/// The parts of these spans that lie among the places from one to another. Where a call goes on from the band before, the band
+/// has a place of its own at its left edge.
 fn parts_of(
     alloc: Global,
     spans: &[Span],
@@ -85,8 +86,9 @@ fn parts_of(
         spans: Vec::new(alloc),
         widths: Vec::new(alloc),
     };
+    let edge = usize::from(spans.iter().any(|span| goes_on(span, from)));
     for (index, (span, width)) in spans.iter().zip(widths.iter()).enumerate() {
-        if let Some(part) = clipped(*span, from, to) {
+        if let Some(part) = clipped(span, from, to, edge) {
             parts.indices.push(index)?;
             parts.spans.push(part)?;
             parts.widths.push(*width)?;
