@@ -41,6 +41,11 @@ AsksForCut options (cuts.Lines stretch) = (given options.calls ≡ None) × Give
 AsksForCut options (cuts.Evidence around) = (given options.calls ≡ None) × (given options.lines ≡ None) × (options.evidence ≡ true)
     × (around ≡ unwrap_or options.around 8)
 
+-- the calls to be drawn are those of lines of a log
+abbrev pub IsOfLines : Cut → Type 0
+IsOfLines (cuts.Lines stretch) = Unit {0}
+IsOfLines _ = ⊥
+
 -- the options ask for these calls
 abbrev pub AsksFor : DrawOptions → Cut → Type 0
 AsksFor options cut = ¬ (Contradict options) × AsksForCut options cut

@@ -1,5 +1,5 @@
 -- What the command `draw` comes to, by its options, its input and its failed reads. How a picture looks is not said.
-use Rattle.std.specs.Prelude.{ℕ, ◌≡◌, true, false, Bool, List, [], Option, Some, None, MatchOption, length, option_map}
+use Rattle.std.specs.Prelude.{ℕ, ◌≡◌, true, false, Bool, List, [], Option, Some, None, IsSome, MatchOption, length, option_map}
 use Rattle.kfifo_model.specs.declared.calls.Call.{Call}
 use Rattle.kfifo_import.specs.declared.log.LoggedCall.{LoggedCall}
 use Rattle.kfifo_verdict.specs.declared.verdicts.Evidence.{Evidence}
@@ -9,8 +9,7 @@ use Rattle.kfifo_texts.specs.declared.fault.Fault.{Fault}
 use Rattle.kfifo_texts.specs.declared.fault.Fault.TheVariants.{Order, Input, NotJson, Record, Import, TooManyDrawn, Contradiction, Stretch, NoLines, Memory}
 use Rattle.kfifo_commands.specs.declared.options.DrawOptions.{DrawOptions}
 use Rattle.kfifo_commands.specs.declared.cut.Cut.{Cut}
-use Rattle.kfifo_commands.specs.declared.cut.Cut.TheVariants as cuts
-use Rattle.kfifo_commands.specs.Cuts.{AsksFor, IsCutFault, IsOfCut, named_by}
+use Rattle.kfifo_commands.specs.Cuts.{AsksFor, IsCutFault, IsOfCut, IsOfLines, named_by}
 use Rattle.kfifo_commands.specs.Inputs.{BeginsRecord, IsCalls, IsNoCalls}
 use Rattle.kfifo_commands.specs.Records.{IsInput, IsOrder, IsOrderFault, IsUnread}
 
@@ -30,34 +29,24 @@ abbrev pub logged_of : Option (List LoggedCall) → List LoggedCall
 logged_of None = []
 logged_of (Some logged) = logged
 
--- lines can be asked for of a log alone
-abbrev pub HasLines : Cut → Option (List LoggedCall) → Type 0
-HasLines (cuts.Lines stretch) None = ⊥
-HasLines _ _ = Unit {0}
-
 -- the calls of an input, of which few or many are to be drawn
 pub record AreCallsOf (Has : (ℕ → Type 0) → ℕ → Type 0) (k : ℕ) (asked : Bool) (cut : Cut) (bytes : List ℕ) : Type 0 where
   pub history : List Call
   pub logged : Option (List LoggedCall)
   pub calls : IsCalls bytes history logged
-  pub lines : HasLines cut logged
+  pub lines : IsOfLines cut → IsSome logged
   pub number : IsPictureOf Has k asked cut history (logged_of logged)
 
 -- there is a picture of these calls of an input
 abbrev pub IsPicture : ℕ → Bool → Cut → List ℕ → Type 0
 IsPicture k asked cut bytes = AreCallsOf AreFew k asked cut bytes
 
--- lines are asked for of a record
-abbrev pub LacksLines : Cut → List ℕ → Type 0
-LacksLines (cuts.Lines stretch) bytes = BeginsRecord bytes
-LacksLines _ bytes = ⊥
-
 -- why there is no picture of these calls of an input
 abbrev pub IsNoPicture : ℕ → Bool → Cut → List ℕ → Fault → Type 0
 IsNoPicture k asked cut bytes NotJson = IsNoCalls bytes NotJson
 IsNoPicture k asked cut bytes (Record fault) = IsNoCalls bytes (Record fault)
 IsNoPicture k asked cut bytes (Import fault) = IsNoCalls bytes (Import fault)
-IsNoPicture k asked cut bytes NoLines = LacksLines cut bytes
+IsNoPicture k asked cut bytes NoLines = IsOfLines cut × BeginsRecord bytes
 IsNoPicture k asked cut bytes TooManyDrawn = AreCallsOf AreMany k asked cut bytes
 IsNoPicture k asked cut bytes Memory = Unit {0}
 IsNoPicture k asked cut bytes _ = ⊥

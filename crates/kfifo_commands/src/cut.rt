@@ -1,6 +1,6 @@
 //! Which calls `draw` is asked to draw.
 ghost use Rattle.std.specs.Prelude.{◌≡◌, ◌↔◌, IsTrue, MatchResult, option_map};
-ghost use Rattle.kfifo_commands.specs.Cuts.{AsksFor, Contradict, IsCutFault, IsOfCut};
+ghost use Rattle.kfifo_commands.specs.Cuts.{AsksFor, Contradict, IsCutFault, IsOfCut, IsOfLines};
 ghost use Rattle.kfifo_draw.specs.Drawing.{IsInPart};
 ghost use Rattle.kfifo_import.specs.declared.log.LoggedCall.{LoggedCall as LoggedData};
 ghost use Rattle.kfifo_model.specs.declared.calls.Call.{Call as CallData};
@@ -27,6 +27,16 @@ pub(crate) enum Cut {
     /// Those that the evidence names, and those that overlap one of them or stand within so many calls of one; all where there
     /// is no evidence.
     Evidence(u32),
+}
+
+/// Whether the calls to be drawn are those of lines of a log.
+pub(crate) fn is_of_lines(cut: Cut) -> bool
+    ensures { IsTrue result ↔ IsOfLines cut }
+{
+    match cut {
+        Cut::Lines(_) => true,
+        Cut::Whole | Cut::Calls(_) | Cut::Evidence(_) => false,
+    }
 }
 
 /// Whether options contradict each other.

@@ -1,11 +1,11 @@
 //! The command `draw`: a picture of a record or a log, or of a part of it.
-ghost use Rattle.std.specs.Prelude.{◌≡◌, ◌≢◌, ◌≤◌, ◌++◌, ◌∷◌, [], ℕ, List, IfErr, IfOk, MatchResult, None, Some, option_map};
-ghost use Rattle.kfifo_commands.specs.Cuts.{AsksFor, named_by};
-ghost use Rattle.kfifo_commands.specs.Pictures.{IsDraw, IsDrawRefusal, IsNoPicture, IsPicture, IsPictureFault, IsPictureOf};
-ghost use Rattle.kfifo_commands.specs.Records.{ReadsWell};
+ghost use Rattle.std.specs.Prelude.{◌≡◌, ◌≢◌, ◌≤◌, ◌⊎◌, true, IfErr, IfOk, MatchResult, option_map};
+ghost use Rattle.kfifo_commands.specs.Cuts.{named_by};
+ghost use Rattle.kfifo_commands.specs.Pictures.{IsDraw, IsDrawRefusal, IsNoPicture, IsPicture, IsPictureOf};
+ghost use Rattle.kfifo_commands.specs.Records.{IsOrder, IsOrderFault, ReadsWell};
 ghost use Rattle.kfifo_draw.specs.Drawing.{AreFew, AreMany};
 
-use crate::cut::{Cut, cut_of, part_of};
+use crate::cut::{Cut, cut_of, is_of_lines, part_of};
 use crate::input::{read_calls, read_input};
 use crate::options::DrawOptions;
 use kfifo_draw::{DrawFault, Drawing, Marking, Style, draw};
@@ -31,19 +31,25 @@ pub fn answer<H: Files, S: Source>(
     ensures reads { ReadsWell result (S.failed input.old) (S.failed input.new) }
 {
     let cut = cut_of(options)?;
+    let order = order_given(alloc, files, options)?;
+    let bytes = read_input(alloc, input)?;
+    picture(alloc, bytes.as_slice(), options, cut, &order)
+}
+
+/// The order that is to be drawn too, where one is given.
+fn order_given<H: Files>(
+    alloc: Global,
+    files: &H,
+    options: DrawOptions<'_>,
+) -> Result<Option<Vec<usize>>, Fault>
+    ensures ok { IfOk result (λ order. IsOrder options.entry.check (option_map (λ o. o.items) order)) }
+    ensures err { IfErr result (λ fault. (fault ≡ Fault.Memory) ⊎ ((fault ≡ Fault.Order) × IsOrderFault options.entry.check)) }
+{
     let Some(text) = options.check.order else {
-        let bytes = read_input(alloc, input)?;
-        return picture(alloc, bytes.as_slice(), options, cut, None);
+        return Ok(None);
     };
     let order = order_of(alloc, files, text)?;
-    let bytes = read_input(alloc, input)?;
-    picture(
-        alloc,
-        bytes.as_slice(),
-        options,
-        cut,
-        Some(order.as_slice()),
-    )
+    Ok(Some(order))
 }
 
 /// What the picture is made of.
@@ -61,7 +67,7 @@ fn picture(
     bytes: &[u8],
     options: DrawOptions<'_>,
     cut: Cut,
-    order: Option<&[usize]>,
+    order: &Option<Vec<usize>>,
 ) -> Result<String, Fault>
     ensures { MatchResult result (λ _. IsPicture options.entry.check.k options.entry.evidence cut bytes.now)
         (IsNoPicture options.entry.check.k options.entry.evidence cut bytes.now) }
@@ -71,7 +77,7 @@ fn picture(
     if let Some(logged) = &calls.logged {
         return Ok(picture_of(alloc, history, logged.as_slice(), options, cut, order)?);
     }
-    if let Cut::Lines(_) = cut {
+    if is_of_lines(cut) {
         return Err(Fault::NoLines);
     }
     Ok(picture_of(alloc, history, &[], options, cut, order)?)
@@ -84,17 +90,18 @@ fn picture_of(
     logged: &[LoggedCall],
     options: DrawOptions<'_>,
     cut: Cut,
-    order: Option<&[usize]>,
+    order: &Option<Vec<usize>>,
 ) -> Result<String, DrawFault>
-    ensures { let P = λ Has. IsPictureOf Has options.entry.check.k options.entry.evidence cut history.now logged.now in
-        MatchResult result (λ _. P AreFew) (λ fault. fault ≡ DrawFault.TooMany → P AreMany) }
+    ensures { MatchResult result (λ _. IsPictureOf AreFew options.entry.check.k options.entry.evidence cut history.now logged.now)
+        (λ fault. fault ≡ DrawFault.TooMany
+        → IsPictureOf AreMany options.entry.check.k options.entry.evidence cut history.now logged.now) }
 {
     let (k, style) = (options.check.k, style_of(options));
     if options.evidence {
         return picture_of_evidence(alloc, history, logged, k, style, cut);
     }
     let marking = match order {
-        Some(order) => Marking::Order(order),
+        Some(order) => Marking::Order(order.as_slice()),
         None => Marking::Nothing,
     };
     let part = part_of(cut, None);
@@ -121,8 +128,8 @@ fn picture_of_evidence(
     cut: Cut,
 ) -> Result<String, DrawFault>
     requires { (1 ≤ k) × (k ≤ 64) }
-    ensures { let P = λ Has. IsPictureOf Has k true cut history.now logged.now in
-        MatchResult result (λ _. P AreFew) (λ fault. fault ≡ DrawFault.TooMany → P AreMany) }
+    ensures { MatchResult result (λ _. IsPictureOf AreFew k true cut history.now logged.now)
+        (λ fault. fault ≡ DrawFault.TooMany → IsPictureOf AreMany k true cut history.now logged.now) }
 {
     let found = evidence(alloc, history, k)?;
     let reason = reason_of(alloc, history, k, &found)?;
