@@ -6,3 +6,4 @@ pub mod Replaying
 pub mod Reports
 pub mod RealRunning
 pub mod Drawing
+pub mod Picturing

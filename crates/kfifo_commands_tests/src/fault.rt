@@ -42,6 +42,9 @@ fn a_fault_shows_its_line(rt: HostRuntime) -> Result<(), Fail> {
             "record fault 8 at line 10",
         ),
         (Fault::TooManyDrawn, "draw fault 1"),
+        (Fault::Contradiction, "draw fault 2"),
+        (Fault::Stretch, "draw fault 3"),
+        (Fault::NoLines, "draw fault 4"),
         (Fault::Memory, "memory"),
     ] {
         let text = format!(in rt.alloc(); "{fault}")?;
