@@ -1,6 +1,6 @@
-use Rattle.std.proofs.Common.{◌≡◌, ◌+◌, ◌≤◌, List, false, true, refl, arith, length}
+use Rattle.std.proofs.Common.{ℕ, ◌≡◌, false, refl, subst, arith, length}
 use Rattle.kfifo_draw.specs.Drawing.{CountsThose, IsInPart}
-use Rattle.kfifo_draw.proofs.Parts.{count_more, count_same}
+use Rattle.kfifo_draw.proofs.Parts.{count_more, count_none, count_same}
 use Rattle.kfifo_draw.proofs.part.count_drawn.Goals as goal
 use Rattle.kfifo_draw.proofs.part.count_drawn.Goals.{then-is_in_part, else-is_in_part}
 
@@ -30,7 +30,11 @@ loop-number-preserved c =
     ]
 
 pub loop-number-init : goal.loop-number-init
-loop-number-init c = ?
+loop-number-init c = (count_none (IsInPart c.args.calls.now c.args.logged.now c.args.part), omega arith)
 
 pub returns : goal.returns
-returns c = ?
+returns c =
+    let P : ℕ → Type 0 = IsInPart c.args.calls.now c.args.logged.now c.args.part in
+    let over = c.loop-number-test.false in
+    let end : c.loop-number.number ≡ length c.args.calls.now = omega (arith, over, c.loop-number.auto.number-end) in
+    subst (λ n. CountsThose P n c.loop-number.count) end c.loop-number.invariant.0

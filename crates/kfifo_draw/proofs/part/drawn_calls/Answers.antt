@@ -1,5 +1,5 @@
-use Rattle.std.proofs.Common.{◌≡◌, false, true, refl}
-use Rattle.kfifo_draw.specs.Drawing.{IsInPart}
+use Rattle.std.proofs.Common.{ℕ, ◌≡◌, false, refl, subst, arith, length}
+use Rattle.kfifo_draw.specs.Drawing.{AreThoseBelow, IsInPart}
 use Rattle.kfifo_draw.proofs.Parts.{drawn_more, drawn_same}
 use Rattle.kfifo_draw.proofs.part.drawn_calls.Goals as goal
 use Rattle.kfifo_draw.proofs.part.drawn_calls.Goals.{then-is_in_part+in_ok-push, else-is_in_part}
@@ -19,4 +19,8 @@ loop-number-preserved c = elim c.if-is_in_part.branch [
 ]
 
 pub returns : goal.returns
-returns c = ?
+returns c =
+    let P : ℕ → Type 0 = IsInPart c.args.calls.now c.args.logged.now c.args.part in
+    let over = c.loop-number-test.false in
+    let end : c.loop-number.number ≡ length c.args.calls.now = omega (arith, over, c.loop-number.auto.number-end) in
+    subst (λ n. AreThoseBelow P n c.loop-number.drawn.items) end c.loop-number.invariant
