@@ -1,5 +1,5 @@
 -- Why the command `draw` has no answer.
-use Rattle.std.proofs.Common.{◌≡◌, ◌≢◌, ℕ, List, Option, Some, subst, sym, ◌⊎◌, inl, inr, option_map, Result, Ok, Err, IfErr}
+use Rattle.std.proofs.Common.{◌≡◌, ◌≢◌, ℕ, List, Option, Some, subst, sym, ◌⊎◌, inl, inr, option_map, Result, Ok, Err, IfErr, IfOk, MatchResult}
 use Rattle.kfifo_texts.specs.declared.fault.Fault.{Fault}
 use Rattle.kfifo_texts.specs.declared.fault.Fault.TheVariants.{Shape, Word, Order, Picks, Replay, Open, Dispatch, Input, NotJson, Record, Search, RepeatedItem, Import, TooManyDrawn, Contradiction, Stretch, NoLines, Memory, Output}
 use Rattle.kfifo_commands.specs.declared.cut.Cut.{Cut}
@@ -82,3 +82,12 @@ module _ (input : Option (List ℕ)) (before after : ℕ) (options : DrawOptions
 pub read_well : {T : Type 0} (r : Result T Fault) (before after : ℕ) → after ≡ before → ReadsWell r before after
 read_well (Ok x) before after same = same
 read_well (Err fault) before after same = λ other. same
+
+-- what the value of a result has, and what its fault has
+pub ok_of : {T E : Type 0} (P : T → Type 0) (Q : E → Type 0) (r : Result T E) → MatchResult r P Q → IfOk r P
+ok_of P Q (Ok x) h = h
+ok_of P Q (Err e) h = tt
+
+pub err_of : {T E : Type 0} (P : T → Type 0) (Q : E → Type 0) (r : Result T E) → MatchResult r P Q → IfErr r Q
+err_of P Q (Ok x) h = tt
+err_of P Q (Err e) h = h

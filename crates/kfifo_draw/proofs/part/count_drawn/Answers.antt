@@ -1,4 +1,4 @@
-use Rattle.std.proofs.Common.{ℕ, ◌≡◌, false, refl, subst, arith, length}
+use Rattle.std.proofs.Common.{ℕ, ◌≡◌, true, false, refl, subst, arith, length}
 use Rattle.kfifo_draw.specs.Drawing.{CountsThose, IsInPart}
 use Rattle.kfifo_draw.proofs.Parts.{count_more, count_none, count_same}
 use Rattle.kfifo_draw.proofs.part.count_drawn.Goals as goal

@@ -1,4 +1,4 @@
-use Rattle.std.proofs.Common.{ℕ, ◌≡◌, false, refl, subst, arith, length}
+use Rattle.std.proofs.Common.{ℕ, ◌≡◌, true, false, refl, subst, arith, length}
 use Rattle.kfifo_draw.specs.Drawing.{AreThoseBelow, IsInPart}
 use Rattle.kfifo_draw.proofs.Parts.{drawn_more, drawn_same}
 use Rattle.kfifo_draw.proofs.part.drawn_calls.Goals as goal
