@@ -114,9 +114,18 @@ record_command = with_rule (with_rule (with_turns (with_sizes (new_app (codes "r
 abbrev pub import_command : App
 import_command = new_app (codes "import")
 
+-- the options of `draw` on evidence
+abbrev pub with_evidence_options : App → App
+with_evidence_options app = with_rule (with_rule app (flag (codes "evidence"))) (number_option (codes "around") (small_numbers 0 4294967295))
+
+-- the options of `draw` that say from where to where
+abbrev pub with_stretch_options : App → App
+with_stretch_options app = with_rule (with_rule app (text_option (codes "calls"))) (text_option (codes "lines"))
+
 -- the command `draw`
 abbrev pub draw_command : App
-draw_command = with_rule (with_rule (with_places (codes "2") (new_app (codes "draw"))) (text_option (codes "order"))) (flag (codes "text"))
+draw_command = with_stretch_options (with_evidence_options
+    (with_rule (with_rule (with_places (codes "1") (new_app (codes "draw"))) (text_option (codes "order"))) (flag (codes "text"))))
 
 -- the command `explain`
 abbrev pub explain_command : App

@@ -93,8 +93,13 @@ pub record GivesCheck (found : Found) (options : CheckOptions) : Type 0 where
 
 -- the options of `draw`
 pub record GivesDraw (found : Found) (options : DrawOptions) : Type 0 where
-  pub check : GivesCheck found options.check
+  pub k : GivesPlaces found 1 options.check.k
+  pub order : option_map (λ text. text.now) options.check.order ≡ first_value found (codes "order")
   pub text : GivesFlag (one_text found (codes "text")) options.text
+  pub evidence : GivesFlag (one_text found (codes "evidence")) options.evidence
+  pub around : GivesNumber 32 (one_text found (codes "around")) options.around
+  pub calls : option_map (λ text. text.now) options.calls ≡ first_value found (codes "calls")
+  pub lines : option_map (λ text. text.now) options.lines ≡ first_value found (codes "lines")
 
 -- the words of `explain`
 abbrev pub GivesExplain : Found → ExplainOptions → Type 0

@@ -7,3 +7,4 @@ pub mod Replaying
 pub mod Reports
 pub mod RealRunning
 pub mod Drawing
+pub mod Picturing

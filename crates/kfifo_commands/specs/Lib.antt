@@ -1,3 +1,4 @@
+pub mod Cuts
 pub mod Dispatches
 pub mod Endings
 pub mod Explanations
@@ -6,8 +7,8 @@ pub mod Inputs
 pub mod Pictures
 pub mod RealRuns
 pub mod Records
-pub mod Verdicts
-pub mod Reports
 pub mod Replays
+pub mod Reports
 pub mod Runs
 pub mod Statuses
+pub mod Verdicts

@@ -1,47 +1,79 @@
--- What the command `draw` comes to, by its options, its input and its failed reads. Nothing is said here of how a picture looks.
-use Rattle.std.specs.Prelude.{◌<◌, ◌≤◌, ℕ, List, Option, length}
+-- What the command `draw` comes to, by its options, its input and its failed reads. How a picture looks is not said.
+use Rattle.std.specs.Prelude.{ℕ, ◌≡◌, true, false, Bool, List, [], Option, Some, None, IsSome, MatchOption, length, option_map}
 use Rattle.kfifo_model.specs.declared.calls.Call.{Call}
-use Rattle.kfifo_draw.specs.Drawing.{most_drawn}
-use Rattle.kfifo_judge.specs.declared.record.StreamFault.TheVariants as streams
-use Rattle.kfifo_judge.specs.Inputs.{IsRecordText}
-use Rattle.kfifo_judge.specs.TextFaults.{IsTextFault}
+use Rattle.kfifo_import.specs.declared.log.LoggedCall.{LoggedCall}
+use Rattle.kfifo_verdict.specs.declared.verdicts.Evidence.{Evidence}
+use Rattle.kfifo_verdict.specs.Judging.{HasNoEvidence, IsFirstEvidence}
+use Rattle.kfifo_draw.specs.Drawing.{AreFew, AreMany}
 use Rattle.kfifo_texts.specs.declared.fault.Fault.{Fault}
-use Rattle.kfifo_texts.specs.declared.fault.Fault.TheVariants.{Order, Input, NotJson, Record, TooManyDrawn, Memory}
+use Rattle.kfifo_texts.specs.declared.fault.Fault.TheVariants.{Order, Input, NotJson, Record, Import, TooManyDrawn, Contradiction, Stretch, NoLines, Memory}
 use Rattle.kfifo_commands.specs.declared.options.DrawOptions.{DrawOptions}
-use Rattle.kfifo_commands.specs.Records.{IsInput, IsOfInput, IsOrder, IsOrderFault, IsUnread}
+use Rattle.kfifo_commands.specs.declared.cut.Cut.{Cut}
+use Rattle.kfifo_commands.specs.Cuts.{AsksFor, IsCutFault, IsOfCut, IsOfLines, named_by}
+use Rattle.kfifo_commands.specs.Inputs.{BeginsRecord, IsCalls, IsNoCalls}
+use Rattle.kfifo_commands.specs.Records.{IsInput, IsOrder, IsOrderFault, IsUnread}
 
--- the input is the record of so few calls that they are drawn
-pub record IsDrawn (input : Option (List ℕ)) : Type 0 where
-  pub bytes : List ℕ
-  pub read : IsInput input bytes
+-- the evidence for this k, where it is asked for
+abbrev pub IsSought : Bool → ℕ → List Call → Option Evidence → Type 0
+IsSought true k h found = MatchOption found (HasNoEvidence k h) (IsFirstEvidence k h)
+IsSought false k h found = found ≡ None
+
+-- The number of the calls to be drawn: `Has` says of a fact and of how many calls there are whether it holds of few or of many.
+pub record IsPictureOf (Has : (ℕ → Type 0) → ℕ → Type 0) (k : ℕ) (asked : Bool) (cut : Cut) (h : List Call) (logged : List LoggedCall) : Type 0 where
+  pub found : Option Evidence
+  pub sought : IsSought asked k h found
+  pub drawn : Has (IsOfCut h logged (option_map named_by found) cut) (length h)
+
+-- what is known of the calls beside a record: nothing but of a log
+abbrev pub logged_of : Option (List LoggedCall) → List LoggedCall
+logged_of None = []
+logged_of (Some logged) = logged
+
+-- the calls of an input, of which few or many are to be drawn
+pub record AreCallsOf (Has : (ℕ → Type 0) → ℕ → Type 0) (k : ℕ) (asked : Bool) (cut : Cut) (bytes : List ℕ) : Type 0 where
   pub history : List Call
-  pub recorded : IsRecordText bytes history
-  pub few : length history ≤ most_drawn
+  pub logged : Option (List LoggedCall)
+  pub calls : IsCalls bytes history logged
+  pub lines : IsOfLines cut → IsSome logged
+  pub number : IsPictureOf Has k asked cut history (logged_of logged)
 
--- there is a picture: the input is drawn, with the order where one is given
+-- there is a picture of these calls of an input
+abbrev pub IsPicture : ℕ → Bool → Cut → List ℕ → Type 0
+IsPicture k asked cut bytes = AreCallsOf AreFew k asked cut bytes
+
+-- why there is no picture of these calls of an input
+abbrev pub IsNoPicture : ℕ → Bool → Cut → List ℕ → Fault → Type 0
+IsNoPicture k asked cut bytes NotJson = IsNoCalls bytes NotJson
+IsNoPicture k asked cut bytes (Record fault) = IsNoCalls bytes (Record fault)
+IsNoPicture k asked cut bytes (Import fault) = IsNoCalls bytes (Import fault)
+IsNoPicture k asked cut bytes NoLines = IsOfLines cut × BeginsRecord bytes
+IsNoPicture k asked cut bytes TooManyDrawn = AreCallsOf AreMany k asked cut bytes
+IsNoPicture k asked cut bytes Memory = Unit {0}
+IsNoPicture k asked cut bytes _ = ⊥
+
+-- there is a picture: of the calls that the options ask for, with the order where one is given
 pub record IsDraw (options : DrawOptions) (input : Option (List ℕ)) : Type 0 where
+  pub cut : Cut
+  pub asked : AsksFor options cut
   pub order : Option (List ℕ)
   pub order_given : IsOrder options.check order
-  pub drawn : IsDrawn input
-
--- the input is the record of too many calls
-pub record IsOverdrawn (input : Option (List ℕ)) : Type 0 where
   pub bytes : List ℕ
   pub read : IsInput input bytes
-  pub history : List Call
-  pub recorded : IsRecordText bytes history
-  pub many : most_drawn < length history
+  pub pictured : IsPicture options.check.k options.evidence cut bytes
 
--- why an input is not drawn
-abbrev pub IsUndrawn : Option (List ℕ) → ℕ → ℕ → Fault → Type 0
-IsUndrawn input before after Input = IsUnread input before after
-IsUndrawn input before after NotJson = IsOfInput input IsTextFault streams.NotJson
-IsUndrawn input before after (Record fault) = IsOfInput input IsTextFault (streams.Record fault)
-IsUndrawn input before after TooManyDrawn = IsOverdrawn input
-IsUndrawn input before after Memory = Unit {0}
-IsUndrawn input before after _ = ⊥
+-- the options ask for calls of the input of which there is no picture
+pub record IsUndrawn (options : DrawOptions) (input : Option (List ℕ)) (fault : Fault) : Type 0 where
+  pub cut : Cut
+  pub asked : AsksFor options cut
+  pub bytes : List ℕ
+  pub read : IsInput input bytes
+  pub unpictured : IsNoPicture options.check.k options.evidence cut bytes fault
 
--- why there is no picture: the value of `--order` gives no order, or the input is not drawn
+-- why there is no picture
 abbrev pub IsDrawRefusal : DrawOptions → Option (List ℕ) → ℕ → ℕ → Fault → Type 0
+IsDrawRefusal options input before after Contradiction = IsCutFault options Contradiction
+IsDrawRefusal options input before after Stretch = IsCutFault options Stretch
 IsDrawRefusal options input before after Order = IsOrderFault options.check
-IsDrawRefusal options input before after fault = IsUndrawn input before after fault
+IsDrawRefusal options input before after Input = IsUnread input before after
+IsDrawRefusal options input before after Memory = Unit {0}
+IsDrawRefusal options input before after fault = IsUndrawn options input fault

@@ -3,6 +3,7 @@
 #![tactic(auto)]
 
 mod commands;
+mod cut;
 mod ending;
 mod input;
 mod options;

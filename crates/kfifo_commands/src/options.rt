@@ -71,10 +71,19 @@ pub struct LeastOptions {
 /// What `draw` is given.
 #[derive(Clone, Copy)]
 pub struct DrawOptions<'a> {
-    /// The order that is drawn too, and the k of its verdict, as `check` is given them; no order to draw the calls alone.
+    /// The order that is drawn too, and the k of its verdict or of the evidence, as `check` is given them; no order to draw the
+    /// calls alone.
     pub check: CheckOptions<'a>,
     /// Whether the picture is one of characters.
     pub text: bool,
+    /// Whether the calls that the evidence names are marked.
+    pub evidence: bool,
+    /// Within how many calls of a named one further calls are drawn, with `evidence` alone; 8 where it is left out.
+    pub around: Option<u32>,
+    /// The numbers of the calls that are drawn, as they are written; none to draw those of the evidence, or all.
+    pub calls: Option<&'a str>,
+    /// The lines of the log whose calls are drawn, as they are written.
+    pub lines: Option<&'a str>,
 }
 
 /// What `record` is given.

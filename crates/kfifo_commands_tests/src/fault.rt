@@ -43,6 +43,9 @@ fn a_fault_shows_its_line(rt: HostRuntime) -> Result<(), Fail> {
         ),
         (Fault::TooManyDrawn, "draw fault 1"),
         (Fault::Unexplained, "explain fault 1"),
+        (Fault::Contradiction, "draw fault 2"),
+        (Fault::Stretch, "draw fault 3"),
+        (Fault::NoLines, "draw fault 4"),
         (Fault::Memory, "memory"),
     ] {
         let text = format!(in rt.alloc(); "{fault}")?;

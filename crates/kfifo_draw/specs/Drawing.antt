@@ -1,6 +1,12 @@
--- Why a history is not drawn.
-use Rattle.std.specs.Prelude.{ℕ, ◌<◌, ◌≤◌, List, length}
+-- Which calls of a history a picture has, and why there is none.
+use Rattle.std.specs.Prelude.{ℕ, ◌≡◌, ◌+◌, ◌<◌, ◌≤◌, ◌⊎◌, ◌↔◌, List, Option, Some, None, length, slice_index_or}
+use Rattle.std.specs.List.{Any}
 use Rattle.kfifo_model.specs.declared.calls.Call.{Call}
+use Rattle.kfifo_model.specs.Lists.{EachPair, IsIn}
+use Rattle.kfifo_model.specs.Histories.{Precedes, call}
+use Rattle.kfifo_import.specs.declared.log.LoggedCall.{LoggedCall}
+use Rattle.kfifo_draw.specs.declared.part.Part.{Part}
+use Rattle.kfifo_draw.specs.declared.part.Part.TheVariants.{All, Calls, Lines, Near}
 use Rattle.kfifo_draw.specs.declared.picture.DrawFault.{DrawFault}
 use Rattle.kfifo_draw.specs.declared.picture.DrawFault.TheVariants.{TooMany, Memory}
 
@@ -8,10 +14,58 @@ use Rattle.kfifo_draw.specs.declared.picture.DrawFault.TheVariants.{TooMany, Mem
 abbrev pub most_drawn : ℕ
 most_drawn = 4096
 
--- a history is refused for its length alone, else for want of memory
-abbrev pub IsDrawFault : List Call → DrawFault → Type 0
-IsDrawFault h TooMany = most_drawn < length h
-IsDrawFault h Memory = length h ≤ most_drawn
+-- neither call precedes the other
+abbrev pub Overlap : List Call → ℕ → ℕ → Type 0
+Overlap h c d = (¬ (Precedes h c d)) × (¬ (Precedes h d c))
+
+-- there are at most so many numbers from one to the other
+abbrev pub AreWithin : ℕ → ℕ → ℕ → Type 0
+AreWithin around c d = (c ≤ d + around) × (d ≤ c + around)
+
+-- d is a call that c overlaps, or within so many calls of which it stands
+abbrev pub IsNear : List Call → ℕ → ℕ → ℕ → Type 0
+IsNear h around c d = (d < length h) × (Overlap h c d ⊎ AreWithin around c d)
+
+-- what is said where no line of a log is known
+abbrev pub no_line : LoggedCall
+no_line = record { line = 0; first = 0; last = None }
+
+-- the line of a log that a call stands in, from 1; 0 where none is known
+abbrev pub line_of : List LoggedCall → ℕ → ℕ
+line_of logged c = (slice_index_or logged c no_line).line
+
+-- the call c belongs to a part of a history
+abbrev pub IsInPart : List Call → List LoggedCall → Part → ℕ → Type 0
+IsInPart h logged All c = Unit {0}
+IsInPart h logged (Calls first last) c = (first ≤ c) × (c ≤ last)
+IsInPart h logged (Lines first last) c = (first ≤ line_of logged c) × (line_of logged c ≤ last)
+IsInPart h logged (Near named around) c = Any (IsNear h around c) named.now
+
+-- The numbers below n of which P holds, each once, by rising number.
+pub record AreThoseBelow (P : ℕ → Type 0) (n : ℕ) (numbers : List ℕ) : Type 0 where
+  pub rising : EachPair (λ c d. c < d) numbers
+  pub each : (c : ℕ) → IsIn c numbers ↔ ((c < n) × P c)
+
+-- P holds of so many numbers below n
+abbrev pub CountsThose : (ℕ → Type 0) → ℕ → ℕ → Type 0
+CountsThose P n count = (numbers : List ℕ) × AreThoseBelow P n numbers × (length numbers ≡ count)
+
+-- P holds of at most so many of the numbers below n as a picture may have calls
+abbrev pub AreFew : (ℕ → Type 0) → ℕ → Type 0
+AreFew P n = (count : ℕ) × CountsThose P n count × (count ≤ most_drawn)
+
+-- P holds of more of them
+abbrev pub AreMany : (ℕ → Type 0) → ℕ → Type 0
+AreMany P n = (count : ℕ) × CountsThose P n count × (most_drawn < count)
+
+-- the calls of a history that belong to a part
+abbrev pub AreDrawn : List Call → List LoggedCall → Part → List ℕ → Type 0
+AreDrawn h logged part drawn = AreThoseBelow (IsInPart h logged part) (length h) drawn
+
+-- a part of a history is refused for the number of its calls alone, else for want of memory
+abbrev pub IsDrawFault : List Call → List LoggedCall → Part → DrawFault → Type 0
+IsDrawFault h logged part TooMany = AreMany (IsInPart h logged part) (length h)
+IsDrawFault h logged part Memory = AreFew (IsInPart h logged part) (length h)
 
 -- the number of a fault, 0 for want of memory
 abbrev pub draw_fault_number : DrawFault → ℕ

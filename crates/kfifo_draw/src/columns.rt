@@ -42,7 +42,7 @@ pub(crate) fn column_at(columns: &[usize], place: usize) -> usize {
 }
 
 /// How many places there are.
-fn places_of(spans: &[Span]) -> usize {
+pub(crate) fn places_of(spans: &[Span]) -> usize {
     let mut places = 0;
     for span in spans {
         places = span.to.unwrap_or(span.from).saturating_add(1).max(places);

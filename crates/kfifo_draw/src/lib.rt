@@ -1,14 +1,19 @@
 //! Pictures of histories: a lane for each thread, and a bar for each call from its beginning to its end.
 #![tactic(auto)]
 
+mod bands;
 mod columns;
 mod kinds;
 mod lanes;
 mod layout;
 mod marks;
+mod part;
 mod picture;
+mod scene;
 mod spans;
 mod svg;
 mod words;
 
-pub use picture::{DrawFault, MOST_DRAWN, Style, draw};
+pub use marks::Marking;
+pub use part::Part;
+pub use picture::{DrawFault, Drawing, MOST_DRAWN, Style, draw};

@@ -1,11 +1,22 @@
-//! An order in the picture of a history: each call's place in it, and where it fails.
+//! What is marked in the picture of a history: each call's place in an order, and where that fails; or named calls.
 ghost use Rattle.std.specs.Prelude.{◌≤◌};
 
 use kfifo_model::{Call, History, Op, Verdict, check_order};
 use std::alloc::{AllocError, Global};
 use std::fmt::Write;
 
-/// What an order says of a history's calls; nothing where there is no order.
+/// What is marked in a picture.
+#[derive(Clone, Copy, Debug, PartialEq, Eq)]
+pub enum Marking<'a> {
+    /// Nothing.
+    Nothing,
+    /// The place of each call in this order, and the call at which it fails.
+    Order(&'a [usize]),
+    /// The calls with these numbers, and in a line why they are marked.
+    Calls(&'a [usize], &'a str),
+}
+
+/// What is said of a history's calls by what is marked.
 #[derive(Drop)]
 pub(crate) struct Marks {
     /// The verdict on the order; none where there is no order.
@@ -14,20 +25,47 @@ pub(crate) struct Marks {
     places: Vec<Option<usize>>,
     /// The call at which the order fails.
     failing: Option<usize>,
+    /// The calls that are named.
+    named: Vec<usize>,
+    /// Why they are.
+    reason: String,
 }
 
 impl Marks {
-    /// No order.
-    pub(crate) fn none(alloc: Global) -> Marks {
+    /// What is marked.
+    pub(crate) fn of(
+        alloc: Global,
+        history: &History,
+        k: u32,
+        marking: Marking<'_>,
+    ) -> Result<Marks, AllocError>
+        requires { (1 ≤ k) × (k ≤ 64) }
+    {
+        match marking {
+            Marking::Nothing => Ok(Marks::none(alloc)),
+            Marking::Order(order) => Marks::of_order(alloc, history, k, order),
+            Marking::Calls(named, reason) => {
+                let mut marks = Marks::none(alloc);
+                marks.named = named.to_vec(alloc)?;
+                marks.reason.push_str(reason)?;
+                Ok(marks)
+            }
+        }
+    }
+
+    /// Nothing.
+    fn none(alloc: Global) -> Marks {
         Marks {
             verdict: None,
             places: Vec::new(alloc),
             failing: None,
+            named: Vec::new(alloc),
+            reason: String::new(alloc),
         }
     }
 
     /// The places of the calls in this order, and the verdict on it.
-    pub(crate) fn of_order(
+    fn of_order(
         alloc: Global,
         history: &History,
         k: u32,
@@ -43,6 +81,8 @@ impl Marks {
             verdict: Some(verdict),
             places,
             failing,
+            named: Vec::new(alloc),
+            reason: String::new(alloc),
         })
     }
 
@@ -56,10 +96,21 @@ impl Marks {
         self.failing == Some(number)
     }
 
-    /// Adds what is to be said of the order, and answers whether there is one.
+    /// Whether the call with this number is named.
+    pub(crate) fn names(&self, number: usize) -> bool {
+        self.named.contains(&number)
+    }
+
+    /// Whether anything is to be said of the whole.
+    pub(crate) fn has_verdict(&self) -> bool {
+        self.verdict.is_some() || !self.reason.is_empty()
+    }
+
+    /// Adds what is to be said of the whole, and answers whether there is anything.
     pub(crate) fn push_verdict(&self, text: &mut String) -> Result<bool, AllocError> {
         let Some(verdict) = self.verdict else {
-            return Ok(false);
+            text.push_str(self.reason.as_str())?;
+            return Ok(!self.reason.is_empty());
         };
         if verdict == Verdict::Legal {
             text.push_str("the order is legal")?;

@@ -1,12 +1,16 @@
 //! The picture of a history.
 ghost use Rattle.std.specs.Prelude.{◌≡◌, ◌≤◌, MatchResult, length};
-ghost use Rattle.kfifo_draw.specs.Drawing.{IsDrawFault, draw_fault_number, most_drawn};
+ghost use Rattle.kfifo_draw.specs.Drawing.{AreFew, IsDrawFault, IsInPart, draw_fault_number};
 
 use crate::lanes::text_picture;
 use crate::layout::Layout;
-use crate::marks::Marks;
+use crate::marks::{Marking, Marks};
+use crate::part::{Part, count_drawn, drawn_calls};
+use crate::scene::Scene;
 use crate::svg::svg_picture;
-use kfifo_model::History;
+use crate::{lanes, svg};
+use kfifo_import::LoggedCall;
+use kfifo_model::{Call, History};
 use std::alloc::{AllocError, AllocFailed, Global};
 use thiserror::Error;
 
@@ -20,6 +24,24 @@ pub enum Style {
     Svg,
     /// Lines of characters, a lane a line.
     Text,
+}
+
+/// What is drawn of a history, and how.
+#[derive(Clone, Copy, Debug, PartialEq, Eq)]
+pub struct Drawing<'a> {
+    /// What the picture is made of.
+    pub style: Style,
+    /// Which calls are drawn.
+    pub part: Part<'a>,
+    /// What is marked.
+    pub marking: Marking<'a>,
+    /// The k of the verdict on an order, 1 to 64: a dequeue may give any of the k oldest items.
+    pub k: u32,
+    /// Where each call of the history stands in the log that it is the record of, and when it was, by the calls' numbers; empty of
+    /// a history of no log.
+    pub logged: &'a [LoggedCall],
+    pub ghost some_places: { 1 ≤ k },
+    pub ghost few_places: { k ≤ 64 },
 }
 
 /// Why a history is not drawn.
@@ -65,50 +87,63 @@ impl<T: Drop> From<AllocFailed<T>> for DrawFault {
     }
 }
 
-/// The picture of a history of at most 4,096 calls: a lane for each of its threads, by number, and in it a bar for each call
-/// from its beginning to its end, with an open end where the call is unfinished. Only the order of beginnings and ends
+/// The picture of a part of a history, of at most 4,096 calls: a lane for each of its threads, by number, and in it a bar for
+/// each call from its beginning to its end, with an open end where the call is unfinished. Only the order of beginnings and ends
 /// counts, where at one step beginnings come before ends: the picture has no room for idle time, and a bar is as long as its
-/// label needs.
+/// label needs. Lanes that are longer than 4,000 pixels, or than 120 characters, go on below.
 ///
-/// Where an order is given, each call's label has its place in it, and the picture says whether the order is legal for a
-/// queue that may give any of its k oldest items, 1 to 64; of one that is not, the call at which it fails is marked.
+/// Calls have the numbers of the whole history. Where an order is given, each call's label has its place in it, and the picture
+/// says whether the order of the whole is legal for k; of one that is not, the call at which it fails is marked.
 ///
-/// Refused: TooMany of over 4,096 calls, else Memory where an allocation failed.
-pub fn draw(
-    alloc: Global,
-    history: &History,
-    style: Style,
-    k: u32,
-    order: Option<&[usize]>,
-) -> Result<String, DrawFault>
-    requires { (1 ≤ k) × (k ≤ 64) }
-    ensures { MatchResult result (λ _. length history.now ≤ most_drawn) (IsDrawFault history.now) }
+/// Refused: TooMany where over 4,096 calls belong to the part, else Memory where an allocation failed.
+pub fn draw(alloc: Global, history: &History, drawing: &Drawing<'_>) -> Result<String, DrawFault>
+    ensures { MatchResult result (λ _. AreFew (IsInPart history.now drawing.now.logged.now drawing.now.part) (length history.now))
+        (IsDrawFault history.now drawing.now.logged.now drawing.now.part) }
 {
-    if history.calls().len() > MOST_DRAWN {
+    let calls = history.calls();
+    if count_drawn(calls, drawing.logged, drawing.part) > MOST_DRAWN {
         return Err(DrawFault::TooMany);
     }
-    let text = picture_of(alloc, history, style, k, order)?;
+    let text = picture_of(alloc, history, drawing)?;
     Ok(text)
 }
 
-/// The picture of a history.
+/// The calls with these numbers.
+fn calls_at(alloc: Global, calls: &[Call], numbers: &[usize]) -> Result<Vec<Call>, AllocError> {
+    let mut drawn = Vec::with_capacity(alloc, numbers.len())?;
+    for number in numbers {
+        if let Some(call) = calls.get(*number) {
+            drawn.push(*call)?;
+        }
+    }
+    Ok(drawn)
+}
+
+/// The picture of a part of a history.
 fn picture_of(
     alloc: Global,
     history: &History,
-    style: Style,
-    k: u32,
-    order: Option<&[usize]>,
-) -> Result<String, AllocError>
-    requires { (1 ≤ k) × (k ≤ 64) }
-{
-    let marks = match order {
-        Some(order) => Marks::of_order(alloc, history, k, order)?,
-        None => Marks::none(alloc),
+    drawing: &Drawing<'_>,
+) -> Result<String, AllocError> {
+    let whole = history.calls();
+    let numbers = drawn_calls(alloc, whole, drawing.logged, drawing.part)?;
+    let calls = calls_at(alloc, whole, numbers.as_slice())?;
+    let marks = Marks::of(alloc, history, drawing.k, drawing.marking)?;
+    let most = match drawing.style {
+        Style::Svg => svg::MOST_COLUMNS,
+        Style::Text => lanes::MOST_COLUMNS,
     };
-    let calls = history.calls();
-    let layout = Layout::of(alloc, calls, &marks)?;
-    match style {
-        Style::Svg => svg_picture(alloc, calls, &marks, &layout),
-        Style::Text => text_picture(alloc, calls, &marks, &layout),
+    let layout = Layout::of(alloc, calls.as_slice(), numbers.as_slice(), &marks, most)?;
+    let scene = Scene {
+        calls: calls.as_slice(),
+        numbers: numbers.as_slice(),
+        whole: whole.len(),
+        logged: drawing.logged,
+        marks: &marks,
+        layout: &layout,
+    };
+    match drawing.style {
+        Style::Svg => svg_picture(alloc, &scene),
+        Style::Text => text_picture(alloc, &scene),
     }
 }

@@ -50,3 +50,30 @@ pub(crate) fn spans_of(alloc: Global, calls: &[Call]) -> Result<Vec<Span>, Alloc
     }
     Ok(spans)
 }
+
+/// Whether a call with this span began before a place and has not ended before it.
+pub(crate) fn goes_on(span: &Span, from: usize) -> bool {
+    span.from < from && span.to.map_or(true, |end| end >= from)
+}
+
+/// What of a span lies among the places from one to another, counted from `edge` on; none where nothing does. What began before
+/// has the place 0, and what ends behind has no end.
+pub(crate) fn clipped(span: &Span, from: usize, to: usize, edge: usize) -> Option<Span> {
+    let is_before = span.to.map_or(false, |end| end < from);
+    if is_before || span.from >= to {
+        return None;
+    }
+    let end = match span.to {
+        Some(end) if end < to => Some(end.saturating_sub(from).saturating_add(edge)),
+        _ => None,
+    };
+    let begin = if span.from < from {
+        0
+    } else {
+        span.from.saturating_sub(from).saturating_add(edge)
+    };
+    Some(Span {
+        from: begin,
+        to: end,
+    })
+}

@@ -1,7 +1,7 @@
 //! Pictures as SVG.
+use crate::bands::{Band, Bar, Edge};
 use crate::kinds::Kind;
-use crate::layout::{Bar, Layout};
-use crate::marks::Marks;
+use crate::scene::Scene;
 use crate::words::push_details;
 use kfifo_model::{Call, Op};
 use std::alloc::{AllocError, Global};
@@ -13,8 +13,14 @@ const COLUMN: usize = 8;
 const LEFT: usize = 96;
 
 const RIGHT: usize = 16;
-/// The room above the lanes, for what is said of the whole.
+/// How many columns a band has at most: so a picture is at most 4,000 pixels wide.
+pub(crate) const MOST_COLUMNS: usize = 486;
+/// The room above the lanes, for a line on what is said of the whole, and the height of a further one.
 const TOP: usize = 60;
+
+const NOTE: usize = 18;
+/// The room between two bands.
+const GAP: usize = 18;
 /// The height of a lane, that of a bar, and how far a bar stands below the top of its lane.
 const LANE: usize = 36;
 
@@ -37,18 +43,19 @@ text { font: 12px 'DejaVu Sans Mono', Menlo, Consolas, monospace; fill: #1a1a1a 
 .none .bar { fill: #fff; stroke: #a34a00; stroke-dasharray: 2 3 }
 .refused .bar { fill: #e4e4e4; stroke: #666; stroke-dasharray: 7 3 }
 .bar { stroke-width: 1.5 }
-.fails .bar { stroke: #c00000; stroke-width: 4; stroke-dasharray: none }
-.fails text { fill: #c00000; font-weight: bold }
+.fails .bar, .named .bar { stroke: #c00000; stroke-width: 4; stroke-dasharray: none }
+.fails text, .named text { fill: #c00000; font-weight: bold }
 </style>
 ";
 
-/// The key of the looks: what begins at the left, and then a bar of each kind.
-const KEY: [(&str, bool, bool, &str); 5] = [
-    ("puts", false, false, "enqueue done"),
-    ("takes", true, false, "dequeue got"),
-    ("none", true, false, "dequeue empty"),
-    ("refused", false, false, "full, busy, worn"),
-    ("puts", false, true, "unfinished"),
+/// The key of the looks: a class, whether corners are round, how the bar ends, and what it says.
+const KEY: [(&str, bool, Edge, &str); 6] = [
+    ("puts", false, Edge::Closed, "enqueue done"),
+    ("takes", true, Edge::Closed, "dequeue got"),
+    ("none", true, Edge::Closed, "dequeue empty"),
+    ("refused", false, Edge::Closed, "full, busy, worn"),
+    ("puts", false, Edge::Open, "unfinished"),
+    ("puts", false, Edge::Torn, "goes on"),
 ];
 
 /// The left upper corner of a bar, its width, and its looks.
@@ -59,8 +66,10 @@ struct Outline {
     width: usize,
     /// Whether its corners are round, as those of dequeues are.
     round: bool,
-    /// Whether its right end is open, as that of an unfinished call is.
-    open: bool,
+    /// Whether its left end is torn, since it began in a band before.
+    goes_on: bool,
+    /// How it ends at the right.
+    edge: Edge,
 }
 
 /// The corner's radius.
@@ -68,7 +77,7 @@ fn radius(round: bool) -> usize {
     if round { 11 } else { 0 }
 }
 
-/// Adds an outline with all its sides.
+/// Adds an outline with both its ends.
 fn push_closed(text: &mut String, outline: Outline) -> Result<(), AllocError> {
     let (x, y, width) = (outline.x, outline.y, outline.width);
     let corner = radius(outline.round);
@@ -78,32 +87,58 @@ fn push_closed(text: &mut String, outline: Outline) -> Result<(), AllocError> {
     )
 }
 
-/// Adds an outline with no right side.
-fn push_open(text: &mut String, outline: Outline) -> Result<(), AllocError> {
-    let (x, y) = (outline.x, outline.y);
-    let corner = radius(outline.round);
-    let right = x.saturating_add(outline.width);
+/// Adds the left end of an outline, downwards from its upper side.
+fn push_left_end(text: &mut String, outline: Outline) -> Result<(), AllocError> {
+    let (x, y, corner) = (outline.x, outline.y, radius(outline.round));
+    if outline.goes_on {
+        return write!(text, "H {x} l 4 6 l -4 6 l 4 6 l -4 6 ");
+    }
     let (upper, bottom) = (y.saturating_add(corner), y.saturating_add(BAR));
     let (lower, start) = (bottom.saturating_sub(corner), x.saturating_add(corner));
-    write!(text, "<path class=\"bar\" d=\"M {right} {y} H {start} ")?;
-    write!(text, "Q {x} {y} {x} {upper} V {lower} ")?;
-    writeln!(text, "Q {x} {bottom} {start} {bottom} H {right}\"/>")
+    write!(text, "H {start} Q {x} {y} {x} {upper} V {lower} ")?;
+    write!(text, "Q {x} {bottom} {start} {bottom} ")
+}
+
+/// Adds the right end of an outline, upwards from its lower side.
+fn push_right_end(text: &mut String, outline: Outline) -> Result<(), AllocError> {
+    let (y, corner) = (outline.y, radius(outline.round));
+    let right = outline.x.saturating_add(outline.width);
+    let (upper, bottom) = (y.saturating_add(corner), y.saturating_add(BAR));
+    let (lower, end) = (bottom.saturating_sub(corner), right.saturating_sub(corner));
+    match outline.edge {
+        Edge::Open => write!(text, "H {right}"),
+        Edge::Torn => write!(text, "H {right} l -4 -6 l 4 -6 l -4 -6 l 4 -6"),
+        Edge::Closed => {
+            write!(text, "H {end} Q {right} {bottom} {right} {lower} ")?;
+            write!(text, "V {upper} Q {right} {y} {end} {y}")
+        }
+    }
+}
+
+/// Adds an outline of which an end is open or torn.
+fn push_partial(text: &mut String, outline: Outline) -> Result<(), AllocError> {
+    let y = outline.y;
+    let right = outline.x.saturating_add(outline.width);
+    let corner = match outline.edge {
+        Edge::Closed => radius(outline.round),
+        Edge::Open | Edge::Torn => 0,
+    };
+    let start = right.saturating_sub(corner);
+    write!(text, "<path class=\"bar\" d=\"M {start} {y} ")?;
+    push_left_end(text, outline)?;
+    push_right_end(text, outline)?;
+    text.push_str("\"/>\n")
 }
 
 /// Adds an outline and a label in it.
 fn push_outline(text: &mut String, outline: Outline, label: &str) -> Result<(), AllocError> {
-    if outline.open {
-        push_open(text, outline)?;
-    } else {
+    if outline.edge == Edge::Closed && !outline.goes_on {
         push_closed(text, outline)?;
+    } else {
+        push_partial(text, outline)?;
     }
     let (x, y) = (outline.x.saturating_add(7), outline.y.saturating_add(16));
     writeln!(text, "<text x=\"{x}\" y=\"{y}\">{label}</text>")
-}
-
-/// Where the top of a lane is, by its place from above.
-fn lane_top(lane: usize) -> usize {
-    lane.saturating_mul(LANE).saturating_add(TOP)
 }
 
 /// Where the left end of a column is.
@@ -111,49 +146,109 @@ fn column_left(column: usize) -> usize {
     column.saturating_mul(COLUMN).saturating_add(LEFT)
 }
 
-/// The outline of a call's bar in a lane, in a picture of this width.
-fn outline_of(call: &Call, bar: &Bar, lane: usize, width: usize) -> Outline {
+/// Where the lines of a picture are that are as wide and as high as it.
+#[derive(Clone, Copy)]
+struct Frame {
+    /// The width of the picture.
+    width: usize,
+    /// The top of the lanes.
+    top: usize,
+    /// How many lanes a band has.
+    lanes: usize,
+}
+
+impl Frame {
+    /// The frame of a picture.
+    fn of(scene: &Scene<'_>) -> Frame {
+        let drawn = scene.layout.columns.saturating_mul(COLUMN);
+        let width = drawn.saturating_add(LEFT).saturating_add(RIGHT);
+        let mut top = TOP;
+        if scene.marks.has_verdict() {
+            top = top.saturating_add(NOTE);
+        }
+        if scene.is_crowded() {
+            top = top.saturating_add(NOTE);
+        }
+        Frame {
+            width: width.max(LEAST_WIDTH),
+            top,
+            lanes: scene.layout.threads.len(),
+        }
+    }
+
+    /// The top of a band.
+    fn band_top(&self, band: usize) -> usize {
+        let height = self.lanes.saturating_mul(LANE).saturating_add(GAP);
+        band.saturating_mul(height).saturating_add(self.top)
+    }
+
+    /// The bottom of so many bands.
+    fn bottom(&self, bands: usize) -> usize {
+        if bands == 0 {
+            self.top
+        } else {
+            self.band_top(bands).saturating_sub(GAP)
+        }
+    }
+}
+
+/// The top of a lane in a band that has this top.
+fn lane_top(top: usize, lane: usize) -> usize {
+    lane.saturating_mul(LANE).saturating_add(top)
+}
+
+/// The outline of a call's bar in a lane with this top, in a picture of this width.
+fn outline_of(call: &Call, bar: &Bar, top: usize, width: usize) -> Outline {
     let x = column_left(bar.left);
-    let open = call.end.is_none();
-    let right = if open {
-        width.saturating_sub(RIGHT)
-    } else {
+    let right = if bar.edge == Edge::Closed {
         // Two bars that follow each other leave a gap.
         column_left(bar.right)
             .saturating_add(COLUMN)
             .saturating_sub(2)
+    } else {
+        width.saturating_sub(RIGHT)
     };
     Outline {
         x,
-        y: lane_top(lane).saturating_add(INSET),
+        y: top.saturating_add(INSET),
         width: right.saturating_sub(x),
         round: call.op == Op::Dequeue,
-        open,
+        goes_on: bar.goes_on,
+        edge: bar.edge,
     }
 }
 
-/// Adds the bar of the call with this number, with its label, and all that is known of the call as a title, which viewers
-/// show where the pointer rests.
+/// Adds the bar of a call, with its label, and all that is known of the call as a title, which viewers show where the pointer
+/// rests.
 fn push_call(
     text: &mut String,
-    marks: &Marks,
-    number: usize,
+    scene: &Scene<'_>,
+    bar: &Bar,
     call: &Call,
-    label: &str,
     outline: Outline,
 ) -> Result<(), AllocError> {
+    let number = scene.numbers.get(bar.index).copied().unwrap_or(bar.index);
     let class = Kind::of(call).class();
-    let fails = if marks.fails_at(number) { " fails" } else { "" };
-    write!(text, "<g class=\"{class}{fails}\"><title>")?;
-    push_details(text, marks, number, call)?;
+    let fails = if scene.marks.fails_at(number) {
+        " fails"
+    } else {
+        ""
+    };
+    let named = if scene.marks.names(number) {
+        " named"
+    } else {
+        ""
+    };
+    write!(text, "<g class=\"{class}{fails}{named}\"><title>")?;
+    let logged = scene.logged.get(number).copied();
+    push_details(text, scene.marks, number, call, logged)?;
     text.push_str("</title>\n")?;
-    push_outline(text, outline, label)?;
+    push_outline(text, outline, scene.layout.label_of(bar.index))?;
     text.push_str("</g>\n")
 }
 
-/// Adds the lane of a thread, at this place from above.
-fn push_lane(text: &mut String, lane: usize, thread: u32, width: usize) -> Result<(), AllocError> {
-    let top = lane_top(lane);
+/// Adds the lane of a thread, which has this top.
+fn push_lane(text: &mut String, top: usize, thread: u32, width: usize) -> Result<(), AllocError> {
     let (inner, height) = (width.saturating_sub(8), LANE.saturating_sub(2));
     let middle = top.saturating_add(22);
     writeln!(
@@ -163,36 +258,84 @@ fn push_lane(text: &mut String, lane: usize, thread: u32, width: usize) -> Resul
     writeln!(text, "<text x=\"12\" y=\"{middle}\">thread {thread}</text>")
 }
 
-/// Adds what is said of the whole.
-fn push_heading(
+/// Adds a band, which has this top.
+fn push_band(
     text: &mut String,
-    calls: usize,
-    threads: usize,
-    marks: &Marks,
+    scene: &Scene<'_>,
+    band: &Band,
+    top: usize,
+    width: usize,
 ) -> Result<(), AllocError> {
-    let call_word = if calls == 1 { "call" } else { "calls" };
-    let thread_word = if threads == 1 { "thread" } else { "threads" };
-    write!(
-        text,
-        "<text class=\"head\" x=\"12\" y=\"26\">{calls} {call_word} of {threads} {thread_word}</text>\n<text class=\"note\" x=\"12\" y=\"46\">"
-    )?;
-    if marks.push_verdict(text)? {
-        text.push_str("; ")?;
+    for (lane, thread) in scene.layout.threads.iter().enumerate() {
+        push_lane(text, lane_top(top, lane), *thread, width)?;
     }
-    text.push_str("time runs to the right, and only its order counts</text>\n")
+    for bar in band.bars.iter() {
+        if let Some(call) = scene.calls.get(bar.index) {
+            let lane = scene.layout.lane_of(call.thread);
+            let outline = outline_of(call, bar, lane_top(top, lane), width);
+            push_call(text, scene, bar, call, outline)?;
+        }
+    }
+    Ok(())
+}
+
+/// Adds the beginning of a note at this height.
+fn push_note(text: &mut String, y: usize) -> Result<(), AllocError> {
+    write!(text, "<text class=\"note\" x=\"12\" y=\"{y}\">")
+}
+
+/// Adds what is said of what is marked, with the signs of the document's own written as its entities.
+fn push_verdict(alloc: Global, text: &mut String, scene: &Scene<'_>) -> Result<(), AllocError> {
+    let mut said = String::new(alloc);
+    scene.marks.push_verdict(&mut said)?;
+    for sign in said.as_str().chars() {
+        match sign {
+            '&' => text.push_str("&amp;")?,
+            '<' => text.push_str("&lt;")?,
+            _ => text.push(sign)?,
+        }
+    }
+    Ok(())
+}
+
+/// Adds what is said of the whole.
+fn push_heading(alloc: Global, text: &mut String, scene: &Scene<'_>) -> Result<(), AllocError> {
+    text.push_str("<text class=\"head\" x=\"12\" y=\"26\">")?;
+    scene.push_count(text)?;
+    text.push_str("</text>\n")?;
+    let mut y = 46usize;
+    if scene.marks.has_verdict() {
+        push_note(text, y)?;
+        push_verdict(alloc, text, scene)?;
+        text.push_str("</text>\n")?;
+        y = y.saturating_add(NOTE);
+    }
+    if scene.is_crowded() {
+        push_note(text, y)?;
+        scene.push_hint(text)?;
+        text.push_str("</text>\n")?;
+        y = y.saturating_add(NOTE);
+    }
+    push_note(text, y)?;
+    text.push_str("time runs to the right, and only its order counts")?;
+    if scene.layout.bands.len() > 1 {
+        text.push_str("; lanes go on below")?;
+    }
+    text.push_str("</text>\n")
 }
 
 /// Adds the key of the looks.
 fn push_key(text: &mut String, top: usize) -> Result<(), AllocError> {
     let mut x = 12usize;
-    for (class, round, open, label) in KEY {
+    for (class, round, edge, label) in KEY {
         let width = label.len().saturating_mul(COLUMN).saturating_add(12);
         let outline = Outline {
             x,
             y: top,
             width,
             round,
-            open,
+            goes_on: false,
+            edge,
         };
         writeln!(text, "<g class=\"{class}\">")?;
         push_outline(text, outline, label)?;
@@ -216,28 +359,16 @@ fn push_beginning(text: &mut String, width: usize, height: usize) -> Result<(), 
     )
 }
 
-/// A document with a lane for each thread and a bar for each call.
-pub(crate) fn svg_picture(
-    alloc: Global,
-    calls: &[Call],
-    marks: &Marks,
-    layout: &Layout,
-) -> Result<String, AllocError> {
+/// A document with a lane for each thread and a bar for each call, in bands.
+pub(crate) fn svg_picture(alloc: Global, scene: &Scene<'_>) -> Result<String, AllocError> {
     let mut text = String::new(alloc);
-    let drawn = layout.columns.saturating_mul(COLUMN);
-    let width = drawn
-        .saturating_add(LEFT)
-        .saturating_add(RIGHT)
-        .max(LEAST_WIDTH);
-    let below = lane_top(layout.threads.len());
-    push_beginning(&mut text, width, below.saturating_add(BOTTOM))?;
-    push_heading(&mut text, calls.len(), layout.threads.len(), marks)?;
-    for (lane, thread) in layout.threads.iter().enumerate() {
-        push_lane(&mut text, lane, *thread, width)?;
-    }
-    for (number, (call, bar)) in calls.iter().zip(layout.bars.iter()).enumerate() {
-        let outline = outline_of(call, bar, layout.lane_of(call.thread), width);
-        push_call(&mut text, marks, number, call, bar.label.as_str(), outline)?;
+    let frame = Frame::of(scene);
+    let bands = scene.layout.bands.as_slice();
+    let below = frame.bottom(bands.len());
+    push_beginning(&mut text, frame.width, below.saturating_add(BOTTOM))?;
+    push_heading(alloc, &mut text, scene)?;
+    for (place, band) in bands.iter().enumerate() {
+        push_band(&mut text, scene, band, frame.band_top(place), frame.width)?;
     }
     push_key(&mut text, below.saturating_add(16))?;
     text.push_str("</svg>\n")?;

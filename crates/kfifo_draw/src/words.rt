@@ -1,5 +1,6 @@
 //! What is said of a call.
 use crate::marks::Marks;
+use kfifo_import::LoggedCall;
 use kfifo_model::{Answer, Call, Op};
 use std::alloc::{AllocError, Global};
 use std::fmt::Write;
@@ -24,7 +25,8 @@ fn push_answer(text: &mut String, answer: Answer) -> Result<(), AllocError> {
     }
 }
 
-/// The label of a call: its number, what it asks for, its answer, its place in the order, and whether the order fails at it.
+/// The label of a call: its number, what it asks for, its answer, its place in the order, and whether the order fails at it or it is
+/// named.
 pub(crate) fn label_of(
     alloc: Global,
     marks: &Marks,
@@ -44,7 +46,28 @@ pub(crate) fn label_of(
     if marks.fails_at(number) {
         text.push_str(" fails")?;
     }
+    if marks.names(number) {
+        text.push_str(" named")?;
+    }
     Ok(text)
+}
+
+/// Adds from when to when a call was: its steps, or where it stands in a log, its line and its times there.
+fn push_when(text: &mut String, call: &Call, logged: Option<LoggedCall>) -> Result<(), AllocError> {
+    let last = call.end.map(|end| end.last);
+    let (unit, first, last) = match logged {
+        Some(logged) => ("time", logged.first, logged.last),
+        None => ("step", call.first, last),
+    };
+    match last {
+        Some(last) => write!(text, ", {unit}s {first} to {last}")?,
+        None => write!(text, ", from {unit} {first}")?,
+    }
+    if let Some(logged) = logged {
+        let line = logged.line;
+        write!(text, ", line {line} of the log")?;
+    }
+    Ok(())
 }
 
 /// Adds all that is known of the call with this number.
@@ -53,24 +76,27 @@ pub(crate) fn push_details(
     marks: &Marks,
     number: usize,
     call: &Call,
+    logged: Option<LoggedCall>,
 ) -> Result<(), AllocError> {
-    let (thread, first) = (call.thread, call.first);
+    let thread = call.thread;
     write!(text, "call {number}: thread {thread}, ")?;
     push_op(text, call.op)?;
     match call.end {
         Some(end) => {
-            let last = end.last;
             text.push_str(", answered ")?;
             push_answer(text, end.answer)?;
-            write!(text, ", steps {first} to {last}")?;
         }
-        None => write!(text, ", unfinished, from step {first}")?,
+        None => text.push_str(", unfinished")?,
     }
+    push_when(text, call, logged)?;
     if let Some(place) = marks.place_of(number) {
         write!(text, ", place {place} in the order")?;
     }
     if marks.fails_at(number) {
         text.push_str(", at which the order fails")?;
+    }
+    if marks.names(number) {
+        text.push_str(", named by the verdict")?;
     }
     Ok(())
 }

@@ -2,7 +2,7 @@
 //! some take long to prove with it in view.
 ghost use Rattle.std.specs.Prelude.{◌≤◌};
 
-use kfifo_draw::{DrawFault, Style};
+use kfifo_draw::{DrawFault, Drawing, Marking, Part, Style};
 use kfifo_explain::Outcome;
 use kfifo_import::ImportFault;
 use kfifo_judge::{Sink, Source, StreamFault};
@@ -98,5 +98,16 @@ pub fn draw(
 ) -> Result<String, DrawFault>
     requires { (1 ≤ k) × (k ≤ 64) }
 {
-    kfifo_draw::draw(alloc, history, style, k, order)
+    let marking = match order {
+        Some(order) => Marking::Order(order),
+        None => Marking::Nothing,
+    };
+    let drawing = Drawing {
+        style,
+        part: Part::All,
+        marking,
+        k,
+        logged: &[],
+    };
+    kfifo_draw::draw(alloc, history, &drawing)
 }

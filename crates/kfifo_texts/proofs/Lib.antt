@@ -7,5 +7,6 @@ pub mod Orders
 pub mod Outcomes
 pub mod Recorded
 pub mod Scripts
+pub mod StretchWords
 pub mod TaskWords
 pub mod Writings

@@ -51,6 +51,12 @@ pub enum Fault {
     Import(ImportFault),
     /// There are more calls than a picture may have.
     TooManyDrawn,
+    /// Options of `draw` contradict each other.
+    Contradiction,
+    /// The value of `--calls` or `--lines` is no stretch.
+    Stretch,
+    /// Lines of a log are to be drawn, and the input is a record.
+    NoLines,
     /// The words to be explained are those of no fault and no answer.
     Unexplained,
     /// A growth was refused.
@@ -103,6 +109,9 @@ impl Fault {
             Fault::RepeatedItem => Line::plain("measure fault 2"),
             Fault::Import(fault) => log_line(fault),
             Fault::TooManyDrawn => Line::plain("draw fault 1"),
+            Fault::Contradiction => Line::plain("draw fault 2"),
+            Fault::Stretch => Line::plain("draw fault 3"),
+            Fault::NoLines => Line::plain("draw fault 4"),
             Fault::Unexplained => Line::plain("explain fault 1"),
             Fault::Memory => Line::plain("memory"),
             Fault::Output => Line::plain("output"),

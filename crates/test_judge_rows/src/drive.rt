@@ -22,6 +22,10 @@
 //! Its further keys are `k` (1 where it is missing), `tries` (1,000 where it is missing), `order` (a list of calls; no
 //! order where it is missing), and `show`, for `judge` to show its order. Where there is a `with`, only the lines that
 //! have this text are kept; `count` prints the number of lines in place of them.
+//!
+//! A picture may also have `calls` (of a list of two calls from the first to the last), or `near` (a list of calls: these are
+//! marked, for the `reason`, a string) and with it `around` (a number: they are drawn with what is near them; all calls where it is
+//! missing).
 
 use crate::input::input_of;
 use crate::pictures::{add_picture, form_line};
@@ -48,16 +52,20 @@ fn place(value: &Value) -> usize {
     usize::try_from(number(value)).unwrap_or(usize::MAX)
 }
 
-/// The order of a question.
-pub(crate) fn order_of(alloc: Global, ask: &Value) -> Result<Option<Vec<usize>>, AllocError> {
-    let Some(value) = ask.get("order") else {
+/// The calls that a question has under a name; none where it has none.
+pub(crate) fn calls_of(
+    alloc: Global,
+    ask: &Value,
+    name: &str,
+) -> Result<Option<Vec<usize>>, AllocError> {
+    let Some(value) = ask.get(name) else {
         return Ok(None);
     };
-    let mut order = Vec::new(alloc);
+    let mut calls = Vec::new(alloc);
     for call in items(value) {
-        order.push(place(call))?;
+        calls.push(place(call))?;
     }
-    Ok(Some(order))
+    Ok(Some(calls))
 }
 
 /// Adds the lines of a text that was written. Without the last branch a last line with no line feed would look like one
@@ -88,7 +96,7 @@ fn checked(
     ask: &Value,
 ) -> Result<String, AllocError> {
     let k = k_of(ask);
-    match order_of(alloc, ask)? {
+    match calls_of(alloc, ask, "order")? {
         Some(order) => plain::check(alloc, source, sink, k, Some(order.as_slice())),
         None => plain::check(alloc, source, sink, k, None),
     }

@@ -1,13 +1,37 @@
 //! The pictures that a row asks for.
 
-use crate::drive::{add_written, k_of, order_of};
+use crate::drive::{add_written, calls_of, k_of};
 use crate::form::is_well_formed;
 use crate::plain;
-use kfifo_draw::{DrawFault, Style};
+use kfifo_draw::{DrawFault, Marking, Part, Style};
 use kfifo_model::History;
 use serde_json::Value;
 use std::alloc::{AllocError, Global};
-use test_rows::text;
+use test_rows::{small, text};
+
+/// The picture of a history in which these calls are marked.
+fn marked(
+    alloc: Global,
+    history: &History,
+    style: Style,
+    ask: &Value,
+    near: &[usize],
+) -> Result<String, DrawFault> {
+    let marking = Marking::Calls(near, text(ask, "reason"));
+    let part = match ask.get("around") {
+        Some(around) => Part::Near(near, small(around) as usize),
+        None => Part::All,
+    };
+    plain::draw(alloc, history, style, k_of(ask), part, marking)
+}
+
+/// The part of a history from one call to another.
+fn stretch_of(calls: &[usize]) -> Part<'static> {
+    match calls {
+        [first, last] => Part::Calls(*first, *last),
+        _ => Part::All,
+    }
+}
 
 /// The picture of a history.
 fn picture(
@@ -16,10 +40,26 @@ fn picture(
     style: Style,
     ask: &Value,
 ) -> Result<String, DrawFault> {
+    if let Some(near) = calls_of(alloc, ask, "near")? {
+        return marked(alloc, history, style, ask, near.as_slice());
+    }
+    let part = match calls_of(alloc, ask, "calls")? {
+        Some(calls) => stretch_of(calls.as_slice()),
+        None => Part::All,
+    };
     let k = k_of(ask);
-    match order_of(alloc, ask)? {
-        Some(order) => plain::draw(alloc, history, style, k, Some(order.as_slice())),
-        None => plain::draw(alloc, history, style, k, None),
+    match calls_of(alloc, ask, "order")? {
+        Some(order) => {
+            plain::draw(
+                alloc,
+                history,
+                style,
+                k,
+                part,
+                Marking::Order(order.as_slice()),
+            )
+        }
+        None => plain::draw(alloc, history, style, k, part, Marking::Nothing),
     }
 }
 

@@ -2,7 +2,7 @@
 //! k gives a line of its own.
 
 use crate::streams::{Input, Output};
-use kfifo_draw::{DrawFault, Style};
+use kfifo_draw::{DrawFault, Drawing, Marking, Part, Style};
 use kfifo_explain::Outcome;
 use kfifo_import::ImportFault;
 use kfifo_judge::StreamFault;
@@ -150,10 +150,18 @@ pub(crate) fn draw(
     history: &History,
     style: Style,
     k: u32,
-    order: Option<&[usize]>,
+    part: Part<'_>,
+    marking: Marking<'_>,
 ) -> Result<String, DrawFault> {
     if k < 1 || k > 64 {
         return Ok(no_such_k(alloc, k)?);
     }
-    kfifo_draw::draw(alloc, history, style, k, order)
+    let drawing = Drawing {
+        style,
+        part,
+        marking,
+        k,
+        logged: &[],
+    };
+    kfifo_draw::draw(alloc, history, &drawing)
 }

@@ -1,17 +1,24 @@
-//! The command `draw`: a picture of a record.
-ghost use Rattle.std.specs.Prelude.{◌≡◌, ◌≢◌, ◌≤◌, ℕ, List, IfErr, IfOk};
-ghost use Rattle.kfifo_commands.specs.Pictures.{IsDraw, IsDrawRefusal, IsDrawn, IsUndrawn};
-ghost use Rattle.kfifo_commands.specs.Records.{ReadsWell};
+//! The command `draw`: a picture of a record or a log, or of a part of it.
+ghost use Rattle.std.specs.Prelude.{◌≡◌, ◌≢◌, ◌≤◌, ◌⊎◌, true, IfErr, IfOk, MatchResult, option_map};
+ghost use Rattle.kfifo_commands.specs.Cuts.{named_by};
+ghost use Rattle.kfifo_commands.specs.Pictures.{IsDraw, IsDrawRefusal, IsNoPicture, IsPicture, IsPictureOf};
+ghost use Rattle.kfifo_commands.specs.Records.{IsOrder, IsOrderFault, ReadsWell};
+ghost use Rattle.kfifo_draw.specs.Drawing.{AreFew, AreMany};
 
-use crate::input::read_input;
+use crate::cut::{Cut, cut_of, is_of_lines, part_of};
+use crate::input::{read_calls, read_input};
 use crate::options::DrawOptions;
-use kfifo_draw::{Style, draw};
-use kfifo_judge::{Source, read_record};
+use kfifo_draw::{DrawFault, Drawing, Marking, Style, draw};
+use kfifo_import::LoggedCall;
+use kfifo_judge::Source;
+use kfifo_model::{Answer, Call, End, History};
 use kfifo_texts::{Fault, order_of};
-use std::alloc::Global;
+use kfifo_verdict::{Evidence, evidence};
+use std::alloc::{AllocError, Global};
+use std::fmt::Write;
 use std::rt::Files;
 
-/// The picture of the record of the input.
+/// The picture of the record or the log of the input, or of the part of it that the options ask for.
 pub fn answer<H: Files, S: Source>(
     alloc: Global,
     files: &H,
@@ -23,12 +30,26 @@ pub fn answer<H: Files, S: Source>(
     ensures silent { IfErr result (λ fault. fault ≢ Fault.Output) }
     ensures reads { ReadsWell result (S.failed input.old) (S.failed input.new) }
 {
-    let style = style_of(options);
+    let cut = cut_of(options)?;
+    let order = order_given(alloc, files, options)?;
+    let bytes = read_input(alloc, input)?;
+    picture(alloc, bytes.as_slice(), options, cut, &order)
+}
+
+/// The order that is to be drawn too, where one is given.
+fn order_given<H: Files>(
+    alloc: Global,
+    files: &H,
+    options: DrawOptions<'_>,
+) -> Result<Option<Vec<usize>>, Fault>
+    ensures ok { IfOk result (λ order. IsOrder options.entry.check (option_map (λ o. o.items) order)) }
+    ensures err { IfErr result (λ fault. (fault ≡ Fault.Memory) ⊎ ((fault ≡ Fault.Order) × IsOrderFault options.entry.check)) }
+{
     let Some(text) = options.check.order else {
-        return picture(alloc, input, style, options.check.k, None);
+        return Ok(None);
     };
     let order = order_of(alloc, files, text)?;
-    picture(alloc, input, style, options.check.k, Some(order.as_slice()))
+    Ok(Some(order))
 }
 
 /// What the picture is made of.
@@ -40,22 +61,190 @@ fn style_of(options: DrawOptions<'_>) -> Style {
     }
 }
 
-/// The picture of the record of the input, with this order.
-fn picture<S: Source>(
+/// The picture of these calls of an input, with this order.
+fn picture(
     alloc: Global,
-    input: &mut S,
-    style: Style,
-    k: u32,
-    order: Option<&[usize]>,
+    bytes: &[u8],
+    options: DrawOptions<'_>,
+    cut: Cut,
+    order: &Option<Vec<usize>>,
 ) -> Result<String, Fault>
-    requires { (1 ≤ k) × (k ≤ 64) }
-    ensures ok { IfOk result (λ _. IsDrawn (S.remaining input.old)) }
-    ensures err { IfErr result (IsUndrawn (S.remaining input.old) (S.failed input.old) (S.failed input.new)) }
-    ensures silent { IfErr result (λ fault. fault ≢ Fault.Output) }
-    ensures reads { ReadsWell result (S.failed input.old) (S.failed input.new) }
+    ensures { MatchResult result (λ _. IsPicture options.entry.check.k options.entry.evidence cut bytes.now)
+        (IsNoPicture options.entry.check.k options.entry.evidence cut bytes.now) }
 {
-    let bytes = read_input(alloc, input)?;
-    let history = read_record(alloc, bytes.as_slice())?;
-    let text = draw(alloc, &history, style, k, order)?;
+    let calls = read_calls(alloc, bytes)?;
+    let history = &calls.history;
+    if let Some(logged) = &calls.logged {
+        return Ok(picture_of(alloc, history, logged.as_slice(), options, cut, order)?);
+    }
+    if is_of_lines(cut) {
+        return Err(Fault::NoLines);
+    }
+    Ok(picture_of(alloc, history, &[], options, cut, order)?)
+}
+
+/// The picture of these calls of a history, with this order.
+fn picture_of(
+    alloc: Global,
+    history: &History,
+    logged: &[LoggedCall],
+    options: DrawOptions<'_>,
+    cut: Cut,
+    order: &Option<Vec<usize>>,
+) -> Result<String, DrawFault>
+    ensures { MatchResult result (λ _. IsPictureOf AreFew options.entry.check.k options.entry.evidence cut history.now logged.now)
+        (λ fault. fault ≡ DrawFault.TooMany
+        → IsPictureOf AreMany options.entry.check.k options.entry.evidence cut history.now logged.now) }
+{
+    let (k, style) = (options.check.k, style_of(options));
+    if options.evidence {
+        return picture_of_evidence(alloc, history, logged, k, style, cut);
+    }
+    let marking = match order {
+        Some(order) => Marking::Order(order.as_slice()),
+        None => Marking::Nothing,
+    };
+    let part = part_of(cut, None);
+    draw(
+        alloc,
+        history,
+        &Drawing {
+            style,
+            part,
+            marking,
+            k,
+            logged,
+        },
+    )
+}
+
+/// The picture of these calls of a history, in which those that the evidence names are marked.
+fn picture_of_evidence(
+    alloc: Global,
+    history: &History,
+    logged: &[LoggedCall],
+    k: u32,
+    style: Style,
+    cut: Cut,
+) -> Result<String, DrawFault>
+    requires { (1 ≤ k) × (k ≤ 64) }
+    ensures { MatchResult result (λ _. IsPictureOf AreFew k true cut history.now logged.now)
+        (λ fault. fault ≡ DrawFault.TooMany → IsPictureOf AreMany k true cut history.now logged.now) }
+{
+    let found = evidence(alloc, history, k)?;
+    let reason = reason_of(alloc, history, k, &found)?;
+    let Some(found) = found else {
+        let marking = Marking::Calls(&[], reason.as_str());
+        let part = part_of(cut, None);
+        return draw(
+            alloc,
+            history,
+            &Drawing {
+                style,
+                part,
+                marking,
+                k,
+                logged,
+            },
+        );
+    };
+    let named = named_calls(alloc, &found)?;
+    let marking = Marking::Calls(named.as_slice(), reason.as_str());
+    let part = part_of(cut, Some(named.as_slice()));
+    draw(
+        alloc,
+        history,
+        &Drawing {
+            style,
+            part,
+            marking,
+            k,
+            logged,
+        },
+    )
+}
+
+/// The calls that evidence names: the one that got an item or found none, and then the puts.
+fn named_calls(alloc: Global, found: &Evidence) -> Result<Vec<usize>, AllocError>
+    ensures { IfOk result (λ calls. calls.items ≡ named_by found.now) }
+{
+    let mut calls = Vec::new(alloc);
+    match found {
+        Evidence::NeverPut(get) | Evidence::TakenTwice(get) => calls.push(*get)?,
+        Evidence::NotEmpty { empty, puts } => {
+            calls.push(*empty)?;
+            calls.extend_from_slice(puts.as_slice())?;
+        }
+        Evidence::TooYoung { get, puts } => {
+            calls.push(*get)?;
+            calls.extend_from_slice(puts.as_slice())?;
+        }
+    }
+    Ok(calls)
+}
+
+/// The item that the call with this number got, 0 where it got none.
+fn item_got(history: &History, number: usize) -> u32 {
+    match history.calls().get(number) {
+        Some(
+            Call {
+                end: Some(
+                    End {
+                        answer: Answer::Got(item),
+                        ..
+                    },
+                ),
+                ..
+            },
+        ) => *item,
+        _ => 0,
+    }
+}
+
+/// Why the calls of the evidence are marked, in a line.
+fn reason_of(
+    alloc: Global,
+    history: &History,
+    k: u32,
+    found: &Option<Evidence>,
+) -> Result<String, AllocError> {
+    let mut text = String::new(alloc);
+    match found {
+        Some(found) => {
+            write!(text, "no order for k = {k}: ")?;
+            push_reason(&mut text, history, found)?;
+        }
+        None => write!(text, "no evidence for k = {k}")?,
+    }
     Ok(text)
+}
+
+/// Adds what the evidence says, but for the puts that it names.
+fn push_reason(text: &mut String, history: &History, found: &Evidence) -> Result<(), AllocError> {
+    match found {
+        Evidence::NeverPut(get) => {
+            let item = item_got(history, *get);
+            write!(
+                text,
+                "call {get} got item {item}, which no call before its end put"
+            )
+        }
+        Evidence::TakenTwice(get) => {
+            let item = item_got(history, *get);
+            write!(
+                text,
+                "call {get} got item {item}, which was taken more often than put"
+            )
+        }
+        Evidence::NotEmpty { empty, .. } => {
+            write!(text, "call {empty} found nothing, while there were items")
+        }
+        Evidence::TooYoung { get, puts } => {
+            let (item, count) = (item_got(history, *get), puts.len());
+            write!(
+                text,
+                "call {get} got item {item}, while {count} older items were there"
+            )
+        }
+    }
 }

@@ -1,7 +1,14 @@
+use Rattle.std.proofs.Common.{rules}
+use Rattle.kfifo_command_line.proofs.Numbers.{given}
 use Rattle.kfifo_command_line.proofs.commands.draw.options_of.Goals as goal
 
 pub returns : goal.returns
 returns c = record {
-  check = c.options_of.ensures;
+  k = c.places_of.ensures.given;
+  order = c.get_str.ensures;
   text = (c.get_flag.ensures.none, c.get_flag.ensures.value, c.get_flag.ensures.other);
+  evidence = (c.get_flag-2.ensures.none, c.get_flag-2.ensures.value, c.get_flag-2.ensures.other);
+  around = given 32 _ c.get_one.result c.get_one.ensures.none c.get_one.ensures.value;
+  calls = c.get_str-2.ensures;
+  lines = c.get_str-3.ensures;
 }
