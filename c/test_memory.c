@@ -3,7 +3,7 @@
 #include <stdio.h>
 #include <stdlib.h>
 
-enum { K = 4, SEGMENTS = 8, THREADS = 3, ROOM = K * SEGMENTS };
+enum { K = 4, SEGMENTS = 8, THREADS = 3, ROOM = K * SEGMENTS, TOKENS = 5 };
 
 static int failed;
 static long requests, refused, blocks; /* requests so far, the one that is refused (0: none), and blocks that were not freed */
