@@ -9,91 +9,231 @@
 extern "C" {
 #endif
 
-/* What a call answers. */
-enum kfifo_status {
-    KFIFO_DONE = 0,          /* done; of an enqueue: the item is in the queue, or was already taken */
+/* What a call returns. */
+typedef enum kfifo_status {
+    KFIFO_DONE = 0,          /* done; of a put: the item is in the queue, or was already taken */
     KFIFO_FULL = 1,          /* the ring was seen full; the item is not in it */
-    KFIFO_GOT = 2,           /* a dequeue took an item */
+    KFIFO_GOT = 2,           /* an item or a value was taken */
     KFIFO_EMPTY = 3,         /* the queue was empty */
-    KFIFO_BUSY = 4,          /* each of the turns was lost to other threads; nothing was put or taken */
+    KFIFO_BUSY = 4,          /* each round was lost to other threads; nothing was put or taken */
     KFIFO_WORN = 5,          /* a version would pass the greatest one; close this queue and open another */
     KFIFO_BAD_CALL = 6,      /* a pointer is null, an argument out of range, a handle closed or missing; nothing was done */
     KFIFO_NO_MEMORY = 7,     /* an allocation failed; nothing was done */
     KFIFO_BAD_THREADS = 8,   /* the number of threads is not 1 to 64 */
-    KFIFO_LOST = 9,          /* of a close: an allocation failed; the queue is closed and its items are lost */
+    KFIFO_LOST = 9,          /* of a close: an allocation failed; the queue is closed and what was left in it is lost */
+    KFIFO_NO_TOKEN = 10,     /* of a give: the handle has no token and found none in the pool; the value is not in the queue */
     KFIFO_BAD_K = 11,        /* k is not 1 to 64 */
     KFIFO_BAD_SEGMENTS = 12, /* the number of segments is not 2 to 1,024 */
     KFIFO_BAD_LAST = 13,     /* the greatest version is not 2 to 2^40 - 1 */
-    KFIFO_BAD_PROBES = 14    /* the number of probes is not 1 to k */
-};
+    KFIFO_BAD_PROBES = 14,   /* the number of probes is not 1 to k */
+    KFIFO_BAD_TOKENS = 15    /* the number of tokens a thread is not 1 to 1,024 */
+} kfifo_status;
+
+/* A line of text for a status, as "the queue was empty". */
+static inline const char *kfifo_status_text(kfifo_status status) {
+    switch (status) {
+    case KFIFO_DONE: return "done";
+    case KFIFO_FULL: return "the ring was full";
+    case KFIFO_GOT: return "an item was taken";
+    case KFIFO_EMPTY: return "the queue was empty";
+    case KFIFO_BUSY: return "each round was lost to other threads";
+    case KFIFO_WORN: return "the versions of the queue are used up";
+    case KFIFO_BAD_CALL: return "a pointer is null, an argument is out of range, or a handle is closed or missing";
+    case KFIFO_NO_MEMORY: return "an allocation failed, and nothing was done";
+    case KFIFO_BAD_THREADS: return "the number of threads is not 1 to 64";
+    case KFIFO_LOST: return "an allocation failed, and what was left in the queue is lost";
+    case KFIFO_NO_TOKEN: return "the handle has no token and found none in the pool";
+    case KFIFO_BAD_K: return "k is not 1 to 64";
+    case KFIFO_BAD_SEGMENTS: return "the number of segments is not 2 to 1,024";
+    case KFIFO_BAD_LAST: return "the greatest version is not 2 to 2^40 - 1";
+    case KFIFO_BAD_PROBES: return "the number of probes is not 1 to k";
+    case KFIFO_BAD_TOKENS: return "the number of tokens a thread is not 1 to 1,024";
+    }
+    return "no status of this library";
+}
 
 /* The greatest version that a word can have, 2^40 - 1: what `last` should be. */
 #define KFIFO_LAST UINT64_C(1099511627775)
 /* The greatest item, 2^24 - 1. The least is 1. */
 #define KFIFO_MAX_ITEM UINT32_C(16777215)
+/* The greatest number of tokens a thread. */
+#define KFIFO_MAX_TOKENS UINT32_C(1024)
 
-/* A handle, one for each thread. All bytes 0 is a closed one. What it holds is the library's: neither read it nor write it, and never
-   copy it and use both. */
+/* A handle of a queue of items, one for each thread. All bytes 0 is a closed one. What it holds is the library's: neither read it nor write
+   it, and never copy it and use both. */
 typedef struct kfifo_pass {
     void *inside;
     void *address;
     uint32_t starts;
 } kfifo_pass;
 
+/* A handle of a queue of values, likewise. */
+typedef struct kfifo_value_pass {
+    void *inside;
+    void *address;
+    uint32_t starts;
+} kfifo_value_pass;
+
 /* The exports of the library, which test all but null pointers, and at a close that the handles are of one queue. Call those below. */
 uint32_t kfifo_c_open(uint32_t k, uint32_t segments, uint32_t probes, uint64_t last, kfifo_pass *passes, size_t threads);
+uint32_t kfifo_c_put(kfifo_pass *pass, uint32_t item);
+uint32_t kfifo_c_get(kfifo_pass *pass, uint32_t *item);
 uint32_t kfifo_c_enqueue(kfifo_pass *pass, uint32_t item, uint32_t start, uint16_t turns);
 uint32_t kfifo_c_dequeue(kfifo_pass *pass, uint32_t *item, uint32_t start, uint16_t turns);
 uint32_t kfifo_c_word(kfifo_pass *pass, size_t index, uint64_t *word);
 uint32_t kfifo_c_close(kfifo_pass *passes, size_t threads, uint32_t *items, size_t room, size_t *count);
 void kfifo_c_abandon(kfifo_pass *passes, size_t threads);
+uint32_t kfifo_c_open_values(uint32_t k, uint32_t segments, uint32_t probes, uint64_t last, uint32_t tokens, kfifo_value_pass *passes,
+                             size_t threads);
+uint32_t kfifo_c_give(kfifo_value_pass *pass, uint64_t value);
+uint32_t kfifo_c_take(kfifo_value_pass *pass, uint64_t *value);
+uint32_t kfifo_c_close_values(kfifo_value_pass *passes, size_t threads, uint64_t *values, size_t room, size_t *count);
+void kfifo_c_abandon_values(kfifo_value_pass *passes, size_t threads);
+
+/* ThreadSanitizer does not see into the library. So the calls below tell it what the queue ensures: what a thread wrote before it put an
+   item is seen by whoever takes that item. Without the sanitizer these are nothing. */
+#if defined(__SANITIZE_THREAD__)
+#define KFIFO_TSAN 1
+#elif defined(__has_feature)
+#if __has_feature(thread_sanitizer)
+#define KFIFO_TSAN 1
+#endif
+#endif
+#ifdef KFIFO_TSAN
+void __tsan_acquire(void *address);
+void __tsan_release(void *address);
+#define KFIFO_BEFORE_PUT(pass) __tsan_release((pass)->address)
+#define KFIFO_AFTER_GOT(pass, status) ((status) == KFIFO_GOT ? __tsan_acquire((pass)->address) : (void)0)
+#else
+#define KFIFO_BEFORE_PUT(pass) ((void)0)
+#define KFIFO_AFTER_GOT(pass, status) ((void)0)
+#endif
+
+/* ---- A queue of items, which are numbers from 1 to KFIFO_MAX_ITEM ---- */
 
 /* Opens a queue of `segments` segments of k slots, and writes a handle for each thread into the array `passes`, whose old contents are lost.
    DONE; BAD_CALL of a null pointer; BAD_K, BAD_SEGMENTS, BAD_LAST, BAD_PROBES, BAD_THREADS, NO_MEMORY, and all handles are then closed. */
-static inline int kfifo_open(uint32_t k, uint32_t segments, uint32_t probes, uint64_t last, kfifo_pass *passes, size_t threads) {
+static inline kfifo_status kfifo_open(uint32_t k, uint32_t segments, uint32_t probes, uint64_t last, kfifo_pass *passes, size_t threads) {
     if (!passes) return KFIFO_BAD_CALL;
     for (size_t i = 0; i < threads; i++) {
         passes[i].inside = NULL;
         passes[i].address = NULL;
         passes[i].starts = 0;
     }
-    return (int)kfifo_c_open(k, segments, probes, last, passes, threads);
+    return (kfifo_status)kfifo_c_open(k, segments, probes, last, passes, threads);
 }
 
-/* Puts an item, 1 to KFIFO_MAX_ITEM, in at most `turns` rounds: DONE, FULL, BUSY, WORN or BAD_CALL. The scan begins at slot `start`, below k. */
-static inline int kfifo_enqueue(kfifo_pass *pass, uint32_t item, uint32_t start, uint16_t turns) {
+/* Puts an item, 1 to KFIFO_MAX_ITEM: DONE, FULL, BUSY, WORN or BAD_CALL. BUSY comes only where another thread won a step in the meantime. */
+static inline kfifo_status kfifo_put(kfifo_pass *pass, uint32_t item) {
     if (!pass) return KFIFO_BAD_CALL;
-    return (int)kfifo_c_enqueue(pass, item, start, turns);
+    KFIFO_BEFORE_PUT(pass);
+    return (kfifo_status)kfifo_c_put(pass, item);
 }
 
 /* Takes one of the k oldest items: GOT, and writes it; else EMPTY, BUSY, WORN or BAD_CALL, and *item stays. */
-static inline int kfifo_dequeue(kfifo_pass *pass, uint32_t *item, uint32_t start, uint16_t turns) {
+static inline kfifo_status kfifo_get(kfifo_pass *pass, uint32_t *item) {
     if (!pass || !item) return KFIFO_BAD_CALL;
-    return (int)kfifo_c_dequeue(pass, item, start, turns);
+    kfifo_status status = (kfifo_status)kfifo_c_get(pass, item);
+    KFIFO_AFTER_GOT(pass, status);
+    return status;
+}
+
+/* As kfifo_put, with a start and turns of your own: the scan begins at slot `start`, below k, and the call makes at most `turns` rounds. */
+static inline kfifo_status kfifo_enqueue(kfifo_pass *pass, uint32_t item, uint32_t start, uint16_t turns) {
+    if (!pass) return KFIFO_BAD_CALL;
+    KFIFO_BEFORE_PUT(pass);
+    return (kfifo_status)kfifo_c_enqueue(pass, item, start, turns);
+}
+
+/* As kfifo_get, with a start and turns of your own. */
+static inline kfifo_status kfifo_dequeue(kfifo_pass *pass, uint32_t *item, uint32_t start, uint16_t turns) {
+    if (!pass || !item) return KFIFO_BAD_CALL;
+    kfifo_status status = (kfifo_status)kfifo_c_dequeue(pass, item, start, turns);
+    KFIFO_AFTER_GOT(pass, status);
+    return status;
 }
 
 /* Reads a word of the queue: 0 is the ends word, then come the slots, segment by segment, and last the clock. DONE, and writes it; else
    BAD_CALL, and *word stays. */
-static inline int kfifo_word(kfifo_pass *pass, size_t index, uint64_t *word) {
+static inline kfifo_status kfifo_word(kfifo_pass *pass, size_t index, uint64_t *word) {
     if (!pass || !word) return KFIFO_BAD_CALL;
-    return (int)kfifo_c_word(pass, index, word);
+    return (kfifo_status)kfifo_c_word(pass, index, word);
 }
 
 /* Closes a queue by the handles of all its passes, in any order, and writes the items that are left, and how many: DONE. There has to be
    room for an item of each slot, k * segments. BAD_CALL, also where they are of several queues, or NO_MEMORY: nothing was done.
-   LOST: closed, and the items are lost. */
-static inline int kfifo_close(kfifo_pass *passes, size_t threads, uint32_t *items, size_t room, size_t *count) {
+   LOST: an allocation failed; the queue is closed, and the items are lost. To be sure of them, take them all before. */
+static inline kfifo_status kfifo_close(kfifo_pass *passes, size_t threads, uint32_t *items, size_t room, size_t *count) {
     if (!passes || !items || !count) return KFIFO_BAD_CALL;
     /* `address` is that of the queue, which stays as long as a handle of it is open. */
     for (size_t i = 1; i < threads; i++)
         if (passes[i].address != passes[0].address) return KFIFO_BAD_CALL;
-    return (int)kfifo_c_close(passes, threads, items, room, count);
+    return (kfifo_status)kfifo_c_close(passes, threads, items, room, count);
 }
 
 /* Closes these handles. With the last open handle of a queue the queue goes, and the items that are left in it. */
-static inline int kfifo_abandon(kfifo_pass *passes, size_t threads) {
+static inline kfifo_status kfifo_abandon(kfifo_pass *passes, size_t threads) {
     if (!passes) return KFIFO_BAD_CALL;
     kfifo_c_abandon(passes, threads);
+    return KFIFO_DONE;
+}
+
+/* ---- A queue of values, which are 64-bit numbers or pointers ---- */
+
+/* Opens a queue of values. Each thread begins with so many tokens, 1 to KFIFO_MAX_TOKENS. A value in the queue has one; the thread that takes
+   the value gets it, and lays it down for others where it then has more than it began with. So the values that a thread has given and nobody
+   has taken are about `tokens` at most. DONE; BAD_CALL of a null pointer; BAD_K, BAD_SEGMENTS, BAD_THREADS, BAD_TOKENS, NO_MEMORY, and all
+   handles are then closed. */
+static inline kfifo_status kfifo_open_values(uint32_t k, uint32_t segments, uint32_t tokens, kfifo_value_pass *passes, size_t threads) {
+    if (!passes) return KFIFO_BAD_CALL;
+    for (size_t i = 0; i < threads; i++) {
+        passes[i].inside = NULL;
+        passes[i].address = NULL;
+        passes[i].starts = 0;
+    }
+    return (kfifo_status)kfifo_c_open_values(k, segments, k, KFIFO_LAST, tokens, passes, threads);
+}
+
+/* Gives any value to the queue: DONE; else FULL, BUSY, WORN, NO_TOKEN or BAD_CALL, and the value is still the caller's. */
+static inline kfifo_status kfifo_give(kfifo_value_pass *pass, uint64_t value) {
+    if (!pass) return KFIFO_BAD_CALL;
+    KFIFO_BEFORE_PUT(pass);
+    return (kfifo_status)kfifo_c_give(pass, value);
+}
+
+/* Takes one of the k oldest values: GOT, and writes it; else EMPTY, BUSY, WORN or BAD_CALL, and *value stays. */
+static inline kfifo_status kfifo_take(kfifo_value_pass *pass, uint64_t *value) {
+    if (!pass || !value) return KFIFO_BAD_CALL;
+    kfifo_status status = (kfifo_status)kfifo_c_take(pass, value);
+    KFIFO_AFTER_GOT(pass, status);
+    return status;
+}
+
+/* The same with a pointer for a value. */
+static inline kfifo_status kfifo_give_pointer(kfifo_value_pass *pass, void *pointer) {
+    return kfifo_give(pass, (uint64_t)(uintptr_t)pointer);
+}
+
+static inline kfifo_status kfifo_take_pointer(kfifo_value_pass *pass, void **pointer) {
+    uint64_t value;
+    if (!pointer) return KFIFO_BAD_CALL;
+    kfifo_status status = kfifo_take(pass, &value);
+    if (status == KFIFO_GOT) *pointer = (void *)(uintptr_t)value;
+    return status;
+}
+
+/* Closes a queue of values, as kfifo_close does. */
+static inline kfifo_status kfifo_close_values(kfifo_value_pass *passes, size_t threads, uint64_t *values, size_t room, size_t *count) {
+    if (!passes || !values || !count) return KFIFO_BAD_CALL;
+    for (size_t i = 1; i < threads; i++)
+        if (passes[i].address != passes[0].address) return KFIFO_BAD_CALL;
+    return (kfifo_status)kfifo_c_close_values(passes, threads, values, room, count);
+}
+
+/* Closes these handles, as kfifo_abandon does. Values that are pointers are not freed. */
+static inline kfifo_status kfifo_abandon_values(kfifo_value_pass *passes, size_t threads) {
+    if (!passes) return KFIFO_BAD_CALL;
+    kfifo_c_abandon_values(passes, threads);
     return KFIFO_DONE;
 }
 

@@ -5,7 +5,13 @@
 #include <stdlib.h>
 #include <string.h>
 
-enum { EACH = 2000, MOST = 4 };
+/* How many items each thread puts. */
+#ifdef FEWER
+#define EACH 200
+#else
+#define EACH 2000
+#endif
+enum { MOST = 4 };
 
 static int failed;
 static uint32_t left[64 * 1024]; /* what a close gives back */
@@ -24,25 +30,32 @@ struct side {
     unsigned char *out; /* how often each item came out to this thread */
 };
 
-static void take(struct side *self, uint32_t start) {
+/* Every second call chooses its start and turns itself. */
+static void take(struct side *self, uint32_t index) {
     uint32_t item = 0;
-    if (kfifo_dequeue(self->pass, &item, start, self->turns) == KFIFO_GOT) {
+    int status = index % 4 < 2 ? kfifo_get(self->pass, &item) : kfifo_dequeue(self->pass, &item, index % self->k, self->turns);
+    if (status == KFIFO_GOT) {
         self->out[item]++;
         self->got++;
     }
+}
+
+static int put(struct side *self, uint32_t index) {
+    if (index % 2) return kfifo_put(self->pass, self->first + index);
+    return kfifo_enqueue(self->pass, self->first + index, index % self->k, self->turns);
 }
 
 static void *work(void *argument) {
     struct side *self = argument;
     for (uint32_t i = 0; i < EACH; i++) {
         for (;;) {
-            int status = kfifo_enqueue(self->pass, self->first + i, i % self->k, self->turns);
+            int status = put(self, i);
             if (status == KFIFO_DONE) break;
             if (status != KFIFO_FULL && status != KFIFO_BUSY) abort();
-            take(self, i % self->k);
+            take(self, i);
         }
         self->done++;
-        if (i % 2) take(self, i % self->k);
+        if (i % 2) take(self, i);
     }
     return NULL;
 }
@@ -60,7 +73,7 @@ static void run(uint32_t k, uint32_t segments, uint32_t probes, uint32_t threads
         if (!sides[i].out || pthread_create(&ids[i], NULL, work, &sides[i])) abort();
     }
     for (uint32_t i = 0; i < threads; i++) pthread_join(ids[i], NULL);
-    while ((status = kfifo_dequeue(&passes[0], &item, 0, (uint16_t)(segments + 2))) == KFIFO_GOT) {
+    while ((status = kfifo_get(&passes[0], &item)) == KFIFO_GOT) {
         sides[0].out[item]++;
         sides[0].got++;
     }
@@ -87,6 +100,8 @@ static void run(uint32_t k, uint32_t segments, uint32_t probes, uint32_t threads
     expect((int)count, 2, "items left");
     expect((int)(left[0] + left[1]), 3, "the items left");
     expect(kfifo_enqueue(&passes[0], 1, 0, 1), KFIFO_BAD_CALL, "a closed handle");
+    expect(kfifo_put(&passes[0], 1), KFIFO_BAD_CALL, "a closed handle of a put");
+    expect(kfifo_get(&passes[0], &item), KFIFO_BAD_CALL, "a closed handle of a get");
     expect(kfifo_close(passes, threads, left, k * segments, &count), KFIFO_BAD_CALL, "close again");
 }
 
@@ -126,6 +141,32 @@ static void mixtures(void) {
     kfifo_abandon(one, 2);
 }
 
+/* Puts and gets of a handle begin one slot further at each call, from slot thread * k / threads on. */
+static void starts(void) {
+    enum { K = 4 };
+    kfifo_pass two[2];
+    uint32_t item = 0;
+    uint64_t word = 0;
+    size_t count = 0;
+    expect(kfifo_open(K, 8, K, KFIFO_LAST, two, 2), KFIFO_DONE, "open for starts");
+    for (uint32_t i = 0; i < K; i++) expect(kfifo_put(&two[1], 10 + i), KFIFO_DONE, "a put");
+    size_t first = 0;
+    while (first < 8 && (kfifo_word(&two[0], 1 + first * K, &word), (word & KFIFO_MAX_ITEM) == 0)) first++;
+    for (uint32_t i = 0; i < K; i++) {
+        expect(kfifo_word(&two[0], 1 + first * K + (2 + i) % K, &word), KFIFO_DONE, "a slot");
+        expect((int)(word & KFIFO_MAX_ITEM), (int)(10 + i), "the item in the slot of the start");
+    }
+    /* The second handle takes from slot 2 on, where its own first item is, and the first one from slot 0 on. */
+    expect(kfifo_get(&two[1], &item), KFIFO_GOT, "a get by the second");
+    expect((int)item, 10, "the item of the second's start");
+    expect(kfifo_get(&two[0], &item), KFIFO_GOT, "a get by the first");
+    expect((int)item, 12, "the item of the first's start");
+    expect(kfifo_get(&two[0], &item), KFIFO_GOT, "a further get by the first");
+    expect((int)item, 13, "the item of the slot after it");
+    expect(kfifo_close(two, 2, left, K * 8, &count), KFIFO_DONE, "close");
+    expect((int)count, 1, "the item that is left");
+}
+
 static void refusals(void) {
     kfifo_pass pass, many[65];
     uint32_t item = 77;
@@ -145,6 +186,13 @@ static void refusals(void) {
     expect(kfifo_enqueue(&pass, KFIFO_MAX_ITEM + 1, 0, 4), KFIFO_BAD_CALL, "item 2^24");
     expect(kfifo_enqueue(&pass, 1, 1, 4), KFIFO_BAD_CALL, "start 1");
     expect(kfifo_enqueue(&pass, 1, 0, 0), KFIFO_BAD_CALL, "no turns");
+    expect(kfifo_put(NULL, 1), KFIFO_BAD_CALL, "no pass to put by");
+    expect(kfifo_put(&pass, 0), KFIFO_BAD_CALL, "item 0 of a put");
+    expect(kfifo_put(&pass, KFIFO_MAX_ITEM + 1), KFIFO_BAD_CALL, "item 2^24 of a put");
+    expect(kfifo_get(NULL, &item), KFIFO_BAD_CALL, "no pass to get by");
+    expect(kfifo_get(&pass, NULL), KFIFO_BAD_CALL, "no item to get");
+    expect(kfifo_get(&pass, &item), KFIFO_EMPTY, "an empty queue");
+    expect((int)item, 77, "the item of a get that got none");
     expect(kfifo_dequeue(&pass, NULL, 0, 4), KFIFO_BAD_CALL, "no item");
     expect(kfifo_dequeue(&pass, &item, 1, 4), KFIFO_BAD_CALL, "start 1 of a dequeue");
     expect(kfifo_dequeue(&pass, &item, 0, 0), KFIFO_BAD_CALL, "no turns of a dequeue");
@@ -190,6 +238,9 @@ int main(void) {
     static const uint32_t ks[] = {1, 2, 5, 64}, rings[] = {2, 3, 16, 1024};
     refusals();
     mixtures();
+    starts();
+    for (int status = KFIFO_DONE; status <= KFIFO_BAD_TOKENS; status++)
+        expect(strcmp(kfifo_status_text((kfifo_status)status), kfifo_status_text((kfifo_status)99)) != 0, 1, "the text of a status");
     for (size_t k = 0; k < 4; k++)
         for (size_t n = 0; n < 4; n++)
             for (uint32_t threads = 1; threads <= MOST; threads *= 2) run(ks[k], rings[n], threads == 2 ? 1 : ks[k], threads);

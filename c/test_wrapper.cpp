@@ -16,11 +16,12 @@ void expect(bool holds, const char *what) {
     }
 }
 
-template <typename Call> bool refuses(Call call) {
+// Whether a call throws an Error with this status, whose text says so.
+template <typename Call> bool refuses(Call call, kfifo_status status = KFIFO_BAD_CALL) {
     try {
         call();
-    } catch (const std::invalid_argument &) {
-        return true;
+    } catch (const kfifo::Error &error) {
+        return error.status() == status && std::string(error.what()).size() > sizeof("kfifo: ");
     }
     return false;
 }
@@ -36,15 +37,21 @@ void one_thread() {
     expect((pass.word(2) & KFIFO_MAX_ITEM) == 6 && refuses([&] { pass.word(4); }), "words");
     expect(refuses([&] { pass.enqueue(0, 0, 4); }) && refuses([&] { pass.enqueue(1, 1, 4); }), "an item and a start out of range");
     expect(refuses([&] { pass.dequeue(0, 0); }), "no turns");
+    expect(refuses([&] { pass.enqueue(0); }) && refuses([&] { pass.enqueue(KFIFO_MAX_ITEM + 1); }), "an item out of range");
+    expect(pass.enqueue(8) == kfifo::Put::done && pass.enqueue(9) == kfifo::Put::full, "a put with nothing to choose");
+    expect(pass.dequeue().item == 6U && pass.dequeue().item == 8U, "gets with nothing to choose");
+    expect(!pass.dequeue().item && pass.dequeue().why == kfifo::Miss::empty, "an empty queue");
+    expect(pass.enqueue(6) == kfifo::Put::done, "an item to be left");
     kfifo::Queue moved(std::move(queue));
     expect(moved.close() == std::vector<std::uint32_t>{6}, "what is left");
     expect(refuses([&] { moved.close(); }) && refuses([&] { pass.dequeue(0, 4); }), "a closed queue");
 }
 
 void refusals() {
-    expect(refuses([] { kfifo::Queue(0, 2, 1); }) && refuses([] { kfifo::Queue(65, 2, 1); }), "k out of range");
-    expect(refuses([] { kfifo::Queue(1, 1, 1); }) && refuses([] { kfifo::Queue(1, 1025, 1); }), "segments out of range");
-    expect(refuses([] { kfifo::Queue(1, 2, 0); }) && refuses([] { kfifo::Queue(1, 2, 65); }), "threads out of range");
+    expect(refuses([] { kfifo::Queue(0, 2, 1); }, KFIFO_BAD_K) && refuses([] { kfifo::Queue(65, 2, 1); }, KFIFO_BAD_K), "k out of range");
+    expect(refuses([] { kfifo::Queue(1, 1, 1); }, KFIFO_BAD_SEGMENTS) && refuses([] { kfifo::Queue(1, 1025, 1); }, KFIFO_BAD_SEGMENTS), "segments out of range");
+    expect(refuses([] { kfifo::Queue(1, 2, 0); }, KFIFO_BAD_THREADS) && refuses([] { kfifo::Queue(1, 2, 65); }, KFIFO_BAD_THREADS), "threads out of range");
+    expect(refuses([] { kfifo::Queue(1, 2, 2, 9, 1); }, KFIFO_BAD_PROBES) && refuses([] { kfifo::Queue(1, 2, 1, 1, 1); }, KFIFO_BAD_LAST), "probes and last out of range");
 }
 
 void two_threads() {
@@ -52,7 +59,7 @@ void two_threads() {
     kfifo::Queue queue(4, 1024, 2);
     std::thread other([pass = queue.pass(1)] {
         for (std::uint32_t item = 1; item <= items; item += 2)
-            while (pass.enqueue(item, item % 4, 1026) != kfifo::Put::done) std::this_thread::yield();
+            while (pass.enqueue(item) != kfifo::Put::done) std::this_thread::yield();
     });
     kfifo::Pass pass = queue.pass(0);
     for (std::uint32_t item = 2; item <= items; item += 2)

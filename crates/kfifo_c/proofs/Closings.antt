@@ -12,9 +12,9 @@ use Rattle.kfifo_words.specs.Ring.{next_segment, slot_at}
 use Rattle.kfifo_live.specs.Pass.{OpenQueue, Known, IsOf, IsComplete, Closes}
 use Rattle.kfifo_live.specs.Left.{item_in, slots_left, segments_left, items_left}
 use Rattle.kfifo_c.specs.declared.handle.Handle.{Handle}
-use Rattle.kfifo_c.specs.Seats.{Seated, seated}
+use Rattle.kfifo_c.specs.Seats.{Seated}
 use Rattle.kfifo_c.specs.Handles.{behind, addresses}
-use Rattle.kfifo_c.specs.Exports.{seats_of, passes_in, numbers_in, BeginsWith, HasEach, MayClose, OneQueue, AreTheirs}
+use Rattle.kfifo_c.specs.Exports.{passes_in, numbers_in, BeginsWith, HasEach, IsOpenOf, MayClose, OneQueue, AreTheirs}
 
 -- a handle gets back what was behind it
 pub put_back : (hs : List Handle) (i : ℕ) (h d : Handle) → h.held.value ≡ (get_or hs i d).held.value → behind (set hs i h) ≡ behind hs
@@ -50,13 +50,17 @@ theirs_more (None ∷ os) o all is = theirs_more os o all is
 theirs_more (Some s ∷ os) o all is = (all.0, theirs_more os o all.1 is)
 
 -- the passes of open handles of one queue
-pub passes_of_seats : (q : OpenQueue) (ps : List Known) → passes_in (map Some (seats_of q ps)) ≡ ps
-passes_of_seats q [] = refl
-passes_of_seats q (p ∷ ps) = ap (λ l. p ∷ l) (passes_of_seats q ps)
+pub theirs_of : (q : OpenQueue) (os : List (Option Seated)) → All (IsOpenOf q) os → AreTheirs os → All (IsOf q) (passes_in os)
+theirs_of q [] each all = All-nil (IsOf q)
+theirs_of q (None ∷ os) each all = absurd (All-head (IsOpenOf q) None os each)
+theirs_of q (Some s ∷ os) each all = All-cons (IsOf q) s.pass (passes_in os)
+    (subst (λ (q' : OpenQueue). IsOf q' s.pass) (All-head (IsOpenOf q) (Some s) os each) all.0)
+    (theirs_of q os (All-tail (IsOpenOf q) (Some s) os each) all.1)
 
-pub all_of_seats : (q : OpenQueue) (ps : List Known) → AreTheirs (map Some (seats_of q ps)) → All (IsOf q) ps
-all_of_seats q [] all = All-nil (IsOf q)
-all_of_seats q (p ∷ ps) all = All-cons (IsOf q) p ps all.0 (all_of_seats q ps all.1)
+many_passes : (q : OpenQueue) (os : List (Option Seated)) → All (IsOpenOf q) os → length (passes_in os) ≡ length os
+many_passes q [] each = refl
+many_passes q (None ∷ os) each = absurd (All-head (IsOpenOf q) None os each)
+many_passes q (Some s ∷ os) each = ap suc (many_passes q os (All-tail (IsOpenOf q) (Some s) os each))
 
 few_passes : (os : List (Option Seated)) → length (passes_in os) ≤ length os
 few_passes [] = omega arith
@@ -64,13 +68,11 @@ few_passes (None ∷ os) = let few = few_passes os in omega arith
 few_passes (Some s ∷ os) = let few = few_passes os in omega arith
 
 -- handles of one queue that are as many as their passes are all open
-pub all_open : (q : OpenQueue) (os : List (Option Seated)) → All (OneQueue q) os → length (passes_in os) ≡ length os → os ≡ map Some (seats_of q (passes_in os))
-all_open q [] one many = refl
+pub all_open : (q : OpenQueue) (os : List (Option Seated)) → All (OneQueue q) os → length (passes_in os) ≡ length os → All (IsOpenOf q) os
+all_open q [] one many = All-nil (IsOpenOf q)
 all_open q (None ∷ os) one many = let few = few_passes os in absurd (omega arith)
-all_open q (Some s ∷ os) one many =
-    let many' : length (passes_in os) ≡ length os = omega arith in
-    let is : s.queue ≡ q = All-head (OneQueue q) (Some s) os one in
-    ap (λ (q' : OpenQueue). Some (seated q' s.pass) ∷ os) is ∙ ap (λ (l : List (Option Seated)). Some (seated q s.pass) ∷ l) (all_open q os (All-tail (OneQueue q) (Some s) os one) many')
+all_open q (Some s ∷ os) one many = All-cons (IsOpenOf q) (Some s) os (All-head (OneQueue q) (Some s) os one)
+    (all_open q os (All-tail (OneQueue q) (Some s) os one) (omega arith))
 
 -- the first is of the queue of all
 pub same_queue : (q first : OpenQueue) (os : List (Option Seated)) → All (OneQueue q) os → BeginsWith first os → first ≡ q
@@ -140,11 +142,12 @@ one_longer xs x = length-append xs (x ∷ [])
 
 -- a queue that is closed by a list of handles is the queue of the first
 pub closes_first : (os : List (Option Seated)) (room : ℕ) (q : OpenQueue) → MayClose q os room → BeginsWith q os
-closes_first os room q may = subst (BeginsWith q) (sym may.handles_are) (begins may.passes (let e = may.complete.count in let some = may.some_pass in omega arith))
+closes_first os room q may = begins os may.each_open (let e = may.complete.count in let some = may.some_pass in omega arith)
   where
-    begins : (ps : List Known) → 1 ≤ length ps → BeginsWith q (map Some (seats_of q ps))
-    begins [] few = absurd (omega arith)
-    begins (p ∷ ps) few = refl
+    begins : (xs : List (Option Seated)) → All (IsOpenOf q) xs → 1 ≤ length (passes_in xs) → BeginsWith q xs
+    begins [] each few = absurd (omega arith)
+    begins (None ∷ xs) each few = absurd (All-head (IsOpenOf q) None xs each)
+    begins (Some s ∷ xs) each few = sym (All-head (IsOpenOf q) (Some s) xs each)
 
 -- two queues that begin one list are the same
 pub one_first : (os : List (Option Seated)) (q first : OpenQueue) → BeginsWith q os → BeginsWith first os → q ≡ first
@@ -154,14 +157,10 @@ one_first (Some s ∷ os) q first a b = a ∙ sym b
 
 -- what a close by these handles says of their numbers
 pub closes_numbers : (os : List (Option Seated)) (room : ℕ) (q : OpenQueue) → MayClose q os room → HasEach q.opened.threads (numbers_in os)
-closes_numbers os room q may = subst (λ (l : List (Option Seated)). HasEach q.opened.threads (numbers_in l)) (sym may.handles_are)
-    (subst (λ (ps : List Known). HasEach q.opened.threads (map (λ p. p.thread) ps)) (sym (passes_of_seats q may.passes)) (has_all q.opened.threads may.passes may.complete))
+closes_numbers os room q may = has_all q.opened.threads (passes_in os) may.complete
 
 pub closes_length : (os : List (Option Seated)) (room : ℕ) (q : OpenQueue) → MayClose q os room → length (numbers_in os) ≡ length os
-closes_length os room q may =
-    subst (λ (l : List (Option Seated)). length (numbers_in l) ≡ length l) (sym may.handles_are)
-    (length-map (passes_in (map Some (seats_of q may.passes))) (λ p. p.thread) ∙ ap length (passes_of_seats q may.passes)
-    ∙ sym (length-map (seats_of q may.passes) Some ∙ length-map may.passes (λ p. seated q p)))
+closes_length os room q may = length-map (passes_in os) (λ p. p.thread) ∙ many_passes q os may.each_open
 
 begun : (q : OpenQueue) (os : List (Option Seated)) → BeginsWith q os → 1 ≤ length os
 begun q [] begins = absurd begins
@@ -175,8 +174,7 @@ may_close os room first q one begins has many wide =
     let one' = subst (λ (q' : OpenQueue). All (OneQueue q') os) (sym is) one in
     record {
       some_pass = let e = has.count in let some = begun first os begins in omega arith;
-      passes = passes_in os;
-      handles_are = all_open first os one' (sym (length-map (passes_in os) (λ p. p.thread)) ∙ many);
+      each_open = all_open first os one' (sym (length-map (passes_in os) (λ p. p.thread)) ∙ many);
       complete = complete first.opened.threads (passes_in os) has;
       room_is = wide;
     }
@@ -193,9 +191,4 @@ pub few_closed : (q : OpenQueue) (ps : List Known) (items : List ℕ) → Closes
 few_closed q ps items closes = subst (λ (l : List ℕ). length l ≤ q.opened.shape.n * q.opened.shape.k) (sym closes.items_are) (few_left q.opened.shape closes.world.words)
 
 pub closes_theirs : (os : List (Option Seated)) (room : ℕ) (q : OpenQueue) → MayClose q os room → AreTheirs os → All (IsOf q) (passes_in os)
-closes_theirs os room q may theirs = subst (λ (l : List (Option Seated)). All (IsOf q) (passes_in l)) (sym may.handles_are)
-    (subst (All (IsOf q)) (sym (passes_of_seats q may.passes)) (all_of_seats q may.passes (subst AreTheirs may.handles_are theirs)))
-
-pub closes_passes : (os : List (Option Seated)) (room : ℕ) (q : OpenQueue) → MayClose q os room → os ≡ map Some (seats_of q (passes_in os))
-closes_passes os room q may = may.handles_are
-    ∙ ap (λ (ps : List Known). map Some (seats_of q ps)) (sym (passes_of_seats q may.passes) ∙ ap passes_in (sym may.handles_are))
+closes_theirs os room q may theirs = theirs_of q os may.each_open theirs

@@ -1,11 +1,12 @@
 -- Passes of one opening, and handles that are open.
-use Rattle.std.proofs.Common.{◌≡◌, ◌<◌, ◌+◌, arith, take, sym, ap, ◌∙◌, map, reverse, length, ℕ, zero, suc, List, [], ◌∷◌, ◌++◌, Option, Some, None, refl}
+use Rattle.std.proofs.Common.{◌≡◌, ◌<◌, ◌+◌, All, arith, take, sym, ap, ◌∙◌, map, reverse, length, ℕ, zero, suc, List, [], ◌∷◌, ◌++◌, Option, Some, None, refl}
 use Rattle.std.proofs.lemmas.List.{append_assoc, take_more_set, map-append, reverse-append, length-reverse, length-map}
+use Rattle.std.proofs.lemmas.List.Elements.{All-cons, All-nil}
 use Rattle.std.proofs.Math.ListN.{set}
 use Rattle.kfifo_live.specs.Pass.{OpenQueue, new_passes}
 use Rattle.kfifo_c.specs.declared.handle.Handle.{Handle}
 use Rattle.kfifo_c.specs.Handles.{behind}
-use Rattle.kfifo_c.specs.Seats.{Seated, seated, starts_of}
+use Rattle.kfifo_c.specs.Seats.{Seated, seated, starts_of, IsPassOf}
 use Rattle.kfifo_c.specs.Exports.{seats_of}
 
 -- a handle from which a scan may begin somewhere is open
@@ -49,3 +50,8 @@ length_passes q first (suc count) = ap suc (length_passes q (suc first) count)
 
 pub length_seats : (q : OpenQueue) (first count : ℕ) → length (seats_of q (new_passes q first count)) ≡ count
 length_seats q first count = length-map (new_passes q first count) (λ p. seated q p) ∙ length_passes q first count
+
+-- the new passes of a queue are of its threads
+pub passes_of : (q : OpenQueue) (first count : ℕ) → q.opened.threads ≡ first + count → All (IsPassOf q) (new_passes q first count)
+passes_of q first zero are = All-nil (IsPassOf q)
+passes_of q first (suc count) are = All-cons (IsPassOf q) _ _ ((refl, refl), omega arith) (passes_of q (suc first) count (omega arith))

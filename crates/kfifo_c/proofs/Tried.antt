@@ -1,16 +1,8 @@
--- From a seat that was taken out of a handle and put back: what the handle's call did.
-use Rattle.std.proofs.Common.{◌≡◌, ℕ, Option, Some, None, IfSome, MatchOption, sym, ap, subst, ◌∙◌}
-use Rattle.kfifo_model.specs.declared.calls.Answer.{Answer}
-use Rattle.kfifo_machine.specs.declared.event.Begin.{Begin}
-use Rattle.kfifo_c.specs.Seats.{Seated}
-use Rattle.kfifo_c.specs.Exports.{Tries, TriesRead, Called, MayRead, HasRead}
+-- From what lay behind a handle, and was put back: what the handle's call did.
+use Rattle.std.proofs.Common.{◌≡◌, Option, Some, None, IfSome, MatchOption, sym, ap, subst, ◌∙◌}
+use Rattle.kfifo_c.specs.Exports.{Tries}
 
-pub tried : (may : Seated → Type 0) (call : Begin) (answer : Option Answer) (old new : Option Seated) (seat after : Seated) → old ≡ Some seat → new ≡ Some after
-    → MatchOption answer ((after ≡ seat) × (¬ may seat)) (λ a. may seat × Called call a seat after) → Tries may call answer old new
-tried may call None old new seat after was is made = (is ∙ ap Some made.0 ∙ sym was, subst (λ (o : Option Seated). IfSome o (λ s. ¬ may s)) (sym was) made.1)
-tried may call (Some a) old new seat after was is made = (seat, after, was, is, made.0, made.1)
-
-pub tried_read : (index : ℕ) (read : Option ℕ) (old new : Option Seated) (seat after : Seated) → old ≡ Some seat → new ≡ Some after
-    → MatchOption read ((after ≡ seat) × (¬ MayRead index seat)) (λ word. MayRead index seat × HasRead index word seat after) → TriesRead index read old new
-tried_read index None old new seat after was is made = (is ∙ ap Some made.0 ∙ sym was, subst (λ (o : Option Seated). IfSome o (λ s. ¬ MayRead index s)) (sym was) made.1)
-tried_read index (Some word) old new seat after was is made = (seat, after, was, is, made.0, made.1)
+pub tried : {A S : Type 0} (may : S → Type 0) (makes : A → S → S → Type 0) (answer : Option A) (old new : Option S) (seat after : S) → old ≡ Some seat → new ≡ Some after
+    → MatchOption answer ((after ≡ seat) × (¬ may seat)) (λ a. may seat × makes a seat after) → Tries may makes answer old new
+tried {A} {S} may makes None old new seat after was is made = (is ∙ ap Some made.0 ∙ sym was, subst (λ (o : Option S). IfSome o (λ s. ¬ may s)) (sym was) made.1)
+tried {A} {S} may makes (Some a) old new seat after was is made = (seat, after, was, is, made.0, made.1)

@@ -7,15 +7,17 @@ use Rattle.kfifo_words.specs.declared.shape.Shape.{Shape}
 use Rattle.kfifo_model.specs.declared.calls.Answer.{Answer}
 use Rattle.kfifo_model.specs.declared.calls.Answer.TheVariants.{Done, Full, Got, Empty, Busy, Worn}
 use Rattle.kfifo_machine.specs.declared.event.Begin.{Begin}
+use Rattle.kfifo_machine.specs.declared.event.Begin.TheVariants.{Enqueue, Dequeue}
 use Rattle.kfifo_machine.specs.Laws.{IsRefusal}
 use Rattle.kfifo_machine.specs.Rounds.{turns_of}
 use Rattle.kfifo_linear.specs.Headline.{HasLegalOrder, FewOvertake, FewCertainlyOvertake}
 use Rattle.kfifo_live.specs.Schedule.{opening}
 use Rattle.kfifo_live.specs.declared.fault.OpenFault.{OpenFault}
-use Rattle.kfifo_live.specs.declared.fault.OpenFault.TheVariants.{ThreadsOutOfRange}
+use Rattle.kfifo_live.specs.declared.fault.OpenFault.TheVariants.{ThreadsOutOfRange, TokensOutOfRange}
 use Rattle.kfifo_live.specs.Calls.{Makes, TakesFewSteps, HasCause, IsDisturbed, LeavesNoItem}
 use Rattle.kfifo_live.specs.Promise.{KeepsPromise}
 use Rattle.kfifo_live.specs.Pass.{OpenQueue, Known, IsOf, IsSame, Finds, IsZeroed, new_passes, IsComplete, Closes}
+use Rattle.kfifo_live.specs.Handles.{enough_turns, further}
 use Rattle.kfifo_c.specs.Seats.{Seated, seated}
 
 -- the number of an answer of a call, and of a call that was not made
@@ -35,6 +37,7 @@ shape_number fault = 10 + shape_fault_number fault
 -- the number of an opening that was refused
 abbrev pub open_number : OpenFault → ℕ
 open_number ThreadsOutOfRange = 8
+open_number TokensOutOfRange = 15
 open_number other = 7
 
 -- what a dequeue leaves in the variable of its item
@@ -58,6 +61,11 @@ pub record MayDequeue (start turns : ℕ) (seat : Seated) : Type 0 where
 abbrev pub MayRead : ℕ → Seated → Type 0
 MayRead index seat = index < 2 + seat.queue.opened.shape.n * seat.queue.opened.shape.k
 
+-- and an item may be put
+pub record MayPut (item : ℕ) (seat : Seated) : Type 0 where
+  pub some_item : 1 ≤ item
+  pub small_item : item < 2 ^ 24
+
 -- the pass made this call, and was given this answer: all that the running queue says of its calls
 pub record Called (call : Begin) (answer : Answer) (old new : Seated) : Type 0 where
   pub queue : new.queue ≡ old.queue
@@ -69,25 +77,43 @@ pub record Called (call : Begin) (answer : Answer) (old new : Seated) : Type 0 w
   pub leaves_none : IsRefusal answer → LeavesNoItem old.pass new.pass
   pub promise : KeepsPromise new.pass.opened new.pass.seen
 
+-- the call that chooses its own start, and leaves those of the handle as they are
+pub record CalledFrom (call : Begin) (answer : Answer) (old new : Seated) : Type 0 where
+  pub called : Called call answer old new
+  pub same_put : new.put_start ≡ old.put_start
+  pub same_get : new.get_start ≡ old.get_start
+
+-- A put: an enqueue from the handle's start, in so many rounds that Busy is another thread's doing. The next put begins one
+-- slot further
+pub record Puts (item : ℕ) (answer : Answer) (old new : Seated) : Type 0 where
+  pub called : Called (Enqueue item old.put_start (enough_turns old.pass)) answer old new
+  pub busy : answer ≡ Busy → IsDisturbed old.pass new.pass
+  pub next_put : new.put_start ≡ further old.pass old.put_start
+  pub same_get : new.get_start ≡ old.get_start
+
+-- and a get: a dequeue
+pub record Gets (answer : Answer) (old new : Seated) : Type 0 where
+  pub called : Called (Dequeue old.get_start (enough_turns old.pass)) answer old new
+  pub busy : answer ≡ Busy → IsDisturbed old.pass new.pass
+  pub same_put : new.put_start ≡ old.put_start
+  pub next_get : new.get_start ≡ further old.pass old.get_start
+
 -- A call by a handle. It is not made, and nothing changes, exactly where the handle is closed or the call may not be made
--- with its arguments. Else the pass behind the handle makes it, and is there still
-abbrev pub Tries : (Seated → Type 0) → Begin → Option Answer → Option Seated → Option Seated → Type 0
-Tries may call None old new = (new ≡ old) × IfSome old (λ seat. ¬ may seat)
-Tries may call (Some answer) old new = (seat after : Seated) × (old ≡ Some seat) × (new ≡ Some after) × may seat
-    × Called call answer seat after
+-- with its arguments. Else what is behind the handle makes it, and is there still
+module _ {A S : Type 0} where
+  abbrev pub Tries : (S → Type 0) → (A → S → S → Type 0) → Option A → Option S → Option S → Type 0
+  Tries may makes None old new = (new ≡ old) × IfSome old (λ seat. ¬ may seat)
+  Tries may makes (Some answer) old new = (seat after : S) × (old ≡ Some seat) × (new ≡ Some after) × may seat
+      × makes answer seat after
 
 -- the pass read this word, and saw what it says of the queue
 pub record HasRead (index word : ℕ) (old new : Seated) : Type 0 where
   pub queue : new.queue ≡ old.queue
   pub same : IsSame old.pass new.pass
   pub finds : Finds old.pass new.pass index word
+  pub same_put : new.put_start ≡ old.put_start
+  pub same_get : new.get_start ≡ old.get_start
   pub promise : KeepsPromise new.pass.opened new.pass.seen
-
--- A read by a handle, as a call is
-abbrev pub TriesRead : ℕ → Option ℕ → Option Seated → Option Seated → Type 0
-TriesRead index None old new = (new ≡ old) × IfSome old (λ seat. ¬ MayRead index seat)
-TriesRead index (Some word) old new = (seat after : Seated) × (old ≡ Some seat) × (new ≡ Some after) × MayRead index seat
-    × HasRead index word seat after
 
 -- the number of a read, and what it leaves in the variable of its word
 abbrev pub read_number : Option ℕ → ℕ
@@ -157,20 +183,23 @@ pub record HasEach (threads : ℕ) (numbers : List ℕ) : Type 0 where
   pub count : length numbers ≡ threads
   pub each : (thread : ℕ) → thread < threads → list_any (λ number. number == thread) numbers ≡ true
 
+-- the handle is open, and of this queue
+abbrev pub IsOpenOf : OpenQueue → Option Seated → Type 0
+IsOpenOf queue None = ⊥
+IsOpenOf queue (Some seat) = seat.queue ≡ queue
+
 -- these handles are of all passes of the queue, one at least and each there once, and there is room for an item of each slot
 pub record MayClose (queue : OpenQueue) (handles : List (Option Seated)) (room : ℕ) : Type 0 where
   pub some_pass : 1 ≤ queue.opened.threads
-  pub passes : List Known
-  pub handles_are : handles ≡ map Some (seats_of queue passes)
-  pub complete : IsComplete queue.opened.threads passes
+  pub each_open : All (IsOpenOf queue) handles
+  pub complete : IsComplete queue.opened.threads (passes_in handles)
   pub room_is : queue.opened.shape.n * queue.opened.shape.k ≤ room
 
 -- a queue was closed by these handles, and the items that were left were written, and their number: all that the running queue says of a close
 pub record ClosesInto (handles : List (Option Seated)) (old new : List ℕ) (count : ℕ) : Type 0 where
   pub queue : OpenQueue
-  pub passes : List Known
-  pub handles_are : handles ≡ map Some (seats_of queue passes)
+  pub each_open : All (IsOpenOf queue) handles
   pub left : List ℕ
-  pub closes : Closes queue passes left
+  pub closes : Closes queue (passes_in handles) left
   pub count_is : count ≡ length left
   pub written : new ≡ left ++ drop (length left) old

@@ -1,14 +1,22 @@
 -- What a handle stands for, as clauses see it.
-use Rattle.std.specs.Prelude.{ℕ, Option, Some, None}
-use Rattle.kfifo_live.specs.Pass.{OpenQueue, Known}
+use Rattle.std.specs.Prelude.{◌<◌, ℕ, Option, Some, None}
+use Rattle.kfifo_live.specs.Pass.{OpenQueue, Known, IsOf}
+use Rattle.kfifo_live.specs.Handles.{first_of}
 
--- a queue, and a pass that is of it
+-- a queue, a pass that is of it, and the slots at which the scans of the handle's next put and next get begin
 pub record Seated : Type 0 where
   pub queue : OpenQueue
   pub pass : Known
+  pub put_start : ℕ
+  pub get_start : ℕ
 
+-- the pass is of the queue, and of one of its threads
+abbrev pub IsPassOf : OpenQueue → Known → Type 0
+IsPassOf q p = IsOf q p × (p.thread < q.opened.threads)
+
+-- with a new pass
 abbrev pub seated : OpenQueue → Known → Seated
-seated q p = record { queue = q; pass = p }
+seated q p = record { queue = q; pass = p; put_start = first_of p; get_start = first_of p }
 
 -- from how many slots a scan by the handle may begin: k, and from none where it is closed
 abbrev pub starts_of : Option Seated → ℕ

@@ -1,8 +1,8 @@
 //! The calls of C by one handle.
-ghost use Rattle.std.specs.Prelude.{◌≡◌, ℕ, None, Option, All};
+ghost use Rattle.std.specs.Prelude.{◌≡◌, ℕ, None, Option, All, ⊤};
 ghost use Rattle.kfifo_model.specs.declared.calls.Answer.{Answer as Answered};
 ghost use Rattle.kfifo_machine.specs.declared.event.Begin.TheVariants.{Enqueue, Dequeue};
-ghost use Rattle.kfifo_c.specs.Exports.{Tries, TriesRead, MayEnqueue, MayDequeue, number_of, item_after, read_number, word_after};
+ghost use Rattle.kfifo_c.specs.Exports.{Tries, MayEnqueue, MayDequeue, MayPut, MayRead, CalledFrom, Puts, Gets, HasRead, number_of, item_after, read_number, word_after};
 
 use crate::handle::Handle;
 use crate::status::{BAD_CALL, DONE, status};
@@ -14,7 +14,7 @@ use std::alloc::Global;
 #[unsafe(no_mangle)]
 pub extern "C" fn kfifo_c_enqueue(pass: &mut Handle, item: u32, start: u32, turns: u16) -> u32
     ensures answer { (answer : Option Answered) × (result ≡ number_of answer)
-        × Tries (MayEnqueue item start turns) (Enqueue item start turns) answer pass.old.held.value pass.new.held.value }
+        × Tries (MayEnqueue item start turns) (CalledFrom (Enqueue item start turns)) answer pass.old.held.value pass.new.held.value }
     ensures address { pass.new.address ≡ pass.old.address }
 {
     // The look at the handle stands between two tests of registers: else the compiler makes one of them, and a longer one.
@@ -30,7 +30,7 @@ pub extern "C" fn kfifo_c_enqueue(pass: &mut Handle, item: u32, start: u32, turn
 #[unsafe(no_mangle)]
 pub extern "C" fn kfifo_c_dequeue(pass: &mut Handle, item: &mut u32, start: u32, turns: u16) -> u32
     ensures answer { (answer : Option Answered) × (result ≡ number_of answer) × (item.new ≡ item_after item.old answer)
-        × Tries (MayDequeue start turns) (Dequeue start turns) answer pass.old.held.value pass.new.held.value }
+        × Tries (MayDequeue start turns) (CalledFrom (Dequeue start turns)) answer pass.old.held.value pass.new.held.value }
     ensures address { pass.new.address ≡ pass.old.address }
 {
     if !pass.has_start(start) {
@@ -43,11 +43,44 @@ pub extern "C" fn kfifo_c_dequeue(pass: &mut Handle, item: &mut u32, start: u32,
     status(answer)
 }
 
+/// Puts an item into the queue of the handle, with nothing to choose: an enqueue from the handle's start, in n + 2 rounds, and its
+/// answer's number. BAD_CALL, with nothing done, where the handle is closed or the item is not 1 to 2^24 - 1.
+#[unsafe(no_mangle)]
+pub extern "C" fn kfifo_c_put(pass: &mut Handle, item: u32) -> u32
+    ensures answer { (answer : Option Answered) × (result ≡ number_of answer)
+        × Tries (MayPut item) (Puts item) answer pass.old.held.value pass.new.held.value }
+    ensures address { pass.new.address ≡ pass.old.address }
+{
+    if item < 1 || item > MAX_ITEM || pass.starts == 0 {
+        return BAD_CALL;
+    }
+    let answer = pass.held.seat_mut().put(item);
+    status(Some(answer))
+}
+
+/// Takes one of the k oldest items out of the queue of the handle, with nothing to choose: a dequeue from the handle's start, in n + 2
+/// rounds, and its answer's number; the item is written where there is one. BAD_CALL, with nothing done, where the handle is closed.
+#[unsafe(no_mangle)]
+pub extern "C" fn kfifo_c_get(pass: &mut Handle, item: &mut u32) -> u32
+    ensures answer { (answer : Option Answered) × (result ≡ number_of answer) × (item.new ≡ item_after item.old answer)
+        × Tries (λ _. ⊤) Gets answer pass.old.held.value pass.new.held.value }
+    ensures address { pass.new.address ≡ pass.old.address }
+{
+    if pass.starts == 0 {
+        return BAD_CALL;
+    }
+    let answer = pass.held.seat_mut().get();
+    if let Answer::Got(got) = answer {
+        *item = got;
+    }
+    status(Some(answer))
+}
+
 /// Reads the word of this index: `Pass::word`. BAD_CALL, with nothing done, where the handle is closed or there is no such word.
 #[unsafe(no_mangle)]
 pub extern "C" fn kfifo_c_word(pass: &mut Handle, index: usize, word: &mut u64) -> u32
     ensures read { (read : Option ℕ) × (result ≡ read_number read) × (word.new ≡ word_after word.old read)
-        × TriesRead index read pass.old.held.value pass.new.held.value }
+        × Tries (MayRead index) (HasRead index) read pass.old.held.value pass.new.held.value }
     ensures address { pass.new.address ≡ pass.old.address }
 {
     if pass.starts == 0 {

@@ -135,6 +135,7 @@ pub extern "C" fn kfifo_c_close(
     requires { AreOfOneQueue (behind passes.old) }
     ensures answers { (result ≡ 0) ⊎ (result ≡ 6) ⊎ (result ≡ 7) ⊎ (result ≡ 9) }
     ensures bad { result ≡ 6 → ¬ ((queue : OpenQueue) × MayClose queue (behind passes.old) (length items.old)) }
+    ensures may { (result ≡ 0) ⊎ (result ≡ 9) → (queue : OpenQueue) × MayClose queue (behind passes.old) (length items.old) }
     ensures nothing { (result ≡ 6) ⊎ (result ≡ 7) → (behind passes.new ≡ behind passes.old)
         × (addresses passes.new ≡ addresses passes.old) }
     ensures closed { (result ≡ 0) ⊎ (result ≡ 9) → All (λ pass. pass.held.value ≡ None) passes.new }

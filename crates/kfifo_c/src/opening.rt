@@ -2,8 +2,8 @@
 ghost use Rattle.std.specs.Prelude.{◌≡◌, ◌≢◌, ◌<◌, ◌≤◌, ◌⊎◌, ◌↔◌, None, Some, IfSome, IfOk, IsErrOf, All, length, map, reverse};
 ghost use denote.RawPtr.{Ptr};
 ghost use Rattle.kfifo_words.specs.Sizes.{fault_of};
-ghost use Rattle.kfifo_live.specs.Pass.{IsOf};
-ghost use Rattle.kfifo_live.specs.declared.fault.OpenFault.TheVariants.{ThreadsOutOfRange};
+ghost use Rattle.kfifo_live.specs.declared.fault.OpenFault.TheVariants.{ThreadsOutOfRange, TokensOutOfRange};
+ghost use Rattle.kfifo_c.specs.Seats.{IsPassOf};
 ghost use Rattle.kfifo_c.specs.Handles.{behind};
 ghost use Rattle.kfifo_c.specs.Exports.{seats_of, Opens, OpensSizes, shape_number};
 
@@ -23,7 +23,7 @@ fn seat_all(
     mut passes: Vec<Pass>,
     threads: u32,
 ) -> Result<Vec<Box<Seat, Global>>, AllocError>
-    requires of { All (IsOf queue) passes.items }
+    requires of { All (IsPassOf queue) passes.items }
     requires threads { threads ≡ queue.opened.threads }
     ensures { IfOk result (λ seats. reverse (map (λ seat. seat.value) seats.items) ≡ seats_of queue passes.items) }
 {
@@ -45,6 +45,7 @@ fn open_seats(
 ) -> Result<Vec<Box<Seat, Global>>, OpenFault>
     ensures ok { IfOk result (λ seats. Opens shape threads (reverse (map (λ seat. seat.value) seats.items))) }
     ensures threads { IsErrOf result ThreadsOutOfRange ↔ ((threads ≡ 0) ⊎ (64 < threads)) }
+    ensures tokens { ¬ IsErrOf result TokensOutOfRange }
 {
     let (queue, passes) = Queue::open(alloc, shape, threads)?;
     let seats = seat_all(alloc, queue, passes, threads)?;

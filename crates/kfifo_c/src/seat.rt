@@ -2,43 +2,58 @@
 ghost use Rattle.std.specs.Prelude.{◌≡◌, ◌<◌, ◌≤◌, ◌^◌, ◌+◌, ◌*◌, MatchOption, IfOk};
 ghost use Rattle.kfifo_machine.specs.declared.event.Begin.TheVariants.{Enqueue, Dequeue};
 ghost use Rattle.kfifo_live.specs.Pass.{IsOf};
-ghost use Rattle.kfifo_c.specs.Seats.{Seated, seated};
-ghost use Rattle.kfifo_c.specs.Exports.{MayEnqueue, MayDequeue, MayRead, Called, HasRead};
+ghost use Rattle.kfifo_c.specs.Seats.{Seated, seated, IsPassOf};
+ghost use Rattle.kfifo_c.specs.Exports.{MayEnqueue, MayDequeue, MayRead, CalledFrom, Puts, Gets, HasRead};
 
 use crate::address::address_of;
-use kfifo_live::{Pass, Queue};
+use kfifo_live::{Pass, Queue, RoundRobin};
 use kfifo_model::Answer;
 use std::alloc::{AllocError, Global};
 use std::marker::Model;
 use std::sync::Arc;
 
-/// A pass, a part in the queue that it is of, and the number of that queue's passes.
+/// A pass, a part in the queue that it is of, and the number of that queue's passes; and what the calls with nothing to choose
+/// need: their starts, and how many rounds they make.
 #[derive(Drop)]
 pub struct Seat {
     pub(crate) queue: Arc<Queue, Global>,
     pub(crate) pass: Pass,
     pub(crate) threads: u32,
+    pub(crate) puts: RoundRobin,
+    pub(crate) gets: RoundRobin,
+    pub(crate) turns: u16,
+    // Each call writes to its seat. This keeps the seats of two threads from lying in one line of the cache.
+    pub(crate) apart: [u64; 8],
 }
 
 impl Model for Seat {
     ghost Value = { Seated };
 
-    ghost view = { λ s. seated s.queue.value s.pass };
+    ghost view = { λ s. record { queue = s.queue.value; pass = s.pass; put_start = s.puts.start; get_start = s.gets.start } };
 
-    ghost invariant = { λ s. IsOf s.queue.value s.pass × (s.threads ≡ s.queue.value.opened.threads) };
+    ghost invariant = { λ s. IsOf s.queue.value s.pass × (s.threads ≡ s.queue.value.opened.threads)
+        × (s.puts.k ≡ s.queue.value.opened.shape.k) × (s.gets.k ≡ s.queue.value.opened.shape.k)
+        × (s.turns ≡ s.queue.value.opened.shape.n + 2) };
 }
 
 impl Seat {
     /// A seat for this pass of a queue of so many.
     pub(crate) fn new(queue: Arc<Queue, Global>, pass: Pass, threads: u32) -> Seat
-        requires of { IsOf queue.value pass }
+        requires of { IsPassOf queue.value pass }
         requires threads { threads ≡ queue.value.opened.threads }
         ensures { result ≡ seated queue.value pass }
     {
+        let shape = queue.shape();
+        let puts = RoundRobin::spread(pass.thread(), threads, shape.k());
+        let gets = RoundRobin::spread(pass.thread(), threads, shape.k());
         Seat {
             queue,
             pass,
             threads,
+            puts,
+            gets,
+            turns: shape.n() as u16 + 2,
+            apart: [0; 8],
         }
     }
 
@@ -83,7 +98,7 @@ impl Seat {
         let Seat {
             queue: _queue,
             pass,
-            threads: _,
+            ..
         } = self;
         pass
     }
@@ -94,7 +109,7 @@ impl Seat {
         requires item { (1 ≤ item) × (item < 2 ^ 24) }
         requires start { start < self.old.queue.opened.shape.k }
         ensures { MatchOption result ((self.new ≡ self.old) × (¬ MayEnqueue item start turns self.old))
-            (λ answer. MayEnqueue item start turns self.old × Called (Enqueue item start turns) answer self.old self.new) }
+            (λ answer. MayEnqueue item start turns self.old × CalledFrom (Enqueue item start turns) answer self.old self.new) }
     {
         if turns < 1 {
             return None;
@@ -107,12 +122,31 @@ impl Seat {
     pub(crate) fn dequeue(&mut self, start: u32, turns: u16) -> Option<Answer>
         requires { start < self.old.queue.opened.shape.k }
         ensures { MatchOption result ((self.new ≡ self.old) × (¬ MayDequeue start turns self.old))
-            (λ answer. MayDequeue start turns self.old × Called (Dequeue start turns) answer self.old self.new) }
+            (λ answer. MayDequeue start turns self.old × CalledFrom (Dequeue start turns) answer self.old self.new) }
     {
         if turns < 1 {
             return None;
         }
         Some(self.pass.dequeue(&self.queue, start, turns))
+    }
+
+    /// The enqueue of the pass from the handle's start.
+    #[inline(always)]
+    pub(crate) fn put(&mut self, item: u32) -> Answer
+        requires { (1 ≤ item) × (item < 2 ^ 24) }
+        ensures { Puts item result self.old self.new }
+    {
+        let start = self.puts.next();
+        self.pass.enqueue(&self.queue, item, start, self.turns)
+    }
+
+    /// The dequeue of the pass from the handle's start.
+    #[inline(always)]
+    pub(crate) fn get(&mut self) -> Answer
+        ensures { Gets result self.old self.new }
+    {
+        let start = self.gets.next();
+        self.pass.dequeue(&self.queue, start, self.turns)
     }
 
     /// The word of this index, if there is one.

@@ -14,6 +14,8 @@ pub(crate) const BAD_CALL: u32 = 6;
 pub(crate) const NO_MEMORY: u32 = 7;
 /// The number of threads is not 1 to 64.
 pub(crate) const BAD_THREADS: u32 = 8;
+/// The number of tokens of a thread is not 1 to 1,024.
+pub(crate) const BAD_TOKENS: u32 = 15;
 /// The queue was closed, and want of memory lost the items that were left.
 pub(crate) const LOST: u32 = 9;
 
@@ -46,7 +48,8 @@ pub(crate) fn open_status(fault: OpenFault) -> u32
 {
     match fault {
         OpenFault::ThreadsOutOfRange => BAD_THREADS,
-        // A plain queue is never refused for a number of tokens or of stamped calls.
-        OpenFault::Memory | OpenFault::TokensOutOfRange | OpenFault::CallsOutOfRange => NO_MEMORY,
+        OpenFault::TokensOutOfRange => BAD_TOKENS,
+        // No queue of C's is refused for a number of stamped calls.
+        OpenFault::Memory | OpenFault::CallsOutOfRange => NO_MEMORY,
     }
 }

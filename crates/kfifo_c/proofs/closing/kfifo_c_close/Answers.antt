@@ -1,8 +1,8 @@
-use Rattle.std.proofs.Common.{All, map, Some, ◌≡◌, ◌≤◌, ◌*◌, ◌++◌, length, drop, vec_len, sym, ap, subst, ◌∙◌, arith}
-use Rattle.kfifo_live.specs.Pass.{OpenQueue, IsOf}
+use Rattle.std.proofs.Common.{All, List, ◌≡◌, ◌≤◌, ◌*◌, ◌++◌, length, drop, vec_len, sym, ap, subst, ◌∙◌, arith}
+use Rattle.kfifo_live.specs.Pass.{OpenQueue, Known, IsOf, Closes}
 use Rattle.kfifo_c.specs.Handles.{behind}
-use Rattle.kfifo_c.specs.Exports.{MayClose, passes_in, seats_of, AreTheirs}
-use Rattle.kfifo_c.proofs.Closings.{match_some, few_closed, closes_theirs, closes_passes}
+use Rattle.kfifo_c.specs.Exports.{MayClose, passes_in, AreTheirs}
+use Rattle.kfifo_c.proofs.Closings.{match_some, few_closed, closes_theirs}
 use Rattle.kfifo_c.proofs.closing.kfifo_c_close.Goals as goal
 
 pub close-requires : goal.close-requires
@@ -31,10 +31,18 @@ returns-clause-done c = λ _.
     let taken = c.in-Ok.ensures.taken ∙ ap passes_in c.in-Ok-Some.ensures.same in
     let v : vec_len c.in-Ok-close.left ≡ length c.in-Ok-close.left.items = omega arith in record {
       queue = c.in-Some.queue;
-      passes = c.in-Ok.taken.items;
-      handles_are = closes_passes os (length c.args.items.now) c.in-Some.queue may' ∙ ap (λ ps. map Some (seats_of c.in-Some.queue ps)) (sym taken);
+      each_open = may'.each_open;
       left = c.in-Ok-close.left.items;
-      closes = c.in-Ok-close.ensures.ok;
+      closes = subst (λ (ps : List Known). Closes c.in-Some.queue ps c.in-Ok-close.left.items) taken c.in-Ok-close.ensures.ok;
       count_is = c.len.ensures ∙ v;
       written = c.write_items.ensures ∙ ap (λ l. l ++ drop (length l) c.args.items.now) c.as_slice.ensures.value;
     }
+
+pub returns-in_default-into_inner-clause-may : goal.returns-in_default-into_inner-clause-may
+returns-in_default-into_inner-clause-may c = λ _. (c.in-Ok-Some.queue.value, match_some _ _ c.in-Ok-Some.field-0 c.in-Ok-Some.queue c.in-Ok-Some.ensures.may c.in-Ok-Some.field-0-is)
+
+pub returns-in_default-close-clause-may : goal.returns-in_default-close-clause-may
+returns-in_default-close-clause-may c = λ _. (c.in-Ok-Some.queue.value, match_some _ _ c.in-Ok-Some.field-0 c.in-Ok-Some.queue c.in-Ok-Some.ensures.may c.in-Ok-Some.field-0-is)
+
+pub returns-clause-may : goal.returns-clause-may
+returns-clause-may c = λ _. (c.in-Ok-Some.queue.value, match_some _ _ c.in-Ok-Some.field-0 c.in-Ok-Some.queue c.in-Ok-Some.ensures.may c.in-Ok-Some.field-0-is)

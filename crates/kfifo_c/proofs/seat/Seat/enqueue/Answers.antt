@@ -1,13 +1,14 @@
 use Rattle.std.proofs.Common.{◌<◌, refl, sym, subst}
 use Rattle.kfifo_machine.specs.declared.event.Begin.TheVariants.{Enqueue}
-use Rattle.kfifo_c.specs.Seats.{Seated, seated}
-use Rattle.kfifo_c.specs.Exports.{MayEnqueue, Called}
+use Rattle.kfifo_c.specs.Seats.{Seated}
+use Rattle.kfifo_c.specs.Exports.{MayEnqueue, CalledFrom}
 use Rattle.kfifo_c.proofs.seat.Seat.enqueue.Goals as goal
 
 pub returns : goal.returns
 returns c =
     let below = subst (λ (s : Seated). c.args.start < s.queue.opened.shape.k) (sym c.self.view_is) c.requires.start in
-    subst (λ (s : Seated). MayEnqueue c.args.item c.args.start c.args.turns s × Called (Enqueue c.args.item c.args.start c.args.turns) c.enqueue.result s (seated c.self.inside.queue.value c.enqueue.new.self)) c.self.view_is (
+    let after : Seated = record { queue = c.self.inside.queue.value; pass = c.enqueue.new.self; put_start = c.self.inside.puts.start; get_start = c.self.inside.gets.start } in
+    subst (λ (s : Seated). MayEnqueue c.args.item c.args.start c.args.turns s × CalledFrom (Enqueue c.args.item c.args.start c.args.turns) c.enqueue.result s after) c.self.view_is (
       record {
         some_item = c.requires.item.0;
         small_item = c.requires.item.1;
@@ -15,13 +16,17 @@ returns c =
         some_turn = c.if-turns-lt1.false;
       },
       record {
-        queue = refl;
-        same = c.enqueue.ensures.same;
-        run = c.enqueue.ensures.run;
-        few_steps = c.enqueue.ensures.few_steps;
-        cause = c.enqueue.ensures.cause;
-        disturbed = c.enqueue.ensures.disturbed;
-        leaves_none = c.enqueue.ensures.leaves_none;
-        promise = c.enqueue.ensures.promise;
+        called = record {
+          queue = refl;
+          same = c.enqueue.ensures.same;
+          run = c.enqueue.ensures.run;
+          few_steps = c.enqueue.ensures.few_steps;
+          cause = c.enqueue.ensures.cause;
+          disturbed = c.enqueue.ensures.disturbed;
+          leaves_none = c.enqueue.ensures.leaves_none;
+          promise = c.enqueue.ensures.promise;
+        };
+        same_put = refl;
+        same_get = refl;
       },
     )
