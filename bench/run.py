@@ -1,15 +1,18 @@
 #!/usr/bin/env python3
 """Builds the queues that are compared, runs them round by round, and writes a table and plots.
 
-In each round all queues run one after the other, each round beginning with another one; a ratio is that of two rates of one round,
-and what is told is the median of these ratios over the rounds, with the quartiles. Each run checks that what went in came out. The
-table begins with an overview, a row for each workload.
+Each round runs all queues one after the other, and begins with another one than the round before. A ratio compares two
+rates of one round; the table has the median of these ratios over the rounds, with the quartiles. Each run checks that what
+went in came out. The table begins with an overview, a row for each workload. The last workloads are an application: threads
+that share one queue of vertices find a spanning tree of a random graph.
 
     bench/run.py [--rounds N] [--milliseconds M] [--only WORD] [--out FOLDER]
 
-It needs rt, a C and a C++ compiler, cargo, and Debian's libboost-dev, libtbb-dev, libck-dev and librust-crossbeam-queue-dev.
+It needs rt, a C and a C++ compiler, cargo, and Debian's libboost-dev, libtbb-dev, libck-dev, libcds-dev,
+libconcurrentqueue-dev and librust-crossbeam-queue-dev.
 """
 import argparse
+import dataclasses
 import os
 import platform
 import statistics
@@ -18,8 +21,9 @@ import sys
 
 HERE = os.path.dirname(os.path.abspath(__file__))
 OUT = f"{HERE}/out"
+PROGRAMS = ["rates", "spanning_tree"]
 # name, producers, consumers, threads that do both in turn
-WORKLOADS = [
+CALLS = [
     ("one thread", 0, 0, 1),
     ("1 producer, 1 consumer", 1, 1, 0),
     ("2 producers, 2 consumers", 2, 2, 0),
@@ -28,55 +32,95 @@ WORKLOADS = [
 ]
 WORK = [0, 100]
 CAPACITIES = [1024, 16384]
-PEERS = ["array", "boost", "tbb", "ck", "mutex"]
-NAMES = {"array": "ArrayQueue", "boost": "Boost lockfree", "tbb": "TBB bounded", "ck": "CK ring", "mutex": "mutex and deque"}
-KS = [1, 4, 16, 64]
-BASE = "array"
+# The spanning tree: threads, and the vertices and edges of the graph.
+TREES = [2, 4, 8]
+VERTICES, EDGES = 400_000, 1_600_000
+TREE_CAPACITY = 16384
+PEERS = [("array", 0), ("boost", 0), ("tbb", 0), ("ck", 0), ("mutex", 0), ("vyukov", 0), ("segmented", 16), ("segmented", 64)]
+NAMES = {
+    "array": "ArrayQueue",
+    "boost": "Boost lockfree",
+    "tbb": "TBB bounded",
+    "ck": "CK ring",
+    "mutex": "mutex and deque",
+    "vyukov": "libcds Vyukov ring",
+    "segmented": "libcds SegmentedQueue",
+    "kfifo": "kfifo",
+    "kfifo-at-random": "kfifo, random starts",
+}
+OURS = [("kfifo", 1), ("kfifo", 4), ("kfifo", 16), ("kfifo", 64), ("kfifo-at-random", 16), ("kfifo-at-random", 64)]
+BASE = ("array", 0)
+
+
+@dataclasses.dataclass
+class Workload:
+    """What the queues are measured at: its title, its capacity, and the program with its arguments behind the queue's."""
+
+    title: str
+    capacity: int
+    program: str
+    words: list
+
+
+def workloads(milliseconds):
+    """All workloads, calls alone first."""
+    made = []
+    for capacity in CAPACITIES:
+        for name, *threads in CALLS:
+            for work in WORK:
+                title = f"{name}, capacity {capacity:,}" + (f", {work} ns of work between calls" if work else "")
+                made.append(Workload(title, capacity, "rates", [*threads, work, milliseconds]))
+    for threads in TREES:
+        title = f"spanning tree by {threads} threads, capacity {TREE_CAPACITY:,}"
+        made.append(Workload(title, TREE_CAPACITY, "spanning_tree", [threads, VERTICES, EDGES]))
+    return made
 
 
 def build():
+    """Builds the queues and the two programs."""
     os.makedirs(OUT, exist_ok=True)
     subprocess.run(["make", "-C", f"{HERE}/../c", "out/libkfifo.a"], check=True, stdout=subprocess.DEVNULL)
-    source = ["--config", 'source.crates-io.replace-with="debian"', "--config", 'source.debian.directory="/usr/share/cargo/registry"']
-    subprocess.run(
-        ["cargo", "build", "--quiet", "--release", "--offline", *source],
-        cwd=f"{HERE}/array_queue",
-        env={**os.environ, "CARGO_TARGET_DIR": f"{OUT}/target"},
-        check=True,
-    )
-    subprocess.run([os.environ.get("CC", "gcc"), "-O2", "-c", f"{HERE}/ck_queue.c", "-o", f"{OUT}/ck_queue.o"], check=True)
-    words = [os.environ.get("CXX", "g++"), "-std=c++17", "-O2", f"-I{HERE}/../c", f"{HERE}/queues.cpp", f"{OUT}/ck_queue.o"]
-    words += [f"{HERE}/../c/out/libkfifo.a", f"{OUT}/target/release/libarray_queue.a", "-o", f"{OUT}/queues", "-ltbb", "-lck", "-pthread", "-ldl"]
-    subprocess.run(words, check=True)
+    debian = ['source.crates-io.replace-with="debian"', 'source.debian.directory="/usr/share/cargo/registry"']
+    source = [word for line in debian for word in ("--config", line)]
+    target = {**os.environ, "CARGO_TARGET_DIR": f"{OUT}/target"}
+    cargo = ["cargo", "build", "--quiet", "--release", "--offline", *source]
+    subprocess.run(cargo, cwd=f"{HERE}/array_queue", env=target, check=True)
+    gcc = [os.environ.get("CC", "gcc"), "-O2"]
+    subprocess.run([*gcc, "-c", f"{HERE}/ck_queue.c", "-o", f"{OUT}/ck_queue.o"], check=True)
+    for program in PROGRAMS:
+        words = [os.environ.get("CXX", "g++"), "-std=c++17", "-O2", f"-I{HERE}/../c", f"{HERE}/{program}.cpp"]
+        words += [f"{OUT}/ck_queue.o", f"{HERE}/../c/out/libkfifo.a", f"{OUT}/target/release/libarray_queue.a"]
+        words += ["-o", f"{OUT}/{program}", "-ltbb", "-lck", "-lcds", "-pthread", "-ldl"]
+        subprocess.run(words, check=True)
 
 
 def queues(capacity):
     """The queues of a capacity: a kfifo has at most 1,024 segments."""
-    ours = [("kfifo", k) for k in KS if 2 <= capacity // k <= 1024]
-    return [(peer, 0) for peer in PEERS] + ours
+    return PEERS + [(name, k) for name, k in OURS if 2 <= capacity // k <= 1024]
 
 
 def label(queue):
-    return f"kfifo k = {queue[1]}" if queue[0] == "kfifo" else NAMES[queue[0]]
+    name, k = queue
+    return f"{NAMES[name]}, k = {k}" if k else NAMES[name]
 
 
-def rate(queue, capacity, threads, work, milliseconds):
-    """Calls a second that put or took an item."""
-    words = [f"{OUT}/queues", queue[0], queue[1], capacity, *threads, work, milliseconds]
-    ran = subprocess.run([str(it) for it in words], capture_output=True, text=True, timeout=60 + milliseconds / 100)
+def rate(queue, workload):
+    """Calls that put or took an item, or vertices, a second."""
+    words = [f"{OUT}/{workload.program}", *queue, workload.capacity, *workload.words]
+    ran = subprocess.run([str(it) for it in words], capture_output=True, text=True, timeout=120)
     if ran.returncode:
-        sys.exit(f"{label(queue)}, capacity {capacity}, threads {threads}, work {work}: {ran.stdout or ran.stderr}")
+        sys.exit(f"{label(queue)}, {workload.title}: {ran.stdout or ran.stderr}")
     return float(ran.stdout)
 
 
-def measure(capacity, threads, work, rounds, milliseconds):
+def measure(workload, rounds):
     """The rates of each queue, one for each round."""
-    all_queues = queues(capacity)
+    all_queues = queues(workload.capacity)
     rates = {it: [] for it in all_queues}
     for turn in range(rounds):
         first = turn % len(all_queues)
         for queue in all_queues[first:] + all_queues[:first]:
-            rates[queue].append(rate(queue, capacity, threads, work, milliseconds))
+            rates[queue].append(rate(queue, workload))
     return rates
 
 
@@ -89,19 +133,21 @@ def quartiles(values):
 
 
 def table(title, rates):
-    lines = [f"### {title}", "", "| Queue | Million calls a second | Ratio to ArrayQueue | Quartiles |", "|---|---|---|---|"]
+    unit = "vertices" if title.startswith("spanning") else "calls"
+    head = f"| Queue | Million {unit} a second | Ratio to ArrayQueue | Quartiles |"
+    lines = [f"### {title}", "", head, "|---|---|---|---|"]
     for queue, values in rates.items():
-        first, middle, third = quartiles([it / base for it, base in zip(values, rates[BASE, 0])])
+        first, middle, third = quartiles([it / base for it, base in zip(values, rates[BASE])])
         lines.append(f"| {label(queue)} | {statistics.median(values) / 1e6:.2f} | {middle:.2f} | {first:.2f} to {third:.2f} |")
     return "\n".join(lines) + "\n"
 
 
 def overview(all_rates):
     """A row for each workload, with each queue's median ratio to ArrayQueue."""
-    columns = list(dict.fromkeys(queue for rates in all_rates.values() for queue in rates if queue != (BASE, 0)))
+    columns = list(dict.fromkeys(queue for rates in all_rates.values() for queue in rates if queue != BASE))
     lines = ["| Workload | " + " | ".join(label(it) for it in columns) + " |", "|---" * (len(columns) + 1) + "|"]
     for title, rates in all_rates.items():
-        base = rates[BASE, 0]
+        base = rates[BASE]
         medians = [f"{statistics.median(it / by for it, by in zip(rates[queue], base)):.2f}" if queue in rates else "" for queue in columns]
         lines.append(f"| {title} | " + " | ".join(medians) + " |")
     return "\n".join(lines) + "\n"
@@ -109,8 +155,8 @@ def overview(all_rates):
 
 def plot(title, rates):
     """A bar for each queue's ratio to ArrayQueue, with a line from quartile to quartile."""
-    ratios = {queue: quartiles([it / base for it, base in zip(values, rates[BASE, 0])]) for queue, values in rates.items()}
-    width, left, bar = 720, 150, 24
+    ratios = {queue: quartiles([it / base for it, base in zip(values, rates[BASE])]) for queue, values in rates.items()}
+    width, left, bar = 720, 200, 24
     most = max(it[2] for it in ratios.values()) * 1.05
     across = lambda ratio: left + ratio / most * (width - left - 60)
     height = 50 + bar * len(ratios)
@@ -118,7 +164,7 @@ def plot(title, rates):
     parts.append(f'<rect width="{width}" height="{height}" fill="white"/><text x="10" y="20" font-size="14">{title}: rate beside ArrayQueue</text>')
     for place, (queue, (first, middle, third)) in enumerate(ratios.items()):
         top = 36 + bar * place
-        color = "#3b6fb6" if queue[0] == "kfifo" else "#b0b0b0"
+        color = "#3b6fb6" if queue[0].startswith("kfifo") else "#b0b0b0"
         parts.append(f'<text x="{left - 8}" y="{top + 13}" text-anchor="end">{label(queue)}</text>')
         parts.append(f'<rect x="{left}" y="{top}" width="{across(middle) - left:.1f}" height="{bar - 8}" fill="{color}"/>')
         parts.append(f'<line x1="{across(first):.1f}" x2="{across(third):.1f}" y1="{top + 8}" y2="{top + 8}" stroke="black"/>')
@@ -150,19 +196,17 @@ def main():
     print(about)
     tables = []
     all_rates = {}
-    for capacity in CAPACITIES:
-        for name, *threads in WORKLOADS:
-            for work in WORK:
-                title = f"{name}, capacity {capacity:,}" + (f", {work} ns of work between calls" if work else "")
-                if words.only not in title:
-                    continue
-                rates = measure(capacity, threads, work, words.rounds, words.milliseconds)
-                all_rates[title] = rates
-                tables.append(table(title, rates))
-                print(tables[-1], flush=True)
-                file = title.replace(",", "").replace(" ", "_")
-                with open(f"{words.out}/{file}.svg", "w") as plotted:
-                    plotted.write(plot(title, rates))
+    for workload in workloads(words.milliseconds):
+        title = workload.title
+        if words.only not in title:
+            continue
+        rates = measure(workload, words.rounds)
+        all_rates[title] = rates
+        tables.append(table(title, rates))
+        print(tables[-1], flush=True)
+        file = title.replace(",", "").replace(" ", "_")
+        with open(f"{words.out}/{file}.svg", "w") as plotted:
+            plotted.write(plot(title, rates))
     print(overview(all_rates))
     with open(f"{words.out}/table.md", "w") as written:
         written.write("\n".join([about, overview(all_rates), *tables]))

@@ -13,7 +13,7 @@
  *      other gets to.
  *   5. Join the threads, and dequeue, logged too, until the queue is empty: else nobody can see that an item is lost.
  *   6. kfifo_log_write(stdout, logs, count), and then:
- *          ./my_test > log.csv && kfifo import < log.csv | kfifo judge --k 1
+ *          ./my_test > log.csv && kfifo judge < log.csv
  *
  * A log that is full takes no more calls, and kfifo_log_write refuses it: calls that are missing would make the
  * verdict wrong. A log costs 32 bytes a call; kfifo takes 65,536 calls in all. Each log is its thread's alone: there
@@ -179,7 +179,7 @@ static inline void kfifo_log_write_calls_(FILE *out, const kfifo_log *log) {
     }
 }
 
-/* Writes the logs as CSV for `kfifo import`, after their threads have ended. A call that never returned has no last
+/* Writes the logs as CSV for `kfifo judge`, after their threads have ended. A call that never returned has no last
    time and no answer. kfifo takes such a dequeue to have taken nothing, so let dequeues return. */
 static inline kfifo_log_status kfifo_log_write(FILE *out, const kfifo_log *logs, size_t count) {
     for (size_t i = 0; i < count; i++) {

@@ -13,7 +13,7 @@ How to use it:
     gets to.
  5. Join the threads, and dequeue, logged too, until the queue is empty: else nobody can see that an item is lost.
  6. `kfifo_log.write(logs, sys.stdout)`, and then:
-    `python3 my_test.py > log.csv && kfifo import < log.csv | kfifo judge --k 1`
+    `python3 my_test.py > log.csv && kfifo judge < log.csv`
 
 A log that is full takes no more calls, and `write` refuses it: calls that are missing would make the verdict wrong.
 `kfifo` takes 65,536 calls in all. Each log is its thread's alone: there is no lock, and its arrays are made before
@@ -125,7 +125,7 @@ class ThreadLog:
 
 
 def write(logs, out):
-    """Writes the logs as CSV for `kfifo import`, after their threads have ended. Where calls are missing it raises
+    """Writes the logs as CSV for `kfifo judge`, after their threads have ended. Where calls are missing it raises
     MissedCalls and writes nothing. A call that never returned, since it raised another exception, has no last time
     and no answer. `kfifo` takes such a dequeue to have taken nothing, so let dequeues return.
     """

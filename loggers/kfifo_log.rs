@@ -11,7 +11,7 @@
 //!    other gets to.
 //! 5. Join the threads, and dequeue, logged too, until the queue is empty: else nobody can see that an item is lost.
 //! 6. `kfifo_log::write(&logs, std::io::stdout())?`, and then:
-//!    `my_test > log.csv && kfifo import < log.csv | kfifo judge --k 1`
+//!    `my_test > log.csv && kfifo judge < log.csv`
 //!
 //! A log that is full takes no more calls, and `write` refuses it: calls that are missing would make the verdict
 //! wrong. `kfifo` takes 65,536 calls in all. Each log is its thread's alone: there is no lock, and memory is taken by
@@ -198,7 +198,7 @@ fn fields(first: u64, call: Call) -> String {
     }
 }
 
-/// Writes the logs as CSV for `kfifo import`. A call that never returned, since it panicked, has no last time and no
+/// Writes the logs as CSV for `kfifo judge`. A call that never returned, since it panicked, has no last time and no
 /// answer. `kfifo` takes such a dequeue to have taken nothing, so let dequeues return.
 ///
 /// # Errors

@@ -1,0 +1,231 @@
+// The queues that are compared, behind one interface: push(thread, item) puts an item, which is not 0, and returns
+// whether it is in the queue; pop(thread) returns an item, or 0 where none came. A thread that calls holds an Attached.
+#ifndef BENCH_QUEUES_HPP
+#define BENCH_QUEUES_HPP
+
+#include "kfifo.hpp"
+
+extern "C" {
+void *array_queue_new(std::size_t);
+bool array_queue_push(const void *, std::uint32_t);
+std::uint32_t array_queue_pop(const void *);
+void array_queue_free(void *);
+void *ck_queue_new(unsigned);
+bool ck_queue_push(void *, std::uint32_t);
+std::uint32_t ck_queue_pop(void *);
+void ck_queue_free(void *);
+}
+
+#include <boost/lockfree/queue.hpp>
+#include <cds/container/msqueue.h>
+#include <cds/container/segmented_queue.h>
+#include <cds/container/vyukov_mpmc_cycle_queue.h>
+#include <cds/gc/hp.h>
+#include <cds/init.h>
+#include <concurrentqueue/concurrentqueue.h>
+#include <cstdint>
+#include <deque>
+#include <memory>
+#include <mutex>
+#include <new>
+#include <string>
+#include <tbb/concurrent_queue.h>
+#include <vector>
+
+namespace bench {
+
+// What a thread holds while it calls: of most queues nothing.
+struct NothingAttached {
+    // A destructor of its own, so that no compiler warns of a variable that is not used.
+    ~NothingAttached() {}
+};
+
+// This repository's queue. The calls choose their starts themselves, each one slot further than the last.
+struct Kfifo {
+    using Attached = NothingAttached;
+    kfifo::Queue queue;
+    std::vector<kfifo::Pass> passes;
+
+    Kfifo(std::uint32_t k, std::size_t capacity, std::size_t threads) : queue(k, std::uint32_t(capacity) / k, threads) {
+        for (std::size_t i = 0; i < threads; i++) passes.push_back(queue.pass(i));
+    }
+    bool push(std::size_t thread, std::uint32_t item) { return passes[thread].enqueue(item) == kfifo::Put::done; }
+    std::uint32_t pop(std::size_t thread) { return passes[thread].dequeue().item.value_or(0); }
+};
+
+// The same queue, with a random start for each call.
+struct KfifoAtRandom : Kfifo {
+    struct alignas(128) Seed {
+        std::uint32_t state;
+    };
+    std::uint32_t k;
+    std::uint16_t turns;
+    std::vector<Seed> seeds;
+
+    KfifoAtRandom(std::uint32_t k, std::size_t capacity, std::size_t threads)
+        : Kfifo(k, capacity, threads), k(k), turns(std::uint16_t(capacity / k + 2)), seeds(threads) {
+        for (std::size_t i = 0; i < threads; i++) seeds[i].state = std::uint32_t(i * 7919 + 1);
+    }
+    std::uint32_t start(std::size_t thread) {
+        std::uint32_t &state = seeds[thread].state;
+        state = state * 1664525 + 1013904223;
+        return std::uint32_t((std::uint64_t(state) * k) >> 32);
+    }
+    bool push(std::size_t thread, std::uint32_t item) {
+        return passes[thread].enqueue(item, start(thread), turns) == kfifo::Put::done;
+    }
+    std::uint32_t pop(std::size_t thread) { return passes[thread].dequeue(start(thread), turns).item.value_or(0); }
+};
+
+// crossbeam's ArrayQueue.
+struct Array {
+    using Attached = NothingAttached;
+    void *queue;
+    explicit Array(std::size_t capacity) : queue(array_queue_new(capacity)) {}
+    ~Array() { array_queue_free(queue); }
+    bool push(std::size_t, std::uint32_t item) { return array_queue_push(queue, item); }
+    std::uint32_t pop(std::size_t) { return array_queue_pop(queue); }
+};
+
+struct Boost {
+    using Attached = NothingAttached;
+    boost::lockfree::queue<std::uint32_t, boost::lockfree::fixed_sized<true>> queue;
+    explicit Boost(std::size_t capacity) : queue(capacity) {}
+    bool push(std::size_t, std::uint32_t item) { return queue.bounded_push(item); }
+    std::uint32_t pop(std::size_t) {
+        std::uint32_t item = 0;
+        return queue.pop(item) ? item : 0;
+    }
+};
+
+struct Tbb {
+    using Attached = NothingAttached;
+    tbb::concurrent_bounded_queue<std::uint32_t> queue;
+    explicit Tbb(std::size_t capacity) { queue.set_capacity(std::ptrdiff_t(capacity)); }
+    bool push(std::size_t, std::uint32_t item) { return queue.try_push(item); }
+    std::uint32_t pop(std::size_t) {
+        std::uint32_t item = 0;
+        return queue.try_pop(item) ? item : 0;
+    }
+};
+
+// A ring of Concurrency Kit for many producers and consumers. It holds one item less than its size.
+struct Ck {
+    using Attached = NothingAttached;
+    void *queue;
+    explicit Ck(std::size_t capacity) : queue(ck_queue_new(unsigned(capacity))) {
+        if (!queue) throw std::bad_alloc();
+    }
+    ~Ck() { ck_queue_free(queue); }
+    bool push(std::size_t, std::uint32_t item) { return ck_queue_push(queue, item); }
+    std::uint32_t pop(std::size_t) { return ck_queue_pop(queue); }
+};
+
+struct Mutex {
+    using Attached = NothingAttached;
+    std::mutex mutex;
+    std::deque<std::uint32_t> items;
+    std::size_t capacity;
+    explicit Mutex(std::size_t capacity) : capacity(capacity) {}
+    bool push(std::size_t, std::uint32_t item) {
+        std::lock_guard<std::mutex> guard(mutex);
+        if (items.size() >= capacity) return false;
+        items.push_back(item);
+        return true;
+    }
+    std::uint32_t pop(std::size_t) {
+        std::lock_guard<std::mutex> guard(mutex);
+        if (items.empty()) return 0;
+        std::uint32_t item = items.front();
+        items.pop_front();
+        return item;
+    }
+};
+
+// libcds frees nodes by hazard pointers, so each of its threads is attached.
+struct Hazards {
+    Hazards() { cds::Initialize(); }
+    ~Hazards() { cds::Terminate(); }
+};
+
+struct AttachedToHazards {
+    AttachedToHazards() { cds::threading::Manager::attachThread(); }
+    ~AttachedToHazards() { cds::threading::Manager::detachThread(); }
+};
+
+// libcds's queue of Michael and Scott. It has no capacity.
+struct CdsMs {
+    using Attached = AttachedToHazards;
+    Hazards hazards;
+    cds::gc::HP collector;
+    AttachedToHazards main;
+    cds::container::MSQueue<cds::gc::HP, std::uint32_t> queue;
+    bool push(std::size_t, std::uint32_t item) { return queue.enqueue(item); }
+    std::uint32_t pop(std::size_t) {
+        std::uint32_t item = 0;
+        return queue.dequeue(item) ? item : 0;
+    }
+};
+
+// libcds's queue of segments, the k-relaxed queue of Afek, Korland and Yanovsky, with k as its quasi factor, which is a
+// power of two. It has no capacity.
+struct CdsSegmented {
+    using Queue = cds::container::SegmentedQueue<cds::gc::HP, std::uint32_t>;
+    using Attached = AttachedToHazards;
+    Hazards hazards;
+    cds::gc::HP collector{Queue::c_nHazardPtrCount + 4};
+    AttachedToHazards main;
+    Queue queue;
+    explicit CdsSegmented(std::uint32_t k) : queue(k) {}
+    bool push(std::size_t, std::uint32_t item) { return queue.enqueue(item); }
+    std::uint32_t pop(std::size_t) {
+        std::uint32_t item = 0;
+        return queue.dequeue(item) ? item : 0;
+    }
+};
+
+// libcds's ring of Vyukov.
+struct CdsVyukov {
+    using Attached = NothingAttached;
+    cds::container::VyukovMPMCCycleQueue<std::uint32_t> queue;
+    explicit CdsVyukov(std::size_t capacity) : queue(capacity) {}
+    bool push(std::size_t, std::uint32_t item) { return queue.enqueue(item); }
+    std::uint32_t pop(std::size_t) {
+        std::uint32_t item = 0;
+        return queue.dequeue(item) ? item : 0;
+    }
+};
+
+// moodycamel's ConcurrentQueue: a queue for each producer, which consumers visit in turn. It has no capacity.
+struct Moodycamel {
+    using Attached = NothingAttached;
+    moodycamel::ConcurrentQueue<std::uint32_t> queue;
+    bool push(std::size_t, std::uint32_t item) { return queue.enqueue(item); }
+    std::uint32_t pop(std::size_t) {
+        std::uint32_t item = 0;
+        return queue.try_dequeue(item) ? item : 0;
+    }
+};
+
+// Calls use(queue) with the queue of this name, and returns what it returns; 2 where there is no such queue. k is that of
+// kfifo, and the quasi factor of segmented.
+template <typename Use>
+int with_queue(const std::string &name, std::uint32_t k, std::size_t capacity, std::size_t threads, Use use) {
+    auto with = [&](auto queue) { return use(*queue); };
+    if (name == "kfifo") return with(std::make_unique<Kfifo>(k, capacity, threads));
+    if (name == "kfifo-at-random") return with(std::make_unique<KfifoAtRandom>(k, capacity, threads));
+    if (name == "array") return with(std::make_unique<Array>(capacity));
+    if (name == "boost") return with(std::make_unique<Boost>(capacity));
+    if (name == "tbb") return with(std::make_unique<Tbb>(capacity));
+    if (name == "ck") return with(std::make_unique<Ck>(capacity));
+    if (name == "mutex") return with(std::make_unique<Mutex>(capacity));
+    if (name == "ms") return with(std::make_unique<CdsMs>());
+    if (name == "segmented") return with(std::make_unique<CdsSegmented>(k));
+    if (name == "vyukov") return with(std::make_unique<CdsVyukov>(capacity));
+    if (name == "moodycamel") return with(std::make_unique<Moodycamel>());
+    return 2;
+}
+
+} // namespace bench
+
+#endif
