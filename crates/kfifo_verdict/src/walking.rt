@@ -168,9 +168,9 @@ impl Walk {
         None
     }
 
-    /// The puts of an item that have begun and of which the best may be any, from number `at` on: each begins later than
-    /// the one before it, and ends sooner. Any other begins later and ends later than one of these, which then is better:
-    /// fewer puts precede it, and it precedes more. Returns the one at this place, and whether there is a next one.
+    /// Of the puts of an item that have begun, those that come into question: each begins later than the one before it and
+    /// ends sooner. Any other begins later and ends later than one of these, which is better: fewer puts precede it, and
+    /// it is the one that precedes more. Returns the one at place `at`, and whether there is a next one.
     fn candidate(&self, item: usize, at: usize) -> (Option<usize>, bool) {
         let mut found: Option<usize> = None;
         let mut best = u64::MAX;
