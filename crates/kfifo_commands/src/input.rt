@@ -23,10 +23,7 @@ impl Calls {
     pub(crate) fn logged(&self) -> &[LoggedCall]
         ensures { result.now ≡ logged_calls (option_map (λ logged. logged.items) self.now.logged) }
     {
-        match &self.logged {
-            Some(logged) => logged.as_slice(),
-            None => &[],
-        }
+        self.logged.as_deref().unwrap_or(&[])
     }
 }
 
