@@ -25,3 +25,4 @@ pub mod Made
 pub mod Pays
 pub mod Pools
 pub mod Spreads
+pub mod Handled
