@@ -1,46 +1,48 @@
-// A producer and a consumer: one thread puts numbered messages into an array of its own and their numbers into the queue, and the
-// other reads them in the order in which they come: with k = 1 that is the order in which they were put.
+// A producer and a consumer of messages of a type of their own. With k = 1 they come out in the order in which they were given.
 #include "kfifo.hpp"
 
+#include <atomic>
 #include <cstdio>
 #include <string>
 #include <thread>
 
-namespace {
-
-constexpr std::uint32_t messages = 20000;
-constexpr std::uint32_t segments = 1024;
-constexpr std::uint16_t turns = segments + 2;
-
-} // namespace
+struct Message {
+    int number;
+    std::string text;
+};
 
 int main() {
-    kfifo::Queue queue(1, segments, 2);
-    std::vector<std::string> payloads(messages + 1); // payloads[0] is never used
+    constexpr int messages = 20000;
+    kfifo::ValueQueue<Message> queue(1, 1024, 2); // k, segments, threads
+    std::atomic<bool> all_given{false};
     bool in_order = true;
-    std::uint32_t read = 0;
+    int read = 0;
 
-    std::thread producer([&payloads, pass = queue.pass(0)] {
-        for (std::uint32_t number = 1; number <= messages; number++) {
-            payloads[number] = "message " + std::to_string(number);
-            while (pass.enqueue(number, 0, turns) != kfifo::Put::done) std::this_thread::yield();
+    std::thread producer([&, handle = queue.handle()]() mutable {
+        for (int number = 1; number <= messages; number++) {
+            Message message{number, "message " + std::to_string(number)};
+            while (handle.give(std::move(message)) != kfifo::Put::done) std::this_thread::yield(); // refused: the message is still ours
         }
+        all_given = true;
     });
-    std::thread consumer([&, pass = queue.pass(1)] {
-        while (read < messages) {
-            kfifo::Taken taken = pass.dequeue(0, turns);
-            if (!taken.item) {
+    std::thread consumer([&, handle = queue.handle()]() mutable {
+        for (;;) {
+            bool last = all_given; // read before the take: only then is an empty queue the end
+            auto taken = handle.take();
+            if (taken.value) {
+                read++;
+                in_order = in_order && taken.value->number == read && taken.value->text == "message " + std::to_string(read);
+            } else if (last && taken.why == kfifo::Miss::empty) {
+                return;
+            } else {
                 std::this_thread::yield();
-                continue;
             }
-            read++;
-            in_order = in_order && *taken.item == read && payloads[*taken.item] == "message " + std::to_string(read);
         }
     });
     producer.join();
     consumer.join();
 
     bool is_empty = queue.close().empty();
-    std::printf("%u messages were read%s\n", read, in_order ? " in their order" : ", and not in their order");
-    return in_order && is_empty ? 0 : 1;
+    std::printf("%d messages were read%s\n", read, in_order ? " in their order" : ", and not in their order");
+    return in_order && is_empty && read == messages ? 0 : 1;
 }

@@ -67,6 +67,13 @@ typedef struct kfifo_pass {
     uint32_t starts;
 } kfifo_pass;
 
+/* A handle of a queue of values, likewise. */
+typedef struct kfifo_value_pass {
+    void *inside;
+    void *address;
+    uint32_t starts;
+} kfifo_value_pass;
+
 /* The exports of the library, which test all but null pointers, and at a close that the handles are of one queue. Call those below. */
 uint32_t kfifo_c_open(uint32_t k, uint32_t segments, uint32_t probes, uint64_t last, kfifo_pass *passes, size_t threads);
 uint32_t kfifo_c_put(kfifo_pass *pass, uint32_t item);
@@ -76,6 +83,12 @@ uint32_t kfifo_c_dequeue(kfifo_pass *pass, uint32_t *item, uint32_t start, uint1
 uint32_t kfifo_c_word(kfifo_pass *pass, size_t index, uint64_t *word);
 uint32_t kfifo_c_close(kfifo_pass *passes, size_t threads, uint32_t *items, size_t room, size_t *count);
 void kfifo_c_abandon(kfifo_pass *passes, size_t threads);
+uint32_t kfifo_c_open_values(uint32_t k, uint32_t segments, uint32_t probes, uint64_t last, uint32_t tokens, kfifo_value_pass *passes,
+                             size_t threads);
+uint32_t kfifo_c_give(kfifo_value_pass *pass, uint64_t value);
+uint32_t kfifo_c_take(kfifo_value_pass *pass, uint64_t *value);
+uint32_t kfifo_c_close_values(kfifo_value_pass *passes, size_t threads, uint64_t *values, size_t room, size_t *count);
+void kfifo_c_abandon_values(kfifo_value_pass *passes, size_t threads);
 
 /* ThreadSanitizer does not see into the library. So the calls below tell it what the queue ensures: what a thread wrote before it put an
    item is seen by whoever takes that item. Without the sanitizer these are nothing. */
@@ -162,6 +175,65 @@ static inline kfifo_status kfifo_close(kfifo_pass *passes, size_t threads, uint3
 static inline kfifo_status kfifo_abandon(kfifo_pass *passes, size_t threads) {
     if (!passes) return KFIFO_BAD_CALL;
     kfifo_c_abandon(passes, threads);
+    return KFIFO_DONE;
+}
+
+/* ---- A queue of values, which are 64-bit numbers or pointers ---- */
+
+/* Opens a queue of values. Each thread begins with so many tokens, 1 to KFIFO_MAX_TOKENS. A value in the queue has one; the thread that takes
+   the value gets it, and lays it down for others where it then has more than it began with. So the values that a thread has given and nobody
+   has taken are about `tokens` at most. DONE; BAD_CALL of a null pointer; BAD_K, BAD_SEGMENTS, BAD_THREADS, BAD_TOKENS, NO_MEMORY, and all
+   handles are then closed. */
+static inline kfifo_status kfifo_open_values(uint32_t k, uint32_t segments, uint32_t tokens, kfifo_value_pass *passes, size_t threads) {
+    if (!passes) return KFIFO_BAD_CALL;
+    for (size_t i = 0; i < threads; i++) {
+        passes[i].inside = NULL;
+        passes[i].address = NULL;
+        passes[i].starts = 0;
+    }
+    return (kfifo_status)kfifo_c_open_values(k, segments, k, KFIFO_LAST, tokens, passes, threads);
+}
+
+/* Gives any value to the queue: DONE; else FULL, BUSY, WORN, NO_TOKEN or BAD_CALL, and the value is still the caller's. */
+static inline kfifo_status kfifo_give(kfifo_value_pass *pass, uint64_t value) {
+    if (!pass) return KFIFO_BAD_CALL;
+    KFIFO_BEFORE_PUT(pass);
+    return (kfifo_status)kfifo_c_give(pass, value);
+}
+
+/* Takes one of the k oldest values: GOT, and writes it; else EMPTY, BUSY, WORN or BAD_CALL, and *value stays. */
+static inline kfifo_status kfifo_take(kfifo_value_pass *pass, uint64_t *value) {
+    if (!pass || !value) return KFIFO_BAD_CALL;
+    kfifo_status status = (kfifo_status)kfifo_c_take(pass, value);
+    KFIFO_AFTER_GOT(pass, status);
+    return status;
+}
+
+/* The same with a pointer for a value. */
+static inline kfifo_status kfifo_give_pointer(kfifo_value_pass *pass, void *pointer) {
+    return kfifo_give(pass, (uint64_t)(uintptr_t)pointer);
+}
+
+static inline kfifo_status kfifo_take_pointer(kfifo_value_pass *pass, void **pointer) {
+    uint64_t value;
+    if (!pointer) return KFIFO_BAD_CALL;
+    kfifo_status status = kfifo_take(pass, &value);
+    if (status == KFIFO_GOT) *pointer = (void *)(uintptr_t)value;
+    return status;
+}
+
+/* Closes a queue of values, as kfifo_close does. */
+static inline kfifo_status kfifo_close_values(kfifo_value_pass *passes, size_t threads, uint64_t *values, size_t room, size_t *count) {
+    if (!passes || !values || !count) return KFIFO_BAD_CALL;
+    for (size_t i = 1; i < threads; i++)
+        if (passes[i].address != passes[0].address) return KFIFO_BAD_CALL;
+    return (kfifo_status)kfifo_c_close_values(passes, threads, values, room, count);
+}
+
+/* Closes these handles, as kfifo_abandon does. Values that are pointers are not freed. */
+static inline kfifo_status kfifo_abandon_values(kfifo_value_pass *passes, size_t threads) {
+    if (!passes) return KFIFO_BAD_CALL;
+    kfifo_c_abandon_values(passes, threads);
     return KFIFO_DONE;
 }
 

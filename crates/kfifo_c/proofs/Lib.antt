@@ -2,4 +2,6 @@ mod Closings
 mod HeldValues
 mod Passes
 mod Tried
+mod ValueHeldValues
+mod ValuePasses
 mod Values

@@ -3,3 +3,7 @@ pub mod Handles
 pub mod Held
 pub mod Lent
 pub mod Seats
+pub mod ValueHandles
+pub mod ValueLent
+pub mod ValueSeats
+pub mod Values

@@ -11,7 +11,11 @@ mod loose;
 mod opening;
 mod seat;
 mod status;
+mod value_queue;
 
 pub use handle::Handle;
 pub use held::Held;
 pub use seat::Seat;
+pub use value_queue::handle::ValueHandle;
+pub use value_queue::held::ValueHeld;
+pub use value_queue::seat::ValueSeat;

@@ -1,0 +1,162 @@
+// A queue of values in C++: values that own memory come out once and whole, each is destroyed once, and each refusal hands its value back.
+#include "kfifo.hpp"
+
+#include <atomic>
+#include <cstdio>
+#include <string>
+#include <thread>
+
+// How many values each producer gives.
+#ifdef FEWER
+#define EACH 5000
+#else
+#define EACH 200000
+#endif
+
+namespace {
+
+int failures = 0;
+
+void expect(bool holds, const char *what) {
+    if (!holds) {
+        std::fprintf(stderr, "%s\n", what);
+        failures++;
+    }
+}
+
+// Whether a call throws an Error with this status, whose text says so.
+template <typename Call> bool refuses(kfifo_status status, Call call) {
+    try {
+        call();
+    } catch (const kfifo::Error &error) {
+        return error.status() == status && std::string(error.what()).size() > sizeof("kfifo: ");
+    }
+    return false;
+}
+
+// Counts how many are alive. It can be moved and not copied.
+struct Parcel {
+    static std::atomic<long> alive;
+    explicit Parcel(std::uint64_t what) : number(new std::uint64_t(what)) { alive++; }
+    Parcel(Parcel &&other) noexcept : number(std::move(other.number)) { alive++; }
+    Parcel &operator=(Parcel &&) noexcept = default;
+    ~Parcel() { alive--; }
+    std::unique_ptr<std::uint64_t> number;
+};
+
+std::atomic<long> Parcel::alive{0};
+
+void refusals() {
+    using Values = kfifo::ValueQueue<std::string>;
+    expect(refuses(KFIFO_BAD_K, [] { Values(0, 2, 1); }) && refuses(KFIFO_BAD_K, [] { Values(65, 2, 1); }), "k out of range");
+    expect(refuses(KFIFO_BAD_SEGMENTS, [] { Values(1, 1, 1); }) && refuses(KFIFO_BAD_SEGMENTS, [] { Values(1, 1025, 1); }), "segments out of range");
+    expect(refuses(KFIFO_BAD_THREADS, [] { Values(1, 2, 0); }) && refuses(KFIFO_BAD_THREADS, [] { Values(1, 2, 65); }), "threads out of range");
+    expect(refuses(KFIFO_BAD_TOKENS, [] { Values(1, 2, 1, 0); }) && refuses(KFIFO_BAD_TOKENS, [] { Values(1, 2, 1, 1025); }), "tokens out of range");
+    Values queue(1, 2, 2, 2);
+    Values::Handle first = queue.handle();
+    {
+        Values::Handle second = queue.handle();
+        expect(refuses(KFIFO_BAD_CALL, [&] { queue.handle(); }), "more handles than threads");
+        expect(refuses(KFIFO_BAD_CALL, [&] { queue.close(); }), "a close while a handle is in use");
+    }
+    expect(!first.take().value && first.take().why == kfifo::Miss::empty, "a new queue is empty");
+    std::string word(100, 'a');
+    expect(first.give(std::move(word)) == kfifo::Put::done, "a first value");
+    word = std::string(100, 'b');
+    expect(first.give(word) == kfifo::Put::done && word == std::string(100, 'b'), "a copy is given");
+    expect(first.give(std::move(word)) == kfifo::Put::no_token && word == std::string(100, 'b'), "without a token the value comes back");
+    Values::Handle second = queue.handle();
+    expect(second.give(std::move(word)) == kfifo::Put::full && word == std::string(100, 'b'), "of a full ring the value comes back");
+    expect(second.take().value == std::string(100, 'a'), "the oldest value");
+    Values::Handle moved = std::move(second);
+    expect(refuses(KFIFO_BAD_CALL, [&] { second.take(); }), "a handle that was moved from");
+    {
+        Values::Handle one = std::move(first), other = std::move(moved);
+    }
+    expect(queue.close() == std::vector<std::string>{std::string(100, 'b')}, "what is left");
+    expect(refuses(KFIFO_BAD_CALL, [&] { queue.close(); }) && refuses(KFIFO_BAD_CALL, [&] { queue.handle(); }), "a closed queue");
+}
+
+// Values that fit in 64 bits, and values that need a cell of their own.
+void sizes() {
+    struct Point {
+        float x, y;
+    };
+    kfifo::ValueQueue<Point> points(2, 8, 1);
+    auto handle = points.handle();
+    expect(handle.give(Point{1, 2}) == kfifo::Put::done, "a small struct");
+    auto taken = handle.take();
+    expect(taken.value && taken.value->x == 1 && taken.value->y == 2, "comes out whole");
+    kfifo::ValueQueue<std::vector<int>> lists(2, 8, 1);
+    auto other = lists.handle();
+    expect(other.give(std::vector<int>(1000, 7)) == kfifo::Put::done, "a list");
+    expect(other.take().value == std::vector<int>(1000, 7), "comes out whole too");
+}
+
+// Values that are left are destroyed with the queue, which goes with its last handle.
+void ends() {
+    {
+        std::optional<kfifo::ValueQueue<Parcel>::Handle> last;
+        {
+            kfifo::ValueQueue<Parcel> queue(4, 16, 2);
+            last.emplace(queue.handle());
+            for (std::uint64_t i = 0; i < 10; i++) last->give(Parcel(i));
+        }
+        expect(Parcel::alive == 10 && last->take().value.has_value(), "a handle keeps the queue");
+        expect(Parcel::alive == 9, "a value that was taken is destroyed");
+    }
+    expect(Parcel::alive == 0, "the values that are left are destroyed with the queue");
+}
+
+void threads(std::size_t pairs) {
+    kfifo::ValueQueue<Parcel> queue(16, 64, 2 * pairs);
+    std::vector<unsigned char> seen(pairs * EACH);
+    std::atomic<std::size_t> still_giving{pairs};
+    std::atomic<std::uint64_t> taken_in_all{0};
+    std::vector<std::thread> all;
+    for (std::size_t pair = 0; pair < pairs; pair++) {
+        all.emplace_back([&, pair, handle = queue.handle()]() mutable {
+            for (std::uint64_t i = 0; i < EACH; i++) {
+                Parcel parcel(pair * EACH + i);
+                while (handle.give(std::move(parcel)) != kfifo::Put::done) std::this_thread::yield();
+            }
+            still_giving--;
+        });
+        all.emplace_back([&, handle = queue.handle()]() mutable {
+            for (;;) {
+                bool last = still_giving == 0;
+                auto taken = handle.take();
+                if (taken.value) {
+                    seen[*taken.value->number]++;
+                    taken_in_all++;
+                } else if (last && taken.why == kfifo::Miss::empty) {
+                    return;
+                } else {
+                    std::this_thread::yield();
+                }
+            }
+        });
+    }
+    for (std::thread &thread : all) thread.join();
+    bool once = true;
+    for (unsigned char times : seen) once = once && times == 1;
+    expect(once && taken_in_all == pairs * EACH, "each value comes out once");
+    expect(Parcel::alive == 0, "each value that was taken is destroyed once");
+    {
+        auto handle = queue.handle();
+        for (std::uint64_t i = 0; i < 3; i++) handle.give(Parcel(i));
+    }
+    expect(queue.close().size() == 3, "close gives back the rest");
+    expect(Parcel::alive == 0, "what a close gave back is destroyed once");
+}
+
+} // namespace
+
+int main() {
+    refusals();
+    sizes();
+    ends();
+    for (std::size_t pairs = 1; pairs <= 4; pairs *= 2) threads(pairs);
+    std::puts(failures ? "the queue of values fails in C++" : "1, 2 and 4 producers in C++: each value came out whole, and was destroyed once");
+    return failures;
+}

@@ -1,0 +1,201 @@
+/* A queue of values: 1, 2 and 4 producers and as many consumers, and each value comes out once; each refusal comes at its cause. */
+#include "kfifo.h"
+#include <pthread.h>
+#include <sched.h>
+#include <stdatomic.h>
+#include <stdio.h>
+#include <stdlib.h>
+
+/* How many values each producer gives. */
+#ifdef FEWER
+#define EACH 10000
+#else
+#define EACH 1000000
+#endif
+enum { MOST = 4, K = 16, SEGMENTS = 64, TOKENS = 300 };
+
+static int failed;
+
+static void expect(uint64_t is, uint64_t wanted, const char *what) {
+    if (is != wanted) {
+        fprintf(stderr, "%s: %llu, and not %llu\n", what, (unsigned long long)is, (unsigned long long)wanted);
+        failed = 1;
+    }
+}
+
+struct side {
+    kfifo_value_pass *pass;
+    uint64_t number, count, tokens_missed;
+};
+
+static unsigned char *out;       /* how often each value came out */
+static atomic_uint still_giving; /* producers that have not ended */
+
+/* A value has its producer above bit 40, so that it does not fit in 32 bits. */
+static uint64_t value_of(uint64_t producer, uint64_t index) { return (producer + 1) << 40 | index; }
+
+static void *produce(void *argument) {
+    struct side *self = argument;
+    for (uint64_t i = 0; i < EACH;) {
+        kfifo_status status = kfifo_give(self->pass, value_of(self->number, i));
+        if (status == KFIFO_DONE) {
+            self->count++;
+            i++;
+        } else {
+            if (status == KFIFO_NO_TOKEN) self->tokens_missed++;
+            sched_yield();
+        }
+    }
+    atomic_fetch_sub(&still_giving, 1);
+    return NULL;
+}
+
+static void *consume(void *argument) {
+    struct side *self = argument;
+    for (;;) {
+        int last = atomic_load(&still_giving) == 0;
+        uint64_t value = 0;
+        kfifo_status status = kfifo_take(self->pass, &value);
+        if (status == KFIFO_GOT) {
+            out[((value >> 40) - 1) * EACH + (value & 0xffffffffff)]++;
+            self->count++;
+        } else if (status == KFIFO_EMPTY && last) {
+            return NULL;
+        } else {
+            sched_yield();
+        }
+    }
+}
+
+static void run(uint32_t pairs) {
+    static kfifo_value_pass passes[2 * MOST];
+    struct side sides[2 * MOST];
+    pthread_t ids[2 * MOST];
+    uint64_t given = 0, taken = 0, wrong = 0;
+    out = calloc((size_t)pairs * EACH, 1);
+    atomic_store(&still_giving, pairs);
+    expect(kfifo_open_values(K, SEGMENTS, TOKENS, passes, 2 * pairs), KFIFO_DONE, "open");
+    for (uint32_t i = 0; i < 2 * pairs; i++) {
+        sides[i] = (struct side){.pass = &passes[i], .number = i % pairs};
+        if (!out || pthread_create(&ids[i], NULL, i < pairs ? produce : consume, &sides[i])) abort();
+    }
+    for (uint32_t i = 0; i < 2 * pairs; i++) {
+        pthread_join(ids[i], NULL);
+        *(i < pairs ? &given : &taken) += sides[i].count;
+    }
+    for (uint64_t i = 0; i < (uint64_t)pairs * EACH; i++) wrong += out[i] != 1;
+    expect(given, (uint64_t)pairs * EACH, "values given");
+    expect(taken, given, "values taken");
+    expect(wrong, 0, "values that did not come out once");
+    free(out);
+
+    /* What is given now is what a close gives back. */
+    static uint64_t left[K * SEGMENTS];
+    size_t count = 77;
+    for (uint32_t i = 0; i < 2 * pairs; i++) expect(kfifo_give(&passes[i], UINT64_MAX - i), KFIFO_DONE, "a value to be left");
+    expect(kfifo_close_values(passes, 2 * pairs, left, K * SEGMENTS - 1, &count), KFIFO_BAD_CALL, "too little room");
+    expect(kfifo_close_values(passes, 2 * pairs - 1, left, K * SEGMENTS, &count), KFIFO_BAD_CALL, "a missing pass");
+    expect(count, 77, "the count of a close that did nothing");
+    expect(kfifo_close_values(passes, 2 * pairs, left, K * SEGMENTS, &count), KFIFO_DONE, "close");
+    expect(count, 2 * pairs, "values left");
+    uint64_t seen = 0;
+    for (size_t i = 0; i < count; i++) seen |= UINT64_C(1) << (UINT64_MAX - left[i]);
+    expect(seen, (UINT64_C(1) << (2 * pairs)) - 1, "which values are left");
+    expect(kfifo_give(&passes[0], 1), KFIFO_BAD_CALL, "a closed handle");
+    expect(kfifo_take(&passes[0], &left[0]), KFIFO_BAD_CALL, "a closed handle of a take");
+}
+
+/* One thread gives and another takes: each comes by the tokens that the other lays down, far beyond its own. */
+static void tokens(void) {
+    kfifo_value_pass two[2];
+    uint64_t value = 77;
+    expect(kfifo_open_values(4, 8, 3, two, 2), KFIFO_DONE, "open for tokens");
+    for (uint64_t round = 0; round < 1000; round++) {
+        for (uint64_t i = 0; i < 3; i++) expect(kfifo_give(&two[0], round), KFIFO_DONE, "a give with a token");
+        expect(kfifo_give(&two[0], 1), KFIFO_NO_TOKEN, "a give without one");
+        for (uint64_t i = 0; i < 3; i++) expect(kfifo_take(&two[1], &value), KFIFO_GOT, "a take that lays a token down");
+        expect(value, round, "the value that was given");
+    }
+    value = 77;
+    expect(kfifo_take(&two[1], &value), KFIFO_EMPTY, "an empty queue");
+    expect(value, 77, "the value of a take that got none");
+    kfifo_abandon_values(two, 2);
+}
+
+static void refusals(void) {
+    static kfifo_value_pass one, many[65];
+    static uint64_t left[2048];
+    uint64_t value = 77;
+    void *pointer = &value;
+    size_t count = 77;
+    expect(kfifo_open_values(0, 2, 1, &one, 1), KFIFO_BAD_K, "k 0");
+    expect(kfifo_open_values(65, 2, 1, &one, 1), KFIFO_BAD_K, "k 65");
+    expect(kfifo_open_values(1, 1, 1, &one, 1), KFIFO_BAD_SEGMENTS, "segments 1");
+    expect(kfifo_open_values(1, 1025, 1, &one, 1), KFIFO_BAD_SEGMENTS, "segments 1025");
+    expect(kfifo_open_values(1, 2, 0, &one, 1), KFIFO_BAD_TOKENS, "tokens 0");
+    expect(kfifo_open_values(1, 2, 1025, &one, 1), KFIFO_BAD_TOKENS, "tokens 1025");
+    expect(kfifo_open_values(1, 2, 1, many, 0), KFIFO_BAD_THREADS, "threads 0");
+    expect(kfifo_open_values(1, 2, 1, many, 65), KFIFO_BAD_THREADS, "threads 65");
+    expect(kfifo_open_values(1, 2, 1, NULL, 1), KFIFO_BAD_CALL, "no passes");
+    expect(kfifo_give(&one, 1), KFIFO_BAD_CALL, "a handle that a refused open left");
+    expect(kfifo_open_values(1, 2, 1024, &one, 1), KFIFO_DONE, "the most tokens");
+    expect(kfifo_give(NULL, 1), KFIFO_BAD_CALL, "no pass");
+    expect(kfifo_take(&one, NULL), KFIFO_BAD_CALL, "no value");
+    expect(kfifo_take(NULL, &value), KFIFO_BAD_CALL, "no pass to take by");
+    expect(kfifo_give(&one, 0), KFIFO_DONE, "value 0");
+    expect(kfifo_give_pointer(&one, &value), KFIFO_DONE, "a pointer");
+    expect(kfifo_give(&one, 3), KFIFO_FULL, "full");
+    expect(kfifo_take(&one, &value), KFIFO_GOT, "got");
+    expect(value, 0, "the first value");
+    expect(kfifo_take_pointer(&one, NULL), KFIFO_BAD_CALL, "no pointer");
+    expect(kfifo_take_pointer(&one, &pointer), KFIFO_GOT, "the pointer");
+    expect(pointer == &value, 1, "which pointer");
+    expect(kfifo_close_values(NULL, 1, left, 2, &count), KFIFO_BAD_CALL, "no passes to close");
+    expect(kfifo_close_values(&one, 1, NULL, 2, &count), KFIFO_BAD_CALL, "no values");
+    expect(kfifo_close_values(&one, 1, left, 2, NULL), KFIFO_BAD_CALL, "no count");
+    expect(kfifo_close_values(&one, 0, left, 2, &count), KFIFO_BAD_CALL, "a close by no handle");
+    expect(kfifo_abandon_values(NULL, 1), KFIFO_BAD_CALL, "no passes to abandon");
+    expect(kfifo_abandon_values(&one, 1), KFIFO_DONE, "abandon");
+    expect(kfifo_abandon_values(&one, 1), KFIFO_DONE, "abandon again");
+    expect(kfifo_open_values(1, 2, 2, many, 64), KFIFO_DONE, "64 threads");
+    expect(kfifo_give(&many[63], 5), KFIFO_DONE, "the last thread gives");
+    expect(kfifo_close_values(many, 64, left, 2, &count), KFIFO_DONE, "close 64");
+    expect(count, 1, "values left of 64 threads");
+    expect(left[0], 5, "the value left of 64 threads");
+}
+
+/* A queue whose versions are used up, and a close by handles of two queues. */
+static void ends(void) {
+    kfifo_value_pass one = {0}, first[2], second[2], mixed[2];
+    uint64_t left[2], value = 0;
+    size_t count = 77;
+    kfifo_status status = KFIFO_DONE;
+    expect(kfifo_c_open_values(1, 2, 1, 2, 4, &one, 1), KFIFO_DONE, "open for few versions");
+    for (int i = 0; i < 100 && status != KFIFO_WORN; i++) status = i % 3 == 2 ? kfifo_take(&one, &value) : kfifo_give(&one, (uint64_t)i);
+    expect(status, KFIFO_WORN, "worn");
+    expect(kfifo_close_values(&one, 1, left, 2, &count), KFIFO_DONE, "close a worn queue");
+    expect(kfifo_open_values(1, 2, 1, first, 2), KFIFO_DONE, "open the first");
+    expect(kfifo_open_values(1, 2, 1, second, 2), KFIFO_DONE, "open the second");
+    count = 77;
+    mixed[0] = first[0];
+    mixed[1] = second[1];
+    expect(kfifo_close_values(mixed, 2, left, 2, &count), KFIFO_BAD_CALL, "a close by handles of two queues");
+    expect(count, 77, "the count of a close by handles of two queues");
+    first[0] = mixed[0];
+    second[1] = mixed[1];
+    kfifo_abandon_values(&second[1], 1);
+    expect(kfifo_close_values(second, 2, left, 2, &count), KFIFO_BAD_CALL, "a closed handle among those of a close");
+    expect(kfifo_give(&second[0], 9), KFIFO_DONE, "the open one still works");
+    kfifo_abandon_values(second, 2);
+    expect(kfifo_close_values(first, 2, left, 2, &count), KFIFO_DONE, "close the first");
+    expect(count, 0, "values left in the first");
+}
+
+int main(void) {
+    refusals();
+    tokens();
+    ends();
+    for (uint32_t pairs = 1; pairs <= MOST; pairs *= 2) run(pairs);
+    printf("%s\n", failed ? "the queue of values fails" : "1, 2 and 4 producers and as many consumers: each value came out once");
+    return failed;
+}

@@ -1,0 +1,10 @@
+//! Queues of values for C: 64-bit numbers, or pointers as such numbers.
+pub(crate) mod address;
+pub(crate) mod calls;
+pub(crate) mod closing;
+pub(crate) mod handle;
+pub(crate) mod held;
+pub(crate) mod lent;
+pub(crate) mod opening;
+pub(crate) mod seat;
+pub(crate) mod status;

@@ -1,0 +1,55 @@
+//! The calls of C by one handle of a queue of values.
+ghost use Rattle.std.specs.Prelude.{◌≡◌, ℕ, ⊤, None, Option, All};
+ghost use Rattle.kfifo_live.specs.declared.payload.Given.{Given as HasGiven};
+ghost use Rattle.kfifo_live.specs.declared.payload.Taken.{Taken as HasTaken};
+ghost use Rattle.kfifo_c.specs.Exports.{Tries};
+ghost use Rattle.kfifo_c.specs.Values.{GivesValue, TakesValue, given_number, taken_number, value_after};
+
+use crate::status::BAD_CALL;
+use crate::value_queue::handle::ValueHandle;
+use crate::value_queue::status::{given_status, taken_status};
+use kfifo_live::Taken;
+use std::alloc::Global;
+
+/// Gives a value to the queue of the handle: `PayHandle::give`, and its answer's number. BAD_CALL, with nothing done, where the
+/// handle is closed.
+#[unsafe(no_mangle)]
+pub extern "C" fn kfifo_c_give(pass: &mut ValueHandle, value: u64) -> u32
+    ensures answer { (answer : Option (HasGiven ℕ)) × (result ≡ given_number answer)
+        × Tries (λ _. ⊤) (GivesValue value) answer pass.old.held.value pass.new.held.value }
+    ensures address { pass.new.address ≡ pass.old.address }
+{
+    if pass.starts == 0 {
+        return BAD_CALL;
+    }
+    let given = pass.held.seat_mut().give(value);
+    given_status(&given)
+}
+
+/// Takes one of the k oldest values out of the queue of the handle: `PayHandle::take`, and its answer's number; the value is written
+/// where there is one. BAD_CALL, with nothing done, where the handle is closed.
+#[unsafe(no_mangle)]
+pub extern "C" fn kfifo_c_take(pass: &mut ValueHandle, value: &mut u64) -> u32
+    ensures answer { (answer : Option (HasTaken ℕ)) × (result ≡ taken_number answer) × (value.new ≡ value_after value.old answer)
+        × Tries (λ _. ⊤) TakesValue answer pass.old.held.value pass.new.held.value }
+    ensures address { pass.new.address ≡ pass.old.address }
+{
+    if pass.starts == 0 {
+        return BAD_CALL;
+    }
+    let taken = pass.held.seat_mut().take();
+    if let Taken::Got(got) = taken {
+        *value = got;
+    }
+    taken_status(&taken)
+}
+
+/// Closes these handles. With the last open handle of a queue the queue goes, and the values that are left in it.
+#[unsafe(no_mangle)]
+pub extern "C" fn kfifo_c_abandon_values(alloc: Global, passes: &mut [ValueHandle])
+    ensures { All (λ pass. pass.held.value ≡ None) passes.new }
+{
+    for pass in passes.iter_mut() {
+        let _seat = pass.take(alloc);
+    }
+}

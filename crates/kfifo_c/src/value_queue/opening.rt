@@ -1,0 +1,117 @@
+//! Opening a queue of values.
+ghost use Rattle.std.specs.Prelude.{◌≡◌, ◌≢◌, ◌<◌, ◌≤◌, ◌⊎◌, ◌↔◌, None, Some, IfSome, IfOk, IsErrOf, All, length, map, reverse};
+ghost use denote.RawPtr.{Ptr};
+ghost use Rattle.kfifo_words.specs.Sizes.{fault_of};
+ghost use Rattle.kfifo_live.specs.Pass.{IsOf};
+ghost use Rattle.kfifo_live.specs.declared.fault.OpenFault.TheVariants.{ThreadsOutOfRange, TokensOutOfRange};
+ghost use Rattle.kfifo_c.specs.ValueHandles.{values_behind};
+ghost use Rattle.kfifo_c.specs.Exports.{shape_number};
+ghost use Rattle.kfifo_c.specs.Values.{value_seats_of, OpensValues, OpensValueSizes};
+
+use crate::address::no_address;
+use crate::status::{BAD_THREADS, DONE, open_status, shape_status};
+use crate::value_queue::handle::ValueHandle;
+use crate::value_queue::seat::ValueSeat;
+use kfifo_live::{OpenFault, PayPass, PayQueue};
+use kfifo_words::Shape;
+use std::alloc::{AllocError, Global};
+use std::sync::Arc;
+
+/// A seat for each pass, the last pass first.
+fn seat_all(
+    alloc: Global,
+    queue: PayQueue<u64>,
+    mut passes: Vec<PayPass<u64>>,
+    threads: u32,
+) -> Result<Vec<Box<ValueSeat, Global>>, AllocError>
+    requires of { All (λ p. IsOf queue p.pass) passes.items }
+    requires threads { threads ≡ queue.opened.threads }
+    ensures { IfOk result (λ seats. reverse (map (λ seat. seat.value) seats.items) ≡ value_seats_of queue passes.items) }
+{
+    let shared = Arc::new(alloc, queue)?;
+    let mut seats = Vec::with_capacity(alloc, passes.len())?;
+    while let Some(pass) = passes.pop() {
+        let queue = Arc::try_clone(&shared)?;
+        let seat = Box::new(alloc, ValueSeat::new(queue, pass, threads))?;
+        seats.push(seat)?;
+    }
+    Ok(seats)
+}
+
+/// The seats of a new queue, that of the last thread first.
+fn open_seats(
+    alloc: Global,
+    shape: Shape,
+    threads: u32,
+    tokens: u32,
+) -> Result<Vec<Box<ValueSeat, Global>>, OpenFault>
+    ensures ok { IfOk result (λ seats. OpensValues shape threads tokens (reverse (map (λ seat. seat.value) seats.items))) }
+    ensures threads { IsErrOf result ThreadsOutOfRange ↔ ((threads ≡ 0) ⊎ (64 < threads)) }
+    ensures tokens { IsErrOf result TokensOutOfRange ↔ ((1 ≤ threads) × (threads ≤ 64) × ((tokens ≡ 0) ⊎ (1024 < tokens))) }
+{
+    let (queue, passes) = PayQueue::open_with_pool(alloc, shape, threads, tokens)?;
+    let seats = seat_all(alloc, queue, passes, threads)?;
+    Ok(seats)
+}
+
+/// Where the queue of these seats is.
+fn address_of_all(seats: &[Box<ValueSeat, Global>]) -> *mut u8 {
+    match seats.first() {
+        Some(seat) => seat.address(),
+        None => no_address(),
+    }
+}
+
+/// Puts the seats behind the handles, the last seat first.
+fn put_all(handles: &mut [ValueHandle], mut seats: Vec<Box<ValueSeat, Global>>, address: *mut u8)
+    requires { length seats.items ≡ length handles.old }
+    ensures behind { values_behind handles.new ≡ map Some (reverse (map (λ seat. seat.value) seats.items)) }
+    ensures address { All (λ handle. handle.address ≡ address) handles.new }
+{
+    for handle in handles.iter_mut() {
+        if let Some(seat) = seats.pop() {
+            *handle = ValueHandle::of(seat, address);
+        }
+    }
+}
+
+/// Opens a queue of values with a pool for as many threads as there are handles, with so many tokens each, and puts a pass behind
+/// each handle, in their order: `PayQueue::open_with_pool`. What was behind them is lost. Else nothing is done: BAD_K, BAD_SEGMENTS,
+/// BAD_LAST or BAD_PROBES where there is no such shape, BAD_THREADS where the handles are not 1 to 64, BAD_TOKENS where the tokens are
+/// not 1 to 1,024, NO_MEMORY where an allocation failed.
+#[unsafe(no_mangle)]
+pub extern "C" fn kfifo_c_open_values(
+    alloc: Global,
+    k: u32,
+    segments: u32,
+    probes: u32,
+    last: u64,
+    tokens: u32,
+    passes: &mut [ValueHandle],
+) -> u32
+    ensures ok { result ≡ 0 → OpensValueSizes k segments last probes (length passes.old) tokens (values_behind passes.new) }
+    ensures address { result ≡ 0 → (address : Ptr) × All (λ pass. pass.address ≡ address) passes.new }
+    ensures refused { result ≢ 0 → passes.new ≡ passes.old }
+    ensures shape { IfSome (fault_of k segments last probes) (λ fault. result ≡ shape_number fault) }
+    ensures threads { fault_of k segments last probes ≡ None → (length passes.old ≡ 0) ⊎ (64 < length passes.old) → result ≡ 8 }
+    ensures tokens { fault_of k segments last probes ≡ None → 1 ≤ length passes.old → length passes.old ≤ 64
+        → (tokens ≡ 0) ⊎ (1024 < tokens) → result ≡ 15 }
+    ensures memory { fault_of k segments last probes ≡ None → 1 ≤ length passes.old → length passes.old ≤ 64 → 1 ≤ tokens → tokens ≤ 1024
+        → (result ≡ 0) ⊎ (result ≡ 7) }
+{
+    let shape = match Shape::with_probes(k, segments, last, probes) {
+        Ok(shape) => shape,
+        Err(fault) => return shape_status(fault),
+    };
+    if passes.len() > 64 {
+        return BAD_THREADS;
+    }
+    match open_seats(alloc, shape, passes.len() as u32, tokens) {
+        Ok(seats) => {
+            let address = address_of_all(seats.as_slice());
+            put_all(passes, seats, address);
+            DONE
+        }
+        Err(fault) => open_status(fault),
+    }
+}

@@ -1,0 +1,103 @@
+//! What a handle of a queue of values stands for.
+ghost use Rattle.std.specs.Prelude.{◌≡◌, ◌*◌};
+ghost use Rattle.kfifo_live.specs.Pass.{IsOf};
+ghost use Rattle.kfifo_c.specs.ValueSeats.{ValueSeated, value_seated};
+ghost use Rattle.kfifo_c.specs.Values.{GivesValue, TakesValue};
+
+use crate::value_queue::address::value_address_of;
+use kfifo_live::{Given, PayHandle, PayPass, PayQueue, Taken};
+use std::alloc::Global;
+use std::marker::Model;
+use std::sync::Arc;
+
+/// A pass with the starts and rounds of its calls, a part in the queue that it is of, and the number of that queue's passes.
+#[derive(Drop)]
+pub struct ValueSeat {
+    pub(crate) queue: Arc<PayQueue<u64>, Global>,
+    pub(crate) handle: PayHandle<u64>,
+    pub(crate) threads: u32,
+    // Each call writes to its seat. This keeps the seats of two threads from lying in one line of the cache.
+    pub(crate) apart: [u64; 8],
+}
+
+impl Model for ValueSeat {
+    ghost Value = { ValueSeated };
+
+    ghost view = { λ s. record { queue = s.queue.value; held = s.handle } };
+
+    ghost invariant = { λ s. IsOf s.queue.value s.handle.pass.pass × (s.threads ≡ s.queue.value.opened.threads) };
+}
+
+impl ValueSeat {
+    /// A seat for this pass of a queue of so many.
+    pub(crate) fn new(
+        queue: Arc<PayQueue<u64>, Global>,
+        pass: PayPass<u64>,
+        threads: u32,
+    ) -> ValueSeat
+        requires of { IsOf queue.value pass.pass }
+        requires threads { threads ≡ queue.value.opened.threads }
+        ensures { result ≡ value_seated queue.value pass }
+    {
+        let handle = PayHandle::new(&queue, pass);
+        ValueSeat {
+            queue,
+            handle,
+            threads,
+            apart: [0; 8],
+        }
+    }
+
+    /// The number of the queue's passes.
+    pub(crate) fn threads(&self) -> u32
+        ensures { result ≡ self.now.queue.opened.threads }
+    {
+        self.threads
+    }
+
+    /// Slots in a segment of the queue.
+    pub(crate) fn k(&self) -> u32
+        ensures { result ≡ self.now.queue.opened.shape.k }
+    {
+        self.queue.shape().k()
+    }
+
+    /// Where the queue is.
+    pub(crate) fn address(&self) -> *mut u8 {
+        value_address_of(&self.queue)
+    }
+
+    /// How many slots the queue has.
+    pub(crate) fn slots(&self) -> usize
+        ensures { result ≡ self.now.queue.opened.shape.n * self.now.queue.opened.shape.k }
+    {
+        let shape = self.queue.shape();
+        shape.n() as usize * shape.k() as usize
+    }
+
+    /// The part in the queue, and the pass.
+    pub(crate) fn into_parts(self) -> (Arc<PayQueue<u64>, Global>, PayPass<u64>)
+        ensures queue { result.0.value ≡ self.queue }
+        ensures pass { result.1 ≡ self.held.pass }
+        ensures of { IsOf self.queue result.1.pass }
+    {
+        let ValueSeat { queue, handle, .. } = self;
+        (queue, handle.into_pass())
+    }
+
+    /// Gives a value to the queue.
+    #[inline(always)]
+    pub(crate) fn give(&mut self, value: u64) -> Given<u64>
+        ensures { GivesValue value result self.old self.new }
+    {
+        self.handle.give(&self.queue, value)
+    }
+
+    /// Takes one of the k oldest values.
+    #[inline(always)]
+    pub(crate) fn take(&mut self) -> Taken<u64>
+        ensures { TakesValue result self.old self.new }
+    {
+        self.handle.take(&self.queue)
+    }
+}

@@ -1,0 +1,140 @@
+//! Why a call was refused.
+use std::error::Error;
+use std::fmt::{self, Debug, Display, Formatter};
+
+/// Why a queue was not opened.
+///
+/// ```
+/// use kfifo::{OpenError, Queue};
+///
+/// assert_eq!(Queue::<String>::new(0, 16, 2).err(), Some(OpenError::KOutOfRange));
+/// ```
+#[derive(Clone, Copy, Debug, PartialEq, Eq)]
+#[non_exhaustive]
+pub enum OpenError {
+    /// k is not 1 to 64.
+    KOutOfRange,
+    /// The number of segments is not 2 to 1,024.
+    SegmentsOutOfRange,
+    /// The number of handles is not 1 to 64.
+    ThreadsOutOfRange,
+    /// The number of tokens a handle is not 1 to 1,024.
+    TokensOutOfRange,
+    /// An allocation failed.
+    OutOfMemory,
+}
+
+impl Display for OpenError {
+    fn fmt(&self, f: &mut Formatter<'_>) -> fmt::Result {
+        f.write_str(match self {
+            OpenError::KOutOfRange => "k is not 1 to 64",
+            OpenError::SegmentsOutOfRange => "the number of segments is not 2 to 1,024",
+            OpenError::ThreadsOutOfRange => "the number of handles is not 1 to 64",
+            OpenError::TokensOutOfRange => "the number of tokens a handle is not 1 to 1,024",
+            OpenError::OutOfMemory => "an allocation failed",
+        })
+    }
+}
+
+impl Error for OpenError {}
+
+/// Why a value was not put. It holds the value.
+///
+/// ```
+/// use kfifo::{PushError, Queue};
+///
+/// let queue = Queue::new(1, 2, 1)?;
+/// let handle = queue.handle().expect("a handle is free");
+/// handle.push("first").expect("there is room");
+/// handle.push("second").expect("there is room");
+/// assert_eq!(handle.push("third"), Err(PushError::Full("third")));
+/// # Ok::<(), kfifo::OpenError>(())
+/// ```
+#[derive(Clone, Copy, PartialEq, Eq)]
+pub enum PushError<T> {
+    /// The ring was seen full.
+    Full(T),
+    /// Each round of the call was lost to other threads.
+    Busy(T),
+    /// The versions of the queue's words are used up. Open another queue.
+    Worn(T),
+    /// The handle has no token, and none was there to be picked up: its values, as many as it has tokens, are all still in the queue.
+    NoToken(T),
+}
+
+impl<T> PushError<T> {
+    /// The value that was not put.
+    ///
+    /// ```
+    /// assert_eq!(kfifo::PushError::Full(7).into_inner(), 7);
+    /// ```
+    pub fn into_inner(self) -> T {
+        match self {
+            PushError::Full(value)
+            | PushError::Busy(value)
+            | PushError::Worn(value)
+            | PushError::NoToken(value) => value,
+        }
+    }
+
+    fn text(&self) -> &'static str {
+        match self {
+            PushError::Full(_) => "the queue was full",
+            PushError::Busy(_) => "each round was lost to other threads",
+            PushError::Worn(_) => "the versions of the queue are used up",
+            PushError::NoToken(_) => "the handle has no token",
+        }
+    }
+}
+
+// As with the errors of `std::sync::mpsc`, the value need not be printable.
+impl<T> Debug for PushError<T> {
+    fn fmt(&self, f: &mut Formatter<'_>) -> fmt::Result {
+        f.write_str(match self {
+            PushError::Full(_) => "Full(..)",
+            PushError::Busy(_) => "Busy(..)",
+            PushError::Worn(_) => "Worn(..)",
+            PushError::NoToken(_) => "NoToken(..)",
+        })
+    }
+}
+
+impl<T> Display for PushError<T> {
+    fn fmt(&self, f: &mut Formatter<'_>) -> fmt::Result {
+        f.write_str(self.text())
+    }
+}
+
+impl<T> Error for PushError<T> {}
+
+/// Why no value was taken.
+///
+/// ```
+/// use kfifo::{PopError, Queue};
+///
+/// let queue = Queue::<u64>::new(4, 16, 1)?;
+/// let handle = queue.handle().expect("a handle is free");
+/// assert_eq!(handle.pop(), Err(PopError::Empty));
+/// # Ok::<(), kfifo::OpenError>(())
+/// ```
+#[derive(Clone, Copy, Debug, PartialEq, Eq)]
+pub enum PopError {
+    /// The queue was empty.
+    Empty,
+    /// Each round of the call was lost to other threads.
+    Busy,
+    /// The versions of the queue's words are used up. `Queue::into_values` gives back what is left.
+    Worn,
+}
+
+impl Display for PopError {
+    fn fmt(&self, f: &mut Formatter<'_>) -> fmt::Result {
+        f.write_str(match self {
+            PopError::Empty => "the queue was empty",
+            PopError::Busy => "each round was lost to other threads",
+            PopError::Worn => "the versions of the queue are used up",
+        })
+    }
+}
+
+impl Error for PopError {}

@@ -1,0 +1,235 @@
+//! A bounded lock-free k-FIFO queue of values, for many threads: a value that is taken is one of the k oldest.
+//!
+//! The queue itself is proved, down to its atomic words. This crate is a wrapper around its C library and is not proved; its README says
+//! what rests on what.
+//!
+//! ```
+//! use kfifo::Queue;
+//! use std::thread;
+//!
+//! let queue = Queue::new(4, 64, 2)?; // k, segments, handles
+//! let producer = queue.handle().expect("a handle is free");
+//! let consumer = queue.handle().expect("a handle is free");
+//! thread::scope(|scope| {
+//!     scope.spawn(move || {
+//!         for number in 0..100 {
+//!             producer.push(number).expect("100 values fit");
+//!         }
+//!     });
+//! });
+//! let mut sum = 0;
+//! while let Ok(number) = consumer.pop() {
+//!     sum += number;
+//! }
+//! assert_eq!(sum, 4950);
+//! # Ok::<(), kfifo::OpenError>(())
+//! ```
+#![warn(missing_docs)]
+
+mod error;
+mod ffi;
+mod shared;
+
+pub use error::{OpenError, PopError, PushError};
+
+use shared::Shared;
+use std::cell::Cell;
+use std::fmt::{self, Debug, Formatter};
+use std::marker::PhantomData;
+use std::sync::Arc;
+
+/// The greatest number of tokens a handle.
+///
+/// ```
+/// let queue = kfifo::Queue::<u8>::with_tokens(4, 16, 2, kfifo::MAX_TOKENS)?;
+/// # Ok::<(), kfifo::OpenError>(())
+/// ```
+pub const MAX_TOKENS: u32 = 1024;
+
+/// A queue of values.
+///
+/// Each thread makes its calls by a [`Handle`] of its own. The queue goes with the last of the `Queue` and its handles, and the values that
+/// are left in it are dropped then.
+///
+/// ```
+/// use kfifo::Queue;
+///
+/// let queue = Queue::new(4, 64, 2)?;
+/// let handle = queue.handle().expect("a handle is free");
+/// handle.push(String::from("a value")).expect("there is room");
+/// assert_eq!(handle.pop(), Ok(String::from("a value")));
+/// # Ok::<(), kfifo::OpenError>(())
+/// ```
+pub struct Queue<T> {
+    shared: Arc<Shared<T>>,
+}
+
+impl<T> Queue<T> {
+    /// Opens a queue of `segments` segments, 2 to 1,024, of k slots, 1 to 64, with so many handles, 1 to 64.
+    ///
+    /// Each handle has a token for each slot and one more, 1,024 at most, so that a queue that is full says so.
+    ///
+    /// ```
+    /// let queue = kfifo::Queue::<u64>::new(4, 256, 8)?;
+    /// # Ok::<(), kfifo::OpenError>(())
+    /// ```
+    pub fn new(k: u32, segments: u32, handles: usize) -> Result<Queue<T>, OpenError> {
+        let enough = u64::from(k) * u64::from(segments) + 1;
+        Queue::with_tokens(
+            k,
+            segments,
+            handles,
+            enough.min(u64::from(MAX_TOKENS)) as u32,
+        )
+    }
+
+    /// As [`Queue::new`], with a number of tokens a handle, 1 to 1,024.
+    ///
+    /// A value in the queue has a token. The handle that takes the value gets the token, and lays it down for the others where it then has
+    /// more than it began with. So the values that one handle has put and nobody has taken are about `tokens` at most.
+    ///
+    /// ```
+    /// use kfifo::{PushError, Queue};
+    ///
+    /// let queue = Queue::with_tokens(4, 64, 2, 1)?;
+    /// let handle = queue.handle().expect("a handle is free");
+    /// handle.push(1).expect("the handle has a token");
+    /// assert_eq!(handle.push(2), Err(PushError::NoToken(2)));
+    /// # Ok::<(), kfifo::OpenError>(())
+    /// ```
+    pub fn with_tokens(
+        k: u32,
+        segments: u32,
+        handles: usize,
+        tokens: u32,
+    ) -> Result<Queue<T>, OpenError> {
+        let shared = Shared::open(k, segments, handles, tokens)?;
+        Ok(Queue {
+            shared: Arc::new(shared),
+        })
+    }
+
+    /// A handle that nobody has; none where each is in use. A handle that is dropped can be had again.
+    ///
+    /// ```
+    /// let queue = kfifo::Queue::<u64>::new(4, 64, 1)?;
+    /// let handle = queue.handle();
+    /// assert!(handle.is_some() && queue.handle().is_none());
+    /// drop(handle);
+    /// assert!(queue.handle().is_some());
+    /// # Ok::<(), kfifo::OpenError>(())
+    /// ```
+    pub fn handle(&self) -> Option<Handle<T>> {
+        let number = self.shared.borrow_pass()?;
+        Some(Handle {
+            shared: Arc::clone(&self.shared),
+            number,
+            not_sync: PhantomData,
+        })
+    }
+
+    /// Closes the queue and gives back the values that are left. The queue comes back where a handle is still in use.
+    ///
+    /// ```
+    /// let queue = kfifo::Queue::new(1, 64, 1)?;
+    /// let handle = queue.handle().expect("a handle is free");
+    /// handle.push(1).expect("there is room");
+    /// handle.push(2).expect("there is room");
+    /// let queue = queue.into_values().expect_err("a handle is in use");
+    /// drop(handle);
+    /// assert_eq!(queue.into_values().expect("no handle is in use"), [1, 2]);
+    /// # Ok::<(), kfifo::OpenError>(())
+    /// ```
+    pub fn into_values(self) -> Result<Vec<T>, Queue<T>> {
+        match Arc::try_unwrap(self.shared) {
+            Ok(mut shared) => Ok(shared.take_all()),
+            Err(shared) => Err(Queue { shared }),
+        }
+    }
+}
+
+impl<T> Debug for Queue<T> {
+    fn fmt(&self, f: &mut Formatter<'_>) -> fmt::Result {
+        f.debug_struct("Queue").finish_non_exhaustive()
+    }
+}
+
+/// What a thread makes its calls with.
+///
+/// It is `Send`: it may go to another thread. It is not `Sync`: one thread at a time uses it.
+///
+/// ```
+/// use kfifo::Queue;
+/// use std::thread;
+///
+/// let queue = Queue::new(4, 64, 2)?;
+/// let handle = queue.handle().expect("a handle is free");
+/// thread::spawn(move || handle.push(7)).join().expect("no panic").expect("there is room");
+/// assert_eq!(queue.handle().expect("a handle is free").pop(), Ok(7));
+/// # Ok::<(), kfifo::OpenError>(())
+/// ```
+///
+/// ```compile_fail
+/// fn is_sync<T: Sync>() {}
+/// is_sync::<kfifo::Handle<u64>>();
+/// ```
+pub struct Handle<T> {
+    shared: Arc<Shared<T>>,
+    number: usize,
+    not_sync: PhantomData<Cell<()>>,
+}
+
+impl<T> Handle<T> {
+    /// Puts a value into the queue. What is refused hands it back. It never waits or locks.
+    ///
+    /// What this thread wrote before is seen by the thread that takes the value.
+    ///
+    /// ```
+    /// let queue = kfifo::Queue::new(4, 64, 1)?;
+    /// let handle = queue.handle().expect("a handle is free");
+    /// let mut value = vec![1, 2, 3];
+    /// while let Err(refused) = handle.push(value) {
+    ///     value = refused.into_inner();
+    ///     std::thread::yield_now();
+    /// }
+    /// # Ok::<(), kfifo::OpenError>(())
+    /// ```
+    pub fn push(&self, value: T) -> Result<(), PushError<T>> {
+        // SAFETY: this handle alone has its pass, and as it is not `Sync`, no other thread is in a call by it. Nor is this one: no call
+        // runs code of the caller's while it uses the pass.
+        unsafe { self.shared.push(self.number, value) }
+    }
+
+    /// Takes one of the k oldest values. It never waits or locks.
+    ///
+    /// ```
+    /// let queue = kfifo::Queue::new(4, 64, 1)?;
+    /// let handle = queue.handle().expect("a handle is free");
+    /// handle.push('a').expect("there is room");
+    /// assert_eq!(handle.pop(), Ok('a'));
+    /// # Ok::<(), kfifo::OpenError>(())
+    /// ```
+    pub fn pop(&self) -> Result<T, PopError> {
+        // SAFETY: as in `push`.
+        unsafe { self.shared.pop(self.number) }
+    }
+}
+
+impl<T> Drop for Handle<T> {
+    fn drop(&mut self) {
+        self.shared.return_pass(self.number);
+    }
+}
+
+// So that the example of the README is a test too.
+#[cfg(doctest)]
+#[doc = include_str!("../README.md")]
+struct Readme;
+
+impl<T> Debug for Handle<T> {
+    fn fmt(&self, f: &mut Formatter<'_>) -> fmt::Result {
+        f.debug_struct("Handle")
+            .field("number", &self.number)
+            .finish_non_exhaustive()
+    }
+}
