@@ -6,7 +6,7 @@ use Rattle.std.proofs.lemmas.List.{append_assoc, take_more, take_more_set, map-a
 use Rattle.std.proofs.lemmas.List.Elements.{All-cons, All-head, All-nil, All-tail}
 use Rattle.std.proofs.Math.ListN.{set, get_or-map as get_or_map}
 use Rattle.std.proofs.Math.Seq.{map-set_same}
-use Rattle.kfifo_live.specs.Pass.{OpenQueue, IsOf}
+use Rattle.kfifo_live.specs.Pass.{OpenQueue}
 use Rattle.kfifo_live.specs.Payloads.{PayKnown, new_pay_passes, PayCloses}
 use Rattle.kfifo_c.specs.declared.value_queue.handle.ValueHandle.{ValueHandle}
 use Rattle.kfifo_c.specs.ValueHandles.{values_behind, value_addresses}
