@@ -1,12 +1,12 @@
 -- Passes of one queue of values, and handles of it.
-use Rattle.std.proofs.Common.{◌≡◌, ◌<◌, ◌≤◌, ◌+◌, ◌*◌, ◌≢◌, arith, take, sym, ap, subst, ◌∙◌, map, reverse, length, ℕ, zero, suc, List, [], ◌∷◌, ◌++◌, Option, Some, None, IfSome, All, get_or, refl, below_more, true, true≢false, rules}
+use Rattle.std.proofs.Common.{◌≡◌, ◌<◌, ◌≤◌, ◌+◌, ◌*◌, ◌≢◌, arith, take, sym, ap, subst, ◌∙◌, map, reverse, length, ℕ, zero, suc, List, [], ◌∷◌, ◌++◌, Option, Some, None, IfSome, All, get_or, refl, below_more, true, true≢false, rules, nat_lt}
 use Rattle.std.specs.Prelude.{Bool, ◌==◌, ◌&&◌, not}
 use Rattle.std.specs.List.{list_all}
 use Rattle.std.proofs.lemmas.List.{append_assoc, take_more, take_more_set, map-append, length-map, get_or-set_same, get_or-set_other}
 use Rattle.std.proofs.lemmas.List.Elements.{All-cons, All-head, All-nil, All-tail}
 use Rattle.std.proofs.Math.ListN.{set, get_or-map as get_or_map}
 use Rattle.std.proofs.Math.Seq.{map-set_same}
-use Rattle.kfifo_live.specs.Pass.{OpenQueue, IsOf}
+use Rattle.kfifo_live.specs.Pass.{OpenQueue}
 use Rattle.kfifo_live.specs.Payloads.{PayKnown, new_pay_passes, PayCloses}
 use Rattle.kfifo_c.specs.declared.value_queue.handle.ValueHandle.{ValueHandle}
 use Rattle.kfifo_c.specs.ValueHandles.{values_behind, value_addresses}
@@ -72,8 +72,8 @@ open_starts None opens = absurd opens
 open_starts (Some x) opens = λ none. let slots = x.queue.opened.shape.some_slot in absurd (omega arith)
 
 -- the first of some handles is open
-pub begins_at : (hs : List ValueHandle) (d : ValueHandle) (s : ValueSeated) → 0 < length hs → (get_or hs 0 d).held.value ≡ Some s → ValuesBeginWith s.queue (values_behind hs)
-begins_at [] d s below is = absurd (omega arith)
+pub begins_at : (hs : List ValueHandle) (d : ValueHandle) (s : ValueSeated) → nat_lt 0 (length hs) ≡ true → (get_or hs 0 d).held.value ≡ Some s → ValuesBeginWith s.queue (values_behind hs)
+begins_at [] d s below is = absurd (true≢false (sym below))
 begins_at (h ∷ hs) d s below is = subst (λ (o : Option ValueSeated). ValuesBeginWith s.queue (o ∷ values_behind hs)) (sym is) refl
 
 -- the test of all handles

@@ -1,5 +1,5 @@
 -- What C is told of the calls with values, and what these say of the pass behind a handle. The numbers are those of c/kfifo.h.
-use Rattle.std.specs.Prelude.{◌≡◌, ℕ, ◌+◌, ◌*◌, ◌<◌, ◌≤◌, Option, Some, None, IfSome, List, [], ◌∷◌, ◌++◌, map, length, drop, All, ⊤}
+use Rattle.std.specs.Prelude.{◌≡◌, ℕ, ◌*◌, ◌≤◌, Option, Some, None, IfSome, List, [], ◌∷◌, ◌++◌, map, length, drop, All, ⊤}
 use Rattle.kfifo_words.specs.declared.shape.Shape.{Shape}
 use Rattle.kfifo_live.specs.declared.payload.Given.{Given}
 use Rattle.kfifo_live.specs.declared.payload.Given.TheVariants as G
@@ -7,7 +7,7 @@ use Rattle.kfifo_live.specs.declared.payload.Taken.{Taken}
 use Rattle.kfifo_live.specs.declared.payload.Taken.TheVariants as K
 use Rattle.kfifo_live.specs.Calls.{IsDisturbed}
 use Rattle.kfifo_live.specs.Promise.{KeepsPromise}
-use Rattle.kfifo_live.specs.Pass.{OpenQueue, IsOf, IsSame, IsZeroed}
+use Rattle.kfifo_live.specs.Pass.{OpenQueue, IsSame, IsZeroed}
 use Rattle.kfifo_live.specs.Payloads.{PayKnown, pay_opening, new_pay_passes, PayCloses}
 use Rattle.kfifo_live.specs.Handles.{PicksUpAndGives, TakesAndLaysDown, further}
 use Rattle.kfifo_c.specs.ValueSeats.{ValueSeated, value_seated}

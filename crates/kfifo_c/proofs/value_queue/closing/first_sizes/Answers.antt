@@ -1,4 +1,4 @@
-use Rattle.std.proofs.Common.{sym, ap, ◌∙◌, arith}
+use Rattle.std.proofs.Common.{sym, ap, ◌∙◌}
 use Rattle.kfifo_c.proofs.ValuePasses.{something, put_back, same_address, begins_at}
 use Rattle.kfifo_c.proofs.value_queue.closing.first_sizes.Goals as goal
 
@@ -15,7 +15,7 @@ returns-clause-addresses c = same_address c.args.handles.now 0 _ c.in-Some.first
 pub returns-clause-first : goal.returns-clause-first
 returns-clause-first c = (
   c.seat_mut-seat.result.now.queue,
-  begins_at c.args.handles.now c.in-Some.first.now c.seat_mut-seat.result.now (let some = c.in-Some.ensures.item.0 in omega (arith, some))
+  begins_at c.args.handles.now c.in-Some.first.now c.seat_mut-seat.result.now (sym c.in-Some.ensures.item.0)
       (sym (ap (λ h. h.held.value) c.in-Some.ensures.item.1) ∙ c.seat_mut-seat.ensures.value),
   c.threads.ensures,
   c.slots.ensures,

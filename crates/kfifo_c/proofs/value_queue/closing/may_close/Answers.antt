@@ -1,4 +1,4 @@
-use Rattle.std.proofs.Common.{All, ◌≡◌, ◌≤◌, ◌<◌, ◌*◌, ℕ, length, sym, ap, subst, ◌∙◌, arith, rules, true}
+use Rattle.std.proofs.Common.{All, ◌≡◌, ◌≤◌, ◌<◌, ◌*◌, length, sym, ap, subst, ◌∙◌, arith, rules}
 use Rattle.std.proofs.lemmas.List.{length-map}
 use Rattle.kfifo_live.specs.Pass.{OpenQueue}
 use Rattle.kfifo_c.specs.ValueHandles.{values_behind}

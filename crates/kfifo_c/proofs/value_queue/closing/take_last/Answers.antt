@@ -1,4 +1,4 @@
-use Rattle.std.proofs.Common.{◌≡◌, ◌+◌, ◌++◌, ◌∷◌, [], Option, Some, None, MatchOption, get_or, take, length, sym, ap, subst, ◌∙◌, arith}
+use Rattle.std.proofs.Common.{◌≡◌, ◌+◌, Option, Some, None, MatchOption, get_or, take, sym, ap, subst, ◌∙◌, arith}
 use Rattle.kfifo_c.specs.ValueSeats.{ValueSeated}
 use Rattle.kfifo_c.specs.ValueHandles.{values_behind}
 use Rattle.kfifo_c.specs.Values.{last_seat}
