@@ -5,3 +5,5 @@ pub mod Undos
 pub mod Picking
 pub mod Opening
 pub mod Reporting
+pub mod Stepping
+pub mod Tracing

@@ -50,7 +50,7 @@ module _ (shape : Shape) (scripts : List (List Begin)) (picks : List ℕ) (p : P
       let less : undos shape (length scripts) s.events ≤ length s.events = few_undos shape (length scripts) s.events in
       omega (arith, few, less, s.rollbacks)
 
-  sees_is : (thread : ℕ) → sees p thread ≡ event_at thread (place_of p.follower.world thread) (next_call scripts thread s.events)
+  pub sees_is : (thread : ℕ) → sees p thread ≡ event_at thread (place_of p.follower.world thread) (next_call scripts thread s.events)
   sees_is thread =
       ap (λ (x : List (List Begin)). event_at thread (place_of p.follower.world thread) (slice_get (script_of x thread) (get_or p.begun thread 0))) s.scripts_are
       ∙ ap (λ n. event_at thread (place_of p.follower.world thread) (slice_get (script_of scripts thread) n)) (s.begun thread)
@@ -65,7 +65,7 @@ module _ (shape : Shape) (scripts : List (List Begin)) (picks : List ℕ) (p : P
   is_refused thread none = one_more thread ∙ ap (and_then s.events) none
 
   module _ (thread : ℕ) (e : Event) (picks_e : sees p thread ≡ Some e) where
-    makes_event : Makes shape scripts s.events p.follower.world e
+    pub makes_event : Makes shape scripts s.events p.follower.world e
     makes_event = makes shape scripts s.events p.follower.world thread e s.are_scripts within_replay (sym (sees_is thread) ∙ picks_e)
 
     pub own_thread : e.thread ≡ thread

@@ -4,3 +4,5 @@ pub mod Player
 pub mod Reports
 pub mod Finishing
 pub mod Faults
+pub mod Steps
+pub mod Traces

@@ -5,7 +5,11 @@ mod book;
 mod fault;
 mod player;
 mod report;
+mod steps;
+mod tracer;
 
 pub use fault::ReplayFault;
 pub use player::{MAX_CALLS, Replay};
 pub use report::{Report, replay};
+pub use steps::Step;
+pub use tracer::{MAX_STEPS, Tracer};

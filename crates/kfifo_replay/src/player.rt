@@ -2,6 +2,7 @@
 ghost use Rattle.std.specs.Prelude.{◌≡◌, ℕ, ◌+◌, ◌^◌, ◌<◌, ◌≤◌, ◌↔◌, List, [], ◌∷◌, ◌++◌, length, map, replicate, get_or, slice_get, All, sum_by, true, false, IsTrue, IfOk, IfErr, OnOk, OnErr, Err};
 ghost use Rattle.kfifo_words.specs.declared.shape.Shape.{Shape};
 ghost use Rattle.kfifo_machine.specs.declared.event.Begin.{Begin};
+ghost use Rattle.kfifo_machine.specs.Machine.{place_of};
 ghost use Rattle.kfifo_replay.specs.Scripts.{IsCall, IsScript, AreScripts};
 ghost use Rattle.kfifo_replay.specs.Picks.{script_of, event_at};
 ghost use Rattle.kfifo_replay.specs.Player.{StandsFor, IsRefused, Stops, OfItsPicks};
@@ -188,8 +189,29 @@ impl Replay {
         Some(Event { thread, begin })
     }
 
+    /// The number of its threads.
+    pub(crate) fn threads(&self) -> u32
+        ensures { result ≡ length self.now.scripts }
+    {
+        self.scripts.len() as u32
+    }
+
+    /// The number of events that it has made.
+    pub(crate) fn count(&self) -> u64
+        ensures { result ≡ self.now.follower.notes.step }
+    {
+        self.linearizer.steps()
+    }
+
+    /// The event that a pick of this thread makes next; none where the pick is refused.
+    pub(crate) fn next_event(&self, thread: u32) -> Option<Event>
+        ensures { result ≡ event_at thread (place_of self.now.follower.world thread) (slice_get (script_of self.now.scripts thread) (get_or self.now.begun thread 0)) }
+    {
+        self.event(thread, &self.linearizer.place(thread))
+    }
+
     /// Makes the event of this pick, or answers false where it is refused, and stays as it was.
-    fn pick(&mut self, thread: u32) -> bool
+    pub(crate) fn pick(&mut self, thread: u32) -> bool
         ensures made { result ≡ true → OfItsPicks self.old (λ shape scripts earlier. StandsFor shape scripts (earlier ++ thread ∷ []) self.new) }
         ensures refused { result ≡ false → OfItsPicks self.old (λ shape scripts earlier. IsRefused shape scripts earlier thread) }
         ensures unchanged { result ≡ false → self.new ≡ self.old }
