@@ -182,7 +182,13 @@ fn run_workers<L: Tasks + Send + Sync, R: Threads + Sync, G: Gate + Sync>(
     let backs = map_vec(
         threads,
         passes,
-        &|pass| run_one(alloc, queue, pass, shape, seed, gate),
+        &|pass: PayPass<Job<L>>|
+            requires of { IsOf queue.now pass.pass }
+            requires shape { queue.now.opened.shape ≡ shape }
+            ensures same { IsSame pass.pass result.pass.pass }
+            ensures runs { IfOk result.kept (λ kept. PassRuns (G.passed gate.entry.now) shape seed pass result.pass
+                (map (λ done. done.place) kept.items)) }
+        { run_one(alloc, queue, pass, shape, seed, gate) },
     )?;
     Ok(backs)
 }
