@@ -1,4 +1,5 @@
 pub mod Again
 pub mod Passes
+pub mod Running
 pub mod Totals
 pub mod Work

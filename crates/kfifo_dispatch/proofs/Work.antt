@@ -3,7 +3,7 @@ use Rattle.std.proofs.Common.{◌≡◌, ◌≤◌, ◌<◌, ◌^◌, ◌*◌, �
 use Rattle.std.proofs.lemmas.Option.{slice_get_within}
 use Rattle.kfifo_dispatch.specs.declared.task.Task.{Task}
 use Rattle.kfifo_dispatch.specs.Tasks.{work}
-use Rattle.kfifo_dispatch.specs.Jobs.{IsOn, Progress, total_at}
+use Rattle.kfifo_dispatch.specs.Jobs.{IsOn, Progress, id_at, total_at}
 
 work_few : (most left : ℕ) → left ≤ most → work left ≤ left * most
 unfolding work
@@ -19,6 +19,9 @@ begins tasks place task at few small = record {
   comes = refl;
   small = omega (arith, work_few 65535 task.left (omega (arith, few)), small, few);
 }
+
+pub named : (tasks : List Task) (place : ℕ) (task : Task) → slice_get tasks place ≡ Some task → task.id ≡ id_at tasks place
+named tasks place task at = rw at refl
 
 -- one unit of work more
 pub goes_on : (tasks : List Task) (place left sum : ℕ) → 0 < left → IsOn tasks (record { place = place; left = left; sum = sum })

@@ -29,6 +29,14 @@ total_of None = 0
 abbrev pub total_at : List Task → ℕ → ℕ
 total_at tasks place = total_of (slice_get tasks place)
 
+-- the number of the task at this place, 0 of none
+abbrev pub id_of : Option Task → ℕ
+id_of (Some task) = task.id
+id_of None = 0
+
+abbrev pub id_at : List Task → ℕ → ℕ
+id_at tasks place = id_of (slice_get tasks place)
+
 -- of each task nothing, or what it comes to
 pub record AreTotals (tasks : List Task) (sums : List (Option ℕ)) : Type 0 where
   pub count : length sums ≡ length tasks

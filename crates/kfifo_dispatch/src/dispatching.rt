@@ -1,9 +1,11 @@
 //! Tasks worked off by worker threads.
-ghost use Rattle.std.specs.Prelude.{◌≡◌, ◌+◌, ◌<◌, ◌≤◌, ◌⊎◌, ◌↔◌, All, IfOk, IsErrOf, length};
+ghost use Rattle.std.specs.Prelude.{◌≡◌, ◌+◌, ◌<◌, ◌≤◌, ◌⊎◌, ◌↔◌, All, IfOk, IsErrOf, IsOk, length, map};
+ghost use Rattle.std.specs.List.{AllByRecursion};
 ghost use Rattle.kfifo_live.specs.Pass.{IsOf, IsSame};
 ghost use Rattle.kfifo_dispatch.specs.declared.fault.DispatchFault.TheVariants.{RepeatedId, TooManyTasks, WorkersOutOfRange};
 ghost use Rattle.kfifo_dispatch.specs.Tasks.{HasRepeatedId, IsFinishedList};
-ghost use Rattle.kfifo_dispatch.specs.Working.{IsOpened};
+ghost use Rattle.kfifo_dispatch.specs.Running.{AreEach, GivesAll, Runs};
+ghost use Rattle.kfifo_dispatch.specs.Working.{HasRun, IsOpened, PassRuns};
 
 use crate::fault::DispatchFault;
 use crate::finishing::finish;
@@ -11,9 +13,10 @@ use crate::gate::Gate;
 use crate::job::{Done, Job, Tasks};
 use crate::repeats::has_repeated_id;
 use crate::starts::Starts;
+use crate::station::Station;
 use crate::task::{Finished, Task};
-use crate::worker::{Back, Worker};
-use kfifo_live::{Given, OpenFault, PayPass, PayQueue};
+use crate::worker::{Back, Worker, keep, work_off_refused};
+use kfifo_live::{OpenFault, PayPass, PayQueue};
 use kfifo_words::Shape;
 use std::alloc::{AllocError, Global};
 use std::marker::Brand;
@@ -45,6 +48,7 @@ pub fn dispatch<R: Threads + Sync, G: Gate + Sync>(
     gate: &G,
 ) -> Result<Vec<Finished>, DispatchFault>
     ensures ok { IfOk result (λ list. IsFinishedList tasks.now list.items) }
+    ensures run { IfOk result (λ _. HasRun (G.passed gate.now) shape workers seed tasks.now) }
     ensures many { IsErrOf result TooManyTasks ↔ (1024 < length tasks.now) }
     ensures repeated { IsErrOf result RepeatedId ↔ ((length tasks.now ≤ 1024) × HasRepeatedId tasks.now) }
     ensures workers { IsErrOf result WorkersOutOfRange
@@ -76,35 +80,48 @@ fn work_off<L: Tasks + Send + Sync, R: Threads + Sync, G: Gate + Sync>(
     requires tasks { L.tasks ≡ tasks.now }
     requires few { length tasks.now ≤ 1024 }
     requires workers { (1 ≤ workers) × (workers ≤ 63) }
-    ensures { IfOk result (λ list. IsFinishedList tasks.now list.items) }
+    ensures list { IfOk result (λ list. IsFinishedList tasks.now list.items) }
+    ensures run { IfOk result (λ _. HasRun (G.passed gate.now) shape workers seed tasks.now) }
 {
-    let (queue, mut passes) = open::<L>(alloc, shape, workers, tasks.len() as u32)?;
-    let mut own = passes.remove(0);
+    let (queue, mut own, passes) = open::<L>(alloc, shape, workers, tasks.len() as u32)?;
     let mut returned = give_all(alloc, &queue, &mut own, tasks, shape, gate)?;
     let backs = run_workers(threads, alloc, &queue, passes, shape, seed, gate)?;
     gather(&queue, &mut own, backs, &mut returned)?;
     let Ok(left) = queue.close(alloc, own) else {
         return Err(AllocError);
     };
-    for job in left {
-        returned.push(job.work_off(0, gate))?;
-    }
+    finish_left(left, &mut returned, gate)?;
     finish(alloc, tasks, returned, gate)
 }
 
-/// The queue, with a pass for the caller and one for each worker, and as many tokens a pass as there are tasks.
+/// Works off the tasks that were left in the queue.
+fn finish_left<L: Tasks, G: Gate>(
+    left: Vec<Job<L>>,
+    returned: &mut Vec<Done<L>>,
+    gate: &G,
+) -> Result<(), AllocError> {
+    for job in left {
+        returned.push(job.work_off(0, gate))?;
+    }
+    Ok(())
+}
+
+/// The queue, the caller's pass, and one for each worker. Each pass has as many tokens as there are tasks, at least 1.
 fn open<L: Tasks>(
     alloc: Global,
     shape: Shape,
     workers: u32,
     tasks: u32,
-) -> Result<(PayQueue<Job<L>>, Vec<PayPass<Job<L>>>), AllocError>
+) -> Result<(PayQueue<Job<L>>, PayPass<Job<L>>, Vec<PayPass<Job<L>>>), AllocError>
     requires tasks { tasks ≤ 1024 }
     requires workers { (1 ≤ workers) × (workers ≤ 63) }
-    ensures { IfOk result (λ r. IsOpened shape (workers + 1) r.0 r.1.items) }
+    ensures { IfOk result (λ r. IsOpened shape workers tasks r.0 r.1 r.2.items) }
 {
     match PayQueue::open(alloc, shape, workers + 1, tasks.max(1)) {
-        Ok(opened) => Ok(opened),
+        Ok((queue, mut passes)) => {
+            let own = passes.remove(0);
+            Ok((queue, own, passes))
+        }
         Err(OpenFault::Memory) => Err(AllocError),
         Err(
             OpenFault::ThreadsOutOfRange | OpenFault::TokensOutOfRange | OpenFault::CallsOutOfRange,
@@ -113,29 +130,27 @@ fn open<L: Tasks>(
 }
 
 /// Gives the tasks to the queue, in their order. Those that it refuses are worked off here.
-fn give_all<L: Tasks, G: Gate>(
+fn give_all<L: Tasks, G: Gate, P: Station<Job<L>, G>>(
     alloc: Global,
     queue: &PayQueue<Job<L>>,
-    pass: &mut PayPass<Job<L>>,
+    pass: &mut P,
     tasks: &[Task],
     shape: Shape,
     gate: &G,
 ) -> Result<Vec<Done<L>>, AllocError>
     requires tasks { L.tasks ≡ tasks.now }
     requires few { length tasks.now ≤ 1024 }
-    requires of { IsOf queue.now pass.old.pass }
+    requires of { IsOf queue.now (P.known pass.old) }
     requires shape { queue.now.opened.shape ≡ shape }
-    ensures { IsSame pass.old.pass pass.new.pass }
+    ensures same { IsSame (P.known pass.old) (P.known pass.new) }
+    ensures gives { IfOk result (λ returned. GivesAll P.gives (shape.n + 2) 0 tasks.now pass.old pass.new
+        (map (λ done. done.place) returned.items)) }
 {
     let mut returned = Vec::new(alloc);
     for (place, task) in tasks.iter().enumerate() {
         let job = Job::new(place as u16, task.id, task.left, task.sum);
-        match pass.give(queue, job, 0, turns(shape)) {
-            Given::Done => {}
-            Given::Full(job) | Given::Busy(job) | Given::Worn(job) | Given::NoToken(job) => {
-                returned.push(job.work_off(0, gate))?;
-            }
-        }
+        let given = pass.give(queue, job, 0, turns(shape));
+        keep(&mut returned, work_off_refused(given, 0, gate))?;
     }
     Ok(returned)
 }
@@ -156,15 +171,24 @@ fn run_workers<L: Tasks + Send + Sync, R: Threads + Sync, G: Gate + Sync>(
     shape: Shape,
     seed: u64,
     gate: &G,
-) -> Result<Vec<Back<L>>, AllocError>
+) -> Result<Vec<Back<L, PayPass<Job<L>>>>, AllocError>
     requires of { All (λ pass. IsOf queue.now pass.pass) passes.items }
     requires shape { queue.now.opened.shape ≡ shape }
-    ensures { IfOk result (λ backs. All (λ back. IsOf queue.now back.pass.pass) backs.items) }
+    ensures of { IfOk result (λ backs. All (λ back. IsOf queue.now back.pass.pass) backs.items) }
+    ensures run { IfOk result (λ backs. AreEach (λ pass back. IfOk back.kept (λ kept.
+        PassRuns (G.passed gate.now) shape seed pass back.pass (map (λ done. done.place) kept.items)))
+        passes.items backs.items) }
 {
     let backs = map_vec(
         threads,
         passes,
-        &|pass| run_one(alloc, queue, pass, shape, seed, gate),
+        &|pass: PayPass<Job<L>>|
+            requires of { IsOf queue.now pass.pass }
+            requires shape { queue.now.opened.shape ≡ shape }
+            ensures same { IsSame pass.pass result.pass.pass }
+            ensures runs { IfOk result.kept (λ kept. PassRuns (G.passed gate.entry.now) shape seed pass result.pass
+                (map (λ done. done.place) kept.items)) }
+        { run_one(alloc, queue, pass, shape, seed, gate) },
     )?;
     Ok(backs)
 }
@@ -177,12 +201,32 @@ fn run_one<L: Tasks, G: Gate>(
     shape: Shape,
     seed: u64,
     gate: &G,
-) -> Back<L>
+) -> Back<L, PayPass<Job<L>>>
     requires of { IsOf queue.now pass.pass }
     requires shape { queue.now.opened.shape ≡ shape }
-    ensures { IsSame pass.pass result.pass.pass }
+    ensures same { IsSame pass.pass result.pass.pass }
+    ensures runs { IfOk result.kept (λ kept. PassRuns (G.passed gate.now) shape seed pass result.pass
+        (map (λ done. done.place) kept.items)) }
 {
-    let starts = Starts::new(seed, pass.thread(), shape.k());
+    run_at_station(alloc, queue, pass, shape, seed, gate)
+}
+
+/// Runs the worker of this station, whose starts are those of its number.
+fn run_at_station<L: Tasks, G: Gate, P: Station<Job<L>, G> + Drop>(
+    alloc: Global,
+    queue: &PayQueue<Job<L>>,
+    pass: P,
+    shape: Shape,
+    seed: u64,
+    gate: &G,
+) -> Back<L, P>
+    requires of { IsOf queue.now (P.known pass) }
+    requires shape { queue.now.opened.shape ≡ shape }
+    ensures same { IsSame (P.known pass) (P.known result.pass) }
+    ensures runs { IfOk result.kept (λ kept. Runs (P.passes gate.now) P.takes P.gives shape seed
+        (P.known pass).thread pass result.pass (map (λ done. done.place) kept.items)) }
+{
+    let starts = Starts::new(seed, pass.worker(), shape.k());
     let turns = turns(shape);
     let worker = Worker {
         pass,
@@ -196,12 +240,13 @@ fn run_one<L: Tasks, G: Gate>(
 fn gather<L: Tasks>(
     queue: &PayQueue<Job<L>>,
     own: &mut PayPass<Job<L>>,
-    backs: Vec<Back<L>>,
+    backs: Vec<Back<L, PayPass<Job<L>>>>,
     returned: &mut Vec<Done<L>>,
 ) -> Result<(), AllocError>
     requires own { IsOf queue.now own.old.pass }
     requires of { All (λ back. IsOf queue.now back.pass.pass) backs.items }
-    ensures { IsSame own.old.pass own.new.pass }
+    ensures same { IsSame own.old.pass own.new.pass }
+    ensures all { IfOk result (λ _. AllByRecursion (λ back. IsOk back.kept) backs.items) }
 {
     for mut back in backs {
         queue.meet(&mut back.pass, own);

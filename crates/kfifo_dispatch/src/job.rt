@@ -1,7 +1,7 @@
 //! A task on its way from worker to worker.
 ghost use Rattle.std.specs.Prelude.{◌≡◌, ◌==◌, ◌<◌, ◌+◌, ◌-◌, ◌^◌, List, [], Some, slice_get, length};
 ghost use Rattle.kfifo_dispatch.specs.declared.task.Task.{Task};
-ghost use Rattle.kfifo_dispatch.specs.Jobs.{Progress, IsOn, IsWorked, total_at};
+ghost use Rattle.kfifo_dispatch.specs.Jobs.{Progress, IsOn, IsWorked, id_at, total_at};
 
 use crate::gate::Gate;
 use crate::task::Task;
@@ -33,7 +33,8 @@ impl<L: Tasks> Model for Job<L> {
 
     ghost view = { λ j. record { place = j.place; left = j.left; sum = j.sum } };
 
-    ghost invariant = { λ j. IsOn L.tasks (record { place = j.place; left = j.left; sum = j.sum }) };
+    ghost invariant = { λ j. IsOn L.tasks (record { place = j.place; left = j.left; sum = j.sum })
+        × (j.id ≡ id_at L.tasks j.place) };
 }
 
 /// A job of which nothing is left.
@@ -85,7 +86,8 @@ impl<L: Tasks> Job<L> {
 
     /// Does a unit of work where one is left, and tells the gate.
     pub(crate) fn work_once<G: Gate>(&mut self, worker: u32, gate: &G)
-        ensures { IsWorked self.old self.new }
+        ensures worked { IsWorked self.old self.new }
+        ensures told { 0 < self.old.left → G.told gate.now worker (id_at L.tasks self.old.place) }
     {
         if !self.is_finished() {
             self.work();
@@ -95,7 +97,8 @@ impl<L: Tasks> Job<L> {
 
     /// Works off all that is left, and tells the gate of each unit.
     pub(crate) fn work_off<G: Gate>(mut self, worker: u32, gate: &G) -> Done<L>
-        ensures { result.place ≡ self.place }
+        ensures place { result.place ≡ self.place }
+        ensures told { 0 < self.left → G.told gate.now worker (id_at L.tasks self.place) }
     {
         for _unit in 0..self.left {
             self.work_once(worker, gate);

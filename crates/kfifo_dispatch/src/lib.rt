@@ -8,6 +8,7 @@ mod gate;
 mod job;
 mod repeats;
 mod starts;
+mod station;
 mod task;
 mod worker;
 

@@ -1,12 +1,15 @@
 //! What a worker does.
-ghost use Rattle.std.specs.Prelude.{◌≡◌, ◌≤◌};
+ghost use Rattle.std.specs.Prelude.{◌≡◌, ◌<◌, ◌≤◌, ◌++◌, IfOk, map};
 ghost use Rattle.kfifo_live.specs.Pass.{IsOf, IsSame};
+ghost use Rattle.kfifo_dispatch.specs.Jobs.{id_at};
+ghost use Rattle.kfifo_dispatch.specs.Running.{IsTurn, Works, WorksAt, kept_after, place_kept};
 ghost use Rattle.kfifo_dispatch.specs.Working.{MayWork};
 
 use crate::gate::Gate;
 use crate::job::{Done, Job, Tasks};
 use crate::starts::Starts;
-use kfifo_live::{Given, PayPass, PayQueue, Taken};
+use crate::station::Station;
+use kfifo_live::{Given, PayQueue, Taken};
 use std::alloc::{AllocError, Global};
 
 /// A worker calls to take a task so many times at most.
@@ -14,29 +17,41 @@ const MOST_TAKES: u32 = 65_536;
 
 /// What a worker works with.
 #[derive(Drop)]
-pub(crate) struct Worker<L: Tasks> {
-    pub(crate) pass: PayPass<Job<L>>,
+pub(crate) struct Worker<P> {
+    pub(crate) pass: P,
     pub(crate) starts: Starts,
     pub(crate) turns: u16,
 }
 
+/// What came of a take: whether the worker goes on, and the task that it then finished, if it did.
+#[derive(Drop)]
+pub(crate) enum Turn<D> {
+    Over,
+    On(Option<D>),
+}
+
 /// What a worker came back with: its pass, and the tasks that it finished.
 #[derive(Drop)]
-pub(crate) struct Back<L: Tasks> {
-    pub(crate) pass: PayPass<Job<L>>,
+pub(crate) struct Back<L: Tasks, P> {
+    pub(crate) pass: P,
     pub(crate) kept: Result<Vec<Done<L>>, AllocError>,
 }
 
-impl<L: Tasks> Worker<L> {
+impl<P> Worker<P> {
     /// Works until the queue is empty, or a version is used up, or the worker has called often enough.
-    pub(crate) fn run<G: Gate>(
+    pub(crate) fn run<L: Tasks, G: Gate>(
         mut self,
         alloc: Global,
         queue: &PayQueue<Job<L>>,
         gate: &G,
-    ) -> Back<L>
-        requires { MayWork queue.now self.pass.pass self.starts self.turns }
-        ensures { IsSame self.pass.pass result.pass.pass }
+    ) -> Back<L, P>
+    where
+        P: Station<Job<L>, G> + Drop,
+        requires { MayWork queue.now (P.known self.pass) self.starts self.turns }
+        ensures same { IsSame (P.known self.pass) (P.known result.pass) }
+        ensures works { IfOk result.kept (λ kept. Works (P.passes gate.now) P.takes P.gives self.turns 65536 1
+            self.pass self.starts result.pass
+            (map (λ done. done.place) kept.items)) }
     {
         let kept = self.work(alloc, queue, gate);
         Back {
@@ -46,53 +61,108 @@ impl<L: Tasks> Worker<L> {
     }
 
     /// Takes tasks, one after the other, and does a unit of work on each.
-    fn work<G: Gate>(
+    fn work<L: Tasks, G: Gate>(
         &mut self,
         alloc: Global,
         queue: &PayQueue<Job<L>>,
         gate: &G,
     ) -> Result<Vec<Done<L>>, AllocError>
-        requires { MayWork queue.now self.old.pass.pass self.old.starts self.old.turns }
-        ensures { IsSame self.old.pass.pass self.new.pass.pass }
+    where
+        P: Station<Job<L>, G> + Drop,
+        requires { MayWork queue.now (P.known self.old.pass) self.old.starts self.old.turns }
+        ensures same { IsSame (P.known self.old.pass) (P.known self.new.pass) }
+        ensures works { IfOk result (λ kept. Works (P.passes gate.now) P.takes P.gives self.old.turns 65536 1
+            self.old.pass self.old.starts self.new.pass
+            (map (λ done. done.place) kept.items)) }
     {
         let mut kept = Vec::new(alloc);
         for call in 0..MOST_TAKES {
-            gate.pass(self.pass.thread(), call + 1);
-            match self.pass.take(queue, self.starts.draw(), self.turns) {
-                Taken::Got(job) => {
-                    if let Some(done) = self.work_at(job, queue, gate) {
-                        kept.push(done)?;
-                    }
-                }
-                Taken::Busy => {}
-                Taken::Empty | Taken::Worn => break,
+            match self.take_once(call + 1, queue, gate) {
+                Turn::Over => return Ok(kept),
+                Turn::On(finished) => keep(&mut kept, finished)?,
             }
         }
         Ok(kept)
     }
 
+    /// Passes the gate, takes a task, and does a unit of work on it.
+    fn take_once<L: Tasks, G: Gate>(
+        &mut self,
+        call: u32,
+        queue: &PayQueue<Job<L>>,
+        gate: &G,
+    ) -> Turn<Done<L>>
+    where
+        P: Station<Job<L>, G> + Drop,
+        requires { MayWork queue.now (P.known self.old.pass) self.old.starts self.old.turns }
+        ensures same { IsSame (P.known self.old.pass) (P.known self.new.pass)
+            × (self.new.starts.k ≡ self.old.starts.k) × (self.new.turns ≡ self.old.turns) }
+        ensures turn { IsTurn (P.passes gate.now) P.takes P.gives self.old.turns call
+            self.old.pass self.old.starts result self.new.pass self.new.starts }
+    {
+        self.pass.pass_gate(gate, call);
+        let start = self.starts.draw();
+        match self.pass.take(queue, start, self.turns) {
+            Taken::Got(job) => Turn::On(self.work_at(job, queue, gate)),
+            Taken::Busy => Turn::On(None),
+            Taken::Empty | Taken::Worn => Turn::Over,
+        }
+    }
+
     /// Does a unit of work on the task. Gives it back to the queue where more is left, and answers it where it is
     /// finished. A task that the queue refuses is worked off here.
-    fn work_at<G: Gate>(
+    fn work_at<L: Tasks, G: Gate>(
         &mut self,
         mut job: Job<L>,
         queue: &PayQueue<Job<L>>,
         gate: &G,
     ) -> Option<Done<L>>
-        requires { MayWork queue.now self.old.pass.pass self.old.starts self.old.turns }
-        ensures { IsSame self.old.pass.pass self.new.pass.pass × (self.new.starts.k ≡ self.old.starts.k)
-            × (self.new.turns ≡ self.old.turns) }
+    where
+        P: Station<Job<L>, G> + Drop,
+        requires { MayWork queue.now (P.known self.old.pass) self.old.starts self.old.turns }
+        ensures same { IsSame (P.known self.old.pass) (P.known self.new.pass)
+            × (self.new.starts.k ≡ self.old.starts.k) × (self.new.turns ≡ self.old.turns) }
+        ensures works { WorksAt (P.passes gate.now) P.takes P.gives self.old.turns job
+            self.old.pass self.old.starts self.new.pass self.new.starts (place_kept result) }
+        ensures told { 0 < job.left → G.told gate.now (P.known self.old.pass).thread (id_at L.tasks job.place) }
     {
-        let worker = self.pass.thread();
+        let worker = self.pass.worker();
         job.work_once(worker, gate);
         if job.is_finished() {
             return Some(job.work_off(worker, gate));
         }
-        match self.pass.give(queue, job, self.starts.draw(), self.turns) {
-            Given::Done => None,
-            Given::Full(job) | Given::Busy(job) | Given::Worn(job) | Given::NoToken(job) => {
-                Some(job.work_off(worker, gate))
-            }
+        let start = self.starts.draw();
+        let given = self.pass.give(queue, job, start, self.turns);
+        work_off_refused(given, worker, gate)
+    }
+}
+
+/// Works off a task that the queue refused.
+pub(crate) fn work_off_refused<L: Tasks, G: Gate>(
+    given: Given<Job<L>>,
+    worker: u32,
+    gate: &G,
+) -> Option<Done<L>>
+    ensures { place_kept result ≡ kept_after given }
+{
+    match given {
+        Given::Done => None,
+        Given::Full(job) | Given::Busy(job) | Given::Worn(job) | Given::NoToken(job) => {
+            Some(job.work_off(worker, gate))
         }
     }
+}
+
+/// Adds a finished task, if there is one, to those that are kept.
+pub(crate) fn keep<L: Tasks>(
+    kept: &mut Vec<Done<L>>,
+    finished: Option<Done<L>>,
+) -> Result<(), AllocError>
+    ensures { IfOk result (λ _. map (λ done. done.place) kept.new.items
+        ≡ map (λ done. done.place) kept.old.items ++ place_kept finished) }
+{
+    if let Some(done) = finished {
+        kept.push(done)?;
+    }
+    Ok(())
 }

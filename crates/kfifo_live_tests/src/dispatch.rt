@@ -76,24 +76,20 @@ fn refuses_in_the_stated_order(rt: HostRuntime) -> Result<(), Fail> {
     check_refusal(&rt, alloc, &apart, 0, DispatchFault::WorkersOutOfRange)
 }
 
-/// Counts the units that each of some workers did, and can hold two of them back.
+/// Counts the units that each of some workers did, and can hold one of them back.
 #[derive(Drop)]
 struct Counting {
     units: [AtomicU64; 3],
-    came: [AtomicU64; 3],
     gave_up: AtomicU64,
-    meets: bool,
     /// Worker 1 waits until worker 2 has done so many units.
     held: u64,
 }
 
 impl Counting {
-    fn new(meets: bool, held: u64) -> Counting {
+    fn new(held: u64) -> Counting {
         Counting {
             units: [AtomicU64::new(0), AtomicU64::new(0), AtomicU64::new(0)],
-            came: [AtomicU64::new(0), AtomicU64::new(0), AtomicU64::new(0)],
             gave_up: AtomicU64::new(0),
-            meets,
             held,
         }
     }
@@ -112,17 +108,7 @@ impl Counting {
 
 impl Gate for Counting {
     fn pass(&self, worker: u32, call: u32) {
-        if call != 1 {
-            return;
-        }
-        if let Some(own) = self.came.get(worker as usize) {
-            own.fetch_add(1, Ordering::SeqCst);
-        }
-        if self.meets {
-            let other = if worker == 1 { 2 } else { 1 };
-            self.wait_for(&self.came[other], 1);
-        }
-        if worker == 1 {
+        if worker == 1 && call == 1 {
             self.wait_for(&self.units[2], self.held);
         }
     }
@@ -134,18 +120,85 @@ impl Gate for Counting {
     }
 }
 
-/// Two workers wait for each other before they take their first tasks.
+/// Lets no worker take a task before all have come, and counts the units of the caller and of the workers.
+#[derive(Drop)]
+struct Meeting {
+    /// The sum of 2^w for each worker w that is to come.
+    wanted: u64,
+    came: AtomicU64,
+    gave_up: AtomicU64,
+    by_caller: AtomicU64,
+    by_workers: AtomicU64,
+}
+
+impl Meeting {
+    /// Workers 1 to `workers`, 63 at most, are to come.
+    fn of(workers: u32) -> Meeting {
+        let most = u64::MAX.wrapping_shr(63u32.wrapping_sub(workers));
+        Meeting {
+            wanted: most & !1,
+            came: AtomicU64::new(0),
+            gave_up: AtomicU64::new(0),
+            by_caller: AtomicU64::new(0),
+            by_workers: AtomicU64::new(0),
+        }
+    }
+}
+
+impl Gate for Meeting {
+    fn pass(&self, worker: u32, call: u32) {
+        if call != 1 {
+            return;
+        }
+        self.came
+            .fetch_add(1u64.wrapping_shl(worker), Ordering::SeqCst);
+        for _look in 0..LOOKS {
+            if self.came.load(Ordering::SeqCst) == self.wanted {
+                return;
+            }
+            yield_now();
+        }
+        self.gave_up.fetch_add(1, Ordering::SeqCst);
+    }
+
+    fn unit(&self, worker: u32, _id: u32) {
+        let units = if worker == 0 {
+            &self.by_caller
+        } else {
+            &self.by_workers
+        };
+        units.fetch_add(1, Ordering::SeqCst);
+    }
+}
+
+/// So many workers wait for each other before they take their first tasks, and do all units of two tasks for each.
+fn check_meeting<R: Threads + Abort + Sync>(
+    rt: &R,
+    alloc: Global,
+    workers: u32,
+) -> Result<(), Fail> {
+    let shape = Shape::new(2, 64, MAX_VERSION)?;
+    let gate = Meeting::of(workers);
+    let mut tasks = Vec::new(alloc);
+    for id in 0..workers.wrapping_mul(2) {
+        tasks.push(task(id, 3, 0))?;
+    }
+    let done = dispatch(rt, alloc, tasks.as_slice(), workers, shape, 0, &gate)?;
+    assert_eq!(rt; done.len(), tasks.len());
+    assert!(rt; done.iter().all(|each| each.sum == 6));
+    assert_eq!(rt; gate.gave_up.load(Ordering::SeqCst), 0);
+    assert_eq!(rt; gate.by_caller.load(Ordering::SeqCst), 0);
+    let units = u64::from(workers).wrapping_mul(6);
+    assert_eq!(rt; gate.by_workers.load(Ordering::SeqCst), units);
+    Ok(())
+}
+
+/// As many workers as were asked for run at the same time, and they do the work, not the caller.
 #[test]
 fn workers_run_at_the_same_time(rt: HostRuntime) -> Result<(), Fail> {
-    let shape = Shape::new(2, 2, MAX_VERSION)?;
-    let gate = Counting::new(true, 0);
-    let tasks = [task(1, 2, 0), task(2, 2, 0)];
-    let done = dispatch(&rt, rt.alloc(), tasks.as_slice(), 2, shape, 0, &gate)?;
-    assert_eq!(rt;
-        done.as_slice(),
-        [finished(1, 3), finished(2, 3)].as_slice()
-    );
-    assert_eq!(rt; gate.gave_up.load(Ordering::SeqCst), 0);
+    for workers in &[1u32, 5, 63] {
+        check_meeting(&rt, rt.alloc(), *workers)?;
+    }
     Ok(())
 }
 
@@ -153,7 +206,7 @@ fn workers_run_at_the_same_time(rt: HostRuntime) -> Result<(), Fail> {
 #[test]
 fn one_worker_does_the_work_of_another(rt: HostRuntime) -> Result<(), Fail> {
     let shape = Shape::new(2, 2, MAX_VERSION)?;
-    let gate = Counting::new(false, 4);
+    let gate = Counting::new(4);
     let tasks = [task(1, 2, 0), task(2, 2, 0)];
     let done = dispatch(&rt, rt.alloc(), tasks.as_slice(), 2, shape, 0, &gate)?;
     assert_eq!(rt;
@@ -260,7 +313,7 @@ fn the_seed_picks_the_starts(rt: HostRuntime) -> Result<(), Fail> {
 #[test]
 fn the_caller_works_off_what_is_refused(rt: HostRuntime) -> Result<(), Fail> {
     let shape = Shape::new(1, 2, MAX_VERSION)?;
-    let gate = Counting::new(false, 0);
+    let gate = Counting::new(0);
     let tasks = [task(1, 2, 0), task(2, 3, 0), task(3, 4, 0)];
     let done = dispatch(&rt, rt.alloc(), tasks.as_slice(), 1, shape, 0, &gate)?;
     let list = [finished(1, 3), finished(2, 6), finished(3, 10)];
@@ -274,7 +327,7 @@ fn the_caller_works_off_what_is_refused(rt: HostRuntime) -> Result<(), Fail> {
 #[test]
 fn a_worker_takes_so_often_at_most(rt: HostRuntime) -> Result<(), Fail> {
     let shape = Shape::new(2, 2, MAX_VERSION)?;
-    let gate = Counting::new(false, 0);
+    let gate = Counting::new(0);
     let tasks = [task(1, 65_535, 0), task(2, 65_535, 0)];
     let done = dispatch(&rt, rt.alloc(), tasks.as_slice(), 1, shape, 0, &gate)?;
     let sum = 2_147_450_880;
@@ -291,7 +344,7 @@ fn a_worker_takes_so_often_at_most(rt: HostRuntime) -> Result<(), Fail> {
 #[test]
 fn a_worn_queue_leaves_the_work_to_the_caller(rt: HostRuntime) -> Result<(), Fail> {
     let shape = Shape::new(1, 2, 2)?;
-    let gate = Counting::new(false, 0);
+    let gate = Counting::new(0);
     let tasks = [task(1, 9, 0), task(2, 9, 0)];
     let done = dispatch(&rt, rt.alloc(), tasks.as_slice(), 1, shape, 0, &gate)?;
     assert_eq!(rt;

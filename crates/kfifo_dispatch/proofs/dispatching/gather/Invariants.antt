@@ -1,3 +1,5 @@
+use Rattle.std.proofs.Common.{IsOk}
+use Rattle.std.specs.List.{AllByRecursion}
 use Rattle.kfifo_live.specs.Pass.{IsSame}
 use Rattle.kfifo_dispatch.proofs.dispatching.gather.Given as goal
 
@@ -8,3 +10,4 @@ invariant-loop-done g l =
 abbrev pub invariant-loop-back : goal.invariant-loop-back
 invariant-loop-back g l =
     (goal.iterator-loop-back g).can_next l.back-iterator × (goal.iterator-loop-back g).is_finite l.back-iterator × IsSame l.fn.own.pass l.own.pass
+    × AllByRecursion (λ b. IsOk b.kept) l.yielded
