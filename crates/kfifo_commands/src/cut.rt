@@ -6,7 +6,7 @@ ghost use Rattle.kfifo_import.specs.declared.log.LoggedCall.{LoggedCall as Logge
 ghost use Rattle.kfifo_model.specs.declared.calls.Call.{Call as CallData};
 ghost use Rattle.kfifo_texts.specs.declared.stretch.Stretch.{Stretch as StretchData};
 ghost use Rattle.kfifo_texts.specs.Stretches.{WritesStretch};
-ghost use Rattle.std.specs.Prelude.{List};
+ghost use Rattle.std.specs.Prelude.{List, ℕ};
 
 use crate::options::DrawOptions;
 use kfifo_draw::Part;
@@ -85,8 +85,8 @@ pub(crate) fn cut_of(options: DrawOptions<'_>) -> Result<Cut, Fault>
 
 /// The part of a history that is to be drawn, where the evidence names these calls.
 pub(crate) fn part_of<'a>(cut: Cut, named: Option<&'a [usize]>) -> Part<'a>
-    ensures { (h : List CallData) (logged : List LoggedData)
-        → IsInPart h logged result ≡ IsOfCut h logged (option_map (λ n. n.now) named.entry) cut }
+    ensures { (h : List CallData) (logged : List LoggedData) (c : ℕ)
+        → IsInPart h logged result c ↔ IsOfCut h logged (option_map (λ n. n.now) named.entry) cut c }
 {
     match cut {
         Cut::Whole => Part::All,

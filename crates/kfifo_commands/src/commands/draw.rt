@@ -84,13 +84,13 @@ fn picture(
 }
 
 /// The picture of these calls of a history, with this order.
-fn picture_of(
+fn picture_of<'x>(
     alloc: Global,
     history: &History,
-    logged: &[LoggedCall],
+    logged: &'x [LoggedCall],
     options: DrawOptions<'_>,
     cut: Cut,
-    order: &Option<Vec<usize>>,
+    order: &'x Option<Vec<usize>>,
 ) -> Result<String, DrawFault>
     ensures { MatchResult result (λ _. IsPictureOf AreFew options.entry.check.k options.entry.evidence cut history.now logged.now)
         (λ fault. fault ≡ DrawFault.TooMany
