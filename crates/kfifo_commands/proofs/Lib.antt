@@ -1,3 +1,4 @@
+pub mod Beginnings
 pub mod Dispatching
 pub mod Feeding
 pub mod Outcomes
