@@ -1,12 +1,10 @@
 -- Which calls `draw` is asked to draw, by its options.
 use Rattle.std.specs.Prelude.{ℕ, ◌≡◌, ◌≤◌, ◌⊎◌, true, false, List, [], ◌∷◌, Option, Some, None, IsSome, option_map, unwrap_or}
-use Rattle.std.specs.List.{Any}
 use denote.Ref.{Bor}
-use Rattle.kfifo_model.specs.declared.calls.Call.{Call}
-use Rattle.kfifo_import.specs.declared.log.LoggedCall.{LoggedCall}
 use Rattle.kfifo_verdict.specs.declared.verdicts.Evidence.{Evidence}
 use Rattle.kfifo_verdict.specs.declared.verdicts.Evidence.TheVariants.{NeverPut, TakenTwice, NotEmpty, TooYoung}
-use Rattle.kfifo_draw.specs.Drawing.{IsNear, line_of}
+use Rattle.kfifo_draw.specs.declared.part.Part.{Part}
+use Rattle.kfifo_draw.specs.declared.part.Part.TheVariants as parts
 use Rattle.kfifo_texts.specs.declared.fault.Fault.{Fault}
 use Rattle.kfifo_texts.specs.declared.fault.Fault.TheVariants as faults
 use Rattle.kfifo_texts.specs.declared.stretch.Stretch.{Stretch}
@@ -63,10 +61,10 @@ named_by (TakenTwice get) = get ∷ []
 named_by (NotEmpty empty puts) = empty ∷ puts.items
 named_by (TooYoung get puts) = get ∷ puts.items
 
--- a call is among those to be drawn, where the evidence names these calls
-abbrev pub IsOfCut : List Call → List LoggedCall → Option (List ℕ) → Cut → ℕ → Type 0
-IsOfCut h logged named cuts.Whole c = Unit {0}
-IsOfCut h logged named (cuts.Calls stretch) c = (stretch.first ≤ c) × (c ≤ stretch.last)
-IsOfCut h logged named (cuts.Lines stretch) c = (stretch.first ≤ line_of logged c) × (line_of logged c ≤ stretch.last)
-IsOfCut h logged None (cuts.Evidence around) c = Unit {0}
-IsOfCut h logged (Some calls) (cuts.Evidence around) c = Any (IsNear h around c) calls
+-- the part of a history that is to be drawn, where the evidence names these calls: all where there is no evidence
+abbrev pub IsPartOf : Option (List ℕ) → Cut → Part → Type 0
+IsPartOf named cuts.Whole part = part ≡ parts.All
+IsPartOf named (cuts.Calls stretch) part = part ≡ parts.Calls stretch.first stretch.last
+IsPartOf named (cuts.Lines stretch) part = part ≡ parts.Lines stretch.first stretch.last
+IsPartOf None (cuts.Evidence around) part = part ≡ parts.All
+IsPartOf (Some calls) (cuts.Evidence around) part = (named : Bor (List ℕ)) × (part ≡ parts.Near named around) × (named.now ≡ calls)

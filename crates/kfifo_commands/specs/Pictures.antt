@@ -4,12 +4,13 @@ use Rattle.kfifo_model.specs.declared.calls.Call.{Call}
 use Rattle.kfifo_import.specs.declared.log.LoggedCall.{LoggedCall}
 use Rattle.kfifo_verdict.specs.declared.verdicts.Evidence.{Evidence}
 use Rattle.kfifo_verdict.specs.Judging.{HasNoEvidence, IsFirstEvidence}
-use Rattle.kfifo_draw.specs.Drawing.{AreFew, AreMany}
+use Rattle.kfifo_draw.specs.Drawing.{AreFew, AreMany, IsInPart}
+use Rattle.kfifo_draw.specs.declared.part.Part.{Part}
 use Rattle.kfifo_texts.specs.declared.fault.Fault.{Fault}
 use Rattle.kfifo_texts.specs.declared.fault.Fault.TheVariants.{Order, Input, NotJson, Record, Import, TooManyDrawn, Contradiction, Stretch, NoLines, Memory}
 use Rattle.kfifo_commands.specs.declared.options.DrawOptions.{DrawOptions}
 use Rattle.kfifo_commands.specs.declared.cut.Cut.{Cut}
-use Rattle.kfifo_commands.specs.Cuts.{AsksFor, IsCutFault, IsOfCut, IsOfLines, named_by}
+use Rattle.kfifo_commands.specs.Cuts.{AsksFor, IsCutFault, IsOfLines, IsPartOf, named_by}
 use Rattle.kfifo_commands.specs.Inputs.{BeginsRecord, IsCalls, IsNoCalls}
 use Rattle.kfifo_commands.specs.Records.{IsInput, IsOrder, IsOrderFault, IsUnread}
 
@@ -22,7 +23,9 @@ IsSought false k h found = found ≡ None
 pub record IsPictureOf (Has : (ℕ → Type 0) → ℕ → Type 0) (k : ℕ) (asked : Bool) (cut : Cut) (h : List Call) (logged : List LoggedCall) : Type 0 where
   pub found : Option Evidence
   pub sought : IsSought asked k h found
-  pub drawn : Has (IsOfCut h logged (option_map named_by found) cut) (length h)
+  pub part : Part
+  pub cut_to : IsPartOf (option_map named_by found) cut part
+  pub drawn : Has (IsInPart h logged part) (length h)
 
 -- what is known of the calls beside a record: nothing but of a log
 abbrev pub logged_of : Option (List LoggedCall) → List LoggedCall

@@ -1,12 +1,8 @@
 //! Which calls `draw` is asked to draw.
 ghost use Rattle.std.specs.Prelude.{◌≡◌, ◌↔◌, IsTrue, MatchResult, option_map};
-ghost use Rattle.kfifo_commands.specs.Cuts.{AsksFor, Contradict, IsCutFault, IsOfCut, IsOfLines};
-ghost use Rattle.kfifo_draw.specs.Drawing.{IsInPart};
-ghost use Rattle.kfifo_import.specs.declared.log.LoggedCall.{LoggedCall as LoggedData};
-ghost use Rattle.kfifo_model.specs.declared.calls.Call.{Call as CallData};
+ghost use Rattle.kfifo_commands.specs.Cuts.{AsksFor, Contradict, IsCutFault, IsOfLines, IsPartOf};
 ghost use Rattle.kfifo_texts.specs.declared.stretch.Stretch.{Stretch as StretchData};
 ghost use Rattle.kfifo_texts.specs.Stretches.{WritesStretch};
-ghost use Rattle.std.specs.Prelude.{List, ℕ};
 
 use crate::options::DrawOptions;
 use kfifo_draw::Part;
@@ -85,8 +81,7 @@ pub(crate) fn cut_of(options: DrawOptions<'_>) -> Result<Cut, Fault>
 
 /// The part of a history that is to be drawn, where the evidence names these calls.
 pub(crate) fn part_of<'a>(cut: Cut, named: Option<&'a [usize]>) -> Part<'a>
-    ensures { (h : List CallData) (logged : List LoggedData) (c : ℕ)
-        → IsInPart h logged result c ↔ IsOfCut h logged (option_map (λ n. n.now) named.entry) cut c }
+    ensures { IsPartOf (option_map (λ n. n.now) named.entry) cut result }
 {
     match cut {
         Cut::Whole => Part::All,

@@ -1,14 +1,14 @@
 //! The command `draw`: a picture of a record or a log, or of a part of it.
-ghost use Rattle.std.specs.Prelude.{◌≡◌, ◌≢◌, ◌≤◌, ◌⊎◌, true, IfErr, IfOk, MatchResult, option_map};
+ghost use Rattle.std.specs.Prelude.{◌≡◌, ◌≢◌, ◌≤◌, ◌⊎◌, true, IfErr, IfOk, MatchResult, length, option_map};
 ghost use Rattle.kfifo_commands.specs.Cuts.{named_by};
 ghost use Rattle.kfifo_commands.specs.Pictures.{IsDraw, IsDrawRefusal, IsNoPicture, IsPicture, IsPictureOf};
 ghost use Rattle.kfifo_commands.specs.Records.{IsOrder, IsOrderFault, ReadsWell};
-ghost use Rattle.kfifo_draw.specs.Drawing.{AreFew, AreMany};
+ghost use Rattle.kfifo_draw.specs.Drawing.{AreFew, AreMany, IsInPart};
 
 use crate::cut::{Cut, cut_of, is_of_lines, part_of};
 use crate::input::{read_calls, read_input};
 use crate::options::DrawOptions;
-use kfifo_draw::{DrawFault, Drawing, Marking, Style, draw};
+use kfifo_draw::{DrawFault, Drawing, Marking, Part, Style, draw};
 use kfifo_import::LoggedCall;
 use kfifo_judge::Source;
 use kfifo_model::{Answer, Call, End, History};
@@ -134,23 +134,50 @@ fn picture_of_evidence(
     let found = evidence(alloc, history, k)?;
     let reason = reason_of(alloc, history, k, &found)?;
     let Some(found) = found else {
-        let marking = Marking::Calls(&[], reason.as_str());
+        let none: Vec<usize> = Vec::new(alloc);
         let part = part_of(cut, None);
-        return draw(
+        return marked(
             alloc,
             history,
-            &Drawing {
-                style,
-                part,
-                marking,
-                k,
-                logged,
-            },
+            logged,
+            k,
+            style,
+            part,
+            none.as_slice(),
+            reason.as_str(),
         );
     };
     let named = named_calls(alloc, &found)?;
-    let marking = Marking::Calls(named.as_slice(), reason.as_str());
     let part = part_of(cut, Some(named.as_slice()));
+    marked(
+        alloc,
+        history,
+        logged,
+        k,
+        style,
+        part,
+        named.as_slice(),
+        reason.as_str(),
+    )
+}
+
+/// The picture of a part of a history, in which these calls are marked for this reason.
+// It is a function of its own, since what borrows several values can be put together only where all have one lifetime.
+fn marked<'x>(
+    alloc: Global,
+    history: &History,
+    logged: &'x [LoggedCall],
+    k: u32,
+    style: Style,
+    part: Part<'x>,
+    named: &'x [usize],
+    reason: &'x str,
+) -> Result<String, DrawFault>
+    requires { (1 ≤ k) × (k ≤ 64) }
+    ensures { MatchResult result (λ _. AreFew (IsInPart history.now logged.now part.entry) (length history.now))
+        (λ fault. fault ≡ DrawFault.TooMany → AreMany (IsInPart history.now logged.now part.entry) (length history.now)) }
+{
+    let marking = Marking::Calls(named, reason);
     draw(
         alloc,
         history,
