@@ -11,7 +11,7 @@ use Rattle.kfifo_texts.specs.declared.fault.Fault.TheVariants.{Order, Input, Not
 use Rattle.kfifo_commands.specs.declared.options.DrawOptions.{DrawOptions}
 use Rattle.kfifo_commands.specs.declared.cut.Cut.{Cut}
 use Rattle.kfifo_commands.specs.Cuts.{AsksFor, IsCutFault, IsOfLines, IsPartOf, named_by}
-use Rattle.kfifo_commands.specs.Inputs.{BeginsRecord, IsCalls, IsNoCalls}
+use Rattle.kfifo_commands.specs.Inputs.{BeginsRecord, IsCalls, IsNoCalls, logged_calls}
 use Rattle.kfifo_commands.specs.Records.{IsInput, IsOrder, IsOrderFault, IsUnread}
 
 -- the evidence for this k, where it is asked for
@@ -27,18 +27,13 @@ pub record IsPictureOf (Has : (ℕ → Type 0) → ℕ → Type 0) (k : ℕ) (as
   pub cut_to : IsPartOf (option_map named_by found) cut part
   pub drawn : Has (IsInPart h logged part) (length h)
 
--- what is known of the calls beside a record: nothing but of a log
-abbrev pub logged_of : Option (List LoggedCall) → List LoggedCall
-logged_of None = []
-logged_of (Some logged) = logged
-
 -- the calls of an input, of which few or many are to be drawn
 pub record AreCallsOf (Has : (ℕ → Type 0) → ℕ → Type 0) (k : ℕ) (asked : Bool) (cut : Cut) (bytes : List ℕ) : Type 0 where
   pub history : List Call
   pub logged : Option (List LoggedCall)
   pub calls : IsCalls bytes history logged
   pub lines : IsOfLines cut → IsSome logged
-  pub number : IsPictureOf Has k asked cut history (logged_of logged)
+  pub number : IsPictureOf Has k asked cut history (logged_calls logged)
 
 -- there is a picture of these calls of an input
 abbrev pub IsPicture : ℕ → Bool → Cut → List ℕ → Type 0
