@@ -233,3 +233,8 @@ impl<T> Debug for Handle<T> {
             .finish_non_exhaustive()
     }
 }
+
+/// Has the example of the README run with the tests.
+#[cfg(doctest)]
+#[doc = include_str!("../README.md")]
+struct ReadmeExample;
