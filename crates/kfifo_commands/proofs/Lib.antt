@@ -8,3 +8,4 @@ pub mod Reports
 pub mod RealRunning
 pub mod Drawing
 pub mod Picturing
+pub mod Endings
