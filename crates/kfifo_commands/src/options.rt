@@ -119,8 +119,16 @@ pub struct DispatchOptions<'a> {
 pub struct ExplainOptions<'a> {
     /// The words of a fault or an answer, as they were printed.
     pub words: &'a [&'a str],
-    /// The faults and answers that are known.
-    pub topics: &'a [Topic],
+    /// The faults and answers that are known, in four parts.
+    pub first_topics: &'a [Topic],
+    /// The second part.
+    pub second_topics: &'a [Topic],
+    /// The third part.
+    pub third_topics: &'a [Topic],
+    /// The last part.
+    pub last_topics: &'a [Topic],
+    /// The helps of the commands, which say what they mean.
+    pub helps: &'a [&'a str],
 }
 
 /// A command with its options.

@@ -10,8 +10,8 @@ const CONTINUED: &str = "               ";
 pub struct Topic {
     /// The words that it is printed with, up to where they tell it from others; in them `#` stands for a number.
     pub words: &'static str,
-    /// The help that says what it means.
-    pub help: &'static str,
+    /// The number of the help that says what it means.
+    pub help: usize,
     /// How the line begins that says so.
     pub line: &'static str,
     /// What is allowed, and what to do: whole lines.
@@ -53,10 +53,10 @@ fn words_in<'a>(alloc: Global, arguments: &[&'a str]) -> Result<Vec<&'a str>, Al
     Ok(words)
 }
 
-/// Adds the lines of the help that say what a topic means.
-fn push_meaning(text: &mut String, topic: &Topic) -> Result<(), AllocError> {
+/// Adds the lines of a help that say what a topic means.
+fn push_meaning(text: &mut String, help: &str, topic: &Topic) -> Result<(), AllocError> {
     let mut inside = false;
-    for line in topic.help.lines() {
+    for line in help.lines() {
         inside = line.starts_with(topic.line) || (inside && line.starts_with(CONTINUED));
         if inside {
             text.push_str(line)?;
@@ -67,17 +67,20 @@ fn push_meaning(text: &mut String, topic: &Topic) -> Result<(), AllocError> {
 }
 
 /// What is said of the first of the topics with which the arguments begin, none where they begin with none: its lines of
-/// the help, and what is allowed and what to do.
+/// the help, and what is allowed and what to do. The topics name the helps by their places.
 pub fn explanation(
     alloc: Global,
     arguments: &[&str],
     topics: &[Topic],
+    helps: &[&str],
 ) -> Result<Option<String>, AllocError> {
     let words = words_in(alloc, arguments)?;
     for topic in topics {
         if begin_with(words.as_slice(), topic.words) {
             let mut text = String::new(alloc);
-            push_meaning(&mut text, topic)?;
+            if let Some(help) = helps.get(topic.help) {
+                push_meaning(&mut text, help, topic)?;
+            }
             text.push_str(topic.advice)?;
             return Ok(Some(text));
         }

@@ -58,11 +58,48 @@ Examples:
 
 docs/PROGRAM.md and docs/JUDGE.md, where this program comes from, say more.";
 
+const RUN: usize = 0;
+
+const CHECK: usize = 1;
+
+const MEASURE: usize = 2;
+
+const REPLAY: usize = 3;
+
+const JUDGE: usize = 4;
+
+const LEAST: usize = 5;
+
+const RECORD: usize = 6;
+
+const IMPORT: usize = 7;
+
+const DRAW: usize = 8;
+
+const DISPATCH: usize = 9;
+
+const EXPLAIN: usize = 10;
+
+/// The help of each command, at its number.
+const HELPS: &[&str] = &[
+    run::DETAILS,
+    check::DETAILS,
+    measure::DETAILS,
+    replay::DETAILS,
+    judge::DETAILS,
+    least::DETAILS,
+    record::DETAILS,
+    import::DETAILS,
+    draw::DETAILS,
+    dispatch::DETAILS,
+    DETAILS,
+];
+
 /// The faults and answers: of those that begin alike, the longer one first.
-const TOPICS: &[Topic] = &[
+const FIRST_TOPICS: &[Topic] = &[
     Topic {
         words: "shape fault 1",
-        help: run::DETAILS,
+        help: RUN,
         line: "  kfifo: shape fault 1",
         advice: "\
 Allowed: -k from 1 to 64, by default 2.
@@ -71,7 +108,7 @@ To do: give another -k.
     },
     Topic {
         words: "shape fault 2",
-        help: run::DETAILS,
+        help: RUN,
         line: "  kfifo: shape fault 2",
         advice: "\
 Allowed: --segments from 2 to 1024, by default 2.
@@ -80,7 +117,7 @@ To do: give another --segments.
     },
     Topic {
         words: "shape fault 3",
-        help: run::DETAILS,
+        help: RUN,
         line: "  kfifo: shape fault 3",
         advice: "\
 Allowed: --last from 2 to 1099511627775, the default.
@@ -89,7 +126,7 @@ To do: give another --last, or none.
     },
     Topic {
         words: "shape fault 4",
-        help: run::DETAILS,
+        help: RUN,
         line: "  kfifo: shape fault 4",
         advice: "\
 Allowed: --probes from 1 to the k of -k, by default k.
@@ -98,7 +135,7 @@ To do: give another --probes, or none.
     },
     Topic {
         words: "word fault",
-        help: run::DETAILS,
+        help: RUN,
         line: "  kfifo: word fault",
         advice: "\
 Allowed: e<ITEM>, e<ITEM>:<START>, d and d:<START>, an item from 1 to 16777215 and a start from 0 to k - 1;
@@ -108,7 +145,7 @@ To do: correct the word with this number, counted from 1; of `replay` and `recor
     },
     Topic {
         words: "order fault",
-        help: check::DETAILS,
+        help: CHECK,
         line: "  kfifo: order fault",
         advice: "\
 Allowed: call numbers of 1 to 10 digits joined by commas, `none`, or @ and the path of a file with such a text.
@@ -117,7 +154,7 @@ To do: correct the value of --order, or the file, of at most 16777216 bytes.
     },
     Topic {
         words: "picks fault",
-        help: replay::DETAILS,
+        help: REPLAY,
         line: "  kfifo: picks fault",
         advice: "\
 Allowed: `none`, or groups <THREAD> or <THREAD>x<COUNT> joined by commas, at most 16777216 picks in all.
@@ -126,7 +163,7 @@ To do: correct the value of --picks.
     },
     Topic {
         words: "replay fault 1",
-        help: replay::DETAILS,
+        help: REPLAY,
         line: "  kfifo: replay fault 1",
         advice: "\
 Allowed: the numbers of scripts, from 0, that have not ended.
@@ -135,7 +172,7 @@ To do: leave this pick out, or give its thread a longer script.
     },
     Topic {
         words: "replay fault 2",
-        help: replay::DETAILS,
+        help: REPLAY,
         line: "  kfifo: replay fault 2",
         advice: "\
 To do: give the program more memory, or make fewer picks.
@@ -143,7 +180,7 @@ To do: give the program more memory, or make fewer picks.
     },
     Topic {
         words: "replay fault 3",
-        help: replay::DETAILS,
+        help: REPLAY,
         line: "  kfifo: replay fault 3",
         advice: "\
 Allowed: 1 to 64 scripts of at most 64 calls, and with --stop the number of one of them, from 0.
@@ -152,7 +189,7 @@ To do: make fewer or shorter scripts, or name another thread.
     },
     Topic {
         words: "open fault 1",
-        help: record::DETAILS,
+        help: RECORD,
         line: "  kfifo: open fault 1",
         advice: "\
 Allowed: 1 to 64 scripts, a thread for each.
@@ -161,7 +198,7 @@ To do: make fewer scripts.
     },
     Topic {
         words: "open fault 2",
-        help: record::DETAILS,
+        help: RECORD,
         line: "  kfifo: open fault 2",
         advice: "\
 To do: give the program more memory, or make the queue smaller.
@@ -169,7 +206,7 @@ To do: give the program more memory, or make the queue smaller.
     },
     Topic {
         words: "open fault 4",
-        help: record::DETAILS,
+        help: RECORD,
         line: "  kfifo: open fault 4",
         advice: "\
 Allowed: at most 1024 calls of a script times --repeat.
@@ -178,7 +215,7 @@ To do: make the script shorter, or --repeat less.
     },
     Topic {
         words: "dispatch fault 1",
-        help: dispatch::DETAILS,
+        help: DISPATCH,
         line: "  kfifo: dispatch fault 1",
         advice: "\
 Allowed: at most 1024 tasks.
@@ -187,7 +224,7 @@ To do: dispatch them in several runs.
     },
     Topic {
         words: "dispatch fault 2",
-        help: dispatch::DETAILS,
+        help: DISPATCH,
         line: "  kfifo: dispatch fault 2",
         advice: "\
 Allowed: each ID once.
@@ -196,7 +233,7 @@ To do: give one of the two tasks another ID.
     },
     Topic {
         words: "dispatch fault 3",
-        help: dispatch::DETAILS,
+        help: DISPATCH,
         line: "  kfifo: dispatch fault 3",
         advice: "\
 To do: give the program more memory, or dispatch fewer tasks.
@@ -204,7 +241,7 @@ To do: give the program more memory, or dispatch fewer tasks.
     },
     Topic {
         words: "dispatch fault 4",
-        help: dispatch::DETAILS,
+        help: DISPATCH,
         line: "  kfifo: dispatch fault 4",
         advice: "\
 Allowed: --workers from 1 to 63, by default 2.
@@ -213,7 +250,7 @@ To do: give another --workers.
     },
     Topic {
         words: "input",
-        help: check::DETAILS,
+        help: CHECK,
         line: "  kfifo: input",
         advice: "\
 Allowed: at most 16777216 bytes on standard input.
@@ -222,7 +259,7 @@ To do: see that the input can be read, and judge a shorter run.
     },
     Topic {
         words: "not json",
-        help: check::DETAILS,
+        help: CHECK,
         line: "  kfifo: not json",
         advice: "\
 Allowed: a JSON array of calls, as `kfifo check --help` shows, of at most 127 levels.
@@ -232,7 +269,7 @@ read what `kfifo import < log.csv` prints.
     },
     Topic {
         words: "record fault 1",
-        help: check::DETAILS,
+        help: CHECK,
         line: "  kfifo: record fault 1",
         advice: "\
 Allowed: a JSON array, with an object for each call.
@@ -241,7 +278,7 @@ To do: put the calls between [ and ].
     },
     Topic {
         words: "record fault 2",
-        help: check::DETAILS,
+        help: CHECK,
         line: "  kfifo: record fault 2",
         advice: "\
 Allowed: at most 65536 calls.
@@ -250,7 +287,7 @@ To do: judge a shorter run.
     },
     Topic {
         words: "record fault 3 at line",
-        help: import::DETAILS,
+        help: IMPORT,
         line: "  kfifo: record fault 3 at line",
         advice: "\
 Allowed: `thread`, `op` and `first` always; `item` in each enq, and in a deq exactly if it was answered got; `last`
@@ -260,7 +297,7 @@ To do: look at the call with this number, from 0, or at this line of the log, fr
     },
     Topic {
         words: "record fault 3",
-        help: check::DETAILS,
+        help: CHECK,
         line: "  kfifo: record fault 3",
         advice: "\
 Allowed: `thread`, `op` and `first` always; `item` in each enq, and in a deq exactly if it was answered got; `last`
@@ -270,7 +307,7 @@ To do: look at the call with this number, from 0, or at this line of the log, fr
     },
     Topic {
         words: "record fault 4 at line",
-        help: import::DETAILS,
+        help: IMPORT,
         line: "  kfifo: record fault 4 at line",
         advice: "\
 Allowed: a thread from 0 to 63, an item from 1 to 16777215.
@@ -279,16 +316,20 @@ To do: number threads from 0, and items from 1, each with a number of its own.
     },
     Topic {
         words: "record fault 4",
-        help: check::DETAILS,
+        help: CHECK,
         line: "  kfifo: record fault 4",
         advice: "\
 Allowed: a thread from 0 to 63, an item from 1 to 16777215.
 To do: number threads from 0, and items from 1, each with a number of its own.
 ",
     },
+];
+
+/// Further faults and answers.
+const SECOND_TOPICS: &[Topic] = &[
     Topic {
         words: "record fault 5 at line",
-        help: import::DETAILS,
+        help: IMPORT,
         line: "  kfifo: record fault 5 at line",
         advice: "\
 Allowed: done, full, busy and worn of an enq; got, empty, busy and worn of a deq.
@@ -297,7 +338,7 @@ To do: correct the answer, or the op.
     },
     Topic {
         words: "record fault 5",
-        help: check::DETAILS,
+        help: CHECK,
         line: "  kfifo: record fault 5",
         advice: "\
 Allowed: done, full, busy and worn of an enq; got, empty, busy and worn of a deq.
@@ -306,7 +347,7 @@ To do: correct the answer, or the op.
     },
     Topic {
         words: "record fault 6 at line",
-        help: import::DETAILS,
+        help: IMPORT,
         line: "  kfifo: record fault 6 at line",
         advice: "\
 Allowed: `last` equal to `first` or greater.
@@ -315,7 +356,7 @@ To do: read one monotonic clock before and after the call, and write the earlier
     },
     Topic {
         words: "record fault 6",
-        help: check::DETAILS,
+        help: CHECK,
         line: "  kfifo: record fault 6",
         advice: "\
 Allowed: `last` equal to `first` or greater.
@@ -324,7 +365,7 @@ To do: read one monotonic clock before and after the call, and write the earlier
     },
     Topic {
         words: "record fault 7",
-        help: check::DETAILS,
+        help: CHECK,
         line: "  kfifo: record fault 7",
         advice: "\
 Allowed: calls by rising `first`, no two of which begin at one stamp.
@@ -333,7 +374,7 @@ To do: sort the calls by `first`. In a log in CSV lines may stand in any order, 
     },
     Topic {
         words: "record fault 8 at line",
-        help: import::DETAILS,
+        help: IMPORT,
         line: "  kfifo: record fault 8 at line",
         advice: "\
 Allowed: calls of one thread that follow one another: the next begins after the one before has ended.
@@ -342,7 +383,7 @@ To do: give each thread a number of its own. A thread whose call never returned 
     },
     Topic {
         words: "record fault 8",
-        help: check::DETAILS,
+        help: CHECK,
         line: "  kfifo: record fault 8",
         advice: "\
 Allowed: calls of one thread that follow one another: the next begins after the one before has ended.
@@ -351,7 +392,7 @@ To do: give each thread a number of its own. A thread whose call never returned 
     },
     Topic {
         words: "record fault 9",
-        help: check::DETAILS,
+        help: CHECK,
         line: "  kfifo: record fault 9",
         advice: "\
 To do: give the program more memory, or judge a shorter run.
@@ -359,7 +400,7 @@ To do: give the program more memory, or judge a shorter run.
     },
     Topic {
         words: "csv fault",
-        help: import::DETAILS,
+        help: IMPORT,
         line: "  kfifo: csv fault",
         advice: "\
 Allowed: a header with thread, op, item, first, last and answer, in any order, and below it a call a line, with as many
@@ -369,7 +410,7 @@ To do: look at this line, counted from 1. A record in JSON begins with [.
     },
     Topic {
         words: "search fault 1",
-        help: check::DETAILS,
+        help: CHECK,
         line: "  kfifo: search fault 1",
         advice: "\
 Allowed: at most 12 calls where no order is given.
@@ -378,7 +419,7 @@ To do: use `kfifo judge`, which takes 65536 calls, or give an --order.
     },
     Topic {
         words: "search fault 2",
-        help: check::DETAILS,
+        help: CHECK,
         line: "  kfifo: search fault 2",
         advice: "\
 To do: give the program more memory, or use `kfifo judge`.
@@ -386,7 +427,7 @@ To do: give the program more memory, or use `kfifo judge`.
     },
     Topic {
         words: "measure fault 2",
-        help: measure::DETAILS,
+        help: MEASURE,
         line: "  kfifo: measure fault 2",
         advice: "\
 Allowed: items of which no two enqueues that are done or unfinished carry one, and no two dequeues got one.
@@ -395,7 +436,7 @@ To do: give each item a number of its own.
     },
     Topic {
         words: "draw fault 1",
-        help: draw::DETAILS,
+        help: DRAW,
         line: "  kfifo: draw fault 1",
         advice: "\
 Allowed: at most 4096 calls in a picture.
@@ -404,7 +445,7 @@ To do: draw a part of the run.
     },
     Topic {
         words: "draw fault 2",
-        help: draw::DETAILS,
+        help: DRAW,
         line: "  kfifo: draw fault 2",
         advice: "\
 Allowed: options that do not contradict each other, as `kfifo draw --help` says.
@@ -413,7 +454,7 @@ To do: leave one of them out.
     },
     Topic {
         words: "draw fault 3",
-        help: draw::DETAILS,
+        help: DRAW,
         line: "  kfifo: draw fault 3",
         advice: "\
 Allowed: two numbers joined by -, the first no greater than the second.
@@ -422,7 +463,7 @@ To do: correct the value of --calls or --lines.
     },
     Topic {
         words: "draw fault 4",
-        help: draw::DETAILS,
+        help: DRAW,
         line: "  kfifo: draw fault 4",
         advice: "\
 Allowed: --lines of a log in CSV.
@@ -431,7 +472,7 @@ To do: use --calls of a record.
     },
     Topic {
         words: "explain fault 1",
-        help: DETAILS,
+        help: EXPLAIN,
         line: "  kfifo: explain fault 1",
         advice: "\
 Allowed: the words of a fault or an answer, as they were printed.
@@ -440,7 +481,7 @@ To do: write them as they were printed, or see the help of the command that prin
     },
     Topic {
         words: "memory",
-        help: check::DETAILS,
+        help: CHECK,
         line: "  kfifo: memory",
         advice: "\
 To do: give the program more memory, or judge a shorter run.
@@ -448,7 +489,7 @@ To do: give the program more memory, or judge a shorter run.
     },
     Topic {
         words: "error:",
-        help: DETAILS,
+        help: EXPLAIN,
         line: "  error:",
         advice: "\
 To do: see the usage below the error, or `kfifo --help`.
@@ -456,7 +497,7 @@ To do: see the usage below the error, or `kfifo --help`.
     },
     Topic {
         words: "no order for",
-        help: judge::DETAILS,
+        help: JUDGE,
         line: "  no order for k = <K>",
         advice: "\
 To do: read the line below it: it names the calls because of which no order is legal.
@@ -464,7 +505,7 @@ To do: read the line below it: it names the calls because of which no order is l
     },
     Topic {
         words: "legal for",
-        help: judge::DETAILS,
+        help: JUDGE,
         line: "  legal for k = <K>",
         advice: "\
 To do: nothing: the calls may be those of a queue that gives any of its k oldest items. `--show` prints the order.
@@ -472,7 +513,7 @@ To do: nothing: the calls may be those of a queue that gives any of its k oldest
     },
     Topic {
         words: "undecided",
-        help: judge::DETAILS,
+        help: JUDGE,
         line: "  undecided for k = <K>",
         advice: "\
 To do: read the line below it: it says why the search stopped.
@@ -480,7 +521,7 @@ To do: read the line below it: it says why the search stopped.
     },
     Topic {
         words: "the tries ran",
-        help: judge::DETAILS,
+        help: JUDGE,
         line: "  the tries ran out",
         advice: "\
 Allowed: --tries from 0 to 4294967295, by default 1000000.
@@ -489,7 +530,7 @@ To do: give more --tries, or judge a shorter run.
     },
     Topic {
         words: "nothing is left",
-        help: judge::DETAILS,
+        help: JUDGE,
         line: "  nothing is left to try",
         advice: "\
 To do: give each item a number of its own, let each call end, and judge a shorter run.
@@ -497,15 +538,19 @@ To do: give each item a number of its own, let each call end, and judge a shorte
     },
     Topic {
         words: "items repeat",
-        help: judge::DETAILS,
+        help: JUDGE,
         line: "  ; items repeat",
         advice: "\
 To do: give each item a number of its own: then k = 1 is always decided if each call ends.
 ",
     },
+];
+
+/// Further faults and answers.
+const THIRD_TOPICS: &[Topic] = &[
     Topic {
         words: "; items repeat",
-        help: judge::DETAILS,
+        help: JUDGE,
         line: "  ; items repeat",
         advice: "\
 To do: give each item a number of its own: then k = 1 is always decided if each call ends.
@@ -513,7 +558,7 @@ To do: give each item a number of its own: then k = 1 is always decided if each 
     },
     Topic {
         words: "no order",
-        help: least::DETAILS,
+        help: LEAST,
         line: "  no order ",
         advice: "\
 To do: of `check`, use `kfifo judge`, which says why; of `least`, read the line below it.
@@ -521,7 +566,7 @@ To do: of `check`, use `kfifo judge`, which says why; of `least`, read the line 
     },
     Topic {
         words: "call # got item #, which no",
-        help: judge::DETAILS,
+        help: JUDGE,
         line: "  call <N> got item <X>, which no",
         advice: "\
 To do: look for a dequeue that returns what was not put, or too soon; or for a call that is missing in the log.
@@ -529,7 +574,7 @@ To do: look for a dequeue that returns what was not put, or too soon; or for a c
     },
     Topic {
         words: "call # got item #, which was",
-        help: judge::DETAILS,
+        help: JUDGE,
         line: "  call <N> got item <X>, which was",
         advice: "\
 To do: look for a dequeue that takes an item which another one takes, too; or for a put that is missing in the log.
@@ -537,7 +582,7 @@ To do: look for a dequeue that takes an item which another one takes, too; or fo
     },
     Topic {
         words: "call # found nothing,",
-        help: judge::DETAILS,
+        help: JUDGE,
         line: "  call <N> found nothing, while",
         advice: "\
 To do: see behind each put whether its item was got later: then the queue said empty too early; or never: then it was
@@ -546,7 +591,7 @@ lost, or was left inside at the end of the log. Drain the queue until it answers
     },
     Topic {
         words: "call # got item #, while",
-        help: judge::DETAILS,
+        help: JUDGE,
         line: "  call <N> got item <X>, while",
         advice: "\
 To do: see below for which k there may be an order: for those the queue is a k-relaxed one.
@@ -554,7 +599,7 @@ To do: see below for which k there may be an order: for those the queue is a k-r
     },
     Topic {
         words: "call #: thread",
-        help: judge::DETAILS,
+        help: JUDGE,
         line: "  call <N>: thread",
         advice: "\
 To do: compare its stamps with those of the other calls that are named.
@@ -562,7 +607,7 @@ To do: compare its stamps with those of the other calls that are named.
     },
     Topic {
         words: "call #, line #:",
-        help: judge::DETAILS,
+        help: JUDGE,
         line: "  call <N>, line <L>: thread",
         advice: "\
 To do: see this line of the log, counted from 1.
@@ -570,7 +615,7 @@ To do: see this line of the log, counted from 1.
     },
     Topic {
         words: ", got by call",
-        help: judge::DETAILS,
+        help: JUDGE,
         line: "  , got by call",
         advice: "\
 To do: see call M: it got the item after the call that found nothing, or after one that got a younger item.
@@ -578,7 +623,7 @@ To do: see call M: it got the item after the call that found nothing, or after o
     },
     Topic {
         words: "got by call",
-        help: judge::DETAILS,
+        help: JUDGE,
         line: "  , got by call",
         advice: "\
 To do: see call M: it got the item after the call that found nothing, or after one that got a younger item.
@@ -586,7 +631,7 @@ To do: see call M: it got the item after the call that found nothing, or after o
     },
     Topic {
         words: ", never got",
-        help: judge::DETAILS,
+        help: JUDGE,
         line: "  , never got",
         advice: "\
 To do: drain the queue until it answers empty before the log ends: what is never got then is lost.
@@ -594,7 +639,7 @@ To do: drain the queue until it answers empty before the log ends: what is never
     },
     Topic {
         words: "never got",
-        help: judge::DETAILS,
+        help: JUDGE,
         line: "  , never got",
         advice: "\
 To do: drain the queue until it answers empty before the log ends: what is never got then is lost.
@@ -602,7 +647,7 @@ To do: drain the queue until it answers empty before the log ends: what is never
     },
     Topic {
         words: "k at least",
-        help: least::DETAILS,
+        help: LEAST,
         line: "  k at least",
         advice: "\
 To do: nothing: it is a bound that is proved.
@@ -610,7 +655,7 @@ To do: nothing: it is a bound that is proved.
     },
     Topic {
         words: "k at most",
-        help: least::DETAILS,
+        help: LEAST,
         line: "  k at most",
         advice: "\
 To do: nothing: an order is legal for this k. A greater --tries may find one for a lesser k.
@@ -618,7 +663,7 @@ To do: nothing: an order is legal for this k. A greater --tries may find one for
     },
     Topic {
         words: "k unknown",
-        help: least::DETAILS,
+        help: LEAST,
         line: "  k unknown",
         advice: "\
 To do: give a greater --tries, if the bound is at most 64.
@@ -626,7 +671,7 @@ To do: give a greater --tries, if the bound is at most 64.
     },
     Topic {
         words: "worst rank",
-        help: judge::DETAILS,
+        help: JUDGE,
         line: "  worst rank",
         advice: "\
 To do: nothing: it is at most k - 1, and 0 in a plain queue.
@@ -634,7 +679,7 @@ To do: nothing: it is at most k - 1, and 0 in a plain queue.
     },
     Topic {
         words: "fault 1 repeats",
-        help: check::DETAILS,
+        help: CHECK,
         line: "  fault 1 repeats",
         advice: "\
 To do: name each call once in --order.
@@ -642,7 +687,7 @@ To do: name each call once in --order.
     },
     Topic {
         words: "fault 2 not a call",
-        help: check::DETAILS,
+        help: CHECK,
         line: "  fault 2 not a call",
         advice: "\
 To do: name finished calls and unfinished enqueues, by their places from 0.
@@ -650,7 +695,7 @@ To do: name finished calls and unfinished enqueues, by their places from 0.
     },
     Topic {
         words: "fault 3 leaves out",
-        help: check::DETAILS,
+        help: CHECK,
         line: "  fault 3 leaves out",
         advice: "\
 To do: name each finished call in --order.
@@ -658,7 +703,7 @@ To do: name each finished call in --order.
     },
     Topic {
         words: "fault 4 breaks before",
-        help: check::DETAILS,
+        help: CHECK,
         line: "  fault 4 breaks before",
         advice: "\
 To do: put a call that has ended before another began in front of that one.
@@ -666,7 +711,7 @@ To do: put a call that has ended before another began in front of that one.
     },
     Topic {
         words: "fault 5 not a run at",
-        help: check::DETAILS,
+        help: CHECK,
         line: "  fault 5 not a run at",
         advice: "\
 To do: look at the call at this place of the order, from 0: an Empty needs an empty list, a Got one of the k
@@ -675,7 +720,7 @@ oldest items.
     },
     Topic {
         words: "the order",
-        help: DETAILS,
+        help: EXPLAIN,
         line: "  the order fails",
         advice: "\
 To do: look at the call that is marked.
@@ -683,7 +728,7 @@ To do: look at the call that is marked.
     },
     Topic {
         words: "legal",
-        help: DETAILS,
+        help: EXPLAIN,
         line: "  legal",
         advice: "\
 To do: nothing.
@@ -691,7 +736,7 @@ To do: nothing.
     },
     Topic {
         words: "call # item # overtaken",
-        help: DETAILS,
+        help: EXPLAIN,
         line: "  call <N> item <X> overtaken <C>",
         advice: "\
 To do: nothing: in a plain queue each count is 0.
@@ -699,15 +744,19 @@ To do: nothing: in a plain queue each count is 0.
     },
     Topic {
         words: "most",
-        help: DETAILS,
+        help: EXPLAIN,
         line: "  most <C>",
         advice: "\
 To do: nothing: in a plain queue it is 0.
 ",
     },
+];
+
+/// Further faults and answers.
+const LAST_TOPICS: &[Topic] = &[
     Topic {
         words: "enqueue #: done",
-        help: run::DETAILS,
+        help: RUN,
         line: "  done ",
         advice: "\
 To do: nothing.
@@ -715,7 +764,7 @@ To do: nothing.
     },
     Topic {
         words: "enqueue #: full",
-        help: run::DETAILS,
+        help: RUN,
         line: "  full ",
         advice: "\
 To do: take items first, or make the queue larger by --segments.
@@ -723,7 +772,7 @@ To do: take items first, or make the queue larger by --segments.
     },
     Topic {
         words: "enqueue #: busy",
-        help: run::DETAILS,
+        help: RUN,
         line: "  busy ",
         advice: "\
 To do: give more --turns: the number of segments plus 2 is enough where no other call disturbs.
@@ -731,7 +780,7 @@ To do: give more --turns: the number of segments plus 2 is enough where no other
     },
     Topic {
         words: "enqueue #: worn",
-        help: run::DETAILS,
+        help: RUN,
         line: "  worn ",
         advice: "\
 To do: make a new queue, or give a greater --last.
@@ -739,7 +788,7 @@ To do: make a new queue, or give a greater --last.
     },
     Topic {
         words: "dequeue: got",
-        help: run::DETAILS,
+        help: RUN,
         line: "  got <ITEM> ",
         advice: "\
 To do: nothing.
@@ -747,7 +796,7 @@ To do: nothing.
     },
     Topic {
         words: "dequeue: empty",
-        help: run::DETAILS,
+        help: RUN,
         line: "  empty ",
         advice: "\
 To do: nothing.
@@ -755,7 +804,7 @@ To do: nothing.
     },
     Topic {
         words: "dequeue: busy",
-        help: run::DETAILS,
+        help: RUN,
         line: "  busy ",
         advice: "\
 To do: give more --turns: the number of segments plus 2 is enough where no other call disturbs.
@@ -763,7 +812,7 @@ To do: give more --turns: the number of segments plus 2 is enough where no other
     },
     Topic {
         words: "dequeue: worn",
-        help: run::DETAILS,
+        help: RUN,
         line: "  worn ",
         advice: "\
 To do: make a new queue, or give a greater --last.
@@ -771,7 +820,7 @@ To do: make a new queue, or give a greater --last.
     },
     Topic {
         words: "done",
-        help: run::DETAILS,
+        help: RUN,
         line: "  done ",
         advice: "\
 To do: nothing.
@@ -779,7 +828,7 @@ To do: nothing.
     },
     Topic {
         words: "full",
-        help: run::DETAILS,
+        help: RUN,
         line: "  full ",
         advice: "\
 To do: take items first, or make the queue larger by --segments.
@@ -787,7 +836,7 @@ To do: take items first, or make the queue larger by --segments.
     },
     Topic {
         words: "got",
-        help: run::DETAILS,
+        help: RUN,
         line: "  got <ITEM> ",
         advice: "\
 To do: nothing.
@@ -795,7 +844,7 @@ To do: nothing.
     },
     Topic {
         words: "empty",
-        help: run::DETAILS,
+        help: RUN,
         line: "  empty ",
         advice: "\
 To do: nothing.
@@ -803,7 +852,7 @@ To do: nothing.
     },
     Topic {
         words: "busy",
-        help: run::DETAILS,
+        help: RUN,
         line: "  busy ",
         advice: "\
 To do: give more --turns: the number of segments plus 2 is enough where no other call disturbs.
@@ -811,7 +860,7 @@ To do: give more --turns: the number of segments plus 2 is enough where no other
     },
     Topic {
         words: "worn",
-        help: run::DETAILS,
+        help: RUN,
         line: "  worn ",
         advice: "\
 To do: make a new queue, or give a greater --last.
@@ -819,7 +868,7 @@ To do: make a new queue, or give a greater --last.
     },
     Topic {
         words: "head",
-        help: DETAILS,
+        help: EXPLAIN,
         line: "  head <S> v<V>",
         advice: "\
 To do: nothing.
@@ -827,7 +876,7 @@ To do: nothing.
     },
     Topic {
         words: "tail",
-        help: DETAILS,
+        help: EXPLAIN,
         line: "  tail <S> v<V>",
         advice: "\
 To do: nothing.
@@ -835,7 +884,7 @@ To do: nothing.
     },
     Topic {
         words: "slot",
-        help: DETAILS,
+        help: EXPLAIN,
         line: "  slot <S>.<P> <X> v<V>",
         advice: "\
 To do: nothing.
@@ -843,7 +892,7 @@ To do: nothing.
     },
     Topic {
         words: "steps",
-        help: replay::DETAILS,
+        help: REPLAY,
         line: "  steps <N>",
         advice: "\
 To do: nothing.
@@ -851,7 +900,7 @@ To do: nothing.
     },
     Topic {
         words: "points",
-        help: replay::DETAILS,
+        help: REPLAY,
         line: "  points <STEPS>",
         advice: "\
 To do: nothing.
@@ -859,7 +908,7 @@ To do: nothing.
     },
     Topic {
         words: "rollbacks",
-        help: replay::DETAILS,
+        help: REPLAY,
         line: "  rollbacks <N>",
         advice: "\
 To do: nothing.
@@ -867,7 +916,7 @@ To do: nothing.
     },
     Topic {
         words: "completed",
-        help: replay::DETAILS,
+        help: REPLAY,
         line: "  completed <N>",
         advice: "\
 To do: nothing.
@@ -875,7 +924,7 @@ To do: nothing.
     },
     Topic {
         words: "order",
-        help: DETAILS,
+        help: EXPLAIN,
         line: "  order",
         advice: "\
 To do: of `check`, use `kfifo judge --show` to see the order.
@@ -883,7 +932,7 @@ To do: of `check`, use `kfifo judge --show` to see the order.
     },
     Topic {
         words: "no calls",
-        help: DETAILS,
+        help: EXPLAIN,
         line: "  no calls",
         advice: "\
 To do: nothing.
@@ -891,7 +940,7 @@ To do: nothing.
     },
     Topic {
         words: "# #",
-        help: DETAILS,
+        help: EXPLAIN,
         line: "  <ID> <SUM>",
         advice: "\
 To do: nothing.
@@ -916,12 +965,42 @@ pub fn command<'a>(alloc: Global) -> Result<Command<'a>, AllocError>
         .arg(words)
 }
 
+// The constants stand behind functions of their own, in four parts: what borrows more at once takes the check too many steps.
+/// The first quarter of the faults and answers.
+fn first_topics() -> &'static [Topic] {
+    FIRST_TOPICS
+}
+
+/// The second quarter of the faults and answers.
+fn second_topics() -> &'static [Topic] {
+    SECOND_TOPICS
+}
+
+/// The third quarter of the faults and answers.
+fn third_topics() -> &'static [Topic] {
+    THIRD_TOPICS
+}
+
+/// The last quarter of the faults and answers.
+fn last_topics() -> &'static [Topic] {
+    LAST_TOPICS
+}
+
+/// The help of each command.
+fn helps() -> &'static [&'static str] {
+    HELPS
+}
+
 /// What the words give.
 pub fn options_of<'a>(matches: &'a ArgMatches<'_>) -> ExplainOptions<'a>
     ensures { GivesExplain (found_of matches.now) result }
 {
     ExplainOptions {
         words: matches.get_strs(WORDS).unwrap_or(&[]),
-        topics: TOPICS,
+        first_topics: first_topics(),
+        second_topics: second_topics(),
+        third_topics: third_topics(),
+        last_topics: last_topics(),
+        helps: helps(),
     }
 }

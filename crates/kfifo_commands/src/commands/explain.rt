@@ -11,7 +11,16 @@ pub fn answer(alloc: Global, options: ExplainOptions<'_>) -> Result<String, Faul
     ensures err { IfErr result IsExplainRefusal }
     ensures silent { IfErr result (λ fault. fault ≢ Fault.Output) }
 {
-    match explanation(alloc, options.words, options.topics)? {
+    if let Some(text) = explanation(alloc, options.words, options.first_topics, options.helps)? {
+        return Ok(text);
+    }
+    if let Some(text) = explanation(alloc, options.words, options.second_topics, options.helps)? {
+        return Ok(text);
+    }
+    if let Some(text) = explanation(alloc, options.words, options.third_topics, options.helps)? {
+        return Ok(text);
+    }
+    match explanation(alloc, options.words, options.last_topics, options.helps)? {
         Some(text) => Ok(text),
         None => Err(Fault::Unexplained),
     }
