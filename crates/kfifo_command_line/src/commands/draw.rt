@@ -1,9 +1,9 @@
 //! The command `draw`: a picture of a record or a log, or of a part of it.
-ghost use Rattle.std.specs.Prelude.{◌≡◌, IfOk};
-ghost use Rattle.clap.specs.Words.{app_of, found_of};
+ghost use Rattle.std.specs.Prelude.{◌≡◌, IfOk, codes, option_map};
+ghost use Rattle.clap.specs.Words.{app_of, first_value, found_of};
 ghost use Rattle.clap.specs.declared.builder.command.Command.TheViews.{out-Command as fields_of};
 ghost use Rattle.kfifo_command_line.specs.CommandLine.{IsCommand, draw_command, with_evidence_options, with_stretch_options};
-ghost use Rattle.kfifo_command_line.specs.Options.{GivesDraw};
+ghost use Rattle.kfifo_command_line.specs.Options.{GivesDraw, GivesPlaces};
 
 use crate::commands::check;
 use crate::options;
@@ -142,15 +142,23 @@ pub fn command<'a>(alloc: Global) -> Result<Command<'a>, AllocError>
     with_stretches(alloc, command)
 }
 
+/// The k, and the order that is drawn too.
+fn order_of<'a>(matches: &'a ArgMatches<'_>) -> CheckOptions<'a>
+    ensures k { GivesPlaces (found_of matches.now) 1 result.k }
+    ensures order { option_map (λ text. text.now) result.order ≡ first_value (found_of matches.now) (codes "order") }
+{
+    CheckOptions {
+        k: options::places_of(matches, 1),
+        order: matches.get_str(check::ORDER),
+    }
+}
+
 /// What the options give.
 pub fn options_of<'a>(matches: &'a ArgMatches<'_>) -> DrawOptions<'a>
     ensures { GivesDraw (found_of matches.now) result }
 {
     DrawOptions {
-        check: CheckOptions {
-            k: options::places_of(matches, 1),
-            order: matches.get_str(check::ORDER),
-        },
+        check: order_of(matches),
         text: matches.get_flag(TEXT),
         evidence: matches.get_flag(EVIDENCE),
         around: matches.get_one(AROUND),
