@@ -10,6 +10,10 @@ void *array_queue_new(std::size_t);
 bool array_queue_push(const void *, std::uint32_t);
 std::uint32_t array_queue_pop(const void *);
 void array_queue_free(void *);
+void *array_values_new(std::size_t);
+bool array_values_push(const void *, std::uint64_t, std::uint64_t);
+bool array_values_pop(const void *, std::uint64_t *);
+void array_values_free(void *);
 void *ck_queue_new(unsigned);
 bool ck_queue_push(void *, std::uint32_t);
 std::uint32_t ck_queue_pop(void *);
@@ -28,11 +32,22 @@ void ck_queue_free(void *);
 #include <memory>
 #include <mutex>
 #include <new>
+#include <stdexcept>
 #include <string>
 #include <tbb/concurrent_queue.h>
 #include <vector>
 
 namespace bench {
+
+// A value of 16 bytes. Both halves are the item, and a pop checks that they came out together.
+struct Value {
+    std::uint64_t halves[2];
+    explicit Value(std::uint64_t item) : halves{item, item} {}
+    std::uint32_t item() const {
+        if (halves[0] != halves[1]) throw std::logic_error("a value came out torn");
+        return std::uint32_t(halves[0]);
+    }
+};
 
 // What a thread holds while it calls: of most queues nothing.
 struct NothingAttached {
@@ -121,22 +136,26 @@ struct Ck {
     std::uint32_t pop(std::size_t) { return ck_queue_pop(queue); }
 };
 
-struct Mutex {
+inline std::uint32_t item_of(std::uint32_t item) { return item; }
+inline std::uint32_t item_of(const Value &value) { return value.item(); }
+
+// A mutex around a deque, of items or of values.
+template <typename T> struct Mutex {
     using Attached = NothingAttached;
     std::mutex mutex;
-    std::deque<std::uint32_t> items;
+    std::deque<T> items;
     std::size_t capacity;
     explicit Mutex(std::size_t capacity) : capacity(capacity) {}
     bool push(std::size_t, std::uint32_t item) {
         std::lock_guard<std::mutex> guard(mutex);
         if (items.size() >= capacity) return false;
-        items.push_back(item);
+        items.push_back(T(item));
         return true;
     }
     std::uint32_t pop(std::size_t) {
         std::lock_guard<std::mutex> guard(mutex);
         if (items.empty()) return 0;
-        std::uint32_t item = items.front();
+        std::uint32_t item = item_of(items.front());
         items.pop_front();
         return item;
     }
@@ -207,6 +226,48 @@ struct Moodycamel {
     }
 };
 
+// This repository's queue of values as a C++ program uses it. A value of more than 8 bytes has a cell on the heap.
+struct KfifoValues {
+    using Attached = NothingAttached;
+    kfifo::ValueQueue<Value> queue;
+    std::vector<kfifo::ValueQueue<Value>::Handle> handles;
+
+    KfifoValues(std::uint32_t k, std::size_t capacity, std::size_t threads) : queue(k, std::uint32_t(capacity) / k, threads) {
+        for (std::size_t i = 0; i < threads; i++) handles.push_back(queue.handle());
+    }
+    bool push(std::size_t thread, std::uint32_t item) { return handles[thread].give(Value(item)) == kfifo::Put::done; }
+    std::uint32_t pop(std::size_t thread) {
+        auto taken = handles[thread].take();
+        return taken.value ? taken.value->item() : 0;
+    }
+};
+
+// The same with values of 8 bytes, which the queue holds itself.
+struct KfifoWords {
+    using Attached = NothingAttached;
+    kfifo::ValueQueue<std::uint64_t> queue;
+    std::vector<kfifo::ValueQueue<std::uint64_t>::Handle> handles;
+
+    KfifoWords(std::uint32_t k, std::size_t capacity, std::size_t threads) : queue(k, std::uint32_t(capacity) / k, threads) {
+        for (std::size_t i = 0; i < threads; i++) handles.push_back(queue.handle());
+    }
+    bool push(std::size_t thread, std::uint32_t item) { return handles[thread].give(std::uint64_t(item)) == kfifo::Put::done; }
+    std::uint32_t pop(std::size_t thread) { return std::uint32_t(handles[thread].take().value.value_or(0)); }
+};
+
+// crossbeam's ArrayQueue of values of 16 bytes, which it holds itself.
+struct ArrayValues {
+    using Attached = NothingAttached;
+    void *queue;
+    explicit ArrayValues(std::size_t capacity) : queue(array_values_new(capacity)) {}
+    ~ArrayValues() { array_values_free(queue); }
+    bool push(std::size_t, std::uint32_t item) { return array_values_push(queue, item, item); }
+    std::uint32_t pop(std::size_t) {
+        Value value(0);
+        return array_values_pop(queue, value.halves) ? value.item() : 0;
+    }
+};
+
 // Calls use(queue) with the queue of this name, and returns what it returns; 2 where there is no such queue. k is that of
 // kfifo, and the quasi factor of segmented.
 template <typename Use>
@@ -218,7 +279,11 @@ int with_queue(const std::string &name, std::uint32_t k, std::size_t capacity, s
     if (name == "boost") return with(std::make_unique<Boost>(capacity));
     if (name == "tbb") return with(std::make_unique<Tbb>(capacity));
     if (name == "ck") return with(std::make_unique<Ck>(capacity));
-    if (name == "mutex") return with(std::make_unique<Mutex>(capacity));
+    if (name == "mutex") return with(std::make_unique<Mutex<std::uint32_t>>(capacity));
+    if (name == "kfifo-values") return with(std::make_unique<KfifoValues>(k, capacity, threads));
+    if (name == "kfifo-words") return with(std::make_unique<KfifoWords>(k, capacity, threads));
+    if (name == "array-values") return with(std::make_unique<ArrayValues>(capacity));
+    if (name == "mutex-values") return with(std::make_unique<Mutex<Value>>(capacity));
     if (name == "ms") return with(std::make_unique<CdsMs>());
     if (name == "segmented") return with(std::make_unique<CdsSegmented>(k));
     if (name == "vyukov") return with(std::make_unique<CdsVyukov>(capacity));

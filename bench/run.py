@@ -3,8 +3,8 @@
 
 Each round runs all queues one after the other, and begins with another one than the round before. A ratio compares two
 rates of one round; the table has the median of these ratios over the rounds, with the quartiles. Each run checks that what
-went in came out. The table begins with an overview, a row for each workload. The last workloads are an application: threads
-that share one queue of vertices find a spanning tree of a random graph.
+went in came out. The table begins with two overviews, a row for each workload. Some workloads are an application: threads
+that share one queue of vertices find a spanning tree of a random graph. The last ones are queues of values of 16 bytes.
 
     bench/run.py [--rounds N] [--milliseconds M] [--only WORD] [--out FOLDER]
 
@@ -32,6 +32,8 @@ CALLS = [
 ]
 WORK = [0, 100]
 CAPACITIES = [1024, 16384]
+# The capacity of the queues of values.
+VALUES_CAPACITY = 1024
 # The spanning tree: threads, and the vertices and edges of the graph.
 TREES = [2, 4, 8]
 VERTICES, EDGES = 400_000, 1_600_000
@@ -47,16 +49,24 @@ NAMES = {
     "segmented": "libcds SegmentedQueue",
     "kfifo": "kfifo",
     "kfifo-at-random": "kfifo, random starts",
+    "array-values": "ArrayQueue of 16 bytes",
+    "mutex-values": "mutex and deque of 16 bytes",
+    "kfifo-values": "kfifo, a cell for each value",
+    "kfifo-words": "kfifo, values of 8 bytes",
 }
 OURS = [("kfifo", 1), ("kfifo", 4), ("kfifo", 16), ("kfifo", 64), ("kfifo-at-random", 16), ("kfifo-at-random", 64)]
-BASE = ("array", 0)
+# The queues of values; ArrayQueue comes first here too.
+VALUES = [("array-values", 0), ("mutex-values", 0)]
+VALUES += [(name, k) for name in ("kfifo-values", "kfifo-words") for k in (4, 16, 64)]
 
 
 @dataclasses.dataclass
 class Workload:
-    """What the queues are measured at: its title, its capacity, and the program with its arguments behind the queue's."""
+    """What queues are measured at: its title, the queues, the first of which the others are compared with, its capacity,
+    and the program with its arguments behind the queue's."""
 
     title: str
+    queues: list
     capacity: int
     program: str
     words: list
@@ -69,10 +79,13 @@ def workloads(milliseconds):
         for name, *threads in CALLS:
             for work in WORK:
                 title = f"{name}, capacity {capacity:,}" + (f", {work} ns of work between calls" if work else "")
-                made.append(Workload(title, capacity, "rates", [*threads, work, milliseconds]))
+                made.append(Workload(title, queues(capacity), capacity, "rates", [*threads, work, milliseconds]))
     for threads in TREES:
         title = f"spanning tree by {threads} threads, capacity {TREE_CAPACITY:,}"
-        made.append(Workload(title, TREE_CAPACITY, "spanning_tree", [threads, VERTICES, EDGES]))
+        made.append(Workload(title, queues(TREE_CAPACITY), TREE_CAPACITY, "spanning_tree", [threads, VERTICES, EDGES]))
+    for name, *threads in CALLS:
+        title = f"values, {name}, capacity {VALUES_CAPACITY:,}"
+        made.append(Workload(title, VALUES, VALUES_CAPACITY, "rates", [*threads, 0, milliseconds]))
     return made
 
 
@@ -115,11 +128,10 @@ def rate(queue, workload):
 
 def measure(workload, rounds):
     """The rates of each queue, one for each round."""
-    all_queues = queues(workload.capacity)
-    rates = {it: [] for it in all_queues}
+    rates = {it: [] for it in workload.queues}
     for turn in range(rounds):
-        first = turn % len(all_queues)
-        for queue in all_queues[first:] + all_queues[:first]:
+        first = turn % len(workload.queues)
+        for queue in workload.queues[first:] + workload.queues[:first]:
             rates[queue].append(rate(queue, workload))
     return rates
 
@@ -132,37 +144,50 @@ def quartiles(values):
     return first, middle, third
 
 
+def ratios(rates):
+    """The ratios of each queue's rates to those of the first queue, one for each round."""
+    base = next(iter(rates.values()))
+    return {queue: [it / by for it, by in zip(values, base)] for queue, values in rates.items()}
+
+
 def table(title, rates):
     unit = "vertices" if title.startswith("spanning") else "calls"
     head = f"| Queue | Million {unit} a second | Ratio to ArrayQueue | Quartiles |"
     lines = [f"### {title}", "", head, "|---|---|---|---|"]
-    for queue, values in rates.items():
-        first, middle, third = quartiles([it / base for it, base in zip(values, rates[BASE])])
-        lines.append(f"| {label(queue)} | {statistics.median(values) / 1e6:.2f} | {middle:.2f} | {first:.2f} to {third:.2f} |")
+    for queue, its_ratios in ratios(rates).items():
+        first, middle, third = quartiles(its_ratios)
+        speed = statistics.median(rates[queue]) / 1e6
+        lines.append(f"| {label(queue)} | {speed:.2f} | {middle:.2f} | {first:.2f} to {third:.2f} |")
     return "\n".join(lines) + "\n"
 
 
 def overview(all_rates):
-    """A row for each workload, with each queue's median ratio to ArrayQueue."""
-    columns = list(dict.fromkeys(queue for rates in all_rates.values() for queue in rates if queue != BASE))
-    lines = ["| Workload | " + " | ".join(label(it) for it in columns) + " |", "|---" * (len(columns) + 1) + "|"]
+    """A row for each workload, with each queue's median ratio to ArrayQueue; those of values in a table of their own."""
+    parts = [{}, {}]
     for title, rates in all_rates.items():
-        base = rates[BASE]
-        medians = [f"{statistics.median(it / by for it, by in zip(rates[queue], base)):.2f}" if queue in rates else "" for queue in columns]
+        parts[title.startswith("values")][title] = ratios(rates)
+    return "\n".join(overview_of(part) for part in parts if part)
+
+
+def overview_of(all_ratios):
+    columns = list(dict.fromkeys(queue for its in all_ratios.values() for queue in list(its)[1:]))
+    lines = ["| Workload | " + " | ".join(label(it) for it in columns) + " |", "|---" * (len(columns) + 1) + "|"]
+    for title, its in all_ratios.items():
+        medians = [f"{statistics.median(its[queue]):.2f}" if queue in its else "" for queue in columns]
         lines.append(f"| {title} | " + " | ".join(medians) + " |")
     return "\n".join(lines) + "\n"
 
 
 def plot(title, rates):
     """A bar for each queue's ratio to ArrayQueue, with a line from quartile to quartile."""
-    ratios = {queue: quartiles([it / base for it, base in zip(values, rates[BASE])]) for queue, values in rates.items()}
+    bars = {queue: quartiles(its_ratios) for queue, its_ratios in ratios(rates).items()}
     width, left, bar = 720, 200, 24
-    most = max(it[2] for it in ratios.values()) * 1.05
+    most = max(it[2] for it in bars.values()) * 1.05
     across = lambda ratio: left + ratio / most * (width - left - 60)
-    height = 50 + bar * len(ratios)
+    height = 50 + bar * len(bars)
     parts = [f'<svg xmlns="http://www.w3.org/2000/svg" width="{width}" height="{height}" font-family="sans-serif" font-size="12">']
     parts.append(f'<rect width="{width}" height="{height}" fill="white"/><text x="10" y="20" font-size="14">{title}: rate beside ArrayQueue</text>')
-    for place, (queue, (first, middle, third)) in enumerate(ratios.items()):
+    for place, (queue, (first, middle, third)) in enumerate(bars.items()):
         top = 36 + bar * place
         color = "#3b6fb6" if queue[0].startswith("kfifo") else "#b0b0b0"
         parts.append(f'<text x="{left - 8}" y="{top + 13}" text-anchor="end">{label(queue)}</text>')

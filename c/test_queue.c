@@ -167,6 +167,24 @@ static void starts(void) {
     expect((int)count, 1, "the item that is left");
 }
 
+/* As many handles as a queue may have, and the greatest ring: each handle puts an item, and all but one get one. */
+static void most_handles(void) {
+    enum { THREADS = 64 };
+    static kfifo_pass all[THREADS];
+    uint32_t item = 0, sum = 0;
+    size_t count = 0;
+    expect(kfifo_open(64, 1024, 64, KFIFO_LAST, all, THREADS), KFIFO_DONE, "open for 64");
+    for (uint32_t i = 0; i < THREADS; i++) expect(kfifo_put(&all[i], i + 1), KFIFO_DONE, "a put by each of 64");
+    for (uint32_t i = 1; i < THREADS; i++) {
+        expect(kfifo_get(&all[i], &item), KFIFO_GOT, "a get by 63 of 64");
+        sum += item;
+    }
+    expect(kfifo_close(all, THREADS - 1, left, 64 * 1024, &count), KFIFO_BAD_CALL, "a close by 63 of 64");
+    expect(kfifo_close(all, THREADS, left, 64 * 1024, &count), KFIFO_DONE, "a close by 64");
+    expect((int)count, 1, "the items that are left");
+    expect((int)(sum + left[0]), THREADS * (THREADS + 1) / 2, "the sum of the items");
+}
+
 static void refusals(void) {
     kfifo_pass pass, many[65];
     uint32_t item = 77;
@@ -239,6 +257,7 @@ int main(void) {
     refusals();
     mixtures();
     starts();
+    most_handles();
     for (int status = KFIFO_DONE; status <= KFIFO_BAD_TOKENS; status++)
         expect(strcmp(kfifo_status_text((kfifo_status)status), kfifo_status_text((kfifo_status)99)) != 0, 1, "the text of a status");
     for (size_t k = 0; k < 4; k++)

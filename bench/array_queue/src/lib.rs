@@ -26,3 +26,38 @@ pub unsafe extern "C" fn array_queue_pop(queue: *const ArrayQueue<u32>) -> u32 {
 pub unsafe extern "C" fn array_queue_free(queue: *mut ArrayQueue<u32>) {
     drop(Box::from_raw(queue));
 }
+
+/// A value of 16 bytes.
+pub struct Value([u64; 2]);
+
+#[no_mangle]
+pub extern "C" fn array_values_new(capacity: usize) -> *mut ArrayQueue<Value> {
+    Box::into_raw(Box::new(ArrayQueue::new(capacity)))
+}
+
+/// # Safety
+/// The queue is one of `array_values_new` that was not freed.
+#[no_mangle]
+pub unsafe extern "C" fn array_values_push(queue: *const ArrayQueue<Value>, first: u64, second: u64) -> bool {
+    (*queue).push(Value([first, second])).is_ok()
+}
+
+/// # Safety
+/// As of `array_values_push`, and `halves` has room for two words.
+#[no_mangle]
+pub unsafe extern "C" fn array_values_pop(queue: *const ArrayQueue<Value>, halves: *mut [u64; 2]) -> bool {
+    match (*queue).pop() {
+        Some(Value(value)) => {
+            *halves = value;
+            true
+        }
+        None => false,
+    }
+}
+
+/// # Safety
+/// As of `array_values_push`; nobody uses the queue any more.
+#[no_mangle]
+pub unsafe extern "C" fn array_values_free(queue: *mut ArrayQueue<Value>) {
+    drop(Box::from_raw(queue));
+}

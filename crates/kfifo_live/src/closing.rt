@@ -97,13 +97,17 @@ fn gather_all(shared: &Words<()>, mut seat: ThreadSeat<()>, mut passes: Vec<Pass
     seat
 }
 
-/// The items that are left, if each pass of the opening is given back: segment by segment from the
-/// head's round the ring, within a segment by slot number. Each item is among them as often as it was
-/// put, less how often it was undone and taken. The one schedule of all calls of the queue keeps its
-/// promise: a legal order of them, in which no item is overtaken k times where items are distinct.
+/// Closes a queue and returns the items that are left, if each pass of the opening is given back: segment by segment from
+/// the head's round the ring, within a segment by slot number. Each item is among them as often as it was put, less how
+/// often it was undone and taken. The one schedule of all calls of the queue keeps its promise: a legal order of them, in
+/// which no item is overtaken k times where items are distinct.
 ///
-/// MissingPass where not each pass of the opening is there once, which is tested first; Memory where
-/// an allocation failed. The items are then lost to the caller.
+/// ```rust
+/// let left = close(alloc, queue, vec![in alloc; pass]?)?; // the items that are left
+/// ```
+///
+/// MissingPass where not each pass of the opening is there once, which is tested first; Memory where an allocation
+/// failed. The items are then lost to the caller.
 pub fn close(alloc: Global, queue: Queue, mut passes: Vec<Pass>) -> Result<Vec<u32>, CloseFault>
     requires { All (IsOf queue) passes.items }
     ensures ok { IfOk result (λ items. Closes queue passes.items items.items) }

@@ -17,6 +17,12 @@ use std::marker::Model;
 /// Each enqueue begins its scan one slot further than the enqueue before it, and so do dequeues, apart from enqueues. A
 /// call makes up to n + 2 rounds, n being the number of segments, so Busy is always another thread's doing.
 ///
+/// ```rust
+/// let mut handle = Handle::new(&queue, pass);
+/// let put = handle.enqueue(&queue, 7);
+/// let took = handle.dequeue(&queue);
+/// ```
+///
 /// Clauses see it as its pass, and the slots at which its next enqueue and its next dequeue begin.
 #[derive(Drop)]
 pub struct Handle {
@@ -75,7 +81,7 @@ impl Handle {
 
     /// Puts an item, from 1 to 2^24 - 1, into the queue, as `Pass::enqueue` does.
     ///
-    /// Answers Done, Full, Worn or Busy. Busy comes only where another thread won an exchange during the call. It never
+    /// Returns Done, Full, Worn or Busy. Busy comes only where another thread won an exchange during the call. It never
     /// allocates, waits or locks.
     #[inline(always)]
     pub fn enqueue(&mut self, queue: &Queue, item: u32) -> Answer
@@ -94,7 +100,7 @@ impl Handle {
 
     /// Takes one of the k oldest items, as `Pass::dequeue` does.
     ///
-    /// Answers Got with the item, Empty, Worn or Busy. Busy comes only where another thread won an exchange during the
+    /// Returns Got with the item, Empty, Worn or Busy. Busy comes only where another thread won an exchange during the
     /// call. It never allocates, waits or locks.
     #[inline(always)]
     pub fn dequeue(&mut self, queue: &Queue) -> Answer

@@ -66,11 +66,16 @@ impl Queue {
         Ok((queue, passes))
     }
 
-    /// A queue, and one pass for each thread, numbered from 0. The passes have seen the empty schedule,
-    /// after which all words are 0.
+    /// Opens a queue, with one pass for each thread, numbered from 0. The passes have seen the empty schedule, after
+    /// which all words are 0.
     ///
-    /// ThreadsOutOfRange where the number of threads is not 1 to 64; Memory where an allocation
-    /// failed. Nothing is kept after a refusal.
+    /// ```rust
+    /// let shape = Shape::new(4, 256, MAX_VERSION)?; // k, segments, greatest version
+    /// let (queue, mut passes) = Queue::open(alloc, shape, 1)?; // one pass for each thread
+    /// ```
+    ///
+    /// ThreadsOutOfRange where the number of threads is not 1 to 64; Memory where an allocation failed. Nothing is kept
+    /// after a refusal.
     ///
     /// Every schedule of such a queue, and so what any of its passes will have seen, has a legal
     /// order of its calls; in it, where the items are distinct, none is overtaken k times.

@@ -12,6 +12,12 @@ use std::marker::Model;
 
 /// A pass of a payload queue that chooses the starts and the rounds of its calls, as `Handle` does.
 ///
+/// ```rust
+/// if let Taken::Got(text) = self.handle.take(queue) {
+///     self.out.add(text.as_str());
+/// }
+/// ```
+///
 /// Clauses see it as its pass, the slots at which its next `give` and its next `take` begin, and its two counts.
 #[derive(Drop)]
 pub struct PayHandle<T: Drop> {

@@ -64,7 +64,7 @@ impl<T: Drop> Model for PayPass<T> {
     ghost invariant = { λ p. IsPayPass p.thread p.seat.me p.at_home.items (vec_capacity p.at_home) };
 }
 
-/// What `give` answers. Each refusal hands the payload back.
+/// What `give` returns. Each refusal hands the payload back.
 #[derive(Clone, Copy, PartialEq, Eq, Debug, Drop)]
 pub enum Given<T> {
     /// The queue has the payload, and one token of the pass.
@@ -79,7 +79,7 @@ pub enum Given<T> {
     NoToken(T),
 }
 
-/// What `take` answers.
+/// What `take` returns.
 #[derive(Clone, Copy, PartialEq, Eq, Debug, Drop)]
 pub enum Taken<T> {
     /// One of the k oldest payloads, whose token the pass then has.
@@ -158,7 +158,7 @@ impl<T: Drop> PayPass<T> {
 
     /// Puts a payload into the queue, with a token of the pass.
     ///
-    /// Scans begin at slot `start`, below k. Answers Done, and the pass has a token less; NoToken exactly where the
+    /// Scans begin at slot `start`, below k. Returns Done, and the pass has a token less; NoToken exactly where the
     /// pass has no token; else, as `Pass::enqueue`, Full where the ring was seen full, Busy where each of `turns` rounds, at
     /// least 1, was lost, or Worn where a version would pass the greatest one. Each refusal hands the payload back, and
     /// the pass keeps its tokens. It never allocates, waits or locks.
@@ -197,7 +197,7 @@ impl<T: Drop> PayPass<T> {
 
     /// Takes one of the k oldest payloads out of the queue, and its token.
     ///
-    /// Scans begin at slot `start`, below k. Answers, as `Pass::dequeue`, Got with the payload, Empty where the queue was
+    /// Scans begin at slot `start`, below k. Returns, as `Pass::dequeue`, Got with the payload, Empty where the queue was
     /// empty, Busy where each of `turns` rounds, at least 1, was lost, or Worn where a version would pass the greatest
     /// one. The payload is the one beside the last enqueue of its token in what the pass has then seen. While the token is in
     /// the queue nobody enqueues it, so that enqueue put it. It never allocates, waits or locks.

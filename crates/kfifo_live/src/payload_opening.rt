@@ -131,8 +131,12 @@ impl<T: Drop> PayQueue<T> {
         Ok(opened)
     }
 
-    /// A queue, and one pass for each thread, numbered from 0, with so many tokens each: pass p has those from
+    /// Opens a queue, with one pass for each thread, numbered from 0, and so many tokens each: pass p has those from
     /// `p * tokens + 1` to `(p + 1) * tokens`. The passes have seen the empty schedule, after which all words are 0.
+    ///
+    /// ```rust
+    /// let (queue, passes) = PayQueue::open(alloc, Shape::new(2, 8, MAX_VERSION)?, THREADS, TOKENS)?;
+    /// ```
     ///
     /// ThreadsOutOfRange where the number of threads is not 1 to 64; then TokensOutOfRange where the number of tokens
     /// is not 1 to 1,024; Memory where an allocation failed. Nothing is kept after a refusal.

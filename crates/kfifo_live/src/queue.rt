@@ -76,18 +76,22 @@ impl Pass {
         self.thread
     }
 
-    /// Puts an item, from 1 to 2^24 - 1, into the queue.
+    /// Puts an item, from 1 to 2^24 - 1, into the queue. `Handle::enqueue` does so with nothing to choose.
     ///
-    /// Scans begin at slot `start`, below k. Answers Done, Full where the ring was seen full, Busy
-    /// where each of `turns` rounds, at least 1, was lost, or Worn where a version would pass the
-    /// greatest one. After Full, Busy and Worn the item is not in the queue and never comes out.
-    /// What the pass has seen grows by events of others and by one complete execution of the call, the last
-    /// event being its own; the laws of such runs stand beside it: how many events of its own a call
-    /// has at most, and what a call saw that was answered Full, Worn or Busy. Busy after n + 2 rounds
-    /// or more is another thread's doing. It never allocates, waits or locks.
+    /// ```rust
+    /// let put = pass.enqueue(&queue, 7, 0, 258); // item, start slot, turns
+    /// ```
     ///
-    /// What the pass has then seen keeps the promise: a legal order of its calls, this one among
-    /// them, in which no item is overtaken k times where items are distinct.
+    /// Scans begin at slot `start`, below k. Returns Done, Full where the ring was seen full, Busy where each of `turns`
+    /// rounds, at least 1, was lost, or Worn where a version would pass the greatest one. After Full, Busy and Worn the
+    /// item is not in the queue and never comes out. It never allocates, waits or locks.
+    ///
+    /// What the pass has seen grows by events of others and by one complete execution of the call, whose last event comes
+    /// last. The laws of such executions stand beside it: how many events of its own a call has at most, and what a call
+    /// saw that returned Full, Worn or Busy. Busy after n + 2 rounds or more is another thread's doing.
+    ///
+    /// What the pass has then seen keeps the promise: a legal order of its calls, this one among them, in which no item is
+    /// overtaken k times where items are distinct.
     #[inline(always)]
     pub fn enqueue(&mut self, queue: &Queue, item: u32, start: u32, turns: u16) -> Answer
         requires of { IsOf queue.now self.old }
@@ -109,16 +113,21 @@ impl Pass {
         ring.enqueue(&mut self.seat, item, start, turns)
     }
 
-    /// Takes one of the k oldest items.
+    /// Takes one of the k oldest items. `Handle::dequeue` does so with nothing to choose.
     ///
-    /// Scans begin at slot `start`, below k. Answers Got with the item, Empty where the queue was
-    /// empty, Busy where each of `turns` rounds, at least 1, was lost, or Worn where a version would
-    /// pass the greatest one. What the pass has seen grows by events of others and by one complete execution
-    /// of the call, the last event being its own; the laws of such runs stand beside it, as at
-    /// `enqueue`. It never allocates, waits or locks.
+    /// ```rust
+    /// let took = pass.dequeue(&queue, 0, 258);
+    /// ```
     ///
-    /// What the pass has then seen keeps the promise: a legal order of its calls, this one among
-    /// them, in which no item is overtaken k times where items are distinct.
+    /// Scans begin at slot `start`, below k. Returns Got with the item, Empty where the queue was empty, Busy where each of
+    /// `turns` rounds, at least 1, was lost, or Worn where a version would pass the greatest one. It never allocates, waits
+    /// or locks.
+    ///
+    /// What the pass has seen grows by events of others and by one complete execution of the call, whose last event comes
+    /// last. The laws of such executions stand beside it, as at `enqueue`.
+    ///
+    /// What the pass has then seen keeps the promise: a legal order of its calls, this one among them, in which no item is
+    /// overtaken k times where items are distinct.
     #[inline(always)]
     pub fn dequeue(&mut self, queue: &Queue, start: u32, turns: u16) -> Answer
         requires of { IsOf queue.now self.old }

@@ -34,11 +34,15 @@ fn add_logs(alloc: Global, queue: &Queue, passes: Vec<Pass>) -> Result<Vec<Stamp
 }
 
 impl StampQueue {
-    /// A queue, and one pass for each thread, numbered from 0, which may make `calls` stamped calls. The
-    /// passes have seen the empty schedule, after which all words are 0, and their logs are empty.
+    /// Opens a queue, with one pass for each thread, numbered from 0, which may make `calls` stamped calls. The passes have
+    /// seen the empty schedule, after which all words are 0, and their logs are empty.
     ///
-    /// ThreadsOutOfRange where the number of threads is not 1 to 64; then CallsOutOfRange where that of
-    /// calls is not 1 to 1,024; Memory where an allocation failed. Nothing is kept after a refusal.
+    /// ```rust
+    /// let (queue, mut passes) = StampQueue::open(alloc, shape, 1, 2)?; // room for two calls in each log
+    /// ```
+    ///
+    /// ThreadsOutOfRange where the number of threads is not 1 to 64; then CallsOutOfRange where the number of calls is not
+    /// 1 to 1,024; Memory where an allocation failed. Nothing is kept after a refusal.
     pub fn open(
         alloc: Global,
         shape: Shape,
@@ -103,11 +107,15 @@ fn take_logs(alloc: Global, passes: Vec<StampPass>) -> Result<(Vec<Call>, Vec<Pa
     Ok((calls, plain))
 }
 
-/// The record of the run, if each pass of the opening is given back: all logged calls, by rising first
-/// stamps. It has a legal order, in which no item is overtaken k times where items are distinct.
+/// Returns the record of the run, if each pass of the opening is given back: all logged calls, by rising first stamps. It
+/// has a legal order, in which no item is overtaken k times where items are distinct.
 ///
-/// MissingPass where not each pass of the opening is there once, which is tested first; Memory where
-/// an allocation failed. The logs are then lost to the caller, and the items left in the queue always.
+/// ```rust
+/// let history = gather(alloc, queue, vec![in alloc; pass]?)?; // all logged calls, by rising first stamps
+/// ```
+///
+/// MissingPass where not each pass of the opening is there once, which is tested first; Memory where an allocation
+/// failed. The logs are then lost to the caller, and the items left in the queue always.
 pub fn gather(
     alloc: Global,
     queue: StampQueue,

@@ -50,7 +50,7 @@ impl Model for StampPass {
 }
 
 impl Pass {
-    /// Draws a stamp, which is one tick of the clock: it answers how often the clock had ticked before.
+    /// Draws a stamp, which is one tick of the clock: it returns how often the clock had ticked before.
     #[inline(always)]
     fn draw_stamp(&mut self, queue: &Queue) -> u64
         requires of { IsOf queue.now self.old }

@@ -12,12 +12,16 @@ use kfifo_words::Shape;
 use std::alloc::{AllocError, Global};
 use std::thread::{Threads, map_vec};
 
-/// The record of a run of scripts on one queue of this shape: script t is run by a thread of its own, with pass t, call
-/// by call. The history has the calls of all threads by rising first stamps, those of thread t being script t in its order: at most 65,536 in all, as
-/// many as a record may have.
+/// Runs scripts on one queue of this shape, and returns the record of the run. A thread of its own runs script t, call by
+/// call, with pass t. The record has the calls of all threads by rising first stamps, those of thread t being script t in
+/// its order: at most 65,536 in all, as many as a record may have.
 ///
-/// Before call number c of script t, from 1, its worker passes `gate` with t and c. One of the workers is the
-/// calling thread; where no thread can be made, scripts run one after the other. It returns where the gate's calls return.
+/// ```rust
+/// let history = record_scripts(threads, alloc, shape, scripts.as_slice(), &OpenGate)?;
+/// ```
+///
+/// Before call number c of script t, from 1, its worker passes `gate` with t and c. One of the workers is the calling
+/// thread. Where no thread can be made, scripts run one after the other. The call returns if the gate's calls return.
 ///
 /// ThreadsOutOfRange where there are not 1 to 64 scripts; then CallsOutOfRange where one has over 1,024 calls; Memory
 /// where an allocation failed. After a refusal nothing is kept, and all workers that were started have ended.
