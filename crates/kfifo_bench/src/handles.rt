@@ -68,29 +68,3 @@ pub(crate) fn give_and_take(
     }
     wanted
 }
-
-/// Takes a payload by one handle and gives it by another in turn, and counts the calls that did so. Where each handle has
-/// the tokens that it was opened with and the giver has none left, each call moves a token.
-#[inline(always)]
-pub(crate) fn take_and_give(
-    queue: &PayQueue<Parcel>,
-    taker: &mut PayHandle<Parcel>,
-    giver: &mut PayHandle<Parcel>,
-    calls: u32,
-) -> u64
-    requires taker { IsOf queue.now taker.old.pass.pass }
-    requires giver { IsOf queue.now giver.old.pass.pass }
-    ensures wanted { result ≤ 2 * calls }
-{
-    let mut wanted: u64 = 0;
-    for call in 0..calls {
-        let Taken::Got(parcel) = taker.take(queue) else {
-            return wanted;
-        };
-        wanted += 1;
-        if let Given::Done = giver.give(queue, parcel) {
-            wanted += 1;
-        }
-    }
-    wanted
-}

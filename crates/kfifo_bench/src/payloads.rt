@@ -15,9 +15,6 @@ pub(crate) struct Parcel {
 /// How many tokens the pass has: those of the payloads in the queue, and as many to give with.
 pub(crate) const TOKENS: u32 = 1_024;
 
-/// How many payloads fill the queue half.
-pub(crate) const FILLED: u32 = 512;
-
 /// Gives 512 payloads, one after the other.
 pub(crate) fn fill(queue: &PayQueue<Parcel>, pass: &mut PayPass<Parcel>, starts: &mut Starts)
     requires of { IsOf queue.now pass.old.pass }
@@ -25,7 +22,7 @@ pub(crate) fn fill(queue: &PayQueue<Parcel>, pass: &mut PayPass<Parcel>, starts:
     ensures same { IsSame pass.old.pass pass.new.pass }
     ensures k { starts.new.k ≡ starts.old.k }
 {
-    for number in 0..u64::from(FILLED) {
+    for number in 0..512u64 {
         let parcel = Parcel { number, weight: 1 };
         pass.give(queue, parcel, starts.next(), TURNS);
     }

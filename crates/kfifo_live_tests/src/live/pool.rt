@@ -3,7 +3,7 @@ ghost use Rattle.std.specs.Prelude.{◌≡◌, ◌<◌, IfOk, IfSome, All};
 ghost use Rattle.kfifo_live.specs.Pass.{IsOf, IsSame};
 
 use crate::plain::{close_payloads, give, take};
-use kfifo_live::{Given, MAX_TOKENS, OpenFault, PayHandle, PayPass, PayQueue, Taken};
+use kfifo_live::{Given, MAX_TOKENS, OpenFault, PayPass, PayQueue, Taken};
 use kfifo_words::{MAX_VERSION, Shape};
 use std::alloc::{AllocError, Global};
 use std::process::Abort;
@@ -246,9 +246,6 @@ const TRIES: u32 = 16_777_216;
 /// How many tokens each pass is opened with.
 const TOKENS: u32 = 3;
 
-/// How many payloads each thread gives, so that a token comes back very often.
-const MANY: u32 = 1_000_000;
-
 /// How many payloads of each thread that gives nobody takes.
 const LEFT: u32 = 2;
 
@@ -272,97 +269,109 @@ impl Drop for Counted {
     }
 }
 
-/// A call of a handle, which picks a token up where its pass has none.
-fn give_by(
+/// Gives a payload, with a token from the pool where the pass has none. Hands it back where it is refused.
+fn offer(
     queue: &PayQueue<Counted>,
-    handle: &mut PayHandle<Counted>,
+    pass: &mut PayPass<Counted>,
     payload: Counted,
-) -> Given<Counted>
-    requires { IsOf queue.now handle.old.pass.pass }
-    ensures { IsSame handle.old.pass.pass handle.new.pass.pass }
+) -> Option<Counted>
+    requires { IsOf queue.now pass.old.pass }
+    ensures { IsSame pass.old.pass pass.new.pass }
 {
-    handle.give(queue, payload)
+    let start = queue.shape().k() - 1;
+    if pass.tokens() == 0 && !pick_up(queue, pass) {
+        return Some(payload);
+    }
+    match give(queue, pass, payload, start, 100) {
+        Given::Done => None,
+        Given::Full(payload)
+        | Given::Busy(payload)
+        | Given::Worn(payload)
+        | Given::NoToken(payload) => Some(payload),
+    }
 }
 
-/// A call of a handle, which lays a token down where its pass then has more than it was opened with.
-fn take_by(queue: &PayQueue<Counted>, handle: &mut PayHandle<Counted>) -> Taken<Counted>
-    requires { IsOf queue.now handle.old.pass.pass }
-    ensures { IsSame handle.old.pass.pass handle.new.pass.pass }
-{
-    handle.take(queue)
-}
-
-/// Tries to give a payload until it is taken in. Returns whether it was.
-fn insist(
-    queue: &PayQueue<Counted>,
-    handle: &mut PayHandle<Counted>,
-    payload: Counted,
-) -> bool
-    requires { IsOf queue.now handle.old.pass.pass }
-    ensures { IsSame handle.old.pass.pass handle.new.pass.pass }
+/// Tries to give a payload until it is taken in. Whether it was.
+fn insist(queue: &PayQueue<Counted>, pass: &mut PayPass<Counted>, payload: Counted) -> bool
+    requires { IsOf queue.now pass.old.pass }
+    ensures { IsSame pass.old.pass pass.new.pass }
 {
     let mut waiting = payload;
     for _try in 0..TRIES {
-        match give_by(queue, handle, waiting) {
-            Given::Done => return true,
-            Given::Full(back) | Given::Busy(back) | Given::Worn(back) | Given::NoToken(back) => {
-                waiting = back;
-            }
+        match offer(queue, pass, waiting) {
+            None => return true,
+            Some(back) => waiting = back,
         }
         yield_now();
     }
     false
 }
 
-/// Gives so many payloads. Returns the numbers of those that were not given.
+/// Gives so many payloads. Answers the numbers of those that were not given.
 fn produce(
     alloc: Global,
     queue: &PayQueue<Counted>,
-    handle: &mut PayHandle<Counted>,
+    pass: &mut PayPass<Counted>,
     drops: &Arc<AtomicU64>,
     payloads: u32,
 ) -> Result<Vec<u64>, AllocError>
-    requires { IsOf queue.now handle.old.pass.pass }
-    ensures { IsSame handle.old.pass.pass handle.new.pass.pass }
+    requires { IsOf queue.now pass.old.pass }
+    ensures { IsSame pass.old.pass pass.new.pass }
 {
-    let thread = u64::from(handle.pass().thread());
+    let thread = u64::from(pass.thread());
     let mut kept = Vec::new(alloc);
     for place in 0..payloads {
         let number = (thread << 32) | u64::from(place);
-        if !insist(queue, handle, Counted::new(number, drops)?) {
+        if !insist(queue, pass, Counted::new(number, drops)?) {
             kept.push(number)?;
         }
     }
     Ok(kept)
 }
 
-/// Tries to take a payload until there is one. Returns its number.
-fn await_one(queue: &PayQueue<Counted>, handle: &mut PayHandle<Counted>) -> Option<u64>
-    requires { IsOf queue.now handle.old.pass.pass }
-    ensures { IsSame handle.old.pass.pass handle.new.pass.pass }
+/// Takes a payload, and lays its token down where the pass then has more than it was opened with. Answers its number.
+fn accept(queue: &PayQueue<Counted>, pass: &mut PayPass<Counted>) -> Option<u64>
+    requires { IsOf queue.now pass.old.pass }
+    ensures { IsSame pass.old.pass pass.new.pass }
+{
+    let start = queue.shape().k() - 1;
+    let Taken::Got(payload) = take(queue, pass, start, 100) else {
+        return None;
+    };
+    if pass.tokens() > TOKENS as usize {
+        lay_down(queue, pass);
+    }
+    Some(payload.number)
+}
+
+/// Tries to take a payload until there is one. Answers its number.
+fn await_one(queue: &PayQueue<Counted>, pass: &mut PayPass<Counted>) -> Option<u64>
+    requires { IsOf queue.now pass.old.pass }
+    ensures { IsSame pass.old.pass pass.new.pass }
 {
     for _try in 0..TRIES {
-        if let Taken::Got(payload) = take_by(queue, handle) {
-            return Some(payload.number);
+        let number = accept(queue, pass);
+        if number.is_some() {
+            return number;
         }
         yield_now();
     }
     None
 }
 
-/// Takes so many payloads. Returns their numbers.
+/// Takes so many payloads. Answers their numbers.
 fn consume(
     alloc: Global,
     queue: &PayQueue<Counted>,
-    handle: &mut PayHandle<Counted>,
+    pass: &mut PayPass<Counted>,
     payloads: u32,
 ) -> Result<Vec<u64>, AllocError>
-    requires { IsOf queue.now handle.old.pass.pass }
-    ensures { IsSame handle.old.pass.pass handle.new.pass.pass }
+    requires { IsOf queue.now pass.old.pass }
+    ensures { IsSame pass.old.pass pass.new.pass }
 {
     let mut numbers = Vec::with_capacity(alloc, payloads as usize)?;
     for _place in 0..payloads {
-        if let Some(number) = await_one(queue, handle) {
+        if let Some(number) = await_one(queue, pass) {
             numbers.push(number)?;
         }
     }
@@ -376,11 +385,11 @@ struct Worker {
     numbers: Result<Vec<u64>, AllocError>,
 }
 
-/// Only gives in one of the first threads, and only takes in the others.
+/// Gives alone in one of the first threads, and takes alone in the others.
 fn work(
     alloc: Global,
     queue: &PayQueue<Counted>,
-    pass: PayPass<Counted>,
+    mut pass: PayPass<Counted>,
     drops: &Arc<AtomicU64>,
     givers: u32,
     payloads: u32,
@@ -388,13 +397,11 @@ fn work(
     requires { IsOf queue.now pass.pass }
     ensures { IsOf queue.now result.pass.pass }
 {
-    let mut handle = PayHandle::new(queue, pass);
-    let numbers = if handle.pass().thread() < givers {
-        produce(alloc, queue, &mut handle, drops, payloads)
+    let numbers = if pass.thread() < givers {
+        produce(alloc, queue, &mut pass, drops, payloads)
     } else {
-        consume(alloc, queue, &mut handle, payloads.saturating_sub(LEFT))
+        consume(alloc, queue, &mut pass, payloads.saturating_sub(LEFT))
     };
-    let pass = handle.into_pass();
     Worker { pass, numbers }
 }
 
@@ -494,15 +501,15 @@ fn check_workers<R: Threads + Abort + Sync>(
 
 #[test]
 fn one_thread_gives_and_one_takes(rt: HostRuntime) -> Result<(), Fail> {
-    check_workers(&rt, rt.alloc(), 1, MANY)
+    check_workers(&rt, rt.alloc(), 1, 10_000)
 }
 
 #[test]
 fn two_threads_give_and_two_take(rt: HostRuntime) -> Result<(), Fail> {
-    check_workers(&rt, rt.alloc(), 2, MANY)
+    check_workers(&rt, rt.alloc(), 2, 10_000)
 }
 
 #[test]
 fn four_threads_give_and_four_take(rt: HostRuntime) -> Result<(), Fail> {
-    check_workers(&rt, rt.alloc(), 4, MANY)
+    check_workers(&rt, rt.alloc(), 4, 10_000)
 }

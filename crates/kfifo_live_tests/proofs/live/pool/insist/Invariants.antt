@@ -2,4 +2,4 @@ use Rattle.kfifo_live.specs.Pass.{IsSame}
 use Rattle.kfifo_live_tests.proofs.live.pool.insist.Given as goal
 
 abbrev pub invariant-loop-try : goal.invariant-loop-try
-invariant-loop-try l = IsSame l.fn.handle.pass.pass l.handle.pass.pass
+invariant-loop-try l = IsSame l.fn.pass.pass l.pass.pass
