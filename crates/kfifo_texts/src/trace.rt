@@ -1,6 +1,5 @@
 //! The lines of a trace: what each event of a schedule did.
 ghost use Rattle.std.specs.Prelude.{◌≡◌, ◌≤◌, ◌++◌, OnOk, string_bytes};
-ghost use Rattle.kfifo_texts.specs.Lines.{answer_text};
 ghost use Rattle.kfifo_texts.specs.TraceLines as lines;
 
 use crate::report::push_answer;

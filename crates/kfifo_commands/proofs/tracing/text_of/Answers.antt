@@ -1,4 +1,4 @@
-use Rattle.std.proofs.Common.{◌≡◌, ◌≤◌, ◌++◌, inl, inr, refl, arith, string_bytes, subst, sym}
+use Rattle.std.proofs.Common.{◌≡◌, ◌≤◌, ◌++◌, inr, refl, arith, string_bytes, subst, sym}
 use Rattle.kfifo_replay.specs.Player.{StandsFor}
 use Rattle.kfifo_texts.specs.TraceLines.{trace_lines}
 use Rattle.kfifo_commands.proofs.EventLines.{is_long, is_traced}
