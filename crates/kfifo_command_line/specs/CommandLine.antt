@@ -89,10 +89,11 @@ measure_command = new_app (codes "measure")
 
 -- the command `replay`
 abbrev pub replay_command : App
-replay_command = with_rule (with_rule (with_rule (with_rule (with_rule (with_turns (with_sizes (new_app (codes "replay"))))
+replay_command = with_rule (with_rule (with_rule (with_rule (with_rule (with_rule (with_turns (with_sizes (new_app (codes "replay"))))
     (text_option (codes "picks")))
     (number_option (codes "stop") (small_numbers 0 63)))
     (flag (codes "points")))
+    (flag (codes "trace")))
     (flag (codes "record")))
     script
 

@@ -58,6 +58,7 @@ pub record GivesReplay (found : Found) (options : ReplayOptions) : Type 0 where
   pub picks : options.picks.now ≡ unwrap_or (first_value found (codes "picks")) (codes "none")
   pub stopped : GivesNumber 32 (one_text found (codes "stop")) options.stopped
   pub points : GivesFlag (one_text found (codes "points")) options.points
+  pub traced : GivesFlag (one_text found (codes "trace")) options.trace
   pub recorded : GivesFlag (one_text found (codes "record")) options.record
   pub scripts : map (λ script. script.now) options.scripts.now ≡ given_words found
 

@@ -1,7 +1,7 @@
 -- Why the command `draw` has no answer.
 use Rattle.std.proofs.Common.{◌≡◌, ◌≢◌, ℕ, List, Option, Some, subst, sym, ◌⊎◌, inl, inr, option_map, Result, Ok, Err, IfErr, IfOk, MatchResult}
 use Rattle.kfifo_texts.specs.declared.fault.Fault.{Fault}
-use Rattle.kfifo_texts.specs.declared.fault.Fault.TheVariants.{Shape, Word, Order, Picks, Replay, Open, Dispatch, Input, NotJson, Record, Search, RepeatedItem, Import, TooManyDrawn, Contradiction, Stretch, NoLines, Unexplained, Memory, Output}
+use Rattle.kfifo_texts.specs.declared.fault.Fault.TheVariants.{Shape, Word, Order, Picks, Replay, Trace, Open, Dispatch, Input, NotJson, Record, Search, RepeatedItem, Import, TooManyDrawn, Contradiction, Stretch, NoLines, Unexplained, Memory, Output}
 use Rattle.kfifo_commands.specs.declared.cut.Cut.{Cut}
 use Rattle.kfifo_commands.specs.declared.options.DrawOptions.{DrawOptions}
 use Rattle.kfifo_commands.specs.Cuts.{AsksFor, IsCutFault}
@@ -18,6 +18,7 @@ module _ (input : Option (List ℕ)) (before after : ℕ) (options : DrawOptions
   cut_refused Order u = absurd u
   cut_refused Picks u = absurd u
   cut_refused (Replay fault) u = absurd u
+  cut_refused Trace u = absurd u
   cut_refused (Open fault) u = absurd u
   cut_refused (Dispatch fault) u = absurd u
   cut_refused Input u = absurd u
@@ -55,6 +56,7 @@ module _ (input : Option (List ℕ)) (before after : ℕ) (options : DrawOptions
     picture_refused Order u = absurd u
     picture_refused Picks u = absurd u
     picture_refused (Replay fault) u = absurd u
+    picture_refused Trace u = absurd u
     picture_refused (Open fault) u = absurd u
     picture_refused (Dispatch fault) u = absurd u
     picture_refused Input u = absurd u

@@ -1,7 +1,7 @@
 -- How a run ends with a fault.
 use Rattle.std.proofs.Common.{◌≡◌, ◌≢◌, ◌⊎◌, inl, inr, ℕ, List, refl, arith}
 use Rattle.kfifo_texts.specs.declared.fault.Fault.{Fault}
-use Rattle.kfifo_texts.specs.declared.fault.Fault.TheVariants.{Shape, Word, Order, Picks, Replay, Open, Dispatch, Input, NotJson, Record, Search, RepeatedItem, Import, TooManyDrawn, Contradiction, Stretch, NoLines, Unexplained, Memory, Output}
+use Rattle.kfifo_texts.specs.declared.fault.Fault.TheVariants.{Shape, Word, Order, Picks, Replay, Trace, Open, Dispatch, Input, NotJson, Record, Search, RepeatedItem, Import, TooManyDrawn, Contradiction, Stretch, NoLines, Unexplained, Memory, Output}
 use Rattle.kfifo_texts.specs.Faults.{fault_line}
 use Rattle.kfifo_texts.specs.Printing.{Nothing, Part, Tells, Written}
 use Rattle.kfifo_commands.specs.Endings.{Ends}
@@ -13,6 +13,7 @@ is_output (Word number) = inr (λ e. cc)
 is_output Order = inr (λ e. cc)
 is_output Picks = inr (λ e. cc)
 is_output (Replay fault) = inr (λ e. cc)
+is_output Trace = inr (λ e. cc)
 is_output (Open fault) = inr (λ e. cc)
 is_output (Dispatch fault) = inr (λ e. cc)
 is_output Input = inr (λ e. cc)

@@ -9,3 +9,4 @@ pub mod RealRunning
 pub mod Drawing
 pub mod Picturing
 pub mod Endings
+pub mod EventLines

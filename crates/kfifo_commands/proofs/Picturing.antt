@@ -7,7 +7,7 @@ use Rattle.kfifo_draw.specs.declared.picture.DrawFault.{DrawFault}
 use Rattle.kfifo_draw.specs.declared.picture.DrawFault.TheVariants as pictures
 use Rattle.kfifo_texts.specs.Faults.{picture_fault}
 use Rattle.kfifo_texts.specs.declared.fault.Fault.{Fault}
-use Rattle.kfifo_texts.specs.declared.fault.Fault.TheVariants.{Shape, Word, Order, Picks, Replay, Open, Dispatch, Input, NotJson, Record, Search, RepeatedItem, Import, TooManyDrawn, Contradiction, Stretch, NoLines, Unexplained, Memory, Output}
+use Rattle.kfifo_texts.specs.declared.fault.Fault.TheVariants.{Shape, Word, Order, Picks, Replay, Trace, Open, Dispatch, Input, NotJson, Record, Search, RepeatedItem, Import, TooManyDrawn, Contradiction, Stretch, NoLines, Unexplained, Memory, Output}
 use Rattle.kfifo_commands.specs.declared.cut.Cut.{Cut}
 use Rattle.kfifo_commands.specs.Inputs.{IsNoCalls}
 use Rattle.kfifo_commands.specs.Pictures.{AreCallsOf, IsNoPicture}
@@ -22,6 +22,7 @@ module _ (k : ℕ) (asked : Bool) (cut : Cut) (bytes : List ℕ) where
   no_calls Order u = absurd u
   no_calls Picks u = absurd u
   no_calls (Replay fault) u = absurd u
+  no_calls Trace u = absurd u
   no_calls (Open fault) u = absurd u
   no_calls (Dispatch fault) u = absurd u
   no_calls Input u = absurd u

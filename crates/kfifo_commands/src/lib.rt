@@ -11,6 +11,7 @@ mod progress;
 mod sizes;
 mod start;
 mod status;
+mod tracing;
 
 pub use ending::{Notice, carry_out, end_with_fault, end_with_text};
 pub use options::{

@@ -41,7 +41,9 @@ pub struct ReplayOptions<'a> {
     pub stopped: Option<u32>,
     /// Whether the points of the calls in the order are printed too.
     pub points: bool,
-    /// Whether the record of the calls is printed in place of the report.
+    /// Whether a line for each event is printed before the report.
+    pub trace: bool,
+    /// Whether the record of the calls is printed in place of all that.
     pub record: bool,
     /// The scripts, as they are written.
     pub scripts: &'a [&'a str],

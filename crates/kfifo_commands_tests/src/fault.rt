@@ -26,6 +26,7 @@ fn a_fault_shows_its_line(rt: HostRuntime) -> Result<(), Fail> {
             "replay fault 1 at 9",
         ),
         (Fault::Replay(ReplayFault::BadScript), "replay fault 3"),
+        (Fault::Trace, "trace fault"),
         (Fault::Open(OpenFault::CallsOutOfRange), "open fault 4"),
         (
             Fault::Dispatch(DispatchFault::RepeatedId),

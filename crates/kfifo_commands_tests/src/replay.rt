@@ -82,6 +82,7 @@ fn notes_of<R: Threads + Files + AllocGlobal + Sync>(
         picks: picks.as_str(),
         stopped: None,
         points: false,
+        trace: false,
         record: false,
         scripts: scripts.as_slice(),
     };

@@ -9,4 +9,5 @@ pub mod Recorded
 pub mod Scripts
 pub mod StretchWords
 pub mod TaskWords
+pub mod Tracing
 pub mod Writings

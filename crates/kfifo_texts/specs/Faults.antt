@@ -94,6 +94,7 @@ fault_text (faults.Word number) = codes "word fault at " ++ decimal number
 fault_text faults.Order = codes "order fault"
 fault_text faults.Picks = codes "picks fault"
 fault_text (faults.Replay fault) = codes "replay fault " ++ replay_fault_text fault
+fault_text faults.Trace = codes "trace fault"
 fault_text (faults.Open fault) = codes "open fault " ++ decimal (open_fault_number fault)
 fault_text (faults.Dispatch fault) = codes "dispatch fault " ++ decimal (dispatch_fault_number fault)
 fault_text faults.Input = codes "input"

@@ -7,4 +7,5 @@ pub mod RecordTexts
 pub mod Scripts
 pub mod Stretches
 pub mod Tasks
+pub mod TraceLines
 pub mod Words

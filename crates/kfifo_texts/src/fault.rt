@@ -33,6 +33,8 @@ pub enum Fault {
     Picks,
     /// A replay refused its scripts, the thread to be stopped, a pick of all those given, or memory.
     Replay(ReplayFault),
+    /// The replay of a trace has over 65,536 events.
+    Trace,
     /// `record` was refused its queue.
     Open(OpenFault),
     /// Tasks were not dispatched.
@@ -95,6 +97,7 @@ impl Fault {
                 before: " at ",
                 place: refused_pick(fault),
             },
+            Fault::Trace => Line::plain("trace fault"),
             Fault::Open(fault) => Line::numbered("open fault ", fault.number() as usize),
             Fault::Dispatch(fault) => Line::numbered("dispatch fault ", fault.number() as usize),
             Fault::Input => Line::plain("input"),

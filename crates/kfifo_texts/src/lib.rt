@@ -1,5 +1,5 @@
 //! How the program `kfifo` reads its words and writes its lines: numbers, calls, orders, picks and tasks, the records
-//! of histories, the lines of calls and of faults, and the printer that all of it goes to.
+//! of histories, the lines of calls, of traces and of faults, and the printer that all of it goes to.
 #![tactic(auto)]
 
 mod fault;
@@ -10,6 +10,7 @@ mod report;
 mod stretch;
 mod tasks;
 mod topics;
+mod trace;
 mod words;
 
 pub use fault::Fault;
@@ -20,4 +21,5 @@ pub use report::{push_dequeue, push_ends, push_enqueue, push_slot};
 pub use stretch::{Stretch, read_stretch};
 pub use tasks::{finished_lines, read_tasks};
 pub use topics::{Topic, explanation};
+pub use trace::push_trace;
 pub use words::{order_of, read_calls, read_scripts};

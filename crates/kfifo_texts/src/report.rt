@@ -1,5 +1,5 @@
 //! The lines that a command prints for calls and for words of the table.
-ghost use Rattle.std.specs.Prelude.{◌≡◌, ◌++◌, Some, OnOk, string_bytes};
+ghost use Rattle.std.specs.Prelude.{◌≡◌, ◌++◌, Some, OnOk, codes, string_bytes};
 ghost use Rattle.kfifo_texts.specs.Lines.{answer_text, enqueue_line, dequeue_line, ends_lines, slot_line};
 
 use kfifo_model::Answer;
@@ -25,6 +25,14 @@ impl fmt::Display for Shown {
             Answer::Worn => write!(f, "worn"),
         }
     }
+}
+
+/// Adds the answer with which an event ends a call.
+pub(crate) fn push_answer(text: &mut String, answer: Answer) -> Result<(), AllocError>
+    ensures { OnOk result (string_bytes text.new ≡ string_bytes text.old ++ (codes " and answers " ++ answer_text answer)) }
+{
+    let answer = Shown(answer);
+    write!(text, " and answers {answer}")
 }
 
 /// Adds the line of an enqueue.

@@ -188,6 +188,15 @@ To do: make fewer or shorter scripts, or name another thread.
 ",
     },
     Topic {
+        words: "trace fault",
+        help: REPLAY,
+        line: "  kfifo: trace fault",
+        advice: "\
+Allowed: at most 65536 steps with --trace.
+To do: make fewer picks, or leave out --trace.
+",
+    },
+    Topic {
         words: "open fault 1",
         help: RECORD,
         line: "  kfifo: open fault 1",
@@ -918,6 +927,14 @@ To do: nothing.
         words: "completed",
         help: REPLAY,
         line: "  completed <N>",
+        advice: "\
+To do: nothing.
+",
+    },
+    Topic {
+        words: "# thread #",
+        help: REPLAY,
+        line: "  <N> thread <T>",
         advice: "\
 To do: nothing.
 ",

@@ -20,6 +20,8 @@ const STOP: &str = "stop";
 
 const POINTS: &str = "points";
 
+const TRACE: &str = "trace";
+
 const RECORD: &str = "record";
 
 const EXAMPLES: &str = "\
@@ -53,10 +55,17 @@ The answer has a line each:
   worst rank <N>   the most older items that a dequeue passed over, at most k - 1
   rollbacks <N>    how many items were taken back by the calls that had put them
   completed <N>    with --stop: how many unfinished enqueues stand in the order
-With --record the answer is one line in their place, whatever --points says: the calls as a record, which
-`kfifo check` and `kfifo measure` read; its stamps are the numbers of the steps, from 0.
+With --trace a line for each step stands before them. A WORD is `slot <SEGMENT>.<SLOT> (<ITEM>,<VERSION>)`,
+with item 0 if it holds none, or `ends (<HEAD>,<TAIL>,<VERSION>)`. docs/MACHINE.md names and explains each STEP:
+  <N> thread <T> <CALL> <STEP> reads <WORD>
+                   step N, from 0: thread T loads this word
+  <N> thread <T> <CALL> <STEP> exchanges <WORD> to <NEW> won
+                   step N: thread T changes this word to NEW. In place of `won`, `lost to` says what stood there:
+                   then nothing changes. Behind the last step of a call stand `and answers` and its answer
+With --record the answer is one line in place of all these, whatever --points and --trace say: the calls as a
+record, which `kfifo check` and `kfifo measure` read; its stamps are the numbers of the steps, from 0.
 
-Limits: 64 scripts of 64 calls each, and 16777216 picks.
+Limits: 64 scripts of 64 calls each, 16777216 picks, and 65536 steps with --trace.
 
 Faults, each one line on standard error; nothing is printed beside one:
   kfifo: shape fault 1       k is not 1 to 64
@@ -70,6 +79,7 @@ Faults, each one line on standard error; nothing is printed beside one:
   kfifo: replay fault 2      an allocation failed in the replay
   kfifo: replay fault 3      there are over 64 scripts, a script has over 64 calls, or no script has the
                              number of --stop
+  kfifo: trace fault         with --trace: there are over 65536 steps
   kfifo: memory              an allocation failed elsewhere
 
 Exit status:
@@ -105,8 +115,11 @@ pub fn command<'a>(alloc: Global) -> Result<Command<'a>, AllocError>
     let points = options::flag(alloc, POINTS).help(
         "Print the step at which each call takes its place in the order, too",
     );
+    let trace = options::flag(alloc, TRACE).help(
+        "Print what each step does, too: the word that it reads or exchanges, and what comes of it",
+    );
     let record = options::flag(alloc, RECORD).help(
-        "Print the record of the calls, for `check` and `measure`, in place of the report",
+        "Print the record of the calls, for `check` and `measure`, in place of all that",
     );
     let scripts = Arg::new(alloc, WORDS)
         .value_name("SCRIPT")
@@ -123,6 +136,7 @@ pub fn command<'a>(alloc: Global) -> Result<Command<'a>, AllocError>
         .arg(picks)?
         .arg(stop)?
         .arg(points)?
+        .arg(trace)?
         .arg(record)?
         .arg(scripts)
 }
@@ -139,6 +153,7 @@ pub fn options_of<'a>(matches: &'a ArgMatches<'_>) -> ReplayOptions<'a>
         picks,
         stopped: matches.get_one(STOP),
         points: matches.get_flag(POINTS),
+        trace: matches.get_flag(TRACE),
         record: matches.get_flag(RECORD),
         scripts: matches.get_strs(WORDS).unwrap_or(&[]),
     }

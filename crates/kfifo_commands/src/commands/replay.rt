@@ -5,10 +5,11 @@ ghost use Rattle.kfifo_machine.specs.declared.event.Begin.{Begin as BeginData};
 ghost use Rattle.kfifo_replay.specs.Player.{OfItsPicks, StandsFor, Stops};
 ghost use Rattle.kfifo_texts.specs.Picks as picks;
 ghost use Rattle.kfifo_texts.specs.Picks.{count_of, picks_of};
-ghost use Rattle.kfifo_commands.specs.Replays.{IsPointsLine, IsRecordLine, IsRefusal, IsReplayAnswer, IsReplayRefusal, IsReplayText, IsReportText, Makes, first_lines, last_lines};
+ghost use Rattle.kfifo_commands.specs.Replays.{IsPlainText, IsPointsLine, IsRecordLine, IsRefusal, IsReplayAnswer, IsReplayRefusal, IsReplayText, IsReportText, IsUnplayed, Makes, first_lines, last_lines, traces};
 
 use crate::options::ReplayOptions;
 use crate::progress::{Meter, Progress};
+use crate::tracing;
 use kfifo_explain::push_numbers;
 use kfifo_machine::Begin;
 use kfifo_replay::{Replay, ReplayFault, Report};
@@ -17,7 +18,8 @@ use kfifo_words::Shape;
 use std::alloc::{AllocError, Global};
 use std::fmt::Write;
 
-/// The report of the replay, or the record of its calls. The progress is told how many of the picks are made.
+/// The report of the replay, behind a line for each event where they are asked for, or the record of its calls. The
+/// progress is told how many of the picks are made.
 pub fn answer<P: Progress>(
     alloc: Global,
     options: ReplayOptions<'_>,
@@ -30,15 +32,46 @@ pub fn answer<P: Progress>(
     let shape = options.sizes.shape()?;
     let scripts = read_scripts(alloc, options.scripts, shape.k(), options.turns)?;
     let groups = read_picks(alloc, options.picks)?;
-    let replay = play(
+    played(
         alloc,
+        &options,
         shape,
         scripts.as_slice(),
         groups.as_slice(),
-        options.stopped,
         progress,
-    )?;
-    text_of(alloc, &options, &replay)
+    )
+}
+
+/// What is printed of these picks of these scripts.
+fn played<P: Progress>(
+    alloc: Global,
+    options: &ReplayOptions<'_>,
+    shape: Shape,
+    scripts: &[Vec<Begin>],
+    groups: &[Group],
+    progress: &mut P,
+) -> Result<String, Fault>
+    requires { count_of groups.now ≤ 16777216 }
+    ensures ok { let own = map (λ script. script.items) scripts.now in
+        let o = options.now in IfOk result (λ text. (made : List ℕ) × Makes o.stopped shape own (picks_of groups.now) made
+        × IsReplayText o.record o.trace o.points o.stopped shape own made (string_bytes text)) }
+    ensures err { let own = map (λ script. script.items) scripts.now in
+        IfErr result (IsUnplayed options.now shape own (picks_of groups.now)) }
+{
+    if is_traced(options) {
+        let tracer = tracing::play(alloc, shape, scripts, groups, options.stopped, progress)?;
+        tracing::text_of(alloc, options, shape, &tracer)
+    } else {
+        let replay = play(alloc, shape, scripts, groups, options.stopped, progress)?;
+        text_of(alloc, options, &replay)
+    }
+}
+
+/// Whether the lines of the events are printed: they are asked for, and no record is.
+fn is_traced(options: &ReplayOptions<'_>) -> bool
+    ensures { result ≡ traces options.now.record options.now.trace }
+{
+    options.trace && !options.record
 }
 
 /// The replay that has made these picks, and has then gone on to the ends of the scripts where a thread is stopped.
@@ -68,7 +101,7 @@ fn play<P: Progress>(
 }
 
 /// How many picks the groups are.
-fn count_picks(groups: &[Group]) -> u64
+pub(crate) fn count_picks(groups: &[Group]) -> u64
     requires { count_of groups.now ≤ 16777216 }
     ensures { result ≡ count_of groups.now }
 {
@@ -126,7 +159,7 @@ fn feed_group<P: Progress>(
 }
 
 /// The fault of picks that stand behind so many.
-fn behind(made: usize, fault: ReplayFault) -> ReplayFault
+pub(crate) fn behind(made: usize, fault: ReplayFault) -> ReplayFault
     requires { (place : ℕ) → fault ≡ ReplayFault.BadPick place → made + place ≤ 16777216 }
     ensures { result ≡ picks.behind made fault }
 {
@@ -137,10 +170,11 @@ fn behind(made: usize, fault: ReplayFault) -> ReplayFault
     }
 }
 
-/// What is printed of a replay.
+/// What is printed of a replay with no lines of its events.
 fn text_of(alloc: Global, options: &ReplayOptions<'_>, replay: &Replay) -> Result<String, Fault>
     ensures ok { IfOk result (λ text. OfItsPicks replay.now (λ shape scripts picks.
-        IsReplayText options.now.record options.now.points options.now.stopped shape scripts picks (string_bytes text))) }
+        IsPlainText options.now.record options.now.points options.now.stopped shape scripts picks
+        (string_bytes text))) }
     ensures err { IfErr result (λ fault. (fault ≡ Fault.Memory) ⊎ (fault ≡ Fault.Replay ReplayFault.Memory)) }
 {
     if options.record {
@@ -163,7 +197,11 @@ fn record_of(alloc: Global, replay: &Replay) -> Result<String, Fault>
 }
 
 /// The lines of its report.
-fn report_of(alloc: Global, options: &ReplayOptions<'_>, replay: &Replay) -> Result<String, Fault>
+pub(crate) fn report_of(
+    alloc: Global,
+    options: &ReplayOptions<'_>,
+    replay: &Replay,
+) -> Result<String, Fault>
     ensures ok { IfOk result (λ text. OfItsPicks replay.now (λ shape scripts picks.
         IsReportText options.now.points options.now.stopped shape scripts picks (string_bytes text))) }
     ensures err { IfErr result (λ fault. (fault ≡ Fault.Memory) ⊎ (fault ≡ Fault.Replay ReplayFault.Memory)) }

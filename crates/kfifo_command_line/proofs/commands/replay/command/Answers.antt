@@ -15,7 +15,8 @@ returns c =
     let stop_number = number_rule c.value_name-2.result c.value_parser-2.result (codes "stop") stop_given.0 threads stop_text c.value_parser-2.ensures.others stop_given.1 (stop_given.2 ∙ stop_range) in
     let stop = help_rule c.value_parser-2.result c.help-stop.result _ _ stop_number c.help-stop.ensures in
     let points = help_rule c.flag.result c.help-points.result _ _ (c.flag.ensures.rule, c.flag.ensures.own) c.help-points.ensures in
-    let record_flag = help_rule c.flag-2.result c.help-record.result _ _ (c.flag-2.ensures.rule, c.flag-2.ensures.own) c.help-record.ensures in
+    let trace_flag = help_rule c.flag-2.result c.help-trace.result _ _ (c.flag-2.ensures.rule, c.flag-2.ensures.own) c.help-trace.ensures in
+    let record_flag = help_rule c.flag-3.result c.help-record.result _ _ (c.flag-3.ensures.rule, c.flag-3.ensures.own) c.help-record.ensures in
     let words = script_rule c.new-2.result c.value_name-3.result c.action.result c.num_args.result c.required.result _ (c.new-2.ensures.rule, c.new-2.ensures.optional.1) c.value_name-3.ensures c.action.ensures
     c.num_args.ensures.0 c.num_args.ensures.1 c.required.ensures in
     let scripts = help_rule c.required.result c.help-scripts.result _ _ words c.help-scripts.ensures in
@@ -26,7 +27,8 @@ returns c =
     let one = adds _ c.in_ok-arg.field-0 c.help-picks.result _ _ turned picks c.in_ok-arg.ensures in
     let two = adds _ c.in_ok-arg-2.field-0 c.help-stop.result _ _ one.0 stop c.in_ok-arg-2.ensures in
     let three = adds _ c.in_ok-arg-3.field-0 c.help-points.result _ _ two.0 points c.in_ok-arg-3.ensures in
-    let four = adds _ c.in_ok-arg-4.field-0 c.help-record.result _ _ three.0 record_flag c.in_ok-arg-4.ensures in
-    IfOk-weaker c.arg-5.result _ _ (λ r h.
-    let all = adds _ r c.help-scripts.result _ _ four.0 scripts h in
-    (all.0, all.1 ∙ (four.1 ∙ (three.1 ∙ (two.1 ∙ (one.1 ∙ (c.in_ok-with_turns.ensures.1 ∙ (c.in_ok-command.ensures.1 ∙ bare.1)))))))) c.arg-5.ensures
+    let four = adds _ c.in_ok-arg-4.field-0 c.help-trace.result _ _ three.0 trace_flag c.in_ok-arg-4.ensures in
+    let five = adds _ c.in_ok-arg-5.field-0 c.help-record.result _ _ four.0 record_flag c.in_ok-arg-5.ensures in
+    IfOk-weaker c.arg-6.result _ _ (λ r h.
+    let all = adds _ r c.help-scripts.result _ _ five.0 scripts h in
+    (all.0, all.1 ∙ (five.1 ∙ (four.1 ∙ (three.1 ∙ (two.1 ∙ (one.1 ∙ (c.in_ok-with_turns.ensures.1 ∙ (c.in_ok-command.ensures.1 ∙ bare.1))))))))) c.arg-6.ensures
