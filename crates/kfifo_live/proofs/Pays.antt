@@ -1,6 +1,6 @@
 -- What a call with a payload leaves of its pass, and what it did.
 use Rattle.std.proofs.Common.{◌≡◌, ℕ, zero, suc, ◌+◌, ◌-◌, ◌*◌, ◌^◌, ◌<◌, ◌≤◌, List, [], ◌∷◌, ◌++◌, reverse, Option, Some, None, refl, sym, ap, ◌∙◌, subst, arith, mul-le-mul_right}
-use Rattle.std.proofs.lemmas.List.{reverse-append}
+use Rattle.std.proofs.lemmas.List.{append_assoc, reverse-append}
 use Rattle.atomic_table.specs.Table.{Me}
 use Rattle.atomic_table.specs.Seated.{TableId}
 use Rattle.kfifo_model.specs.declared.calls.Answer.{Answer}
@@ -9,14 +9,14 @@ use Rattle.kfifo_machine.specs.declared.event.Begin.{Begin}
 use Rattle.kfifo_machine.specs.declared.event.Event.{Event}
 use Rattle.kfifo_machine.specs.declared.event.Begin.TheVariants as B
 use Rattle.kfifo_machine.specs.declared.place.Next.TheVariants.{Answers}
-use Rattle.kfifo_machine.specs.Runs.{CompleteExecution}
+use Rattle.kfifo_machine.specs.Runs.{CompleteExecution, event, own}
 use Rattle.kfifo_live.specs.declared.payload.Given.TheVariants as G
 use Rattle.kfifo_live.specs.declared.payload.Taken.TheVariants as K
 use Rattle.kfifo_live.specs.declared.view.Hand.{Hand}
 use Rattle.kfifo_live.specs.declared.view.Part.{Part}
 use Rattle.kfifo_live.specs.declared.view.View.{View}
-use Rattle.kfifo_live.specs.Hands.{FitsOwn, Gifts, InTurn, Leaves, BeginsWith, beside, carried, carrying, out_next}
-use Rattle.kfifo_live.specs.Schedule.{AllGiven, IsSmall, count_up, part, thread_in, more_in, hand_in, both_parts, first_part, seen_of, gifts_of, hand_of, with_seen}
+use Rattle.kfifo_live.specs.Hands.{FitsOwn, Gifts, InTurn, Leaves, BeginsWith, beside, carried, carrying, gift, out_next}
+use Rattle.kfifo_live.specs.Schedule.{AllGiven, IsSmall, count_up, part, thread_in, more_in, hand_in, both_parts, first_part, thread_of, seen_of, gifts_of, hand_of, with_seen}
 use Rattle.kfifo_live.specs.Step.{IsAt, DrawsToken, Leads, Looks}
 use Rattle.kfifo_live.specs.Pass.{Known, OpenQueue, known_of}
 use Rattle.kfifo_live.specs.Calls.{Makes}
@@ -24,6 +24,7 @@ use Rattle.kfifo_live.specs.Payloads.{new_pay_passes, pay_known_of, IsPayPass, M
 use Rattle.kfifo_live.proofs.Made.{takes_few_steps, has_cause, is_disturbed, leaves_none}
 use Rattle.kfifo_live.proofs.Opens.{no_slot}
 use Rattle.kfifo_live.proofs.Passes.{met}
+use Rattle.kfifo_live.proofs.Turns.{in_turn_before}
 use Rattle.kfifo_live.proofs.Whole.{at_next, whole}
 
 Some-injective : {A : Type 0} (x y : A) → Some x ≡ Some y → x ≡ y
@@ -209,13 +210,35 @@ module _ {T : Type 0} where
       enqueued table table_now now same gifts_same =
           let call = is_call (B.Enqueue token s t) answer thread table table_now start fin alone_ready l in
           let started : known_of table thread start.0 ≡ known_of table thread old.0 = ap (known_of table thread) r.view in
-          let g = l.gift_is in
+          let g = l.first in
+          let made : Begin = B.Enqueue token s t in
+          let of_thread : thread_of start.0 ≡ thread = ap thread_in alone_ready in
+          let was : seen_of start.0 ≡ seen_of old.0 = ap seen_of r.view in
+          let beside_it : gift (Some made) start.1 ≡ (token, Some payload) ∷ [] = ap (λ (v : Option T). (token, v) ∷ []) (ap carried r.held) in
           record {
-            call = subst (λ (x : Known × Known). MakesCall (B.Enqueue token s t) answer x.0 x.1) (λ i. (started i, sym same i)) call;
+            call = subst (λ (x : Known × Known). MakesCall made answer x.0 x.1) (λ i. (started i, sym same i)) call;
             in_turn = turns_now now (ap (λ (k : Known). k.seen) same) gifts_same;
-            earlier = g.0;
-            later = g.1;
-            gifts = gifts_same ∙ ap gifts_of l.now ∙ (λ i. ap gifts_of r.view i ++ g.2 i) ∙ ap (λ (v : Option T). gifts_of old.0 ++ (g.0 ++ ((token, v) ∷ g.1))) (ap carried r.held);
+            before = g.before;
+            after = g.after;
+            seen =
+                ap (λ (k : Known). k.seen) same
+                ∙ ap seen_of l.now
+                ∙ append_assoc (seen_of start.0) l.between (l.last ∷ [])
+                ∙ ap (λ es. seen_of start.0 ++ es) g.events_are
+                ∙ sym (append_assoc (seen_of start.0) g.before (event (thread_of start.0) (Some made) ∷ g.after))
+                ∙ (λ i. (was i ++ g.before) ++ event (of_thread i) (Some made) ∷ g.after);
+            others = ap (λ u. own u g.before) (sym of_thread) ∙ g.others;
+            earlier = g.earlier;
+            later = g.later;
+            gifts =
+                gifts_same
+                ∙ ap gifts_of l.now
+                ∙ (λ i. ap gifts_of r.view i ++ g.given_are i)
+                ∙ sym (append_assoc (gifts_of old.0) g.earlier (gift (Some made) start.1 ++ g.later))
+                ∙ ap (λ (x : Gifts T). (gifts_of old.0 ++ g.earlier) ++ (x ++ g.later)) beside_it;
+            before_it =
+                subst (λ (x : List Event × Gifts T). InTurn (x.0 ++ g.before) (x.1 ++ g.earlier)) (λ i. (was i, ap gifts_of r.view i))
+                (in_turn_before (seen_of start.0 ++ g.before) (gifts_of start.0 ++ g.earlier) (thread_of start.0) token s t (carried start.1) g.in_turn);
           }
 
       -- Done: the token is gone

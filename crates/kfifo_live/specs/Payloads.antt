@@ -11,7 +11,7 @@ use Rattle.kfifo_machine.specs.declared.event.Begin.TheVariants as B
 use Rattle.kfifo_machine.specs.declared.event.Event.{Event}
 use Rattle.kfifo_machine.specs.Laws.{IsRefusal}
 use Rattle.kfifo_machine.specs.Machine.{World}
-use Rattle.kfifo_machine.specs.Runs.{Begins}
+use Rattle.kfifo_machine.specs.Runs.{Begins, event, own}
 use Rattle.kfifo_machine.specs.Rounds.{turns_of}
 use Rattle.kfifo_live.specs.declared.view.Opening.{Opening}
 use Rattle.kfifo_live.specs.declared.view.View.{View}
@@ -72,13 +72,20 @@ module _ {T : Type 0} where
     pub later : Gifts T
     pub goes_on : new.gifts ≡ old.gifts ++ later
 
-  -- an enqueue of a token with this payload beside it
+  -- An enqueue of a token with this payload beside it. Its first event follows others' events, and its gift follows those of
+  -- the enqueues that began before that event
   pub record EnqueuesWith (token start turns : ℕ) (answer : Answer) (payload : T) (old new : PayKnown T) : Type 0 where
     pub call : MakesCall (B.Enqueue token start turns) answer old.pass new.pass
     pub in_turn : InTurn new.pass.seen new.gifts
+    pub before : List Event
+    pub after : List Event
+    pub seen : new.pass.seen
+        ≡ (old.pass.seen ++ before) ++ event old.pass.thread (Some (B.Enqueue token start turns)) ∷ after
+    pub others : own old.pass.thread before ≡ []
     pub earlier : Gifts T
     pub later : Gifts T
-    pub gifts : new.gifts ≡ old.gifts ++ (earlier ++ ((token, Some payload) ∷ later))
+    pub gifts : new.gifts ≡ (old.gifts ++ earlier) ++ (token, Some payload) ∷ later
+    pub before_it : InTurn (old.pass.seen ++ before) (old.gifts ++ earlier)
 
   -- a dequeue
   pub record DequeuesWith (start turns : ℕ) (answer : Answer) (old new : PayKnown T) : Type 0 where

@@ -110,6 +110,19 @@ module _ {T : Type 0} where
   HasOwn (Some begin) v own payload = own ≡ 0
   HasOwn None v own payload = (place : Running) × IsAt (Some place) v × (own ≡ own_item place) × (payload ≡ (hand_of v.0).payload)
 
+  -- The first own one of these events, which begins this call or goes on with its own: the gifts up to it are of the enqueues
+  -- up to it
+  pub record HasFirst (begin : Option Begin) (v : Me (Option T) (View T)) (events : List Event) (given : Gifts T) : Type 0 where
+    pub before : List Event
+    pub after : List Event
+    pub earlier : Gifts T
+    pub later : Gifts T
+    pub events_are : events ≡ before ++ event (thread_of v.0) begin ∷ after
+    pub given_are : given ≡ earlier ++ (gift begin v.1 ++ later)
+    pub others : own (thread_of v.0) before ≡ []
+    pub in_turn : InTurn ((seen_of v.0 ++ before) ++ event (thread_of v.0) begin ∷ [])
+        ((gifts_of v.0 ++ earlier) ++ gift begin v.1)
+
   -- Steps of one call, from its first where it begins here: events of others and own ones, the last of them own, after which
   -- the call goes on from the next place or has answered
   pub record Leads (begin : Option Begin) (v : Me (Option T) (View T)) (next : Next) (w : Me (Option T) (View T)) : Type 0 where
@@ -122,7 +135,7 @@ module _ {T : Type 0} where
     pub now : w.0 ≡ with_seen v.0 ((seen_of v.0 ++ between) ++ last ∷ []) (gifts_of v.0 ++ given) hand
     pub carries : w.1 ≡ carrying v.0.opened.tokens hand.out hand.payload
     pub in_turn : InTurn ((seen_of v.0 ++ between) ++ last ∷ []) (gifts_of v.0 ++ given)
-    pub gift_is : (earlier : Gifts T) × (later : Gifts T) × (given ≡ earlier ++ (gift begin v.1 ++ later))
+    pub first : HasFirst begin v (between ++ last ∷ []) given
     pub at_home : hand.at_home ≡ (hand_of v.0).at_home
     pub leaves : 0 < v.0.opened.tokens → (own : ℕ) (payload : Option T) → HasOwn begin v own payload
         → Leaves own payload (gifts_of v.0 ++ given) hand next

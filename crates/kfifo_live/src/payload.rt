@@ -163,7 +163,8 @@ impl<T: Drop> PayPass<T> {
     /// least 1, was lost, or Worn where a version would pass the greatest one. Each refusal hands the payload back, and
     /// the pass keeps its tokens. It never allocates, waits or locks.
     ///
-    /// What the pass has then seen keeps the promise of the queue, as with `Pass::enqueue`.
+    /// The payload stands among those that the pass has then seen, at the place of this call's own enqueue. What the
+    /// pass has then seen keeps the promise of the queue, as with `Pass::enqueue`.
     #[inline(always)]
     pub fn give(&mut self, queue: &PayQueue<T>, payload: T, start: u32, turns: u16) -> Given<T>
         requires of { IsOf queue.now self.old.pass }
