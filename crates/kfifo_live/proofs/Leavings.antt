@@ -304,7 +304,8 @@ module _ {T : Type 0} (q : OpenQueue) (table : TableId) {thread room id : ℕ} {
             let onward = sym (run_on o.shape (Some (opening o.shape o.threads)) here seen b.rest reached) ∙ arrived in
             let none = none_other o.shape here kept.world b.rest (size ∙ one) onward (ap (λ t. own t b.rest) (sym zero_is) ∙ b.no_own) in
             b.goes_on ∙ ap (λ es. seen ++ es) none ∙ append-nil seen;
-        in_turn = kept.in_turn;
+        in_turn = kept.in_turn.in_turn;
+        holder_law = kept.in_turn.holder_law some_tokens;
         given = given;
         tokens_are = tokens_are;
         payloads_are = are ∙ gifts_are slots kept.gifts tokens all_filled;

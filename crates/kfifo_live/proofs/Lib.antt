@@ -2,6 +2,7 @@ pub mod Hands
 pub mod Turned
 pub mod Ticks
 pub mod Turns
+pub mod Holders
 pub mod Keeps
 pub mod Cuts
 pub mod Draws

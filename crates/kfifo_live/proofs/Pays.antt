@@ -16,7 +16,7 @@ use Rattle.kfifo_live.specs.declared.view.Hand.{Hand}
 use Rattle.kfifo_live.specs.declared.view.Part.{Part}
 use Rattle.kfifo_live.specs.declared.view.View.{View}
 use Rattle.kfifo_live.specs.Hands.{FitsOwn, Gifts, InTurn, Leaves, BeginsWith, beside, carried, carrying, gift, out_next}
-use Rattle.kfifo_live.specs.Schedule.{AllGiven, IsSmall, count_up, part, thread_in, more_in, hand_in, both_parts, first_part, thread_of, seen_of, gifts_of, hand_of, with_seen}
+use Rattle.kfifo_live.specs.Schedule.{AllGiven, GiftsFit, IsSmall, count_up, part, thread_in, more_in, hand_in, both_parts, first_part, thread_of, seen_of, gifts_of, hand_of, with_seen}
 use Rattle.kfifo_live.specs.Step.{IsAt, DrawsToken, Leads, Looks}
 use Rattle.kfifo_live.specs.Pass.{Known, OpenQueue, known_of}
 use Rattle.kfifo_live.specs.Calls.{Makes}
@@ -69,12 +69,15 @@ module _ {T : Type 0} where
   pass_out {thread} {room} {me} {items} p = none_out me.0.opened.tokens (hand_of me.0).out p.pass.idle.carries.0 p.some_tokens (sym p.pass.held ∙ p.pass.idle.carries.1)
 
   -- gifts of a view that has seen this schedule
-  pub in_turn_as : {v w : View T} → v ≡ w → InTurn (seen_of w) (gifts_of w) → InTurn (seen_of v) (gifts_of v)
-  in_turn_as is turns = subst (λ (x : View T). InTurn (seen_of x) (gifts_of x)) (sym is) turns
+  abbrev pub Fit : View T → Type 0
+  Fit v = GiftsFit v.opened (seen_of v) (gifts_of v)
+
+  pub in_turn_as : {v w : View T} → v ≡ w → Fit w → Fit v
+  in_turn_as is turns = subst Fit (sym is) turns
 
   -- the pass after moves of its own
   pub again : {thread room room_now : ℕ} {old new : Me (Option T) (View T)} {items now : List ℕ} → IsPayPass thread old items room → IsAlone thread new.0 → new.1 ≡ [] → IsAt None new → new.0.opened ≡ old.0.opened
-      → (hand_of new.0).at_home ≡ reverse now → room_now ≡ room → InTurn (seen_of new.0) (gifts_of new.0) → IsPayPass thread new now room_now
+      → (hand_of new.0).at_home ≡ reverse now → room_now ≡ room → Fit new.0 → IsPayPass thread new now room_now
   again {thread} {room} {room_now} {old} {new} p alone held idle same stacked roomy turns = record {
     pass = record { alone = alone; held = held; idle = idle; few = subst IsSmall (sym same) p.pass.few };
     stacked = stacked;
@@ -99,21 +102,27 @@ module _ {T : Type 0} where
     pub met_opened : new.0.opened ≡ old.0.opened
     met_opened = ap (λ (v : View T). v.opened) (kept ∙ ap first_part l.afterwards) ∙ ap (λ (v : View T). v.opened) is
 
+    met_fit : Fit new.0
+    met_fit = in_turn_as met_view l.in_turn
+
+    met_some : 0 < new.0.opened.tokens
+    met_some = subst (λ o. 0 < o) (sym (ap (λ o. o.tokens) met_opened)) p.some_tokens
+
     pub met_pass : IsPayPass thread new items room
     met_pass =
         let pass = met thread word found old new other both seen p.pass slots is l kept in
-        again p pass.alone pass.held pass.idle met_opened (ap (λ (h : Hand T). h.at_home) met_hand ∙ p.stacked) refl (in_turn_as met_view l.in_turn)
+        again p pass.alone pass.held pass.idle met_opened (ap (λ (h : Hand T). h.at_home) met_hand ∙ p.stacked) refl met_fit
 
     pub met_gives_from : (giver : ℕ) (from : Me (Option T) (View T)) → IsAlone giver from.0 → other ≡ from.0 → (table table_now : TableId) → GivesOn (pay_known_of table giver from.0) (pay_known_of table_now thread new.0)
     met_gives_from giver from alone lent table table_now =
         let parts = ap (λ (v : View T). v.parts) is ∙ (λ i. p.pass.alone i ++ (ap (λ (v : View T). v.parts) lent ∙ alone) i) in
         let first = (subst (λ (ps : List (Part T)). AllGiven ps l.gifts) parts l.given).1.0 in
-        record { in_turn = in_turn_as met_view l.in_turn; later = first.0; goes_on = ap gifts_of met_view ∙ first.1 }
+        record { in_turn = met_fit.in_turn; holder_law = met_fit.holder_law met_some; later = first.0; goes_on = ap gifts_of met_view ∙ first.1 }
 
     pub met_gives : (table table_now : TableId) → GivesOn (pay_known_of table thread old.0) (pay_known_of table_now thread new.0)
     met_gives table table_now =
         let first = (subst (λ (ps : List (Part T)). AllGiven ps l.gifts) (ap (λ (v : View T). v.parts) is ∙ ap (λ ps. ps ++ other.parts) p.pass.alone) l.given).0 in
-        record { in_turn = in_turn_as met_view l.in_turn; later = first.0; goes_on = ap gifts_of met_view ∙ first.1 }
+        record { in_turn = met_fit.in_turn; holder_law = met_fit.holder_law met_some; later = first.0; goes_on = ap gifts_of met_view ∙ first.1 }
 
   -- a complete execution of a call, with all laws
   pub is_call : (begin : Begin) (answer : Answer) (thread : ℕ) (table table_now : TableId) (old new : Me (Option T) (View T)) → IsAlone thread old.0 → Leads (Some begin) old (Answers answer) new
@@ -129,6 +138,10 @@ module _ {T : Type 0} where
         disturbed = is_disturbed begin answer (known_of table thread old.0) (known_of table_now thread new.0) run;
         leaves_none = leaves_none begin answer (known_of table thread old.0) (known_of table_now thread new.0) run;
       }
+
+  -- gifts of a view of which no more is known
+  fit_now : (thread : ℕ) (table : TableId) (now fin : View T) → known_of table thread now ≡ known_of table thread fin → gifts_of now ≡ gifts_of fin → Fit fin → Fit now
+  fit_now thread table now fin same gifts_same fit = subst (λ (x : Known × Gifts T). GiftsFit x.0.opened x.0.seen x.1) (λ i. (sym same i, sym gifts_same i)) fit
 
   -- a pass whose next token is out, its payload in the slot
   pub record IsReady (thread token : ℕ) (others : List ℕ) (payload : T) (slots : ℕ) (old start : Me (Option T) (View T)) : Type 0 where
@@ -199,11 +212,8 @@ module _ {T : Type 0} where
       pub stacked_given : (hand_of fin.0).at_home ≡ reverse others
       stacked_given = home_given
 
-      turns_given : InTurn (seen_of fin.0) (gifts_of fin.0)
+      turns_given : Fit fin.0
       turns_given = in_turn_as l.now l.in_turn
-
-      turns_now : (now : View T) → seen_of now ≡ seen_of fin.0 → gifts_of now ≡ gifts_of fin.0 → InTurn (seen_of now) (gifts_of now)
-      turns_now now seen gifts = subst (λ (x : List Event × Gifts T). InTurn x.0 x.1) (λ i. (sym seen i, sym gifts i)) turns_given
 
       enqueued : (table table_now : TableId) (now : View T) → (known_of table_now thread now ≡ known_of table_now thread fin.0) → gifts_of now ≡ gifts_of fin.0
           → EnqueuesWith token s t answer payload (pay_known_of table thread old.0) (pay_known_of table_now thread now)
@@ -211,13 +221,15 @@ module _ {T : Type 0} where
           let call = is_call (B.Enqueue token s t) answer thread table table_now start fin alone_ready l in
           let started : known_of table thread start.0 ≡ known_of table thread old.0 = ap (known_of table thread) r.view in
           let g = l.first in
+          let fit = fit_now thread table_now now fin.0 same gifts_same turns_given in
           let made : Begin = B.Enqueue token s t in
           let of_thread : thread_of start.0 ≡ thread = ap thread_in alone_ready in
           let was : seen_of start.0 ≡ seen_of old.0 = ap seen_of r.view in
           let beside_it : gift (Some made) start.1 ≡ (token, Some payload) ∷ [] = ap (λ (v : Option T). (token, v) ∷ []) (ap carried r.held) in
           record {
             call = subst (λ (x : Known × Known). MakesCall made answer x.0 x.1) (λ i. (started i, sym same i)) call;
-            in_turn = turns_now now (ap (λ (k : Known). k.seen) same) gifts_same;
+            in_turn = fit.in_turn;
+            holder_law = fit.holder_law (subst (λ (k : Known). 0 < k.opened.tokens) (sym same) some_given);
             before = g.before;
             after = g.after;
             seen =
@@ -320,19 +332,22 @@ module _ {T : Type 0} where
     pub fits_took : (a : Answer) → answer ≡ a → FitsOwn 0 (Answers a)
     fits_took a is = subst (λ (b : Answer). FitsOwn 0 (Answers b)) is took.fits
 
-    turns_took : InTurn (seen_of fin.0) (gifts_of fin.0)
+    turns_took : Fit fin.0
     turns_took = in_turn_as l.now l.in_turn
 
     dequeued : (table table_now : TableId) (now : View T) → (known_of table_now thread now ≡ known_of table_now thread fin.0) → gifts_of now ≡ gifts_of fin.0
         → DequeuesWith s t answer (pay_known_of table thread old.0) (pay_known_of table_now thread now)
-    dequeued table table_now now same gifts_same = record {
-      call = subst (λ (x : Known). MakesCall (B.Dequeue s t) answer (known_of table thread old.0) x) (sym same) (is_call (B.Dequeue s t) answer thread table table_now old fin p.pass.alone l);
-      gifts = record {
-        in_turn = subst (λ (x : List Event × Gifts T). InTurn x.0 x.1) (λ i. (sym (ap (λ (k : Known). k.seen) same) i, sym gifts_same i)) turns_took;
-        later = l.given;
-        goes_on = gifts_same ∙ ap gifts_of l.now;
-      };
-    }
+    dequeued table table_now now same gifts_same =
+        let fit = fit_now thread table_now now fin.0 same gifts_same turns_took in
+        record {
+          call = subst (λ (x : Known). MakesCall (B.Dequeue s t) answer (known_of table thread old.0) x) (sym same) (is_call (B.Dequeue s t) answer thread table table_now old fin p.pass.alone l);
+          gifts = record {
+            in_turn = fit.in_turn;
+            holder_law = fit.holder_law (subst (λ (k : Known). 0 < k.opened.tokens) (sym same) some_took);
+            later = l.given;
+            goes_on = gifts_same ∙ ap gifts_of l.now;
+          };
+        }
 
     -- nothing was taken
     pub none_pass : out_next 0 (Answers answer) ≡ 0 → IsPayPass thread fin items room

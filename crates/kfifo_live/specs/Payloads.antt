@@ -23,7 +23,7 @@ use Rattle.kfifo_live.specs.Hands.{Gifts, InTurn, beside}
 use Rattle.kfifo_live.specs.Balance.{times, puts, undos, takes}
 use Rattle.kfifo_live.specs.Left.{items_left}
 use Rattle.kfifo_live.specs.Promise.{KeepsPromise}
-use Rattle.kfifo_live.specs.Schedule.{count_up, seen_of, gifts_of, hand_of, world_after, resting_view}
+use Rattle.kfifo_live.specs.Schedule.{GiftsFit, HolderLaw, count_up, seen_of, gifts_of, hand_of, world_after, resting_view}
 use Rattle.kfifo_live.specs.Pass.{Known, OpenQueue, IsPass, known_of}
 use Rattle.kfifo_live.specs.Calls.{Makes, TakesFewSteps, HasCause, IsDisturbed, LeavesNoItem}
 
@@ -48,7 +48,7 @@ pub record IsPayPass {T : Type 0} (thread : ℕ) (me : Me (Option T) (View T)) (
   pub some_tokens : 0 < me.0.opened.tokens
   pub few_tokens : me.0.opened.tokens ≤ 1024
   pub has_room : me.0.opened.threads * me.0.opened.tokens ≤ room
-  pub in_turn : InTurn (seen_of me.0) (gifts_of me.0)
+  pub in_turn : GiftsFit me.0.opened (seen_of me.0) (gifts_of me.0)
 
 -- the passes of threads first, first + 1, .., which have seen the empty schedule: thread t has the tokens t * tokens + 1 to
 -- (t + 1) * tokens
@@ -66,9 +66,10 @@ pub record MakesCall (begin : Begin) (answer : Answer) (old new : Known) : Type 
   pub leaves_none : IsRefusal answer → LeavesNoItem old new
 
 module _ {T : Type 0} where
-  -- the gifts of a longer schedule, of whose enqueues they are in turn
+  -- the gifts of a longer schedule, of whose enqueues they are in turn, and which keeps the holder law
   pub record GivesOn (old new : PayKnown T) : Type 0 where
     pub in_turn : InTurn new.pass.seen new.gifts
+    pub holder_law : HolderLaw new.pass.opened new.pass.seen
     pub later : Gifts T
     pub goes_on : new.gifts ≡ old.gifts ++ later
 
@@ -77,6 +78,7 @@ module _ {T : Type 0} where
   pub record EnqueuesWith (token start turns : ℕ) (answer : Answer) (payload : T) (old new : PayKnown T) : Type 0 where
     pub call : MakesCall (B.Enqueue token start turns) answer old.pass new.pass
     pub in_turn : InTurn new.pass.seen new.gifts
+    pub holder_law : HolderLaw new.pass.opened new.pass.seen
     pub before : List Event
     pub after : List Event
     pub seen : new.pass.seen
@@ -161,6 +163,7 @@ module _ {T : Type 0} where
     pub begin : Begins p.pass.thread p.pass.seen all
     pub alone : q.opened.threads ≡ 1 → all ≡ p.pass.seen
     pub in_turn : InTurn all gifts
+    pub holder_law : HolderLaw q.opened all
     pub given : (later : Gifts T) × (gifts ≡ p.gifts ++ later)
     pub tokens_are : tokens ≡ items_left q.opened.shape world.words
     pub payloads_are : map Some payloads ≡ map (λ token. beside token gifts) tokens
