@@ -8,6 +8,7 @@ pub mod Cuts
 pub mod Draws
 pub mod Resting
 pub mod Whole
+pub mod Givers
 pub mod Opens
 pub mod Scans
 pub mod Passes

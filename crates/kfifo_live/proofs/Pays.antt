@@ -13,6 +13,7 @@ use Rattle.kfifo_machine.specs.Runs.{CompleteExecution, event, own}
 use Rattle.kfifo_live.specs.declared.payload.Given.TheVariants as G
 use Rattle.kfifo_live.specs.declared.payload.Taken.TheVariants as K
 use Rattle.kfifo_live.specs.declared.view.Hand.{Hand}
+use Rattle.kfifo_live.specs.declared.view.Opening.{Opening}
 use Rattle.kfifo_live.specs.declared.view.Part.{Part}
 use Rattle.kfifo_live.specs.declared.view.View.{View}
 use Rattle.kfifo_live.specs.Hands.{FitsOwn, Gifts, InTurn, Leaves, BeginsWith, beside, carried, carrying, gift, out_next}
@@ -21,6 +22,7 @@ use Rattle.kfifo_live.specs.Step.{IsAt, DrawsToken, Leads, Looks}
 use Rattle.kfifo_live.specs.Pass.{Known, OpenQueue, known_of}
 use Rattle.kfifo_live.specs.Calls.{Makes}
 use Rattle.kfifo_live.specs.Payloads.{new_pay_passes, pay_known_of, IsPayPass, MakesCall, GivesOn, EnqueuesWith, DequeuesWith, Refuses, Gives, TakesOut}
+use Rattle.kfifo_live.proofs.Givers.{took_what_was_put}
 use Rattle.kfifo_live.proofs.Made.{takes_few_steps, has_cause, is_disturbed, leaves_none}
 use Rattle.kfifo_live.proofs.Opens.{no_slot}
 use Rattle.kfifo_live.proofs.Passes.{met}
@@ -383,11 +385,16 @@ module _ {T : Type 0} where
         unfolding got got_held
         got_takes payload payload_is table table_now =
             let gifts : gifts_of laid.0 ≡ gifts_of old.0 ++ l.given = ap gifts_of view ∙ ap gifts_of l.now in
-            let same = one_payload (token - 1) got_held.0 payload got_held.1 payload_is in (
+            let same = one_payload (token - 1) got_held.0 payload got_held.1 payload_is in
+            let last : beside token (gifts_of laid.0) ≡ Some payload = ap (beside token) gifts ∙ got.2.1 ∙ ap Some same in
+            let dequeue = subst (λ a. DequeuesWith s t a (pay_known_of table thread old.0) (pay_known_of table_now thread laid.0)) is (dequeued table table_now laid.0 (ap (known_of table_now thread) view) (ap gifts_of view)) in
+            let opened : laid.0.opened ≡ old.0.opened = ap (λ (v : View T). v.opened) view ∙ opened_took in
+            let run = subst (λ (o : Opening). CompleteExecution o.shape o.threads thread (B.Dequeue s t) (A.Got token) (seen_of old.0) (seen_of laid.0)) (sym opened) dequeue.call.run in (
               token,
               ap (λ (v : View T). (hand_of v).at_home) view ∙ ap (λ xs. token ∷ xs) home_took,
-              ap (beside token) gifts ∙ got.2.1 ∙ ap Some same,
-              subst (λ a. DequeuesWith s t a (pay_known_of table thread old.0) (pay_known_of table_now thread laid.0)) is (dequeued table table_now laid.0 (ap (known_of table_now thread) view) (ap gifts_of view)),
+              last,
+              took_what_was_put token payload (pay_known_of table_now thread laid.0) s t (seen_of old.0) run got.0 dequeue.gifts.holder_law dequeue.gifts.in_turn last,
+              dequeue,
             )
 
 -- so few tokens are items

@@ -7,7 +7,7 @@ use Rattle.kfifo_machine.specs.declared.event.Event.{Event}
 use Rattle.kfifo_machine.specs.Runs.{event}
 use Rattle.kfifo_live.specs.Hands.{Gifts, InTurn, gift, item_begun, items_begun}
 
-items_begun-append : (all more : List Event) → items_begun (all ++ more) ≡ items_begun all ++ items_begun more
+pub items_begun-append : (all more : List Event) → items_begun (all ++ more) ≡ items_begun all ++ items_begun more
 items_begun-append [] more = refl
 items_begun-append (e ∷ all) more = ap (λ xs. item_begun e.begin ++ xs) (items_begun-append all more) ∙ sym (append_assoc (item_begun e.begin) (items_begun all) (items_begun more))
 

@@ -34,7 +34,7 @@ use Rattle.kfifo_live.proofs.Hands.{home_step, leaves_step}
 use Rattle.kfifo_live.proofs.Turned.{same_home}
 use Rattle.kfifo_live.proofs.Keeps.{own_same}
 
-AllGoOn-append : (xs ys : List Event) → AllGoOn xs → AllGoOn ys → AllGoOn (xs ++ ys)
+pub AllGoOn-append : (xs ys : List Event) → AllGoOn xs → AllGoOn ys → AllGoOn (xs ++ ys)
 AllGoOn-append [] ys a b = b
 AllGoOn-append (x ∷ xs) ys a b = (a.0, AllGoOn-append xs ys a.1 b)
 
