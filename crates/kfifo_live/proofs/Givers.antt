@@ -78,18 +78,23 @@ pub record PutLast (o : Opening) (all : List Event) (index word item : ℕ) : Ty
   pub value_is : value_of word ≡ item
   pub not_again : Lacks item (items_begun (between ++ event thread None ∷ after))
 
-lacks_on : (x : ℕ) (events : List Event) (e : Event) → Lacks x (items_begun events) → Lacks x (item_begun e.begin) → Lacks x (items_begun (events ++ e ∷ []))
-lacks_on x events e old new = subst (Lacks x) (sym (items_begun-append events (e ∷ []))) (Lacks-append x (items_begun events) (item_begun e.begin ++ []) old (Lacks-append x (item_begun e.begin) [] new tt))
+lacks_on : (x : ℕ) (events : List Event) (e : Event) → Lacks x (items_begun events) → Lacks x (item_begun e.begin)
+    → Lacks x (items_begun (events ++ e ∷ []))
+lacks_on x events e old new = subst (Lacks x) (sym (items_begun-append events (e ∷ [])))
+    (Lacks-append x (items_begun events) (item_begun e.begin ++ []) old (Lacks-append x (item_begun e.begin) [] new tt))
 
 -- one event more
-began_on : (all : List Event) (e : Event) (thread item : ℕ) → BeganLast all thread item → (e.thread ≡ thread → e.begin ≡ None) → Lacks item (item_begun e.begin) → BeganLast (all ++ e ∷ []) thread item
+began_on : (all : List Event) (e : Event) (thread item : ℕ) → BeganLast all thread item → (e.thread ≡ thread → e.begin ≡ None)
+    → Lacks item (item_begun e.begin) → BeganLast (all ++ e ∷ []) thread item
 began_on all e thread item b none lacks = record {
   start = b.start;
   turns = b.turns;
   before = b.before;
   after = b.after ++ e ∷ [];
-  all_are = ap (λ es. es ++ e ∷ []) b.all_are ∙ append_assoc b.before (event thread (Some (B.Enqueue item b.start b.turns)) ∷ b.after) (e ∷ []);
-  one_call = subst AllGoOn (sym (own-append thread b.after (e ∷ []))) (AllGoOn-append (own thread b.after) (own thread (e ∷ [])) b.one_call one);
+  all_are = ap (λ es. es ++ e ∷ []) b.all_are ∙ append_assoc b.before (event thread (Some (B.Enqueue item b.start b.turns)) ∷ b.after)
+      (e ∷ []);
+  one_call = subst AllGoOn (sym (own-append thread b.after (e ∷ [])))
+      (AllGoOn-append (own thread b.after) (own thread (e ∷ [])) b.one_call one);
   not_again = lacks_on item b.after e b.not_again lacks;
 }
   where
@@ -99,7 +104,8 @@ began_on all e thread item b none lacks = record {
       | inr other ↦ subst AllGoOn (sym other.1) tt
     ]
 
-pub put_on : (o : Opening) (all : List Event) (e : Event) (index word item : ℕ) → PutLast o all index word item → Lacks item (item_begun e.begin) → PutLast o (all ++ e ∷ []) index word item
+pub put_on : (o : Opening) (all : List Event) (e : Event) (index word item : ℕ) → PutLast o all index word item
+    → Lacks item (item_begun e.begin) → PutLast o (all ++ e ∷ []) index word item
 put_on o all e index word item p lacks =
     let begins = p.before ++ event p.thread (Some (B.Enqueue item p.start p.turns)) ∷ p.between in
     let put = event p.thread None in
@@ -114,7 +120,8 @@ put_on o all e index word item p lacks =
       one_call = p.one_call;
       puts = p.puts;
       value_is = p.value_is;
-      not_again = subst (λ es. Lacks item (items_begun es)) (append_assoc p.between (put ∷ p.after) (e ∷ [])) (lacks_on item (p.between ++ put ∷ p.after) e p.not_again lacks);
+      not_again = subst (λ es. Lacks item (items_begun es)) (append_assoc p.between (put ∷ p.after) (e ∷ []))
+          (lacks_on item (p.between ++ put ∷ p.after) e p.not_again lacks);
     }
 
 -- what a step does to the token that is out, and to the word that was put
@@ -132,7 +139,8 @@ record IsUndo (shape : Shape) (r : Running) (word x : ℕ) : Type 0 where
   at : accessed (access shape r) ≡ index
   own : own_item r ≡ x
 
-enqueue_keeps : (shape : Shape) (item start left : ℕ) (phase : EnqueuePhase) (word : ℕ) (q : Running) → enqueue_advance shape item start left phase word ≡ Goes q → own_item q ≡ item
+enqueue_keeps : (shape : Shape) (item start left : ℕ) (phase : EnqueuePhase) (word : ℕ) (q : Running)
+    → enqueue_advance shape item start left phase word ≡ Goes q → own_item q ≡ item
 enqueue_keeps shape item start left phase word q is = grind (arith, nat_tests)
 
 out_is_own : (q : Running) → 0 < out_at q → out_at q ≡ own_item q
@@ -142,27 +150,37 @@ out_is_own (R.Enqueue item start left phase) some = of_phase item phase some
     of_phase item phase some = grind (arith, nat_tests)
 out_is_own (R.Dequeue start left phase) some = absurd (omega arith)
 
-dequeue_none : (shape : Shape) (start left : ℕ) (phase : DequeuePhase) (word : ℕ) (q : Running) → advance shape (R.Dequeue start left phase) word ≡ Goes q → out_at q ≡ 0
+dequeue_none : (shape : Shape) (start left : ℕ) (phase : DequeuePhase) (word : ℕ) (q : Running)
+    → advance shape (R.Dequeue start left phase) word ≡ Goes q → out_at q ≡ 0
 dequeue_none shape start left phase word q is = grind (arith, nat_tests)
 
-undo_lost : (shape : Shape) (item start left index filled word : ℕ) (worn : Bool) (q : Running) → word ≢ filled → enqueue_advance shape item start left (E.Undo index filled worn) word ≡ Goes q → ⊥
+undo_lost : (shape : Shape) (item start left index filled word : ℕ) (worn : Bool) (q : Running) → word ≢ filled
+    → enqueue_advance shape item start left (E.Undo index filled worn) word ≡ Goes q → ⊥
 undo_lost shape item start left index filled word worn q lost is = grind (arith, nat_tests)
 
-reload_slot : (shape : Shape) (item start left ends index filled word : ℕ) (q : Running) → enqueue_advance shape item start left (E.ReloadSlot ends index filled) word ≡ Goes q → out_at q ≡ 0
+reload_slot : (shape : Shape) (item start left ends index filled word : ℕ) (q : Running)
+    → enqueue_advance shape item start left (E.ReloadSlot ends index filled) word ≡ Goes q → out_at q ≡ 0
 reload_slot shape item start left ends index filled word q is = grind (arith, nat_tests)
 
-reload_ends : (shape : Shape) (item start left ends index filled word : ℕ) (q : Running) → enqueue_advance shape item start left (E.ReloadEnds ends index filled) word ≡ Goes q → out_at q ≡ 0
+reload_ends : (shape : Shape) (item start left ends index filled word : ℕ) (q : Running)
+    → enqueue_advance shape item start left (E.ReloadEnds ends index filled) word ≡ Goes q → out_at q ≡ 0
 reload_ends shape item start left ends index filled word q is = grind (arith, nat_tests)
 
-hold_head : (shape : Shape) (item start left index filled held word : ℕ) (q : Running) → enqueue_advance shape item start left (E.HoldHead index filled held) word ≡ Goes q → out_at q ≡ 0
+hold_head : (shape : Shape) (item start left index filled held word : ℕ) (q : Running)
+    → enqueue_advance shape item start left (E.HoldHead index filled held) word ≡ Goes q → out_at q ≡ 0
 hold_head shape item start left index filled held word q is = grind (arith, nat_tests)
 
 -- what is out after a step was out before, or comes back by a won undo
-out_came : (shape : Shape) (r : Running) (word : ℕ) (q : Running) → advance shape r word ≡ Goes q → 0 < out_at q → (out_at r ≡ out_at q) ⊎ IsUndo shape r word (out_at q)
-out_came shape (R.Dequeue start left phase) word q is some = absurd (let none = dequeue_none shape start left phase word q is in omega arith)
-out_came shape (R.Enqueue item start left (E.ReloadSlot ends index filled)) word q is some = absurd (let none = reload_slot shape item start left ends index filled word q is in omega arith)
-out_came shape (R.Enqueue item start left (E.ReloadEnds ends index filled)) word q is some = absurd (let none = reload_ends shape item start left ends index filled word q is in omega arith)
-out_came shape (R.Enqueue item start left (E.HoldHead index filled held)) word q is some = absurd (let none = hold_head shape item start left index filled held word q is in omega arith)
+out_came : (shape : Shape) (r : Running) (word : ℕ) (q : Running) → advance shape r word ≡ Goes q → 0 < out_at q
+    → (out_at r ≡ out_at q) ⊎ IsUndo shape r word (out_at q)
+out_came shape (R.Dequeue start left phase) word q is some = absurd
+    (let none = dequeue_none shape start left phase word q is in omega arith)
+out_came shape (R.Enqueue item start left (E.ReloadSlot ends index filled)) word q is some = absurd
+    (let none = reload_slot shape item start left ends index filled word q is in omega arith)
+out_came shape (R.Enqueue item start left (E.ReloadEnds ends index filled)) word q is some = absurd
+    (let none = reload_ends shape item start left ends index filled word q is in omega arith)
+out_came shape (R.Enqueue item start left (E.HoldHead index filled held)) word q is some = absurd
+    (let none = hold_head shape item start left index filled held word q is in omega arith)
 out_came shape (R.Enqueue item start left (E.Undo index filled worn)) word q is some =
     elim (cases_eq word filled) [
       | inl won ↦ inr record {
@@ -173,14 +191,22 @@ out_came shape (R.Enqueue item start left (E.Undo index filled worn)) word q is 
       }
       | inr lost ↦ absurd (undo_lost shape item start left index filled word worn q lost is)
     ]
-out_came shape (R.Enqueue item start left E.LoadEnds) word q is some = inl (sym (out_is_own q some ∙ enqueue_keeps shape item start left E.LoadEnds word q is))
-out_came shape (R.Enqueue item start left (E.ScanTail ends offset)) word q is some = inl (sym (out_is_own q some ∙ enqueue_keeps shape item start left (E.ScanTail ends offset) word q is))
-out_came shape (R.Enqueue item start left (E.Recheck ends seen)) word q is some = inl (sym (out_is_own q some ∙ enqueue_keeps shape item start left (E.Recheck ends seen) word q is))
-out_came shape (R.Enqueue item start left (E.Put ends index empty)) word q is some = inl (sym (out_is_own q some ∙ enqueue_keeps shape item start left (E.Put ends index empty) word q is))
-out_came shape (R.Enqueue item start left (E.ScanHead ends offset)) word q is some = inl (sym (out_is_own q some ∙ enqueue_keeps shape item start left (E.ScanHead ends offset) word q is))
-out_came shape (R.Enqueue item start left (E.ConfirmFull ends)) word q is some = inl (sym (out_is_own q some ∙ enqueue_keeps shape item start left (E.ConfirmFull ends) word q is))
-out_came shape (R.Enqueue item start left (E.MoveHead ends)) word q is some = inl (sym (out_is_own q some ∙ enqueue_keeps shape item start left (E.MoveHead ends) word q is))
-out_came shape (R.Enqueue item start left (E.MoveTail ends)) word q is some = inl (sym (out_is_own q some ∙ enqueue_keeps shape item start left (E.MoveTail ends) word q is))
+out_came shape (R.Enqueue item start left E.LoadEnds) word q is some = inl
+    (sym (out_is_own q some ∙ enqueue_keeps shape item start left E.LoadEnds word q is))
+out_came shape (R.Enqueue item start left (E.ScanTail ends offset)) word q is some = inl
+    (sym (out_is_own q some ∙ enqueue_keeps shape item start left (E.ScanTail ends offset) word q is))
+out_came shape (R.Enqueue item start left (E.Recheck ends seen)) word q is some = inl
+    (sym (out_is_own q some ∙ enqueue_keeps shape item start left (E.Recheck ends seen) word q is))
+out_came shape (R.Enqueue item start left (E.Put ends index empty)) word q is some = inl
+    (sym (out_is_own q some ∙ enqueue_keeps shape item start left (E.Put ends index empty) word q is))
+out_came shape (R.Enqueue item start left (E.ScanHead ends offset)) word q is some = inl
+    (sym (out_is_own q some ∙ enqueue_keeps shape item start left (E.ScanHead ends offset) word q is))
+out_came shape (R.Enqueue item start left (E.ConfirmFull ends)) word q is some = inl
+    (sym (out_is_own q some ∙ enqueue_keeps shape item start left (E.ConfirmFull ends) word q is))
+out_came shape (R.Enqueue item start left (E.MoveHead ends)) word q is some = inl
+    (sym (out_is_own q some ∙ enqueue_keeps shape item start left (E.MoveHead ends) word q is))
+out_came shape (R.Enqueue item start left (E.MoveTail ends)) word q is some = inl
+    (sym (out_is_own q some ∙ enqueue_keeps shape item start left (E.MoveTail ends) word q is))
 
 -- the place of a put that finds what it seeks, and the word that it puts
 record IsPut (r : Running) (index seen word : ℕ) : Type 0 where
@@ -195,17 +221,21 @@ abbrev NotPut : EnqueuePhase → Type 0
 NotPut (E.Put ends index empty) = ⊥
 NotPut phase = Unit {0}
 
-carried_on : (shape : Shape) (item start left : ℕ) (phase : EnqueuePhase) (word : ℕ) (q : Running) (i w : ℕ) → NotPut phase → enqueue_advance shape item start left phase word ≡ Goes q → CarriesAt q i w → Carries phase i w
+carried_on : (shape : Shape) (item start left : ℕ) (phase : EnqueuePhase) (word : ℕ) (q : Running) (i w : ℕ) → NotPut phase
+    → enqueue_advance shape item start left phase word ≡ Goes q → CarriesAt q i w → Carries phase i w
 carried_on shape item start left phase word q i w not is c = grind (arith, nat_tests)
 
-put_lost : (shape : Shape) (item start left ends index empty word : ℕ) (q : Running) (i w : ℕ) → word ≢ empty → enqueue_advance shape item start left (E.Put ends index empty) word ≡ Goes q → CarriesAt q i w → ⊥
+put_lost : (shape : Shape) (item start left ends index empty word : ℕ) (q : Running) (i w : ℕ) → word ≢ empty
+    → enqueue_advance shape item start left (E.Put ends index empty) word ≡ Goes q → CarriesAt q i w → ⊥
 put_lost shape item start left ends index empty word q i w lost is c = grind (arith, nat_tests)
 
-put_won : (shape : Shape) (item start left ends index empty word : ℕ) (q : Running) (i w : ℕ) → word ≡ empty → enqueue_advance shape item start left (E.Put ends index empty) word ≡ Goes q → CarriesAt q i w
+put_won : (shape : Shape) (item start left ends index empty word : ℕ) (q : Running) (i w : ℕ) → word ≡ empty
+    → enqueue_advance shape item start left (E.Put ends index empty) word ≡ Goes q → CarriesAt q i w
     → (index ≡ i) × (filled_with item empty ≡ w)
 put_won shape item start left ends index empty word q i w won is c = subst (λ (r : Running). CarriesAt r i w) (sym same) c
   where
-    next : enqueue_advance shape item start left (E.Put ends index empty) word ≡ Goes (R.Enqueue item start left (E.ReloadSlot ends index (filled_with item empty)))
+    next : enqueue_advance shape item start left (E.Put ends index empty) word ≡ Goes
+        (R.Enqueue item start left (E.ReloadSlot ends index (filled_with item empty)))
     next = grind (arith, nat_tests)
 
     goes : (r s : Running) → Goes r ≡ Goes s → r ≡ s
@@ -214,27 +244,46 @@ put_won shape item start left ends index empty word q i w won is c = subst (λ (
     same : R.Enqueue item start left (E.ReloadSlot ends index (filled_with item empty)) ≡ q
     same = goes _ _ (sym next ∙ is)
 
-dequeue_carries : (shape : Shape) (start left : ℕ) (phase : DequeuePhase) (word : ℕ) (q : Running) (i w : ℕ) → advance shape (R.Dequeue start left phase) word ≡ Goes q → CarriesAt q i w → ⊥
+dequeue_carries : (shape : Shape) (start left : ℕ) (phase : DequeuePhase) (word : ℕ) (q : Running) (i w : ℕ)
+    → advance shape (R.Dequeue start left phase) word ≡ Goes q → CarriesAt q i w → ⊥
 dequeue_carries shape start left phase word q i w is c = grind (arith, nat_tests)
 
 -- a word that is carried after a step was carried before, or was put by it
-carries_came : (shape : Shape) (r : Running) (word : ℕ) (q : Running) (i w : ℕ) → advance shape r word ≡ Goes q → CarriesAt q i w → CarriesAt r i w ⊎ IsPut r i word w
+carries_came : (shape : Shape) (r : Running) (word : ℕ) (q : Running) (i w : ℕ) → advance shape r word ≡ Goes q → CarriesAt q i w
+    → CarriesAt r i w ⊎ IsPut r i word w
 carries_came shape (R.Dequeue start left phase) word q i w is c = absurd (dequeue_carries shape start left phase word q i w is c)
 carries_came shape (R.Enqueue item start left (E.Put ends index empty)) word q i w is c =
     elim (cases_eq word empty) [
       | inl won ↦
           let p = put_won shape item start left ends index empty word q i w won is c in
-          inr record { item = item; start = start; left = left; ends = ends; place = (λ k. R.Enqueue item start left (E.Put ends (p.0 k) (sym won k))); puts = sym p.1 ∙ ap (filled_with item) (sym won) }
+          inr record {
+            item = item;
+            start = start;
+            left = left;
+            ends = ends;
+            place = (λ k. R.Enqueue item start left (E.Put ends (p.0 k) (sym won k)));
+            puts = sym p.1 ∙ ap (filled_with item) (sym won);
+          }
       | inr lost ↦ absurd (put_lost shape item start left ends index empty word q i w lost is c)
     ]
 carries_came shape (R.Enqueue item start left other) word q i w is c = inl (carried_on shape item start left other word q i w tt is c)
 
 -- an exchange of a slot's word that fills it is a put
-put_of_exchange : (shape : Shape) (r : Running) (i from to : ℕ) → 0 < i → value_of to ≢ 0 → access shape r ≡ Exchange i from to → IsPut r i from to
+put_of_exchange : (shape : Shape) (r : Running) (i from to : ℕ) → 0 < i → value_of to ≢ 0 → access shape r ≡ Exchange i from to
+    → IsPut r i from to
 put_of_exchange shape (R.Enqueue item start left (E.Put ends index empty)) i from to above filled is =
-    record { item = item; start = start; left = left; ends = ends; place = (let a : index ≡ i = cc in let b : empty ≡ from = cc in λ k. R.Enqueue item start left (E.Put ends (a k) (b k))); puts = (let a : filled_with item empty ≡ to = cc in let b : empty ≡ from = cc in sym a ∙ ap (filled_with item) b) }
-put_of_exchange shape (R.Enqueue item start left (E.HoldHead index filled_word held)) i from to above filled is = absurd (let e : 0 ≡ i = cc in omega arith)
-put_of_exchange shape (R.Enqueue item start left (E.Undo index filled_word worn)) i from to above filled is = absurd (filled (ap value_of (let e : to ≡ emptied filled_word = cc in e) ∙ value-emptied filled_word))
+    record {
+      item = item;
+      start = start;
+      left = left;
+      ends = ends;
+      place = (let a : index ≡ i = cc in let b : empty ≡ from = cc in λ k. R.Enqueue item start left (E.Put ends (a k) (b k)));
+      puts = (let a : filled_with item empty ≡ to = cc in let b : empty ≡ from = cc in sym a ∙ ap (filled_with item) b);
+    }
+put_of_exchange shape (R.Enqueue item start left (E.HoldHead index filled_word held)) i from to above filled is = absurd
+    (let e : 0 ≡ i = cc in omega arith)
+put_of_exchange shape (R.Enqueue item start left (E.Undo index filled_word worn)) i from to above filled is = absurd
+    (filled (ap value_of (let e : to ≡ emptied filled_word = cc in e) ∙ value-emptied filled_word))
 put_of_exchange shape (R.Enqueue item start left (E.MoveHead ends)) i from to above filled is = absurd (let e : 0 ≡ i = cc in omega arith)
 put_of_exchange shape (R.Enqueue item start left (E.MoveTail ends)) i from to above filled is = absurd (let e : 0 ≡ i = cc in omega arith)
 put_of_exchange shape (R.Enqueue item start left E.LoadEnds) i from to above filled is = absurd (cc)
@@ -247,8 +296,10 @@ put_of_exchange shape (R.Enqueue item start left (E.ConfirmFull ends)) i from to
 put_of_exchange shape (R.Dequeue start left D.LoadEnds) i from to above filled is = absurd (cc)
 put_of_exchange shape (R.Dequeue start left (D.ScanHead ends offset)) i from to above filled is = absurd (cc)
 put_of_exchange shape (R.Dequeue start left (D.Recheck ends seen)) i from to above filled is = absurd (cc)
-put_of_exchange shape (R.Dequeue start left (D.MoveTail ends index filled_word)) i from to above filled is = absurd (let e : 0 ≡ i = cc in omega arith)
-put_of_exchange shape (R.Dequeue start left (D.Take ends index filled_word)) i from to above filled is = absurd (filled (ap value_of (let e : to ≡ emptied filled_word = cc in e) ∙ value-emptied filled_word))
+put_of_exchange shape (R.Dequeue start left (D.MoveTail ends index filled_word)) i from to above filled is = absurd
+    (let e : 0 ≡ i = cc in omega arith)
+put_of_exchange shape (R.Dequeue start left (D.Take ends index filled_word)) i from to above filled is = absurd
+    (filled (ap value_of (let e : to ≡ emptied filled_word = cc in e) ∙ value-emptied filled_word))
 put_of_exchange shape (R.Dequeue start left (D.MoveHead ends)) i from to above filled is = absurd (let e : 0 ≡ i = cc in omega arith)
 
 -- a word that a thread carries is in a slot, and of its own item
@@ -261,33 +312,43 @@ record IsCarried (shape : Shape) (r : Running) (i word : ℕ) : Type 0 where
 carried_word : (shape : Shape) (r : Running) (i word : ℕ) → IsPlace shape r → Knows r → CarriesAt r i word → IsCarried shape r i word
 carried_word shape (R.Enqueue item start left phase) i word place knows c = of_phase phase place knows c
   where
-    slot : (index filled : ℕ) → 0 < index → index < clock_at shape.k shape.n → 0 < item → value_of filled ≡ item → (index ≡ i) × (filled ≡ word) → (0 < i) × (i < clock_at shape.k shape.n) × (value_of word ≡ item) × (0 < item)
+    slot : (index filled : ℕ) → 0 < index → index < clock_at shape.k shape.n → 0 < item → value_of filled ≡ item
+        → (index ≡ i) × (filled ≡ word) → (0 < i) × (i < clock_at shape.k shape.n) × (value_of word ≡ item) × (0 < item)
     slot index filled above below some is c =
         let e = c.0 in
         ((omega (arith, e, above)), (omega (arith, e, below)), ap value_of (sym c.1) ∙ is, some)
 
-    made : (phase : EnqueuePhase) → (0 < i) × (i < clock_at shape.k shape.n) × (value_of word ≡ item) × (0 < item) → IsCarried shape (R.Enqueue item start left phase) i word
+    made : (phase : EnqueuePhase) → (0 < i) × (i < clock_at shape.k shape.n) × (value_of word ≡ item) × (0 < item)
+        → IsCarried shape (R.Enqueue item start left phase) i word
     made phase x = record { above = x.0; below = x.1; own = x.2; some = x.3 }
 
-    of_phase : (phase : EnqueuePhase) → IsPlace shape (R.Enqueue item start left phase) → EnqueueKnows item phase → Carries phase i word → IsCarried shape (R.Enqueue item start left phase) i word
-    of_phase (E.ReloadSlot ends index filled) place knows c = made (E.ReloadSlot ends index filled) (slot index filled place.4.2.above place.4.2.below place.0 knows c)
-    of_phase (E.ReloadEnds ends index filled) place knows c = made (E.ReloadEnds ends index filled) (slot index filled place.4.2.above place.4.2.below place.0 knows c)
-    of_phase (E.HoldHead index filled held) place knows c = made (E.HoldHead index filled held) (slot index filled place.4.3.above place.4.3.below place.0 knows c)
-    of_phase (E.Undo index filled worn) place knows c = made (E.Undo index filled worn) (slot index filled place.4.1.above place.4.1.below place.0 knows c)
+    of_phase : (phase : EnqueuePhase) → IsPlace shape (R.Enqueue item start left phase) → EnqueueKnows item phase → Carries phase i word
+        → IsCarried shape (R.Enqueue item start left phase) i word
+    of_phase (E.ReloadSlot ends index filled) place knows c = made (E.ReloadSlot ends index filled)
+        (slot index filled place.4.2.above place.4.2.below place.0 knows c)
+    of_phase (E.ReloadEnds ends index filled) place knows c = made (E.ReloadEnds ends index filled)
+        (slot index filled place.4.2.above place.4.2.below place.0 knows c)
+    of_phase (E.HoldHead index filled held) place knows c = made (E.HoldHead index filled held)
+        (slot index filled place.4.3.above place.4.3.below place.0 knows c)
+    of_phase (E.Undo index filled worn) place knows c = made (E.Undo index filled worn)
+        (slot index filled place.4.1.above place.4.1.below place.0 knows c)
     of_phase other place knows c = absurd c
 carried_word shape (R.Dequeue start left phase) i word place knows c = absurd c
 
 -- how a step goes: on from its place, or from the first place of a call
 data Going (place : Option Running) (begin : Option Begin) (r : Running) : Type 0 where
   On : begin ≡ None → place ≡ Some r → Going place begin r
-  Enqueues : (item start turns : ℕ) → begin ≡ Some (B.Enqueue item start turns) → r ≡ R.Enqueue item start turns E.LoadEnds → Going place begin r
+  Enqueues : (item start turns : ℕ) → begin ≡ Some (B.Enqueue item start turns) → r ≡ R.Enqueue item start turns E.LoadEnds
+      → Going place begin r
   Dequeues : (start turns : ℕ) → r ≡ R.Dequeue start turns D.LoadEnds → Going place begin r
 
-going_is : (shape : Shape) (place : Option Running) (begin : Option Begin) (r : Running) → going shape place begin ≡ Some r → Going place begin r
+going_is : (shape : Shape) (place : Option Running) (begin : Option Begin) (r : Running) → going shape place begin ≡ Some r
+    → Going place begin r
 going_is shape None None r goes = absurd (cc)
 going_is shape (Some q) (Some begin) r goes = absurd (cc)
 going_is shape (Some q) None r goes = On refl goes
-going_is shape None (Some (B.Enqueue item start turns)) r goes = Enqueues item start turns refl (of_may (may_begin shape (B.Enqueue item start turns)) goes)
+going_is shape None (Some (B.Enqueue item start turns)) r goes = Enqueues item start turns refl
+    (of_may (may_begin shape (B.Enqueue item start turns)) goes)
   where
     of_may : (may : Bool) → cond may (begun (B.Enqueue item start turns)) None ≡ Some r → r ≡ R.Enqueue item start turns E.LoadEnds
     of_may true e = sym (Some-injective _ _ e)
@@ -299,21 +360,26 @@ going_is shape None (Some (B.Dequeue start turns)) r goes = Dequeues start turns
     of_may false e = absurd (cc)
 going_is shape None (Some B.Tick) r goes = absurd (cc)
 
-lacks_begun : (shape : Shape) (here : World) (x : ℕ) (begin : Option Begin) → BeginsFree shape here begin → IsHeld here x ⊎ IsInSlot shape here x → Lacks x (item_begun begin)
+lacks_begun : (shape : Shape) (here : World) (x : ℕ) (begin : Option Begin) → BeginsFree shape here begin
+    → IsHeld here x ⊎ IsInSlot shape here x → Lacks x (item_begun begin)
 lacks_begun shape here x None free there = tt
 lacks_begun shape here x (Some (B.Enqueue item start turns)) free there =
-    (λ same. elim there [ inl held ↦ free.1 (subst (IsHeld here) (sym same) held) | inr in_slot ↦ free.0 (subst (IsInSlot shape here) (sym same) in_slot) ], tt)
+    (λ same. elim there [ inl held ↦ free.1 (subst (IsHeld here) (sym same) held) | inr in_slot ↦ free.0
+    (subst (IsInSlot shape here) (sym same) in_slot) ], tt)
 lacks_begun shape here x (Some (B.Dequeue start turns)) free there = tt
 lacks_begun shape here x (Some B.Tick) free there = tt
 
 -- After a schedule: who has a token out, or put the word that stands, began last with it; and so did who put a slot's word
 record Traced (o : Opening) (all : List Event) (world : World) : Type 0 where
   held : (u : ℕ) (r : Running) (x : ℕ) → place_of world u ≡ Some r → out_at r ≡ x → 0 < x → BeganLast all u x
-  carried : (u : ℕ) (r : Running) (i word : ℕ) → place_of world u ≡ Some r → CarriesAt r i word → word_at world i ≡ word → BeganLast all u (own_item r)
+  carried : (u : ℕ) (r : Running) (i word : ℕ) → place_of world u ≡ Some r → CarriesAt r i word → word_at world i ≡ word
+      → BeganLast all u (own_item r)
   below : (u : ℕ) (r : Running) (i word : ℕ) → place_of world u ≡ Some r → CarriesAt r i word → word ≤ word_at world i
-  slots : (i : ℕ) → 0 < i → i < clock_at o.shape.k o.shape.n → value_of (word_at world i) ≢ 0 → PutLast o all i (word_at world i) (value_of (word_at world i))
+  slots : (i : ℕ) → 0 < i → i < clock_at o.shape.k o.shape.n → value_of (word_at world i) ≢ 0
+      → PutLast o all i (word_at world i) (value_of (word_at world i))
 
-dequeue_keeps : (shape : Shape) (start left : ℕ) (phase : DequeuePhase) (word : ℕ) (q : Running) → advance shape (R.Dequeue start left phase) word ≡ Goes q → own_item q ≡ 0
+dequeue_keeps : (shape : Shape) (start left : ℕ) (phase : DequeuePhase) (word : ℕ) (q : Running)
+    → advance shape (R.Dequeue start left phase) word ≡ Goes q → own_item q ≡ 0
 dequeue_keeps shape start left phase word q is = grind (arith, nat_tests)
 
 keeps_own : (shape : Shape) (r : Running) (word : ℕ) (q : Running) → advance shape r word ≡ Goes q → own_item q ≡ own_item r
@@ -324,18 +390,22 @@ next_goes : (next : Next) (q : Running) → place_after next ≡ Some q → next
 next_goes (Goes r) q is = ap Goes (Some-injective r q is)
 next_goes (Answers answer) q is = absurd (cc)
 
-put_not_first : (item start left ends index empty other first turns : ℕ) → R.Enqueue item start left (E.Put ends index empty) ≡ R.Enqueue other first turns E.LoadEnds → ⊥
+put_not_first : (item start left ends index empty other first turns : ℕ)
+    → R.Enqueue item start left (E.Put ends index empty) ≡ R.Enqueue other first turns E.LoadEnds → ⊥
 put_not_first item start left ends index empty other first turns e = cc
 
-enqueue_not_dequeue : (item start left first turns : ℕ) (phase : EnqueuePhase) (other : DequeuePhase) → R.Enqueue item start left phase ≡ R.Dequeue first turns other → ⊥
+enqueue_not_dequeue : (item start left first turns : ℕ) (phase : EnqueuePhase) (other : DequeuePhase)
+    → R.Enqueue item start left phase ≡ R.Dequeue first turns other → ⊥
 enqueue_not_dequeue item start left first turns phase other e = cc
 
 -- a put goes on from its place
-put_goes_on : (shape : Shape) (place : Option Running) (begin : Option Begin) (item start left ends index empty : ℕ) → going shape place begin ≡ Some (R.Enqueue item start left (E.Put ends index empty))
+put_goes_on : (shape : Shape) (place : Option Running) (begin : Option Begin) (item start left ends index empty : ℕ)
+    → going shape place begin ≡ Some (R.Enqueue item start left (E.Put ends index empty))
     → (begin ≡ None) × (place ≡ Some (R.Enqueue item start left (E.Put ends index empty)))
 put_goes_on shape place begin item start left ends index empty goes = of_going (going_is shape place begin _ goes)
   where
-    of_going : Going place begin (R.Enqueue item start left (E.Put ends index empty)) → (begin ≡ None) × (place ≡ Some (R.Enqueue item start left (E.Put ends index empty)))
+    of_going : Going place begin (R.Enqueue item start left (E.Put ends index empty))
+        → (begin ≡ None) × (place ≡ Some (R.Enqueue item start left (E.Put ends index empty)))
     of_going (On none at) = (none, at)
     of_going (Enqueues other first turns begins is) = absurd (put_not_first item start left ends index empty other first turns is)
     of_going (Dequeues first turns is) = absurd (enqueue_not_dequeue item start left first turns (E.Put ends index empty) D.LoadEnds is)
@@ -344,7 +414,8 @@ lacks_none : (x : ℕ) (begin : Option Begin) → begin ≡ None → Lacks x (it
 lacks_none x begin none = subst (λ (b : Option Begin). Lacks x (item_begun b)) (sym none) tt
 
 -- one event keeps it
-module _ (o : Opening) (done : List Event) (here there : World) (e : Event) (outcome : Outcome) (reached : world_after o done ≡ Some here) (made : step o.shape here e ≡ Ok (there, outcome)) (free : BeginsFree o.shape here e.begin)
+module _ (o : Opening) (done : List Event) (here there : World) (e : Event) (outcome : Outcome) (reached : world_after o done ≡ Some here)
+    (made : step o.shape here e ≡ Ok (there, outcome)) (free : BeginsFree o.shape here e.begin)
     (known : Traced o done here) where
   is_sound : IsSound o.shape here
   is_sound = sound o.shape o.threads done here reached
@@ -353,41 +424,58 @@ module _ (o : Opening) (done : List Event) (here there : World) (e : Event) (out
   rises i = word_rises o.shape here e there outcome i is_sound made
 
   -- a word that a thread carries, and that stands after the event, stood before
-  stood : (u : ℕ) (r : Running) (i word : ℕ) → place_of here u ≡ Some r → CarriesAt r i word → word_at there i ≡ word → word_at here i ≡ word
+  stood : (u : ℕ) (r : Running) (i word : ℕ) → place_of here u ≡ Some r → CarriesAt r i word → word_at there i ≡ word
+      → word_at here i ≡ word
   stood u r i word at c stands = let a = known.below u r i word at c in let b = rises i in omega (arith, a, b, stands)
 
   -- no call begins with its item, nor with one that a thread has out
-  lacks_carried : (u : ℕ) (r : Running) (i word : ℕ) → place_of here u ≡ Some r → CarriesAt r i word → word_at here i ≡ word → Lacks (own_item r) (item_begun e.begin)
+  lacks_carried : (u : ℕ) (r : Running) (i word : ℕ) → place_of here u ≡ Some r → CarriesAt r i word → word_at here i ≡ word
+      → Lacks (own_item r) (item_begun e.begin)
   lacks_carried u r i word at c stands =
       let w = carried_word o.shape r i word (place_is o.shape here u r is_sound at) (know_after o done here reached u r at) c in
-      lacks_begun o.shape here (own_item r) e.begin free (inr record { index = i; above = w.above; below = w.below; stands = ap value_of stands ∙ w.own })
+      lacks_begun o.shape here (own_item r) e.begin free (inr record {
+        index = i;
+        above = w.above;
+        below = w.below;
+        stands = ap value_of stands ∙ w.own;
+      })
 
   lacks_held : (u : ℕ) (r : Running) (x : ℕ) → place_of here u ≡ Some r → out_at r ≡ x → 0 < x → Lacks x (item_begun e.begin)
-  lacks_held u r x at out some = lacks_begun o.shape here x e.begin free (inl record { thread = u; place = r; there = at; holds = out_held r x out some })
+  lacks_held u r x at out some = lacks_begun o.shape here x e.begin free (inl record {
+    thread = u;
+    place = r;
+    there = at;
+    holds = out_held r x out some;
+  })
 
   still : (u : ℕ) (q : Running) → u ≢ e.thread → place_of there u ≡ Some q → place_of here u ≡ Some q
   still u q apart is = sym (other_place o.shape here e there outcome u apart made) ∙ is
 
-  held_other : (u : ℕ) (q : Running) (x : ℕ) → u ≢ e.thread → place_of there u ≡ Some q → out_at q ≡ x → 0 < x → BeganLast (done ++ e ∷ []) u x
+  held_other : (u : ℕ) (q : Running) (x : ℕ) → u ≢ e.thread → place_of there u ≡ Some q → out_at q ≡ x → 0 < x
+      → BeganLast (done ++ e ∷ []) u x
   held_other u q x apart is out some =
       let was = still u q apart is in
       began_on done e u x (known.held u q x was out some) (λ same. absurd (apart (sym same))) (lacks_held u q x was out some)
 
-  carried_other : (u : ℕ) (q : Running) (i word : ℕ) → u ≢ e.thread → place_of there u ≡ Some q → CarriesAt q i word → word_at there i ≡ word → BeganLast (done ++ e ∷ []) u (own_item q)
+  carried_other : (u : ℕ) (q : Running) (i word : ℕ) → u ≢ e.thread → place_of there u ≡ Some q → CarriesAt q i word
+      → word_at there i ≡ word → BeganLast (done ++ e ∷ []) u (own_item q)
   carried_other u q i word apart is c stands =
       let was = still u q apart is in
       let before = stood u q i word was c stands in
-      began_on done e u (own_item q) (known.carried u q i word was c before) (λ same. absurd (apart (sym same))) (lacks_carried u q i word was c before)
+      began_on done e u (own_item q) (known.carried u q i word was c before) (λ same. absurd (apart (sym same)))
+          (lacks_carried u q i word was c before)
 
   below_other : (u : ℕ) (q : Running) (i word : ℕ) → u ≢ e.thread → place_of there u ≡ Some q → CarriesAt q i word → word ≤ word_at there i
   below_other u q i word apart is c = let a = known.below u q i word (still u q apart is) c in let b = rises i in omega (arith, a, b)
 
-  newly_put : (i to : ℕ) → 0 < i → value_of to ≢ 0 → (running : Running) → going o.shape (place_of here e.thread) e.begin ≡ Some running → access o.shape running ≡ Exchange i (word_at here i) to
+  newly_put : (i to : ℕ) → 0 < i → value_of to ≢ 0 → (running : Running) → going o.shape (place_of here e.thread) e.begin ≡ Some running
+      → access o.shape running ≡ Exchange i (word_at here i) to
       → PutLast o (done ++ e ∷ []) i to (value_of to)
   newly_put i to above filled running stands exchange =
       let p = put_of_exchange o.shape running i (word_at here i) to above filled exchange in
       let put : Running = R.Enqueue p.item p.start p.left (E.Put p.ends i (word_at here i)) in
-      let on = put_goes_on o.shape (place_of here e.thread) e.begin p.item p.start p.left p.ends i (word_at here i) (stands ∙ ap Some p.place) in
+      let on = put_goes_on o.shape (place_of here e.thread) e.begin p.item p.start p.left p.ends i (word_at here i)
+          (stands ∙ ap Some p.place) in
       let place : IsPlace o.shape put = place_is o.shape here e.thread put is_sound on.1 in
       let b = known.held e.thread put p.item on.1 refl place.0 in
       let value : value_of to ≡ p.item = ap value_of p.puts ∙ value-filled_with p.item (word_at here i) place.1 in
@@ -400,19 +488,34 @@ module _ (o : Opening) (done : List Event) (here there : World) (e : Event) (out
         after = [];
         all_are = (λ k. b.all_are k ++ event e.thread (on.0 k) ∷ []);
         one_call = b.one_call;
-        puts = record { here = here; item = p.item; start = p.start; left = p.left; ends = p.ends; reached = ap (world_after o) (sym b.all_are) ∙ reached; place = on.1; puts = p.puts };
+        puts = record {
+          here = here;
+          item = p.item;
+          start = p.start;
+          left = p.left;
+          ends = p.ends;
+          reached = ap (world_after o) (sym b.all_are) ∙ reached;
+          place = on.1;
+          puts = p.puts;
+        };
         value_is = value;
         not_again = lacks_on p.item b.after (event e.thread None) b.not_again tt;
       } in
       subst (PutLast o (done ++ e ∷ []) i to) (sym value) last
 
-  slots_on : (i : ℕ) → 0 < i → i < clock_at o.shape.k o.shape.n → value_of (word_at there i) ≢ 0 → PutLast o (done ++ e ∷ []) i (word_at there i) (value_of (word_at there i))
+  slots_on : (i : ℕ) → 0 < i → i < clock_at o.shape.k o.shape.n → value_of (word_at there i) ≢ 0
+      → PutLast o (done ++ e ∷ []) i (word_at there i) (value_of (word_at there i))
   slots_on i above below filled =
       elim (cases_eq (word_at there i) (word_at here i)) [
         | inl same ↦
             let was = word_at here i in
             let old = known.slots i above below (λ none. filled (ap value_of same ∙ none)) in
-            let lacks = lacks_begun o.shape here (value_of was) e.begin free (inr record { index = i; above = above; below = below; stands = refl }) in
+            let lacks = lacks_begun o.shape here (value_of was) e.begin free (inr record {
+              index = i;
+              above = above;
+              below = below;
+              stands = refl;
+            }) in
             subst (λ (w : ℕ). PutLast o (done ++ e ∷ []) i w (value_of w)) (sym same) (put_on o done e i was (value_of was) old lacks)
         | inr ne ↦ elim ((one_word o.shape here e there outcome is_sound made).only_so i ne) [
           | inl win ↦ newly_put i (word_at there i) above filled win.running win.stands win.exchange
@@ -434,44 +537,66 @@ module _ (o : Opening) (done : List Event) (here there : World) (e : Event) (out
     goes_to : (q : Running) → place_of there e.thread ≡ Some q → advance o.shape s.running seen ≡ Goes q
     goes_to q is =
         next_goes (advance o.shape s.running seen) q
-        (sym (ap (λ (w : World). place_of w e.thread) s.there_is ∙ own_place o.shape here e.thread s.running (made_within o.shape here e there outcome made)) ∙ is)
+        (sym (ap (λ (w : World). place_of w e.thread) s.there_is ∙ own_place o.shape here e.thread s.running
+        (made_within o.shape here e there outcome made)) ∙ is)
 
     held_own : (q : Running) (x : ℕ) → place_of there e.thread ≡ Some q → out_at q ≡ x → 0 < x → BeganLast (done ++ e ∷ []) e.thread x
-    held_own q x is out some = subst (BeganLast (done ++ e ∷ []) e.thread) out (by_going how (out_came o.shape s.running seen q (goes_to q is) some_out))
+    held_own q x is out some = subst (BeganLast (done ++ e ∷ []) e.thread) out
+        (by_going how (out_came o.shape s.running seen q (goes_to q is) some_out))
       where
         some_out : 0 < out_at q
         some_out = omega (arith, out, some)
 
-        by_going : Going (place_of here e.thread) e.begin s.running → (out_at s.running ≡ out_at q) ⊎ IsUndo o.shape s.running seen (out_at q) → BeganLast (done ++ e ∷ []) e.thread (out_at q)
-        by_going (On none at) (inl same) = began_on done e e.thread (out_at q) (known.held e.thread s.running (out_at q) at same some_out) (λ mine. none) (lacks_none (out_at q) e.begin none)
+        by_going : Going (place_of here e.thread) e.begin s.running
+            → (out_at s.running ≡ out_at q) ⊎ IsUndo o.shape s.running seen (out_at q) → BeganLast (done ++ e ∷ []) e.thread (out_at q)
+        by_going (On none at) (inl same) = began_on done e e.thread (out_at q) (known.held e.thread s.running (out_at q) at same some_out)
+            (λ mine. none) (lacks_none (out_at q) e.begin none)
         by_going (On none at) (inr u) =
             let old = known.carried e.thread s.running u.index seen at u.carries (ap (word_at here) (sym u.at) ∙ sym seen_is) in
-            began_on done e e.thread (out_at q) (subst (BeganLast done e.thread) u.own old) (λ mine. none) (lacks_none (out_at q) e.begin none)
+            began_on done e e.thread (out_at q) (subst (BeganLast done e.thread) u.own old) (λ mine. none)
+                (lacks_none (out_at q) e.begin none)
         by_going (Enqueues item start turns begin first) (inl same) =
-            let new : BeganLast (done ++ e ∷ []) e.thread item = record { start = start; turns = turns; before = done; after = []; all_are = (λ k. done ++ event e.thread (begin k) ∷ []); one_call = tt; not_again = tt } in
+            let new : BeganLast (done ++ e ∷ []) e.thread item = record {
+              start = start;
+              turns = turns;
+              before = done;
+              after = [];
+              all_are = (λ k. done ++ event e.thread (begin k) ∷ []);
+              one_call = tt;
+              not_again = tt;
+            } in
             subst (BeganLast (done ++ e ∷ []) e.thread) (sym (ap out_at first) ∙ same) new
-        by_going (Enqueues item start turns begin first) (inr u) = absurd (subst (λ (r : Running). CarriesAt r u.index seen) first u.carries)
+        by_going (Enqueues item start turns begin first) (inr u) = absurd
+            (subst (λ (r : Running). CarriesAt r u.index seen) first u.carries)
         by_going (Dequeues start turns first) (inl same) = absurd (let none = ap out_at first in omega (arith, none, same, some_out))
         by_going (Dequeues start turns first) (inr u) = absurd (subst (λ (r : Running). CarriesAt r u.index seen) first u.carries)
 
-    carried_own : (q : Running) (i word : ℕ) → place_of there e.thread ≡ Some q → CarriesAt q i word → word_at there i ≡ word → BeganLast (done ++ e ∷ []) e.thread (own_item q)
+    carried_own : (q : Running) (i word : ℕ) → place_of there e.thread ≡ Some q → CarriesAt q i word → word_at there i ≡ word
+        → BeganLast (done ++ e ∷ []) e.thread (own_item q)
     carried_own q i word is c stands =
         let next = goes_to q is in
-        subst (BeganLast (done ++ e ∷ []) e.thread) (sym (keeps_own o.shape s.running seen q next)) (by_going how (carries_came o.shape s.running seen q i word next c))
+        subst (BeganLast (done ++ e ∷ []) e.thread) (sym (keeps_own o.shape s.running seen q next))
+            (by_going how (carries_came o.shape s.running seen q i word next c))
       where
-        by_going : Going (place_of here e.thread) e.begin s.running → CarriesAt s.running i word ⊎ IsPut s.running i seen word → BeganLast (done ++ e ∷ []) e.thread (own_item s.running)
+        by_going : Going (place_of here e.thread) e.begin s.running → CarriesAt s.running i word ⊎ IsPut s.running i seen word
+            → BeganLast (done ++ e ∷ []) e.thread (own_item s.running)
         by_going (On none at) (inl old) =
-            began_on done e e.thread (own_item s.running) (known.carried e.thread s.running i word at old (stood e.thread s.running i word at old stands)) (λ mine. none) (lacks_none (own_item s.running) e.begin none)
+            began_on done e e.thread (own_item s.running)
+                (known.carried e.thread s.running i word at old (stood e.thread s.running i word at old stands)) (λ mine. none)
+                (lacks_none (own_item s.running) e.begin none)
         by_going (On none at) (inr p) =
             let put : Running = R.Enqueue p.item p.start p.left (E.Put p.ends i seen) in
             let at_put : place_of here e.thread ≡ Some put = at ∙ ap Some p.place in
             let place : IsPlace o.shape put = place_is o.shape here e.thread put is_sound at_put in
-            let new = began_on done e e.thread p.item (known.held e.thread put p.item at_put refl place.0) (λ mine. none) (lacks_none p.item e.begin none) in
+            let new = began_on done e e.thread p.item (known.held e.thread put p.item at_put refl place.0) (λ mine. none)
+                (lacks_none p.item e.begin none) in
             subst (BeganLast (done ++ e ∷ []) e.thread) (sym (ap own_item p.place)) new
         by_going (Enqueues item start turns begin first) (inl old) = absurd (subst (λ (r : Running). CarriesAt r i word) first old)
-        by_going (Enqueues item start turns begin first) (inr p) = absurd (put_not_first p.item p.start p.left p.ends i seen item start turns (sym p.place ∙ first))
+        by_going (Enqueues item start turns begin first) (inr p) = absurd
+            (put_not_first p.item p.start p.left p.ends i seen item start turns (sym p.place ∙ first))
         by_going (Dequeues start turns first) (inl old) = absurd (subst (λ (r : Running). CarriesAt r i word) first old)
-        by_going (Dequeues start turns first) (inr p) = absurd (enqueue_not_dequeue p.item p.start p.left start turns (E.Put p.ends i seen) D.LoadEnds (sym p.place ∙ first))
+        by_going (Dequeues start turns first) (inr p) = absurd
+            (enqueue_not_dequeue p.item p.start p.left start turns (E.Put p.ends i seen) D.LoadEnds (sym p.place ∙ first))
 
     below_own : (q : Running) (i word : ℕ) → place_of there e.thread ≡ Some q → CarriesAt q i word → word ≤ word_at there i
     below_own q i word is c = by_coming how (carries_came o.shape s.running seen q i word (goes_to q is) c)
@@ -480,12 +605,16 @@ module _ (o : Opening) (done : List Event) (here there : World) (e : Event) (out
         newly p =
             let touches : access o.shape s.running ≡ Exchange i seen (filled_with p.item seen) = ap (access o.shape) p.place in
             let seen_there : seen ≡ word_at here i = seen_is ∙ ap (λ a. word_at here (accessed a)) touches in
-            let exchange : access o.shape s.running ≡ Exchange i (word_at here i) word = touches ∙ (λ k. Exchange i (seen_there k) (sym p.puts k)) in
-            let place = going_place o.shape (place_of here e.thread) e.begin s.running (λ r at. place_is o.shape here e.thread r is_sound at) s.goes in
-            let stands : word_at there i ≡ word = ap (λ (w : World). word_at w i) s.there_is ∙ won_word o.shape here e.thread s.running i word is_sound place exchange in
+            let exchange : access o.shape s.running ≡ Exchange i (word_at here i) word = touches ∙
+                (λ k. Exchange i (seen_there k) (sym p.puts k)) in
+            let place = going_place o.shape (place_of here e.thread) e.begin s.running
+                (λ r at. place_is o.shape here e.thread r is_sound at) s.goes in
+            let stands : word_at there i ≡ word = ap (λ (w : World). word_at w i) s.there_is
+                ∙ won_word o.shape here e.thread s.running i word is_sound place exchange in
             omega (arith, stands)
 
-        by_coming : Going (place_of here e.thread) e.begin s.running → CarriesAt s.running i word ⊎ IsPut s.running i seen word → word ≤ word_at there i
+        by_coming : Going (place_of here e.thread) e.begin s.running → CarriesAt s.running i word ⊎ IsPut s.running i seen word
+            → word ≤ word_at there i
         by_coming how (inr p) = newly p
         by_coming (On none at) (inl old) = let a = known.below e.thread s.running i word at old in let b = rises i in omega (arith, a, b)
         by_coming (Enqueues item start turns begin first) (inl old) = absurd (subst (λ (r : Running). CarriesAt r i word) first old)
@@ -496,11 +625,13 @@ module _ (o : Opening) (done : List Event) (here there : World) (e : Event) (out
       elim (stepped o.shape here e there outcome made) [
         | inl s ↦ record {
           held = λ u q x is out some. elim (cases_eq u e.thread) [
-            | inl mine ↦ subst (λ (t : ℕ). BeganLast (done ++ e ∷ []) t x) (sym mine) (held_own s q x (ap (place_of there) (sym mine) ∙ is) out some)
+            | inl mine ↦ subst (λ (t : ℕ). BeganLast (done ++ e ∷ []) t x) (sym mine)
+                (held_own s q x (ap (place_of there) (sym mine) ∙ is) out some)
             | inr other ↦ held_other u q x other is out some
           ];
           carried = λ u q i word is c stands. elim (cases_eq u e.thread) [
-            | inl mine ↦ subst (λ (t : ℕ). BeganLast (done ++ e ∷ []) t (own_item q)) (sym mine) (carried_own s q i word (ap (place_of there) (sym mine) ∙ is) c stands)
+            | inl mine ↦ subst (λ (t : ℕ). BeganLast (done ++ e ∷ []) t (own_item q)) (sym mine)
+                (carried_own s q i word (ap (place_of there) (sym mine) ∙ is) c stands)
             | inr other ↦ carried_other u q i word other is c stands
           ];
           below = λ u q i word is c. elim (cases_eq u e.thread) [
@@ -511,7 +642,8 @@ module _ (o : Opening) (done : List Event) (here there : World) (e : Event) (out
         }
         | inr t ↦
             let apart : (u : ℕ) (q : Running) → place_of there u ≡ Some q → u ≢ e.thread = λ u q is same.
-            none_some q (sym (ap (λ (w : World). place_of w u) t.there_is ∙ tick_leaves o.shape here u ∙ ap (place_of here) same ∙ t.idle) ∙ is) in
+            none_some q
+                (sym (ap (λ (w : World). place_of w u) t.there_is ∙ tick_leaves o.shape here u ∙ ap (place_of here) same ∙ t.idle) ∙ is) in
             record {
               held = λ u q x is out some. held_other u q x (apart u q is) is out some;
               carried = λ u q i word is c stands. carried_other u q i word (apart u q is) is c stands;
@@ -524,14 +656,16 @@ module _ (o : Opening) (done : List Event) (here there : World) (e : Event) (out
       none_some q e = cc
 
 -- so does a schedule
-traced_along : (o : Opening) (done rest : List Event) (here there : World) → world_after o done ≡ Some here → run o.shape (Some here) rest ≡ Some there → AllBeginFree o.shape (Some here) rest → Traced o done here → Traced o (done ++ rest) there
+traced_along : (o : Opening) (done rest : List Event) (here there : World) → world_after o done ≡ Some here
+    → run o.shape (Some here) rest ≡ Some there → AllBeginFree o.shape (Some here) rest → Traced o done here → Traced o (done ++ rest) there
 traced_along o done [] here there reached is free known =
     subst (λ (x : List Event × World). Traced o x.0 x.1) (λ i. (sym (append-nil done) i, Some-injective here there is i)) known
 traced_along o done (e ∷ es) here there reached is free known =
     let m = first_made o.shape here e there es is in
     let next : world_of (step o.shape here e) ≡ Some m.0 = ap world_of m.1.1.0 in
     let now = traced_on o done here m.0 e m.1.0 reached m.1.1.0 free.0 known in
-    let all = traced_along o (done ++ e ∷ []) es m.0 there (after-snoc o.shape o.threads done here e reached ∙ next) m.1.1.1 (subst (λ (w : Option World). AllBeginFree o.shape w es) next free.1) now in
+    let all = traced_along o (done ++ e ∷ []) es m.0 there (after-snoc o.shape o.threads done here e reached ∙ next) m.1.1.1
+        (subst (λ (w : Option World). AllBeginFree o.shape w es) next free.1) now in
     subst (λ (xs : List Event). Traced o xs there) (append_assoc done (e ∷ []) es) all
 
 opening_traced : (o : Opening) → Traced o [] (opening o.shape o.threads)
@@ -554,9 +688,11 @@ opening_traced o = record {
     idle (suc n) (suc t) r at = idle n t r at
 
 -- The word of a filled slot was put by the enqueue that last began with its item
-pub who_put : (o : Opening) (all : List Event) (world : World) → world_after o all ≡ Some world → HolderLaw o all → (i : ℕ) → 0 < i → i < clock_at o.shape.k o.shape.n → value_of (word_at world i) ≢ 0
+pub who_put : (o : Opening) (all : List Event) (world : World) → world_after o all ≡ Some world → HolderLaw o all → (i : ℕ) → 0 < i
+    → i < clock_at o.shape.k o.shape.n → value_of (word_at world i) ≢ 0
     → PutLast o all i (word_at world i) (value_of (word_at world i))
-who_put o all world reached law i above below filled = (traced_along o [] all (opening o.shape o.threads) world refl reached law (opening_traced o)).slots i above below filled
+who_put o all world reached law i above below filled =
+    (traced_along o [] all (opening o.shape o.threads) world refl reached law (opening_traced o)).slots i above below filled
 
 module _ {T : Type 0} where
   last_append : (x : ℕ) (found : Option T) (xs ys : Gifts T) → last_gift x found (xs ++ ys) ≡ last_gift x (last_gift x found xs) ys
@@ -565,7 +701,8 @@ module _ {T : Type 0} where
 
   last_lacks : (x : ℕ) (found : Option T) (gs : Gifts T) → Lacks x (map (λ g. g.0) gs) → last_gift x found gs ≡ found
   last_lacks x found [] lacks = refl
-  last_lacks x found (g ∷ gs) lacks = last_lacks x (cond (g.0 == x) g.1 found) gs lacks.1 ∙ ap (λ b. cond b g.1 found) (ne_eqb g.0 x lacks.0)
+  last_lacks x found (g ∷ gs) lacks = last_lacks x (cond (g.0 == x) g.1 found) gs lacks.1 ∙ ap (λ b. cond b g.1 found)
+      (ne_eqb g.0 x lacks.0)
 
   -- gifts cut at one of their items
   record IsCut (gifts : Gifts T) (xs : List ℕ) (token : ℕ) (ys : List ℕ) : Type 0 where
@@ -587,16 +724,25 @@ module _ {T : Type 0} where
       let here : g.0 ≡ x = cc in
       let rest : map (λ g. g.0) gs ≡ xs ++ token ∷ ys = cc in
       let c = cut_at gs xs token ys rest in
-      record { earlier = g ∷ c.earlier; payload = c.payload; later = c.later; are = ap (λ hs. g ∷ hs) c.are; first = (λ k. here k ∷ c.first k); last = c.last }
+      record {
+        earlier = g ∷ c.earlier;
+        payload = c.payload;
+        later = c.later;
+        are = ap (λ hs. g ∷ hs) c.are;
+        first = (λ k. here k ∷ c.first k);
+        last = c.last;
+      }
 
   -- The gift of the enqueue that put a word is the last one of its item
-  pub was_put : (o : Opening) (all : List Event) (gifts : Gifts T) (index word token : ℕ) → InTurn all gifts → PutLast o all index word token → WasPutWith o all gifts index word token (beside token gifts)
+  pub was_put : (o : Opening) (all : List Event) (gifts : Gifts T) (index word token : ℕ) → InTurn all gifts
+      → PutLast o all index word token → WasPutWith o all gifts index word token (beside token gifts)
   was_put o all gifts index word token turns p =
       let begins = event p.thread (Some (B.Enqueue token p.start p.turns)) in
       let put = event p.thread None in
       let behind = p.between ++ put ∷ p.after in
       let are : map (λ (g : ℕ × Option T). g.0) gifts ≡ items_begun p.before ++ token ∷ items_begun behind =
-      turns ∙ ap items_begun (p.all_are ∙ append_assoc p.before (begins ∷ p.between) (put ∷ p.after)) ∙ items_begun-append p.before (begins ∷ behind) in
+      turns ∙ ap items_begun (p.all_are ∙ append_assoc p.before (begins ∷ p.between) (put ∷ p.after)) ∙ items_begun-append p.before
+          (begins ∷ behind) in
       let c = cut_at gifts (items_begun p.before) token (items_begun behind) are in
       let so_far = last_gift token None c.earlier in
       let last : beside token gifts ≡ c.payload =
@@ -634,16 +780,20 @@ abbrev NotTake : DequeuePhase → Type 0
 NotTake (D.Take ends index filled) = ⊥
 NotTake phase = Unit {0}
 
-enqueue_not_got : (shape : Shape) (item start left : ℕ) (phase : EnqueuePhase) (word x : ℕ) → enqueue_advance shape item start left phase word ≡ Answers (Got x) → ⊥
+enqueue_not_got : (shape : Shape) (item start left : ℕ) (phase : EnqueuePhase) (word x : ℕ)
+    → enqueue_advance shape item start left phase word ≡ Answers (Got x) → ⊥
 enqueue_not_got shape item start left phase word x is = grind (arith, nat_tests)
 
-others_not_got : (shape : Shape) (start left : ℕ) (phase : DequeuePhase) (word x : ℕ) → NotTake phase → advance shape (R.Dequeue start left phase) word ≡ Answers (Got x) → ⊥
+others_not_got : (shape : Shape) (start left : ℕ) (phase : DequeuePhase) (word x : ℕ) → NotTake phase
+    → advance shape (R.Dequeue start left phase) word ≡ Answers (Got x) → ⊥
 others_not_got shape start left phase word x not is = grind (arith, nat_tests)
 
-lost_not_got : (shape : Shape) (start left ends index filled word x : ℕ) → word ≢ filled → advance shape (R.Dequeue start left (D.Take ends index filled)) word ≡ Answers (Got x) → ⊥
+lost_not_got : (shape : Shape) (start left ends index filled word x : ℕ) → word ≢ filled
+    → advance shape (R.Dequeue start left (D.Take ends index filled)) word ≡ Answers (Got x) → ⊥
 lost_not_got shape start left ends index filled word x lost is = grind (arith, nat_tests)
 
-won_got : (shape : Shape) (start left ends index filled word x : ℕ) → word ≡ filled → advance shape (R.Dequeue start left (D.Take ends index filled)) word ≡ Answers (Got x) → value_of filled ≡ x
+won_got : (shape : Shape) (start left ends index filled word x : ℕ) → word ≡ filled
+    → advance shape (R.Dequeue start left (D.Take ends index filled)) word ≡ Answers (Got x) → value_of filled ≡ x
 won_got shape start left ends index filled word x won is = grind (arith, nat_tests)
 
 got_place : (shape : Shape) (r : Running) (word x : ℕ) → advance shape r word ≡ Answers (Got x) → IsTake r word x
@@ -666,16 +816,20 @@ answered : (next : Next) (answer : Answer) → Ended answer ≡ outcome_of next 
 answered (Goes r) answer is = absurd (cc)
 answered (Answers a) answer is = ap Answers (let e : a ≡ answer = cc in e)
 
-take_not_first : (start left ends index filled first turns : ℕ) → R.Dequeue start left (D.Take ends index filled) ≡ R.Dequeue first turns D.LoadEnds → ⊥
+take_not_first : (start left ends index filled first turns : ℕ)
+    → R.Dequeue start left (D.Take ends index filled) ≡ R.Dequeue first turns D.LoadEnds → ⊥
 take_not_first start left ends index filled first turns e = cc
 
-take_goes_on : (shape : Shape) (place : Option Running) (begin : Option Begin) (start left ends index filled : ℕ) → going shape place begin ≡ Some (R.Dequeue start left (D.Take ends index filled))
+take_goes_on : (shape : Shape) (place : Option Running) (begin : Option Begin) (start left ends index filled : ℕ)
+    → going shape place begin ≡ Some (R.Dequeue start left (D.Take ends index filled))
     → (begin ≡ None) × (place ≡ Some (R.Dequeue start left (D.Take ends index filled)))
 take_goes_on shape place begin start left ends index filled goes = of_going (going_is shape place begin _ goes)
   where
-    of_going : Going place begin (R.Dequeue start left (D.Take ends index filled)) → (begin ≡ None) × (place ≡ Some (R.Dequeue start left (D.Take ends index filled)))
+    of_going : Going place begin (R.Dequeue start left (D.Take ends index filled))
+        → (begin ≡ None) × (place ≡ Some (R.Dequeue start left (D.Take ends index filled)))
     of_going (On none at) = (none, at)
-    of_going (Enqueues item first turns begins is) = absurd (enqueue_not_dequeue item first turns start left E.LoadEnds (D.Take ends index filled) (sym is))
+    of_going (Enqueues item first turns begins is) = absurd
+        (enqueue_not_dequeue item first turns start left E.LoadEnds (D.Take ends index filled) (sym is))
     of_going (Dequeues first turns is) = absurd (take_not_first start left ends index filled first turns is)
 
 -- what a dequeue that answers Got takes with its last event
@@ -687,7 +841,8 @@ record TookLast (o : Opening) (thread token : ℕ) (seen : List Event) : Type 0 
   below : index < clock_at o.shape.k o.shape.n
   value : value_of word ≡ token
 
-took_last : (o : Opening) (thread start turns token : ℕ) (old new : List Event) → CompleteExecution o.shape o.threads thread (B.Dequeue start turns) (Got token) old new → TookLast o thread token new
+took_last : (o : Opening) (thread start turns token : ℕ) (old new : List Event)
+    → CompleteExecution o.shape o.threads thread (B.Dequeue start turns) (Got token) old new → TookLast o thread token new
 took_last o thread start turns token old new run =
     elim (stepped o.shape run.before run.last run.world (Ended (Got token)) run.ends) [
       | inr t ↦ absurd (let e : Ended (Got token) ≡ Went = t.outcome_is in cc)
@@ -695,9 +850,12 @@ took_last o thread start turns token old new run =
           let seen = found o.shape run.before s.running in
           let g = got_place o.shape s.running seen token (answered (advance o.shape s.running seen) (Got token) s.outcome_is) in
           let take : Running = R.Dequeue g.start g.left (D.Take g.ends g.index seen) in
-          let on = take_goes_on o.shape (place_of run.before run.last.thread) run.last.begin g.start g.left g.ends g.index seen (s.goes ∙ ap Some g.place) in
-          let place : IsPlace o.shape take = place_is o.shape run.before run.last.thread take (sound o.shape o.threads (old ++ run.between) run.before run.reached) on.1 in
-          let stands : seen ≡ word_at run.before g.index = found-is o.shape run.before s.running ∙ ap (λ (r : Running). word_at run.before (accessed (access o.shape r))) g.place in
+          let on = take_goes_on o.shape (place_of run.before run.last.thread) run.last.begin g.start g.left g.ends g.index seen
+              (s.goes ∙ ap Some g.place) in
+          let place : IsPlace o.shape take = place_is o.shape run.before run.last.thread take
+              (sound o.shape o.threads (old ++ run.between) run.before run.reached) on.1 in
+          let stands : seen ≡ word_at run.before g.index = found-is o.shape run.before s.running ∙ ap
+              (λ (r : Running). word_at run.before (accessed (access o.shape r))) g.place in
           record {
             index = g.index;
             word = seen;
@@ -719,20 +877,27 @@ took_last o thread start turns token old new run =
     ]
 
 -- What a pass took was put with the payload that it hands back
-pub took_what_was_put : {T : Type 0} (token : ℕ) (payload : T) (p : PayKnown T) (start turns : ℕ) (old : List Event) → CompleteExecution p.pass.opened.shape p.pass.opened.threads p.pass.thread (B.Dequeue start turns) (Got token) old p.pass.seen
-    → 0 < token → HolderLaw p.pass.opened p.pass.seen → InTurn p.pass.seen p.gifts → beside token p.gifts ≡ Some payload → TookWhatWasPut token payload p
+pub took_what_was_put : {T : Type 0} (token : ℕ) (payload : T) (p : PayKnown T) (start turns : ℕ) (old : List Event)
+    → CompleteExecution p.pass.opened.shape p.pass.opened.threads p.pass.thread (B.Dequeue start turns) (Got token) old p.pass.seen
+    → 0 < token → HolderLaw p.pass.opened p.pass.seen → InTurn p.pass.seen p.gifts → beside token p.gifts ≡ Some payload
+        → TookWhatWasPut token payload p
 took_what_was_put token payload p start turns old run some law in_turn is =
     let o = p.pass.opened in
     let all = p.pass.seen in
     let t = took_last o p.pass.thread start turns token old all run in
     let last = event p.pass.thread None in
-    let whole : world_after o all ≡ Some run.world = ap (world_after o) run.new_is ∙ after-snoc o.shape o.threads (old ++ run.between) run.before run.last run.reached ∙ ap world_of run.ends in
+    let whole : world_after o all ≡ Some run.world = ap (world_after o) run.new_is ∙ after-snoc o.shape o.threads
+        (old ++ run.between) run.before run.last run.reached ∙ ap world_of run.ends in
     let first : HolderLaw o t.taken.before =
-    begin_free_before o.shape (opening o.shape o.threads) run.world t.taken.before (last ∷ []) (ap (world_after o) (sym t.taken.seen_is) ∙ whole) (subst (HolderLaw o) t.taken.seen_is law) in
+    begin_free_before o.shape (opening o.shape o.threads) run.world t.taken.before (last ∷ [])
+        (ap (world_after o) (sym t.taken.seen_is) ∙ whole) (subst (HolderLaw o) t.taken.seen_is law) in
     let value : value_of (word_at t.taken.here t.index) ≡ token = ap value_of t.taken.stands ∙ t.value in
-    let put = who_put o t.taken.before t.taken.here t.taken.reached first t.index t.above t.below (λ none. absurd (omega (arith, value, none, some))) in
-    let as_taken : PutLast o t.taken.before t.index t.word token = subst (λ (x : ℕ × ℕ). PutLast o t.taken.before t.index x.0 x.1) (λ k. (t.taken.stands k, value k)) put in
-    let of_all : PutLast o all t.index t.word token = subst (λ (es : List Event). PutLast o es t.index t.word token) (sym t.taken.seen_is) (put_on o t.taken.before last t.index t.word token as_taken tt) in
+    let put = who_put o t.taken.before t.taken.here t.taken.reached first t.index t.above t.below
+        (λ none. absurd (omega (arith, value, none, some))) in
+    let as_taken : PutLast o t.taken.before t.index t.word token = subst (λ (x : ℕ × ℕ). PutLast o t.taken.before t.index x.0 x.1)
+        (λ k. (t.taken.stands k, value k)) put in
+    let of_all : PutLast o all t.index t.word token = subst (λ (es : List Event). PutLast o es t.index t.word token) (sym t.taken.seen_is)
+        (put_on o t.taken.before last t.index t.word token as_taken tt) in
     record {
       index = t.index;
       word = t.word;

@@ -82,9 +82,10 @@ pub record TakesAtLast (o : Opening) (thread index word : ℕ) (seen : List Even
   pub stands : word_at here index ≡ word
 
 module _ {T : Type 0} where
-  -- An enqueue put this word of a token at this index, and it began with this payload beside the token: it begins with an event
-  -- of the schedule, its thread begins nothing until the put, and its gift is that of its event
-  pub record WasPutWith (o : Opening) (all : List Event) (gifts : Gifts T) (index word token : ℕ) (payload : Option T) : Type 0 where
+  -- An enqueue put this word of a token at this index, and it began with this payload beside the token: it begins with an
+  -- event of the schedule, its thread begins nothing until the put, and its gift is that of its event
+  pub record WasPutWith (o : Opening) (all : List Event) (gifts : Gifts T) (index word token : ℕ) (payload : Option T)
+      : Type 0 where
     pub thread : ℕ
     pub start : ℕ
     pub turns : ℕ
@@ -116,8 +117,8 @@ module _ {T : Type 0} where
     pub later : Gifts T
     pub goes_on : new.gifts ≡ old.gifts ++ later
 
-  -- An enqueue of a token with this payload beside it. Its first event follows others' events, and its gift follows those of
-  -- the enqueues that began before that event
+  -- An enqueue of a token with this payload beside it. Its first event follows others' events, and its gift follows those
+  -- of the enqueues that began before that event
   pub record EnqueuesWith (token start turns : ℕ) (answer : Answer) (payload : T) (old new : PayKnown T) : Type 0 where
     pub call : MakesCall (B.Enqueue token start turns) answer old.pass new.pass
     pub in_turn : InTurn new.pass.seen new.gifts
@@ -155,8 +156,8 @@ module _ {T : Type 0} where
   Gives start turns payload (G.Worn back) old new = Refuses start turns A.Worn payload back old new
   Gives start turns payload (G.NoToken back) old new = (back ≡ payload) × (old.tokens ≡ []) × (new ≡ old)
 
-  -- What `take` did: Got gives the pass the token that was taken, and the last payload that was given with it, which is that of
-  -- the enqueue that put it
+  -- What `take` did: Got gives the pass the token that was taken, and the last payload that was given with it, which is that
+  -- of the enqueue that put it
   abbrev pub TakesOut : ℕ → ℕ → Taken T → PayKnown T → PayKnown T → Type 0
   TakesOut start turns (K.Got payload) old new = (token : ℕ) × (new.tokens ≡ token ∷ old.tokens)
       × (beside token new.gifts ≡ Some payload) × TookWhatWasPut token payload new
@@ -196,9 +197,10 @@ module _ {T : Type 0} where
   HavePayloads slots (token ∷ tokens) =
       ((0 < token) × (token ≤ length slots) × ((payload : T) × (in_slot slots token ≡ Some payload)) × (times token tokens ≡ 0)) × HavePayloads slots tokens
 
-  -- What is left at the end: there is one schedule, which begins with what the pass has seen and has no further event of it, and
-  -- the payloads are the last ones given with the tokens in the filled slots after it, which are those of the enqueues that put
-  -- them. Where the pass is the only one, it is what the pass has seen. No token is lost and none comes twice, and that schedule keeps the promise
+  -- What is left at the end: there is one schedule, which begins with what the pass has seen and has no further event of it,
+  -- and the payloads are the last ones given with the tokens in the filled slots after it, which are those of the enqueues
+  -- that put them. Where the pass is the only one, it is what the pass has seen. No token is lost and none comes twice, and
+  -- that schedule keeps the promise
   pub record PayCloses (q : OpenQueue) (p : PayKnown T) (payloads : List T) : Type 0 where
     pub all : List Event
     pub gifts : Gifts T

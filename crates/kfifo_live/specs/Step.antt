@@ -111,9 +111,10 @@ module _ {T : Type 0} where
   HasOwn (Some begin) v own payload = own ≡ 0
   HasOwn None v own payload = (place : Running) × IsAt (Some place) v × (own ≡ own_item place) × (payload ≡ (hand_of v.0).payload)
 
-  -- The first own one of these events, which begins this call or goes on with its own: the gifts up to it are of the enqueues
-  -- up to it
-  pub record HasFirst (begin : Option Begin) (v : Me (Option T) (View T)) (events : List Event) (given : Gifts T) : Type 0 where
+  -- The first own one of these events, which begins this call or goes on with its own: the gifts up to it are of the
+  -- enqueues up to it
+  pub record HasFirst (begin : Option Begin) (v : Me (Option T) (View T)) (events : List Event) (given : Gifts T)
+      : Type 0 where
     pub before : List Event
     pub after : List Event
     pub earlier : Gifts T
