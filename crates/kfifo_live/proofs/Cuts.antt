@@ -16,8 +16,8 @@ use Rattle.kfifo_machine.specs.Machine.{opening, word_at, place_of}
 use Rattle.kfifo_live.specs.declared.view.Opening.{Opening}
 use Rattle.kfifo_live.specs.declared.view.Part.{Part}
 use Rattle.kfifo_live.specs.declared.view.View.{View}
-use Rattle.kfifo_live.specs.Schedule.{part, view_of, count_up, first_hand, fresh, first_view, thread_of, seen_of, gifts_of, hand_of, with_seen, more_in, IsSeated, AllBegin, AllGiven, AllHands, Owns, AreResting, Fits, OneSchedule, FewTicks, both_parts}
-use Rattle.kfifo_live.specs.Hands.{Gifts, Homes, InTurn, Where, Home, AllHome, CallFits, HandFits, SlotsFit}
+use Rattle.kfifo_live.specs.Schedule.{part, view_of, count_up, first_hand, fresh, first_view, thread_of, seen_of, gifts_of, hand_of, with_seen, more_in, IsSeated, AllBegin, AllGiven, GiftsFit, AllHands, Owns, AreResting, Fits, OneSchedule, no_hand, FewTicks, both_parts}
+use Rattle.kfifo_live.specs.Hands.{Gifts, Homes, Where, Home, AllHome, CallFits, HandFits, SlotsFit}
 use Rattle.kfifo_live.specs.declared.view.Hand.{Hand}
 use Rattle.kfifo_live.specs.Step.{Looks}
 use Rattle.kfifo_live.proofs.Balance.{value-zero}
@@ -38,7 +38,7 @@ looks_at {T} o s id thread seen gifts hand more i kept at =
       others = λ some_tokens u other ne fits. subst (λ (g : Gifts T). HandFits (word_at kept.world) (place_of kept.world u) kept.at g s.homes u other) (sym (append-nil kept.gifts)) fits;
     } in
     let k = adds o s.words (slice_set s.words i (slice_index s.words i)) s.homes s.homes s.views id thread seen gifts hand hand more kept at [] [] (λ u apart. refl) kept.world refl words (subst (FewTicks o) (sym (append-nil kept.all)) kept.few_ticks)
-    (subst (λ (x : List Event × Gifts T). InTurn x.0 x.1) (λ j. (sym (append-nil kept.all) j, sym (append-nil kept.gifts) j)) kept.in_turn) tokens (kept.fit id (view_of o (part thread seen gifts hand ∷ more)) at).resting.0 in
+    (subst (λ (x : List Event × Gifts T). GiftsFit o x.0 x.1) (λ j. (sym (append-nil kept.all) j, sym (append-nil kept.gifts) j)) kept.in_turn) tokens (kept.fit id (view_of o (part thread seen gifts hand ∷ more)) at).resting.0 in
     let mine = kept.fit id (view_of o (part thread seen gifts hand ∷ more)) at in (
       view_of o (part thread kept.all kept.gifts hand ∷ more),
       subst (λ (x : List Event × Gifts T). OneSchedule o (slice_set s.words i (slice_index s.words i)) s.homes (set s.views id (view_of o (part thread x.0 x.1 hand ∷ more)))) (λ j. (append-nil kept.all j, append-nil kept.gifts j)) k,
@@ -206,6 +206,7 @@ cuts {T} o id v n le s kept at =
           (at_end (set s.views id left) right u j e);
       at = kept.at;
       slots = kept.slots;
+      holders = kept.holders;
       hands = λ some_tokens j u e.
           let all = kept.hands some_tokens id v at in
           let P : View T → Type 0 = λ x. AllHands (word_at kept.world) (place_of kept.world) kept.at kept.gifts s.homes x.parts in
@@ -255,6 +256,7 @@ gathers {T} o id v other w opened same s kept at apart there =
           at_other j u e;
       at = kept.at;
       slots = kept.slots;
+      holders = kept.holders;
       hands = λ some_tokens j u e.
           let P : View T → Type 0 = λ x. AllHands (word_at kept.world) (place_of kept.world) kept.at kept.gifts s.homes x.parts in
           ⊎_elim
@@ -361,7 +363,7 @@ module _ (T : Type 0) (o : Opening) where
       suc-mul-of m n = omega (arith, suc-mul m n)
 
 pub opens : {T : Type 0} (o : Opening) (words : List ℕ) → words ≡ replicate (2 + o.shape.n * o.shape.k) 0 → OneSchedule {T = T} o words (homes_open T o) (first_view o ∷ [])
-unfolding opening word_at
+unfolding opening word_at place_of
 opens {T} o words is = record {
   all = [];
   gifts = [];
@@ -369,12 +371,13 @@ opens {T} o words is = record {
   owner = λ t. (0, t);
   runs = refl;
   words_are = is;
-  in_turn = refl;
+  in_turn = record { in_turn = refl; holder_law = λ some_tokens. tt };
   few_ticks = λ thread. omega arith;
   fit = one;
   at = at_open o.tokens o.threads;
   slots = λ some_tokens i above below filled. absurd (filled (ap value_of (zero_at (2 + o.shape.n * o.shape.k) i) ∙ value-zero));
   hands = λ some_tokens. all_hands;
+  holders = λ some_tokens thread. (no_hand, record { home = tt; out = λ some_out. absurd (some_out refl); stands = subst (CallFits (word_at (opening o.shape o.threads)) [] no_hand) (sym (idle_open o.threads thread)) tt });
 }
   where
     zero_at : (n i : ℕ) → get_or {A = ℕ} (replicate n 0) i 0 ≡ 0

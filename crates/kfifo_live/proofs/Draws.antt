@@ -22,7 +22,7 @@ use Rattle.kfifo_live.specs.Schedule.{part, view_of, world_after, thread_of, see
 use Rattle.kfifo_live.specs.Hands.{Gifts, Homes, Where, Home, Out, In, AllHome, CallFits, HandFits, SlotsFit}
 use Rattle.kfifo_live.specs.Step.{IsAt, DrawsToken, LaysBack}
 use Rattle.kfifo_live.proofs.Hands.{within_list}
-use Rattle.kfifo_live.proofs.Keeps.{Tokens, all_hands_on, fits_set}
+use Rattle.kfifo_live.proofs.Keeps.{Tokens, all_hands_on, held_on, fits_set}
 use Rattle.kfifo_live.proofs.Passes.{idle_on, threads_are}
 
 -- the first thread of a seat has another hand, and nothing else is new
@@ -56,6 +56,8 @@ rehands {T} o words homes homes_now views id thread seen gifts hand hand_now mor
           (λ (x : (j ≢ id) × (get_elem? views j ≡ some u)).
           on j 0 u.parts (λ k le same. x.0 (ap (λ (z : ℕ × ℕ). z.0) (sym same ∙ owned))) (kept.fit j u x.1).owns (kept.hands some_tokens j u x.1))
           (at_set views id j (view_of o (part thread seen gifts hand_now ∷ more)) u e);
+      holders = λ some_tokens. held_on (word_at kept.world) (word_at kept.world) (place_of kept.world) (place_of kept.world) kept.at tokens.at_now kept.gifts kept.gifts homes homes_now thread (tokens.others some_tokens)
+          hand_now (tokens.own some_tokens) (kept.holders some_tokens);
     }
 
 pub Home-injective : (t u i j : ℕ) → Home t i ≡ Home u j → (t ≡ u) × (i ≡ j)

@@ -1,8 +1,8 @@
 -- Each step keeps the rule: there is still one schedule.
-use Rattle.std.proofs.Common.{◌≡◌, ◌≢◌, ℕ, suc, ◌+◌, ◌*◌, ◌%◌, ◌^◌, ◌<◌, ◌≤◌, List, [], ◌∷◌, ◌++◌, length, set, get_or, Option, Some, None, Ok, Err, Bool, true, false, refl, sym, ap, ◌∙◌, subst, ⊎_elim, arith, append_assoc, cond, eq-eqb, ne_eqb}
+use Rattle.std.proofs.Common.{◌≡◌, ◌≢◌, ℕ, suc, ◌+◌, ◌*◌, ◌%◌, ◌^◌, ◌<◌, ◌≤◌, List, [], ◌∷◌, ◌++◌, length, set, get_or, Option, Some, None, Ok, Err, Bool, true, false, refl, sym, ap, ◌∙◌, subst, inl, inr, ⊎_elim, arith, append_assoc, cond, eq-eqb, ne_eqb}
 use Rattle.std.specs.Prelude.{slice_index, slice_set, ◌==◌}
 use Rattle.std.proofs.lemmas.List.{append-nil, set-get_or}
-use Rattle.std.proofs.lemmas.Bool.{lt-ltb}
+use Rattle.std.proofs.lemmas.Bool.{cases_eq, lt-ltb}
 use mathlib.Core.Option.{some}
 use lib.ListN.{get_elem?}
 use prog.Atomic.{either}
@@ -25,11 +25,12 @@ use Rattle.kfifo_machine.proofs.Schedules.{run_on, own-append, same_place, still
 use Rattle.kfifo_live.specs.declared.view.Opening.{Opening}
 use Rattle.kfifo_live.specs.declared.view.Part.{Part}
 use Rattle.kfifo_live.specs.declared.view.View.{View}
-use Rattle.kfifo_live.specs.Schedule.{part, view_of, world_after, AllBegin, AllGiven, AllHands, Owns, IsResting, Fits, OneSchedule, FewTicks, IsSmall, ticks, thread_of, seen_of, gifts_of, hand_of, more_in, with_seen}
+use Rattle.kfifo_live.specs.Schedule.{part, view_of, world_after, AllBegin, AllGiven, GiftsFit, AllHands, Owns, IsResting, Fits, OneSchedule, FewTicks, IsSmall, ticks, thread_of, seen_of, gifts_of, hand_of, more_in, with_seen}
 use Rattle.kfifo_live.specs.Step.{IsAt, Steps, DrawsStamp}
-use Rattle.kfifo_live.specs.Hands.{Gifts, Homes, InTurn, Where, beside, gift, move, hand_after, begun_hand, Carries, BeginsWith, HandFits, SlotsFit}
+use Rattle.kfifo_live.specs.Hands.{Gifts, Homes, Where, beside, gift, move, hand_after, begun_hand, Carries, BeginsWith, HandFits, SlotsFit}
 use Rattle.kfifo_live.specs.declared.view.Hand.{Hand}
 use Rattle.kfifo_live.proofs.Hands.{home_step}
+use Rattle.kfifo_live.proofs.Holders.{begin_free_on, begins_free}
 use Rattle.kfifo_live.proofs.Turned.{same_home, turned}
 use Rattle.kfifo_live.proofs.Ticks.{clock_below, few_more, few_tick, no_tick}
 use Rattle.kfifo_live.proofs.Turns.{in_turn_on}
@@ -82,6 +83,15 @@ module _ {T : Type 0} (w v : ℕ → ℕ) (place later : ℕ → Option Running)
     all_hands_on owner seat (suc first) ps (λ k le. apart k (omega arith)) owns.1 hands.1,
   )
 
+  -- each thread still has a hand that fits
+  pub held_on : (own : Hand T) → HandFits v (later thread) at_now gifts_now homes_now thread own → ((u : ℕ) → (hand : Hand T) × HandFits w (place u) at gifts homes u hand)
+      → (u : ℕ) → (hand : Hand T) × HandFits v (later u) at_now gifts_now homes_now u hand
+  held_on own mine all u =
+      elim (cases_eq u thread) [
+        | inl same ↦ (own, subst (λ (t : ℕ). HandFits v (later t) at_now gifts_now homes_now t own) (sym same) mine)
+        | inr other ↦ let h = all u in (h.0, others u h.0 other h.1)
+      ]
+
 -- what becomes of the tokens in a step of a thread: where they are, what the slots' words name, and all hands
 pub record Tokens {T : Type 0} (o : Opening) (homes homes_now : Homes T) (views : List (View T)) (words : List ℕ) (kept : OneSchedule o words homes views) (end : World) (gifts : Gifts T) (thread : ℕ) (hand : Hand T) : Type 0 where
   pub at_now : ℕ → Where
@@ -94,7 +104,7 @@ pub record Tokens {T : Type 0} (o : Opening) (homes homes_now : Homes T) (views 
 pub adds : {T : Type 0} (o : Opening) (words after_words : List ℕ) (homes homes_now : Homes T) (views : List (View T)) (id : ℕ) (thread : ℕ) (seen : List Event) (gifts : Gifts T) (hand hand_now : Hand T) (more : List (Part T))
     → (kept : OneSchedule o words homes views) → get_elem? views id ≡ some (view_of o (part thread seen gifts hand ∷ more))
     → (tail : List Event) (given : Gifts T) → ((u : ℕ) → u ≢ thread → own u tail ≡ [])
-    → (end : World) → run o.shape (Some kept.world) tail ≡ Some end → after_words ≡ end.words → FewTicks o (kept.all ++ tail) → InTurn (kept.all ++ tail) (kept.gifts ++ given)
+    → (end : World) → run o.shape (Some kept.world) tail ≡ Some end → after_words ≡ end.words → FewTicks o (kept.all ++ tail) → GiftsFit o (kept.all ++ tail) (kept.gifts ++ given)
     → Tokens o homes homes_now views words kept end (kept.gifts ++ given) thread hand_now → IsResting o.threads thread hand_now
     → OneSchedule o after_words homes_now (set views id (view_of o (part thread (kept.all ++ tail) (kept.gifts ++ given) hand_now ∷ more)))
 adds {T} o words after_words homes homes_now views id thread seen gifts hand hand_now more kept at tail given others end runs words_are few in_turn tokens rests =
@@ -141,6 +151,8 @@ adds {T} o words after_words homes homes_now views id thread seen gifts hand han
           (λ (x : (j ≢ id) × (get_elem? views j ≡ some u)).
           on j 0 u.parts (λ k le same. x.0 (ap (λ (z : ℕ × ℕ). z.0) (sym same ∙ owned))) (kept.fit j u x.1).owns (kept.hands some_tokens j u x.1))
           (at_set views id j (view_of o (part thread (kept.all ++ tail) (kept.gifts ++ given) hand_now ∷ more)) u e);
+      holders = λ some_tokens. held_on (word_at kept.world) (word_at end) (place_of kept.world) (place_of end) kept.at tokens.at_now kept.gifts (kept.gifts ++ given) homes homes_now thread (tokens.others some_tokens)
+          hand_now (tokens.own some_tokens) (kept.holders some_tokens);
     }
 
 pub own_other : (thread u : ℕ) (begin : Option Begin) → u ≢ thread → own u (event thread begin ∷ []) ≡ []
@@ -206,7 +218,13 @@ goes_at {T} o s id thread seen gifts hand more held place here reached within st
     let tokens : Tokens o s.homes homes s.views s.words kept end (kept.gifts ++ new) thread hand_now = record { at_now = t.at_now; slots = t.slots; own = t.own; others = t.others } in
     let home : hand_now.at_home ≡ hand.at_home = home_step (move running (found o.shape kept.world running)) (kept.gifts ++ new) (begun_hand begin held hand) ∙ (same_home begin held hand).0 in
     let rests : IsResting o.threads thread hand_now = λ beyond. let p = mine.resting.0 beyond in (p.0, home ∙ p.1) in
-    let turns : InTurn (kept.all ++ e ∷ []) (kept.gifts ++ new) = in_turn_on kept.all kept.gifts thread begin held kept.in_turn in
+    let own_fits : 0 < o.tokens → HandFits (word_at kept.world) (place_of kept.world thread) kept.at kept.gifts s.homes thread hand = λ some_tokens. (kept.hands some_tokens id (view_of o (part thread seen gifts hand ∷ more)) at).0 in
+    let turns : GiftsFit o (kept.all ++ e ∷ []) (kept.gifts ++ new) = record {
+      in_turn = in_turn_on kept.all kept.gifts thread begin held kept.in_turn.in_turn;
+      holder_law = λ some_tokens.
+          begin_free_on o.shape (opening o.shape o.threads) kept.world kept.all e kept.runs (kept.in_turn.holder_law some_tokens)
+          (begins_free o kept.all kept.world kept.at kept.gifts s.homes thread begin running hand held kept.runs now (kept.slots some_tokens) (own_fits some_tokens) (begins some_tokens) (kept.holders some_tokens));
+    } in
     let made : run o.shape (Some kept.world) (e ∷ []) ≡ Some end = ap world_of (steps_on o.shape kept.world e running inside now) in
     let k = adds o s.words (slice_set s.words i (f (slice_index s.words i))) s.homes homes s.views id thread seen gifts hand hand_now more kept at (e ∷ []) new (λ u apart. own_other thread u begin apart) end made new_words
     (few_more o kept.all e (no_tick o.shape place begin running from) kept.few_ticks) turns tokens rests in (
@@ -226,7 +244,7 @@ goes_at {T} o s id thread seen gifts hand more held place here reached within st
         word_is = found_is;
         taken = λ some_tokens x e. subst (λ (gs : Gifts T). (0 < x) × ((payload : T) × (beside x (gs ++ new) ≡ Some payload))) g.1 (t.taken some_tokens x (ap (move running) (sym found_is) ∙ e));
         out = t.out;
-        in_turn = subst (λ (x : List Event × Gifts T). InTurn (x.0 ++ e ∷ []) (x.1 ++ new)) (λ j. (b.goes_on j, g.1 j)) turns;
+        in_turn = subst (λ (x : List Event × Gifts T). GiftsFit o (x.0 ++ e ∷ []) (x.1 ++ new)) (λ j. (b.goes_on j, g.1 j)) turns;
         hand = hand_now;
         hand_is = same_hand;
         afterwards = refl;
@@ -307,7 +325,7 @@ draws_at {T} o s id thread seen gifts hand more here reached within idle small r
     let own_all : own thread kept.all ≡ own thread seen = ap (own thread) b.goes_on ∙ own-append thread seen b.rest ∙ ap (λ es. own thread seen ++ es) b.no_own ∙ append-nil (own thread seen) in
     let room_left : ticks (own thread kept.all) < 2 * o.calls = subst (λ (es : List Event). ticks es < 2 * o.calls) (sym own_all) room in
     let k = adds o s.words (slice_set s.words clock ((slice_index s.words clock + 1) % 2 ^ 64)) s.homes s.homes s.views id thread seen gifts hand hand more kept at (e ∷ []) [] (λ u apart. own_other thread u (Some Tick) apart) (ticked o.shape kept.world) made new_words
-    (few_tick o kept.all e room_left kept.few_ticks) (in_turn_on kept.all kept.gifts thread (Some Tick) [] kept.in_turn) tokens mine.resting.0 in (
+    (few_tick o kept.all e room_left kept.few_ticks) (record { in_turn = in_turn_on kept.all kept.gifts thread (Some Tick) [] kept.in_turn.in_turn; holder_law = λ some_tokens. absurd (omega arith) }) tokens mine.resting.0 in (
       w,
       subst (λ (x : View T). OneSchedule o (slice_set s.words clock ((slice_index s.words clock + 1) % 2 ^ 64)) s.homes (set s.views id x)) is_w k,
       record {

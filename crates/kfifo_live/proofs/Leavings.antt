@@ -28,6 +28,7 @@ use Rattle.kfifo_live.specs.Payloads.{HavePayloads, IsPayPass, PayCloses, in_slo
 use Rattle.kfifo_live.specs.Schedule.{AllGiven, OneSchedule, seen_of, world_after}
 use Rattle.kfifo_live.proofs.Balance.{balance}
 use Rattle.kfifo_live.proofs.Gathered.{final_head, pass_begins}
+use Rattle.kfifo_live.proofs.Givers.{was_put, who_put}
 use Rattle.kfifo_live.proofs.Hands.{within_list}
 use Rattle.kfifo_live.proofs.Leftovers.{filled_item}
 use Rattle.kfifo_live.proofs.Passes.{keeps_promise, pass_thread}
@@ -304,10 +305,13 @@ module _ {T : Type 0} (q : OpenQueue) (table : TableId) {thread room id : ℕ} {
             let onward = sym (run_on o.shape (Some (opening o.shape o.threads)) here seen b.rest reached) ∙ arrived in
             let none = none_other o.shape here kept.world b.rest (size ∙ one) onward (ap (λ t. own t b.rest) (sym zero_is) ∙ b.no_own) in
             b.goes_on ∙ ap (λ es. seen ++ es) none ∙ append-nil seen;
-        in_turn = kept.in_turn;
+        in_turn = kept.in_turn.in_turn;
+        holder_law = kept.in_turn.holder_law some_tokens;
         given = given;
         tokens_are = tokens_are;
         payloads_are = are ∙ gifts_are slots kept.gifts tokens all_filled;
+        were_put = λ i above below filled. was_put o kept.all kept.gifts i (word_at kept.world i) (value_of (word_at kept.world i)) kept.in_turn.in_turn
+            (who_put o kept.all kept.world kept.runs (kept.in_turn.holder_law some_tokens) i above below filled);
         balance = λ token. balance o kept.all kept.world token kept.runs ∙ ap (λ xs. undos token o kept.all + (takes token o kept.all + times token xs)) (sym tokens_are);
         promise = keeps_promise o kept.all kept.world few kept.runs;
       }

@@ -2,11 +2,13 @@ pub mod Hands
 pub mod Turned
 pub mod Ticks
 pub mod Turns
+pub mod Holders
 pub mod Keeps
 pub mod Cuts
 pub mod Draws
 pub mod Resting
 pub mod Whole
+pub mod Givers
 pub mod Opens
 pub mod Scans
 pub mod Passes

@@ -1,6 +1,6 @@
 -- What a call with a payload leaves of its pass, and what it did.
 use Rattle.std.proofs.Common.{◌≡◌, ℕ, zero, suc, ◌+◌, ◌-◌, ◌*◌, ◌^◌, ◌<◌, ◌≤◌, List, [], ◌∷◌, ◌++◌, reverse, Option, Some, None, refl, sym, ap, ◌∙◌, subst, arith, mul-le-mul_right}
-use Rattle.std.proofs.lemmas.List.{reverse-append}
+use Rattle.std.proofs.lemmas.List.{append_assoc, reverse-append}
 use Rattle.atomic_table.specs.Table.{Me}
 use Rattle.atomic_table.specs.Seated.{TableId}
 use Rattle.kfifo_model.specs.declared.calls.Answer.{Answer}
@@ -9,21 +9,24 @@ use Rattle.kfifo_machine.specs.declared.event.Begin.{Begin}
 use Rattle.kfifo_machine.specs.declared.event.Event.{Event}
 use Rattle.kfifo_machine.specs.declared.event.Begin.TheVariants as B
 use Rattle.kfifo_machine.specs.declared.place.Next.TheVariants.{Answers}
-use Rattle.kfifo_machine.specs.Runs.{CompleteExecution}
+use Rattle.kfifo_machine.specs.Runs.{CompleteExecution, event, own}
 use Rattle.kfifo_live.specs.declared.payload.Given.TheVariants as G
 use Rattle.kfifo_live.specs.declared.payload.Taken.TheVariants as K
 use Rattle.kfifo_live.specs.declared.view.Hand.{Hand}
+use Rattle.kfifo_live.specs.declared.view.Opening.{Opening}
 use Rattle.kfifo_live.specs.declared.view.Part.{Part}
 use Rattle.kfifo_live.specs.declared.view.View.{View}
-use Rattle.kfifo_live.specs.Hands.{FitsOwn, Gifts, InTurn, Leaves, BeginsWith, beside, carried, carrying, out_next}
-use Rattle.kfifo_live.specs.Schedule.{AllGiven, IsSmall, count_up, part, thread_in, more_in, hand_in, both_parts, first_part, seen_of, gifts_of, hand_of, with_seen}
+use Rattle.kfifo_live.specs.Hands.{FitsOwn, Gifts, InTurn, Leaves, BeginsWith, beside, carried, carrying, gift, out_next}
+use Rattle.kfifo_live.specs.Schedule.{AllGiven, GiftsFit, IsSmall, count_up, part, thread_in, more_in, hand_in, both_parts, first_part, thread_of, seen_of, gifts_of, hand_of, with_seen}
 use Rattle.kfifo_live.specs.Step.{IsAt, DrawsToken, Leads, Looks}
 use Rattle.kfifo_live.specs.Pass.{Known, OpenQueue, known_of}
 use Rattle.kfifo_live.specs.Calls.{Makes}
 use Rattle.kfifo_live.specs.Payloads.{new_pay_passes, pay_known_of, IsPayPass, MakesCall, GivesOn, EnqueuesWith, DequeuesWith, Refuses, Gives, TakesOut}
+use Rattle.kfifo_live.proofs.Givers.{took_what_was_put}
 use Rattle.kfifo_live.proofs.Made.{takes_few_steps, has_cause, is_disturbed, leaves_none}
 use Rattle.kfifo_live.proofs.Opens.{no_slot}
 use Rattle.kfifo_live.proofs.Passes.{met}
+use Rattle.kfifo_live.proofs.Turns.{in_turn_before}
 use Rattle.kfifo_live.proofs.Whole.{at_next, whole}
 
 Some-injective : {A : Type 0} (x y : A) → Some x ≡ Some y → x ≡ y
@@ -68,12 +71,15 @@ module _ {T : Type 0} where
   pass_out {thread} {room} {me} {items} p = none_out me.0.opened.tokens (hand_of me.0).out p.pass.idle.carries.0 p.some_tokens (sym p.pass.held ∙ p.pass.idle.carries.1)
 
   -- gifts of a view that has seen this schedule
-  pub in_turn_as : {v w : View T} → v ≡ w → InTurn (seen_of w) (gifts_of w) → InTurn (seen_of v) (gifts_of v)
-  in_turn_as is turns = subst (λ (x : View T). InTurn (seen_of x) (gifts_of x)) (sym is) turns
+  abbrev pub Fit : View T → Type 0
+  Fit v = GiftsFit v.opened (seen_of v) (gifts_of v)
+
+  pub in_turn_as : {v w : View T} → v ≡ w → Fit w → Fit v
+  in_turn_as is turns = subst Fit (sym is) turns
 
   -- the pass after moves of its own
   pub again : {thread room room_now : ℕ} {old new : Me (Option T) (View T)} {items now : List ℕ} → IsPayPass thread old items room → IsAlone thread new.0 → new.1 ≡ [] → IsAt None new → new.0.opened ≡ old.0.opened
-      → (hand_of new.0).at_home ≡ reverse now → room_now ≡ room → InTurn (seen_of new.0) (gifts_of new.0) → IsPayPass thread new now room_now
+      → (hand_of new.0).at_home ≡ reverse now → room_now ≡ room → Fit new.0 → IsPayPass thread new now room_now
   again {thread} {room} {room_now} {old} {new} p alone held idle same stacked roomy turns = record {
     pass = record { alone = alone; held = held; idle = idle; few = subst IsSmall (sym same) p.pass.few };
     stacked = stacked;
@@ -98,21 +104,27 @@ module _ {T : Type 0} where
     pub met_opened : new.0.opened ≡ old.0.opened
     met_opened = ap (λ (v : View T). v.opened) (kept ∙ ap first_part l.afterwards) ∙ ap (λ (v : View T). v.opened) is
 
+    met_fit : Fit new.0
+    met_fit = in_turn_as met_view l.in_turn
+
+    met_some : 0 < new.0.opened.tokens
+    met_some = subst (λ o. 0 < o) (sym (ap (λ o. o.tokens) met_opened)) p.some_tokens
+
     pub met_pass : IsPayPass thread new items room
     met_pass =
         let pass = met thread word found old new other both seen p.pass slots is l kept in
-        again p pass.alone pass.held pass.idle met_opened (ap (λ (h : Hand T). h.at_home) met_hand ∙ p.stacked) refl (in_turn_as met_view l.in_turn)
+        again p pass.alone pass.held pass.idle met_opened (ap (λ (h : Hand T). h.at_home) met_hand ∙ p.stacked) refl met_fit
 
     pub met_gives_from : (giver : ℕ) (from : Me (Option T) (View T)) → IsAlone giver from.0 → other ≡ from.0 → (table table_now : TableId) → GivesOn (pay_known_of table giver from.0) (pay_known_of table_now thread new.0)
     met_gives_from giver from alone lent table table_now =
         let parts = ap (λ (v : View T). v.parts) is ∙ (λ i. p.pass.alone i ++ (ap (λ (v : View T). v.parts) lent ∙ alone) i) in
         let first = (subst (λ (ps : List (Part T)). AllGiven ps l.gifts) parts l.given).1.0 in
-        record { in_turn = in_turn_as met_view l.in_turn; later = first.0; goes_on = ap gifts_of met_view ∙ first.1 }
+        record { in_turn = met_fit.in_turn; holder_law = met_fit.holder_law met_some; later = first.0; goes_on = ap gifts_of met_view ∙ first.1 }
 
     pub met_gives : (table table_now : TableId) → GivesOn (pay_known_of table thread old.0) (pay_known_of table_now thread new.0)
     met_gives table table_now =
         let first = (subst (λ (ps : List (Part T)). AllGiven ps l.gifts) (ap (λ (v : View T). v.parts) is ∙ ap (λ ps. ps ++ other.parts) p.pass.alone) l.given).0 in
-        record { in_turn = in_turn_as met_view l.in_turn; later = first.0; goes_on = ap gifts_of met_view ∙ first.1 }
+        record { in_turn = met_fit.in_turn; holder_law = met_fit.holder_law met_some; later = first.0; goes_on = ap gifts_of met_view ∙ first.1 }
 
   -- a complete execution of a call, with all laws
   pub is_call : (begin : Begin) (answer : Answer) (thread : ℕ) (table table_now : TableId) (old new : Me (Option T) (View T)) → IsAlone thread old.0 → Leads (Some begin) old (Answers answer) new
@@ -128,6 +140,10 @@ module _ {T : Type 0} where
         disturbed = is_disturbed begin answer (known_of table thread old.0) (known_of table_now thread new.0) run;
         leaves_none = leaves_none begin answer (known_of table thread old.0) (known_of table_now thread new.0) run;
       }
+
+  -- gifts of a view of which no more is known
+  fit_now : (thread : ℕ) (table : TableId) (now fin : View T) → known_of table thread now ≡ known_of table thread fin → gifts_of now ≡ gifts_of fin → Fit fin → Fit now
+  fit_now thread table now fin same gifts_same fit = subst (λ (x : Known × Gifts T). GiftsFit x.0.opened x.0.seen x.1) (λ i. (sym same i, sym gifts_same i)) fit
 
   -- a pass whose next token is out, its payload in the slot
   pub record IsReady (thread token : ℕ) (others : List ℕ) (payload : T) (slots : ℕ) (old start : Me (Option T) (View T)) : Type 0 where
@@ -198,24 +214,45 @@ module _ {T : Type 0} where
       pub stacked_given : (hand_of fin.0).at_home ≡ reverse others
       stacked_given = home_given
 
-      turns_given : InTurn (seen_of fin.0) (gifts_of fin.0)
+      turns_given : Fit fin.0
       turns_given = in_turn_as l.now l.in_turn
-
-      turns_now : (now : View T) → seen_of now ≡ seen_of fin.0 → gifts_of now ≡ gifts_of fin.0 → InTurn (seen_of now) (gifts_of now)
-      turns_now now seen gifts = subst (λ (x : List Event × Gifts T). InTurn x.0 x.1) (λ i. (sym seen i, sym gifts i)) turns_given
 
       enqueued : (table table_now : TableId) (now : View T) → (known_of table_now thread now ≡ known_of table_now thread fin.0) → gifts_of now ≡ gifts_of fin.0
           → EnqueuesWith token s t answer payload (pay_known_of table thread old.0) (pay_known_of table_now thread now)
       enqueued table table_now now same gifts_same =
           let call = is_call (B.Enqueue token s t) answer thread table table_now start fin alone_ready l in
           let started : known_of table thread start.0 ≡ known_of table thread old.0 = ap (known_of table thread) r.view in
-          let g = l.gift_is in
+          let g = l.first in
+          let fit = fit_now thread table_now now fin.0 same gifts_same turns_given in
+          let made : Begin = B.Enqueue token s t in
+          let of_thread : thread_of start.0 ≡ thread = ap thread_in alone_ready in
+          let was : seen_of start.0 ≡ seen_of old.0 = ap seen_of r.view in
+          let beside_it : gift (Some made) start.1 ≡ (token, Some payload) ∷ [] = ap (λ (v : Option T). (token, v) ∷ []) (ap carried r.held) in
           record {
-            call = subst (λ (x : Known × Known). MakesCall (B.Enqueue token s t) answer x.0 x.1) (λ i. (started i, sym same i)) call;
-            in_turn = turns_now now (ap (λ (k : Known). k.seen) same) gifts_same;
-            earlier = g.0;
-            later = g.1;
-            gifts = gifts_same ∙ ap gifts_of l.now ∙ (λ i. ap gifts_of r.view i ++ g.2 i) ∙ ap (λ (v : Option T). gifts_of old.0 ++ (g.0 ++ ((token, v) ∷ g.1))) (ap carried r.held);
+            call = subst (λ (x : Known × Known). MakesCall made answer x.0 x.1) (λ i. (started i, sym same i)) call;
+            in_turn = fit.in_turn;
+            holder_law = fit.holder_law (subst (λ (k : Known). 0 < k.opened.tokens) (sym same) some_given);
+            before = g.before;
+            after = g.after;
+            seen =
+                ap (λ (k : Known). k.seen) same
+                ∙ ap seen_of l.now
+                ∙ append_assoc (seen_of start.0) l.between (l.last ∷ [])
+                ∙ ap (λ es. seen_of start.0 ++ es) g.events_are
+                ∙ sym (append_assoc (seen_of start.0) g.before (event (thread_of start.0) (Some made) ∷ g.after))
+                ∙ (λ i. (was i ++ g.before) ++ event (of_thread i) (Some made) ∷ g.after);
+            others = ap (λ u. own u g.before) (sym of_thread) ∙ g.others;
+            earlier = g.earlier;
+            later = g.later;
+            gifts =
+                gifts_same
+                ∙ ap gifts_of l.now
+                ∙ (λ i. ap gifts_of r.view i ++ g.given_are i)
+                ∙ sym (append_assoc (gifts_of old.0) g.earlier (gift (Some made) start.1 ++ g.later))
+                ∙ ap (λ (x : Gifts T). (gifts_of old.0 ++ g.earlier) ++ (x ++ g.later)) beside_it;
+            before_it =
+                subst (λ (x : List Event × Gifts T). InTurn (x.0 ++ g.before) (x.1 ++ g.earlier)) (λ i. (was i, ap gifts_of r.view i))
+                (in_turn_before (seen_of start.0 ++ g.before) (gifts_of start.0 ++ g.earlier) (thread_of start.0) token s t (carried start.1) g.in_turn);
           }
 
       -- Done: the token is gone
@@ -297,19 +334,22 @@ module _ {T : Type 0} where
     pub fits_took : (a : Answer) → answer ≡ a → FitsOwn 0 (Answers a)
     fits_took a is = subst (λ (b : Answer). FitsOwn 0 (Answers b)) is took.fits
 
-    turns_took : InTurn (seen_of fin.0) (gifts_of fin.0)
+    turns_took : Fit fin.0
     turns_took = in_turn_as l.now l.in_turn
 
     dequeued : (table table_now : TableId) (now : View T) → (known_of table_now thread now ≡ known_of table_now thread fin.0) → gifts_of now ≡ gifts_of fin.0
         → DequeuesWith s t answer (pay_known_of table thread old.0) (pay_known_of table_now thread now)
-    dequeued table table_now now same gifts_same = record {
-      call = subst (λ (x : Known). MakesCall (B.Dequeue s t) answer (known_of table thread old.0) x) (sym same) (is_call (B.Dequeue s t) answer thread table table_now old fin p.pass.alone l);
-      gifts = record {
-        in_turn = subst (λ (x : List Event × Gifts T). InTurn x.0 x.1) (λ i. (sym (ap (λ (k : Known). k.seen) same) i, sym gifts_same i)) turns_took;
-        later = l.given;
-        goes_on = gifts_same ∙ ap gifts_of l.now;
-      };
-    }
+    dequeued table table_now now same gifts_same =
+        let fit = fit_now thread table_now now fin.0 same gifts_same turns_took in
+        record {
+          call = subst (λ (x : Known). MakesCall (B.Dequeue s t) answer (known_of table thread old.0) x) (sym same) (is_call (B.Dequeue s t) answer thread table table_now old fin p.pass.alone l);
+          gifts = record {
+            in_turn = fit.in_turn;
+            holder_law = fit.holder_law (subst (λ (k : Known). 0 < k.opened.tokens) (sym same) some_took);
+            later = l.given;
+            goes_on = gifts_same ∙ ap gifts_of l.now;
+          };
+        }
 
     -- nothing was taken
     pub none_pass : out_next 0 (Answers answer) ≡ 0 → IsPayPass thread fin items room
@@ -345,11 +385,16 @@ module _ {T : Type 0} where
         unfolding got got_held
         got_takes payload payload_is table table_now =
             let gifts : gifts_of laid.0 ≡ gifts_of old.0 ++ l.given = ap gifts_of view ∙ ap gifts_of l.now in
-            let same = one_payload (token - 1) got_held.0 payload got_held.1 payload_is in (
+            let same = one_payload (token - 1) got_held.0 payload got_held.1 payload_is in
+            let last : beside token (gifts_of laid.0) ≡ Some payload = ap (beside token) gifts ∙ got.2.1 ∙ ap Some same in
+            let dequeue = subst (λ a. DequeuesWith s t a (pay_known_of table thread old.0) (pay_known_of table_now thread laid.0)) is (dequeued table table_now laid.0 (ap (known_of table_now thread) view) (ap gifts_of view)) in
+            let opened : laid.0.opened ≡ old.0.opened = ap (λ (v : View T). v.opened) view ∙ opened_took in
+            let run = subst (λ (o : Opening). CompleteExecution o.shape o.threads thread (B.Dequeue s t) (A.Got token) (seen_of old.0) (seen_of laid.0)) (sym opened) dequeue.call.run in (
               token,
               ap (λ (v : View T). (hand_of v).at_home) view ∙ ap (λ xs. token ∷ xs) home_took,
-              ap (beside token) gifts ∙ got.2.1 ∙ ap Some same,
-              subst (λ a. DequeuesWith s t a (pay_known_of table thread old.0) (pay_known_of table_now thread laid.0)) is (dequeued table table_now laid.0 (ap (known_of table_now thread) view) (ap gifts_of view)),
+              last,
+              took_what_was_put token payload (pay_known_of table_now thread laid.0) s t (seen_of old.0) run got.0 dequeue.gifts.holder_law dequeue.gifts.in_turn last,
+              dequeue,
             )
 
 -- so few tokens are items

@@ -1,6 +1,7 @@
 -- A token goes from a thread into the pool and back, and the rule is kept.
-use Rattle.std.proofs.Common.{◌≡◌, ◌≢◌, ℕ, zero, suc, ◌+◌, ◌-◌, ◌<◌, ◌≤◌, List, [], ◌∷◌, ◌++◌, length, set, get_or, drop, Option, Some, None, refl, sym, ap, ◌∙◌, subst, ⊎_elim, arith, cond, eq-eqb, ne_eqb}
+use Rattle.std.proofs.Common.{◌≡◌, ◌≢◌, ℕ, zero, suc, ◌+◌, ◌-◌, ◌<◌, ◌≤◌, List, [], ◌∷◌, ◌++◌, length, set, get_or, drop, Option, Some, None, refl, sym, ap, ◌∙◌, subst, inl, inr, ⊎_elim, arith, cond, eq-eqb, ne_eqb}
 use Rattle.std.specs.Prelude.{◌==◌, slice_set}
+use Rattle.std.proofs.lemmas.Bool.{cases_eq}
 use Rattle.std.proofs.lemmas.List.{set-get_or, length-set}
 use mathlib.Core.Option.{some}
 use lib.ListN.{get_elem?}
@@ -17,11 +18,11 @@ use Rattle.kfifo_live.specs.declared.view.Opening.{Opening}
 use Rattle.kfifo_live.specs.declared.view.Hand.{Hand}
 use Rattle.kfifo_live.specs.declared.view.Part.{Part}
 use Rattle.kfifo_live.specs.declared.view.View.{View}
-use Rattle.kfifo_live.specs.Schedule.{part, view_of, world_after, thread_of, seen_of, gifts_of, hand_of, with_seen, more_in, IsSeated, AllHands, Owns, AreResting, Fits, OneSchedule, resting_hand, resting_view, next_of, less_next, resting_of, with_resting, with_home}
+use Rattle.kfifo_live.specs.Schedule.{part, view_of, world_after, thread_of, seen_of, gifts_of, hand_of, with_seen, more_in, IsSeated, AllHands, Owns, AreResting, Fits, OneSchedule, no_hand, resting_hand, resting_view, next_of, less_next, resting_of, with_resting, with_home}
 use Rattle.kfifo_live.specs.Hands.{Gifts, Homes, Where, Home, Out, AllHome, CallFits, HandFits}
 use Rattle.kfifo_live.specs.Step.{IsAt, CountsTokens}
 use Rattle.kfifo_live.proofs.Hands.{within_list}
-use Rattle.kfifo_live.proofs.Keeps.{all_hands_on, fits_set}
+use Rattle.kfifo_live.proofs.Keeps.{all_hands_on, held_on, fits_set}
 use Rattle.kfifo_live.proofs.Cuts.{at_end, length_set}
 use Rattle.kfifo_live.proofs.Draws.{Home-injective, Home-not-In, Home-not-Out, elsewhere, at_other, at_this, home_keeps, slots_keep, other_keeps, own_hand, still_idle, home_room}
 use Rattle.kfifo_live.proofs.Passes.{threads_are}
@@ -170,6 +171,7 @@ module _ {T : Type 0} (o : Opening) (s : State (Option T) (View T)) (id thread :
             subst (λ (y : ℕ × View T). Fits o kept.all kept.gifts owner y.0 y.1) (λ k. (sym (x.0 ∙ length_set s.views id left) k, x.1 k)) at_right)
             (at_end (set s.views id left) right u j e);
         at = at_now;
+        holders = λ p. held_on (word_at kept.world) (word_at kept.world) (place_of kept.world) (place_of kept.world) kept.at at_now kept.gifts kept.gifts s.homes homes_now thread others (with_tokens xs) own_now (kept.holders p);
         slots = λ p. slots_keep kept.at s.homes x positive (Home n 0) (some None) (clock_at o.shape.k o.shape.n) (word_at kept.world) kept.gifts (λ i e. Home-not-In thread (length xs) i (sym home.0.1 ∙ e)) (kept.slots p);
         hands = λ p j u e.
             let all = kept.hands p id (view_of o (part thread seen gifts hand ∷ more)) at in
@@ -223,6 +225,19 @@ module _ {T : Type 0} (o : Opening) (s : State (Option T) (View T)) (id thread :
             i y f)
             record { opened = refl; begin = tt; given = tt; owns = tt; resting = tt } j u e;
         at = at_now;
+        holders = λ p u. elim (cases_eq u thread) [
+          | inl same ↦ (with_tokens (x ∷ hand.at_home), subst (λ (t : ℕ). HandFits (word_at kept.world) (place_of kept.world t) at_now kept.gifts homes_now t (with_tokens (x ∷ hand.at_home))) (sym same) own_now)
+          | inr not_own ↦ elim (cases_eq u n) [
+            | inl rests ↦ (no_hand, record {
+              home = tt;
+              out = λ some_out. absurd (some_out refl);
+              stands =
+                  subst (CallFits (word_at kept.world) kept.gifts no_hand)
+                  (sym (ap (place_of kept.world) rests ∙ idle_beyond kept.world n (let t = threads_are o kept.all kept.world kept.runs in omega (arith, t)))) tt;
+            })
+            | inr not_resting ↦ let h = kept.holders p u in (h.0, on u h.0 not_own not_resting h.1)
+          ]
+        ];
         slots = λ p. slots_keep kept.at s.homes x positive to (some None) (clock_at o.shape.k o.shape.n) (word_at kept.world) kept.gifts (λ i e. Home-not-In n 0 i (sym lies.1 ∙ e)) (kept.slots p);
         hands = λ p j u e.
             let P : View T → Type 0 = λ x. AllHands (word_at kept.world) (place_of kept.world) at_now kept.gifts homes_now x.parts in

@@ -95,7 +95,7 @@ same_gifts gifts hand held at thread (Some (B.Enqueue item start turns)) positiv
 same_gifts gifts hand held at thread (Some (B.Dequeue start turns)) positive begins out x ne = ap (beside x) (append-nil gifts)
 same_gifts gifts hand held at thread (Some B.Tick) positive begins out x ne = ap (beside x) (append-nil gifts)
 
-begun_item : (shape : Shape) (place : Option Running) (begin : Option Begin) (r : Running) → going shape place begin ≡ Some r → IsPlace shape r → (item start turns : ℕ) → begin ≡ Some (B.Enqueue item start turns) → 0 < item
+pub begun_item : (shape : Shape) (place : Option Running) (begin : Option Begin) (r : Running) → going shape place begin ≡ Some r → IsPlace shape r → (item start turns : ℕ) → begin ≡ Some (B.Enqueue item start turns) → 0 < item
 begun_item shape place begin r goes is_place item start turns is = of_place place (ap (going shape place) (sym is) ∙ goes)
   where
     of_may : (may : Bool) → cond may (begun (B.Enqueue item start turns)) None ≡ Some r → 0 < item

@@ -25,16 +25,16 @@ use Rattle.kfifo_machine.specs.declared.place.Running.TheVariants as R
 use Rattle.kfifo_machine.specs.declared.place.EnqueuePhase.TheVariants as E
 use Rattle.kfifo_machine.specs.declared.place.DequeuePhase.TheVariants as D
 use Rattle.kfifo_machine.specs.Machine.{begun as begun_place, may_begin}
-use Rattle.kfifo_live.specs.Hands.{FitsOwn, Gifts, InTurn, Leaves, gift, move, begun_hand, own_item, out_next, beside, Carries}
+use Rattle.kfifo_live.specs.Hands.{FitsOwn, Gifts, Leaves, gift, move, begun_hand, own_item, out_next, beside, Carries}
 use Rattle.kfifo_live.specs.declared.view.Hand.{Hand}
-use Rattle.kfifo_live.specs.Schedule.{world_after, thread_of, seen_of, gifts_of, hand_of, with_seen}
+use Rattle.kfifo_live.specs.Schedule.{GiftsFit, world_after, thread_of, seen_of, gifts_of, hand_of, with_seen}
 use Rattle.kfifo_live.specs.declared.ring.Ring.{Ring}
 use Rattle.kfifo_live.specs.Step.{IsAt, Steps, HasOwn, IsOwnRun, Leads, IsSeatOf, Rests, Stands, Awaits, Runs, Comes, Stepped, Onward}
 use Rattle.kfifo_live.proofs.Hands.{home_step, leaves_step}
 use Rattle.kfifo_live.proofs.Turned.{same_home}
 use Rattle.kfifo_live.proofs.Keeps.{own_same}
 
-AllGoOn-append : (xs ys : List Event) → AllGoOn xs → AllGoOn ys → AllGoOn (xs ++ ys)
+pub AllGoOn-append : (xs ys : List Event) → AllGoOn xs → AllGoOn ys → AllGoOn (xs ++ ys)
 AllGoOn-append [] ys a b = b
 AllGoOn-append (x ∷ xs) ys a b = (a.0, AllGoOn-append xs ys a.1 b)
 
@@ -120,8 +120,17 @@ one_step {T} begin place running me word new next stood s from is =
       hand = s.hand;
       now = s.afterwards ∙ ap (λ g. with_seen v ((seen_of v ++ s.between) ++ e ∷ []) g s.hand) (append_assoc (gifts_of v) s.given (gift begin me.1));
       carries = s.carries;
-      in_turn = subst (InTurn ((seen_of v ++ s.between) ++ e ∷ [])) (append_assoc (gifts_of v) s.given (gift begin me.1)) s.in_turn;
-      gift_is = (s.given, [], ap (λ g. s.given ++ g) (sym (append-nil (gift begin me.1))));
+      in_turn = subst (GiftsFit v.opened ((seen_of v ++ s.between) ++ e ∷ [])) (append_assoc (gifts_of v) s.given (gift begin me.1)) s.in_turn;
+      first = record {
+        before = s.between;
+        after = [];
+        earlier = s.given;
+        later = [];
+        events_are = refl;
+        given_are = ap (λ g. s.given ++ g) (sym (append-nil (gift begin me.1)));
+        others = s.others;
+        in_turn = s.in_turn.in_turn;
+      };
       at_home = ap (λ (h : Hand T). h.at_home) s.hand_is ∙ home_step (move s.from word) _ (begun_hand begin me.1 (hand_of v)) ∙ (same_home begin me.1 (hand_of v)).0;
       leaves = λ some_tokens own payload has.
           let mine = own_from shape begin place running me own payload stood from has in
@@ -182,10 +191,19 @@ more_steps {T} begin old mid new running next a b = from_there (subst (λ (y : V
           hand = b.hand;
           now = b.now ∙ (λ i. with_seen v (upto i ++ b.last ∷ []) (append_assoc (gifts_of v) a.given b.given i) b.hand);
           carries = b.carries;
-          in_turn = subst (λ (x : List Event × Gifts T). InTurn (x.0 ++ b.last ∷ []) x.1) (λ i. (upto i, append_assoc (gifts_of v) a.given b.given i)) b.in_turn;
-          gift_is =
-              (let g = a.gift_is in
-              (g.0, g.1 ++ b.given, ap (λ x. x ++ b.given) g.2 ∙ append_assoc g.0 (gift begin old.1 ++ g.1) b.given ∙ ap (λ x. g.0 ++ x) (append_assoc (gift begin old.1) g.1 b.given)));
+          in_turn = subst (λ (x : List Event × Gifts T). GiftsFit v.opened (x.0 ++ b.last ∷ []) x.1) (λ i. (upto i, append_assoc (gifts_of v) a.given b.given i)) b.in_turn;
+          first = (let g = a.first in
+          let more = b.between ++ b.last ∷ [] in
+          record {
+            before = g.before;
+            after = g.after ++ more;
+            earlier = g.earlier;
+            later = g.later ++ b.given;
+            events_are = append_assoc (a.between ++ a.last ∷ []) b.between (b.last ∷ []) ∙ ap (λ es. es ++ more) g.events_are ∙ append_assoc g.before (event t begin ∷ g.after) more;
+            given_are = ap (λ x. x ++ b.given) g.given_are ∙ append_assoc g.earlier (gift begin old.1 ++ g.later) b.given ∙ ap (λ x. g.earlier ++ x) (append_assoc (gift begin old.1) g.later b.given);
+            others = g.others;
+            in_turn = g.in_turn;
+          });
           at_home = b.at_home ∙ a.at_home;
           leaves = λ some_tokens own payload has.
               let first = a.leaves some_tokens own payload has in

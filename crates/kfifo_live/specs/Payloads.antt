@@ -1,17 +1,21 @@
 -- A queue of owned payloads and its passes, as callers see them, and what a call with a payload does.
-use Rattle.std.specs.Prelude.{Bool, true, false, ◌<◌, ◌≤◌, ◌≡◌, ℕ, zero, suc, ◌+◌, ◌-◌, ◌*◌, List, [], ◌∷◌, ◌++◌, Option, Some, None, get_or, length, map, reverse}
+use Rattle.std.specs.Prelude.{Bool, true, false, ◌<◌, ◌≤◌, ◌≡◌, ◌≢◌, ℕ, zero, suc, ◌+◌, ◌-◌, ◌*◌, List, [], ◌∷◌, ◌++◌, Option, Some, None, get_or, length, map, reverse}
 use Rattle.atomic_table.specs.Table.{Me}
 use Rattle.atomic_table.specs.Perched.{Roost}
 use Rattle.atomic_table.specs.Seated.{TableId}
 use Rattle.kfifo_words.specs.declared.shape.Shape.{Shape}
+use Rattle.kfifo_words.specs.Words.{value_of}
+use Rattle.kfifo_words.specs.Ring.{clock_at}
 use Rattle.kfifo_model.specs.declared.calls.Answer.{Answer}
 use Rattle.kfifo_model.specs.declared.calls.Answer.TheVariants as A
 use Rattle.kfifo_machine.specs.declared.event.Begin.{Begin}
 use Rattle.kfifo_machine.specs.declared.event.Begin.TheVariants as B
 use Rattle.kfifo_machine.specs.declared.event.Event.{Event}
-use Rattle.kfifo_machine.specs.Laws.{IsRefusal}
-use Rattle.kfifo_machine.specs.Machine.{World}
-use Rattle.kfifo_machine.specs.Runs.{Begins}
+use Rattle.kfifo_machine.specs.declared.place.DequeuePhase.TheVariants as D
+use Rattle.kfifo_machine.specs.declared.place.Running.TheVariants as R
+use Rattle.kfifo_machine.specs.Laws.{IsRefusal, PutsNext}
+use Rattle.kfifo_machine.specs.Machine.{World, place_of, word_at}
+use Rattle.kfifo_machine.specs.Runs.{AllGoOn, Begins, event, own}
 use Rattle.kfifo_machine.specs.Rounds.{turns_of}
 use Rattle.kfifo_live.specs.declared.view.Opening.{Opening}
 use Rattle.kfifo_live.specs.declared.view.View.{View}
@@ -23,7 +27,7 @@ use Rattle.kfifo_live.specs.Hands.{Gifts, InTurn, beside}
 use Rattle.kfifo_live.specs.Balance.{times, puts, undos, takes}
 use Rattle.kfifo_live.specs.Left.{items_left}
 use Rattle.kfifo_live.specs.Promise.{KeepsPromise}
-use Rattle.kfifo_live.specs.Schedule.{count_up, seen_of, gifts_of, hand_of, world_after, resting_view}
+use Rattle.kfifo_live.specs.Schedule.{GiftsFit, HolderLaw, count_up, seen_of, gifts_of, hand_of, world_after, resting_view}
 use Rattle.kfifo_live.specs.Pass.{Known, OpenQueue, IsPass, known_of}
 use Rattle.kfifo_live.specs.Calls.{Makes, TakesFewSteps, HasCause, IsDisturbed, LeavesNoItem}
 
@@ -48,7 +52,7 @@ pub record IsPayPass {T : Type 0} (thread : ℕ) (me : Me (Option T) (View T)) (
   pub some_tokens : 0 < me.0.opened.tokens
   pub few_tokens : me.0.opened.tokens ≤ 1024
   pub has_room : me.0.opened.threads * me.0.opened.tokens ≤ room
-  pub in_turn : InTurn (seen_of me.0) (gifts_of me.0)
+  pub in_turn : GiftsFit me.0.opened (seen_of me.0) (gifts_of me.0)
 
 -- the passes of threads first, first + 1, .., which have seen the empty schedule: thread t has the tokens t * tokens + 1 to
 -- (t + 1) * tokens
@@ -65,20 +69,69 @@ pub record MakesCall (begin : Begin) (answer : Answer) (old new : Known) : Type 
   pub disturbed : answer ≡ A.Busy → old.opened.shape.n + 2 ≤ turns_of begin → IsDisturbed old new
   pub leaves_none : IsRefusal answer → LeavesNoItem old new
 
+-- with the last event of this schedule a thread takes this word from this index
+pub record TakesAtLast (o : Opening) (thread index word : ℕ) (seen : List Event) : Type 0 where
+  pub before : List Event
+  pub here : World
+  pub start : ℕ
+  pub left : ℕ
+  pub ends : ℕ
+  pub seen_is : seen ≡ before ++ event thread None ∷ []
+  pub reached : world_after o before ≡ Some here
+  pub place : place_of here thread ≡ Some (R.Dequeue start left (D.Take ends index word))
+  pub stands : word_at here index ≡ word
+
 module _ {T : Type 0} where
-  -- the gifts of a longer schedule, of whose enqueues they are in turn
+  -- An enqueue put this word of a token at this index, and it began with this payload beside the token: it begins with an
+  -- event of the schedule, its thread begins nothing until the put, and its gift is that of its event
+  pub record WasPutWith (o : Opening) (all : List Event) (gifts : Gifts T) (index word token : ℕ) (payload : Option T)
+      : Type 0 where
+    pub thread : ℕ
+    pub start : ℕ
+    pub turns : ℕ
+    pub before : List Event
+    pub between : List Event
+    pub after : List Event
+    pub all_are : all
+        ≡ (before ++ event thread (Some (B.Enqueue token start turns)) ∷ between) ++ event thread None ∷ after
+    pub one_call : AllGoOn (own thread between)
+    pub puts : PutsNext o.shape o.threads (before ++ event thread (Some (B.Enqueue token start turns)) ∷ between)
+        thread index word
+    pub token_is : value_of word ≡ token
+    pub earlier : Gifts T
+    pub later : Gifts T
+    pub gifts_are : gifts ≡ earlier ++ (token, payload) ∷ later
+    pub before_it : InTurn before earlier
+
+  -- what a pass took with the last event that it has seen: a word that was put with this payload
+  pub record TookWhatWasPut (token : ℕ) (payload : T) (p : PayKnown T) : Type 0 where
+    pub index : ℕ
+    pub word : ℕ
+    pub taken : TakesAtLast p.pass.opened p.pass.thread index word p.pass.seen
+    pub put : WasPutWith p.pass.opened p.pass.seen p.gifts index word token (Some payload)
+
+  -- the gifts of a longer schedule, of whose enqueues they are in turn, and which keeps the holder law
   pub record GivesOn (old new : PayKnown T) : Type 0 where
     pub in_turn : InTurn new.pass.seen new.gifts
+    pub holder_law : HolderLaw new.pass.opened new.pass.seen
     pub later : Gifts T
     pub goes_on : new.gifts ≡ old.gifts ++ later
 
-  -- an enqueue of a token with this payload beside it
+  -- An enqueue of a token with this payload beside it. Its first event follows others' events, and its gift follows those
+  -- of the enqueues that began before that event
   pub record EnqueuesWith (token start turns : ℕ) (answer : Answer) (payload : T) (old new : PayKnown T) : Type 0 where
     pub call : MakesCall (B.Enqueue token start turns) answer old.pass new.pass
     pub in_turn : InTurn new.pass.seen new.gifts
+    pub holder_law : HolderLaw new.pass.opened new.pass.seen
+    pub before : List Event
+    pub after : List Event
+    pub seen : new.pass.seen
+        ≡ (old.pass.seen ++ before) ++ event old.pass.thread (Some (B.Enqueue token start turns)) ∷ after
+    pub others : own old.pass.thread before ≡ []
     pub earlier : Gifts T
     pub later : Gifts T
-    pub gifts : new.gifts ≡ old.gifts ++ (earlier ++ ((token, Some payload) ∷ later))
+    pub gifts : new.gifts ≡ (old.gifts ++ earlier) ++ (token, Some payload) ∷ later
+    pub before_it : InTurn (old.pass.seen ++ before) (old.gifts ++ earlier)
 
   -- a dequeue
   pub record DequeuesWith (start turns : ℕ) (answer : Answer) (old new : PayKnown T) : Type 0 where
@@ -103,10 +156,12 @@ module _ {T : Type 0} where
   Gives start turns payload (G.Worn back) old new = Refuses start turns A.Worn payload back old new
   Gives start turns payload (G.NoToken back) old new = (back ≡ payload) × (old.tokens ≡ []) × (new ≡ old)
 
-  -- What `take` did: Got gives the pass the token that was taken, and the last payload that was given with it
+  -- What `take` did: Got gives the pass the token that was taken, and the last payload that was given with it, which is that
+  -- of the enqueue that put it
   abbrev pub TakesOut : ℕ → ℕ → Taken T → PayKnown T → PayKnown T → Type 0
   TakesOut start turns (K.Got payload) old new = (token : ℕ) × (new.tokens ≡ token ∷ old.tokens)
-      × (beside token new.gifts ≡ Some payload) × DequeuesWith start turns (A.Got token) old new
+      × (beside token new.gifts ≡ Some payload) × TookWhatWasPut token payload new
+      × DequeuesWith start turns (A.Got token) old new
   TakesOut start turns K.Empty old new = (new.tokens ≡ old.tokens) × DequeuesWith start turns A.Empty old new
   TakesOut start turns K.Busy old new = (new.tokens ≡ old.tokens) × DequeuesWith start turns A.Busy old new
   TakesOut start turns K.Worn old new = (new.tokens ≡ old.tokens) × DequeuesWith start turns A.Worn old new
@@ -142,9 +197,10 @@ module _ {T : Type 0} where
   HavePayloads slots (token ∷ tokens) =
       ((0 < token) × (token ≤ length slots) × ((payload : T) × (in_slot slots token ≡ Some payload)) × (times token tokens ≡ 0)) × HavePayloads slots tokens
 
-  -- What is left at the end: there is one schedule, which begins with what the pass has seen and has no further event of it, and
-  -- the payloads are the last ones given with the tokens in the filled slots after it. Where the pass is the only one, it is what
-  -- the pass has seen. No token is lost and none comes twice, and that schedule keeps the promise
+  -- What is left at the end: there is one schedule, which begins with what the pass has seen and has no further event of it,
+  -- and the payloads are the last ones given with the tokens in the filled slots after it, which are those of the enqueues
+  -- that put them. Where the pass is the only one, it is what the pass has seen. No token is lost and none comes twice, and
+  -- that schedule keeps the promise
   pub record PayCloses (q : OpenQueue) (p : PayKnown T) (payloads : List T) : Type 0 where
     pub all : List Event
     pub gifts : Gifts T
@@ -154,8 +210,13 @@ module _ {T : Type 0} where
     pub begin : Begins p.pass.thread p.pass.seen all
     pub alone : q.opened.threads ≡ 1 → all ≡ p.pass.seen
     pub in_turn : InTurn all gifts
+    pub holder_law : HolderLaw q.opened all
     pub given : (later : Gifts T) × (gifts ≡ p.gifts ++ later)
     pub tokens_are : tokens ≡ items_left q.opened.shape world.words
     pub payloads_are : map Some payloads ≡ map (λ token. beside token gifts) tokens
+    pub were_put : (index : ℕ) → 0 < index → index < clock_at q.opened.shape.k q.opened.shape.n
+        → value_of (word_at world index) ≢ 0
+        → WasPutWith q.opened all gifts index (word_at world index) (value_of (word_at world index))
+            (beside (value_of (word_at world index)) gifts)
     pub balance : (token : ℕ) → puts token q.opened all ≡ undos token q.opened all + (takes token q.opened all + times token tokens)
     pub promise : KeepsPromise q.opened all

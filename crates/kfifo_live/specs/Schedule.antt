@@ -9,8 +9,9 @@ use Rattle.kfifo_machine.specs.declared.event.Begin.{Begin}
 use Rattle.kfifo_machine.specs.declared.event.Begin.TheVariants.{Tick}
 use Rattle.kfifo_machine.specs.declared.event.Event.{Event}
 use Rattle.kfifo_machine.specs.declared.place.Running.{Running}
-use Rattle.kfifo_machine.specs.Machine.{World, after, word_at, place_of}
+use Rattle.kfifo_machine.specs.Machine.{World, after, word_at, place_of, opening as first_world}
 use Rattle.kfifo_machine.specs.Runs.{Begins, own}
+use Rattle.kfifo_machine.specs.Tokens.{AllBeginFree}
 use Rattle.kfifo_live.specs.declared.view.Opening.{Opening}
 use Rattle.kfifo_live.specs.declared.view.Hand.{Hand}
 use Rattle.kfifo_live.specs.declared.view.Part.{Part}
@@ -34,6 +35,16 @@ module _ {T : Type 0} where
 -- the world after a schedule of an opening
 abbrev pub world_after : Opening → List Event → Option World
 world_after o events = after o.shape o.threads events
+
+-- The holder law: each enqueue of the schedule begins with an item that is in no slot and that no other enqueue in progress
+-- holds
+abbrev pub HolderLaw : Opening → List Event → Type 0
+HolderLaw o all = AllBeginFree o.shape (Some (first_world o.shape o.threads)) all
+
+-- The gifts are of the enqueues of this schedule, in turn, which keeps the holder law where there are tokens
+pub record GiftsFit {T : Type 0} (o : Opening) (all : List Event) (gifts : Gifts T) : Type 0 where
+  pub in_turn : InTurn all gifts
+  pub holder_law : 0 < o.tokens → HolderLaw o all
 
 -- few enough threads and stamped calls
 abbrev pub IsSmall : Opening → Type 0
@@ -107,8 +118,8 @@ module _ {T : Type 0} where
     pub resting : AreResting o.threads v.parts
 
   -- One schedule: the words of the table are those after it, what each seat has seen of its threads is a beginning of it with
-  -- all their events, and the clock has ticked so seldom that it is not spent. The gifts are of its enqueues, in turn. Where there are
-  -- tokens, each is in one place
+  -- all their events, and the clock has ticked so seldom that it is not spent. The gifts are of its enqueues, in turn. Where
+  -- there are tokens, each is in one place, and each thread has a hand that fits, be its seat there or not
   pub record OneSchedule (o : Opening) (words : List ℕ) (homes : Homes T) (views : List (View T)) : Type 0 where
     pub all : List Event
     pub gifts : Gifts T
@@ -116,13 +127,15 @@ module _ {T : Type 0} where
     pub owner : ℕ → ℕ × ℕ
     pub runs : world_after o all ≡ Some world
     pub words_are : words ≡ world.words
-    pub in_turn : InTurn all gifts
+    pub in_turn : GiftsFit o all gifts
     pub few_ticks : FewTicks o all
     pub fit : (seat : ℕ) (v : View T) → get_elem? views seat ≡ some v → Fits o all gifts owner seat v
     pub at : ℕ → Where
     pub slots : 0 < o.tokens → SlotsFit (clock_at o.shape.k o.shape.n) (word_at world) at gifts homes
     pub hands : 0 < o.tokens → (seat : ℕ) (v : View T) → get_elem? views seat ≡ some v
         → AllHands (word_at world) (place_of world) at gifts homes v.parts
+    pub holders : 0 < o.tokens → (thread : ℕ)
+        → (hand : Hand T) × HandFits (word_at world) (place_of world thread) at gifts homes thread hand
 
   -- the first part's thread, what was seen by it, and the other parts
   abbrev pub thread_in : List (Part T) → ℕ

@@ -19,7 +19,7 @@ use Rattle.kfifo_machine.specs.Runs.{event, own, going, AllGoOn, BeginsOnce}
 use Rattle.kfifo_machine.specs.Places.{IsPlace, IsFoundBy}
 use Rattle.kfifo_live.specs.declared.ring.Ring.{Ring}
 use Rattle.kfifo_live.specs.declared.view.View.{View}
-use Rattle.kfifo_live.specs.Schedule.{world_after, AllBegin, AllGiven, thread_of, seen_of, gifts_of, hand_of, with_seen, IsSeated}
+use Rattle.kfifo_live.specs.Schedule.{world_after, AllBegin, AllGiven, GiftsFit, thread_of, seen_of, gifts_of, hand_of, with_seen, IsSeated}
 use Rattle.kfifo_live.specs.declared.view.Hand.{Hand}
 use Rattle.kfifo_live.specs.Hands.{Gifts, InTurn, Takes, beside, gift, move, hand_after, begun_hand, carried, carrying, own_item, out_at, Carries, BeginsWith, Leaves}
 
@@ -53,7 +53,8 @@ module _ {T : Type 0} where
     pub out : 0 < v.0.opened.tokens → (begun_hand begin v.1 (hand_of v.0)).out ≡ out_at from
     pub taken : 0 < v.0.opened.tokens → (x : ℕ) → move from word ≡ Takes x → (0 < x)
         × ((payload : T) × (beside x ((gifts_of v.0 ++ given) ++ gift begin v.1) ≡ Some payload))
-    pub in_turn : InTurn ((seen_of v.0 ++ between) ++ event (thread_of v.0) begin ∷ []) ((gifts_of v.0 ++ given) ++ gift begin v.1)
+    pub in_turn : GiftsFit v.0.opened ((seen_of v.0 ++ between) ++ event (thread_of v.0) begin ∷ [])
+        ((gifts_of v.0 ++ given) ++ gift begin v.1)
     pub hand : Hand T
     pub hand_is : hand ≡ hand_after (move from word) ((gifts_of v.0 ++ given) ++ gift begin v.1) (begun_hand begin v.1 (hand_of v.0))
     pub afterwards : w.0 ≡ with_seen v.0 ((seen_of v.0 ++ between) ++ event (thread_of v.0) begin ∷ []) ((gifts_of v.0 ++ given) ++ gift begin v.1) hand
@@ -80,7 +81,7 @@ module _ {T : Type 0} where
     pub word_is : word ≡ get_or world.words index 0
     pub begin : AllBegin v.parts all
     pub given : AllGiven v.parts gifts
-    pub in_turn : InTurn all gifts
+    pub in_turn : GiftsFit v.opened all gifts
     pub afterwards : w ≡ with_seen v all gifts (hand_of v)
 
   -- Between two calls a thread takes the first of its tokens out: its seat then holds that slot, with this in it
@@ -110,6 +111,20 @@ module _ {T : Type 0} where
   HasOwn (Some begin) v own payload = own ≡ 0
   HasOwn None v own payload = (place : Running) × IsAt (Some place) v × (own ≡ own_item place) × (payload ≡ (hand_of v.0).payload)
 
+  -- The first own one of these events, which begins this call or goes on with its own: the gifts up to it are of the
+  -- enqueues up to it
+  pub record HasFirst (begin : Option Begin) (v : Me (Option T) (View T)) (events : List Event) (given : Gifts T)
+      : Type 0 where
+    pub before : List Event
+    pub after : List Event
+    pub earlier : Gifts T
+    pub later : Gifts T
+    pub events_are : events ≡ before ++ event (thread_of v.0) begin ∷ after
+    pub given_are : given ≡ earlier ++ (gift begin v.1 ++ later)
+    pub others : own (thread_of v.0) before ≡ []
+    pub in_turn : InTurn ((seen_of v.0 ++ before) ++ event (thread_of v.0) begin ∷ [])
+        ((gifts_of v.0 ++ earlier) ++ gift begin v.1)
+
   -- Steps of one call, from its first where it begins here: events of others and own ones, the last of them own, after which
   -- the call goes on from the next place or has answered
   pub record Leads (begin : Option Begin) (v : Me (Option T) (View T)) (next : Next) (w : Me (Option T) (View T)) : Type 0 where
@@ -121,8 +136,8 @@ module _ {T : Type 0} where
     pub hand : Hand T
     pub now : w.0 ≡ with_seen v.0 ((seen_of v.0 ++ between) ++ last ∷ []) (gifts_of v.0 ++ given) hand
     pub carries : w.1 ≡ carrying v.0.opened.tokens hand.out hand.payload
-    pub in_turn : InTurn ((seen_of v.0 ++ between) ++ last ∷ []) (gifts_of v.0 ++ given)
-    pub gift_is : (earlier : Gifts T) × (later : Gifts T) × (given ≡ earlier ++ (gift begin v.1 ++ later))
+    pub in_turn : GiftsFit v.0.opened ((seen_of v.0 ++ between) ++ last ∷ []) (gifts_of v.0 ++ given)
+    pub first : HasFirst begin v (between ++ last ∷ []) given
     pub at_home : hand.at_home ≡ (hand_of v.0).at_home
     pub leaves : 0 < v.0.opened.tokens → (own : ℕ) (payload : Option T) → HasOwn begin v own payload
         → Leaves own payload (gifts_of v.0 ++ given) hand next

@@ -163,7 +163,8 @@ impl<T: Drop> PayPass<T> {
     /// least 1, was lost, or Worn where a version would pass the greatest one. Each refusal hands the payload back, and
     /// the pass keeps its tokens. It never allocates, waits or locks.
     ///
-    /// What the pass has then seen keeps the promise of the queue, as with `Pass::enqueue`.
+    /// The payload stands among those that the pass has then seen, at the place of this call's own enqueue. What the
+    /// pass has then seen keeps the promise of the queue, as with `Pass::enqueue`.
     #[inline(always)]
     pub fn give(&mut self, queue: &PayQueue<T>, payload: T, start: u32, turns: u16) -> Given<T>
         requires of { IsOf queue.now self.old.pass }
@@ -199,10 +200,11 @@ impl<T: Drop> PayPass<T> {
     ///
     /// Scans begin at slot `start`, below k. Returns, as `Pass::dequeue`, Got with the payload, Empty where the queue was
     /// empty, Busy where each of `turns` rounds, at least 1, was lost, or Worn where a version would pass the greatest
-    /// one. The payload is the one beside the last enqueue of its token in what the pass has then seen. While the token is in
-    /// the queue nobody enqueues it, so that enqueue put it. It never allocates, waits or locks.
+    /// one. The payload is the one that was given with the enqueue that put its token, which is the last enqueue of that
+    /// token in what the pass has then seen. It never allocates, waits or locks.
     ///
-    /// What the pass has then seen keeps the promise of the queue, as with `Pass::dequeue`.
+    /// What the pass has then seen keeps the promise of the queue, as with `Pass::dequeue`. Each enqueue in it began with
+    /// a token that was in no slot and that no other enqueue in progress held.
     #[inline(always)]
     pub fn take(&mut self, queue: &PayQueue<T>, start: u32, turns: u16) -> Taken<T>
         requires of { IsOf queue.now self.old.pass }

@@ -1,8 +1,7 @@
 use Rattle.std.proofs.Common.{◌≡◌, ◌<◌, ◌≤◌, ◌+◌, ◌*◌, ◌++◌, [], ◌∷◌, ap, refl, subst, sym, ◌∙◌, arith, mul-le-mul_right, vec_capacity, length}
 use Rattle.kfifo_live.specs.declared.view.Opening.{Opening}
 use Rattle.kfifo_live.specs.declared.view.View.{View}
-use Rattle.kfifo_live.specs.Hands.{InTurn}
-use Rattle.kfifo_live.specs.Schedule.{seen_of, gifts_of, hand_of, more_in, count_up, first_part, other_parts}
+use Rattle.kfifo_live.specs.Schedule.{GiftsFit, seen_of, gifts_of, hand_of, more_in, count_up, first_part, other_parts}
 use Rattle.kfifo_live.specs.Pass.{queue_of}
 use Rattle.kfifo_live.specs.Payloads.{IsPool, IsPayPass, pay_known_of, pool_for}
 use Rattle.kfifo_live.proofs.Opens.{new_pass, cut_first}
@@ -59,7 +58,7 @@ invariant_of-push g c =
       some_tokens = subst (λ n. 0 < n) (sym tokens) c.requires.few.1;
       few_tokens = subst (λ n. n ≤ 1024) (sym tokens) c.requires.few.2;
       has_room = omega (arith, all, room);
-      in_turn = subst (λ (v : View g.row.T.Denot). InTurn (seen_of v) (gifts_of v)) (sym cut.0) refl;
+      in_turn = subst (λ (v : View g.row.T.Denot). GiftsFit v.opened (seen_of v) (gifts_of v)) (sym cut.0) record { in_turn = refl; holder_law = λ some. tt };
     } in
     subst (λ me. IsPayPass c.loop-thread.thread me c.in_ok-at_home.at_home.items (vec_capacity c.in_ok-at_home.at_home)) (sym c.in_ok-extend_pool.ensures.same.1) before
 
