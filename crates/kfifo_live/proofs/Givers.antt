@@ -363,9 +363,14 @@ going_is shape None (Some B.Tick) r goes = absurd (cc)
 lacks_begun : (shape : Shape) (here : World) (x : ℕ) (begin : Option Begin) → BeginsFree shape here begin
     → IsHeld here x ⊎ IsInSlot shape here x → Lacks x (item_begun begin)
 lacks_begun shape here x None free there = tt
-lacks_begun shape here x (Some (B.Enqueue item start turns)) free there =
-    (λ same. elim there [ inl held ↦ free.1 (subst (IsHeld here) (sym same) held) | inr in_slot ↦ free.0
-    (subst (IsInSlot shape here) (sym same) in_slot) ], tt)
+lacks_begun shape here x (Some (B.Enqueue item start turns)) free there = (
+  λ same. elim there [
+    | inl held ↦ free.1 (subst (IsHeld here) (sym same) held)
+    | inr in_slot ↦ free.0
+        (subst (IsInSlot shape here) (sym same) in_slot)
+  ],
+  tt,
+)
 lacks_begun shape here x (Some (B.Dequeue start turns)) free there = tt
 lacks_begun shape here x (Some B.Tick) free there = tt
 
@@ -463,7 +468,7 @@ module _ (o : Opening) (done : List Event) (here there : World) (e : Event) (out
       let was = still u q apart is in
       let before = stood u q i word was c stands in
       began_on done e u (own_item q) (known.carried u q i word was c before) (λ same. absurd (apart (sym same)))
-          (lacks_carried u q i word was c before)
+      (lacks_carried u q i word was c before)
 
   below_other : (u : ℕ) (q : Running) (i word : ℕ) → u ≢ e.thread → place_of there u ≡ Some q → CarriesAt q i word → word ≤ word_at there i
   below_other u q i word apart is c = let a = known.below u q i word (still u q apart is) c in let b = rises i in omega (arith, a, b)
@@ -475,7 +480,7 @@ module _ (o : Opening) (done : List Event) (here there : World) (e : Event) (out
       let p = put_of_exchange o.shape running i (word_at here i) to above filled exchange in
       let put : Running = R.Enqueue p.item p.start p.left (E.Put p.ends i (word_at here i)) in
       let on = put_goes_on o.shape (place_of here e.thread) e.begin p.item p.start p.left p.ends i (word_at here i)
-          (stands ∙ ap Some p.place) in
+      (stands ∙ ap Some p.place) in
       let place : IsPlace o.shape put = place_is o.shape here e.thread put is_sound on.1 in
       let b = known.held e.thread put p.item on.1 refl place.0 in
       let value : value_of to ≡ p.item = ap value_of p.puts ∙ value-filled_with p.item (word_at here i) place.1 in
@@ -554,7 +559,7 @@ module _ (o : Opening) (done : List Event) (here there : World) (e : Event) (out
         by_going (On none at) (inr u) =
             let old = known.carried e.thread s.running u.index seen at u.carries (ap (word_at here) (sym u.at) ∙ sym seen_is) in
             began_on done e e.thread (out_at q) (subst (BeganLast done e.thread) u.own old) (λ mine. none)
-                (lacks_none (out_at q) e.begin none)
+            (lacks_none (out_at q) e.begin none)
         by_going (Enqueues item start turns begin first) (inl same) =
             let new : BeganLast (done ++ e ∷ []) e.thread item = record {
               start = start;
@@ -576,20 +581,20 @@ module _ (o : Opening) (done : List Event) (here there : World) (e : Event) (out
     carried_own q i word is c stands =
         let next = goes_to q is in
         subst (BeganLast (done ++ e ∷ []) e.thread) (sym (keeps_own o.shape s.running seen q next))
-            (by_going how (carries_came o.shape s.running seen q i word next c))
+        (by_going how (carries_came o.shape s.running seen q i word next c))
       where
         by_going : Going (place_of here e.thread) e.begin s.running → CarriesAt s.running i word ⊎ IsPut s.running i seen word
             → BeganLast (done ++ e ∷ []) e.thread (own_item s.running)
         by_going (On none at) (inl old) =
             began_on done e e.thread (own_item s.running)
-                (known.carried e.thread s.running i word at old (stood e.thread s.running i word at old stands)) (λ mine. none)
-                (lacks_none (own_item s.running) e.begin none)
+            (known.carried e.thread s.running i word at old (stood e.thread s.running i word at old stands)) (λ mine. none)
+            (lacks_none (own_item s.running) e.begin none)
         by_going (On none at) (inr p) =
             let put : Running = R.Enqueue p.item p.start p.left (E.Put p.ends i seen) in
             let at_put : place_of here e.thread ≡ Some put = at ∙ ap Some p.place in
             let place : IsPlace o.shape put = place_is o.shape here e.thread put is_sound at_put in
             let new = began_on done e e.thread p.item (known.held e.thread put p.item at_put refl place.0) (λ mine. none)
-                (lacks_none p.item e.begin none) in
+            (lacks_none p.item e.begin none) in
             subst (BeganLast (done ++ e ∷ []) e.thread) (sym (ap own_item p.place)) new
         by_going (Enqueues item start turns begin first) (inl old) = absurd (subst (λ (r : Running). CarriesAt r i word) first old)
         by_going (Enqueues item start turns begin first) (inr p) = absurd
@@ -606,11 +611,11 @@ module _ (o : Opening) (done : List Event) (here there : World) (e : Event) (out
             let touches : access o.shape s.running ≡ Exchange i seen (filled_with p.item seen) = ap (access o.shape) p.place in
             let seen_there : seen ≡ word_at here i = seen_is ∙ ap (λ a. word_at here (accessed a)) touches in
             let exchange : access o.shape s.running ≡ Exchange i (word_at here i) word = touches ∙
-                (λ k. Exchange i (seen_there k) (sym p.puts k)) in
+            (λ k. Exchange i (seen_there k) (sym p.puts k)) in
             let place = going_place o.shape (place_of here e.thread) e.begin s.running
-                (λ r at. place_is o.shape here e.thread r is_sound at) s.goes in
+            (λ r at. place_is o.shape here e.thread r is_sound at) s.goes in
             let stands : word_at there i ≡ word = ap (λ (w : World). word_at w i) s.there_is
-                ∙ won_word o.shape here e.thread s.running i word is_sound place exchange in
+            ∙ won_word o.shape here e.thread s.running i word is_sound place exchange in
             omega (arith, stands)
 
         by_coming : Going (place_of here e.thread) e.begin s.running → CarriesAt s.running i word ⊎ IsPut s.running i seen word
@@ -643,7 +648,7 @@ module _ (o : Opening) (done : List Event) (here there : World) (e : Event) (out
         | inr t ↦
             let apart : (u : ℕ) (q : Running) → place_of there u ≡ Some q → u ≢ e.thread = λ u q is same.
             none_some q
-                (sym (ap (λ (w : World). place_of w u) t.there_is ∙ tick_leaves o.shape here u ∙ ap (place_of here) same ∙ t.idle) ∙ is) in
+            (sym (ap (λ (w : World). place_of w u) t.there_is ∙ tick_leaves o.shape here u ∙ ap (place_of here) same ∙ t.idle) ∙ is) in
             record {
               held = λ u q x is out some. held_other u q x (apart u q is) is out some;
               carried = λ u q i word is c stands. carried_other u q i word (apart u q is) is c stands;
@@ -665,7 +670,7 @@ traced_along o done (e ∷ es) here there reached is free known =
     let next : world_of (step o.shape here e) ≡ Some m.0 = ap world_of m.1.1.0 in
     let now = traced_on o done here m.0 e m.1.0 reached m.1.1.0 free.0 known in
     let all = traced_along o (done ++ e ∷ []) es m.0 there (after-snoc o.shape o.threads done here e reached ∙ next) m.1.1.1
-        (subst (λ (w : Option World). AllBeginFree o.shape w es) next free.1) now in
+    (subst (λ (w : Option World). AllBeginFree o.shape w es) next free.1) now in
     subst (λ (xs : List Event). Traced o xs there) (append_assoc done (e ∷ []) es) all
 
 opening_traced : (o : Opening) → Traced o [] (opening o.shape o.threads)
@@ -742,7 +747,7 @@ module _ {T : Type 0} where
       let behind = p.between ++ put ∷ p.after in
       let are : map (λ (g : ℕ × Option T). g.0) gifts ≡ items_begun p.before ++ token ∷ items_begun behind =
       turns ∙ ap items_begun (p.all_are ∙ append_assoc p.before (begins ∷ p.between) (put ∷ p.after)) ∙ items_begun-append p.before
-          (begins ∷ behind) in
+      (begins ∷ behind) in
       let c = cut_at gifts (items_begun p.before) token (items_begun behind) are in
       let so_far = last_gift token None c.earlier in
       let last : beside token gifts ≡ c.payload =
@@ -851,11 +856,11 @@ took_last o thread start turns token old new run =
           let g = got_place o.shape s.running seen token (answered (advance o.shape s.running seen) (Got token) s.outcome_is) in
           let take : Running = R.Dequeue g.start g.left (D.Take g.ends g.index seen) in
           let on = take_goes_on o.shape (place_of run.before run.last.thread) run.last.begin g.start g.left g.ends g.index seen
-              (s.goes ∙ ap Some g.place) in
+          (s.goes ∙ ap Some g.place) in
           let place : IsPlace o.shape take = place_is o.shape run.before run.last.thread take
-              (sound o.shape o.threads (old ++ run.between) run.before run.reached) on.1 in
+          (sound o.shape o.threads (old ++ run.between) run.before run.reached) on.1 in
           let stands : seen ≡ word_at run.before g.index = found-is o.shape run.before s.running ∙ ap
-              (λ (r : Running). word_at run.before (accessed (access o.shape r))) g.place in
+          (λ (r : Running). word_at run.before (accessed (access o.shape r))) g.place in
           record {
             index = g.index;
             word = seen;
@@ -880,24 +885,24 @@ took_last o thread start turns token old new run =
 pub took_what_was_put : {T : Type 0} (token : ℕ) (payload : T) (p : PayKnown T) (start turns : ℕ) (old : List Event)
     → CompleteExecution p.pass.opened.shape p.pass.opened.threads p.pass.thread (B.Dequeue start turns) (Got token) old p.pass.seen
     → 0 < token → HolderLaw p.pass.opened p.pass.seen → InTurn p.pass.seen p.gifts → beside token p.gifts ≡ Some payload
-        → TookWhatWasPut token payload p
+    → TookWhatWasPut token payload p
 took_what_was_put token payload p start turns old run some law in_turn is =
     let o = p.pass.opened in
     let all = p.pass.seen in
     let t = took_last o p.pass.thread start turns token old all run in
     let last = event p.pass.thread None in
     let whole : world_after o all ≡ Some run.world = ap (world_after o) run.new_is ∙ after-snoc o.shape o.threads
-        (old ++ run.between) run.before run.last run.reached ∙ ap world_of run.ends in
+    (old ++ run.between) run.before run.last run.reached ∙ ap world_of run.ends in
     let first : HolderLaw o t.taken.before =
     begin_free_before o.shape (opening o.shape o.threads) run.world t.taken.before (last ∷ [])
-        (ap (world_after o) (sym t.taken.seen_is) ∙ whole) (subst (HolderLaw o) t.taken.seen_is law) in
+    (ap (world_after o) (sym t.taken.seen_is) ∙ whole) (subst (HolderLaw o) t.taken.seen_is law) in
     let value : value_of (word_at t.taken.here t.index) ≡ token = ap value_of t.taken.stands ∙ t.value in
     let put = who_put o t.taken.before t.taken.here t.taken.reached first t.index t.above t.below
-        (λ none. absurd (omega (arith, value, none, some))) in
+    (λ none. absurd (omega (arith, value, none, some))) in
     let as_taken : PutLast o t.taken.before t.index t.word token = subst (λ (x : ℕ × ℕ). PutLast o t.taken.before t.index x.0 x.1)
-        (λ k. (t.taken.stands k, value k)) put in
+    (λ k. (t.taken.stands k, value k)) put in
     let of_all : PutLast o all t.index t.word token = subst (λ (es : List Event). PutLast o es t.index t.word token) (sym t.taken.seen_is)
-        (put_on o t.taken.before last t.index t.word token as_taken tt) in
+    (put_on o t.taken.before last t.index t.word token as_taken tt) in
     record {
       index = t.index;
       word = t.word;

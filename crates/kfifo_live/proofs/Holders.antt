@@ -50,7 +50,7 @@ module _ {T : Type 0} (o : Opening) (all : List Event) (world : World) (at : ℕ
   pub begins_free : (begin : Option Begin) (r : Running) (hand : Hand T) (held : List (ℕ × Option T)) → world_after o all ≡ Some world
       → going o.shape (place_of world thread) begin ≡ Some r
       → SlotsFit (clock_at o.shape.k o.shape.n) (word_at world) at gifts homes → HandFits (word_at world)
-          (place_of world thread) at gifts homes thread hand → BeginsWith begin hand held
+      (place_of world thread) at gifts homes thread hand → BeginsWith begin hand held
       → ((u : ℕ) → (hand : Hand T) × HandFits (word_at world) (place_of world u) at gifts homes u hand) → BeginsFree o.shape world begin
   begins_free None r hand held reached goes slots fits begins holders = tt
   begins_free (Some (B.Dequeue start turns)) r hand held reached goes slots fits begins holders = tt
@@ -58,16 +58,16 @@ module _ {T : Type 0} (o : Opening) (all : List Event) (world : World) (at : ℕ
   begins_free (Some (B.Enqueue item start turns)) r hand held reached goes slots fits begins holders =
       let call : Option Begin = Some (B.Enqueue item start turns) in
       let is_r = going_place o.shape (place_of world thread) call r
-          (λ q there. place_is o.shape world thread q (sound o.shape o.threads all world reached) there) goes in
+      (λ q there. place_is o.shape world thread q (sound o.shape o.threads all world reached) there) goes in
       let some : 0 < item = begun_item o.shape (place_of world thread) call r goes is_r item start turns refl in
       let out : at item ≡ Out thread = ap at (sym begins.0) ∙
-          (fits.out (λ none. absurd (let e = begins.0 in let p = some in omega arith))).0 in (
+      (fits.out (λ none. absurd (let e = begins.0 in let p = some in omega arith))).0 in (
         λ (s : IsInSlot o.shape world item).
             let filled : value_of (word_at world s.index) ≢ 0 = λ none. absurd (let e = s.stands in let p = some in omega arith) in
             In-not-Out s.index thread (sym (slots s.index s.above s.below filled).0 ∙ ap at s.stands ∙ out),
         λ (h : IsHeld world item).
             let same : h.thread ≡ thread = Out-injective h.thread thread
-                (sym (held_is_out holders h.thread h.place item some h.there h.holds) ∙ out) in
+            (sym (held_is_out holders h.thread h.place item some h.there h.holds) ∙ out) in
             in_call h.place (place_of world thread) (ap (place_of world) (sym same) ∙ h.there) goes,
       )
     where

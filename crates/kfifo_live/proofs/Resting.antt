@@ -228,13 +228,16 @@ module _ {T : Type 0} (o : Opening) (s : State (Option T) (View T)) (id thread :
         holders = λ p u. elim (cases_eq u thread) [
           | inl same ↦ (with_tokens (x ∷ hand.at_home), subst (λ (t : ℕ). HandFits (word_at kept.world) (place_of kept.world t) at_now kept.gifts homes_now t (with_tokens (x ∷ hand.at_home))) (sym same) own_now)
           | inr not_own ↦ elim (cases_eq u n) [
-            | inl rests ↦ (no_hand, record {
-              home = tt;
-              out = λ some_out. absurd (some_out refl);
-              stands =
-                  subst (CallFits (word_at kept.world) kept.gifts no_hand)
-                  (sym (ap (place_of kept.world) rests ∙ idle_beyond kept.world n (let t = threads_are o kept.all kept.world kept.runs in omega (arith, t)))) tt;
-            })
+            | inl rests ↦ (
+              no_hand,
+              record {
+                home = tt;
+                out = λ some_out. absurd (some_out refl);
+                stands =
+                    subst (CallFits (word_at kept.world) kept.gifts no_hand)
+                    (sym (ap (place_of kept.world) rests ∙ idle_beyond kept.world n (let t = threads_are o kept.all kept.world kept.runs in omega (arith, t)))) tt;
+              },
+            )
             | inr not_resting ↦ let h = kept.holders p u in (h.0, on u h.0 not_own not_resting h.1)
           ]
         ];

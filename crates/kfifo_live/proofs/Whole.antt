@@ -193,17 +193,17 @@ more_steps {T} begin old mid new running next a b = from_there (subst (λ (y : V
           carries = b.carries;
           in_turn = subst (λ (x : List Event × Gifts T). GiftsFit v.opened (x.0 ++ b.last ∷ []) x.1) (λ i. (upto i, append_assoc (gifts_of v) a.given b.given i)) b.in_turn;
           first = (let g = a.first in
-          let more = b.between ++ b.last ∷ [] in
-          record {
-            before = g.before;
-            after = g.after ++ more;
-            earlier = g.earlier;
-            later = g.later ++ b.given;
-            events_are = append_assoc (a.between ++ a.last ∷ []) b.between (b.last ∷ []) ∙ ap (λ es. es ++ more) g.events_are ∙ append_assoc g.before (event t begin ∷ g.after) more;
-            given_are = ap (λ x. x ++ b.given) g.given_are ∙ append_assoc g.earlier (gift begin old.1 ++ g.later) b.given ∙ ap (λ x. g.earlier ++ x) (append_assoc (gift begin old.1) g.later b.given);
-            others = g.others;
-            in_turn = g.in_turn;
-          });
+              let more = b.between ++ b.last ∷ [] in
+              record {
+                before = g.before;
+                after = g.after ++ more;
+                earlier = g.earlier;
+                later = g.later ++ b.given;
+                events_are = append_assoc (a.between ++ a.last ∷ []) b.between (b.last ∷ []) ∙ ap (λ es. es ++ more) g.events_are ∙ append_assoc g.before (event t begin ∷ g.after) more;
+                given_are = ap (λ x. x ++ b.given) g.given_are ∙ append_assoc g.earlier (gift begin old.1 ++ g.later) b.given ∙ ap (λ x. g.earlier ++ x) (append_assoc (gift begin old.1) g.later b.given);
+                others = g.others;
+                in_turn = g.in_turn;
+              });
           at_home = b.at_home ∙ a.at_home;
           leaves = λ some_tokens own payload has.
               let first = a.leaves some_tokens own payload has in

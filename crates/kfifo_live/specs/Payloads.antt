@@ -217,6 +217,6 @@ module _ {T : Type 0} where
     pub were_put : (index : ℕ) → 0 < index → index < clock_at q.opened.shape.k q.opened.shape.n
         → value_of (word_at world index) ≢ 0
         → WasPutWith q.opened all gifts index (word_at world index) (value_of (word_at world index))
-            (beside (value_of (word_at world index)) gifts)
+        (beside (value_of (word_at world index)) gifts)
     pub balance : (token : ℕ) → puts token q.opened all ≡ undos token q.opened all + (takes token q.opened all + times token tokens)
     pub promise : KeepsPromise q.opened all
