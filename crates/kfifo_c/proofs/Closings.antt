@@ -9,7 +9,7 @@ use Rattle.std.proofs.Math.Seq.{map-set_same}
 use Rattle.kfifo_words.specs.declared.shape.Shape.{Shape}
 use Rattle.kfifo_words.specs.Words.{head_of}
 use Rattle.kfifo_words.specs.Ring.{next_segment, slot_at}
-use Rattle.kfifo_live.specs.Pass.{OpenQueue, Known, IsOf, IsComplete, Closes}
+use Rattle.kfifo_live.specs.Pass.{OpenQueue, PassView, IsPassOf, IsComplete, Closes}
 use Rattle.kfifo_live.specs.Left.{item_in, slots_left, segments_left, items_left}
 use Rattle.kfifo_c.specs.declared.handle.Handle.{Handle}
 use Rattle.kfifo_c.specs.Seats.{Seated}
@@ -43,18 +43,18 @@ passes_same [] = refl
 passes_same (None ∷ os) = passes_same os
 passes_same (Some x ∷ os) = ap (λ l. x.pass ∷ l) (passes_same os)
 
-pub theirs_more : (os : List (Option Seated)) (o : Option Seated) → AreTheirs os → IfSome o (λ s. IsOf s.queue s.pass) → AreTheirs (os ++ o ∷ [])
+pub theirs_more : (os : List (Option Seated)) (o : Option Seated) → AreTheirs os → IfSome o (λ s. IsPassOf s.queue s.pass) → AreTheirs (os ++ o ∷ [])
 theirs_more [] None all is = tt
 theirs_more [] (Some s) all is = (is, tt)
 theirs_more (None ∷ os) o all is = theirs_more os o all is
 theirs_more (Some s ∷ os) o all is = (all.0, theirs_more os o all.1 is)
 
 -- the passes of open handles of one queue
-pub theirs_of : (q : OpenQueue) (os : List (Option Seated)) → All (IsOpenOf q) os → AreTheirs os → All (IsOf q) (passes_in os)
-theirs_of q [] each all = All-nil (IsOf q)
+pub theirs_of : (q : OpenQueue) (os : List (Option Seated)) → All (IsOpenOf q) os → AreTheirs os → All (IsPassOf q) (passes_in os)
+theirs_of q [] each all = All-nil (IsPassOf q)
 theirs_of q (None ∷ os) each all = absurd (All-head (IsOpenOf q) None os each)
-theirs_of q (Some s ∷ os) each all = All-cons (IsOf q) s.pass (passes_in os)
-    (subst (λ (q' : OpenQueue). IsOf q' s.pass) (All-head (IsOpenOf q) (Some s) os each) all.0)
+theirs_of q (Some s ∷ os) each all = All-cons (IsPassOf q) s.pass (passes_in os)
+    (subst (λ (q' : OpenQueue). IsPassOf q' s.pass) (All-head (IsOpenOf q) (Some s) os each) all.0)
     (theirs_of q os (All-tail (IsOpenOf q) (Some s) os each) all.1)
 
 many_passes : (q : OpenQueue) (os : List (Option Seated)) → All (IsOpenOf q) os → length (passes_in os) ≡ length os
@@ -81,17 +81,17 @@ same_queue q first (None ∷ os) one begins = absurd begins
 same_queue q first (Some s ∷ os) one begins = begins ∙ All-head (OneQueue q) (Some s) os one
 
 -- a test of numbers is one of passes
-any_number : (ps : List Known) (t : ℕ) → list_any (λ n. n == t) (map (λ p. p.thread) ps) ≡ list_any (λ p. p.thread == t) ps
+any_number : (ps : List PassView) (t : ℕ) → list_any (λ n. n == t) (map (λ p. p.thread) ps) ≡ list_any (λ p. p.thread == t) ps
 any_number [] t = refl
 any_number (p ∷ ps) t = search (rules, any_number ps t)
 
-pub complete : (threads : ℕ) (ps : List Known) → HasEach threads (map (λ p. p.thread) ps) → IsComplete threads ps
+pub complete : (threads : ℕ) (ps : List PassView) → HasEach threads (map (λ p. p.thread) ps) → IsComplete threads ps
 complete threads ps has = record {
   count = sym (length-map ps (λ p. p.thread)) ∙ has.count;
   each = λ t below. sym (any_number ps t) ∙ has.each t below;
 }
 
-pub has_all : (threads : ℕ) (ps : List Known) → IsComplete threads ps → HasEach threads (map (λ p. p.thread) ps)
+pub has_all : (threads : ℕ) (ps : List PassView) → IsComplete threads ps → HasEach threads (map (λ p. p.thread) ps)
 has_all threads ps is = record {
   count = length-map ps (λ p. p.thread) ∙ is.count;
   each = λ t below. any_number ps t ∙ is.each t below;
@@ -187,8 +187,8 @@ pub match_some : {X : Type 0} (P : Type 0) (Q : X → Type 0) (o : Option X) (x 
 match_some {X} P Q o x m e = subst (λ (o' : Option X). MatchOption o' P Q) e m
 
 -- at most as many items are left as there are slots
-pub few_closed : (q : OpenQueue) (ps : List Known) (items : List ℕ) → Closes q ps items → length items ≤ q.opened.shape.n * q.opened.shape.k
+pub few_closed : (q : OpenQueue) (ps : List PassView) (items : List ℕ) → Closes q ps items → length items ≤ q.opened.shape.n * q.opened.shape.k
 few_closed q ps items closes = subst (λ (l : List ℕ). length l ≤ q.opened.shape.n * q.opened.shape.k) (sym closes.items_are) (few_left q.opened.shape closes.world.words)
 
-pub closes_theirs : (os : List (Option Seated)) (room : ℕ) (q : OpenQueue) → MayClose q os room → AreTheirs os → All (IsOf q) (passes_in os)
+pub closes_theirs : (os : List (Option Seated)) (room : ℕ) (q : OpenQueue) → MayClose q os room → AreTheirs os → All (IsPassOf q) (passes_in os)
 closes_theirs os room q may theirs = theirs_of q os may.each_open theirs

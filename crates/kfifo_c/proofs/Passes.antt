@@ -6,7 +6,7 @@ use Rattle.std.proofs.Math.ListN.{set}
 use Rattle.kfifo_live.specs.Pass.{OpenQueue, new_passes}
 use Rattle.kfifo_c.specs.declared.handle.Handle.{Handle}
 use Rattle.kfifo_c.specs.Handles.{behind}
-use Rattle.kfifo_c.specs.Seats.{Seated, seated, starts_of, IsPassOf}
+use Rattle.kfifo_c.specs.Seats.{Seated, seated, starts_of, IsOpenPassOf}
 use Rattle.kfifo_c.specs.Exports.{seats_of}
 
 -- a handle from which a scan may begin somewhere is open
@@ -52,6 +52,6 @@ pub length_seats : (q : OpenQueue) (first count : ℕ) → length (seats_of q (n
 length_seats q first count = length-map (new_passes q first count) (λ p. seated q p) ∙ length_passes q first count
 
 -- the new passes of a queue are of its threads
-pub passes_of : (q : OpenQueue) (first count : ℕ) → q.opened.threads ≡ first + count → All (IsPassOf q) (new_passes q first count)
-passes_of q first zero are = All-nil (IsPassOf q)
-passes_of q first (suc count) are = All-cons (IsPassOf q) _ _ ((refl, refl), omega arith) (passes_of q (suc first) count (omega arith))
+pub passes_of : (q : OpenQueue) (first count : ℕ) → q.opened.threads ≡ first + count → All (IsOpenPassOf q) (new_passes q first count)
+passes_of q first zero are = All-nil (IsOpenPassOf q)
+passes_of q first (suc count) are = All-cons (IsOpenPassOf q) _ _ ((refl, refl), omega arith) (passes_of q (suc first) count (omega arith))

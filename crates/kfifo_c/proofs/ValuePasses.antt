@@ -7,7 +7,7 @@ use Rattle.std.proofs.lemmas.List.Elements.{All-cons, All-head, All-nil, All-tai
 use Rattle.std.proofs.Math.ListN.{set, get_or-map as get_or_map}
 use Rattle.std.proofs.Math.Seq.{map-set_same}
 use Rattle.kfifo_live.specs.Pass.{OpenQueue}
-use Rattle.kfifo_live.specs.Payloads.{PayKnown, new_pay_passes, PayCloses}
+use Rattle.kfifo_live.specs.Payloads.{PayPassView, new_pay_passes, PayCloses}
 use Rattle.kfifo_c.specs.declared.value_queue.handle.ValueHandle.{ValueHandle}
 use Rattle.kfifo_c.specs.ValueHandles.{values_behind, value_addresses}
 use Rattle.kfifo_c.specs.ValueSeats.{ValueSeated, value_seated, value_starts_of}
@@ -121,7 +121,7 @@ begun q [] begins = absurd begins
 begun q (o ∷ os) begins = omega arith
 
 -- at most as many values are left as there are slots
-pub few_closed : (q : OpenQueue) (p : PayKnown ℕ) (values : List ℕ) → PayCloses q p values → length values ≤ q.opened.shape.n * q.opened.shape.k
+pub few_closed : (q : OpenQueue) (p : PayPassView ℕ) (values : List ℕ) → PayCloses q p values → length values ≤ q.opened.shape.n * q.opened.shape.k
 few_closed q p values closes =
     let many = sym (length-map values Some) ∙ ap length closes.payloads_are ∙ length-map closes.tokens _ ∙ ap length closes.tokens_are in
     let few = few_left q.opened.shape closes.world.words in omega (arith, many, few)

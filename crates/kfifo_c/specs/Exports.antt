@@ -16,7 +16,7 @@ use Rattle.kfifo_live.specs.declared.fault.OpenFault.{OpenFault}
 use Rattle.kfifo_live.specs.declared.fault.OpenFault.TheVariants.{ThreadsOutOfRange, TokensOutOfRange}
 use Rattle.kfifo_live.specs.Calls.{Makes, TakesFewSteps, HasCause, IsDisturbed, LeavesNoItem}
 use Rattle.kfifo_live.specs.Promise.{KeepsPromise}
-use Rattle.kfifo_live.specs.Pass.{OpenQueue, Known, IsOf, IsSame, Finds, IsZeroed, new_passes, IsComplete, Closes}
+use Rattle.kfifo_live.specs.Pass.{OpenQueue, PassView, IsPassOf, IsSamePass, Finds, IsZeroed, new_passes, IsComplete, Closes}
 use Rattle.kfifo_live.specs.Handles.{enough_turns, further}
 use Rattle.kfifo_c.specs.Seats.{Seated, seated}
 
@@ -69,7 +69,7 @@ pub record MayPut (item : ℕ) (seat : Seated) : Type 0 where
 -- the pass made this call, and was given this answer: all that the running queue says of its calls
 pub record Called (call : Begin) (answer : Answer) (old new : Seated) : Type 0 where
   pub queue : new.queue ≡ old.queue
-  pub same : IsSame old.pass new.pass
+  pub same : IsSamePass old.pass new.pass
   pub run : Makes call answer old.pass new.pass
   pub few_steps : TakesFewSteps call old.pass new.pass
   pub cause : HasCause call answer old.pass new.pass
@@ -109,7 +109,7 @@ module _ {A S : Type 0} where
 -- the pass read this word, and saw what it says of the queue
 pub record HasRead (index word : ℕ) (old new : Seated) : Type 0 where
   pub queue : new.queue ≡ old.queue
-  pub same : IsSame old.pass new.pass
+  pub same : IsSamePass old.pass new.pass
   pub finds : Finds old.pass new.pass index word
   pub same_put : new.put_start ≡ old.put_start
   pub same_get : new.get_start ≡ old.get_start
@@ -125,7 +125,7 @@ word_after old (Some word) = word
 word_after old None = old
 
 -- the seats of these passes of one queue, in their order
-abbrev pub seats_of : OpenQueue → List Known → List Seated
+abbrev pub seats_of : OpenQueue → List PassView → List Seated
 seats_of queue = map (λ pass. seated queue pass)
 
 -- a queue of these sizes was opened, of which these are the new seats: all that the running queue says of an opening
@@ -164,7 +164,7 @@ BeginsWith queue (None ∷ handles) = ⊥
 BeginsWith queue (Some seat ∷ handles) = queue ≡ seat.queue
 
 -- the passes behind the open ones of these handles, and their numbers
-abbrev pub passes_in : List (Option Seated) → List Known
+abbrev pub passes_in : List (Option Seated) → List PassView
 passes_in [] = []
 passes_in (None ∷ handles) = passes_in handles
 passes_in (Some seat ∷ handles) = seat.pass ∷ passes_in handles
@@ -176,7 +176,7 @@ numbers_in handles = map (λ pass. pass.thread) (passes_in handles)
 abbrev pub AreTheirs : List (Option Seated) → Type 0
 AreTheirs [] = ⊤
 AreTheirs (None ∷ handles) = AreTheirs handles
-AreTheirs (Some seat ∷ handles) = IsOf seat.queue seat.pass × AreTheirs handles
+AreTheirs (Some seat ∷ handles) = IsPassOf seat.queue seat.pass × AreTheirs handles
 
 -- as many numbers as there are threads, and that of each
 pub record HasEach (threads : ℕ) (numbers : List ℕ) : Type 0 where

@@ -3,7 +3,7 @@ ghost use Rattle.std.specs.Prelude.{◌≡◌, ◌≢◌, ◌<◌, ◌≤◌, �
 ghost use denote.RawPtr.{Ptr};
 ghost use Rattle.kfifo_words.specs.Sizes.{fault_of};
 ghost use Rattle.kfifo_live.specs.declared.fault.OpenFault.TheVariants.{ThreadsOutOfRange, TokensOutOfRange};
-ghost use Rattle.kfifo_c.specs.Seats.{IsPassOf};
+ghost use Rattle.kfifo_c.specs.Seats.{IsOpenPassOf};
 ghost use Rattle.kfifo_c.specs.Handles.{behind};
 ghost use Rattle.kfifo_c.specs.Exports.{seats_of, Opens, OpensSizes, shape_number};
 
@@ -23,7 +23,7 @@ fn seat_all(
     mut passes: Vec<Pass>,
     threads: u32,
 ) -> Result<Vec<Box<Seat, Global>>, AllocError>
-    requires of { All (IsPassOf queue) passes.items }
+    requires of { All (IsOpenPassOf queue) passes.items }
     requires threads { threads ≡ queue.opened.threads }
     ensures { IfOk result (λ seats. reverse (map (λ seat. seat.value) seats.items) ≡ seats_of queue passes.items) }
 {

@@ -10,7 +10,7 @@ use Rattle.kfifo_dispatch.specs.declared.worker.Turn.{Turn}
 use Rattle.kfifo_dispatch.specs.declared.worker.Turn.TheVariants as W
 use Rattle.kfifo_dispatch.specs.Running.{AreEach, GivesAll, GoesOn, IsTurn, Works, begun, kept_after, place_kept}
 use Rattle.kfifo_dispatch.specs.Working.{MayWork}
-use Rattle.kfifo_live.specs.Pass.{IsSame, Known, OpenQueue}
+use Rattle.kfifo_live.specs.Pass.{IsSamePass, PassView, OpenQueue}
 use Rattle.kfifo_dispatch.specs.declared.task.Task.{Task}
 
 append_nil : {A : Type 0} (xs : List A) → xs ++ [] ≡ xs
@@ -21,11 +21,11 @@ append_assoc' : {A : Type 0} (xs ys zs : List A) → (xs ++ ys) ++ zs ≡ xs ++ 
 append_assoc' [] ys zs = refl
 append_assoc' (x ∷ xs) ys zs = ap (λ ws. x ∷ ws) (append_assoc' xs ys zs)
 
-pub same_trans : (p q r : Known) → IsSame p q → IsSame q r → IsSame p r
+pub same_trans : (p q r : PassView) → IsSamePass p q → IsSamePass q r → IsSamePass p r
 same_trans p q r a b = (b.0 ∙ a.0, b.1 ∙ a.1, b.2 ∙ a.2)
 
 -- a worker that may work may do so after a call
-pub may_still : (q : OpenQueue) (p p' : Known) (d d' : Draws) (n n' : ℕ) → MayWork q p d n → IsSame p p' → d'.k ≡ d.k → n' ≡ n → MayWork q p' d' n'
+pub may_still : (q : OpenQueue) (p p' : PassView) (d d' : Draws) (n n' : ℕ) → MayWork q p d n → IsSamePass p p' → d'.k ≡ d.k → n' ≡ n → MayWork q p' d' n'
 may_still q p p' d d' n n' may same k turns = record {
   of = (same.0 ∙ may.of.0, same.1 ∙ may.of.1);
   starts_fit = k ∙ may.starts_fit;

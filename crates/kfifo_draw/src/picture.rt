@@ -15,7 +15,7 @@ use std::alloc::{AllocError, AllocFailed, Global};
 use thiserror::Error;
 
 /// The most calls of a picture.
-pub const MOST_DRAWN: usize = 4_096;
+pub const MAX_DRAWN: usize = 4_096;
 
 /// What a picture is made of.
 #[derive(Clone, Copy, Debug, PartialEq, Eq)]
@@ -101,7 +101,7 @@ pub fn draw(alloc: Global, history: &History, drawing: &Drawing<'_>) -> Result<S
         (IsDrawFault history.now drawing.now.logged.now drawing.now.part) }
 {
     let calls = history.calls();
-    if count_drawn(calls, drawing.logged, drawing.part) > MOST_DRAWN {
+    if count_drawn(calls, drawing.logged, drawing.part) > MAX_DRAWN {
         return Err(DrawFault::TooMany);
     }
     let text = picture_of(alloc, history, drawing)?;
@@ -130,8 +130,8 @@ fn picture_of(
     let calls = calls_at(alloc, whole, numbers.as_slice())?;
     let marks = Marks::of(alloc, history, drawing.k, drawing.marking)?;
     let most = match drawing.style {
-        Style::Svg => svg::MOST_COLUMNS,
-        Style::Text => lanes::MOST_COLUMNS,
+        Style::Svg => svg::MAX_COLUMNS,
+        Style::Text => lanes::MAX_COLUMNS,
     };
     let layout = Layout::of(alloc, calls.as_slice(), numbers.as_slice(), &marks, most)?;
     let scene = Scene {

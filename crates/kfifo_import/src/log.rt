@@ -4,7 +4,7 @@ ghost use Rattle.kfifo_import.specs.Logs as specs;
 ghost use Rattle.kfifo_import.specs.Logs.{AreByFirst, IsImportFault, IsLogOf, IsRecordOfLog, import_fault, line_number, logged_call};
 
 use crate::stamping::stamped;
-use kfifo_model::{Call, History, MOST_CALLS, RecordFault};
+use kfifo_model::{Call, History, MAX_CALLS, RecordFault};
 use std::alloc::{AllocError, AllocFailed, Global};
 use thiserror::Error;
 
@@ -156,7 +156,7 @@ fn all_logged(alloc: Global, lines: &[Line]) -> Result<Vec<LoggedCall>, AllocErr
 pub fn log_of(alloc: Global, lines: Vec<Line>) -> Result<Log, ImportFault>
     ensures { MatchResult result (λ log. IsLogOf lines.items log.history log.calls.items) (IsImportFault lines.items) }
 {
-    if lines.len() > MOST_CALLS {
+    if lines.len() > MAX_CALLS {
         return Err(ImportFault::TooMany);
     }
     let lines = by_first(lines)?;

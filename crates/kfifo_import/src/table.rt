@@ -6,7 +6,7 @@ ghost use Rattle.kfifo_import.specs.Tables.{Holds, IsImported, IsReadLog, IsText
 
 use crate::log::{ImportFault, Line, Log, log_of};
 use csv::{ByteRecord, ErrorKind, ReaderBuilder};
-use kfifo_model::{Answer, Call, End, History, MOST_CALLS, Op};
+use kfifo_model::{Answer, Call, End, History, MAX_CALLS, Op};
 use std::alloc::Global;
 
 /// Where the fields of a call stand in a line.
@@ -241,7 +241,7 @@ impl Table {
             self.columns = Some(columns);
             return Ok(());
         };
-        if self.lines.len() >= MOST_CALLS {
+        if self.lines.len() >= MAX_CALLS {
             return Err(ImportFault::TooMany);
         }
         let call = call_of(row, &columns).ok_or(ImportFault::NotACall(number))?;

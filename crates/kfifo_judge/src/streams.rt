@@ -11,7 +11,7 @@ use std::io::{Read, Write};
 use thiserror::Error;
 
 /// The most bytes of an input.
-pub const MOST_BYTES: usize = 16_777_216;
+pub const MAX_BYTES: usize = 16_777_216;
 
 /// Where bytes come from.
 pub trait Source {
@@ -141,7 +141,7 @@ pub fn read_all<R: Source>(alloc: Global, source: &mut R) -> Result<Vec<u8>, Rea
         if count == 0 {
             return Ok(bytes);
         }
-        if count > MOST_BYTES - bytes.len() {
+        if count > MAX_BYTES - bytes.len() {
             return Err(ReadFault::TooLong);
         }
         bytes.extend_from_slice(&piece[..count])?;

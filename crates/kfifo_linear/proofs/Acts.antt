@@ -17,7 +17,7 @@ use Rattle.kfifo_machine.specs.declared.event.Begin.TheVariants as B
 use Rattle.kfifo_machine.specs.declared.place.Running.{Running}
 use Rattle.kfifo_machine.specs.Calls.{Log}
 use Rattle.kfifo_linear.specs.Ledger.{Ledger, Outside, Took, item_of}
-use Rattle.kfifo_linear.specs.Roles.{Role, Puts, Gets, Finds_none, Refused, Spot, spot, spot_of, refused_at}
+use Rattle.kfifo_linear.specs.Roles.{Role, Puts, Gets, FindsNone, Refused, Spot, spot, spot_of, refused_at}
 use Rattle.kfifo_linear.proofs.Invariant.{Inv, Fits, InsideOk}
 use Rattle.kfifo_linear.proofs.Facts.{Facts, Stands, RoleAnswers, puts_standing}
 use Rattle.kfifo_linear.proofs.Agrees.{Agrees, op_of, end_of}
@@ -26,7 +26,7 @@ use Rattle.kfifo_linear.proofs.Agrees.{Agrees, op_of, end_of}
 abbrev pub Acts : (ℕ → ℕ) → ℕ → Role → Effect → Type 0
 Acts items own (Puts visit index) e = e ≡ M.Adds own
 Acts items own (Gets call visit) e = e ≡ M.Takes (items call)
-Acts items own (Finds_none visit) e = e ≡ M.Finds_none
+Acts items own (FindsNone visit) e = e ≡ M.FindsNone
 Acts items own Refused e = e ≡ M.Refused
 
 finished_acts : (items : ℕ → ℕ) (b : Begin) (x : Answer) (role : Role) → (effect (op_of b) x ≡ M.Wrong → ⊥) → RoleAnswers items x role → Acts items (item_of b) role (effect (op_of b) x)

@@ -8,7 +8,7 @@ use Rattle.kfifo_model.specs.declared.calls.End.{End}
 use Rattle.kfifo_model.specs.declared.calls.Op.{Op}
 use Rattle.kfifo_model.specs.declared.calls.Op.TheVariants.{Enqueue, Dequeue}
 use Rattle.kfifo_model.specs.Lists.{IsIn, EachPair, place}
-use Rattle.kfifo_model.specs.Relaxed.{Effect, Adds, Takes, Finds_none, Refused, Wrong}
+use Rattle.kfifo_model.specs.Relaxed.{Effect, Adds, Takes, FindsNone, Refused, Wrong}
 use Rattle.kfifo_model.specs.Histories.{call, does, effect_at, IsFinished, HasEnd, EndsBelow}
 use Rattle.kfifo_model.specs.Overtaking.{some, adds, takes, overtakes_at, overtakes, overtaken_count, stands_before, ends_below, precedes, numbers_of, overtaken_in, certainly_overtaken, AddsAreDistinct}
 use Rattle.kfifo_linear.specs.Points.{Marks, IsAdd, IsTakeOf, PointsFit, IsEarlier, IsByPoint, StandsFit}
@@ -66,7 +66,7 @@ few_overtake k act m c gs f a d o =
 adds_is : (x : ℕ) (e : Effect) → adds x e ≡ true → e ≡ Adds x
 adds_is x (Adds y) h = ap Adds (sym (eqb-true x y h))
 adds_is x (Takes y) h = absurd (false≢true h)
-adds_is x Finds_none h = absurd (false≢true h)
+adds_is x FindsNone h = absurd (false≢true h)
 adds_is x Refused h = absurd (false≢true h)
 adds_is x Wrong h = absurd (false≢true h)
 
@@ -113,7 +113,7 @@ passes_at act before numbers c d x (Takes y) q h =
       taken = before_takes act before numbers d x p.1;
     }
 passes_at act before numbers c d x (Adds y) q h = absurd (false≢true h)
-passes_at act before numbers c d x Finds_none q h = absurd (false≢true h)
+passes_at act before numbers c d x FindsNone q h = absurd (false≢true h)
 passes_at act before numbers c d x Refused q h = absurd (false≢true h)
 passes_at act before numbers c d x Wrong q h = absurd (false≢true h)
 

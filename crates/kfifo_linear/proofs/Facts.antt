@@ -8,7 +8,7 @@ use Rattle.kfifo_linear.proofs.Invariant.{AtHead, AtTail, Fits, FullOk, GoneOk, 
 use Rattle.kfifo_linear.proofs.Ring.{place_below}
 use Rattle.kfifo_linear.proofs.Whole.{invariant}
 use Rattle.kfifo_linear.specs.Ledger.{Gone, Inside, Ledger, Outside, Standing, Stood, Took, blank, item_of, ledger_of}
-use Rattle.kfifo_linear.specs.Roles.{Finds_none, Gets, Puts, Refused, Role, Spot, refused_at, spot, spot_if, spot_of}
+use Rattle.kfifo_linear.specs.Roles.{FindsNone, Gets, Puts, Refused, Role, Spot, refused_at, spot, spot_if, spot_of}
 use Rattle.kfifo_machine.specs.Machine.{World, opening, place_of, run, word_at}
 use Rattle.kfifo_machine.specs.Places.{IsSlotIndex}
 use Rattle.kfifo_machine.specs.declared.event.Event.{Event}
@@ -31,7 +31,7 @@ pub record HeadAt (l : Ledger) (v p : ℕ) : Type 0 where
 abbrev pub RoleAnswers : (ℕ → ℕ) → Answer → Role → Type 0
 RoleAnswers items Done (Puts visit index) = Unit {0}
 RoleAnswers items (Got item) (Gets call visit) = items call ≡ item
-RoleAnswers items Empty (Finds_none visit) = Unit {0}
+RoleAnswers items Empty (FindsNone visit) = Unit {0}
 RoleAnswers items Full Refused = Unit {0}
 RoleAnswers items Busy Refused = Unit {0}
 RoleAnswers items Worn Refused = Unit {0}
@@ -49,10 +49,10 @@ pub record Facts (shape : Shape) (l : Ledger) : Type 0 where
   -- two items of one visit are in different slots
   pub apart : (c d v i p q : ℕ) → Stands l c (Puts v i) p → Stands l d (Puts v i) q → c ≡ d
   -- an Empty has its place where head and tail are in one visit, and each item whose place is not later is of an earlier visit
-  pub none_tail : (c v p : ℕ) → Stands l c (Finds_none v) p → AtTail l v p × HeadAt l v p
-  pub none_before : (c v p d u i q : ℕ) → Stands l c (Finds_none v) p → Stands l d (Puts u i) q → q ≤ p → u < v
+  pub none_tail : (c v p : ℕ) → Stands l c (FindsNone v) p → AtTail l v p × HeadAt l v p
+  pub none_before : (c v p d u i q : ℕ) → Stands l c (FindsNone v) p → Stands l d (Puts u i) q → q ≤ p → u < v
   -- and that place is its last step
-  pub none_last : (c v p e : ℕ) → Stands l c (Finds_none v) p → l.last c ≡ Some e → p ≡ e
+  pub none_last : (c v p e : ℕ) → Stands l c (FindsNone v) p → l.last c ≡ Some e → p ≡ e
   -- each place is between its call's first and last step
   pub within : (c : ℕ) (s : Spot) → spot l c ≡ Some s → (l.first c ≤ s.point) × ((e : ℕ) → l.last c ≡ Some e → s.point ≤ e) × (s.point < l.now)
   -- no two dequeues get one item
@@ -70,7 +70,7 @@ pub gets_standing : (l : Ledger) (c o v p : ℕ) → Stands l c (Gets o v) p →
 unfolding spot
 gets_standing l c o v p e = grind arith
 
-none_standing : (l : Ledger) (c v p : ℕ) → Stands l c (Finds_none v) p → l.standing c ≡ Stood v p
+none_standing : (l : Ledger) (c v p : ℕ) → Stands l c (FindsNone v) p → l.standing c ≡ Stood v p
 unfolding spot
 none_standing l c v p e = grind arith
 
@@ -123,7 +123,7 @@ inside_stands : (l : Ledger) (c i : ℕ) → l.standing c ≡ Inside i → l.set
 unfolding spot
 inside_stands l c i e s = rw (e, s) refl
 
-stood_stands : (l : Ledger) (c v p : ℕ) → l.standing c ≡ Stood v p → Stands l c (Finds_none v) p
+stood_stands : (l : Ledger) (c v p : ℕ) → l.standing c ≡ Stood v p → Stands l c (FindsNone v) p
 unfolding spot
 stood_stands l c v p e = rw e refl
 
@@ -161,7 +161,7 @@ module _ (shape : Shape) (w : ℕ → ℕ) (p : ℕ → Option Running) (l : Led
       rw (← (same_Some (record { role = Gets o v; point = q }) s e)) (g.started, g.ended, g.at_head.past)
   within_of c (Stood v q) s k e =
       let g : StoodOk shape l c v q = inv.calls.stood c v q k in
-      rw (← (same_Some (record { role = Finds_none v; point = q }) s e)) (g.started, (λ y z. omega (arith, g.ended y z)), g.at_tail.past)
+      rw (← (same_Some (record { role = FindsNone v; point = q }) s e)) (g.started, (λ y z. omega (arith, g.ended y z)), g.at_tail.past)
 
   refused : (c : ℕ) (x : Answer) → RoleAnswers (λ o. item_of (l.begin o)) x Refused → l.standing c ≡ Outside → l.answer c ≡ Some x → (s : Spot) × (spot l c ≡ Some s) × RoleAnswers (λ o. item_of (l.begin o)) x s.role
   refused c x h k e =
@@ -181,7 +181,7 @@ module _ (shape : Shape) (w : ℕ → ℕ) (p : ℕ → Option Running) (l : Led
   finished_of c Busy Outside k e h = refused c Busy tt k e
   finished_of c Worn Outside k e h = refused c Worn tt k e
   finished_of c (Got item) (Took o v q) k e h = (record { role = Gets o v; point = q }, took_stands l c o v q k, h)
-  finished_of c Empty (Stood v q) k e h = (record { role = Finds_none v; point = q }, stood_stands l c v q k, tt)
+  finished_of c Empty (Stood v q) k e h = (record { role = FindsNone v; point = q }, stood_stands l c v q k, tt)
   finished_of c x st k e h = absurd h
 
   unfinished_of : (c : ℕ) (x : Standing) (s : Spot) → l.standing c ≡ x → l.answer c ≡ None → spot_of l c x ≡ Some s → (v : ℕ) × ((i : ℕ) × (s.role ≡ Puts v i))

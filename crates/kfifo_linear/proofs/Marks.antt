@@ -14,7 +14,7 @@ use Rattle.kfifo_model.specs.Validity.{IsHistory}
 use Rattle.kfifo_machine.specs.declared.place.Running.{Running}
 use Rattle.kfifo_machine.specs.Calls.{Log}
 use Rattle.kfifo_linear.specs.Ledger.{Ledger, item_of}
-use Rattle.kfifo_linear.specs.Roles.{Role, Puts, Gets, Finds_none, Refused, Spot, spot}
+use Rattle.kfifo_linear.specs.Roles.{Role, Puts, Gets, FindsNone, Refused, Spot, spot}
 use Rattle.kfifo_linear.specs.Points.{IsTakeOf, PointsFit, StandsFit, IsNoLater}
 use Rattle.kfifo_linear.specs.Order.{stands, point, point_of, role_of, visit_of, slot_of, source_of, number_at, marks_of}
 use Rattle.kfifo_linear.proofs.Claims.{segment_of}
@@ -28,17 +28,17 @@ use Rattle.kfifo_linear.proofs.Acts.{Acts, acts, known, finished_stands, may_sta
 adds_put : (items : ℕ → ℕ) (own : ℕ) (role : Role) (x : ℕ) → Acts items own role (M.Adds x) → (v : ℕ) × ((i : ℕ) × (role ≡ Puts v i))
 adds_put items own (Puts v i) x a = (v, (i, refl))
 adds_put items own (Gets o v) x a = absurd (cc)
-adds_put items own (Finds_none v) x a = absurd (cc)
+adds_put items own (FindsNone v) x a = absurd (cc)
 adds_put items own Refused x a = absurd (cc)
 
 takes_get : (items : ℕ → ℕ) (own : ℕ) (role : Role) (x : ℕ) → Acts items own role (M.Takes x) → (o : ℕ) × ((v : ℕ) × ((role ≡ Gets o v) × (x ≡ items o)))
 takes_get items own (Gets o v) x a = (o, (v, (refl, cc)))
 takes_get items own (Puts v i) x a = absurd (cc)
-takes_get items own (Finds_none v) x a = absurd (cc)
+takes_get items own (FindsNone v) x a = absurd (cc)
 takes_get items own Refused x a = absurd (cc)
 
-none_stood : (items : ℕ → ℕ) (own : ℕ) (role : Role) → Acts items own role M.Finds_none → (v : ℕ) × (role ≡ Finds_none v)
-none_stood items own (Finds_none v) a = (v, refl)
+none_stood : (items : ℕ → ℕ) (own : ℕ) (role : Role) → Acts items own role M.FindsNone → (v : ℕ) × (role ≡ FindsNone v)
+none_stood items own (FindsNone v) a = (v, refl)
 none_stood items own (Puts v i) a = absurd (cc)
 none_stood items own (Gets o v) a = absurd (cc)
 none_stood items own Refused a = absurd (cc)
@@ -46,7 +46,7 @@ none_stood items own Refused a = absurd (cc)
 never_wrong : (items : ℕ → ℕ) (own : ℕ) (role : Role) → Acts items own role M.Wrong → ⊥
 never_wrong items own (Puts v i) a = cc
 never_wrong items own (Gets o v) a = cc
-never_wrong items own (Finds_none v) a = cc
+never_wrong items own (FindsNone v) a = cc
 never_wrong items own Refused a = cc
 
 spot_is : (o : Option Spot) → is_some o ≡ true → (s : Spot) × (o ≡ Some s)
@@ -76,7 +76,7 @@ pub record Get (l : Ledger) (g x : ℕ) : Type 0 where
 pub record Found_none (l : Ledger) (e : ℕ) : Type 0 where
   pub visit : ℕ
   pub point : ℕ
-  pub stands : Stands l e (Finds_none visit) point
+  pub stands : Stands l e (FindsNone visit) point
 
 -- two slots of one segment that have one place in it
 one_slot : (shape : Shape) (i j : ℕ) → 0 < i → 0 < j → segment_of shape i ≡ segment_of shape j → (i - 1) % shape.k ≡ (j - 1) % shape.k → i ≡ j
@@ -104,10 +104,10 @@ module _ (shape : Shape) (w : ℕ → ℕ) (p : ℕ → Option Running) (log : L
       let r = takes_get (λ o. item_of (l.begin o)) (item_of (l.begin g)) s.0.role x (acts_of g s.0 s.1 (M.Takes x) is) in
       record { source = r.0; visit = r.1.0; point = s.0.point; stands = s.1 ∙ ap (λ q. Some (record { role = q; point = s.0.point })) r.1.1.0; item = r.1.1.1 }
 
-  none_of : (e : ℕ) → stands l e ≡ true → does log.calls e ≡ M.Finds_none → Found_none l e
+  none_of : (e : ℕ) → stands l e ≡ true → does log.calls e ≡ M.FindsNone → Found_none l e
   none_of e st is =
       let s = spot_is (spot l e) st in
-      let r = none_stood (λ o. item_of (l.begin o)) (item_of (l.begin e)) s.0.role (acts_of e s.0 s.1 M.Finds_none is) in
+      let r = none_stood (λ o. item_of (l.begin o)) (item_of (l.begin e)) s.0.role (acts_of e s.0 s.1 M.FindsNone is) in
       record { visit = r.0; point = s.0.point; stands = s.1 ∙ ap (λ q. Some (record { role = q; point = s.0.point })) r.1 }
 
   -- what is marked on a call that stands so
@@ -215,13 +215,13 @@ module _ (shape : Shape) (w : ℕ → ℕ) (p : ℕ → Option Running) (log : L
         empty_ends = λ e st is.
             let none = none_of e st is in
             let at = facts.none_tail e none.visit none.point none.stands in
-            let q = at_point e none.point (Finds_none none.visit) none.stands in
+            let q = at_point e none.point (FindsNone none.visit) none.stands in
             ap (number_at l.heads l.head) q ∙ head_is none.visit none.point at.1 ∙ sym (tail_is none.visit none.point at.0) ∙ sym (ap (number_at l.tails l.tail) q);
         empty_visit = λ e c st is a le same.
             let none = none_of e st is in
             let put = put_of c a.1 a.0 a.2 in
             let at = facts.none_tail e none.visit none.point none.stands in
-            let q = at_point e none.point (Finds_none none.visit) none.stands in
+            let q = at_point e none.point (FindsNone none.visit) none.stands in
             let r = at_point c put.point (Puts put.visit put.index) put.stands in
             let lt : put.visit < none.visit = facts.none_before e none.visit none.point c put.visit put.index put.point none.stands put.stands (omega arith) in
             let head : number_at l.heads l.head (point l e) ≡ none.visit = ap (number_at l.heads l.head) q ∙ head_is none.visit none.point at.1 in
@@ -252,7 +252,7 @@ module _ (shape : Shape) (w : ℕ → ℕ) (p : ℕ → Option Running) (log : L
 
 -- a call that found none has its point at its last step
 pub none_at_end : (shape : Shape) (w : ℕ → ℕ) (p : ℕ → Option Running) (log : Log) (l : Ledger) (place : ℕ) → Inv shape w p l → Facts shape l → Agrees log l place → IsHistory log.calls
-    → (c : ℕ) (end : End) → does log.calls c ≡ M.Finds_none → (call log.calls c).end ≡ Some end → point l c ≡ end.last
+    → (c : ℕ) (end : End) → does log.calls c ≡ M.FindsNone → (call log.calls c).end ≡ Some end → point l c ≡ end.last
 none_at_end shape w p log l place inv facts h good c end is at =
     let s = finished_stands shape w p log l place inv facts h good c (subst HasEnd (sym at) tt) in
     let less = known shape w p log l place inv facts h good c s.0 s.1 in

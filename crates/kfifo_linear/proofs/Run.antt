@@ -5,7 +5,7 @@ use Rattle.std.proofs.lemmas.Bool.{cases_lt}
 use Rattle.std.proofs.lemmas.List.{map_push, map-append, length-map, get_or_at}
 use Rattle.std.proofs.lemmas.Option.{slice_get-get_or}
 use Rattle.kfifo_model.specs.Lists.{IsIn, EachPair}
-use Rattle.kfifo_model.specs.Relaxed.{Effect, Adds, Takes, Finds_none, Refused, Wrong, Leaves, IsRun}
+use Rattle.kfifo_model.specs.Relaxed.{Effect, Adds, Takes, FindsNone, Refused, Wrong, Leaves, IsRun}
 use Rattle.kfifo_linear.specs.Points.{Marks, IsAdd, IsTakeOf, PointsFit, IsEarlier, IsByPoint}
 use Rattle.kfifo_model.proofs.Lists.{in_append, in_left, in_right, IsParted, parted, each_at, pairs_front, pairs_back, pairs_across, pairs_push, in_less, in_more, pairs_less, pairs_weaker, pairs_map, in_map, at_most, Differ}
 
@@ -241,7 +241,7 @@ step_taken k act m done queue rest c x f n q h p go =
     )
 
 -- at an Empty nothing stands in the queue
-nothing_left : (k : ℕ) (act : ℕ → Effect) (m : Marks) (done queue : List ℕ) (c d : ℕ) → PointsFit k act m → IsNext m done c → act c ≡ Finds_none → Holds act m done queue → IsIn d queue → ⊥
+nothing_left : (k : ℕ) (act : ℕ → Effect) (m : Marks) (done queue : List ℕ) (c d : ℕ) → PointsFit k act m → IsNext m done c → act c ≡ FindsNone → Holds act m done queue → IsIn d queue → ⊥
 nothing_left k act m done queue c d f n q h i =
     let add : IsAdd act m d = h.is_add d i in
     let le : m.point d ≤ m.point c = (n.later d (h.is_done d i)).0 in
@@ -266,7 +266,7 @@ step k act m done queue rest c f n h go (Takes x) q =
     let a : IsAdd act m (m.source c) = (f.source_stands c x n.stands q, x, f.source_adds c x n.stands q) in
     let t : IsTakeOf act m (m.source c) c = (n.stands, x, q, refl) in
     step_taken k act m done queue rest c x f n q h (parted (m.source c) queue (found k act m done queue c (m.source c) f n h a t)) go
-step k act m done queue rest c f n h go Finds_none q =
+step k act m done queue rest c f n h go FindsNone q =
     let none = is_nil queue (λ d i. nothing_left k act m done queue c d f n q h i) in (
       map (item act) queue,
       (ap (map (item act)) none, ap (map (item act)) none),

@@ -20,7 +20,7 @@ use Rattle.kfifo_linear.specs.declared.action.Action.{Action}
 use Rattle.kfifo_linear.specs.declared.action.Action.TheVariants.{HoldHead, LoadEnds, MoveHead, MoveTail, Unnoted, Put, Recheck, RecheckEmpty, ReloadEnds, Take, Undo}
 use Rattle.kfifo_linear.specs.declared.notes.Whereabouts.{Whereabouts}
 use Rattle.kfifo_linear.specs.declared.notes.Whereabouts.TheVariants.{At, InSlot, Nowhere}
-use Rattle.kfifo_linear.specs.Ledger.{Gone, Inside, Ledger, Outside, Standing, Stood, Took, called, did, gone_point, is_inside, noted, took_point, settle_point, settle_visit, standing_after}
+use Rattle.kfifo_linear.specs.Ledger.{Gone, Inside, Ledger, Outside, Standing, Stood, Took, called, after_action, gone_point, is_inside, noted, took_point, settle_point, settle_visit, standing_after}
 use Rattle.kfifo_linear.specs.Notes.{Notes, ended, later, left_at, leaves, marked, own_call, caller, slot, whereabouts}
 use Rattle.kfifo_linear.specs.Notes as note
 use Rattle.kfifo_linear.specs.Following.{Tells, TellVisits, brief}
@@ -67,7 +67,7 @@ CanTell shape l n t other = Unit {0}
 module _ (shape : Shape) (l : Ledger) (n : Notes) (t ends : ℕ) (r : Running) (h : Tells l n) (thread : t < length n.callers) (known : l.caller t < length n.calls) (unended : l.last (l.caller t) ≡ None) (near : l.tail ≤ l.head + length n.tails) (some_heads : 0 < length n.heads) (some_tails : 0 < length n.tails) where
   -- after an action of a call that goes on
   abbrev Told : Action → Type 0
-  Told what = Tells (did shape t ends what (Goes r) l) (later (marked shape t ends what n))
+  Told what = Tells (after_action shape t ends what (Goes r) l) (later (marked shape t ends what n))
 
   tells_nothing : Told Unnoted
   tells_nothing = record { step = ap (λ x. x + 1) h.step; head = h.head; tail = h.tail; heads = h.heads; tails = h.tails; owner = h.owner; settled = h.settled; point = h.point; own = h.own; head_seen = h.head_seen; begun = h.begun; calls = h.calls }
@@ -353,7 +353,7 @@ length-marked_calls shape n t ends what = grind (arith, length-set)
 
 module _ (shape : Shape) (l : Ledger) (n : Notes) (t ends : ℕ) (h : Tells l n) (thread : t < length n.callers) (known : l.caller t < length n.calls) (unended : l.last (l.caller t) ≡ None) (near : l.tail ≤ l.head + length n.tails) (some_heads : 0 < length n.heads) (some_tails : 0 < length n.tails) where
   -- after an action with which the call ends
-  told_end : (what : Action) (x : Answer) (r : Running) → Tells (did shape t ends what (Goes r) l) (later (marked shape t ends what n)) → Tells (did shape t ends what (Answers x) l) (later (ended t (Ended x) (marked shape t ends what n)))
+  told_end : (what : Action) (x : Answer) (r : Running) → Tells (after_action shape t ends what (Goes r) l) (later (marked shape t ends what n)) → Tells (after_action shape t ends what (Answers x) l) (later (ended t (Ended x) (marked shape t ends what n)))
   told_end what x r g =
       let own : own_call (marked shape t ends what n) t ≡ l.caller t = g.own t in
       let step : (marked shape t ends what n).step ≡ l.now = omega (arith, g.step) in
@@ -383,7 +383,7 @@ module _ (shape : Shape) (l : Ledger) (n : Notes) (t ends : ℕ) (h : Tells l n)
       }
 
   -- after any step
-  pub told : (what : Action) (next : Next) → CanTell shape l n t what → Tells (did shape t ends what next l) (later (ended t (outcome_of next) (marked shape t ends what n)))
+  pub told : (what : Action) (next : Next) → CanTell shape l n t what → Tells (after_action shape t ends what next l) (later (ended t (outcome_of next) (marked shape t ends what n)))
   told what (Goes r) can = tells_marked shape l n t ends r h thread known unended near some_heads some_tails what can
   told what (Answers x) can = told_end what x any (tells_marked shape l n t ends any h thread known unended near some_heads some_tails what can)
     where

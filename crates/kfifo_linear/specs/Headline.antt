@@ -4,7 +4,7 @@ use Rattle.kfifo_words.specs.declared.shape.Shape.{Shape}
 use Rattle.kfifo_model.specs.Lists.{IsIn}
 use Rattle.kfifo_model.specs.declared.calls.Call.{Call}
 use Rattle.kfifo_model.specs.declared.calls.End.{End}
-use Rattle.kfifo_model.specs.Relaxed.{Adds, Takes, Finds_none}
+use Rattle.kfifo_model.specs.Relaxed.{Adds, Takes, FindsNone}
 use Rattle.kfifo_model.specs.Histories.{call, does, IsLegal}
 use Rattle.kfifo_model.specs.Measures.{IsDoneEnqueue, HasDistinctItems}
 use Rattle.kfifo_model.specs.Overtaking.{overtaken_in, certainly_overtaken, AddsAreDistinct}
@@ -57,9 +57,9 @@ pub record OrderLaws (h : List Call) (m : Marks) : Type 0 where
   pub point_to : (c : ℕ) → m.stands c ≡ true → IsNoLater (m.point c) (call h c).end
   -- at the last step of a call that found the queue empty, which is its point, the tail is in the head's visit, and no
   -- enqueue of an item of that visit has its point there or before
-  pub empty_point : (e : ℕ) (end : End) → does h e ≡ Finds_none → (call h e).end ≡ Some end → m.point e ≡ end.last
-  pub empty_ends : (e : ℕ) (end : End) → does h e ≡ Finds_none → (call h e).end ≡ Some end → m.head end.last ≡ m.tail end.last
-  pub empty_visit : (e c : ℕ) (end : End) → does h e ≡ Finds_none → (call h e).end ≡ Some end → IsAdd (does h) m c
+  pub empty_point : (e : ℕ) (end : End) → does h e ≡ FindsNone → (call h e).end ≡ Some end → m.point e ≡ end.last
+  pub empty_ends : (e : ℕ) (end : End) → does h e ≡ FindsNone → (call h e).end ≡ Some end → m.head end.last ≡ m.tail end.last
+  pub empty_visit : (e c : ℕ) (end : End) → does h e ≡ FindsNone → (call h e).end ≡ Some end → IsAdd (does h) m c
       → m.visit c ≡ m.head end.last → end.last < m.point c
 
 -- These laws hold of every schedule

@@ -27,12 +27,12 @@ abbrev pub action_if : Bool → Action → Action
 action_if true action = action
 action_if false action = Unnoted
 
--- what an enqueue's reload of the ends did, its item being in a slot of this segment: it is between head and tail, or not
+-- what an enqueue's reload of the ends after_action, its item being in a slot of this segment: it is between head and tail, or not
 abbrev pub settles : Shape → ℕ → ℕ → ℕ → Action
 settles shape segment index word =
     action_if (not (segment == head_of word) && nat_le (distance shape.n (head_of word) segment) (distance shape.n (head_of word) (tail_of word))) (ReloadEnds index segment)
 
--- what a step of an enqueue did that found this word
+-- what a step of an enqueue after_action that found this word
 abbrev pub enqueue_action : Shape → EnqueuePhase → ℕ → Action
 enqueue_action shape E.LoadEnds word = LoadEnds
 enqueue_action shape (E.ScanTail ends offset) word = Unnoted
@@ -57,7 +57,7 @@ dequeue_action (D.MoveTail ends index filled) word = action_if (word == ends) Mo
 dequeue_action (D.Take ends index filled) word = action_if (word == filled) (Take index)
 dequeue_action (D.MoveHead ends) word = action_if (word == ends) MoveHead
 
--- what a step from this place did
+-- what a step from this place after_action
 abbrev pub action : Shape → Running → ℕ → Action
 action shape (R.Enqueue item start left phase) word = enqueue_action shape phase word
 action shape (R.Dequeue start left phase) word = dequeue_action phase word
@@ -241,8 +241,8 @@ answer_after (Goes running) l call c = l.answer c
 answer_after (Answers answer) l call c = noted l.answer call (Some answer) c
 
 -- the ledger after a step that does this action, finds these ends, and after which the thread does this
-abbrev pub did : Shape → ℕ → ℕ → Action → Next → Ledger → Ledger
-did shape thread ends what next l =
+abbrev pub after_action : Shape → ℕ → ℕ → Action → Next → Ledger → Ledger
+after_action shape thread ends what next l =
     record {
       now = l.now + 1;
       head = head_after what l;
@@ -276,7 +276,7 @@ found_in shape words running = words (accessed (access shape running))
 -- the ledger after the step of a thread at this place
 unfoldable pub stepped : Shape → (ℕ → ℕ) → ℕ → Running → Ledger → Ledger
 stepped shape words thread running l =
-    did shape thread (words 0) (action shape running (found_in shape words running)) (advance shape running (found_in shape words running)) l
+    after_action shape thread (words 0) (action shape running (found_in shape words running)) (advance shape running (found_in shape words running)) l
 
 -- a call begins
 unfoldable pub called : ℕ → Begin → Ledger → Ledger

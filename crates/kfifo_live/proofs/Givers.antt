@@ -39,7 +39,7 @@ use Rattle.kfifo_machine.proofs.Versions.{one_word, won_word, word_rises}
 use Rattle.kfifo_live.specs.declared.view.Opening.{Opening}
 use Rattle.kfifo_live.specs.Schedule.{HolderLaw, world_after}
 use Rattle.kfifo_live.specs.Hands.{Gifts, InTurn, beside, item_begun, items_begun, last_gift, own_item, out_at, out_in}
-use Rattle.kfifo_live.specs.Payloads.{PayKnown, TakesAtLast, TookWhatWasPut, WasPutWith}
+use Rattle.kfifo_live.specs.Payloads.{PayPassView, TakesAtLast, TookWhatWasPut, WasPutWith}
 use Rattle.kfifo_live.proofs.Balance.{Knows, know_after, value-zero}
 use Rattle.kfifo_live.proofs.Holders.{begin_free_before}
 use Rattle.kfifo_live.proofs.Turns.{items_begun-append}
@@ -882,7 +882,7 @@ took_last o thread start turns token old new run =
     ]
 
 -- What a pass took was put with the payload that it hands back
-pub took_what_was_put : {T : Type 0} (token : ℕ) (payload : T) (p : PayKnown T) (start turns : ℕ) (old : List Event)
+pub took_what_was_put : {T : Type 0} (token : ℕ) (payload : T) (p : PayPassView T) (start turns : ℕ) (old : List Event)
     → CompleteExecution p.pass.opened.shape p.pass.opened.threads p.pass.thread (B.Dequeue start turns) (Got token) old p.pass.seen
     → 0 < token → HolderLaw p.pass.opened p.pass.seen → InTurn p.pass.seen p.gifts → beside token p.gifts ≡ Some payload
     → TookWhatWasPut token payload p

@@ -24,7 +24,7 @@ use Rattle.kfifo_live.specs.Balance.{times, undos, takes}
 use Rattle.kfifo_live.specs.Hands.{Gifts, In, beside}
 use Rattle.kfifo_live.specs.Left.{item_in, slots_left, segments_left, items_left}
 use Rattle.kfifo_live.specs.Pass.{OpenQueue}
-use Rattle.kfifo_live.specs.Payloads.{HavePayloads, IsPayPass, PayCloses, in_slot, pay_known_of}
+use Rattle.kfifo_live.specs.Payloads.{HavePayloads, IsPayPass, PayCloses, in_slot, pay_pass_view}
 use Rattle.kfifo_live.specs.Schedule.{AllGiven, OneSchedule, seen_of, world_after}
 use Rattle.kfifo_live.proofs.Balance.{balance}
 use Rattle.kfifo_live.proofs.Gathered.{final_head, pass_begins}
@@ -277,7 +277,7 @@ module _ {T : Type 0} (q : OpenQueue) (table : TableId) {thread room id : ℕ} {
   unfolding tokens
   left_payloads = have_payloads slots kept.gifts tokens all_filled tokens_once
 
-  pub pay_closes : (payloads : List T) → map Some payloads ≡ map (in_slot slots) (items_left q.opened.shape words) → PayCloses q (pay_known_of table thread me.0) payloads
+  pub pay_closes : (payloads : List T) → map Some payloads ≡ map (in_slot slots) (items_left q.opened.shape words) → PayCloses q (pay_pass_view table thread me.0) payloads
   unfolding kept tokens
   pay_closes payloads are =
       let o = q.opened in

@@ -25,7 +25,7 @@ use Rattle.kfifo_machine.specs.Runs.{AllGoOn, CompleteExecution, event, own}
 use Rattle.kfifo_machine.proofs.Schedules.{own-append, run_before}
 use Rattle.kfifo_live.specs.declared.view.Opening.{Opening}
 use Rattle.kfifo_live.specs.Schedule.{begins_tick, ticks, world_after}
-use Rattle.kfifo_live.specs.Pass.{Known, IsSame}
+use Rattle.kfifo_live.specs.Pass.{PassView, IsSamePass}
 use Rattle.kfifo_live.specs.Promise.{calls_of}
 use Rattle.kfifo_live.specs.Calls.{HasCause, IsDisturbed, LeavesNoItem, Makes, added}
 use Rattle.kfifo_live.specs.Stamps.{Draws, HasCalls, IsLog, IsLogIn, IsStamped, MakesStamped, logged_by, stamped_call}
@@ -146,7 +146,7 @@ record DrawsIn (o : Opening) (thread stamp : ℕ) (old new : List Event) : Type 
   made : step o.shape here (event thread (Some Tick)) ≡ Ok (ticked o.shape here, Went)
   new_is : new ≡ (old ++ between) ++ event thread (Some Tick) ∷ []
 
-draws_in : (o : Opening) (thread stamp : ℕ) (p q : Known) → p.opened ≡ o → p.thread ≡ thread → Draws stamp p q → DrawsIn o thread stamp p.seen q.seen
+draws_in : (o : Opening) (thread stamp : ℕ) (p q : PassView) → p.opened ≡ o → p.thread ≡ thread → Draws stamp p q → DrawsIn o thread stamp p.seen q.seen
 draws_in o thread stamp p q opened same d =
     subst (λ (x : Opening × ℕ). DrawsIn x.0 x.1 stamp p.seen q.seen) (λ i. (opened i, same i)) record {
       between = d.between;
@@ -287,7 +287,7 @@ module _ (o : Opening) (thread first last : ℕ) (begin : Begin) (answer : Answe
   adds = adds_between thread _ _ _ _ made_call refl (draw_keeps o thread first old begun a few) run.adds (draw_keeps o thread last ended new b few)
 
   -- the log has one call more
-  logs_on : (log : List Call) (p u : Known) → p.opened ≡ o → u.opened ≡ o → p.thread ≡ thread → u.thread ≡ thread → p.seen ≡ old → u.seen ≡ new → length log < o.calls → IsLog p log → IsLog u (log ++ the_call ∷ [])
+  logs_on : (log : List Call) (p u : PassView) → p.opened ≡ o → u.opened ≡ o → p.thread ≡ thread → u.thread ≡ thread → p.seen ≡ old → u.seen ≡ new → length log < o.calls → IsLog p log → IsLog u (log ++ the_call ∷ [])
   logs_on log p u p_opened u_opened p_thread u_thread p_seen u_seen room is =
       let size : length (log ++ the_call ∷ []) ≡ length log + 1 = length-append log (the_call ∷ []) in
       let Q : Opening × ℕ × List Event → Type 0 = λ x. IsLogIn x.0 x.1 x.2 (log ++ the_call ∷ []) in
@@ -311,8 +311,8 @@ module _ (o : Opening) (thread first last : ℕ) (begin : Begin) (answer : Answe
       (subst Q (λ i. (sym u_opened i, sym u_thread i, sym u_seen i)) new_log)
 
 -- The same of passes, step by step
-module _ (p q r u : Known) (begin : Begin) (answer : Answer) (first last : ℕ) (log : List Call) (is : IsLog p log) (room : length log < p.opened.calls) (no_tick : begins_tick (Some begin) ≡ false)
-    (a : Draws first p q) (same : IsSame q r) (makes : Makes begin answer q r) where
+module _ (p q r u : PassView) (begin : Begin) (answer : Answer) (first last : ℕ) (log : List Call) (is : IsLog p log) (room : length log < p.opened.calls) (no_tick : begins_tick (Some begin) ≡ false)
+    (a : Draws first p q) (same : IsSamePass q r) (makes : Makes begin answer q r) where
   drawn_first : DrawsIn p.opened p.thread first p.seen q.seen
   drawn_first = draws_in p.opened p.thread first p q refl refl a
 
@@ -359,17 +359,17 @@ pub has_room : (n m calls len : ℕ) → n ≤ m → m ≡ calls → len ≡ n �
 has_room n m calls len le same size ne = elim (cases_lt n m) [ inl less ↦ less | inr ge ↦ absurd (ne (omega arith)) ]
 
 -- What is known of a stamped call: a tick, a run, a tick
-pub record StampedRun (p q r u : Known) (begin : Begin) (answer : Answer) (first last : ℕ) (log : List Call) : Type 0 where
+pub record StampedRun (p q r u : PassView) (begin : Begin) (answer : Answer) (first last : ℕ) (log : List Call) : Type 0 where
   pub is : IsLog p log
   pub room : length log < p.opened.calls
   pub no_tick : begins_tick (Some begin) ≡ false
   pub few : p.opened.threads ≤ 64
   pub draws_first : Draws first p q
-  pub same : IsSame q r
+  pub same : IsSamePass q r
   pub makes : Makes begin answer q r
   pub draws_last : Draws last r u
 
-module _ {p q r u : Known} {begin : Begin} {answer : Answer} {first last : ℕ} {log : List Call} (s : StampedRun p q r u begin answer first last log) where
+module _ {p q r u : PassView} {begin : Begin} {answer : Answer} {first last : ℕ} {log : List Call} (s : StampedRun p q r u begin answer first last log) where
   -- where its call was logged under the pass's own number, the log is one
   module _ (thread : ℕ) (items : List Call) (mine : thread ≡ u.thread) (logged : items ≡ log ++ stamped_call thread (op_asked begin) first last answer ∷ []) where
     added_call : items ≡ log ++ stamped_call p.thread (op_asked begin) first last answer ∷ []

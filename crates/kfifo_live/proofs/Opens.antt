@@ -10,8 +10,8 @@ use Rattle.kfifo_live.specs.declared.view.View.{View}
 use Rattle.kfifo_live.specs.Schedule.{IsSmall, part, view_of, fresh, first_hand, seen_of, gifts_of, hand_of, first_part, other_parts}
 use Rattle.kfifo_live.specs.Hands.{carrying}
 use Rattle.kfifo_live.specs.Step.{IsAt}
-use Rattle.kfifo_live.specs.Pass.{OpenQueue, new_passes, IsOf, IsPass, IsZeroed}
-use Rattle.kfifo_live.specs.Payloads.{PayKnown, new_pay_passes}
+use Rattle.kfifo_live.specs.Pass.{OpenQueue, new_passes, IsPassOf, IsPass, IsZeroed}
+use Rattle.kfifo_live.specs.Payloads.{PayPassView, new_pay_passes}
 use Rattle.kfifo_live.specs.Stamps.{Logged, logged_by, new_logs}
 
 pub fresh_more : {T : Type 0} (tokens first count : ℕ) → first < count → fresh {T = T} tokens first (count - first) ≡ part first [] [] (first_hand tokens first) ∷ fresh tokens (first + 1) (count - (first + 1))
@@ -73,15 +73,15 @@ zeroed o world reached index = ap (λ (w : World). get_or w.words index 0) (sym 
     all_zero (suc n) (suc i) = all_zero n i
 
 -- the passes of an opening came from it
-pub passes_of_new : (q : OpenQueue) (first count : ℕ) → All (IsOf q) (new_passes q first count)
+pub passes_of_new : (q : OpenQueue) (first count : ℕ) → All (IsPassOf q) (new_passes q first count)
 passes_of_new q first zero k d less = absurd (omega (arith, less))
 passes_of_new q first (suc count) zero d less = (refl, refl)
 passes_of_new q first (suc count) (suc k) d less = passes_of_new q (suc first) count k d (omega (arith, less))
 
-pub logs_of_new : (q : OpenQueue) (first count : ℕ) → All (λ p. IsOf q p.pass) (new_logs (new_passes q first count))
-logs_of_new q first count = All-map (λ (p : Logged). IsOf q p.pass) (λ p. logged_by p []) (new_passes q first count) (passes_of_new q first count)
+pub logs_of_new : (q : OpenQueue) (first count : ℕ) → All (λ p. IsPassOf q p.pass) (new_logs (new_passes q first count))
+logs_of_new q first count = All-map (λ (p : Logged). IsPassOf q p.pass) (λ p. logged_by p []) (new_passes q first count) (passes_of_new q first count)
 
-pub pay_passes_of_new : {T : Type 0} (q : OpenQueue) (first count : ℕ) → All (λ (p : PayKnown T). IsOf q p.pass) (new_pay_passes q first count)
+pub pay_passes_of_new : {T : Type 0} (q : OpenQueue) (first count : ℕ) → All (λ (p : PayPassView T). IsPassOf q p.pass) (new_pay_passes q first count)
 pay_passes_of_new q first zero k d less = absurd (omega (arith, less))
 pay_passes_of_new q first (suc count) zero d less = (refl, refl)
 pay_passes_of_new q first (suc count) (suc k) d less = pay_passes_of_new q (suc first) count k d (omega (arith, less))

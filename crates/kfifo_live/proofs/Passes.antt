@@ -22,7 +22,7 @@ use Rattle.kfifo_live.specs.Hands.{Gifts, carrying}
 use Rattle.kfifo_live.specs.declared.view.Hand.{Hand}
 use Rattle.kfifo_live.specs.Schedule.{gifts_of, hand_of, hand_in, stamped_opening, IsSmall, part, view_of, world_after, thread_in, thread_of, more_in, seen_of, with_seen, AllBegin, first_part, other_parts, no_part, both_parts}
 use Rattle.kfifo_live.specs.Step.{IsAt, DrawsStamp, Looks, Leads, Runs}
-use Rattle.kfifo_live.specs.Pass.{Known, OpenQueue, queue_of, StartsWith, IsPass, known_of, Finds}
+use Rattle.kfifo_live.specs.Pass.{PassView, OpenQueue, queue_of, StartsWith, IsPass, pass_view, Finds}
 use Rattle.kfifo_live.specs.Promise.{KeepsPromise}
 use Rattle.kfifo_live.specs.Calls.{Makes}
 use Rattle.kfifo_live.specs.Stamps.{Draws}
@@ -78,7 +78,7 @@ looked {T} thread index word old new p held l =
 
 -- and what the look found
 pub finds : {T : Type 0} (table table' : TableId) (thread index word : ℕ) (old new : Me (Option T) (View T)) → IsPass thread old → Looks index word old.0 new.0
-    → Finds (known_of table thread old.0) (known_of table' thread new.0) index word
+    → Finds (pass_view table thread old.0) (pass_view table' thread new.0) index word
 unfolding word_at
 finds {T} table table' thread index word old new p l =
     let b = subst (λ (ps : List (Part T)). AllBegin ps l.all) p.alone l.begin in
@@ -91,9 +91,9 @@ finds {T} table table' thread index word old new p l =
     }
 
 -- a pass of a plain queue has no tokens
-pub no_tokens : {T : Type 0} {table : TableId} {thread : ℕ} (v : View T) {p : Known} {q : OpenQueue} {shape : Shape} {threads calls : ℕ} {of : TableId} → known_of table thread v ≡ p → p.opened ≡ q.opened
+pub no_tokens : {T : Type 0} {table : TableId} {thread : ℕ} (v : View T) {p : PassView} {q : OpenQueue} {shape : Shape} {threads calls : ℕ} {of : TableId} → pass_view table thread v ≡ p → p.opened ≡ q.opened
     → queue_of of (stamped_opening shape threads calls) ≡ q → v.opened.tokens ≡ 0
-no_tokens v pass opened queue = ap (λ (k : Known). k.opened.tokens) pass ∙ ap (λ (o : Opening). o.tokens) opened ∙ sym (ap (λ (q : OpenQueue). q.opened.tokens) queue)
+no_tokens v pass opened queue = ap (λ (k : PassView). k.opened.tokens) pass ∙ ap (λ (o : Opening). o.tokens) opened ∙ sym (ap (λ (q : OpenQueue). q.opened.tokens) queue)
 
 -- after a call
 pub called : {T : Type 0} (begin : Begin) (answer : Answer) (thread : ℕ) (old new : Me (Option T) (View T)) → IsPass thread old
@@ -138,14 +138,14 @@ drawn {T} stamp thread old new p slots d =
     }
 
 -- and what it drew
-pub draws_known : {T : Type 0} (stamp thread : ℕ) (old new : Seat (Option T) (View T)) (now : Known) → IsPass thread old.me → known_of old.table_id thread old.me.0 ≡ now → new.table_id ≡ old.table_id
-    → DrawsStamp old.me.0 stamp new.me.0 → Draws stamp now (known_of new.table_id thread new.me.0)
+pub draws_known : {T : Type 0} (stamp thread : ℕ) (old new : Seat (Option T) (View T)) (now : PassView) → IsPass thread old.me → pass_view old.table_id thread old.me.0 ≡ now → new.table_id ≡ old.table_id
+    → DrawsStamp old.me.0 stamp new.me.0 → Draws stamp now (pass_view new.table_id thread new.me.0)
 draws_known {T} stamp thread old new now p is table d =
     let v = old.me.0 in
-    let of_pass = subst (λ (t : ℕ). Draws stamp (known_of old.table_id t v) (known_of new.table_id t new.me.0)) (pass_thread thread old.me p) at_thread in
-    subst (λ (k : Known). Draws stamp k (known_of new.table_id thread new.me.0)) is of_pass
+    let of_pass = subst (λ (t : ℕ). Draws stamp (pass_view old.table_id t v) (pass_view new.table_id t new.me.0)) (pass_thread thread old.me p) at_thread in
+    subst (λ (k : PassView). Draws stamp k (pass_view new.table_id thread new.me.0)) is of_pass
   where
-    at_thread : Draws stamp (known_of old.table_id (thread_of old.me.0) old.me.0) (known_of new.table_id (thread_of old.me.0) new.me.0)
+    at_thread : Draws stamp (pass_view old.table_id (thread_of old.me.0) old.me.0) (pass_view new.table_id (thread_of old.me.0) new.me.0)
     at_thread = record {
       between = d.between;
       here = d.here;
@@ -158,14 +158,14 @@ draws_known {T} stamp thread old new now p is table d =
     }
 
 -- and what was new to it is one complete execution
-pub made : {T : Type 0} (call : Begin) (answer : Answer) (thread : ℕ) (old new : Seat (Option T) (View T)) (now : Known) → IsPass thread old.me → known_of old.table_id thread old.me.0 ≡ now
-    → Runs (Some call) old (Answers answer) new → Makes call answer now (known_of new.table_id thread new.me.0)
+pub made : {T : Type 0} (call : Begin) (answer : Answer) (thread : ℕ) (old new : Seat (Option T) (View T)) (now : PassView) → IsPass thread old.me → pass_view old.table_id thread old.me.0 ≡ now
+    → Runs (Some call) old (Answers answer) new → Makes call answer now (pass_view new.table_id thread new.me.0)
 made call answer thread old new now p is runs =
     let run = whole call old.me new.me answer runs.leads in
     let o = old.me.0.opened in
     let of_thread : CompleteExecution o.shape o.threads thread call answer (seen_of old.me.0) (seen_of new.me.0) =
     subst (λ (t : ℕ). CompleteExecution o.shape o.threads t call answer (seen_of old.me.0) (seen_of new.me.0)) (pass_thread thread old.me p) run in
-    subst (λ (k : Known). Makes call answer k (known_of new.table_id thread new.me.0)) is of_thread
+    subst (λ (k : PassView). Makes call answer k (pass_view new.table_id thread new.me.0)) is of_thread
 
 -- after a look with another's parts beside its own, which it then gives back
 pub met : {T : Type 0} (thread word found : ℕ) (old new : Me (Option T) (View T)) (other both seen : View T) → IsPass thread old → new.1 ≡ old.1

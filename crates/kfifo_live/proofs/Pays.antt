@@ -19,9 +19,9 @@ use Rattle.kfifo_live.specs.declared.view.View.{View}
 use Rattle.kfifo_live.specs.Hands.{FitsOwn, Gifts, InTurn, Leaves, BeginsWith, beside, carried, carrying, gift, out_next}
 use Rattle.kfifo_live.specs.Schedule.{AllGiven, GiftsFit, IsSmall, count_up, part, thread_in, more_in, hand_in, both_parts, first_part, thread_of, seen_of, gifts_of, hand_of, with_seen}
 use Rattle.kfifo_live.specs.Step.{IsAt, DrawsToken, Leads, Looks}
-use Rattle.kfifo_live.specs.Pass.{Known, OpenQueue, known_of}
+use Rattle.kfifo_live.specs.Pass.{PassView, OpenQueue, pass_view}
 use Rattle.kfifo_live.specs.Calls.{Makes}
-use Rattle.kfifo_live.specs.Payloads.{new_pay_passes, pay_known_of, IsPayPass, MakesCall, GivesOn, EnqueuesWith, DequeuesWith, Refuses, Gives, TakesOut}
+use Rattle.kfifo_live.specs.Payloads.{new_pay_passes, pay_pass_view, IsPayPass, MakesCall, GivesOn, EnqueuesWith, DequeuesWith, Refuses, Gives, TakesOut}
 use Rattle.kfifo_live.proofs.Givers.{took_what_was_put}
 use Rattle.kfifo_live.proofs.Made.{takes_few_steps, has_cause, is_disturbed, leaves_none}
 use Rattle.kfifo_live.proofs.Opens.{no_slot}
@@ -115,35 +115,35 @@ module _ {T : Type 0} where
         let pass = met thread word found old new other both seen p.pass slots is l kept in
         again p pass.alone pass.held pass.idle met_opened (ap (λ (h : Hand T). h.at_home) met_hand ∙ p.stacked) refl met_fit
 
-    pub met_gives_from : (giver : ℕ) (from : Me (Option T) (View T)) → IsAlone giver from.0 → other ≡ from.0 → (table table_now : TableId) → GivesOn (pay_known_of table giver from.0) (pay_known_of table_now thread new.0)
+    pub met_gives_from : (giver : ℕ) (from : Me (Option T) (View T)) → IsAlone giver from.0 → other ≡ from.0 → (table table_now : TableId) → GivesOn (pay_pass_view table giver from.0) (pay_pass_view table_now thread new.0)
     met_gives_from giver from alone lent table table_now =
         let parts = ap (λ (v : View T). v.parts) is ∙ (λ i. p.pass.alone i ++ (ap (λ (v : View T). v.parts) lent ∙ alone) i) in
         let first = (subst (λ (ps : List (Part T)). AllGiven ps l.gifts) parts l.given).1.0 in
         record { in_turn = met_fit.in_turn; holder_law = met_fit.holder_law met_some; later = first.0; goes_on = ap gifts_of met_view ∙ first.1 }
 
-    pub met_gives : (table table_now : TableId) → GivesOn (pay_known_of table thread old.0) (pay_known_of table_now thread new.0)
+    pub met_gives : (table table_now : TableId) → GivesOn (pay_pass_view table thread old.0) (pay_pass_view table_now thread new.0)
     met_gives table table_now =
         let first = (subst (λ (ps : List (Part T)). AllGiven ps l.gifts) (ap (λ (v : View T). v.parts) is ∙ ap (λ ps. ps ++ other.parts) p.pass.alone) l.given).0 in
         record { in_turn = met_fit.in_turn; holder_law = met_fit.holder_law met_some; later = first.0; goes_on = ap gifts_of met_view ∙ first.1 }
 
   -- a complete execution of a call, with all laws
   pub is_call : (begin : Begin) (answer : Answer) (thread : ℕ) (table table_now : TableId) (old new : Me (Option T) (View T)) → IsAlone thread old.0 → Leads (Some begin) old (Answers answer) new
-      → MakesCall begin answer (known_of table thread old.0) (known_of table_now thread new.0)
+      → MakesCall begin answer (pass_view table thread old.0) (pass_view table_now thread new.0)
   is_call begin answer thread table table_now old new alone leads =
       let o = old.0.opened in
-      let run : Makes begin answer (known_of table thread old.0) (known_of table_now thread new.0) =
+      let run : Makes begin answer (pass_view table thread old.0) (pass_view table_now thread new.0) =
       subst (λ (t : ℕ). CompleteExecution o.shape o.threads t begin answer (seen_of old.0) (seen_of new.0)) (ap thread_in alone) (whole begin old new answer leads) in
       record {
         run = run;
-        few_steps = takes_few_steps begin answer (known_of table thread old.0) (known_of table_now thread new.0) run;
-        cause = has_cause begin answer (known_of table thread old.0) (known_of table_now thread new.0) run;
-        disturbed = is_disturbed begin answer (known_of table thread old.0) (known_of table_now thread new.0) run;
-        leaves_none = leaves_none begin answer (known_of table thread old.0) (known_of table_now thread new.0) run;
+        few_steps = takes_few_steps begin answer (pass_view table thread old.0) (pass_view table_now thread new.0) run;
+        cause = has_cause begin answer (pass_view table thread old.0) (pass_view table_now thread new.0) run;
+        disturbed = is_disturbed begin answer (pass_view table thread old.0) (pass_view table_now thread new.0) run;
+        leaves_none = leaves_none begin answer (pass_view table thread old.0) (pass_view table_now thread new.0) run;
       }
 
   -- gifts of a view of which no more is known
-  fit_now : (thread : ℕ) (table : TableId) (now fin : View T) → known_of table thread now ≡ known_of table thread fin → gifts_of now ≡ gifts_of fin → Fit fin → Fit now
-  fit_now thread table now fin same gifts_same fit = subst (λ (x : Known × Gifts T). GiftsFit x.0.opened x.0.seen x.1) (λ i. (sym same i, sym gifts_same i)) fit
+  fit_now : (thread : ℕ) (table : TableId) (now fin : View T) → pass_view table thread now ≡ pass_view table thread fin → gifts_of now ≡ gifts_of fin → Fit fin → Fit now
+  fit_now thread table now fin same gifts_same fit = subst (λ (x : PassView × Gifts T). GiftsFit x.0.opened x.0.seen x.1) (λ i. (sym same i, sym gifts_same i)) fit
 
   -- a pass whose next token is out, its payload in the slot
   pub record IsReady (thread token : ℕ) (others : List ℕ) (payload : T) (slots : ℕ) (old start : Me (Option T) (View T)) : Type 0 where
@@ -217,11 +217,11 @@ module _ {T : Type 0} where
       turns_given : Fit fin.0
       turns_given = in_turn_as l.now l.in_turn
 
-      enqueued : (table table_now : TableId) (now : View T) → (known_of table_now thread now ≡ known_of table_now thread fin.0) → gifts_of now ≡ gifts_of fin.0
-          → EnqueuesWith token s t answer payload (pay_known_of table thread old.0) (pay_known_of table_now thread now)
+      enqueued : (table table_now : TableId) (now : View T) → (pass_view table_now thread now ≡ pass_view table_now thread fin.0) → gifts_of now ≡ gifts_of fin.0
+          → EnqueuesWith token s t answer payload (pay_pass_view table thread old.0) (pay_pass_view table_now thread now)
       enqueued table table_now now same gifts_same =
           let call = is_call (B.Enqueue token s t) answer thread table table_now start fin alone_ready l in
-          let started : known_of table thread start.0 ≡ known_of table thread old.0 = ap (known_of table thread) r.view in
+          let started : pass_view table thread start.0 ≡ pass_view table thread old.0 = ap (pass_view table thread) r.view in
           let g = l.first in
           let fit = fit_now thread table_now now fin.0 same gifts_same turns_given in
           let made : Begin = B.Enqueue token s t in
@@ -229,13 +229,13 @@ module _ {T : Type 0} where
           let was : seen_of start.0 ≡ seen_of old.0 = ap seen_of r.view in
           let beside_it : gift (Some made) start.1 ≡ (token, Some payload) ∷ [] = ap (λ (v : Option T). (token, v) ∷ []) (ap carried r.held) in
           record {
-            call = subst (λ (x : Known × Known). MakesCall made answer x.0 x.1) (λ i. (started i, sym same i)) call;
+            call = subst (λ (x : PassView × PassView). MakesCall made answer x.0 x.1) (λ i. (started i, sym same i)) call;
             in_turn = fit.in_turn;
-            holder_law = fit.holder_law (subst (λ (k : Known). 0 < k.opened.tokens) (sym same) some_given);
+            holder_law = fit.holder_law (subst (λ (k : PassView). 0 < k.opened.tokens) (sym same) some_given);
             before = g.before;
             after = g.after;
             seen =
-                ap (λ (k : Known). k.seen) same
+                ap (λ (k : PassView). k.seen) same
                 ∙ ap seen_of l.now
                 ∙ append_assoc (seen_of start.0) l.between (l.last ∷ [])
                 ∙ ap (λ es. seen_of start.0 ++ es) g.events_are
@@ -261,11 +261,11 @@ module _ {T : Type 0} where
           let gone : l.hand.out ≡ 0 = left.out ∙ ap (λ a. out_next token (Answers a)) done in
           again p alone_given (l.carries ∙ ap (λ n. carrying start.0.opened.tokens n l.hand.payload) gone ∙ no_slot start.0.opened.tokens l.hand.payload) idle_given opened_given home_given roomy turns_given
 
-      pub done_gives : answer ≡ A.Done → (table table_now : TableId) → Gives s t payload G.Done (pay_known_of table thread old.0) (pay_known_of table_now thread fin.0)
+      pub done_gives : answer ≡ A.Done → (table table_now : TableId) → Gives s t payload G.Done (pay_pass_view table thread old.0) (pay_pass_view table_now thread fin.0)
       done_gives done table table_now = (
         token,
         r.first ∙ ap (λ xs. token ∷ xs) (sym home_given),
-        subst (λ a. EnqueuesWith token s t a payload (pay_known_of table thread old.0) (pay_known_of table_now thread fin.0)) done (enqueued table table_now fin.0 refl refl),
+        subst (λ a. EnqueuesWith token s t a payload (pay_pass_view table thread old.0) (pay_pass_view table_now thread fin.0)) done (enqueued table table_now fin.0 refl refl),
       )
 
       refused_out : (a : Answer) → FitsOwn token (Answers a) → (a ≡ A.Done → ⊥) → out_next token (Answers a) ≡ token
@@ -297,15 +297,15 @@ module _ {T : Type 0} where
             (ap (λ (v : View T). v.opened) view ∙ opened_given)
             (ap (λ (v : View T). (hand_of v).at_home) view ∙ ap (λ xs. token ∷ xs) home_given ∙ sym (ap reverse now_is ∙ reverse-append others (token ∷ []))) roomy (in_turn_as view turns_given)
 
-        pub refused : (answer ≡ A.Done → ⊥) → (a : Answer) → answer ≡ a → (back : T) → fin.1 ≡ (token - 1, Some back) ∷ [] → (table table_now : TableId) → Refuses s t a payload back (pay_known_of table thread old.0) (pay_known_of table_now thread laid.0)
+        pub refused : (answer ≡ A.Done → ⊥) → (a : Answer) → answer ≡ a → (back : T) → fin.1 ≡ (token - 1, Some back) ∷ [] → (table table_now : TableId) → Refuses s t a payload back (pay_pass_view table thread old.0) (pay_pass_view table_now thread laid.0)
         refused not_done a is back back_is table table_now = record {
           same = one_payload (token - 1) back payload back_is (refused_held not_done);
           token = token;
           others = reverse others;
           first = r.first;
           kept = ap (λ (v : View T). (hand_of v).at_home) view ∙ ap (λ xs. token ∷ xs) home_given ∙ sym r.first;
-          enqueue = subst (λ a. EnqueuesWith token s t a payload (pay_known_of table thread old.0) (pay_known_of table_now thread laid.0)) is
-              (enqueued table table_now laid.0 (ap (known_of table_now thread) view) (ap gifts_of view));
+          enqueue = subst (λ a. EnqueuesWith token s t a payload (pay_pass_view table thread old.0) (pay_pass_view table_now thread laid.0)) is
+              (enqueued table table_now laid.0 (ap (pass_view table_now thread) view) (ap gifts_of view));
         }
 
   -- a dequeue of a pass
@@ -337,15 +337,15 @@ module _ {T : Type 0} where
     turns_took : Fit fin.0
     turns_took = in_turn_as l.now l.in_turn
 
-    dequeued : (table table_now : TableId) (now : View T) → (known_of table_now thread now ≡ known_of table_now thread fin.0) → gifts_of now ≡ gifts_of fin.0
-        → DequeuesWith s t answer (pay_known_of table thread old.0) (pay_known_of table_now thread now)
+    dequeued : (table table_now : TableId) (now : View T) → (pass_view table_now thread now ≡ pass_view table_now thread fin.0) → gifts_of now ≡ gifts_of fin.0
+        → DequeuesWith s t answer (pay_pass_view table thread old.0) (pay_pass_view table_now thread now)
     dequeued table table_now now same gifts_same =
         let fit = fit_now thread table_now now fin.0 same gifts_same turns_took in
         record {
-          call = subst (λ (x : Known). MakesCall (B.Dequeue s t) answer (known_of table thread old.0) x) (sym same) (is_call (B.Dequeue s t) answer thread table table_now old fin p.pass.alone l);
+          call = subst (λ (x : PassView). MakesCall (B.Dequeue s t) answer (pass_view table thread old.0) x) (sym same) (is_call (B.Dequeue s t) answer thread table table_now old fin p.pass.alone l);
           gifts = record {
             in_turn = fit.in_turn;
-            holder_law = fit.holder_law (subst (λ (k : Known). 0 < k.opened.tokens) (sym same) some_took);
+            holder_law = fit.holder_law (subst (λ (k : PassView). 0 < k.opened.tokens) (sym same) some_took);
             later = l.given;
             goes_on = gifts_same ∙ ap gifts_of l.now;
           };
@@ -356,7 +356,7 @@ module _ {T : Type 0} where
     none_pass none =
         again p alone_took (l.carries ∙ ap (λ n. carrying old.0.opened.tokens n l.hand.payload) (took.out ∙ none) ∙ no_slot old.0.opened.tokens l.hand.payload) idle_took opened_took stacked_took refl turns_took
 
-    pub none_dequeued : (table table_now : TableId) → ((hand_of fin.0).at_home ≡ (hand_of old.0).at_home) × DequeuesWith s t answer (pay_known_of table thread old.0) (pay_known_of table_now thread fin.0)
+    pub none_dequeued : (table table_now : TableId) → ((hand_of fin.0).at_home ≡ (hand_of old.0).at_home) × DequeuesWith s t answer (pay_pass_view table thread old.0) (pay_pass_view table_now thread fin.0)
     none_dequeued table table_now = (home_took, dequeued table table_now fin.0 refl refl)
 
     -- a token was taken
@@ -381,19 +381,19 @@ module _ {T : Type 0} where
             (ap (λ (v : View T). v.opened) view ∙ opened_took)
             (ap (λ (v : View T). (hand_of v).at_home) view ∙ ap (λ xs. token ∷ xs) stacked_took ∙ sym (ap reverse now_is ∙ reverse-append items (token ∷ []))) roomy (in_turn_as view turns_took)
 
-        pub got_takes : (payload : T) → fin.1 ≡ (token - 1, Some payload) ∷ [] → (table table_now : TableId) → TakesOut s t (K.Got payload) (pay_known_of table thread old.0) (pay_known_of table_now thread laid.0)
+        pub got_takes : (payload : T) → fin.1 ≡ (token - 1, Some payload) ∷ [] → (table table_now : TableId) → TakesOut s t (K.Got payload) (pay_pass_view table thread old.0) (pay_pass_view table_now thread laid.0)
         unfolding got got_held
         got_takes payload payload_is table table_now =
             let gifts : gifts_of laid.0 ≡ gifts_of old.0 ++ l.given = ap gifts_of view ∙ ap gifts_of l.now in
             let same = one_payload (token - 1) got_held.0 payload got_held.1 payload_is in
             let last : beside token (gifts_of laid.0) ≡ Some payload = ap (beside token) gifts ∙ got.2.1 ∙ ap Some same in
-            let dequeue = subst (λ a. DequeuesWith s t a (pay_known_of table thread old.0) (pay_known_of table_now thread laid.0)) is (dequeued table table_now laid.0 (ap (known_of table_now thread) view) (ap gifts_of view)) in
+            let dequeue = subst (λ a. DequeuesWith s t a (pay_pass_view table thread old.0) (pay_pass_view table_now thread laid.0)) is (dequeued table table_now laid.0 (ap (pass_view table_now thread) view) (ap gifts_of view)) in
             let opened : laid.0.opened ≡ old.0.opened = ap (λ (v : View T). v.opened) view ∙ opened_took in
             let run = subst (λ (o : Opening). CompleteExecution o.shape o.threads thread (B.Dequeue s t) (A.Got token) (seen_of old.0) (seen_of laid.0)) (sym opened) dequeue.call.run in (
               token,
               ap (λ (v : View T). (hand_of v).at_home) view ∙ ap (λ xs. token ∷ xs) home_took,
               last,
-              took_what_was_put token payload (pay_known_of table_now thread laid.0) s t (seen_of old.0) run got.0 dequeue.gifts.holder_law dequeue.gifts.in_turn last,
+              took_what_was_put token payload (pay_pass_view table_now thread laid.0) s t (seen_of old.0) run got.0 dequeue.gifts.holder_law dequeue.gifts.in_turn last,
               dequeue,
             )
 

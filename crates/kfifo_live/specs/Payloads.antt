@@ -28,7 +28,7 @@ use Rattle.kfifo_live.specs.Balance.{times, puts, undos, takes}
 use Rattle.kfifo_live.specs.Left.{items_left}
 use Rattle.kfifo_live.specs.Promise.{KeepsPromise}
 use Rattle.kfifo_live.specs.Schedule.{GiftsFit, HolderLaw, count_up, seen_of, gifts_of, hand_of, world_after, resting_view}
-use Rattle.kfifo_live.specs.Pass.{Known, OpenQueue, IsPass, known_of}
+use Rattle.kfifo_live.specs.Pass.{PassView, OpenQueue, IsPass, pass_view}
 use Rattle.kfifo_live.specs.Calls.{Makes, TakesFewSteps, HasCause, IsDisturbed, LeavesNoItem}
 
 -- the opening of a payload queue with so many tokens a pass
@@ -37,13 +37,13 @@ pay_opening shape threads tokens = record { shape = shape; threads = threads; ca
 
 -- A pass: what is known of its schedule, the tokens that it has, that which it uses next first, and the gifts: for each enqueue
 -- that began in the schedule, in turn, its token beside its payload
-pub record PayKnown (T : Type 0) : Type 0 where
-  pub pass : Known
+pub record PayPassView (T : Type 0) : Type 0 where
+  pub pass : PassView
   pub tokens : List ℕ
   pub gifts : Gifts T
 
-abbrev pub pay_known_of : {T : Type 0} → TableId → ℕ → View T → PayKnown T
-pay_known_of table thread v = record { pass = known_of table thread v; tokens = (hand_of v).at_home; gifts = gifts_of v }
+abbrev pub pay_pass_view : {T : Type 0} → TableId → ℕ → View T → PayPassView T
+pay_pass_view table thread v = record { pass = pass_view table thread v; tokens = (hand_of v).at_home; gifts = gifts_of v }
 
 -- what is always so of a payload pass: it has its tokens in a list, the next one last, which has room for all tokens of the queue
 pub record IsPayPass {T : Type 0} (thread : ℕ) (me : Me (Option T) (View T)) (items : List ℕ) (room : ℕ) : Type 0 where
@@ -56,13 +56,13 @@ pub record IsPayPass {T : Type 0} (thread : ℕ) (me : Me (Option T) (View T)) (
 
 -- the passes of threads first, first + 1, .., which have seen the empty schedule: thread t has the tokens t * tokens + 1 to
 -- (t + 1) * tokens
-abbrev pub new_pay_passes : {T : Type 0} → OpenQueue → ℕ → ℕ → List (PayKnown T)
+abbrev pub new_pay_passes : {T : Type 0} → OpenQueue → ℕ → ℕ → List (PayPassView T)
 new_pay_passes q first zero = []
 new_pay_passes q first (suc count) =
     record { pass = record { table = q.table; opened = q.opened; thread = first; seen = [] }; tokens = count_up (first * q.opened.tokens + 1) q.opened.tokens; gifts = [] } ∷ new_pay_passes q (suc first) count
 
 -- A call of a pass is one complete execution of the queue's program with this answer. The laws of all such runs stand beside it
-pub record MakesCall (begin : Begin) (answer : Answer) (old new : Known) : Type 0 where
+pub record MakesCall (begin : Begin) (answer : Answer) (old new : PassView) : Type 0 where
   pub run : Makes begin answer old new
   pub few_steps : TakesFewSteps begin old new
   pub cause : HasCause begin answer old new
@@ -104,14 +104,14 @@ module _ {T : Type 0} where
     pub before_it : InTurn before earlier
 
   -- what a pass took with the last event that it has seen: a word that was put with this payload
-  pub record TookWhatWasPut (token : ℕ) (payload : T) (p : PayKnown T) : Type 0 where
+  pub record TookWhatWasPut (token : ℕ) (payload : T) (p : PayPassView T) : Type 0 where
     pub index : ℕ
     pub word : ℕ
     pub taken : TakesAtLast p.pass.opened p.pass.thread index word p.pass.seen
     pub put : WasPutWith p.pass.opened p.pass.seen p.gifts index word token (Some payload)
 
   -- the gifts of a longer schedule, of whose enqueues they are in turn, and which keeps the holder law
-  pub record GivesOn (old new : PayKnown T) : Type 0 where
+  pub record GivesOn (old new : PayPassView T) : Type 0 where
     pub in_turn : InTurn new.pass.seen new.gifts
     pub holder_law : HolderLaw new.pass.opened new.pass.seen
     pub later : Gifts T
@@ -119,7 +119,7 @@ module _ {T : Type 0} where
 
   -- An enqueue of a token with this payload beside it. Its first event follows others' events, and its gift follows those
   -- of the enqueues that began before that event
-  pub record EnqueuesWith (token start turns : ℕ) (answer : Answer) (payload : T) (old new : PayKnown T) : Type 0 where
+  pub record EnqueuesWith (token start turns : ℕ) (answer : Answer) (payload : T) (old new : PayPassView T) : Type 0 where
     pub call : MakesCall (B.Enqueue token start turns) answer old.pass new.pass
     pub in_turn : InTurn new.pass.seen new.gifts
     pub holder_law : HolderLaw new.pass.opened new.pass.seen
@@ -134,12 +134,12 @@ module _ {T : Type 0} where
     pub before_it : InTurn (old.pass.seen ++ before) (old.gifts ++ earlier)
 
   -- a dequeue
-  pub record DequeuesWith (start turns : ℕ) (answer : Answer) (old new : PayKnown T) : Type 0 where
+  pub record DequeuesWith (start turns : ℕ) (answer : Answer) (old new : PayPassView T) : Type 0 where
     pub call : MakesCall (B.Dequeue start turns) answer old.pass new.pass
     pub gifts : GivesOn old new
 
   -- a refused enqueue: the payload comes back, and the pass keeps its token
-  pub record Refuses (start turns : ℕ) (answer : Answer) (payload back : T) (old new : PayKnown T) : Type 0 where
+  pub record Refuses (start turns : ℕ) (answer : Answer) (payload back : T) (old new : PayPassView T) : Type 0 where
     pub same : back ≡ payload
     pub token : ℕ
     pub others : List ℕ
@@ -148,7 +148,7 @@ module _ {T : Type 0} where
     pub enqueue : EnqueuesWith token start turns answer payload old new
 
   -- What `give` did, by what it answers: Done gives up the first token. NoToken comes where the pass has none, and nothing is done
-  abbrev pub Gives : ℕ → ℕ → T → Given T → PayKnown T → PayKnown T → Type 0
+  abbrev pub Gives : ℕ → ℕ → T → Given T → PayPassView T → PayPassView T → Type 0
   Gives start turns payload G.Done old new = (token : ℕ) × (old.tokens ≡ token ∷ new.tokens)
       × EnqueuesWith token start turns A.Done payload old new
   Gives start turns payload (G.Full back) old new = Refuses start turns A.Full payload back old new
@@ -158,7 +158,7 @@ module _ {T : Type 0} where
 
   -- What `take` did: Got gives the pass the token that was taken, and the last payload that was given with it, which is that
   -- of the enqueue that put it
-  abbrev pub TakesOut : ℕ → ℕ → Taken T → PayKnown T → PayKnown T → Type 0
+  abbrev pub TakesOut : ℕ → ℕ → Taken T → PayPassView T → PayPassView T → Type 0
   TakesOut start turns (K.Got payload) old new = (token : ℕ) × (new.tokens ≡ token ∷ old.tokens)
       × (beside token new.gifts ≡ Some payload) × TookWhatWasPut token payload new
       × DequeuesWith start turns (A.Got token) old new
@@ -178,12 +178,12 @@ module _ {T : Type 0} where
 
   -- What `lay_down` did. True: the pass has one token less, the one that it would have used next. False: nothing changed. Either is no event,
   -- and nothing more was seen
-  abbrev pub LaysDown : Bool → PayKnown T → PayKnown T → Type 0
+  abbrev pub LaysDown : Bool → PayPassView T → PayPassView T → Type 0
   LaysDown true old new = (token : ℕ) × (old.tokens ≡ token ∷ new.tokens) × (new.pass ≡ old.pass) × (new.gifts ≡ old.gifts)
   LaysDown false old new = new ≡ old
 
   -- What `pick_up` did. True: the pass has one token more, which it uses next. False: nothing changed. Either is no event, and nothing more was seen
-  abbrev pub PicksUp : Bool → PayKnown T → PayKnown T → Type 0
+  abbrev pub PicksUp : Bool → PayPassView T → PayPassView T → Type 0
   PicksUp true old new = (token : ℕ) × (0 < token) × (new.tokens ≡ token ∷ old.tokens) × (new.pass ≡ old.pass) × (new.gifts ≡ old.gifts)
   PicksUp false old new = new ≡ old
 
@@ -201,7 +201,7 @@ module _ {T : Type 0} where
   -- and the payloads are the last ones given with the tokens in the filled slots after it, which are those of the enqueues
   -- that put them. Where the pass is the only one, it is what the pass has seen. No token is lost and none comes twice, and
   -- that schedule keeps the promise
-  pub record PayCloses (q : OpenQueue) (p : PayKnown T) (payloads : List T) : Type 0 where
+  pub record PayCloses (q : OpenQueue) (p : PayPassView T) (payloads : List T) : Type 0 where
     pub all : List Event
     pub gifts : Gifts T
     pub world : World

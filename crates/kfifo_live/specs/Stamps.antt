@@ -22,15 +22,15 @@ use Rattle.kfifo_machine.specs.Runs.{event, own}
 use Rattle.kfifo_live.specs.declared.view.Opening.{Opening}
 use Rattle.kfifo_live.specs.Schedule.{ticks, world_after}
 use Rattle.kfifo_live.specs.Promise.{calls_of}
-use Rattle.kfifo_live.specs.Pass.{Known, IsSame}
+use Rattle.kfifo_live.specs.Pass.{PassView, IsSamePass}
 use Rattle.kfifo_live.specs.Calls.{Makes, HasCause, IsDisturbed, LeavesNoItem, added}
 
 -- a pass, and the calls that it has logged
 pub record Logged : Type 0 where
-  pub pass : Known
+  pub pass : PassView
   pub log : List Call
 
-abbrev pub logged_by : Known → List Call → Logged
+abbrev pub logged_by : PassView → List Call → Logged
 logged_by pass log = record { pass = pass; log = log }
 
 -- the calls of all logs, one log after the other
@@ -43,18 +43,18 @@ abbrev pub calls_by : ℕ → List Call → List Call
 calls_by thread calls = filter (λ c. c.thread == thread) calls
 
 -- the passes alone
-abbrev pub passes_of : List Logged → List Known
+abbrev pub passes_of : List Logged → List PassView
 passes_of ps = map (λ p. p.pass) ps
 
 -- the pass drew this stamp: after events of others the clock had it, and then the pass ticked
-pub record Draws (stamp : ℕ) (old new : Known) : Type 0 where
+pub record Draws (stamp : ℕ) (old new : PassView) : Type 0 where
   pub between : List Event
   pub here : World
   pub others : own old.thread between ≡ []
   pub reached : world_after old.opened (old.seen ++ between) ≡ Some here
   pub stamp_is : stamp ≡ word_at here (clock_at old.opened.shape.k old.opened.shape.n)
   pub made : step old.opened.shape here (event old.thread (Some Tick)) ≡ Ok (ticked old.opened.shape here, Went)
-  pub same : IsSame old new
+  pub same : IsSamePass old new
   pub new_is : new.seen ≡ (old.seen ++ between) ++ event old.thread (Some Tick) ∷ []
 
 -- a call of this thread, its stamps and its answer
@@ -65,8 +65,8 @@ stamped_call thread op first last answer = record { thread = thread; op = op; fi
 -- last are what the ticks drew. What is promised of a call is so of its run
 pub record MakesStamped (begin : Begin) (answer : Answer) (old new : Logged) : Type 0 where
   pub room : length old.log < old.pass.opened.calls
-  pub begun : Known
-  pub ended : Known
+  pub begun : PassView
+  pub ended : PassView
   pub first : ℕ
   pub last : ℕ
   pub draws_first : Draws first old.pass begun
@@ -78,7 +78,7 @@ pub record MakesStamped (begin : Begin) (answer : Answer) (old new : Logged) : T
   pub log_is : new.log ≡ old.log ++ stamped_call old.pass.thread (op_asked begin) first last answer ∷ []
 
 -- its own events are at most `turns * (2k + 9)`, and the two ticks
-abbrev pub TakesFewStampedSteps : Begin → Known → Known → Type 0
+abbrev pub TakesFewStampedSteps : Begin → PassView → PassView → Type 0
 TakesFewStampedSteps begin old new = length (own old.thread (added old new)) ≤ most_events old.opened.shape begin + 2
 
 -- A logged call is a call of the schedule under other stamps: its first is what a tick drew that stands before the first event
@@ -121,11 +121,11 @@ pub record IsLogIn (o : Opening) (thread : ℕ) (seen : List Event) (log : List 
   pub past : AllByRecursion (λ c. EndsBelow c.end (ticks seen)) log
   pub calls : HasCalls o seen thread log
 
-abbrev pub IsLog : Known → List Call → Type 0
+abbrev pub IsLog : PassView → List Call → Type 0
 IsLog p log = IsLogIn p.opened p.thread p.seen log
 
 -- the passes of an opening, whose logs are empty
-abbrev pub new_logs : List Known → List Logged
+abbrev pub new_logs : List PassView → List Logged
 new_logs ps = map (λ p. logged_by p []) ps
 
 -- What is gathered of a queue: all logged calls by rising first stamps, those of each thread in the order of its log. They are a

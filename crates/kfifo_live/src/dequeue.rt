@@ -44,7 +44,7 @@ impl<T> Dequeue<'_, T> {
     {
         // The version rises with each take, so that of two dequeues that read the item one loses.
         let emptied = Word::pack(0, filled.version() + 1);
-        if self.ring.exchange(seat, index, filled, emptied) != filled {
+        if self.ring.compare_exchange(seat, index, filled, emptied) != filled {
             return None;
         }
         Some(Answer::Got(filled.value()))

@@ -6,8 +6,8 @@ ghost use Rattle.std.specs.Prelude.{◌≡◌, ◌<◌, ◌≤◌, ◌+◌, ◌-
 ghost use Rattle.kfifo_live.specs.Schedule.{hand_of, seen_of, gifts_of, with_seen};
 ghost use Rattle.kfifo_live.specs.Step.{DrawsToken, IsAt};
 ghost use Rattle.kfifo_live.specs.Promise.{KeepsPromise};
-ghost use Rattle.kfifo_live.specs.Pass.{OpenQueue, queue_of, IsOf, IsSame};
-ghost use Rattle.kfifo_live.specs.Payloads.{PayKnown, pay_known_of, pay_opening, IsPool, IsPayPass, Gives, TakesOut};
+ghost use Rattle.kfifo_live.specs.Pass.{OpenQueue, queue_of, IsPassOf, IsSamePass};
+ghost use Rattle.kfifo_live.specs.Payloads.{PayPassView, pay_pass_view, pay_opening, IsPool, IsPayPass, Gives, TakesOut};
 
 use crate::payload_pool::PoolWord;
 use crate::ring::Ring;
@@ -57,9 +57,9 @@ pub struct PayPass<T: Drop> {
 }
 
 impl<T: Drop> Model for PayPass<T> {
-    ghost Value = { PayKnown T };
+    ghost Value = { PayPassView T };
 
-    ghost view = { λ p. pay_known_of p.seat.table_id p.thread p.seat.me.0 };
+    ghost view = { λ p. pay_pass_view p.seat.table_id p.thread p.seat.me.0 };
 
     ghost invariant = { λ p. IsPayPass p.thread p.seat.me p.at_home.items (vec_capacity p.at_home) };
 }
@@ -167,10 +167,10 @@ impl<T: Drop> PayPass<T> {
     /// pass has then seen keeps the promise of the queue, as with `Pass::enqueue`.
     #[inline(always)]
     pub fn give(&mut self, queue: &PayQueue<T>, payload: T, start: u32, turns: u16) -> Given<T>
-        requires of { IsOf queue.now self.old.pass }
+        requires of { IsPassOf queue.now self.old.pass }
         requires start { start < queue.now.opened.shape.k }
         requires turns { 1 ≤ turns }
-        ensures same { IsSame self.old.pass self.new.pass }
+        ensures same { IsSamePass self.old.pass self.new.pass }
         ensures gives { Gives start turns payload result self.old self.new }
         ensures promise { KeepsPromise self.new.pass.opened self.new.pass.seen }
     {
@@ -207,10 +207,10 @@ impl<T: Drop> PayPass<T> {
     /// a token that was in no slot and that no other enqueue in progress held.
     #[inline(always)]
     pub fn take(&mut self, queue: &PayQueue<T>, start: u32, turns: u16) -> Taken<T>
-        requires of { IsOf queue.now self.old.pass }
+        requires of { IsPassOf queue.now self.old.pass }
         requires start { start < queue.now.opened.shape.k }
         requires turns { 1 ≤ turns }
-        ensures same { IsSame self.old.pass self.new.pass }
+        ensures same { IsSamePass self.old.pass self.new.pass }
         ensures takes { TakesOut start turns result self.old self.new }
         ensures promise { KeepsPromise self.new.pass.opened self.new.pass.seen }
     {

@@ -1,7 +1,7 @@
 //! Closing a queue of payloads.
 ghost use Rattle.std.specs.Prelude.{◌≡◌, ◌≤◌, [], IfOk, IsErrOf, Some, map, vec_capacity};
 ghost use Rattle.core.specs.Mem.Slots.{slots_items, slots_len, IsFull};
-ghost use Rattle.kfifo_live.specs.Pass.{IsOf};
+ghost use Rattle.kfifo_live.specs.Pass.{IsPassOf};
 ghost use Rattle.kfifo_live.specs.Payloads.{HavePayloads, PayCloses, in_slot};
 ghost use Rattle.kfifo_live.specs.declared.fault.CloseFault.TheVariants.{MissingPass};
 
@@ -55,7 +55,7 @@ impl<T: Drop> PayQueue<T> {
     /// Memory where an allocation failed, the payloads then being dropped. MissingPass never comes: the other passes may
     /// still be anywhere, and can do nothing more.
     pub fn close(self, alloc: Global, pass: PayPass<T>) -> Result<Vec<T>, CloseFault>
-        requires { IsOf self pass.pass }
+        requires { IsPassOf self pass.pass }
         ensures ok { IfOk result (λ payloads. PayCloses self pass payloads.items) }
         ensures missing { ¬ IsErrOf result MissingPass }
     {

@@ -1,7 +1,7 @@
 //! Opening a queue of payloads.
 ghost use Rattle.std.specs.Prelude.{◌≡◌, ◌<◌, ◌≤◌, ◌+◌, ◌*◌, ◌⊎◌, ◌↔◌, [], length, IfOk, IsErrOf, reverse, vec_capacity, All};
 ghost use Rattle.kfifo_live.specs.Schedule.{IsSmall, count_up, fresh, view_of};
-ghost use Rattle.kfifo_live.specs.Pass.{IsZeroed, queue_of, IsOf};
+ghost use Rattle.kfifo_live.specs.Pass.{IsZeroed, queue_of, IsPassOf};
 ghost use Rattle.kfifo_live.specs.Payloads.{IsPool, new_pay_passes, pay_opening};
 ghost use Rattle.kfifo_live.specs.declared.fault.OpenFault.TheVariants.{CallsOutOfRange, ThreadsOutOfRange, TokensOutOfRange};
 
@@ -115,7 +115,7 @@ impl<T: Drop> PayQueue<T> {
     ) -> Result<(PayQueue<T>, Vec<PayPass<T>>), OpenFault>
         requires pooled { (pooled ≡ 0) ⊎ (pooled ≡ tokens) }
         ensures ok { IfOk result (λ r. (r.0.opened ≡ pay_opening shape threads tokens) × (r.1.items ≡ new_pay_passes r.0 0 threads)) }
-        ensures of { IfOk result (λ r. All (λ p. IsOf r.0 p.pass) r.1.items) }
+        ensures of { IfOk result (λ r. All (λ p. IsPassOf r.0 p.pass) r.1.items) }
         ensures threads { IsErrOf result ThreadsOutOfRange ↔ ((threads ≡ 0) ⊎ (64 < threads)) }
         ensures tokens { IsErrOf result TokensOutOfRange ↔ ((1 ≤ threads) × (threads ≤ 64) × ((tokens ≡ 0) ⊎ (1024 < tokens))) }
         ensures calls { ¬ IsErrOf result CallsOutOfRange }
@@ -147,7 +147,7 @@ impl<T: Drop> PayQueue<T> {
         tokens: u32,
     ) -> Result<(PayQueue<T>, Vec<PayPass<T>>), OpenFault>
         ensures ok { IfOk result (λ r. (r.0.opened ≡ pay_opening shape threads tokens) × (r.1.items ≡ new_pay_passes r.0 0 threads)) }
-        ensures of { IfOk result (λ r. All (λ p. IsOf r.0 p.pass) r.1.items) }
+        ensures of { IfOk result (λ r. All (λ p. IsPassOf r.0 p.pass) r.1.items) }
         ensures threads { IsErrOf result ThreadsOutOfRange ↔ ((threads ≡ 0) ⊎ (64 < threads)) }
         ensures tokens { IsErrOf result TokensOutOfRange ↔ ((1 ≤ threads) × (threads ≤ 64) × ((tokens ≡ 0) ⊎ (1024 < tokens))) }
         ensures calls { ¬ IsErrOf result CallsOutOfRange }
@@ -165,7 +165,7 @@ impl<T: Drop> PayQueue<T> {
         tokens: u32,
     ) -> Result<(PayQueue<T>, Vec<PayPass<T>>), OpenFault>
         ensures ok { IfOk result (λ r. (r.0.opened ≡ pay_opening shape threads tokens) × (r.1.items ≡ new_pay_passes r.0 0 threads)) }
-        ensures of { IfOk result (λ r. All (λ p. IsOf r.0 p.pass) r.1.items) }
+        ensures of { IfOk result (λ r. All (λ p. IsPassOf r.0 p.pass) r.1.items) }
         ensures threads { IsErrOf result ThreadsOutOfRange ↔ ((threads ≡ 0) ⊎ (64 < threads)) }
         ensures tokens { IsErrOf result TokensOutOfRange ↔ ((1 ≤ threads) × (threads ≤ 64) × ((tokens ≡ 0) ⊎ (1024 < tokens))) }
         ensures calls { ¬ IsErrOf result CallsOutOfRange }

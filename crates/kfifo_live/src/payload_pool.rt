@@ -5,7 +5,7 @@
 ghost use Rattle.std.specs.Prelude.{◌≡◌, ◌<◌, ◌+◌, ◌^◌, ◌++◌, ℕ, List, [], length, IfErr, IfOk, IfSome, None};
 ghost use Rattle.kfifo_live.specs.Schedule.{count_up, hand_of, more_in, resting_view};
 ghost use Rattle.kfifo_live.specs.Step.{IsAt};
-ghost use Rattle.kfifo_live.specs.Pass.{IsOf};
+ghost use Rattle.kfifo_live.specs.Pass.{IsPassOf};
 ghost use Rattle.kfifo_live.specs.Payloads.{IsPool, LaysDown, PicksUp, pool_for};
 
 use crate::payload::{PayPass, PayQueue};
@@ -116,7 +116,7 @@ impl<T: Drop> PayPass<T> {
     /// and of a queue without a pool. It is no event, and the pass has seen no more than before. It never allocates,
     /// waits or locks.
     pub fn lay_down(&mut self, queue: &PayQueue<T>) -> bool
-        requires of { IsOf queue.now self.old.pass }
+        requires of { IsPassOf queue.now self.old.pass }
         ensures lays { LaysDown result self.old self.new }
     {
         let Some(token) = self.at_home.pop() else {
@@ -139,7 +139,7 @@ impl<T: Drop> PayPass<T> {
     /// word where the pass found a token last, at first at that of its own first token. It is no event, and the pass
     /// has seen no more than before. It never allocates, waits or locks.
     pub fn pick_up(&mut self, queue: &PayQueue<T>) -> bool
-        requires of { IsOf queue.now self.old.pass }
+        requires of { IsPassOf queue.now self.old.pass }
         ensures picks { PicksUp result self.old self.new }
     {
         let shared = &queue.table.shared;

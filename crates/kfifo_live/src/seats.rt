@@ -105,7 +105,7 @@ pub(crate) fn give_all<T>(shared: &Words<T>, seat: &mut ThreadSeat<T>) -> Thread
 }
 
 /// Takes the parts of another seat, behind its own.
-pub(crate) fn gather<T, O: Opened>(
+pub(crate) fn join_seats<T, O: Opened>(
     shared: &Words<T>,
     seat: &mut ThreadSeat<T>,
     other: ThreadSeat<T>,

@@ -2,7 +2,7 @@
 use Rattle.std.proofs.Common.{ℕ, zero, suc, ◌≡◌, ◌<◌, ◌⊎◌, List, [], ◌∷◌, ◌++◌, length, get_or, refl, sym, ◌∙◌, ap, subst, inl, inr, arith, Some, slice_get}
 use Rattle.std.specs.List.{remove}
 use Rattle.kfifo_model.specs.Lists.{IsIn}
-use Rattle.kfifo_model.specs.Relaxed.{Effect, Adds, Takes, Finds_none, Refused, Wrong, Leaves, IsRun}
+use Rattle.kfifo_model.specs.Relaxed.{Effect, Adds, Takes, FindsNone, Refused, Wrong, Leaves, IsRun}
 use Rattle.kfifo_model.specs.Searching.{IsIdle}
 
 -- the effect is among the effects
@@ -83,7 +83,7 @@ as_good_runs k W (Takes x ∷ es) l m f b r =
     let P : List ℕ → Type 0 = λ t. IsRun k t es in
     let s = r.1 in
     (remove m s.0, (s.0, s.1, both_get W l m s.0 x (f x (inl refl)) b s.2, refl), as_good_runs k W es (remove l s.0) (remove m s.0) (λ y h. f y (inr h)) (both_remove W l m s.0 b) (subst P s.3 r.2))
-as_good_runs k W (Finds_none ∷ es) l m f b r =
+as_good_runs k W (FindsNone ∷ es) l m f b r =
     let P : List ℕ → Type 0 = λ t. IsRun k t es in
     let B : List ℕ → Type 0 = λ t. Both W t m in
     let s = r.1 in
@@ -97,7 +97,7 @@ as_good_runs k W (Wrong ∷ es) l m f b r = absurd r.1
 idle_same : (k : ℕ) (items after others : List ℕ) (e : Effect) → IsIdle others e → Leaves k items e after → after ≡ items
 idle_same k items after others (Adds x) i s = absurd i
 idle_same k items after others (Takes x) i s = absurd i
-idle_same k items after others Finds_none i s = s.1 ∙ sym s.0
+idle_same k items after others FindsNone i s = s.1 ∙ sym s.0
 idle_same k items after others Refused i s = s
 idle_same k items after others Wrong i s = absurd s
 
@@ -110,8 +110,8 @@ without_idle k items others e (d ∷ es) fs i r = (r.0, r.1, without_idle k r.0 
 pub idle_first : (k : ℕ) (items : List ℕ) (e : Effect) (es : List Effect) → IsIdle items e → IsRun k items es → IsRun k items (e ∷ es)
 idle_first k items (Adds x) es i r = absurd i
 idle_first k items (Takes x) es i r = absurd i
-idle_first k [] Finds_none es i r = ([], (refl, refl), r)
-idle_first k (x ∷ items) Finds_none es i r = absurd i
+idle_first k [] FindsNone es i r = ([], (refl, refl), r)
+idle_first k (x ∷ items) FindsNone es i r = absurd i
 idle_first k items Refused es i r = (items, refl, r)
 idle_first k items Wrong es i r = absurd i
 
@@ -155,8 +155,8 @@ taken_from k x (Takes y ∷ es) l (inr h) r =
     let P : List ℕ → Type 0 = λ t. IsRun k t es in
     let s = r.1 in
     removed_later x (Takes y) es l s.0 (taken_from k x es (remove l s.0) h (subst P s.3 r.2))
-taken_from k x (Finds_none ∷ es) l (inl e) r = absurd (cc)
-taken_from k x (Finds_none ∷ es) l (inr h) r = let P : List ℕ → Type 0 = λ t. IsRun k t es in let s = r.1 in later x Finds_none es l (taken_from k x es l h (subst P (s.1 ∙ sym s.0) r.2))
+taken_from k x (FindsNone ∷ es) l (inl e) r = absurd (cc)
+taken_from k x (FindsNone ∷ es) l (inr h) r = let P : List ℕ → Type 0 = λ t. IsRun k t es in let s = r.1 in later x FindsNone es l (taken_from k x es l h (subst P (s.1 ∙ sym s.0) r.2))
 taken_from k x (Refused ∷ es) l (inl e) r = absurd (cc)
 taken_from k x (Refused ∷ es) l (inr h) r = let P : List ℕ → Type 0 = λ t. IsRun k t es in later x Refused es l (taken_from k x es l h (subst P r.1 r.2))
 taken_from k x (Wrong ∷ es) l h r = absurd r.1

@@ -4,7 +4,7 @@ use Rattle.std.specs.List.{remove}
 use Rattle.std.proofs.lemmas.Bool.{cases_eq, cases_lt, cases_order, cond-true, cond-false, eq-eqb, ne_eqb, and_parts, and_from, ltb-true, lt-ltb}
 use Rattle.std.proofs.lemmas.List.Edits.{remove-append_left}
 use Rattle.kfifo_model.specs.Lists.{place}
-use Rattle.kfifo_model.specs.Relaxed.{Effect, Adds, Takes, Finds_none, Refused, Wrong, Leaves, IsRun, next}
+use Rattle.kfifo_model.specs.Relaxed.{Effect, Adds, Takes, FindsNone, Refused, Wrong, Leaves, IsRun, next}
 
 remove_nil : (i : ℕ) → remove {X = ℕ} [] i ≡ []
 remove_nil zero = refl
@@ -156,7 +156,7 @@ like k g o after (Adds y) m l =
 like k g o after (Takes v) m l =
     let om : Out k o m.0 m.1 = m.3 in
     like_taken k g o m.1 after m.0 v om.0 l.0 m.2 om.1 om.2 om.3 l.1 l.2 l.3 (cases_order om.0 l.0)
-like k g o after Finds_none m l = absurd (out_none k o m.1 m.0 m.3 l.0)
+like k g o after FindsNone m l = absurd (out_none k o m.1 m.0 m.3 l.0)
 like k g o after Refused m l =
     record { to = g; step = refl; alike = inr (m.0, m.1, m.2, (let P : List ℕ → Type 0 = λ t. Out k t m.0 m.1 in subst P (sym l) m.3)) }
 like k g o after Wrong m l = absurd l
@@ -210,8 +210,8 @@ next_leaves k l after (Adds x) h = cc
 next_leaves k l after (Takes x) h =
     let t = takes_test k l after x (ltb (place l x) k && ltb (place l x) (length l)) refl h in
     (place l x, t.0, place_in l x t.1, t.2)
-next_leaves k [] after Finds_none h = (refl, cc)
-next_leaves k (y ∷ l) after Finds_none h = absurd (cc)
+next_leaves k [] after FindsNone h = (refl, cc)
+next_leaves k (y ∷ l) after FindsNone h = absurd (cc)
 next_leaves k l after Refused h = cc
 next_leaves k l after Wrong h = absurd (cc)
 
@@ -236,8 +236,8 @@ takes_first k l o x s =
 leaves_next : (k : ℕ) (l o : List ℕ) (e : Effect) → Leaves k l e o → (g : List ℕ) × (next k l e ≡ Some g) × Alike k g o
 leaves_next k l o (Adds x) s = (l ++ x ∷ [], refl, inl (sym s))
 leaves_next k l o (Takes x) s = let p = takes_first k l o x s in (remove l (place l x), p.0, p.1)
-leaves_next k [] o Finds_none s = ([], refl, inl (sym s.1))
-leaves_next k (y ∷ l) o Finds_none s = let bad : ⊥ = (let h = s.0 in cc) in absurd bad
+leaves_next k [] o FindsNone s = ([], refl, inl (sym s.1))
+leaves_next k (y ∷ l) o FindsNone s = let bad : ⊥ = (let h = s.0 in cc) in absurd bad
 leaves_next k l o Refused s = (l, refl, inl (sym s))
 leaves_next k l o Wrong s = absurd s
 

@@ -15,7 +15,7 @@ use Rattle.std.specs.declared.cmp.Ordering.TheVariants.{Less, Equal, Greater}
 use Rattle.kfifo_model.specs.declared.calls.Call.{Call}
 use Rattle.kfifo_model.specs.declared.index.Kind.{Kind}
 use Rattle.kfifo_model.specs.declared.index.Kind.TheVariants.{Puts, Gots}
-use Rattle.kfifo_model.specs.Relaxed.{Effect, Adds, Takes, Finds_none, Refused, Wrong, effect}
+use Rattle.kfifo_model.specs.Relaxed.{Effect, Adds, Takes, FindsNone, Refused, Wrong, effect}
 use Rattle.kfifo_model.specs.Histories.{call, does, effect_at}
 use Rattle.kfifo_model.specs.Index.{kind_effect, HasTwo, IsIndex, last_of, rival_of, rivals_below, rival_at, ends_before, is_beaten, done_item_of, done_item, measure_of, measured}
 use Rattle.kfifo_model.specs.Measures.{HasDistinctItems, EndsDone, IsDoneEnqueue}
@@ -126,14 +126,14 @@ one_some t n j lt f false e =
 adds_is : (x : ℕ) (e : Effect) → adds x e ≡ true → e ≡ Adds x
 adds_is x (Adds y) q = ap Adds (sym (eqb-true x y q))
 adds_is x (Takes y) q = absurd (false≢true q)
-adds_is x Finds_none q = absurd (false≢true q)
+adds_is x FindsNone q = absurd (false≢true q)
 adds_is x Refused q = absurd (false≢true q)
 adds_is x Wrong q = absurd (false≢true q)
 
 takes_is : (x : ℕ) (e : Effect) → takes x e ≡ true → e ≡ Takes x
 takes_is x (Takes y) q = ap Takes (sym (eqb-true x y q))
 takes_is x (Adds y) q = absurd (false≢true q)
-takes_is x Finds_none q = absurd (false≢true q)
+takes_is x FindsNone q = absurd (false≢true q)
 takes_is x Refused q = absurd (false≢true q)
 takes_is x Wrong q = absurd (false≢true q)
 
@@ -211,7 +211,7 @@ by_effect h puts gots p g c x last ends d (Takes y) q =
     ∙ got_after h (last_of (call h d).end) x (gots x) (g.finds x) (g.once x))
     ∙ sym (rival_test last (last_of (call h d).end) 0 (gots x) (puts y)))
 by_effect h puts gots p g c x last ends d (Adds y) q = refl
-by_effect h puts gots p g c x last ends d Finds_none q = refl
+by_effect h puts gots p g c x last ends d FindsNone q = refl
 by_effect h puts gots p g c x last ends d Refused q = refl
 by_effect h puts gots p g c x last ends d Wrong q = refl
 

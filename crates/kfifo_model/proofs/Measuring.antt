@@ -12,7 +12,7 @@ use Rattle.kfifo_model.specs.declared.calls.Op.TheVariants.{Enqueue, Dequeue}
 use Rattle.kfifo_model.specs.declared.orders.Verdict.{Verdict}
 use Rattle.kfifo_model.specs.declared.orders.Verdict.TheVariants.{Legal, Repeats, NotACall, LeavesOut, BreaksBefore, NotARun}
 use Rattle.kfifo_model.specs.Lists.{IsIn}
-use Rattle.kfifo_model.specs.Relaxed.{Effect, Adds, Takes, Finds_none, Refused, Wrong, IsRun, next, effect}
+use Rattle.kfifo_model.specs.Relaxed.{Effect, Adds, Takes, FindsNone, Refused, Wrong, IsRun, next, effect}
 use Rattle.kfifo_model.specs.Histories.{does, effect_at, IsLegal}
 use Rattle.kfifo_model.specs.Overtaking.{numbers_of}
 use Rattle.kfifo_model.specs.Verdicts.{IsVerdict, IsTried}
@@ -49,7 +49,7 @@ ranks_next k h order found more items after i total lt told run n e =
 one_rank : (items : List ℕ) (e : Effect) → length (rank items e) ≡ cond (is_got e) 1 0
 one_rank items (Takes x) = refl
 one_rank items (Adds x) = refl
-one_rank items Finds_none = refl
+one_rank items FindsNone = refl
 one_rank items Refused = refl
 one_rank items Wrong = refl
 

@@ -13,7 +13,7 @@ use Rattle.kfifo_model.specs.declared.index.Overtaken.{Overtaken}
 use Rattle.kfifo_model.specs.declared.index.Rival.{Rival}
 use Rattle.kfifo_model.specs.declared.index.MeasureFault.{MeasureFault}
 use Rattle.kfifo_model.specs.declared.index.MeasureFault.TheVariants.{RepeatedItem, Memory}
-use Rattle.kfifo_model.specs.Relaxed.{Effect, Adds, Takes, Finds_none, Refused, Wrong}
+use Rattle.kfifo_model.specs.Relaxed.{Effect, Adds, Takes, FindsNone, Refused, Wrong}
 use Rattle.kfifo_model.specs.Histories.{call, does}
 use Rattle.kfifo_model.specs.Overtaking.{certainly_overtaken}
 use Rattle.kfifo_model.specs.Measures.{IsDoneEnqueue, HasDistinctItems}
@@ -39,7 +39,7 @@ last_of None = 0
 abbrev pub rival_of : (ℕ → Option ℕ) → Effect → ℕ → Option Rival
 rival_of put_of (Takes y) last = option_map (λ f. record { put_first = f; got_last = last }) (put_of y)
 rival_of put_of (Adds y) last = None
-rival_of put_of Finds_none last = None
+rival_of put_of FindsNone last = None
 rival_of put_of Refused last = None
 rival_of put_of Wrong last = None
 

@@ -4,7 +4,7 @@ use Rattle.kfifo_model.specs.declared.calls.Call.{Call}
 use Rattle.kfifo_model.specs.declared.search.SearchFault.{SearchFault}
 use Rattle.kfifo_model.specs.declared.search.SearchFault.TheVariants.{TooLong, Memory}
 use Rattle.kfifo_model.specs.Lists.{IsIn}
-use Rattle.kfifo_model.specs.Relaxed.{Effect, Adds, Takes, Finds_none, Refused, Wrong, IsRun}
+use Rattle.kfifo_model.specs.Relaxed.{Effect, Adds, Takes, FindsNone, Refused, Wrong, IsRun}
 use Rattle.kfifo_model.specs.Histories.{call, does, CanStand, IsFinished, Precedes, HasNoRepeats, HasOnlyCalls, KeepsBefore, IsLegal}
 use Rattle.kfifo_model.specs.Reach.{Reach}
 
@@ -74,8 +74,8 @@ IsComing h done x = IsLeft h done (Adds x)
 abbrev pub IsIdle : List ℕ → Effect → Type 0
 IsIdle items (Adds x) = ⊥
 IsIdle items (Takes x) = ⊥
-IsIdle [] Finds_none = Unit {0}
-IsIdle (x ∷ items) Finds_none = ⊥
+IsIdle [] FindsNone = Unit {0}
+IsIdle (x ∷ items) FindsNone = ⊥
 IsIdle items Refused = Unit {0}
 IsIdle items Wrong = ⊥
 

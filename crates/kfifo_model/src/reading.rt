@@ -21,7 +21,7 @@ use serde_json::{Map, Value};
 use std::alloc::Global;
 
 /// The most calls of a record.
-pub const MOST_CALLS: usize = 65_536;
+pub const MAX_CALLS: usize = 65_536;
 
 /// The operation that a record names.
 #[derive(Clone, Copy)]
@@ -367,7 +367,7 @@ pub fn read_history(alloc: Global, json: &Value) -> Result<History, RecordFault>
     let Some(members) = json.as_array() else {
         return Err(RecordFault::NotAList);
     };
-    if members.len() > MOST_CALLS {
+    if members.len() > MAX_CALLS {
         return Err(RecordFault::TooMany);
     }
     match read_members(alloc, members) {

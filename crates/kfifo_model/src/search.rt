@@ -29,7 +29,7 @@ use std::marker::Model;
 use thiserror::Error;
 
 /// The most calls of a history that is searched.
-pub const MOST_SEARCHED: usize = 12;
+pub const MAX_SEARCHED: usize = 12;
 
 /// Why no search was made.
 #[derive(Clone, Copy, Debug, PartialEq, Eq, Error)]
@@ -471,7 +471,7 @@ pub fn has_order(alloc: Global, history: &History, k: u32) -> Result<bool, Searc
         (IsSearchFault history.now) }
 {
     let calls = history.calls();
-    if calls.len() > MOST_SEARCHED {
+    if calls.len() > MAX_SEARCHED {
         return Err(SearchFault::TooLong);
     }
     Ok(search(alloc, calls, k as usize)?)

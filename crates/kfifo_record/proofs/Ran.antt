@@ -14,7 +14,7 @@ use Rattle.kfifo_machine.specs.declared.event.Begin.{Begin}
 use Rattle.kfifo_machine.specs.Calls.{op_asked}
 use Rattle.kfifo_live.specs.declared.view.Opening.{Opening}
 use Rattle.kfifo_live.specs.Schedule.{stamped_opening}
-use Rattle.kfifo_live.specs.Pass.{IsComplete, IsOf, OpenQueue, new_passes}
+use Rattle.kfifo_live.specs.Pass.{IsComplete, IsPassOf, OpenQueue, new_passes}
 use Rattle.kfifo_live.specs.Stamps.{Gathers, Logged, all_logs, calls_by, new_logs, passes_of}
 use Rattle.kfifo_record.specs.Scripts.{AreScripts, EachMakes, IsCall, IsOpenFor, IsRecord, MakesInTurn, MayRun, longest, room_for, script_of}
 use Rattle.kfifo_live.proofs.Opens.{logs_of_new}
@@ -22,7 +22,7 @@ use Rattle.kfifo_record.proofs.Turns.{grown}
 
 -- what a pass has run: it is of the queue and of this thread, and its log has the calls of the script
 record Ran (q : OpenQueue) (script : List Begin) (thread : ℕ) (p : Logged) : Type 0 where
-  pub of : IsOf q p.pass
+  pub of : IsPassOf q p.pass
   pub thread_is : p.pass.thread ≡ thread
   pub ops : map (λ (c : Call). c.op) p.log ≡ map op_asked script
   pub mine : AllByRecursion (λ c. c.thread ≡ thread) p.log
@@ -102,7 +102,7 @@ may_run shape scripts q ps opened calls few t d less =
     let sized : q.opened.shape ≡ shape = ap (λ (o : Opening). o.shape) opened.opened in
     let short = no_longer 0 scripts t within in
     record {
-      of = subst (λ (p : Logged). IsOf q p.pass) (sym is) (logs_of_new q 0 (length scripts) t d (omega (arith, within, long q 0 (length scripts))));
+      of = subst (λ (p : Logged). IsPassOf q p.pass) (sym is) (logs_of_new q 0 (length scripts) t d (omega (arith, within, long q 0 (length scripts))));
       fresh = ap (λ (p : Logged). p.log) is ∙ no_log q 0 (length scripts) t d within;
       has_script = subst (λ (n : ℕ). n < length scripts) (sym thread) within;
       calls = subst (λ (x : Shape × ℕ). All (IsCall x.0) (script_of scripts x.1)) (λ i. (sym sized i, sym thread i)) (calls t [] within);
@@ -122,13 +122,13 @@ ran_by shape scripts q olds news opened made = each_ran q 0 scripts news (subst 
 
 -- ---- the passes
 
-all_of : (q : OpenQueue) (first : ℕ) (scripts : List (List Begin)) (ps : List Logged) → EachRan q first scripts ps → All (λ p. IsOf q p.pass) ps
-all_of q first [] [] ran = All-nil (λ p. IsOf q p.pass)
+all_of : (q : OpenQueue) (first : ℕ) (scripts : List (List Begin)) (ps : List Logged) → EachRan q first scripts ps → All (λ p. IsPassOf q p.pass) ps
+all_of q first [] [] ran = All-nil (λ p. IsPassOf q p.pass)
 all_of q first [] (p ∷ ps) ran = absurd ran
-all_of q first (script ∷ scripts) [] ran = All-nil (λ p. IsOf q p.pass)
-all_of q first (script ∷ scripts) (p ∷ ps) ran = All-cons (λ p. IsOf q p.pass) p ps ran.0.of (all_of q (suc first) scripts ps ran.1)
+all_of q first (script ∷ scripts) [] ran = All-nil (λ p. IsPassOf q p.pass)
+all_of q first (script ∷ scripts) (p ∷ ps) ran = All-cons (λ p. IsPassOf q p.pass) p ps ran.0.of (all_of q (suc first) scripts ps ran.1)
 
-pub all_of_queue : (shape : Shape) (scripts : List (List Begin)) (q : OpenQueue) (olds news : List Logged) → IsOpenFor shape scripts q olds → EachMakes scripts olds news → All (λ p. IsOf q p.pass) news
+pub all_of_queue : (shape : Shape) (scripts : List (List Begin)) (q : OpenQueue) (olds news : List Logged) → IsOpenFor shape scripts q olds → EachMakes scripts olds news → All (λ p. IsPassOf q p.pass) news
 all_of_queue shape scripts q olds news opened made = all_of q 0 scripts news (ran_by shape scripts q olds news opened made)
 
 counted : (q : OpenQueue) (first : ℕ) (scripts : List (List Begin)) (ps : List Logged) → EachRan q first scripts ps → length (passes_of ps) ≡ length scripts

@@ -6,7 +6,7 @@ use Rattle.kfifo_model.specs.declared.calls.Call.{Call}
 use Rattle.std.specs.List.{AllByRecursion}
 use Rattle.kfifo_machine.specs.declared.event.Begin.{Begin}
 use Rattle.kfifo_machine.specs.Calls.{op_asked}
-use Rattle.kfifo_live.specs.Pass.{IsSame, Known}
+use Rattle.kfifo_live.specs.Pass.{IsSamePass, PassView}
 use Rattle.kfifo_live.specs.Stamps.{Logged, stamped_call}
 use Rattle.kfifo_record.specs.Scripts.{MakesInTurn, MakesOne}
 
@@ -34,9 +34,9 @@ pub record Grown (script : List Begin) (old new : Logged) : Type 0 where
   pub ops : map (λ (c : Call). c.op) calls ≡ map op_asked script
   pub mine : AllByRecursion (λ c. c.thread ≡ old.pass.thread) calls
   pub ended : AllByRecursion (λ c. IsSome c.end) calls
-  pub same : IsSame old.pass new.pass
+  pub same : IsSamePass old.pass new.pass
 
-pub then_same : (p q r : Known) → IsSame p q → IsSame q r → IsSame p r
+pub then_same : (p q r : PassView) → IsSamePass p q → IsSamePass q r → IsSamePass p r
 then_same p q r a b = (b.0 ∙ a.0, b.1 ∙ a.1, b.2 ∙ a.2)
 
 pub grown : (script : List Begin) (old new : Logged) → MakesInTurn script old new → Grown script old new

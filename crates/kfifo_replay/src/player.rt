@@ -21,7 +21,7 @@ use std::alloc::{AllocError, Global};
 use std::marker::Model;
 
 /// The most calls of a script.
-pub const MAX_CALLS: usize = 64;
+pub const MAX_SCRIPT_CALLS: usize = 64;
 
 /// A replay of scripts, one for each thread, that has made the events of the picks that it was fed.
 ///
@@ -80,7 +80,7 @@ fn is_call(shape: &Shape, call: Begin) -> bool
 fn is_script(shape: &Shape, script: &[Begin]) -> bool
     ensures { IsTrue result ↔ IsScript shape.now script.now }
 {
-    script.len() <= MAX_CALLS && script.iter().all(|call| is_call(shape, *call))
+    script.len() <= MAX_SCRIPT_CALLS && script.iter().all(|call| is_call(shape, *call))
 }
 
 /// Whether each of these is a script that a thread may have.

@@ -10,7 +10,7 @@ use Rattle.std.proofs.lemmas.List.Sorted.{All-permutation, Contains-permutation}
 use Rattle.std.specs.List.Sorted.{IsPermutation, IsPartitionPoint, IsNonDecreasingBy}
 use Rattle.kfifo_model.specs.declared.calls.Call.{Call}
 use Rattle.kfifo_model.specs.declared.calls.End.{End}
-use Rattle.kfifo_model.specs.Relaxed.{Effect, Adds, Takes, Finds_none}
+use Rattle.kfifo_model.specs.Relaxed.{Effect, Adds, Takes, FindsNone}
 use Rattle.kfifo_model.specs.Histories.{call, does, HasEnd, IsFinished}
 use Rattle.kfifo_model.specs.Validity.{IsHistory}
 use Rattle.kfifo_verdict.specs.declared.deeds.Deed.{Deed}
@@ -318,7 +318,7 @@ no_items h ps line ts idle = record {
 pub put_deed : (x : ℕ) (e : Effect) (d : Deed) → IsDeed e d → e ≡ Adds x → d ≡ PutIn x
 put_deed x e (PutIn y) i q = let r : Adds y ≡ Adds x = sym i ∙ q in let s : y ≡ x = cc in ap (λ w. PutIn w) s
 put_deed x e (TookOut y) i q = let r : Takes y ≡ Adds x = sym i ∙ q in absurd (cc)
-put_deed x e FoundNone i q = let r : Finds_none ≡ Adds x = sym i ∙ q in absurd (cc)
+put_deed x e FoundNone i q = let r : FindsNone ≡ Adds x = sym i ∙ q in absurd (cc)
 put_deed x e Nothing i q = absurd (i.0 x q)
 
 pub start_within : (h : List Call) (ps : List Presence) (x p : ℕ) → IsPlain h → ArePresences h (length h) ps → Puts h x p → (presence ps p).start ≤ length ps
@@ -334,7 +334,7 @@ places_moved h ps n places line moved was = record {
 }
 
 -- a call that is no Empty may stand where it begins
-pub idle_at_start : (h : List Call) (ps : List Presence) (rank n : ℕ) → IsHistory h → n < length h → (does h n ≡ Finds_none → ⊥) → IsIdleTurn h ps rank n (record { moment = n; rank = rank })
+pub idle_at_start : (h : List Call) (ps : List Presence) (rank n : ℕ) → IsHistory h → n < length h → (does h n ≡ FindsNone → ⊥) → IsIdleTurn h ps rank n (record { moment = n; rank = rank })
 idle_at_start h ps rank n v inside none = record {
   ranked = refl;
   inside = (omega arith, inside, λ ended. let lt = reached (call h n).end (first_of h n) (first_of h n) (v n inside).ends ended in omega (arith, lt));

@@ -7,7 +7,7 @@ use Rattle.kfifo_model.specs.declared.calls.End.{End}
 use Rattle.kfifo_model.specs.declared.calls.Op.{Op}
 use Rattle.kfifo_model.specs.declared.calls.Op.TheVariants.{Enqueue, Dequeue}
 use Rattle.kfifo_model.specs.Lists.{IsIn, EachPair}
-use Rattle.kfifo_model.specs.Relaxed.{Effect, Adds, Takes, Finds_none, Refused, Wrong, Leaves, IsRun}
+use Rattle.kfifo_model.specs.Relaxed.{Effect, Adds, Takes, FindsNone, Refused, Wrong, Leaves, IsRun}
 use Rattle.kfifo_model.specs.Histories.{HasNoRepeats, call, does, effect_at, HasEnd, CanStand, IsFinished, EndsBelow, Precedes, IsLegal}
 use Rattle.kfifo_model.specs.Overtaking.{adds, takes}
 use Rattle.kfifo_model.specs.Validity.{IsHistory, EndsFrom}
@@ -26,7 +26,7 @@ takes_end op (Some end) x e = tt
 takes_end (Enqueue y) None x e = absurd (cc)
 takes_end Dequeue None x e = absurd (cc)
 
-finds_end : (op : Op) (o : Option End) → effect_at op o ≡ Finds_none → HasEnd o
+finds_end : (op : Op) (o : Option End) → effect_at op o ≡ FindsNone → HasEnd o
 finds_end op (Some end) e = tt
 finds_end (Enqueue y) None e = absurd (cc)
 finds_end Dequeue None e = absurd (cc)
@@ -47,7 +47,7 @@ below_end None s b = absurd b
 pub got_ended : (h : List Call) (x g : ℕ) → Gets h x g → IsFinished h g
 got_ended h x g e = takes_end (call h g).op (call h g).end x e
 
-pub found_ended : (h : List Call) (g : ℕ) → does h g ≡ Finds_none → IsFinished h g
+pub found_ended : (h : List Call) (g : ℕ) → does h g ≡ FindsNone → IsFinished h g
 found_ended h g e = finds_end (call h g).op (call h g).end e
 
 pub put_inside : (h : List Call) (x p : ℕ) → Puts h x p → p < length h
@@ -134,14 +134,14 @@ times_map h t (c ∷ l) = let on = times_map h t l in let p = count_cons (λ c. 
 pub takes_is : (x : ℕ) (e : Effect) → takes x e ≡ true → e ≡ Takes x
 takes_is x (Takes y) t = ap (λ w. Takes w) (sym (eqb-true x y t))
 takes_is x (Adds y) t = absurd (cc)
-takes_is x Finds_none t = absurd (cc)
+takes_is x FindsNone t = absurd (cc)
 takes_is x Refused t = absurd (cc)
 takes_is x Wrong t = absurd (cc)
 
 pub adds_is : (x : ℕ) (e : Effect) → adds x e ≡ true → e ≡ Adds x
 adds_is x (Adds y) t = ap (λ w. Adds w) (sym (eqb-true x y t))
 adds_is x (Takes y) t = absurd (cc)
-adds_is x Finds_none t = absurd (cc)
+adds_is x FindsNone t = absurd (cc)
 adds_is x Refused t = absurd (cc)
 adds_is x Wrong t = absurd (cc)
 

@@ -3,7 +3,7 @@ use Rattle.std.proofs.Common.{ℕ, zero, suc, ◌≡◌, ◌≢◌, ◌+◌, ◌
 use Rattle.std.specs.List.{remove}
 use Rattle.kfifo_model.specs.declared.calls.Call.{Call}
 use Rattle.kfifo_model.specs.Lists.{IsIn}
-use Rattle.kfifo_model.specs.Relaxed.{Effect, Adds, Takes, Finds_none, Refused, Wrong, Leaves, IsRun}
+use Rattle.kfifo_model.specs.Relaxed.{Effect, Adds, Takes, FindsNone, Refused, Wrong, Leaves, IsRun}
 use Rattle.kfifo_model.specs.Histories.{does}
 use Rattle.kfifo_model.specs.Overtaking.{adds, takes}
 use Rattle.kfifo_model.proofs.Forgetting.{Has}
@@ -57,7 +57,7 @@ kept_by k x items after (Adds y) s h never = let P : List ℕ → Type 0 = λ w.
 kept_by k x items after (Takes y) s h never =
     let P : List ℕ → Type 0 = λ w. IsIn x w in
     subst P (sym s.3) (stays_in x y items s.0 h s.2 (λ q. never (ap (λ w. Takes w) q)))
-kept_by k x items after Finds_none s h never = let P : List ℕ → Type 0 = λ w. IsIn x w in subst P (s.0 ∙ sym s.1) h
+kept_by k x items after FindsNone s h never = let P : List ℕ → Type 0 = λ w. IsIn x w in subst P (s.0 ∙ sym s.1) h
 kept_by k x items after Refused s h never = let P : List ℕ → Type 0 = λ w. IsIn x w in subst P (sym s) h
 kept_by k x items after Wrong s h never = absurd s
 
@@ -83,7 +83,7 @@ was_by k x items after (Adds y) s h =
     let P : List ℕ → Type 0 = λ w. IsIn x w in
     elim (in_append x items (y ∷ []) (subst P s h)) [ inl i ↦ inl i | inr i ↦ elim i [ inl q ↦ inr (ap (λ w. Adds w) q) | inr never ↦ absurd never ] ]
 was_by k x items after (Takes y) s h = let P : List ℕ → Type 0 = λ w. IsIn x w in inl (was_in x items s.0 (subst P s.3 h))
-was_by k x items after Finds_none s h = let P : List ℕ → Type 0 = λ w. IsIn x w in inl (subst P (s.1 ∙ sym s.0) h)
+was_by k x items after FindsNone s h = let P : List ℕ → Type 0 = λ w. IsIn x w in inl (subst P (s.1 ∙ sym s.0) h)
 was_by k x items after Refused s h = let P : List ℕ → Type 0 = λ w. IsIn x w in inl (subst P s h)
 was_by k x items after Wrong s h = absurd s
 
@@ -126,7 +126,7 @@ behind_by k y front back after (Adds z) s never = record { before = front; behin
 behind_by k y front back after (Takes z) s never =
     let r = remove_round y z front back s.0 s.2 (λ q. never (ap (λ w. Takes w) q)) in
     record { before = r.before; behind = r.behind; is = s.3 ∙ r.is; was = r.was; kept = λ x h n. r.kept x h (λ q. n (ap (λ w. Takes w) q)) }
-behind_by k y front back after Finds_none s never = record { before = front; behind = back; is = s.1 ∙ sym s.0; was = λ x h. h; kept = λ x h n. h }
+behind_by k y front back after FindsNone s never = record { before = front; behind = back; is = s.1 ∙ sym s.0; was = λ x h. h; kept = λ x h n. h }
 behind_by k y front back after Refused s never = record { before = front; behind = back; is = s; was = λ x h. h; kept = λ x h n. h }
 behind_by k y front back after Wrong s never = absurd s
 
@@ -185,7 +185,7 @@ taken_as_often k x items (Takes y ∷ es) r =
     let e = copies_remove x y items s.0 s.2 in
     let a = ap (copies x) s.3 in
     omega (arith, on, e, a)
-taken_as_often k x items (Finds_none ∷ es) r =
+taken_as_often k x items (FindsNone ∷ es) r =
     let on = taken_as_often k x r.0 es r.2 in
     let a = ap (copies x) (r.1.1 ∙ sym r.1.0) in
     omega (arith, on, a)

@@ -7,7 +7,7 @@ use Rattle.kfifo_model.specs.declared.calls.Op.{Op}
 use Rattle.kfifo_model.specs.declared.calls.End.{End}
 use Rattle.std.specs.List.{AllByRecursion}
 use Rattle.kfifo_model.specs.Lists.{IsIn, EachPair}
-use Rattle.kfifo_model.specs.Relaxed.{Effect, Adds, Takes, Finds_none, Refused, Wrong, Leaves, IsRun}
+use Rattle.kfifo_model.specs.Relaxed.{Effect, Adds, Takes, FindsNone, Refused, Wrong, Leaves, IsRun}
 use Rattle.kfifo_model.specs.Histories.{call, does, HasEnd, CanStand, IsFinished, Precedes, IsLegal}
 use Rattle.kfifo_model.proofs.Lists.{in_append, in_left, in_right, each_at, each_from, pairs_push, pairs_weaker}
 use Rattle.kfifo_verdict.specs.Evidence.{Puts, Gets}
@@ -23,7 +23,7 @@ pub record Fits (h : List Call) (R : ℕ → ℕ → Type 0) : Type 0 where
   pub once : (x g f : ℕ) → Gets h x g → Gets h x f → g ≡ f
   pub own : (x p g : ℕ) → Puts h x p → Gets h x g → R p g
   pub follow : (x y p q g : ℕ) → Puts h x p → Puts h y q → Gets h y g → R p q → (f : ℕ) × Gets h x f × R f g
-  pub empty : (x p e : ℕ) → Puts h x p → does h e ≡ Finds_none → R p e → (f : ℕ) × Gets h x f × R f e
+  pub empty : (x p e : ℕ) → Puts h x p → does h e ≡ FindsNone → R p e → (f : ℕ) × Gets h x f × R f e
   pub before : (c d : ℕ) → c < length h → d < length h → Precedes h c d → R c d
 
 -- the item that a call adds
@@ -171,7 +171,7 @@ head_of h R c x rest (q ∷ queue) f gets t =
     ]
 
 -- nothing is there at an Empty
-none_held : (h : List Call) (R : ℕ → ℕ → Type 0) (c : ℕ) (rest queue : List ℕ) → Fits h R → does h c ≡ Finds_none → Holds h R (c ∷ rest) queue → queue ≡ []
+none_held : (h : List Call) (R : ℕ → ℕ → Type 0) (c : ℕ) (rest queue : List ℕ) → Fits h R → does h c ≡ FindsNone → Holds h R (c ∷ rest) queue → queue ≡ []
 none_held h R c rest [] f e t = refl
 none_held h R c rest (q ∷ queue) f e t =
     let o = t.held q (inl refl) in
@@ -201,11 +201,11 @@ step h R c rest queue effects f t go (Adds x) q = (
   go (queue ++ c ∷ []) (holds_added h R c x rest queue f q t),
 )
 step h R c rest queue effects f t go (Takes x) q = step_taken h R c x rest queue effects f q t (head_of h R c x rest queue f q t) go
-step h R c rest queue effects f t go Finds_none q =
+step h R c rest queue effects f t go FindsNone q =
     let none = none_held h R c rest queue f q t in (
       map (item h) queue,
       (ap (map (item h)) none, ap (map (item h)) none),
-      go queue (holds_same h R c rest queue f (λ x a. let e : Adds x ≡ Finds_none = sym a ∙ q in cc) (λ x a. let e : Takes x ≡ Finds_none = sym a ∙ q in cc) t),
+      go queue (holds_same h R c rest queue f (λ x a. let e : Adds x ≡ FindsNone = sym a ∙ q in cc) (λ x a. let e : Takes x ≡ FindsNone = sym a ∙ q in cc) t),
     )
 step h R c rest queue effects f t go Refused q = (
   map (item h) queue,

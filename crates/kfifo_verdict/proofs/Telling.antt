@@ -2,7 +2,7 @@
 use Rattle.std.proofs.Common.{ℕ, ◌≡◌, ◌≢◌, ◌+◌, ◌<◌, ◌≤◌, Bool, true, false, cond, eqb, List, length, add-one, refl, sym, ◌∙◌, ap, subst, inl, inr, arith}
 use Rattle.std.proofs.lemmas.Bool.{cases_lt, cases_eq, eq-eqb, ne_eqb, false≢true, false_from_ne_true}
 use Rattle.kfifo_model.specs.declared.calls.Call.{Call}
-use Rattle.kfifo_model.specs.Relaxed.{Effect, Adds, Takes, Finds_none}
+use Rattle.kfifo_model.specs.Relaxed.{Effect, Adds, Takes, FindsNone}
 use Rattle.kfifo_model.specs.Overtaking.{adds, takes}
 use Rattle.kfifo_model.specs.Histories.{does}
 use Rattle.kfifo_verdict.specs.declared.deeds.Deed.{Deed}
@@ -159,8 +159,8 @@ twice_tells h x g put got ps gs is t =
     (omega (arith, upper, lower), omega (arith, a, b, more))
 
 -- what finds no item is told so
-pub found_deed : (e : Effect) (d : Deed) → IsDeed e d → e ≡ Finds_none → d ≡ FoundNone
-found_deed e (PutIn x) i q = let r : Adds x ≡ Finds_none = sym i ∙ q in absurd (cc)
-found_deed e (TookOut x) i q = let r : Takes x ≡ Finds_none = sym i ∙ q in absurd (cc)
+pub found_deed : (e : Effect) (d : Deed) → IsDeed e d → e ≡ FindsNone → d ≡ FoundNone
+found_deed e (PutIn x) i q = let r : Adds x ≡ FindsNone = sym i ∙ q in absurd (cc)
+found_deed e (TookOut x) i q = let r : Takes x ≡ FindsNone = sym i ∙ q in absurd (cc)
 found_deed e FoundNone i q = refl
 found_deed e Nothing i q = absurd (i.2 q)

@@ -6,7 +6,7 @@ use Rattle.kfifo_model.specs.declared.calls.Call.{Call}
 use Rattle.kfifo_model.specs.declared.calls.End.{End}
 use Rattle.kfifo_model.specs.declared.calls.Op.{Op}
 use Rattle.kfifo_model.specs.Overtaking.{adds}
-use Rattle.kfifo_model.specs.Relaxed.{Effect, Adds, Takes, Finds_none, Refused, Wrong}
+use Rattle.kfifo_model.specs.Relaxed.{Effect, Adds, Takes, FindsNone, Refused, Wrong}
 use Rattle.kfifo_model.specs.Histories.{call, does, effect_at, HasEnd, Precedes, IsLegal}
 use Rattle.kfifo_model.specs.Validity.{IsHistory, Answers}
 use Rattle.kfifo_verdict.specs.declared.presences.Presence.{Presence}
@@ -210,15 +210,15 @@ Role h c = ((x : ℕ) × Puts h x c) ⊎ (((x : ℕ) × Gets h x c) ⊎ IsIdle h
 role_by : (h : List Call) (c : ℕ) (e : Effect) → does h c ≡ e → Role h c
 role_by h c (Adds x) q = inl (x, q)
 role_by h c (Takes x) q = inr (inl (x, q))
-role_by h c Finds_none q = inr (inr (λ x a. (let e : Adds x ≡ Finds_none = sym a ∙ q in cc), λ x a. (let e : Takes x ≡ Finds_none = sym a ∙ q in cc)))
+role_by h c FindsNone q = inr (inr (λ x a. (let e : Adds x ≡ FindsNone = sym a ∙ q in cc), λ x a. (let e : Takes x ≡ FindsNone = sym a ∙ q in cc)))
 role_by h c Refused q = inr (inr (λ x a. (let e : Adds x ≡ Refused = sym a ∙ q in cc), λ x a. (let e : Takes x ≡ Refused = sym a ∙ q in cc)))
 role_by h c Wrong q = inr (inr (λ x a. (let e : Adds x ≡ Wrong = sym a ∙ q in cc), λ x a. (let e : Takes x ≡ Wrong = sym a ∙ q in cc)))
 
 role : (h : List Call) (c : ℕ) → Role h c
 role h c = role_by h c (does h c) refl
 
-finds_none_idle : (h : List Call) (c : ℕ) → does h c ≡ Finds_none → IsIdle h c
-finds_none_idle h c q = (λ x a. (let e : Adds x ≡ Finds_none = sym a ∙ q in cc), λ x a. (let e : Takes x ≡ Finds_none = sym a ∙ q in cc))
+finds_none_idle : (h : List Call) (c : ℕ) → does h c ≡ FindsNone → IsIdle h c
+finds_none_idle h c q = (λ x a. (let e : Adds x ≡ FindsNone = sym a ∙ q in cc), λ x a. (let e : Takes x ≡ FindsNone = sym a ∙ q in cc))
 
 sound_of : (op : Op) (o : Option End) → HasEnd o → Answers op o → effect_at op o ≢ Wrong
 sound_of op (Some end) e a = a
@@ -384,7 +384,7 @@ module _ (h : List Call) (ps : List Presence) (line : List (ℕ × ℕ × ℕ)) 
   idle_turn : (c : ℕ) → c < length h → IsIdle h c → IsIdleTurn h ps (length line + length line) c (turn ts c)
   idle_turn c lt n = t.idle c lt n.0 n.1
 
-  gone_before : (x p e : ℕ) → Puts h x p → e < length h → does h e ≡ Finds_none → IsBefore ts p e → (f : ℕ) × Gets h x f × IsBefore ts f e
+  gone_before : (x p e : ℕ) → Puts h x p → e < length h → does h e ≡ FindsNone → IsBefore ts p e → (f : ℕ) × Gets h x f × IsBefore ts f e
   gone_before x p e a lt q r =
       let u = item_turn x p a in
       let i = u.0 in

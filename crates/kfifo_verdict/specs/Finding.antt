@@ -4,7 +4,7 @@ use Rattle.std.specs.Ordering.{nat_cmp}
 use Rattle.std.specs.BTreeMap.{BTreeMap, get}
 use Rattle.kfifo_model.specs.declared.calls.Call.{Call}
 use Rattle.kfifo_model.specs.declared.calls.End.{End}
-use Rattle.kfifo_model.specs.Relaxed.{Effect, Adds, Takes, Finds_none}
+use Rattle.kfifo_model.specs.Relaxed.{Effect, Adds, Takes, FindsNone}
 use Rattle.kfifo_model.specs.Overtaking.{adds, takes}
 use Rattle.std.specs.List.{AllByRecursion}
 use Rattle.kfifo_model.specs.Histories.{call, does, EndsBelow}
@@ -24,8 +24,8 @@ use Rattle.kfifo_verdict.specs.Judging.{FoundNotEmpty}
 abbrev pub IsDeed : Effect → Deed → Type 0
 IsDeed e (PutIn x) = e ≡ Adds x
 IsDeed e (TookOut x) = e ≡ Takes x
-IsDeed e FoundNone = e ≡ Finds_none
-IsDeed e Nothing = ((x : ℕ) → e ≡ Adds x → ⊥) × ((x : ℕ) → e ≡ Takes x → ⊥) × (e ≡ Finds_none → ⊥)
+IsDeed e FoundNone = e ≡ FindsNone
+IsDeed e Nothing = ((x : ℕ) → e ≡ Adds x → ⊥) × ((x : ℕ) → e ≡ Takes x → ⊥) × (e ≡ FindsNone → ⊥)
 
 abbrev pub side_effect : Side → ℕ → Effect
 side_effect In x = Adds x

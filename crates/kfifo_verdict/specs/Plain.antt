@@ -5,7 +5,7 @@ use Rattle.std.specs.List.{All, Contains}
 use Rattle.std.specs.List.Sorted.{IsSortedBy}
 use Rattle.std.specs.Ordering.{is_lt, nat_cmp, ordering_then}
 use Rattle.kfifo_model.specs.declared.calls.Call.{Call}
-use Rattle.kfifo_model.specs.Relaxed.{Finds_none}
+use Rattle.kfifo_model.specs.Relaxed.{FindsNone}
 use Rattle.kfifo_model.specs.Lists.{IsIn, EachPair}
 use Rattle.kfifo_model.specs.Histories.{call, does, EndsBelow, IsFinished}
 use Rattle.kfifo_verdict.specs.declared.presences.Presence.{Presence}
@@ -72,7 +72,7 @@ IsGap ps m = (p : ℕ) → p < length ps → (presence ps p).start ≤ m → (pr
 pub record IsIdleTurn (h : List Call) (ps : List Presence) (rank c : ℕ) (t : Turn) : Type 0 where
   pub ranked : t.rank ≡ rank
   pub inside : IsInCall h c t.moment
-  pub gap : does h c ≡ Finds_none → IsGap ps t.moment
+  pub gap : does h c ≡ FindsNone → IsGap ps t.moment
 
 -- the first n calls, as if all were such
 pub record AreIdle (h : List Call) (ps : List Presence) (rank n : ℕ) (ts : List Turn) : Type 0 where

@@ -1,7 +1,7 @@
 //! The search for evidence.
 ghost use Rattle.std.specs.Prelude.{ℕ, ◌≡◌, ◌+◌, ◌^◌, ◌<◌, ◌≤◌, ◌↔◌, ◌⊎◌, IsTrue, List, length, slice_index_or, IfOk, OnSome, MatchOption};
 ghost use Rattle.kfifo_model.specs.Histories.{call, effect_of, does, EndsBelow};
-ghost use Rattle.kfifo_model.specs.Relaxed.{Takes, Finds_none};
+ghost use Rattle.kfifo_model.specs.Relaxed.{Takes, FindsNone};
 ghost use Rattle.kfifo_model.specs.Validity.{IsHistory};
 ghost use Rattle.kfifo_model.specs.Searching.{HasOrder};
 ghost use Rattle.kfifo_verdict.specs.Evidence.{IsNeverPut, IsTakenTwice, IsNotEmpty, IsTooYoung, IsSingle, Gets, count_below};
@@ -163,7 +163,7 @@ pub(crate) fn cover(
     requires history { IsHistory calls.now }
     requires stays { AreStays calls.now stays.now }
     requires inside { empty < length calls.now }
-    requires found { does calls.now empty ≡ Finds_none }
+    requires found { does calls.now empty ≡ FindsNone }
     ensures { IfOk result (IsCovered calls.now stays.now empty) }
 {
     let mut puts = Vec::new(alloc);

@@ -2,7 +2,7 @@
 ghost use Rattle.std.specs.Prelude.{◌≡◌, ◌≢◌, ◌<◌, ◌≤◌, ◌⊎◌, ◌↔◌, None, Some, IfSome, IfOk, IsErrOf, All, length, map, reverse};
 ghost use denote.RawPtr.{Ptr};
 ghost use Rattle.kfifo_words.specs.Sizes.{fault_of};
-ghost use Rattle.kfifo_live.specs.Pass.{IsOf};
+ghost use Rattle.kfifo_live.specs.Pass.{IsPassOf};
 ghost use Rattle.kfifo_live.specs.declared.fault.OpenFault.TheVariants.{ThreadsOutOfRange, TokensOutOfRange};
 ghost use Rattle.kfifo_c.specs.ValueHandles.{values_behind};
 ghost use Rattle.kfifo_c.specs.Exports.{shape_number};
@@ -24,7 +24,7 @@ fn seat_all(
     mut passes: Vec<PayPass<u64>>,
     threads: u32,
 ) -> Result<Vec<Box<ValueSeat, Global>>, AllocError>
-    requires of { All (λ p. IsOf queue p.pass) passes.items }
+    requires of { All (λ p. IsPassOf queue p.pass) passes.items }
     requires threads { threads ≡ queue.opened.threads }
     ensures { IfOk result (λ seats. reverse (map (λ seat. seat.value) seats.items) ≡ value_seats_of queue passes.items) }
 {

@@ -1,6 +1,6 @@
 //! What a handle of a queue of values stands for.
 ghost use Rattle.std.specs.Prelude.{◌≡◌, ◌*◌};
-ghost use Rattle.kfifo_live.specs.Pass.{IsOf};
+ghost use Rattle.kfifo_live.specs.Pass.{IsPassOf};
 ghost use Rattle.kfifo_c.specs.ValueSeats.{ValueSeated, value_seated};
 ghost use Rattle.kfifo_c.specs.Values.{GivesValue, TakesValue};
 
@@ -25,7 +25,7 @@ impl Model for ValueSeat {
 
     ghost view = { λ s. record { queue = s.queue.value; held = s.handle } };
 
-    ghost invariant = { λ s. IsOf s.queue.value s.handle.pass.pass × (s.threads ≡ s.queue.value.opened.threads) };
+    ghost invariant = { λ s. IsPassOf s.queue.value s.handle.pass.pass × (s.threads ≡ s.queue.value.opened.threads) };
 }
 
 impl ValueSeat {
@@ -35,7 +35,7 @@ impl ValueSeat {
         pass: PayPass<u64>,
         threads: u32,
     ) -> ValueSeat
-        requires of { IsOf queue.value pass.pass }
+        requires of { IsPassOf queue.value pass.pass }
         requires threads { threads ≡ queue.value.opened.threads }
         ensures { result ≡ value_seated queue.value pass }
     {
@@ -79,7 +79,7 @@ impl ValueSeat {
     pub(crate) fn into_parts(self) -> (Arc<PayQueue<u64>, Global>, PayPass<u64>)
         ensures queue { result.0.value ≡ self.queue }
         ensures pass { result.1 ≡ self.held.pass }
-        ensures of { IsOf self.queue result.1.pass }
+        ensures of { IsPassOf self.queue result.1.pass }
     {
         let ValueSeat { queue, handle, .. } = self;
         (queue, handle.into_pass())

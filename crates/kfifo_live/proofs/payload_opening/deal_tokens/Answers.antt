@@ -3,7 +3,7 @@ use Rattle.kfifo_live.specs.declared.view.Opening.{Opening}
 use Rattle.kfifo_live.specs.declared.view.View.{View}
 use Rattle.kfifo_live.specs.Schedule.{GiftsFit, seen_of, gifts_of, hand_of, more_in, count_up, first_part, other_parts}
 use Rattle.kfifo_live.specs.Pass.{queue_of}
-use Rattle.kfifo_live.specs.Payloads.{IsPool, IsPayPass, pay_known_of, pool_for}
+use Rattle.kfifo_live.specs.Payloads.{IsPool, IsPayPass, pay_pass_view, pool_for}
 use Rattle.kfifo_live.proofs.Opens.{new_pass, cut_first}
 use Rattle.kfifo_live.proofs.Pays.{new_pay_passes-snoc}
 use Rattle.kfifo_live.proofs.Pools.{pool_is, pool_goes_on, pooled_few, pooled_home, length-pool_for}
@@ -79,7 +79,7 @@ loop-thread-preserved g c =
       view = cut.1;
       made =
           c.in_ok-push.ensures.items
-          ∙ (λ k. i.made k ++ pay_known_of ((a.same.0 ∙ table) k) c.loop-thread.thread ((ap (λ x. x.0) a.same.1 ∙ cut.0) k) ∷ [])
+          ∙ (λ k. i.made k ++ pay_pass_view ((a.same.0 ∙ table) k) c.loop-thread.thread ((ap (λ x. x.0) a.same.1 ∙ cut.0) k) ∷ [])
           ∙ sym (new_pay_passes-snoc (queue_of z o) 0 c.loop-thread.thread c.loop-thread.thread n);
       within = (let less = c.loop-thread-test.true in omega arith);
       pool =

@@ -5,7 +5,7 @@ use Rattle.std.proofs.lemmas.List.Elements.{All-map}
 use Rattle.std.proofs.lemmas.List.Sorted.{IsNonDecreasingBy-from_sort_by_key}
 use Rattle.kfifo_model.specs.declared.calls.Call.{Call}
 use Rattle.kfifo_machine.proofs.Calls.{no_fault}
-use Rattle.kfifo_live.specs.Pass.{Closes, IsComplete, IsOf, Known, OpenQueue}
+use Rattle.kfifo_live.specs.Pass.{Closes, IsComplete, IsPassOf, PassView, OpenQueue}
 use Rattle.kfifo_live.specs.Stamps.{Gathers, Logged, passes_of}
 use Rattle.kfifo_live.proofs.Records.{gathered, gathered_history}
 use Rattle.kfifo_live.proofs.recording.gather.Goals as goal
@@ -39,5 +39,5 @@ returns-clause-ok c =
 pub close-requires : goal.close-requires
 close-requires c =
     let q = c.args.queue in
-    subst (λ (x : OpenQueue × List Known). All (IsOf x.0) x.1) (λ i. (sym c.queue.view_is i, sym c.in_ok-calls.ensures.passes i))
-    (All-map (IsOf q) (λ (p : Logged). p.pass) c.args.passes.items c.requires)
+    subst (λ (x : OpenQueue × List PassView). All (IsPassOf x.0) x.1) (λ i. (sym c.queue.view_is i, sym c.in_ok-calls.ensures.passes i))
+    (All-map (IsPassOf q) (λ (p : Logged). p.pass) c.args.passes.items c.requires)

@@ -1,6 +1,6 @@
 use Rattle.std.proofs.Common.{◌≡◌, ◌≤◌, ◌*◌, ◌++◌, ℕ, length, drop, Some, vec_len, sym, ap, subst, ◌∙◌, arith}
-use Rattle.kfifo_live.specs.Pass.{OpenQueue, IsOf}
-use Rattle.kfifo_live.specs.Payloads.{PayKnown, PayCloses}
+use Rattle.kfifo_live.specs.Pass.{OpenQueue, IsPassOf}
+use Rattle.kfifo_live.specs.Payloads.{PayPassView, PayCloses}
 use Rattle.kfifo_c.specs.ValueHandles.{values_behind}
 use Rattle.kfifo_c.specs.Values.{last_seat}
 use Rattle.kfifo_c.proofs.ValuePasses.{few_closed, last_queue}
@@ -8,7 +8,7 @@ use Rattle.kfifo_c.proofs.value_queue.closing.kfifo_c_close_values.Goals as goal
 
 pub close-requires : goal.close-requires
 close-requires c =
-    subst (λ (q : OpenQueue). IsOf q c.into_parts-queue.result.1.pass) (sym (c.in-Some-into_inner.ensures ∙ c.into_parts-queue.ensures.queue)) c.into_parts-queue.ensures.of
+    subst (λ (q : OpenQueue). IsPassOf q c.into_parts-queue.result.1.pass) (sym (c.in-Some-into_inner.ensures ∙ c.into_parts-queue.ensures.queue)) c.into_parts-queue.ensures.of
 
 pub write_values-requires : goal.write_values-requires
 write_values-requires c =
@@ -36,7 +36,7 @@ returns-clause-done c = λ _.
       seat = c.in-Some.seat.value;
       is_last = ap last_seat (sym c.may_close.ensures.same) ∙ c.in-Some.ensures.last;
       left = left;
-      closes = subst (λ (p : PayKnown ℕ). PayCloses c.in-Some.seat.value.queue p left) pass
+      closes = subst (λ (p : PayPassView ℕ). PayCloses c.in-Some.seat.value.queue p left) pass
           (subst (λ (q : OpenQueue). PayCloses q c.into_parts-queue.result.1 left) queue c.in-Ok.ensures.ok);
       count_is = c.len.ensures ∙ v;
       written = c.write_values.ensures ∙ ap (λ l. l ++ drop (length l) c.args.values.now) c.as_slice.ensures.value;

@@ -5,7 +5,7 @@ use Rattle.kfifo_model.specs.declared.calls.Answer.TheVariants as A
 use Rattle.kfifo_machine.specs.declared.place.Next.TheVariants.{Answers}
 use Rattle.kfifo_live.specs.declared.payload.Taken.TheVariants as K
 use Rattle.kfifo_live.specs.Hands.{FitsOwn, out_next}
-use Rattle.kfifo_live.specs.Payloads.{PayKnown, TakesOut, pay_known_of}
+use Rattle.kfifo_live.specs.Payloads.{PayPassView, TakesOut, pay_pass_view}
 use Rattle.kfifo_live.proofs.Passes.{promised}
 use Rattle.kfifo_live.proofs.Pays.{idle_took, some_took, fits_took, none_pass, none_dequeued, got_out, got_held, got_pass, got_takes}
 use Rattle.kfifo_live.proofs.payload.PayPass.take.Goals as goal
@@ -47,7 +47,7 @@ unreachable-requires g c = none_of c.dequeue.result (fits_took c.self.invariant 
 pub returns-in-Got-clause-takes : goal.returns-in-Got-clause-takes
 returns-in-Got-clause-takes g c =
     let t = c.take_back.ensures in
-    subst (λ (x : PayKnown g.row.T.Denot). TakesOut c.args.start c.args.turns (K.Got c.take_back.result) x (pay_known_of c.take_back.new.seat.table_id c.self.inside.thread c.take_back.new.seat.me.0)) c.self.view_is
+    subst (λ (x : PayPassView g.row.T.Denot). TakesOut c.args.start c.args.turns (K.Got c.take_back.result) x (pay_pass_view c.take_back.new.seat.table_id c.self.inside.thread c.take_back.new.seat.me.0)) c.self.view_is
     (got_takes c.self.invariant c.dequeue.ensures.leads c.in-Got.is t.laid.0 t.laid.1 c.take_back.result t.payload _ _)
 
 pub returns-in-Got-clause-promise : goal.returns-in-Got-clause-promise
@@ -55,7 +55,7 @@ returns-in-Got-clause-promise g c = promised _ c.take_back.new.seat.me (invarian
 
 pub returns-in-Empty-clause-takes : goal.returns-in-Empty-clause-takes
 returns-in-Empty-clause-takes g c =
-    subst (λ (x : PayKnown g.row.T.Denot). TakesOut c.args.start c.args.turns K.Empty x (pay_known_of c.dequeue.new.seat.table_id c.self.inside.thread c.dequeue.new.seat.me.0)) c.self.view_is
+    subst (λ (x : PayPassView g.row.T.Denot). TakesOut c.args.start c.args.turns K.Empty x (pay_pass_view c.dequeue.new.seat.table_id c.self.inside.thread c.dequeue.new.seat.me.0)) c.self.view_is
     (none_dequeued c.self.invariant c.in-Empty.ensures.leads _ _)
 
 pub returns-in-Empty-clause-promise : goal.returns-in-Empty-clause-promise
@@ -63,7 +63,7 @@ returns-in-Empty-clause-promise g c = promised _ c.dequeue.new.seat.me (invarian
 
 pub returns-in-Busy-clause-takes : goal.returns-in-Busy-clause-takes
 returns-in-Busy-clause-takes g c =
-    subst (λ (x : PayKnown g.row.T.Denot). TakesOut c.args.start c.args.turns K.Busy x (pay_known_of c.dequeue.new.seat.table_id c.self.inside.thread c.dequeue.new.seat.me.0)) c.self.view_is
+    subst (λ (x : PayPassView g.row.T.Denot). TakesOut c.args.start c.args.turns K.Busy x (pay_pass_view c.dequeue.new.seat.table_id c.self.inside.thread c.dequeue.new.seat.me.0)) c.self.view_is
     (none_dequeued c.self.invariant c.in-Busy.ensures.leads _ _)
 
 pub returns-in-Busy-clause-promise : goal.returns-in-Busy-clause-promise
@@ -71,7 +71,7 @@ returns-in-Busy-clause-promise g c = promised _ c.dequeue.new.seat.me (invariant
 
 pub returns-in-Worn-clause-takes : goal.returns-in-Worn-clause-takes
 returns-in-Worn-clause-takes g c =
-    subst (λ (x : PayKnown g.row.T.Denot). TakesOut c.args.start c.args.turns K.Worn x (pay_known_of c.dequeue.new.seat.table_id c.self.inside.thread c.dequeue.new.seat.me.0)) c.self.view_is
+    subst (λ (x : PayPassView g.row.T.Denot). TakesOut c.args.start c.args.turns K.Worn x (pay_pass_view c.dequeue.new.seat.table_id c.self.inside.thread c.dequeue.new.seat.me.0)) c.self.view_is
     (none_dequeued c.self.invariant c.in-Worn.ensures.leads _ _)
 
 pub returns-in-Worn-clause-promise : goal.returns-in-Worn-clause-promise
