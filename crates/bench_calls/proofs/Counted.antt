@@ -1,5 +1,6 @@
 -- A complete execution is one call more, and that of an enqueue one item more.
-use Rattle.std.proofs.Common.{◌≡◌, ℕ, zero, suc, ◌+◌, ◌-◌, ◌≤◌, List, [], ◌∷◌, ◌++◌, length, filter, is_some, Some, refl, ap, ◌∙◌, length-append, append_assoc, arith}
+use Rattle.std.proofs.Common.{◌≡◌, ℕ, zero, suc, ◌+◌, ◌-◌, ◌≤◌, List, [], ◌∷◌, ◌++◌, length, filter, is_some, Some, refl, ap, ◌∙◌}
+use Rattle.std.proofs.Common.{length-append, append_assoc, arith}
 use Rattle.std.specs.List.{filter_map, range_with_len}
 use Rattle.std.proofs.lemmas.List.Elements.{filter-append, filter_map-append}
 use Rattle.kfifo_words.specs.declared.shape.Shape.{Shape}
@@ -29,7 +30,8 @@ none_put (e ∷ es) h = rw h.0 (none_put es h.1)
 
 -- the own events after a complete execution: that which begins the call, and events that begin nothing
 own_after : (shape : Shape) (threads thread : ℕ) (call : Begin) (answer : Answer) (old new : List Event)
-    → (h : CompleteExecution shape threads thread call answer old new) → own thread new ≡ own thread old ++ event thread (Some call) ∷ h.one_call.others
+    → (h : CompleteExecution shape threads thread call answer old new)
+    → own thread new ≡ own thread old ++ event thread (Some call) ∷ h.one_call.others
 own_after shape threads thread call answer old new h =
     ap (own thread) (h.new_is ∙ append_assoc old h.between (h.last ∷ [])) ∙ own-append thread old (h.between ++ h.last ∷ [])
     ∙ ap (λ es. own thread old ++ es) h.one_call.first
@@ -44,11 +46,13 @@ one_more shape threads thread call answer old new h =
     ∙ ap (λ es. calls thread old + length (event thread (Some call) ∷ es)) (none_begun h.one_call.others h.one_call.go_on)
 
 pub item_more : (shape : Shape) (threads thread item start turns : ℕ) (answer : Answer) (old new : List Event)
-    → CompleteExecution shape threads thread (Enqueue item start turns) answer old new → items_put thread new ≡ items_put thread old ++ item ∷ []
+    → CompleteExecution shape threads thread (Enqueue item start turns) answer old new
+    → items_put thread new ≡ items_put thread old ++ item ∷ []
 unfolding put
 item_more shape threads thread item start turns answer old new h =
     ap put (own_after shape threads thread (Enqueue item start turns) answer old new h)
-    ∙ filter_map-append (λ (e : Event). item_of e.begin) (own thread old) (event thread (Some (Enqueue item start turns)) ∷ h.one_call.others)
+    ∙ filter_map-append (λ (e : Event). item_of e.begin) (own thread old)
+    (event thread (Some (Enqueue item start turns)) ∷ h.one_call.others)
     ∙ ap (λ items. items_put thread old ++ item ∷ items) (none_put h.one_call.others h.one_call.go_on)
 
 -- one number more

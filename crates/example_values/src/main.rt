@@ -1,5 +1,6 @@
-//! A program to start from: threads that hand each other values which they own, here texts. Each makes 1,000 texts, gives them to a
-//! queue, and takes one after each. The program prints what was made and what came out, which is the same in every run.
+//! A program to start from: threads that hand each other values which they own, here texts. Each makes 1,000 texts,
+//! gives them to a queue, and takes one after each. The program prints what was made and what came out, which is the
+//! same in every run.
 #![tactic(auto)]
 
 ghost use Rattle.std.specs.Prelude.{◌<◌, All, length};

@@ -1,5 +1,6 @@
 -- What is behind handles, read one after the other, and when a queue may be closed by them.
-use Rattle.std.proofs.Common.{◌≡◌, ◌+◌, ◌*◌, ◌<◌, ◌≤◌, ℕ, zero, suc, List, [], ◌∷◌, ◌++◌, Option, Some, None, IfSome, MatchOption, All, length, map, take, get_or, refl, sym, ap, subst, ◌∙◌, ◌≢◌, arith, rules, below_more}
+use Rattle.std.proofs.Common.{◌≡◌, ◌+◌, ◌*◌, ◌<◌, ◌≤◌, ℕ, zero, suc, List, [], ◌∷◌, ◌++◌, Option, Some, None, IfSome, MatchOption, All}
+use Rattle.std.proofs.Common.{length, map, take, get_or, refl, sym, ap, subst, ◌∙◌, ◌≢◌, arith, rules, below_more}
 use Rattle.std.specs.Prelude.{◌==◌}
 use Rattle.std.specs.List.{list_any}
 use Rattle.std.proofs.lemmas.List.{take_more, length-map, length-append, get_or-set_same, get_or-set_other}
@@ -25,7 +26,8 @@ pub same_address : (hs : List Handle) (i : ℕ) (h d : Handle) → h.address ≡
 same_address hs i h d e = map-set_same (λ handle. handle.address) hs i h d e
 
 -- the next handle of a list
-pub next_behind : (hs : List Handle) (os : List (Option Seated)) (i : ℕ) (d : Handle) (o : Option Seated) → behind hs ≡ os → i < length hs → (get_or hs i d).held.value ≡ o
+pub next_behind : (hs : List Handle) (os : List (Option Seated)) (i : ℕ) (d : Handle) (o : Option Seated) → behind hs ≡ os → i < length hs
+    → (get_or hs i d).held.value ≡ o
     → take (i + 1) os ≡ take i os ++ o ∷ []
 next_behind hs os i d o e below is =
     let below' : i < length (behind hs) = subst (λ (n : ℕ). i < n) (sym (length-map hs (λ handle. handle.held.value))) below in
@@ -43,7 +45,8 @@ passes_same [] = refl
 passes_same (None ∷ os) = passes_same os
 passes_same (Some x ∷ os) = ap (λ l. x.pass ∷ l) (passes_same os)
 
-pub theirs_more : (os : List (Option Seated)) (o : Option Seated) → AreTheirs os → IfSome o (λ s. IsPassOf s.queue s.pass) → AreTheirs (os ++ o ∷ [])
+pub theirs_more : (os : List (Option Seated)) (o : Option Seated) → AreTheirs os → IfSome o (λ s. IsPassOf s.queue s.pass)
+    → AreTheirs (os ++ o ∷ [])
 theirs_more [] None all is = tt
 theirs_more [] (Some s) all is = (is, tt)
 theirs_more (None ∷ os) o all is = theirs_more os o all is
@@ -111,7 +114,8 @@ few_slots words index (suc count) =
 few_segments : (shape : Shape) (words : List ℕ) (segment count : ℕ) → length (segments_left shape words segment count) ≤ count * shape.k
 few_segments shape words segment zero = omega arith
 few_segments shape words segment (suc count) =
-    let e = length-append (slots_left words (slot_at shape.k segment 0) shape.k) (segments_left shape words (next_segment shape.n segment) count) in
+    let e = length-append (slots_left words (slot_at shape.k segment 0) shape.k)
+    (segments_left shape words (next_segment shape.n segment) count) in
     let one = few_slots words (slot_at shape.k segment 0) shape.k in
     let rest = few_segments shape words (next_segment shape.n segment) count in omega arith
 
@@ -131,7 +135,8 @@ pub rest_more : (olds hs : List Handle) (i : ℕ) (h : Handle) → ((k : ℕ) (d
     → (k : ℕ) (d : Handle) → i + 1 ≤ k → get_or (set hs i h) k d ≡ get_or olds k d
 rest_more olds hs i h rest k d above = let ne : k ≢ i = omega arith in get_or-set_other hs i k h d ne ∙ rest k d (omega arith)
 
-pub closed_more : (hs : List Handle) (i : ℕ) (h : Handle) → ((k : ℕ) (d : Handle) → k < i → (get_or hs k d).held.value ≡ None) → h.held.value ≡ None → i < length hs
+pub closed_more : (hs : List Handle) (i : ℕ) (h : Handle) → ((k : ℕ) (d : Handle) → k < i → (get_or hs k d).held.value ≡ None)
+    → h.held.value ≡ None → i < length hs
     → (k : ℕ) (d : Handle) → k < i + 1 → (get_or (set hs i h) k d).held.value ≡ None
 closed_more hs i h closed is below k d under = below_more (λ (j : ℕ). (get_or (set hs i h) j d).held.value ≡ None) i
     (λ j lt. let ne : j ≢ i = omega arith in ap (λ x. x.held.value) (get_or-set_other hs i j h d ne) ∙ closed j d lt)
@@ -167,7 +172,8 @@ begun q [] begins = absurd begins
 begun q (o ∷ os) begins = omega arith
 
 -- when a queue may be closed, by what was read of its handles
-pub may_close : (os : List (Option Seated)) (room : ℕ) (first q : OpenQueue) → All (OneQueue q) os → BeginsWith first os → HasEach first.opened.threads (numbers_in os)
+pub may_close : (os : List (Option Seated)) (room : ℕ) (first q : OpenQueue) → All (OneQueue q) os → BeginsWith first os
+    → HasEach first.opened.threads (numbers_in os)
     → length (numbers_in os) ≡ length os → first.opened.shape.n * first.opened.shape.k ≤ room → MayClose first os room
 may_close os room first q one begins has many wide =
     let is = same_queue q first os one begins in
@@ -187,8 +193,11 @@ pub match_some : {X : Type 0} (P : Type 0) (Q : X → Type 0) (o : Option X) (x 
 match_some {X} P Q o x m e = subst (λ (o' : Option X). MatchOption o' P Q) e m
 
 -- at most as many items are left as there are slots
-pub few_closed : (q : OpenQueue) (ps : List PassView) (items : List ℕ) → Closes q ps items → length items ≤ q.opened.shape.n * q.opened.shape.k
-few_closed q ps items closes = subst (λ (l : List ℕ). length l ≤ q.opened.shape.n * q.opened.shape.k) (sym closes.items_are) (few_left q.opened.shape closes.world.words)
+pub few_closed : (q : OpenQueue) (ps : List PassView) (items : List ℕ) → Closes q ps items
+    → length items ≤ q.opened.shape.n * q.opened.shape.k
+few_closed q ps items closes = subst (λ (l : List ℕ). length l ≤ q.opened.shape.n * q.opened.shape.k) (sym closes.items_are)
+    (few_left q.opened.shape closes.world.words)
 
-pub closes_theirs : (os : List (Option Seated)) (room : ℕ) (q : OpenQueue) → MayClose q os room → AreTheirs os → All (IsPassOf q) (passes_in os)
+pub closes_theirs : (os : List (Option Seated)) (room : ℕ) (q : OpenQueue) → MayClose q os room → AreTheirs os
+    → All (IsPassOf q) (passes_in os)
 closes_theirs os room q may theirs = theirs_of q os may.each_open theirs

@@ -1,5 +1,6 @@
 -- Passes of one opening, and handles that are open.
-use Rattle.std.proofs.Common.{◌≡◌, ◌<◌, ◌+◌, All, arith, take, sym, ap, ◌∙◌, map, reverse, length, ℕ, zero, suc, List, [], ◌∷◌, ◌++◌, Option, Some, None, refl}
+use Rattle.std.proofs.Common.{◌≡◌, ◌<◌, ◌+◌, All, arith, take, sym, ap, ◌∙◌, map, reverse, length, ℕ, zero, suc, List, [], ◌∷◌, ◌++◌}
+use Rattle.std.proofs.Common.{Option, Some, None, refl}
 use Rattle.std.proofs.lemmas.List.{append_assoc, take_more_set, map-append, reverse-append, length-reverse, length-map}
 use Rattle.std.proofs.lemmas.List.Elements.{All-cons, All-nil}
 use Rattle.std.proofs.Math.ListN.{set}
@@ -31,8 +32,10 @@ pub reverse_mapped : {A B : Type 0} (f : A → B) (xs : List A) (x : A) → reve
 reverse_mapped f xs x = ap reverse (map-append f xs (x ∷ [])) ∙ reverse-append (map f xs) (f x ∷ [])
 
 -- a seat that is taken from the end of a list and put behind the next handle
-pub put_more : {B : Type 0} (f : B → Seated) (hs : List Handle) (i : ℕ) (h : Handle) (rest : List B) (b : B) (all : List (Option Seated)) → i < length hs → h.held.value ≡ Some (f b)
-    → behind (take i hs) ++ map Some (reverse (map f (rest ++ b ∷ []))) ≡ all → behind (take (i + 1) (set hs i h)) ++ map Some (reverse (map f rest)) ≡ all
+pub put_more : {B : Type 0} (f : B → Seated) (hs : List Handle) (i : ℕ) (h : Handle) (rest : List B) (b : B) (all : List (Option Seated))
+    → i < length hs → h.held.value ≡ Some (f b)
+    → behind (take i hs) ++ map Some (reverse (map f (rest ++ b ∷ []))) ≡ all
+    → behind (take (i + 1) (set hs i h)) ++ map Some (reverse (map f rest)) ≡ all
 put_more {B} f hs i h rest b all below is e =
     let left : List (Option Seated) = map Some (reverse (map f rest)) in
     ap (λ (l : List Handle). behind l ++ left) (take_more_set hs i h below)

@@ -11,7 +11,16 @@ pub record ValueSeated : Type 0 where
 
 -- with a new pass
 abbrev pub value_seated : OpenQueue → PayPassView ℕ → ValueSeated
-value_seated q p = record { queue = q; held = record { pass = p; give_start = first_of p.pass; take_start = first_of p.pass; shortages = 0; surpluses = 0 } }
+value_seated q p = record {
+  queue = q;
+  held = record {
+    pass = p;
+    give_start = first_of p.pass;
+    take_start = first_of p.pass;
+    shortages = 0;
+    surpluses = 0;
+  };
+}
 
 -- k, and 0 where the handle is closed
 abbrev pub value_starts_of : Option ValueSeated → ℕ

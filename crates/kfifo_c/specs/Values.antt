@@ -1,5 +1,7 @@
--- What C is told of the calls with values, and what these say of the pass behind a handle. The numbers are those of c/kfifo.h.
-use Rattle.std.specs.Prelude.{◌≡◌, ℕ, ◌*◌, ◌≤◌, Option, Some, None, IfSome, List, [], ◌∷◌, ◌++◌, map, length, drop, All, ⊤}
+-- What C is told of the calls with values, and what these say of the pass behind a handle. The numbers are those of
+-- c/kfifo.h.
+use Rattle.std.specs.Prelude.{◌≡◌, ℕ, ◌*◌, ◌≤◌, Option, Some, None, IfSome, List, [], ◌∷◌, ◌++◌, map, length, drop, All}
+use Rattle.std.specs.Prelude.{⊤}
 use Rattle.kfifo_words.specs.declared.shape.Shape.{Shape}
 use Rattle.kfifo_live.specs.declared.payload.Given.{Given}
 use Rattle.kfifo_live.specs.declared.payload.Given.TheVariants as G
@@ -68,7 +70,8 @@ pub record OpensValues (shape : Shape) (threads tokens : ℕ) (seats : List Valu
   pub zeroed : IsZeroed queue.opened
 
 -- those of these sizes
-pub record OpensValueSizes (k segments last probes threads tokens : ℕ) (handles : List (Option ValueSeated)) : Type 0 where
+pub record OpensValueSizes (k segments last probes threads tokens : ℕ)
+    (handles : List (Option ValueSeated)) : Type 0 where
   pub shape : Shape
   pub k_is : shape.k ≡ k
   pub segments_are : shape.n ≡ segments
@@ -107,15 +110,16 @@ last_from last (Some seat ∷ handles) = last_from (Some seat) handles
 abbrev pub last_seat : List (Option ValueSeated) → Option ValueSeated
 last_seat handles = last_from None handles
 
--- these handles are open, of the queue, and as many as it has passes, one at least; and there is room for a value of each slot
+-- these handles are open, of the queue, and as many as it has passes, one at least; and there is room for a value of
+-- each slot
 pub record MayCloseValues (queue : OpenQueue) (handles : List (Option ValueSeated)) (room : ℕ) : Type 0 where
   pub some_pass : 1 ≤ length handles
   pub each_open : All (IsOpenOfValues queue) handles
   pub count : length handles ≡ queue.opened.threads
   pub room_is : queue.opened.shape.n * queue.opened.shape.k ≤ room
 
--- A queue was closed by these handles, and the values that were left were written, and their number: all that the running queue says of a close
--- by the pass of the last one
+-- A queue was closed by these handles, and the values that were left were written, and their number: all that the
+-- running queue says of a close by the pass of the last one
 pub record ClosesValues (handles : List (Option ValueSeated)) (old new : List ℕ) (count : ℕ) : Type 0 where
   pub queue : OpenQueue
   pub each_open : All (IsOpenOfValues queue) handles

@@ -2,22 +2,25 @@
 ghost use Rattle.std.specs.Prelude.{◌≡◌, ℕ, None, Option, All, ⊤};
 ghost use Rattle.kfifo_model.specs.declared.calls.Answer.{Answer as Answered};
 ghost use Rattle.kfifo_machine.specs.declared.event.Begin.TheVariants.{Enqueue, Dequeue};
-ghost use Rattle.kfifo_c.specs.Exports.{Tries, MayEnqueue, MayDequeue, MayPut, MayRead, CalledFrom, Puts, Gets, HasRead, number_of, item_after, read_number, word_after};
+ghost use Rattle.kfifo_c.specs.Exports.{Tries, MayEnqueue, MayDequeue, MayPut, MayRead, CalledFrom, Puts, Gets};
+ghost use Rattle.kfifo_c.specs.Exports.{HasRead, number_of, item_after, read_number, word_after};
 
 use crate::handle::Handle;
 use crate::status::{BAD_CALL, DONE, status};
 use kfifo_model::{Answer, MAX_ITEM};
 use std::alloc::Global;
 
-/// Puts an item into the queue of the handle: `Pass::enqueue`, and its answer's number. BAD_CALL, with nothing done, where the
-/// handle is closed, the item is not 1 to 2^24 - 1, `start` not below k, or `turns` 0.
+/// Puts an item into the queue of the handle: `Pass::enqueue`, and its answer's number. BAD_CALL, with nothing done,
+/// where the handle is closed, the item is not 1 to 2^24 - 1, `start` not below k, or `turns` 0.
 #[unsafe(no_mangle)]
 pub extern "C" fn kfifo_c_enqueue(pass: &mut Handle, item: u32, start: u32, turns: u16) -> u32
     ensures answer { (answer : Option Answered) × (result ≡ number_of answer)
-        × Tries (MayEnqueue item start turns) (CalledFrom (Enqueue item start turns)) answer pass.old.held.value pass.new.held.value }
+        × Tries (MayEnqueue item start turns) (CalledFrom (Enqueue item start turns)) answer pass.old.held.value
+        pass.new.held.value }
     ensures address { pass.new.address ≡ pass.old.address }
 {
-    // The look at the handle stands between two tests of registers: else the compiler makes one of them, and a longer one.
+    // The look at the handle stands between two tests of registers: else the compiler makes one of them, and a longer
+    // one.
     if item < 1 || item > MAX_ITEM || !pass.has_start(start) {
         return BAD_CALL;
     }
@@ -25,12 +28,14 @@ pub extern "C" fn kfifo_c_enqueue(pass: &mut Handle, item: u32, start: u32, turn
     status(answer)
 }
 
-/// Takes one of the k oldest items out of the queue of the handle: `Pass::dequeue`, and its answer's number; the item is
-/// written where there is one. BAD_CALL, with nothing done, where the handle is closed, `start` not below k, or `turns` 0.
+/// Takes one of the k oldest items out of the queue of the handle: `Pass::dequeue`, and its answer's number; the item
+/// is written where there is one. BAD_CALL, with nothing done, where the handle is closed, `start` not below k, or
+/// `turns` 0.
 #[unsafe(no_mangle)]
 pub extern "C" fn kfifo_c_dequeue(pass: &mut Handle, item: &mut u32, start: u32, turns: u16) -> u32
     ensures answer { (answer : Option Answered) × (result ≡ number_of answer) × (item.new ≡ item_after item.old answer)
-        × Tries (MayDequeue start turns) (CalledFrom (Dequeue start turns)) answer pass.old.held.value pass.new.held.value }
+        × Tries (MayDequeue start turns) (CalledFrom (Dequeue start turns)) answer pass.old.held.value
+        pass.new.held.value }
     ensures address { pass.new.address ≡ pass.old.address }
 {
     if !pass.has_start(start) {
@@ -43,8 +48,9 @@ pub extern "C" fn kfifo_c_dequeue(pass: &mut Handle, item: &mut u32, start: u32,
     status(answer)
 }
 
-/// Puts an item into the queue of the handle, with nothing to choose: an enqueue from the handle's start, in n + 2 rounds, and its
-/// answer's number. BAD_CALL, with nothing done, where the handle is closed or the item is not 1 to 2^24 - 1.
+/// Puts an item into the queue of the handle, with nothing to choose: an enqueue from the handle's start, in n + 2
+/// rounds, and its answer's number. BAD_CALL, with nothing done, where the handle is closed or the item is not 1 to
+/// 2^24 - 1.
 #[unsafe(no_mangle)]
 pub extern "C" fn kfifo_c_put(pass: &mut Handle, item: u32) -> u32
     ensures answer { (answer : Option Answered) × (result ≡ number_of answer)
@@ -58,8 +64,9 @@ pub extern "C" fn kfifo_c_put(pass: &mut Handle, item: u32) -> u32
     status(Some(answer))
 }
 
-/// Takes one of the k oldest items out of the queue of the handle, with nothing to choose: a dequeue from the handle's start, in n + 2
-/// rounds, and its answer's number; the item is written where there is one. BAD_CALL, with nothing done, where the handle is closed.
+/// Takes one of the k oldest items out of the queue of the handle, with nothing to choose: a dequeue from the handle's
+/// start, in n + 2 rounds, and its answer's number; the item is written where there is one. BAD_CALL, with nothing
+/// done, where the handle is closed.
 #[unsafe(no_mangle)]
 pub extern "C" fn kfifo_c_get(pass: &mut Handle, item: &mut u32) -> u32
     ensures answer { (answer : Option Answered) × (result ≡ number_of answer) × (item.new ≡ item_after item.old answer)
@@ -76,7 +83,8 @@ pub extern "C" fn kfifo_c_get(pass: &mut Handle, item: &mut u32) -> u32
     status(Some(answer))
 }
 
-/// Reads the word of this index: `Pass::word`. BAD_CALL, with nothing done, where the handle is closed or there is no such word.
+/// Reads the word of this index: `Pass::word`. BAD_CALL, with nothing done, where the handle is closed or there is no
+/// such word.
 #[unsafe(no_mangle)]
 pub extern "C" fn kfifo_c_word(pass: &mut Handle, index: usize, word: &mut u64) -> u32
     ensures read { (read : Option ℕ) × (result ≡ read_number read) × (word.new ≡ word_after word.old read)

@@ -1,5 +1,6 @@
 //! Opening a queue.
-ghost use Rattle.std.specs.Prelude.{◌≡◌, ◌≢◌, ◌<◌, ◌≤◌, ◌⊎◌, ◌↔◌, None, Some, IfSome, IfOk, IsErrOf, All, length, map, reverse};
+ghost use Rattle.std.specs.Prelude.{◌≡◌, ◌≢◌, ◌<◌, ◌≤◌, ◌⊎◌, ◌↔◌, None, Some, IfSome, IfOk, IsErrOf, All, length, map};
+ghost use Rattle.std.specs.Prelude.{reverse};
 ghost use denote.RawPtr.{Ptr};
 ghost use Rattle.kfifo_words.specs.Sizes.{fault_of};
 ghost use Rattle.kfifo_live.specs.declared.fault.OpenFault.TheVariants.{ThreadsOutOfRange, TokensOutOfRange};
@@ -73,9 +74,9 @@ fn put_all(handles: &mut [Handle], mut seats: Vec<Box<Seat, Global>>, address: *
     }
 }
 
-/// Opens a queue for as many threads as there are handles, and puts a pass behind each, in their order: `Queue::open`. What was
-/// behind them is lost. Else nothing is done: BAD_K, BAD_SEGMENTS, BAD_LAST or BAD_PROBES where there is no such shape, BAD_THREADS
-/// where the handles are not 1 to 64, NO_MEMORY where an allocation failed.
+/// Opens a queue for as many threads as there are handles, and puts a pass behind each, in their order: `Queue::open`.
+/// What was behind them is lost. Else nothing is done: BAD_K, BAD_SEGMENTS, BAD_LAST or BAD_PROBES where there is no
+/// such shape, BAD_THREADS where the handles are not 1 to 64, NO_MEMORY where an allocation failed.
 #[unsafe(no_mangle)]
 pub extern "C" fn kfifo_c_open(
     alloc: Global,
@@ -89,8 +90,10 @@ pub extern "C" fn kfifo_c_open(
     ensures address { result ≡ 0 → (address : Ptr) × All (λ pass. pass.address ≡ address) passes.new }
     ensures refused { result ≢ 0 → passes.new ≡ passes.old }
     ensures shape { IfSome (fault_of k segments last probes) (λ fault. result ≡ shape_number fault) }
-    ensures threads { fault_of k segments last probes ≡ None → (length passes.old ≡ 0) ⊎ (64 < length passes.old) → result ≡ 8 }
-    ensures memory { fault_of k segments last probes ≡ None → 1 ≤ length passes.old → length passes.old ≤ 64 → (result ≡ 0) ⊎ (result ≡ 7) }
+    ensures threads { fault_of k segments last probes ≡ None → (length passes.old ≡ 0) ⊎ (64 < length passes.old)
+        → result ≡ 8 }
+    ensures memory { fault_of k segments last probes ≡ None → 1 ≤ length passes.old → length passes.old ≤ 64
+        → (result ≡ 0) ⊎ (result ≡ 7) }
 {
     let shape = match Shape::with_probes(k, segments, last, probes) {
         Ok(shape) => shape,

@@ -12,8 +12,8 @@ use std::alloc::{AllocError, Global};
 use std::marker::Model;
 use std::sync::Arc;
 
-/// A pass, a part in the queue that it is of, and the number of that queue's passes; and what the calls with nothing to choose
-/// need: their starts, and how many rounds they make.
+/// A pass, a part in the queue that it is of, and the number of that queue's passes; and what the calls with nothing to
+/// choose need: their starts, and how many rounds they make.
 #[derive(Drop)]
 pub struct Seat {
     pub(crate) queue: Arc<Queue, Global>,
@@ -29,7 +29,12 @@ pub struct Seat {
 impl Model for Seat {
     ghost Value = { Seated };
 
-    ghost view = { λ s. record { queue = s.queue.value; pass = s.pass; put_start = s.puts.start; get_start = s.gets.start } };
+    ghost view = { λ s. record {
+      queue = s.queue.value;
+      pass = s.pass;
+      put_start = s.puts.start;
+      get_start = s.gets.start;
+    } };
 
     ghost invariant = { λ s. IsPassOf s.queue.value s.pass × (s.threads ≡ s.queue.value.opened.threads)
         × (s.puts.k ≡ s.queue.value.opened.shape.k) × (s.gets.k ≡ s.queue.value.opened.shape.k)
@@ -109,7 +114,8 @@ impl Seat {
         requires item { (1 ≤ item) × (item < 2 ^ 24) }
         requires start { start < self.old.queue.opened.shape.k }
         ensures { MatchOption result ((self.new ≡ self.old) × (¬ MayEnqueue item start turns self.old))
-            (λ answer. MayEnqueue item start turns self.old × CalledFrom (Enqueue item start turns) answer self.old self.new) }
+            (λ answer. MayEnqueue item start turns self.old
+            × CalledFrom (Enqueue item start turns) answer self.old self.new) }
     {
         if turns < 1 {
             return None;

@@ -3,7 +3,8 @@ use Rattle.std.specs.Prelude.{◌≡◌, ℕ, pos, true, false, List, [], ◌∷
 use Rattle.clap.specs.Lexer.{usize_max}
 use Rattle.clap.specs.Faults.{fault_of}
 use Rattle.clap.specs.Kinds.{Kinds}
-use Rattle.clap.specs.Words.{App, Row, Rule, Text, app_of, new_app, new_rule, with_rule, with_subcommand, rows_of, subcommand_of}
+use Rattle.clap.specs.Words.{App, Row, Rule, Text, app_of, new_app, new_rule, with_rule, with_subcommand, rows_of}
+use Rattle.clap.specs.Words.{subcommand_of}
 use Rattle.clap.specs.declared.builder.action.ArgAction.TheVariants.{Set, Append, SetTrue}
 use Rattle.clap.specs.declared.builder.command.Command.{Command}
 use Rattle.clap.specs.declared.builder.command.Command.TheViews.{out-Command as fields_of}
@@ -37,7 +38,10 @@ small_numbers least most = Signed (pos least) (pos most)
 
 -- the option `-k` or `--k`, a number from least to most, with a default
 abbrev pub places_option : ℕ → ℕ → Text → Rule
-places_option least most default = record (default_option (codes "k") (small_numbers least most) default) { short = Some 107 }
+places_option least most default = record (default_option (codes "k") (small_numbers least most) default) {
+  short =
+      Some 107;
+}
 
 -- numbers up to the greatest version
 abbrev pub versions : ValueParser
@@ -89,7 +93,8 @@ measure_command = new_app (codes "measure")
 
 -- the command `replay`
 abbrev pub replay_command : App
-replay_command = with_rule (with_rule (with_rule (with_rule (with_rule (with_rule (with_turns (with_sizes (new_app (codes "replay"))))
+replay_command = with_rule (with_rule
+    (with_rule (with_rule (with_rule (with_rule (with_turns (with_sizes (new_app (codes "replay"))))
     (text_option (codes "picks")))
     (number_option (codes "stop") (small_numbers 0 63)))
     (flag (codes "points")))
@@ -117,7 +122,8 @@ import_command = new_app (codes "import")
 
 -- the options of `draw` on evidence
 abbrev pub with_evidence_options : App → App
-with_evidence_options app = with_rule (with_rule app (flag (codes "evidence"))) (number_option (codes "around") (small_numbers 0 4294967295))
+with_evidence_options app = with_rule (with_rule app (flag (codes "evidence")))
+    (number_option (codes "around") (small_numbers 0 4294967295))
 
 -- the options of `draw` that say from where to where
 abbrev pub with_stretch_options : App → App
@@ -126,7 +132,8 @@ with_stretch_options app = with_rule (with_rule app (text_option (codes "calls")
 -- the command `draw`
 abbrev pub draw_command : App
 draw_command = with_stretch_options (with_evidence_options
-    (with_rule (with_rule (with_places (codes "1") (new_app (codes "draw"))) (text_option (codes "order"))) (flag (codes "text"))))
+    (with_rule (with_rule (with_places (codes "1") (new_app (codes "draw"))) (text_option (codes "order")))
+    (flag (codes "text"))))
 
 -- the command `explain`
 abbrev pub explain_command : App
@@ -139,7 +146,8 @@ dispatch_command = with_rule (with_rule (with_rule (with_sizes (new_app (codes "
     (default_option (codes "seed") (small_numbers 0 4294967295) (codes "0")))
     any_words
 
--- the program before its commands: its words begin with the first argument, and one has to be a command, or ask for the version
+-- the program before its commands: its words begin with the first argument, and one has to be a command, or ask for the
+-- version
 abbrev pub bare_program : App
 bare_program = record {
   top = record (new_app (codes "kfifo")).top {
@@ -153,8 +161,11 @@ bare_program = record {
 
 -- the program with its commands
 abbrev pub kfifo : App
-kfifo = with_subcommand (with_subcommand (with_subcommand (with_subcommand (with_subcommand (with_subcommand (with_subcommand (with_subcommand (with_subcommand (with_subcommand (with_subcommand bare_program
-    run_command.top) check_command.top) measure_command.top) replay_command.top) judge_command.top) least_command.top) record_command.top) import_command.top) draw_command.top) dispatch_command.top) explain_command.top
+kfifo = with_subcommand (with_subcommand
+    (with_subcommand (with_subcommand (with_subcommand
+    (with_subcommand (with_subcommand (with_subcommand (with_subcommand (with_subcommand (with_subcommand bare_program
+    run_command.top) check_command.top) measure_command.top) replay_command.top) judge_command.top) least_command.top)
+    record_command.top) import_command.top) draw_command.top) dispatch_command.top) explain_command.top
 
 -- the command that was named is this one, and its options have these entries
 abbrev pub Names : Option (Text × List Row) → Text → Found → Type 0
@@ -164,8 +175,10 @@ Names command name found = command ≡ Some (name, rows_of found)
 abbrev pub NamesNone : Option (Text × List Row) → Type 0
 NamesNone command = (found : Found) → ¬ (Names command (codes "run") found) × ¬ (Names command (codes "check") found)
     × ¬ (Names command (codes "measure") found)
-    × ¬ (Names command (codes "replay") found) × ¬ (Names command (codes "judge") found) × ¬ (Names command (codes "least") found)
-    × ¬ (Names command (codes "record") found) × ¬ (Names command (codes "import") found) × ¬ (Names command (codes "draw") found)
+    × ¬ (Names command (codes "replay") found) × ¬ (Names command (codes "judge") found)
+    × ¬ (Names command (codes "least") found)
+    × ¬ (Names command (codes "record") found) × ¬ (Names command (codes "import") found)
+    × ¬ (Names command (codes "draw") found)
     × ¬ (Names command (codes "dispatch") found) × ¬ (Names command (codes "explain") found)
 
 -- a parse reads this of the command, and no argument of it is global
@@ -176,6 +189,7 @@ IsCommand app command = (app_of command ≡ app) × ((fields_of command).has_glo
 unfoldable pub named : List Text → Option (Text × List Row)
 named words = subcommand_of kfifo words
 
--- the kinds of the first fault of the words, or of what they ask for in place of a command; none where they name a command
+-- the kinds of the first fault of the words, or of what they ask for in place of a command; none where they name a
+-- command
 unfoldable pub kinds : List Text → Kinds
 kinds words = fault_of kfifo words

@@ -1,5 +1,6 @@
 -- What the options of a command give.
-use Rattle.std.specs.Prelude.{◌≡◌, ℕ, ◌^◌, ◌<◌, ◌≤◌, Bool, true, false, List, [], length, Option, Some, None, MatchOption, codes, map, max, min, option_map, unwrap_or}
+use Rattle.std.specs.Prelude.{◌≡◌, ℕ, ◌^◌, ◌<◌, ◌≤◌, Bool, true, false, List, [], length, Option, Some, None}
+use Rattle.std.specs.Prelude.{MatchOption, codes, map, max, min, option_map, unwrap_or}
 use Rattle.std.specs.Str.Parse.{digits_value}
 use Rattle.clap.specs.declared.parser.matches.Found.{Found}
 use Rattle.clap.specs.Words.{first_value, matched_of, one_text, raw_values}
@@ -17,7 +18,8 @@ use Rattle.kfifo_cli_texts.specs.Words.{IsDigits}
 -- an option with no text gives no number, and one whose digits write a number of so many bits gives that number
 abbrev pub GivesNumber : ℕ → Option (List ℕ) → Option ℕ → Type 0
 GivesNumber bits text number = MatchOption text (number ≡ None)
-    (λ digits. IsDigits digits → 1 ≤ length digits → digits_value 10 digits < 2 ^ bits → number ≡ Some (digits_value 10 digits))
+    (λ digits. IsDigits digits → 1 ≤ length digits → digits_value 10 digits < 2 ^ bits
+    → number ≡ Some (digits_value 10 digits))
 
 -- the same, where an option with no text has this default
 pub record GivesOr (bits : ℕ) (text : Option (List ℕ)) (default number : ℕ) : Type 0 where
@@ -75,7 +77,8 @@ pub record GivesRecord (found : Found) (options : RecordOptions) : Type 0 where
 
 -- the option `--k` of those that ask for an order, from 1 to 64, with this default
 abbrev pub GivesPlaces : Found → ℕ → ℕ → Type 0
-GivesPlaces found default k = (given : ℕ) × GivesOr 32 (one_text found (codes "k")) default given × (k ≡ min (max given 1) 64)
+GivesPlaces found default k = (given : ℕ) × GivesOr 32 (one_text found (codes "k")) default given
+    × (k ≡ min (max given 1) 64)
 
 -- the option `--tries`
 abbrev pub GivesTries : Found → ℕ → Type 0

@@ -8,11 +8,13 @@ use Rattle.clap.specs.declared.parser.matches.Found.{Found}
 use Rattle.kfifo_cli_texts.specs.declared.fault.Fault.{Fault}
 use Rattle.kfifo_cli_texts.specs.declared.fault.Fault.TheVariants.{Memory}
 use Rattle.kfifo_cli_commands.specs.declared.options.Request.{Request}
-use Rattle.kfifo_cli_commands.specs.declared.options.Request.TheVariants.{Run, Check, Measure, Replay, Judge, Least, Record, Import, Draw, Dispatch, Explain}
+use Rattle.kfifo_cli_commands.specs.declared.options.Request.TheVariants.{Run, Check, Measure, Replay, Judge, Least}
+use Rattle.kfifo_cli_commands.specs.declared.options.Request.TheVariants.{Record, Import, Draw, Dispatch, Explain}
 use Rattle.kfifo_cli_commands.specs.Endings.{IsAnswered, IsRefused}
 use Rattle.kfifo_cli_texts.specs.Printing.{Nothing, Tells, Written}
 use Rattle.kfifo_cli.specs.CommandLine.{Names, NamesNone, kinds, named}
-use Rattle.kfifo_cli.specs.Options.{GivesCheck, GivesDispatch, GivesDraw, GivesExplain, GivesJudge, GivesRecord, GivesReplay, GivesRun, GivesTries}
+use Rattle.kfifo_cli.specs.Options.{GivesCheck, GivesDispatch, GivesDraw, GivesExplain, GivesJudge, GivesRecord}
+use Rattle.kfifo_cli.specs.Options.{GivesReplay, GivesRun, GivesTries}
 
 -- the command that was named, with what its options were given, makes this request
 abbrev pub Requests : Option (Text × List Row) → Request → Type 0
@@ -21,12 +23,15 @@ Requests command (Check options) = (found : Found) × Names command (codes "chec
 Requests command Measure = (found : Found) × Names command (codes "measure") found
 Requests command (Replay options) = (found : Found) × Names command (codes "replay") found × GivesReplay found options
 Requests command (Judge options) = (found : Found) × Names command (codes "judge") found × GivesJudge found options
-Requests command (Least options) = (found : Found) × Names command (codes "least") found × GivesTries found options.tries
+Requests command (Least options) = (found : Found) × Names command (codes "least") found
+    × GivesTries found options.tries
 Requests command (Record options) = (found : Found) × Names command (codes "record") found × GivesRecord found options
 Requests command Import = (found : Found) × Names command (codes "import") found
 Requests command (Draw options) = (found : Found) × Names command (codes "draw") found × GivesDraw found options
-Requests command (Dispatch options) = (found : Found) × Names command (codes "dispatch") found × GivesDispatch found options
-Requests command (Explain options) = (found : Found) × Names command (codes "explain") found × GivesExplain found options
+Requests command (Dispatch options) = (found : Found) × Names command (codes "dispatch") found
+    × GivesDispatch found options
+Requests command (Explain options) = (found : Found) × Names command (codes "explain") found
+    × GivesExplain found options
 
 -- the words have no fault and make this request
 abbrev pub MakeRequest : List Text → Request → Type 0
@@ -54,7 +59,8 @@ abbrev pub IsFault : List Text → Option (List ℕ) → ℕ → ℕ → Fault �
 IsFault words input before after fault = ((fault ≡ Memory) × (after ≡ before))
     ⊎ ((request : Request) × MakeRequest words request × IsRefused request input before after fault)
 
--- The command line is at fault, and some text tells it; or it has no fault and names none of the commands, and nothing is told.
+-- The command line is at fault, and some text tells it; or it has no fault and names none of the commands, and nothing
+-- is told.
 abbrev pub IsMisuse : List Text → (Written → Type 0) → Type 0
 IsMisuse words faults = (AreAtFault words × ((text : List ℕ) × Tells faults text))
     ⊎ ((kinds words ≡ []) × NamesNone (named words) × faults Nothing)

@@ -17,8 +17,8 @@ use clap::{ArgMatches, Command, Error};
 use kfifo_cli_commands::{
     Notice, Progress, Request, Silent, Status, carry_out, end_with_fault, end_with_text,
 };
-use kfifo_judge::{FromStd, Source};
 use kfifo_cli_texts::{Fault, Printer};
+use kfifo_judge::{FromStd, Source};
 use std::alloc::{AllocError, Global};
 use std::io::{Read, Write};
 use std::rt::Files;
@@ -146,8 +146,10 @@ fn end_with_error<W: Write, F: Write>(
     faults: &mut Printer<'_, F>,
 ) -> Status
     ensures { Ends (λ text status. Shows (kind_of error) × (status ≡ 0)) (λ fault. fault ≡ Fault.Memory)
-        ((¬ (Shows (kind_of error))) × (kind_of error ≢ ErrorKind.OutOfMemory) × ((text : List ℕ) × Tells (OnPrinter F.contents faults.old faults.new) text))
-        (OnPrinter W.contents output.old output.new) (OnPrinter F.contents faults.old faults.new) (status_number result) }
+        ((¬ (Shows (kind_of error))) × (kind_of error ≢ ErrorKind.OutOfMemory)
+        × ((text : List ℕ) × Tells (OnPrinter F.contents faults.old faults.new) text))
+        (OnPrinter W.contents output.old output.new) (OnPrinter F.contents faults.old faults.new)
+        (status_number result) }
 {
     match error.kind() {
         ErrorKind::OutOfMemory => end_with_fault(Fault::Memory, faults),

@@ -15,7 +15,8 @@ use Rattle.kfifo_cli_texts.specs.Tasks.{IsFirstUnreadTask, WriteTasks}
 -- why tasks are refused, by the fault
 pub tasks_fault : (tasks : List Task) (workers : ℕ) (fault : DispatchFault) → (fault ≡ refusals.TooManyTasks → 1024 < length tasks)
     → (fault ≡ refusals.RepeatedId → (length tasks ≤ 1024) × HasRepeatedId tasks)
-    → (fault ≡ refusals.WorkersOutOfRange → (length tasks ≤ 1024) × (HasRepeatedId tasks → ⊥) × ((workers ≡ 0) ⊎ (63 < workers))) → IsTasksFault tasks workers fault
+    → (fault ≡ refusals.WorkersOutOfRange → (length tasks ≤ 1024) × (HasRepeatedId tasks → ⊥) × ((workers ≡ 0) ⊎ (63 < workers)))
+    → IsTasksFault tasks workers fault
 tasks_fault tasks workers refusals.TooManyTasks many repeated range = many refl
 tasks_fault tasks workers refusals.RepeatedId many repeated range = repeated refl
 tasks_fault tasks workers refusals.Memory many repeated range = tt
@@ -32,10 +33,14 @@ admitted tasks workers many repeated range refusals.WorkersOutOfRange cause = ab
 
 module _ (options : DispatchOptions) (shape : Shape) (shaped : IsShapeOf options.sizes shape) where
   -- the fault of a word that writes no task is one of the command
-  pub unread_task : (fault : Fault) → (fault ≡ Memory) ⊎ ((place : ℕ) × (fault ≡ Word (place + 1)) × IsFirstUnreadTask options.words.now place) → IsDispatchRefusal options fault
+  pub unread_task : (fault : Fault) → (fault ≡ Memory)
+      ⊎ ((place : ℕ) × (fault ≡ Word (place + 1)) × IsFirstUnreadTask options.words.now place) → IsDispatchRefusal options fault
   unread_task fault (inl is) = subst (λ f. IsDispatchRefusal options f) (sym is) tt
-  unread_task fault (inr w) = subst (λ f. IsDispatchRefusal options f) (sym w.1) record { shape = shape; shape_given = shaped; place = w.0; number_is = refl; unread = w.2 }
+  unread_task fault (inr w) = subst (λ f. IsDispatchRefusal options f) (sym w.1)
+      record { shape = shape; shape_given = shaped; place = w.0; number_is = refl; unread = w.2 }
 
   -- so is the fault of tasks that are refused
-  pub tasks_refused : (tasks : List Task) → WriteTasks options.words.now tasks → (fault : DispatchFault) → IsTasksFault tasks options.workers fault → IsDispatchRefusal options (Dispatch fault)
-  tasks_refused tasks written fault refused = record { shape = shape; tasks = tasks; given = record { shape_given = shaped; tasks_given = written }; refused = refused }
+  pub tasks_refused : (tasks : List Task) → WriteTasks options.words.now tasks → (fault : DispatchFault)
+      → IsTasksFault tasks options.workers fault → IsDispatchRefusal options (Dispatch fault)
+  tasks_refused tasks written fault refused =
+      record { shape = shape; tasks = tasks; given = record { shape_given = shaped; tasks_given = written }; refused = refused }

@@ -1,7 +1,10 @@
 -- Why the command `draw` has no answer.
-use Rattle.std.proofs.Common.{◌≡◌, ◌≢◌, ℕ, List, Option, Some, subst, sym, ◌⊎◌, inl, inr, option_map, Result, Ok, Err, IfErr, IfOk, MatchResult}
+use Rattle.std.proofs.Common.{◌≡◌, ◌≢◌, ℕ, List, Option, Some, subst, sym, ◌⊎◌, inl, inr, option_map, Result, Ok, Err, IfErr, IfOk}
+use Rattle.std.proofs.Common.{MatchResult}
 use Rattle.kfifo_cli_texts.specs.declared.fault.Fault.{Fault}
-use Rattle.kfifo_cli_texts.specs.declared.fault.Fault.TheVariants.{Shape, Word, Order, Picks, Replay, Trace, Open, Dispatch, Input, NotJson, Record, Search, RepeatedItem, Import, TooManyDrawn, Contradiction, Stretch, NoLines, Unexplained, Memory, Output}
+use Rattle.kfifo_cli_texts.specs.declared.fault.Fault.TheVariants.{Shape, Word, Order, Picks, Replay, Trace, Open, Dispatch, Input, NotJson}
+use Rattle.kfifo_cli_texts.specs.declared.fault.Fault.TheVariants.{Record, Search, RepeatedItem, Import, TooManyDrawn, Contradiction}
+use Rattle.kfifo_cli_texts.specs.declared.fault.Fault.TheVariants.{Stretch, NoLines, Unexplained, Memory, Output}
 use Rattle.kfifo_cli_commands.specs.declared.cut.Cut.{Cut}
 use Rattle.kfifo_cli_commands.specs.declared.options.DrawOptions.{DrawOptions}
 use Rattle.kfifo_cli_commands.specs.Cuts.{AsksFor, IsCutFault}
@@ -34,12 +37,14 @@ module _ (input : Option (List ℕ)) (before after : ℕ) (options : DrawOptions
   cut_refused Output u = absurd u
 
   -- an order that is none is a refusal
-  pub order_refused : (fault : Fault) → (fault ≡ Memory) ⊎ ((fault ≡ Order) × IsOrderFault options.check) → IsDrawRefusal options input before after fault
+  pub order_refused : (fault : Fault) → (fault ≡ Memory) ⊎ ((fault ≡ Order) × IsOrderFault options.check)
+      → IsDrawRefusal options input before after fault
   order_refused fault (inl is) = subst (λ f. IsDrawRefusal options input before after f) (sym is) tt
   order_refused fault (inr w) = subst (λ f. IsDrawRefusal options input before after f) (sym w.0) w.1
 
   -- an input that was not read is a refusal
-  pub input_refused : (fault : Fault) → (fault ≡ Memory) ⊎ ((fault ≡ Input) × IsUnread input before after) → IsDrawRefusal options input before after fault
+  pub input_refused : (fault : Fault) → (fault ≡ Memory) ⊎ ((fault ≡ Input) × IsUnread input before after)
+      → IsDrawRefusal options input before after fault
   input_refused fault (inl is) = subst (λ f. IsDrawRefusal options input before after f) (sym is) tt
   input_refused fault (inr w) = subst (λ f. IsDrawRefusal options input before after f) (sym w.0) w.1
 
@@ -48,7 +53,8 @@ module _ (input : Option (List ℕ)) (before after : ℕ) (options : DrawOptions
     undrawn fault u = record { cut = cut; asked = asked; bytes = bytes; read = read; unpictured = u }
 
     -- calls of an input of which there is no picture are a refusal
-    pub picture_refused : (fault : Fault) → IsNoPicture options.check.k options.evidence cut bytes fault → IsDrawRefusal options input before after fault
+    pub picture_refused : (fault : Fault) → IsNoPicture options.check.k options.evidence cut bytes fault
+        → IsDrawRefusal options input before after fault
     picture_refused Contradiction u = absurd u
     picture_refused Stretch u = absurd u
     picture_refused (Shape fault) u = absurd u

@@ -1,7 +1,9 @@
 -- How a run ends with a fault.
 use Rattle.std.proofs.Common.{◌≡◌, ◌≢◌, ◌⊎◌, inl, inr, ℕ, List, refl, arith}
 use Rattle.kfifo_cli_texts.specs.declared.fault.Fault.{Fault}
-use Rattle.kfifo_cli_texts.specs.declared.fault.Fault.TheVariants.{Shape, Word, Order, Picks, Replay, Trace, Open, Dispatch, Input, NotJson, Record, Search, RepeatedItem, Import, TooManyDrawn, Contradiction, Stretch, NoLines, Unexplained, Memory, Output}
+use Rattle.kfifo_cli_texts.specs.declared.fault.Fault.TheVariants.{Shape, Word, Order, Picks, Replay, Trace, Open, Dispatch, Input, NotJson}
+use Rattle.kfifo_cli_texts.specs.declared.fault.Fault.TheVariants.{Record, Search, RepeatedItem, Import, TooManyDrawn, Contradiction}
+use Rattle.kfifo_cli_texts.specs.declared.fault.Fault.TheVariants.{Stretch, NoLines, Unexplained, Memory, Output}
 use Rattle.kfifo_cli_texts.specs.Faults.{fault_line}
 use Rattle.kfifo_cli_texts.specs.Printing.{Nothing, Part, Tells, Written}
 use Rattle.kfifo_cli_commands.specs.Endings.{Ends}

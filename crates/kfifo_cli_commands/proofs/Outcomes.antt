@@ -9,7 +9,8 @@ use Rattle.kfifo_cli_texts.specs.Words.{IsFirstUnread}
 
 -- the fault of the words is one of the command
 pub word_refused : (options : RunOptions) (shape : Shape) (k : ℕ) (fault : Fault) → IsShapeOf options.sizes shape → k ≡ shape.k
-    → (fault ≡ Memory) ⊎ ((place : ℕ) × (fault ≡ Word (place + 1)) × IsFirstUnread k options.turns options.words.now place) → IsRunRefusal options fault
+    → (fault ≡ Memory) ⊎ ((place : ℕ) × (fault ≡ Word (place + 1)) × IsFirstUnread k options.turns options.words.now place)
+    → IsRunRefusal options fault
 word_refused options shape k fault shaped same (inl is) = subst (λ f. IsRunRefusal options f) (sym is) tt
 word_refused options shape k fault shaped same (inr w) = subst (λ f. IsRunRefusal options f) (sym w.1) record {
   shape = shape;

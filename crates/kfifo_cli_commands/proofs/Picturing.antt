@@ -7,7 +7,9 @@ use Rattle.kfifo_draw.specs.declared.picture.DrawFault.{DrawFault}
 use Rattle.kfifo_draw.specs.declared.picture.DrawFault.TheVariants as pictures
 use Rattle.kfifo_cli_texts.specs.Faults.{picture_fault}
 use Rattle.kfifo_cli_texts.specs.declared.fault.Fault.{Fault}
-use Rattle.kfifo_cli_texts.specs.declared.fault.Fault.TheVariants.{Shape, Word, Order, Picks, Replay, Trace, Open, Dispatch, Input, NotJson, Record, Search, RepeatedItem, Import, TooManyDrawn, Contradiction, Stretch, NoLines, Unexplained, Memory, Output}
+use Rattle.kfifo_cli_texts.specs.declared.fault.Fault.TheVariants.{Shape, Word, Order, Picks, Replay, Trace, Open, Dispatch, Input, NotJson}
+use Rattle.kfifo_cli_texts.specs.declared.fault.Fault.TheVariants.{Record, Search, RepeatedItem, Import, TooManyDrawn, Contradiction}
+use Rattle.kfifo_cli_texts.specs.declared.fault.Fault.TheVariants.{Stretch, NoLines, Unexplained, Memory, Output}
 use Rattle.kfifo_cli_commands.specs.declared.cut.Cut.{Cut}
 use Rattle.kfifo_cli_commands.specs.Inputs.{IsNoCalls}
 use Rattle.kfifo_cli_commands.specs.Pictures.{AreCallsOf, IsNoPicture}
@@ -38,6 +40,7 @@ module _ (k : ℕ) (asked : Bool) (cut : Cut) (bytes : List ℕ) where
   no_calls Output u = absurd u
 
   -- calls of which there are too many have no picture
-  pub no_drawing : (fault : DrawFault) → (fault ≡ pictures.TooMany → AreCallsOf AreMany k asked cut bytes) → IsNoPicture k asked cut bytes (picture_fault fault)
+  pub no_drawing : (fault : DrawFault) → (fault ≡ pictures.TooMany → AreCallsOf AreMany k asked cut bytes)
+      → IsNoPicture k asked cut bytes (picture_fault fault)
   no_drawing pictures.TooMany many = many refl
   no_drawing pictures.Memory many = tt

@@ -8,13 +8,16 @@ use Rattle.kfifo_cli_texts.specs.declared.fault.Fault.TheVariants.{Memory, Picks
 use Rattle.kfifo_cli_commands.specs.declared.options.ReplayOptions.{ReplayOptions}
 use Rattle.kfifo_cli_texts.specs.declared.picks.Group.{Group}
 use Rattle.kfifo_cli_texts.specs.Picks.{GivesGroups, GivesNoGroups, picks_of}
-use Rattle.kfifo_cli_commands.specs.Replays.{Gives, IsLongTrace, IsPlainText, IsRefusal, IsReplayFault, IsReplayRefusal, IsReplayText, IsTraceFault, IsTracedText, IsUnplayed, traces}
+use Rattle.kfifo_cli_commands.specs.Replays.{Gives, IsLongTrace, IsPlainText, IsRefusal, IsReplayFault, IsReplayRefusal, IsReplayText}
+use Rattle.kfifo_cli_commands.specs.Replays.{IsTraceFault, IsTracedText, IsUnplayed, traces}
 use Rattle.kfifo_cli_commands.specs.Runs.{IsShapeOf}
 use Rattle.kfifo_cli_texts.specs.Scripts.{IsFirstUnreadScript, WriteScripts}
 
 module _ (options : ReplayOptions) (shape : Shape) (shaped : IsShapeOf options.sizes shape) (k : ℕ) (same : k ≡ shape.k) where
   -- the fault of the scripts is one of the command
-  pub script_refused : (fault : Fault) → (fault ≡ Memory) ⊎ ((place : ℕ) × (fault ≡ Word (place + 1)) × IsFirstUnreadScript k options.turns options.scripts.now place) → IsReplayRefusal options fault
+  pub script_refused : (fault : Fault) → (fault ≡ Memory)
+      ⊎ ((place : ℕ) × (fault ≡ Word (place + 1)) × IsFirstUnreadScript k options.turns options.scripts.now place)
+      → IsReplayRefusal options fault
   script_refused fault (inl is) = subst (λ f. IsReplayRefusal options f) (sym is) tt
   script_refused fault (inr w) = subst (λ f. IsReplayRefusal options f) (sym w.1) record {
     shape = shape;
@@ -29,9 +32,11 @@ module _ (options : ReplayOptions) (shape : Shape) (shaped : IsShapeOf options.s
     here = subst (λ n. WriteScripts n options.turns options.scripts.now scripts) same written
 
     -- that of the picks is one
-    pub picks_refused : (fault : Fault) → (fault ≡ Memory) ⊎ ((fault ≡ Picks) × GivesNoGroups options.picks.now) → IsReplayRefusal options fault
+    pub picks_refused : (fault : Fault) → (fault ≡ Memory) ⊎ ((fault ≡ Picks) × GivesNoGroups options.picks.now)
+        → IsReplayRefusal options fault
     picks_refused fault (inl is) = subst (λ f. IsReplayRefusal options f) (sym is) tt
-    picks_refused fault (inr unread) = subst (λ f. IsReplayRefusal options f) (sym unread.0) record { shape = shape; shape_given = shaped; scripts = scripts; scripts_given = here; unread = unread.1 }
+    picks_refused fault (inr unread) = subst (λ f. IsReplayRefusal options f) (sym unread.0)
+        record { shape = shape; shape_given = shaped; scripts = scripts; scripts_given = here; unread = unread.1 }
 
     module _ (groups : List Group) (given : GivesGroups options.picks.now groups) where
       -- what the options give
@@ -55,7 +60,8 @@ module _ (options : ReplayOptions) (shape : Shape) (shaped : IsShapeOf options.s
 module _ (points : Bool) (stopped : Option ℕ) (shape : Shape) (scripts : List (List Begin)) (picks text : List ℕ) where
   -- a text with no lines of events is what is printed where none are to be printed
   pub plain_text : (record_asked trace : Bool) → traces record_asked trace ≡ false
-      → IsPlainText record_asked points stopped shape scripts picks text → IsReplayText record_asked trace points stopped shape scripts picks text
+      → IsPlainText record_asked points stopped shape scripts picks text
+      → IsReplayText record_asked trace points stopped shape scripts picks text
   plain_text true trace none h = h
   plain_text false false none h = h
   plain_text false true none h = absurd (cc)

@@ -1,5 +1,6 @@
 -- Which calls `draw` is asked to draw, by its options.
-use Rattle.std.specs.Prelude.{ℕ, ◌≡◌, ◌≤◌, ◌⊎◌, true, false, List, [], ◌∷◌, Option, Some, None, IsSome, option_map, unwrap_or}
+use Rattle.std.specs.Prelude.{ℕ, ◌≡◌, ◌≤◌, ◌⊎◌, true, false, List, [], ◌∷◌, Option, Some, None, IsSome, option_map}
+use Rattle.std.specs.Prelude.{unwrap_or}
 use denote.Ref.{Bor}
 use Rattle.kfifo_verdict.specs.declared.verdicts.Evidence.{Evidence}
 use Rattle.kfifo_verdict.specs.declared.verdicts.Evidence.TheVariants.{NeverPut, TakenTwice, NotEmpty, TooYoung}
@@ -13,7 +14,8 @@ use Rattle.kfifo_cli_commands.specs.declared.options.DrawOptions.{DrawOptions}
 use Rattle.kfifo_cli_commands.specs.declared.cut.Cut.{Cut}
 use Rattle.kfifo_cli_commands.specs.declared.cut.Cut.TheVariants as cuts
 
--- The options contradict each other: `--evidence` and `--order`, `--around` with no `--evidence`, or `--calls` and `--lines`.
+-- The options contradict each other: `--evidence` and `--order`, `--around` with no `--evidence`, or `--calls` and
+-- `--lines`.
 abbrev pub Contradict : DrawOptions → Type 0
 Contradict options = ((options.evidence ≡ true) × IsSome options.check.order)
     ⊎ ((options.evidence ≡ false) × IsSome options.around)
@@ -36,7 +38,8 @@ abbrev pub AsksForCut : DrawOptions → Cut → Type 0
 AsksForCut options cuts.Whole = (given options.calls ≡ None) × (given options.lines ≡ None) × (options.evidence ≡ false)
 AsksForCut options (cuts.Calls stretch) = GivesStretch (given options.calls) stretch
 AsksForCut options (cuts.Lines stretch) = (given options.calls ≡ None) × GivesStretch (given options.lines) stretch
-AsksForCut options (cuts.Evidence around) = (given options.calls ≡ None) × (given options.lines ≡ None) × (options.evidence ≡ true)
+AsksForCut options (cuts.Evidence around) = (given options.calls ≡ None) × (given options.lines ≡ None)
+    × (options.evidence ≡ true)
     × (around ≡ unwrap_or options.around 8)
 
 -- the calls to be drawn are those of lines of a log
@@ -67,4 +70,5 @@ IsPartOf named cuts.Whole part = part ≡ parts.All
 IsPartOf named (cuts.Calls stretch) part = part ≡ parts.Calls stretch.first stretch.last
 IsPartOf named (cuts.Lines stretch) part = part ≡ parts.Lines stretch.first stretch.last
 IsPartOf None (cuts.Evidence around) part = part ≡ parts.All
-IsPartOf (Some calls) (cuts.Evidence around) part = (named : Bor (List ℕ)) × (part ≡ parts.Near named around) × (named.now ≡ calls)
+IsPartOf (Some calls) (cuts.Evidence around) part = (named : Bor (List ℕ)) × (part ≡ parts.Near named around)
+    × (named.now ≡ calls)

@@ -22,7 +22,8 @@ abbrev pub IsTasksFault : List Task → ℕ → DispatchFault → Type 0
 IsTasksFault tasks workers refusals.TooManyTasks = 1024 < length tasks
 IsTasksFault tasks workers refusals.RepeatedId = (length tasks ≤ 1024) × HasRepeatedId tasks
 IsTasksFault tasks workers refusals.Memory = Unit {0}
-IsTasksFault tasks workers refusals.WorkersOutOfRange = (length tasks ≤ 1024) × ¬ (HasRepeatedId tasks) × ((workers ≡ 0) ⊎ (63 < workers))
+IsTasksFault tasks workers refusals.WorkersOutOfRange = (length tasks ≤ 1024) × ¬ (HasRepeatedId tasks)
+    × ((workers ≡ 0) ⊎ (63 < workers))
 
 -- The answer: the lines of the tasks, each finished and once, by rising id. Nothing but want of memory refuses them
 pub record IsDispatch (options : DispatchOptions) (text : List ℕ) : Type 0 where

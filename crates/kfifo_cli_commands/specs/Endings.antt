@@ -3,7 +3,8 @@ use Rattle.std.specs.Prelude.{◌≡◌, ◌≢◌, ◌⊎◌, ◌≤◌, ℕ, L
 use Rattle.kfifo_cli_texts.specs.declared.fault.Fault.{Fault}
 use Rattle.kfifo_cli_texts.specs.declared.fault.Fault.TheVariants.{Input}
 use Rattle.kfifo_cli_commands.specs.declared.options.Request.{Request}
-use Rattle.kfifo_cli_commands.specs.declared.options.Request.TheVariants.{Run, Check, Measure, Replay, Judge, Least, Record, Import, Draw, Dispatch, Explain}
+use Rattle.kfifo_cli_commands.specs.declared.options.Request.TheVariants.{Run, Check, Measure, Replay, Judge, Least}
+use Rattle.kfifo_cli_commands.specs.declared.options.Request.TheVariants.{Record, Import, Draw, Dispatch, Explain}
 use Rattle.kfifo_cli_commands.specs.Dispatches.{IsDispatch, IsDispatchRefusal}
 use Rattle.kfifo_cli_texts.specs.Faults.{fault_line}
 use Rattle.kfifo_cli_texts.specs.Printing.{Nothing, Part, Tells, Whole, Written}
@@ -52,11 +53,14 @@ IsCause (Explain options) input before after fault = IsExplainRefusal fault
 abbrev pub IsRefused : Request → Option (List ℕ) → ℕ → ℕ → Fault → Type 0
 IsRefused request input before after fault = IsCause request input before after fault × (fault ≢ Input → after ≡ before)
 
--- How a run ends with a status. `answers` says which texts answer with which status, `causes` which faults are the cause
--- of a failure, `misuse` when the command line is at fault; `output` and `faults` say what was written to either writer.
-pub record Ends (answers : List ℕ → ℕ → Type 0) (causes : Fault → Type 0) (misuse : Type 0) (output faults : Written → Type 0) (status : ℕ) : Type 0 where
+-- How a run ends with a status. `answers` says which texts answer with which status, `causes` which faults are the
+-- cause of a failure, `misuse` when the command line is at fault; `output` and `faults` say what was written to either
+-- writer.
+pub record Ends (answers : List ℕ → ℕ → Type 0) (causes : Fault → Type 0) (misuse : Type 0)
+    (output faults : Written → Type 0) (status : ℕ) : Type 0 where
   pub known : status ≤ 4
-  pub printed : (status ≡ 0) ⊎ (status ≡ 3) ⊎ (status ≡ 4) → faults Nothing × ((text : List ℕ) × answers text status × output (Whole text))
+  pub printed : (status ≡ 0) ⊎ (status ≡ 3) ⊎ (status ≡ 4) → faults Nothing
+      × ((text : List ℕ) × answers text status × output (Whole text))
   pub failed : status ≡ 1 →
       (faults Nothing × ((text : List ℕ) × (planned : ℕ) × answers text planned × output (Part text)))
       ⊎ (output Nothing × ((fault : Fault) × causes fault × Tells faults (fault_line fault)))

@@ -15,7 +15,8 @@ use Rattle.kfifo_cli_texts.specs.declared.fault.Fault.TheVariants.{Import, NotJs
 abbrev pub IsSpace : ℕ → Type 0
 IsSpace byte = (byte ≡ 32) ⊎ (byte ≡ 9) ⊎ (byte ≡ 10) ⊎ (byte ≡ 13)
 
--- The first byte that is no white space is `[`: the input is a record in JSON. Any other input is a log in CSV, an empty one too.
+-- The first byte that is no white space is `[`: the input is a record in JSON. Any other input is a log in CSV, an
+-- empty one too.
 pub record BeginsRecord (bytes : List ℕ) : Type 0 where
   pub place : ℕ
   pub inside : place < length bytes
@@ -25,7 +26,8 @@ pub record BeginsRecord (bytes : List ℕ) : Type 0 where
 -- The calls of an input: those of the record, or of the log, with what the log says of each beside them.
 abbrev pub IsCalls : List ℕ → List Call → Option (List LoggedCall) → Type 0
 IsCalls bytes history None = BeginsRecord bytes × IsRecordText bytes history
-IsCalls bytes history (Some calls) = ¬ (BeginsRecord bytes) × IsReadLog bytes history calls × (length calls ≡ length history)
+IsCalls bytes history (Some calls) = ¬ (BeginsRecord bytes) × IsReadLog bytes history calls
+    × (length calls ≡ length history)
 
 -- what the log says of each call, and nothing of a record
 abbrev pub logged_calls : Option (List LoggedCall) → List LoggedCall

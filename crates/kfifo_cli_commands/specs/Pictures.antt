@@ -1,5 +1,6 @@
 -- What the command `draw` comes to, by its options, its input and its failed reads. How a picture looks is not said.
-use Rattle.std.specs.Prelude.{ℕ, ◌≡◌, true, false, Bool, List, [], Option, Some, None, IsSome, MatchOption, length, option_map}
+use Rattle.std.specs.Prelude.{ℕ, ◌≡◌, true, false, Bool, List, [], Option, Some, None, IsSome, MatchOption, length}
+use Rattle.std.specs.Prelude.{option_map}
 use Rattle.kfifo_model.specs.declared.calls.Call.{Call}
 use Rattle.kfifo_import.specs.declared.log.LoggedCall.{LoggedCall}
 use Rattle.kfifo_verdict.specs.declared.verdicts.Evidence.{Evidence}
@@ -7,7 +8,8 @@ use Rattle.kfifo_verdict.specs.Judging.{HasNoEvidence, IsFirstEvidence}
 use Rattle.kfifo_draw.specs.Drawing.{AreFew, AreMany, IsInPart}
 use Rattle.kfifo_draw.specs.declared.part.Part.{Part}
 use Rattle.kfifo_cli_texts.specs.declared.fault.Fault.{Fault}
-use Rattle.kfifo_cli_texts.specs.declared.fault.Fault.TheVariants.{Order, Input, NotJson, Record, Import, TooManyDrawn, Contradiction, Stretch, NoLines, Memory}
+use Rattle.kfifo_cli_texts.specs.declared.fault.Fault.TheVariants.{Order, Input, NotJson, Record, Import, TooManyDrawn}
+use Rattle.kfifo_cli_texts.specs.declared.fault.Fault.TheVariants.{Contradiction, Stretch, NoLines, Memory}
 use Rattle.kfifo_cli_commands.specs.declared.options.DrawOptions.{DrawOptions}
 use Rattle.kfifo_cli_commands.specs.declared.cut.Cut.{Cut}
 use Rattle.kfifo_cli_commands.specs.Cuts.{AsksFor, IsCutFault, IsOfLines, IsPartOf, named_by}
@@ -19,8 +21,10 @@ abbrev pub IsSought : Bool → ℕ → List Call → Option Evidence → Type 0
 IsSought true k h found = MatchOption found (HasNoEvidence k h) (IsFirstEvidence k h)
 IsSought false k h found = found ≡ None
 
--- The number of the calls to be drawn: `Has` says of a fact and of how many calls there are whether it holds of few or of many.
-pub record IsPictureOf (Has : (ℕ → Type 0) → ℕ → Type 0) (k : ℕ) (asked : Bool) (cut : Cut) (h : List Call) (logged : List LoggedCall) : Type 0 where
+-- The number of the calls to be drawn: `Has` says of a fact and of how many calls there are whether it holds of few or
+-- of many.
+pub record IsPictureOf (Has : (ℕ → Type 0) → ℕ → Type 0) (k : ℕ) (asked : Bool) (cut : Cut) (h : List Call)
+    (logged : List LoggedCall) : Type 0 where
   pub found : Option Evidence
   pub sought : IsSought asked k h found
   pub part : Part
@@ -28,7 +32,8 @@ pub record IsPictureOf (Has : (ℕ → Type 0) → ℕ → Type 0) (k : ℕ) (as
   pub drawn : Has (IsInPart h logged part) (length h)
 
 -- the calls of an input, of which few or many are to be drawn
-pub record AreCallsOf (Has : (ℕ → Type 0) → ℕ → Type 0) (k : ℕ) (asked : Bool) (cut : Cut) (bytes : List ℕ) : Type 0 where
+pub record AreCallsOf (Has : (ℕ → Type 0) → ℕ → Type 0) (k : ℕ) (asked : Bool) (cut : Cut)
+    (bytes : List ℕ) : Type 0 where
   pub history : List Call
   pub logged : Option (List LoggedCall)
   pub calls : IsCalls bytes history logged

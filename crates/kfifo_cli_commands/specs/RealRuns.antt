@@ -21,7 +21,8 @@ pub record GivesScripts (options : RecordOptions) (shape : Shape) (scripts : Lis
   pub shape_given : IsShapeOf options.sizes shape
   pub scripts_given : WriteScripts shape.k options.turns options.scripts.now scripts
 
--- The answer: the line of the record of a run of the scripts, made over as often as the options say. Who reads it has its history
+-- The answer: the line of the record of a run of the scripts, made over as often as the options say. Who reads it has
+-- its history
 pub record IsRealRun (options : RecordOptions) (text : List ℕ) : Type 0 where
   pub shape : Shape
   pub scripts : List (List Begin)
@@ -39,7 +40,8 @@ pub record IsUnreadScript (options : RecordOptions) (number : ℕ) : Type 0 wher
   pub number_is : number ≡ place + 1
   pub unread : IsFirstUnreadScript shape.k options.turns options.scripts.now place
 
--- the sizes and the scripts are in order, and the script with this number is the first that goes over the greatest item when it is made over
+-- the sizes and the scripts are in order, and the script with this number is the first that goes over the greatest item
+-- when it is made over
 pub record IsScriptOver (options : RecordOptions) (number : ℕ) : Type 0 where
   pub shape : Shape
   pub scripts : List (List Begin)

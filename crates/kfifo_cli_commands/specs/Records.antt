@@ -1,12 +1,14 @@
 -- What the commands `check` and `measure` come to, by their options, their input and its failed reads.
-use Rattle.std.specs.Prelude.{◌≡◌, ◌≢◌, ◌⊎◌, ◌<◌, ◌≤◌, ℕ, List, Option, Some, None, IfSome, Result, MatchResult, length, option_map}
+use Rattle.std.specs.Prelude.{◌≡◌, ◌≢◌, ◌⊎◌, ◌<◌, ◌≤◌, ℕ, List, Option, Some, None, IfSome, Result, MatchResult, length}
+use Rattle.std.specs.Prelude.{option_map}
 use Rattle.kfifo_judge.specs.declared.record.StreamFault.{StreamFault}
 use Rattle.kfifo_judge.specs.declared.record.StreamFault.TheVariants as streams
 use Rattle.kfifo_judge.specs.Check.{IsChecked, IsCheckFault}
 use Rattle.kfifo_judge.specs.Measure.{IsMeasured, IsMeasuringFault}
 use Rattle.kfifo_judge.specs.Streams.{CountsOne}
 use Rattle.kfifo_cli_texts.specs.declared.fault.Fault.{Fault}
-use Rattle.kfifo_cli_texts.specs.declared.fault.Fault.TheVariants.{Order, Input, NotJson, Record, Search, RepeatedItem, Memory}
+use Rattle.kfifo_cli_texts.specs.declared.fault.Fault.TheVariants.{Order, Input, NotJson, Record, Search, RepeatedItem}
+use Rattle.kfifo_cli_texts.specs.declared.fault.Fault.TheVariants.{Memory}
 use Rattle.kfifo_cli_commands.specs.declared.options.CheckOptions.{CheckOptions}
 use Rattle.kfifo_cli_texts.specs.Faults.{stream_fault}
 use Rattle.kfifo_cli_texts.specs.Orders.{GivesNoOrder, GivesOrder}
@@ -17,7 +19,8 @@ IsInput input bytes = IfSome input (λ given. (given ≡ bytes) × (length given
 
 -- the input was not read whole: a read failed, or over 16,777,216 bytes came
 abbrev pub IsUnread : Option (List ℕ) → ℕ → ℕ → Type 0
-IsUnread input before after = CountsOne before after ⊎ ((after ≡ before) × IfSome input (λ given. 16777216 < length given))
+IsUnread input before after = CountsOne before after
+    ⊎ ((after ≡ before) × IfSome input (λ given. 16777216 < length given))
 
 -- no read failed, but where that is the fault that is answered
 abbrev pub ReadsWell : {T : Type 0} → Result T Fault → ℕ → ℕ → Type 0

@@ -1,5 +1,6 @@
 -- What the command `replay` comes to.
-use Rattle.std.specs.Prelude.{◌≡◌, ℕ, ◌+◌, ◌<◌, ◌≤◌, ◌⊎◌, Bool, true, false, ◌&&◌, not, List, [], ◌++◌, Option, Some, None, IsTrue, codes, decimal, is_some, length}
+use Rattle.std.specs.Prelude.{◌≡◌, ℕ, ◌+◌, ◌<◌, ◌≤◌, ◌⊎◌, Bool, true, false, ◌&&◌, not, List, [], ◌++◌, Option, Some}
+use Rattle.std.specs.Prelude.{None, IsTrue, codes, decimal, is_some, length}
 use Rattle.kfifo_words.specs.declared.shape.Shape.{Shape}
 use Rattle.kfifo_model.specs.declared.calls.Call.{Call}
 use Rattle.kfifo_machine.specs.declared.event.Begin.{Begin}
@@ -38,7 +39,8 @@ abbrev pub first_lines : Report → List ℕ
 first_lines r = line (codes "steps " ++ decimal r.steps) ++ numbers_line (codes "order ") r.order.items
 
 abbrev pub last_lines : Option ℕ → Report → List ℕ
-last_lines stopped r = line (codes "worst rank " ++ decimal r.worst_rank) ++ line (codes "rollbacks " ++ decimal r.rollbacks) ++ completed_line stopped r.completed
+last_lines stopped r = line (codes "worst rank " ++ decimal r.worst_rank)
+    ++ line (codes "rollbacks " ++ decimal r.rollbacks) ++ completed_line stopped r.completed
 
 -- ---- the answer
 
@@ -49,7 +51,8 @@ IsPointsLine true shape scripts picks text = (points : List ℕ) × ArePoints sh
     × (text ≡ numbers_line (codes "points ") points)
 
 -- the lines of the report of these picks
-pub record IsReportText (points : Bool) (stopped : Option ℕ) (shape : Shape) (scripts : List (List Begin)) (picks text : List ℕ) : Type 0 where
+pub record IsReportText (points : Bool) (stopped : Option ℕ) (shape : Shape) (scripts : List (List Begin))
+    (picks text : List ℕ) : Type 0 where
   pub report : Report
   pub reported : IsReport shape scripts picks report
   pub middle : List ℕ
@@ -63,7 +66,8 @@ pub record IsRecordLine (shape : Shape) (scripts : List (List Begin)) (picks tex
   pub text_is : text ≡ line (record_text history)
 
 -- a line for each event of the schedule that these picks make, in turn, and the report behind them
-pub record IsTracedText (points : Bool) (stopped : Option ℕ) (shape : Shape) (scripts : List (List Begin)) (picks text : List ℕ)
+pub record IsTracedText (points : Bool) (stopped : Option ℕ) (shape : Shape) (scripts : List (List Begin))
+    (picks text : List ℕ)
     : Type 0 where
   pub events : List Event
   pub made : events_of shape scripts picks ≡ Some events
@@ -78,8 +82,8 @@ abbrev pub IsPlainText : Bool → Bool → Option ℕ → Shape → List (List B
 IsPlainText true points stopped shape scripts picks text = IsRecordLine shape scripts picks text
 IsPlainText false points stopped shape scripts picks text = IsReportText points stopped shape scripts picks text
 
--- the text for these picks: the record where it is asked for, and else the report, with the lines of the events before it
--- where those are asked for
+-- the text for these picks: the record where it is asked for, and else the report, with the lines of the events before
+-- it where those are asked for
 abbrev pub IsReplayText : Bool → Bool → Bool → Option ℕ → Shape → List (List Begin) → List ℕ → List ℕ → Type 0
 IsReplayText true trace points stopped shape scripts picks text = IsRecordLine shape scripts picks text
 IsReplayText false true points stopped shape scripts picks text = IsTracedText points stopped shape scripts picks text
@@ -95,14 +99,16 @@ pub record IsLong (shape : Shape) (scripts : List (List Begin)) (picks : List �
   pub made : events_of shape scripts picks ≡ Some events
   pub long : max_steps < length events
 
--- the picks that are made of those given: these, and where a thread is stopped behind them those with which each other thread goes to the end of its script
+-- the picks that are made of those given: these, and where a thread is stopped behind them those with which each other
+-- thread goes to the end of its script
 abbrev pub Makes : Option ℕ → Shape → List (List Begin) → List ℕ → List ℕ → Type 0
 Makes None shape scripts given made = made ≡ given
 Makes (Some stopped) shape scripts given made = (more : List ℕ) × (made ≡ given ++ more) × (stopped < length scripts)
     × Finishes stopped shape scripts (length scripts) given more
 
 -- the shape, the scripts and the groups of picks that the options give
-pub record Gives (options : ReplayOptions) (shape : Shape) (scripts : List (List Begin)) (groups : List Group) : Type 0 where
+pub record Gives (options : ReplayOptions) (shape : Shape) (scripts : List (List Begin))
+    (groups : List Group) : Type 0 where
   pub shape_given : IsShapeOf options.sizes shape
   pub scripts_given : WriteScripts shape.k options.turns options.scripts.now scripts
   pub groups_given : GivesGroups options.picks.now groups
@@ -140,7 +146,8 @@ abbrev pub IsUnknown : Option ℕ → List (List Begin) → Type 0
 IsUnknown None scripts = ⊥
 IsUnknown (Some stopped) scripts = length scripts ≤ stopped
 
--- why a replay refuses: a pick is the first that is refused; or these are no scripts, or all picks are made and the thread to be stopped has no script
+-- why a replay refuses: a pick is the first that is refused; or these are no scripts, or all picks are made and the
+-- thread to be stopped has no script
 abbrev pub IsRefusal : Option ℕ → Shape → List (List Begin) → List ℕ → ReplayFault → Type 0
 IsRefusal stopped shape scripts picks (replays.BadPick place) = IsFirstRefused shape scripts picks place
 IsRefusal stopped shape scripts picks replays.Memory = Unit {0}

@@ -23,8 +23,8 @@ call_line (Enqueue item start turns) answer = enqueue_line item answer
 call_line (Dequeue start turns) answer = dequeue_line answer
 call_line Tick answer = []
 
--- Calls that were made in turn by thread 0 of a machine with one thread, each as one complete execution with its answer: the
--- schedule has grown from old to new, and the lines of the calls are this text
+-- Calls that were made in turn by thread 0 of a machine with one thread, each as one complete execution with its
+-- answer: the schedule has grown from old to new, and the lines of the calls are this text
 abbrev pub RunInTurn : Shape → List Begin → List Answer → List Event → List Event → List ℕ → Type 0
 RunInTurn shape [] [] old new text = (new ≡ old) × (text ≡ [])
 RunInTurn shape [] (answer ∷ answers) old new text = ⊥
@@ -36,7 +36,8 @@ RunInTurn shape (call ∷ calls) (answer ∷ answers) old new text = (mid : List
 -- the lines of the first slots of a segment
 abbrev pub slot_lines : ℕ → World → ℕ → ℕ → List ℕ
 slot_lines k world segment zero = []
-slot_lines k world segment (suc slot) = slot_lines k world segment slot ++ slot_line segment slot (word_at world (slot_at k segment slot))
+slot_lines k world segment (suc slot) =
+    slot_lines k world segment slot ++ slot_line segment slot (word_at world (slot_at k segment slot))
 
 -- the lines of all slots of the first segments
 abbrev pub segment_lines : ℕ → World → ℕ → List ℕ

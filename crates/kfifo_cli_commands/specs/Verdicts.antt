@@ -13,7 +13,8 @@ use Rattle.kfifo_cli_commands.specs.Records.{IsInput, IsUnread}
 use Rattle.kfifo_cli_commands.specs.Statuses.{outcome_status, status_number}
 
 -- The text and the status answer the calls of these bytes, as `IsAnswer` says of calls with what a log says of them.
-pub record AnswersCalls (IsAnswer : List LoggedCall → List Call → List ℕ → Outcome → Type 0) (bytes text : List ℕ) (status : ℕ) : Type 0 where
+pub record AnswersCalls (IsAnswer : List LoggedCall → List Call → List ℕ → Outcome → Type 0) (bytes text : List ℕ)
+    (status : ℕ) : Type 0 where
   pub history : List Call
   pub logged : Option (List LoggedCall)
   pub calls : IsCalls bytes history logged
@@ -47,4 +48,5 @@ HasNoCalls input fault = (bytes : List ℕ) × IsInput input bytes × IsNoCalls 
 
 -- why neither has an answer: memory was refused, the input was not read whole, or it has no calls
 abbrev pub IsVerdictRefusal : Option (List ℕ) → ℕ → ℕ → Fault → Type 0
-IsVerdictRefusal input before after fault = (fault ≡ Memory) ⊎ ((fault ≡ Input) × IsUnread input before after) ⊎ HasNoCalls input fault
+IsVerdictRefusal input before after fault = (fault ≡ Memory) ⊎ ((fault ≡ Input) × IsUnread input before after)
+    ⊎ HasNoCalls input fault

@@ -5,8 +5,8 @@ ghost use Rattle.kfifo_cli_texts.specs.declared.stretch.Stretch.{Stretch as Stre
 ghost use Rattle.kfifo_cli_texts.specs.Stretches.{WritesStretch};
 
 use crate::options::DrawOptions;
-use kfifo_draw::Part;
 use kfifo_cli_texts::{Fault, Stretch, read_stretch};
+use kfifo_draw::Part;
 
 /// Within how many calls of a named one further calls are drawn.
 const AROUND: u32 = 8;
@@ -20,8 +20,8 @@ pub(crate) enum Cut {
     Calls(Stretch),
     /// Those in these lines of the log.
     Lines(Stretch),
-    /// Those that the evidence names, and those that overlap one of them or stand within so many calls of one; all where there
-    /// is no evidence.
+    /// Those that the evidence names, and those that overlap one of them or stand within so many calls of one; all
+    /// where there is no evidence.
     Evidence(u32),
 }
 

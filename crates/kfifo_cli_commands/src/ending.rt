@@ -12,8 +12,8 @@ use crate::commands::{
 use crate::options::Request;
 use crate::progress::Progress;
 use crate::status::Status;
-use kfifo_judge::Source;
 use kfifo_cli_texts::{Fault, Printer};
+use kfifo_judge::Source;
 use std::alloc::Global;
 use std::fmt::Display;
 use std::io::Write;
@@ -29,9 +29,9 @@ pub enum Notice {
     Misuse,
 }
 
-/// Does what is requested, and writes its answer or the line of its fault. The order of `check` and `draw` may stand in a
-/// file, and `record` and `dispatch` start threads: `rt` may do both. `replay` tells the progress how far it has come, and that it has
-/// ended before anything is written.
+/// Does what is requested, and writes its answer or the line of its fault. The order of `check` and `draw` may stand in
+/// a file, and `record` and `dispatch` start threads: `rt` may do both. `replay` tells the progress how far it has
+/// come, and that it has ended before anything is written.
 pub fn carry_out<H: Threads + Files + Sync, S: Source, W: Write, F: Write, P: Progress>(
     alloc: Global,
     rt: &H,
@@ -43,7 +43,8 @@ pub fn carry_out<H: Threads + Files + Sync, S: Source, W: Write, F: Write, P: Pr
 ) -> Status
     ensures { Ends (IsAnswered request.entry (S.remaining input.old) (S.failed input.old) (S.failed input.new))
         (IsRefused request.entry (S.remaining input.old) (S.failed input.old) (S.failed input.new)) ⊥
-        (OnPrinter W.contents output.old output.new) (OnPrinter F.contents faults.old faults.new) (status_number result) }
+        (OnPrinter W.contents output.old output.new) (OnPrinter F.contents faults.old faults.new)
+        (status_number result) }
 {
     match answer(alloc, rt, request, input, output, progress) {
         Ok(status) => status,
@@ -73,8 +74,10 @@ pub fn end_with_text<D: Display + Drop, W: Write, F: Write>(
 ) -> Status
     ensures { Ends (λ bytes status. (notice ≡ Notice.Help) × (status ≡ 0)
         × IfSome (D.output text) (λ known. bytes ≡ known)) (λ fault. fault ≡ Fault.Memory)
-        ((notice ≡ Notice.Misuse) × ((bytes : List ℕ) × IfSome (D.output text) (λ known. bytes ≡ known) × Tells (OnPrinter F.contents faults.old faults.new) bytes))
-        (OnPrinter W.contents output.old output.new) (OnPrinter F.contents faults.old faults.new) (status_number result) }
+        ((notice ≡ Notice.Misuse) × ((bytes : List ℕ) × IfSome (D.output text) (λ known. bytes ≡ known)
+        × Tells (OnPrinter F.contents faults.old faults.new) bytes))
+        (OnPrinter W.contents output.old output.new) (OnPrinter F.contents faults.old faults.new)
+        (status_number result) }
 {
     let Ok(text) = text.to_string(alloc) else {
         return end_with_fault(Fault::Memory, faults);
@@ -101,13 +104,15 @@ fn answer<H: Threads + Files + Sync, S: Source, W: Write, P: Progress>(
     progress: &mut P,
 ) -> Result<Status, Fault>
     ensures statuses { IfOk result (λ status. (status ≢ Status.Failed) × (status ≢ Status.Misused)) }
-    ensures printed { IfOk result (λ status. (text : List ℕ) × Answers request.entry (S.remaining input.old) text (status_number status)
+    ensures printed { IfOk result (λ status. (text : List ℕ)
+        × Answers request.entry (S.remaining input.old) text (status_number status)
         × Writes W.contents output.old text output.new) }
     ensures broken { IfErr result (λ fault. fault ≡ Fault.Output → (text : List ℕ) × (status : ℕ)
         × Answers request.entry (S.remaining input.old) text status
         × Breaks W.contents output.old text output.new) }
     ensures refused { IfErr result (λ fault. fault ≢ Fault.Output
-        → IsRefused request.entry (S.remaining input.old) (S.failed input.old) (S.failed input.new) fault × (output.new ≡ output.old)) }
+        → IsRefused request.entry (S.remaining input.old) (S.failed input.old) (S.failed input.new) fault
+        × (output.new ≡ output.old)) }
     ensures reads { ReadsWell result (S.failed input.old) (S.failed input.new) }
 {
     match request {

@@ -3,10 +3,10 @@ ghost use Rattle.std.specs.Prelude.{◌≡◌, ◌⊎◌, ◌↔◌, IfErr, IfOk
 ghost use Rattle.kfifo_cli_commands.specs.Inputs.{BeginsRecord, IsCalls, IsNoCalls, IsSpace, logged_calls};
 ghost use Rattle.kfifo_cli_commands.specs.Records.{IsInput, IsUnread, ReadsWell};
 
+use kfifo_cli_texts::Fault;
 use kfifo_import::{LoggedCall, read_log};
 use kfifo_judge::{ReadFault, Source, read_all, read_record};
 use kfifo_model::History;
-use kfifo_cli_texts::Fault;
 use std::alloc::Global;
 
 /// The calls of an input.
@@ -61,11 +61,12 @@ fn begins_record(bytes: &[u8]) -> bool
     false
 }
 
-/// The calls of an input. Where its first byte that is no white space is `[` it is a record in JSON, read as `check` reads it
-/// and with its faults; else it is a log in CSV, read as `import` reads it and with its faults. An input with no byte, or of
-/// white space alone, is a log that lacks its header: the fault is `csv fault at line 1`.
+/// The calls of an input. Where its first byte that is no white space is `[` it is a record in JSON, read as `check`
+/// reads it and with its faults; else it is a log in CSV, read as `import` reads it and with its faults. An input with
+/// no byte, or of white space alone, is a log that lacks its header: the fault is `csv fault at line 1`.
 pub(crate) fn read_calls(alloc: Global, bytes: &[u8]) -> Result<Calls, Fault>
-    ensures { MatchResult result (λ calls. IsCalls bytes.now calls.history (option_map (λ logged. logged.items) calls.logged))
+    ensures { MatchResult result (λ calls.
+        IsCalls bytes.now calls.history (option_map (λ logged. logged.items) calls.logged))
         (IsNoCalls bytes.now) }
 {
     if begins_record(bytes) {

@@ -10,9 +10,9 @@ ghost use Rattle.kfifo_cli_commands.specs.Replays.{IsLong, IsRefusal, IsTracedTe
 use crate::commands::replay::{behind, count_picks, report_of};
 use crate::options::ReplayOptions;
 use crate::progress::{Meter, Progress};
+use kfifo_cli_texts::{Fault, Group, push_trace};
 use kfifo_machine::Begin;
 use kfifo_replay::{MAX_STEPS, ReplayFault, Tracer};
-use kfifo_cli_texts::{Fault, Group, push_trace};
 use kfifo_words::Shape;
 use std::alloc::Global;
 
@@ -99,7 +99,8 @@ pub(crate) fn text_of(
     tracer: &Tracer,
 ) -> Result<String, Fault>
     ensures ok { IfOk result (λ text. (scripts : List (List BeginData)) (picks : List ℕ)
-        → Traces shape scripts picks tracer.now → IsTracedText options.now.points options.now.stopped shape scripts picks (string_bytes text)) }
+        → Traces shape scripts picks tracer.now
+        → IsTracedText options.now.points options.now.stopped shape scripts picks (string_bytes text)) }
     ensures err { IfErr result (λ fault. (fault ≡ Fault.Memory) ⊎ (fault ≡ Fault.Replay ReplayFault.Memory)
         ⊎ ((fault ≡ Fault.Trace) × ((scripts : List (List BeginData)) (picks : List ℕ)
         → Traces shape scripts picks tracer.now → IsLong shape scripts picks))) }

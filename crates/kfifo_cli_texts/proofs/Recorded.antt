@@ -1,5 +1,6 @@
 -- Who reads the record of a history has that history.
-use Rattle.std.proofs.Common.{◌≡◌, ℕ, ◌<◌, ◌≤◌, ◌^◌, true, false, List, [], ◌∷◌, Option, Some, None, Ok, codes, length, map, refl, sym, ap, subst, arith}
+use Rattle.std.proofs.Common.{◌≡◌, ℕ, ◌<◌, ◌≤◌, ◌^◌, true, false, List, [], ◌∷◌, Option, Some, None, Ok, codes, length, map, refl, sym, ap}
+use Rattle.std.proofs.Common.{subst, arith}
 use Rattle.std.specs.Prelude.{nat_lt}
 use Rattle.std.proofs.lemmas.Bool.Decides.{nat_tests}
 use Rattle.std.proofs.lemmas.Grind.{common_steps}
@@ -32,7 +33,8 @@ IsPlain d = (has_float d ≡ false) × (depth d ≡ 1)
 plain_call : (c : Call) → IsPlain (call_value c)
 plain_call c = cases c.op c.end
   where
-    answers : (last : ℕ) (answer : Answer) → IsPlain (call_value (record { thread = c.thread; op = O.Dequeue; first = c.first; end = Some (record { last = last; answer = answer }) }))
+    answers : (last : ℕ) (answer : Answer) → IsPlain
+        (call_value (record { thread = c.thread; op = O.Dequeue; first = c.first; end = Some (record { last = last; answer = answer }) }))
     answers last A.Done = (refl, refl)
     answers last A.Full = (refl, refl)
     answers last (A.Got item) = (refl, refl)
@@ -76,7 +78,8 @@ module _ (thread first : ℕ) (small : thread < 64) where
   Reads op end = IsRead (call_value (made op end)) (Ok (made op end))
 
   module _ (item : ℕ) (some : 0 < item) (fits : item < 2 ^ 24) where
-    put : (last : ℕ) (answer : Answer) → Answers (O.Enqueue item) (Some (record { last = last; answer = answer })) → Reads (O.Enqueue item) (Some (record { last = last; answer = answer }))
+    put : (last : ℕ) (answer : Answer) → Answers (O.Enqueue item) (Some (record { last = last; answer = answer }))
+        → Reads (O.Enqueue item) (Some (record { last = last; answer = answer }))
     put last A.Done own = (
       entry Enq (Some item) (ended last W.Done),
       record { keys = refl; thread = refl; op = refl; first = refl; item = refl; ending = (refl, codes "done", refl, refl); fits = refl },
@@ -114,7 +117,8 @@ module _ (thread first : ℕ) (small : thread < 64) where
       rw (lt_true thread 64 small, lt_true 0 item some, lt_true item (2 ^ 24) fits) refl,
     )
 
-  taken : (last : ℕ) (answer : Answer) → Answers O.Dequeue (Some (record { last = last; answer = answer })) → EndInRange (Some (record { last = last; answer = answer }))
+  taken : (last : ℕ) (answer : Answer) → Answers O.Dequeue (Some (record { last = last; answer = answer }))
+      → EndInRange (Some (record { last = last; answer = answer }))
       → Reads O.Dequeue (Some (record { last = last; answer = answer }))
   taken last A.Done own ranged = absurd (own refl)
   taken last A.Full own ranged = absurd (own refl)
@@ -138,7 +142,11 @@ module _ (thread first : ℕ) (small : thread < 64) where
   reads : (op : Op) (end : Option End) → OpInRange op → EndInRange end → Answers op end → Reads op end
   reads (O.Enqueue item) None op end own = unfinished item op.0 op.1
   reads (O.Enqueue item) (Some e) op end own = put item op.0 op.1 e.last e.answer own
-  reads O.Dequeue None op end own = (entry Deq None None, record { keys = refl; thread = refl; op = refl; first = refl; item = refl; ending = (refl, refl); fits = refl }, rw (lt_true thread 64 small) refl)
+  reads O.Dequeue None op end own = (
+    entry Deq None None,
+    record { keys = refl; thread = refl; op = refl; first = refl; item = refl; ending = (refl, refl); fits = refl },
+    rw (lt_true thread 64 small) refl,
+  )
   reads O.Dequeue (Some e) op end own = taken e.last e.answer own end
 
 -- ---- the whole record
@@ -164,5 +172,6 @@ is_record calls valid few =
       λ n inside.
           let good = valid n inside in
           let c = call calls n in
-          subst (λ d. IsRead d (Ok c)) (sym (member_is calls n inside)) (reads c.thread c.first good.ranged.0 c.op c.end good.ranged.1 good.ranged.2 good.answers),
+          subst (λ d. IsRead d (Ok c)) (sym (member_is calls n inside))
+          (reads c.thread c.first good.ranged.0 c.op c.end good.ranged.1 good.ranged.2 good.answers),
     )

@@ -13,14 +13,16 @@ digits_plain number n w = not_in_digits own number 45 w.digits (λ h. omega (ari
 -- a text with no hyphen writes no stretch
 pub no_hyphen : (text : List ℕ) → IsPlain 45 text → (s : Stretch) → WritesStretch text s → ⊥
 no_hyphen text plain s w =
-    let cut = cut_once 45 text [] w.first (45 ∷ w.last) plain (digits_plain w.first s.first w.first_written) (inl refl) (inr (w.last, refl)) (append-nil text ∙ w.split) in
+    let cut = cut_once 45 text [] w.first (45 ∷ w.last) plain (digits_plain w.first s.first w.first_written) (inl refl) (inr (w.last, refl))
+    (append-nil text ∙ w.split) in
     let bad : [] ≡ 45 ∷ w.last = cut.1 in
     cc
 
 module _ (text before behind : List ℕ) (split : text ≡ before ++ 45 ∷ behind) (plain : IsPlain 45 before) where
   cut_same : (s : Stretch) (w : WritesStretch text s) → (w.first ≡ before) × (w.last ≡ behind)
   cut_same s w =
-      let cut = cut_once 45 w.first (45 ∷ w.last) before (45 ∷ behind) (digits_plain w.first s.first w.first_written) plain (inr (w.last, refl)) (inr (behind, refl)) (sym w.split ∙ split) in
+      let cut = cut_once 45 w.first (45 ∷ w.last) before (45 ∷ behind) (digits_plain w.first s.first w.first_written) plain
+      (inr (w.last, refl)) (inr (behind, refl)) (sym w.split ∙ split) in
       let rests : 45 ∷ w.last ≡ 45 ∷ behind = cut.1 in
       let tails : w.last ≡ behind = cc in
       (cut.0, tails)
@@ -33,7 +35,8 @@ module _ (text before behind : List ℕ) (split : text ≡ before ++ 45 ∷ behi
   no_last none s w = none s.last (subst (λ t. WritesNumber t s.last) (cut_same s w).1 w.last_written)
 
   -- nor does one whose last number is less than the first
-  pub no_rise : (first last : ℕ) → WritesNumber before first → WritesNumber behind last → last < first → (s : Stretch) → WritesStretch text s → ⊥
+  pub no_rise : (first last : ℕ) → WritesNumber before first → WritesNumber behind last → last < first → (s : Stretch)
+      → WritesStretch text s → ⊥
   no_rise first last one other falls s w =
       let a : WritesNumber before s.first = subst (λ t. WritesNumber t s.first) (cut_same s w).0 w.first_written in
       let b : WritesNumber behind s.last = subst (λ t. WritesNumber t s.last) (cut_same s w).1 w.last_written in

@@ -46,7 +46,8 @@ module _ (word id rest : List ℕ) (split : word ≡ id ++ 58 ∷ rest) (plain :
     no_id none task w = none task.id (omega arith) w.id_fits (subst (λ t. WritesNumber t task.id) (first_cut task w).0 w.id_written)
 
     pub no_left : ((n : ℕ) → 0 ≤ n → n < 2 ^ 16 → WritesNumber left n → ⊥) → (task : Task) → WritesTask word task → ⊥
-    no_left none task w = none task.left (omega arith) w.left_fits (subst (λ t. WritesNumber t task.left) (second_cut task w).0 w.left_written)
+    no_left none task w = none task.left (omega arith) w.left_fits
+        (subst (λ t. WritesNumber t task.left) (second_cut task w).0 w.left_written)
 
     pub no_sum : ((n : ℕ) → 0 ≤ n → n < 2 ^ 32 → WritesNumber sum n → ⊥) → (task : Task) → WritesTask word task → ⊥
     no_sum none task w = none task.sum (omega arith) w.sum_fits (subst (λ t. WritesNumber t task.sum) (second_cut task w).1 w.sum_written)

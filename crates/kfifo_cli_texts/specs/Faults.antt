@@ -1,7 +1,8 @@
 -- The faults of commands, and how the program tells them.
 use Rattle.std.specs.Prelude.{ℕ, List, [], ◌++◌, Option, Some, None, codes, decimal}
 use Rattle.kfifo_words.specs.declared.fault.ShapeFault.{ShapeFault}
-use Rattle.kfifo_words.specs.declared.fault.ShapeFault.TheVariants.{KOutOfRange, SegmentsOutOfRange, LastOutOfRange, ProbesOutOfRange}
+use Rattle.kfifo_words.specs.declared.fault.ShapeFault.TheVariants.{KOutOfRange, SegmentsOutOfRange, LastOutOfRange}
+use Rattle.kfifo_words.specs.declared.fault.ShapeFault.TheVariants.{ProbesOutOfRange}
 use Rattle.kfifo_model.specs.declared.history.RecordFault.{RecordFault}
 use Rattle.kfifo_model.specs.FaultNumbers.{fault_number, fault_call}
 use Rattle.kfifo_model.specs.Searching.{search_fault_number}

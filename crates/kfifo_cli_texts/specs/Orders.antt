@@ -1,5 +1,6 @@
 -- How an order is written on the command line.
-use Rattle.std.specs.Prelude.{◌≡◌, ◌==◌, ◌-◌, ◌≤◌, ℕ, ◌⊎◌, Bool, true, false, List, [], ◌∷◌, codes, drop, length, map, take}
+use Rattle.std.specs.Prelude.{◌≡◌, ◌==◌, ◌-◌, ◌≤◌, ℕ, ◌⊎◌, Bool, true, false, List, [], ◌∷◌, codes, drop, length, map}
+use Rattle.std.specs.Prelude.{take}
 use Rattle.std.specs.Char.{is_ascii_whitespace}
 use Rattle.std.specs.List.{prefix_len, slice_split, suffix_len}
 use Rattle.std.specs.Str.{IsUtf8}
@@ -19,7 +20,8 @@ WritesOrder text order = ((text ≡ codes "none") × (order ≡ [])) ⊎ WriteNu
 
 -- a text with no white space around it
 abbrev pub trimmed : List ℕ → List ℕ
-trimmed text = let rest = drop (prefix_len is_ascii_whitespace text) text in take (length rest - suffix_len is_ascii_whitespace rest) rest
+trimmed text = let rest = drop (prefix_len is_ascii_whitespace text) text in
+    take (length rest - suffix_len is_ascii_whitespace rest) rest
 
 -- what is read of a part, where white space may stand around it or may not
 abbrev pub part_of : Bool → List ℕ → List ℕ
@@ -34,7 +36,8 @@ WritesSpacedOrder bytes order = IsUtf8 bytes
 -- the value of the option gives this order: as a text, or by some bytes of the file that is named behind @ (64)
 abbrev pub GivesOrder : List ℕ → List ℕ → Type 0
 GivesOrder text order = WritesOrder text order
-    ⊎ ((path : List ℕ) × (bytes : List ℕ) × (text ≡ 64 ∷ path) × (length bytes ≤ 16777216) × WritesSpacedOrder bytes order)
+    ⊎ ((path : List ℕ) × (bytes : List ℕ) × (text ≡ 64 ∷ path) × (length bytes ≤ 16777216)
+    × WritesSpacedOrder bytes order)
 
 -- the value of the option gives no order: it names a file, or is a text that writes none
 abbrev pub GivesNoOrder : List ℕ → Type 0

@@ -10,7 +10,8 @@ use Rattle.kfifo_cli_texts.specs.Words.{EachWrites, WritesNumber}
 -- a number alone picks that thread once; behind x (120) stands how often it is picked
 abbrev pub SaysGroup : List ℕ → ℕ → ℕ → Type 0
 SaysGroup text thread count = (WritesNumber text thread × (count ≡ 1))
-    ⊎ ((name : List ℕ) × (often : List ℕ) × (text ≡ name ++ 120 ∷ often) × WritesNumber name thread × WritesNumber often count)
+    ⊎ ((name : List ℕ) × (often : List ℕ) × (text ≡ name ++ 120 ∷ often) × WritesNumber name thread
+    × WritesNumber often count)
 
 -- a text writes a group of picks: a thread, and how often it is picked in a row
 pub record WritesGroup (text : List ℕ) (group : Group) : Type 0 where

@@ -20,7 +20,8 @@ Stays old new = new.writer.ghost_name ≡ old.writer.ghost_name
 
 -- the whole text was written, and no call failed
 abbrev pub Writes : {W : Type 0} → (W → Option (List ℕ)) → Printer W → List ℕ → Printer W → Type 0
-Writes contents old text new = Appends (contents old.writer.now) (contents new.writer.now) text × (new.failed ≡ old.failed) × Stays old new
+Writes contents old text new = Appends (contents old.writer.now) (contents new.writer.now) text
+    × (new.failed ≡ old.failed) × Stays old new
 
 -- a beginning of the text was written, and then a call failed
 abbrev pub Breaks : {W : Type 0} → (W → Option (List ℕ)) → Printer W → List ℕ → Printer W → Type 0

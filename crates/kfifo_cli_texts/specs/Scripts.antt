@@ -20,5 +20,6 @@ WriteScripts k turns words scripts = EachWrites (WritesScript k turns) (texts_of
 -- the word at this place, counted from 0, is the first that writes no script
 pub record IsFirstUnreadScript (k turns : ℕ) (words : List (Bor (List ℕ))) (place : ℕ) : Type 0 where
   pub inside : place < length words
-  pub unread : (word : Bor (List ℕ)) (script : List Begin) → WritesScript k turns (slice_index_or words place word).now script → ⊥
+  pub unread : (word : Bor (List ℕ)) (script : List Begin)
+      → WritesScript k turns (slice_index_or words place word).now script → ⊥
   pub before : (scripts : List (List Begin)) × WriteScripts k turns (take place words) scripts

@@ -59,7 +59,8 @@ target_text k index = if index == 0 then codes "ends"
 -- what stands in a word: head, tail and version of the ends, value and version of a slot
 abbrev pub word_text : ℕ → ℕ → List ℕ
 word_text index word = if index == 0
-    then codes "(" ++ (decimal (head_of word) ++ (codes "," ++ (decimal (tail_of word) ++ (codes "," ++ (decimal (version_of word) ++ codes ")")))))
+    then codes "(" ++ (decimal (head_of word)
+    ++ (codes "," ++ (decimal (tail_of word) ++ (codes "," ++ (decimal (version_of word) ++ codes ")")))))
     else codes "(" ++ (decimal (value_of word) ++ (codes "," ++ (decimal (version_of word) ++ codes ")")))
 
 -- an exchange is won where it finds the word that it exchanges, and else lost to the one that it finds
@@ -69,7 +70,8 @@ result_text index from found = if found == from then codes " won" else codes " l
 -- what a step did that found this word
 abbrev pub access_text : ℕ → Access → ℕ → List ℕ
 access_text k (Load index) found = codes "reads " ++ (target_text k index ++ (codes " " ++ word_text index found))
-access_text k (Exchange index from to) found = codes "exchanges " ++ (target_text k index ++ (codes " " ++ (word_text index from
+access_text k (Exchange index from to) found =
+    codes "exchanges " ++ (target_text k index ++ (codes " " ++ (word_text index from
     ++ (codes " to " ++ (word_text index to ++ result_text index from found)))))
 
 -- the answer, where the call ends
@@ -79,11 +81,13 @@ outcome_text (Ended answer) = codes " and returns " ++ answer_text answer
 
 -- the event at this place, and the thread that made it
 abbrev pub event_text : ℕ → ℕ → List ℕ
-event_text place thread = blanks_before place ++ (decimal place ++ (codes " thread " ++ (decimal thread ++ (blanks_behind thread ++ codes " "))))
+event_text place thread = blanks_before place
+    ++ (decimal place ++ (codes " thread " ++ (decimal thread ++ (blanks_behind thread ++ codes " "))))
 
 -- the line of the event at this place
 abbrev pub step_line : ℕ → ℕ → Step → List ℕ
-step_line k place s = line (event_text place s.thread ++ (step_text s.place ++ (codes " " ++ (access_text k s.access s.before ++ outcome_text s.outcome))))
+step_line k place s = line (event_text place s.thread
+    ++ (step_text s.place ++ (codes " " ++ (access_text k s.access s.before ++ outcome_text s.outcome))))
 
 -- The lines of events in turn, of which the first one stands at this place
 abbrev pub trace_lines : ℕ → ℕ → List Step → List ℕ

@@ -1,5 +1,6 @@
 -- How numbers and calls are written on the command line.
-use Rattle.std.specs.Prelude.{◌≡◌, ◌≢◌, ℕ, ◌<◌, ◌≤◌, ◌⊎◌, List, [], ◌∷◌, ◌++◌, length, slice_index, slice_index_or, EachIndex}
+use Rattle.std.specs.Prelude.{◌≡◌, ◌≢◌, ℕ, ◌<◌, ◌≤◌, ◌⊎◌, List, [], ◌∷◌, ◌++◌, length, slice_index, slice_index_or}
+use Rattle.std.specs.Prelude.{EachIndex}
 use denote.Ref.{Bor}
 use Rattle.std.specs.Int.{IsInRange}
 use Rattle.std.specs.Str.Parse.{digits_value}
@@ -31,7 +32,8 @@ EachWrites Writes (text ∷ texts) (value ∷ values) = Writes text value × Eac
 
 -- what stands behind a call names the slot from which it scans: nothing for slot 0, or a colon and a number
 abbrev pub WritesStart : List ℕ → ℕ → Type 0
-WritesStart text start = ((text ≡ []) × (start ≡ 0)) ⊎ ((number : List ℕ) × (text ≡ 58 ∷ number) × WritesNumber number start)
+WritesStart text start = ((text ≡ []) × (start ≡ 0))
+    ⊎ ((number : List ℕ) × (text ≡ 58 ∷ number) × WritesNumber number start)
 
 -- e, an item and a start write an enqueue; the start is below k
 pub record WritesEnqueue (k : ℕ) (word : List ℕ) (item start : ℕ) : Type 0 where
@@ -73,4 +75,5 @@ pub record WritesCalls (k turns : ℕ) (words : List (Bor (List ℕ))) (calls : 
 pub record IsFirstUnread (k turns : ℕ) (words : List (Bor (List ℕ))) (place : ℕ) : Type 0 where
   pub inside : place < length words
   pub unread : (word : Bor (List ℕ)) (call : Begin) → WritesCall k turns (slice_index_or words place word).now call → ⊥
-  pub before : (i : ℕ) (word : Bor (List ℕ)) → i < place → (call : Begin) × WritesCall k turns (slice_index_or words i word).now call
+  pub before : (i : ℕ) (word : Bor (List ℕ)) → i < place → (call : Begin)
+      × WritesCall k turns (slice_index_or words i word).now call

@@ -1,7 +1,8 @@
 //! What ends a command without its answer.
 ghost use Rattle.std.specs.Prelude.{◌≡◌, ◌++◌, MatchBool, Some, codes, decimal};
 ghost use Rattle.kfifo_cli_texts.specs.declared.fault.Fault.TheVariants.{Dispatch, Memory, Open, Replay, Shape};
-ghost use Rattle.kfifo_cli_texts.specs.Faults.{at_line_text, fault_line, fault_text, import_fault_text, log_fault, numbered, picture_fault, stream_fault};
+ghost use Rattle.kfifo_cli_texts.specs.Faults.{at_line_text, fault_line, fault_text, import_fault_text, log_fault};
+ghost use Rattle.kfifo_cli_texts.specs.Faults.{numbered, picture_fault, stream_fault};
 ghost use Rattle.kfifo_cli_texts.specs.Faults as replays;
 ghost use Rattle.kfifo_cli_texts.specs.Printing.{Writes, Breaks};
 
@@ -187,7 +188,8 @@ impl Line {
 
     /// A fault of a record with this number, at a line of a log.
     fn at_line(number: usize, line: u64) -> Line
-        ensures { numbered result.words.now result.number result.before.now result.place ≡ codes "record fault " ++ at_line_text number line }
+        ensures { numbered result.words.now result.number result.before.now result.place
+            ≡ codes "record fault " ++ at_line_text number line }
     {
         Line {
             words: "record fault ",

@@ -21,7 +21,8 @@ pub struct Group {
     pub count: u32,
 }
 
-/// The groups that the value of `--picks` gives: groups joined by commas, or `none`, of at most 16,777,216 picks in all.
+/// The groups that the value of `--picks` gives: groups joined by commas, or `none`, of at most 16,777,216 picks in
+/// all.
 pub fn read_picks(alloc: Global, text: &str) -> Result<Vec<Group>, Fault>
     ensures { MatchResult result (λ groups. GivesGroups text.now groups.items)
         (λ fault. (fault ≡ Fault.Memory) ⊎ ((fault ≡ Fault.Picks) × GivesNoGroups text.now)) }
@@ -67,7 +68,8 @@ fn read_groups(alloc: Global, text: &str) -> Result<Option<Vec<Group>>, AllocErr
 
 /// The groups that the texts write, in their order; none where one of them writes none.
 fn read_each_group(alloc: Global, texts: &[&str]) -> Result<Option<Vec<Group>>, AllocError>
-    ensures { IfOk result (λ read. MatchOption read ((groups : List GroupData) → ¬ EachWrites WritesGroup (texts_of texts.now) groups)
+    ensures { IfOk result (λ read. MatchOption read
+        ((groups : List GroupData) → ¬ EachWrites WritesGroup (texts_of texts.now) groups)
         (λ groups. EachWrites WritesGroup (texts_of texts.now) groups.items)) }
 {
     let mut groups = Vec::with_capacity(alloc, texts.len())?;

@@ -29,7 +29,8 @@ impl<'a, W: Write> Printer<'a, W> {
     /// Writes the whole text, or answers false after a call that failed, which is not made again. An
     /// interrupted call took nothing, and is made again.
     pub fn write(&mut self, text: &[u8]) -> bool
-        ensures { MatchBool result (Writes W.contents self.old text.now self.new) (Breaks W.contents self.old text.now self.new) }
+        ensures { MatchBool result (Writes W.contents self.old text.now self.new)
+            (Breaks W.contents self.old text.now self.new) }
     {
         let mut written = 0;
         for _ in 0..u64::MAX {

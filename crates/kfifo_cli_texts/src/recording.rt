@@ -15,7 +15,8 @@ use std::alloc::{AllocError, Global};
 /// 65,536 calls, as many as a record may have, who reads it has this history.
 pub fn record_text(alloc: Global, history: &History) -> Result<String, AllocError>
     ensures text { IfOk result (λ text. string_bytes text ≡ words.record_text history.now) }
-    ensures read_back { IfOk result (λ text. length history.now ≤ 65536 → IsRecordText (string_bytes text) history.now) }
+    ensures read_back { IfOk result (λ text. length history.now ≤ 65536
+        → IsRecordText (string_bytes text) history.now) }
 {
     record_value(alloc, history.calls())?.to_string(alloc)
 }
@@ -50,7 +51,8 @@ fn call_value(alloc: Global, call: &Call) -> Result<Value, AllocError>
     let (first, thread) = (call.first, call.thread);
     match (call.end, item_of(call)) {
         (Some(end), Some(item)) => json!(in alloc; {
-            "answer": answer_word(end.answer), "first": first, "item": item, "last": end.last, "op": op, "thread": thread
+            "answer": answer_word(end.answer), "first": first, "item": item, "last": end.last, "op": op,
+                "thread": thread
         }),
         (Some(end), None) => json!(in alloc; {
             "answer": answer_word(end.answer), "first": first, "last": end.last, "op": op, "thread": thread

@@ -29,7 +29,8 @@ impl fmt::Display for Shown {
 
 /// Adds the answer with which an event ends a call.
 pub(crate) fn push_answer(text: &mut String, answer: Answer) -> Result<(), AllocError>
-    ensures { OnOk result (string_bytes text.new ≡ string_bytes text.old ++ (codes " and returns " ++ answer_text answer)) }
+    ensures { OnOk result (string_bytes text.new
+        ≡ string_bytes text.old ++ (codes " and returns " ++ answer_text answer)) }
 {
     let answer = Shown(answer);
     write!(text, " and returns {answer}")

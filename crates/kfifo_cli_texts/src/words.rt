@@ -1,7 +1,10 @@
 //! Words of the command line: numbers, the calls of a script, and orders.
-ghost use Rattle.std.specs.Prelude.{◌≡◌, ℕ, ◌+◌, ◌^◌, ◌<◌, ◌≤◌, ◌↔◌, ◌⊎◌, IsTrue, List, MatchOption, MatchResult, IfOk, IfErr, length, map};
-ghost use Rattle.kfifo_cli_texts.specs.Words.{Cuts, EachWrites, IsDigits, WritesNumber, WritesStart, WritesCall, WritesCalls, IsFirstUnread};
-ghost use Rattle.kfifo_cli_texts.specs.Orders.{GivesNoOrder, GivesOrder, WriteNumbers, WritesOrder, WritesSpacedOrder, part_of};
+ghost use Rattle.std.specs.Prelude.{◌≡◌, ℕ, ◌+◌, ◌^◌, ◌<◌, ◌≤◌, ◌↔◌, ◌⊎◌, IsTrue, List, MatchOption, MatchResult, IfOk};
+ghost use Rattle.std.specs.Prelude.{IfErr, length, map};
+ghost use Rattle.kfifo_cli_texts.specs.Words.{Cuts, EachWrites, IsDigits, WritesNumber, WritesStart, WritesCall};
+ghost use Rattle.kfifo_cli_texts.specs.Words.{WritesCalls, IsFirstUnread};
+ghost use Rattle.kfifo_cli_texts.specs.Orders.{GivesNoOrder, GivesOrder, WriteNumbers, WritesOrder, WritesSpacedOrder};
+ghost use Rattle.kfifo_cli_texts.specs.Orders.{part_of};
 ghost use Rattle.kfifo_cli_texts.specs.Scripts.{IsFirstUnreadScript, WriteScripts, WritesScript, texts_of};
 ghost use Rattle.kfifo_machine.specs.declared.event.Begin.{Begin};
 
@@ -104,7 +107,8 @@ pub fn read_scripts(
     turns: u16,
 ) -> Result<Vec<Vec<Begin>>, Fault>
     requires { 1 ≤ k }
-    ensures scripts { IfOk result (λ scripts. WriteScripts k turns texts.now (map (λ script. script.items) scripts.items)) }
+    ensures scripts { IfOk result (λ scripts.
+        WriteScripts k turns texts.now (map (λ script. script.items) scripts.items)) }
     ensures fault { IfErr result (λ fault. (fault ≡ Fault.Memory)
         ⊎ ((place : ℕ) × (fault ≡ Fault.Word (place + 1)) × IsFirstUnreadScript k turns texts.now place)) }
 {
@@ -145,7 +149,8 @@ fn read_each_call(
     turns: u16,
 ) -> Result<Option<Vec<Begin>>, AllocError>
     requires { 1 ≤ k }
-    ensures { IfOk result (λ read. MatchOption read ((calls : List Begin) → ¬ EachWrites (WritesCall k turns) (texts_of texts.now) calls)
+    ensures { IfOk result (λ read. MatchOption read
+        ((calls : List Begin) → ¬ EachWrites (WritesCall k turns) (texts_of texts.now) calls)
         (λ calls. EachWrites (WritesCall k turns) (texts_of texts.now) calls.items)) }
 {
     let mut calls = Vec::with_capacity(alloc, texts.len())?;
@@ -193,7 +198,8 @@ fn read_file<R: Files>(alloc: Global, files: &R, path: &str) -> Result<Vec<u8>, 
 /// The order that a text writes: numbers joined by commas, or `none` for the empty order.
 pub fn read_order(alloc: Global, text: &str) -> Result<Vec<usize>, Fault>
     ensures { MatchResult result (λ order. WritesOrder text.now order.items)
-        (λ fault. (fault ≡ Fault.Memory) ⊎ ((fault ≡ Fault.Order) × ((order : List ℕ) → ¬ WritesOrder text.now order))) }
+        (λ fault. (fault ≡ Fault.Memory) ⊎ ((fault ≡ Fault.Order)
+        × ((order : List ℕ) → ¬ WritesOrder text.now order))) }
 {
     if text == "none" {
         return Ok(Vec::new(alloc));
@@ -206,7 +212,8 @@ pub fn read_order(alloc: Global, text: &str) -> Result<Vec<usize>, Fault>
 /// around `none`.
 fn read_spaced_order(alloc: Global, bytes: &[u8]) -> Result<Vec<usize>, Fault>
     ensures { MatchResult result (λ order. WritesSpacedOrder bytes.now order.items)
-        (λ fault. (fault ≡ Fault.Memory) ⊎ ((fault ≡ Fault.Order) × ((order : List ℕ) → ¬ WritesSpacedOrder bytes.now order))) }
+        (λ fault. (fault ≡ Fault.Memory) ⊎ ((fault ≡ Fault.Order)
+        × ((order : List ℕ) → ¬ WritesSpacedOrder bytes.now order))) }
 {
     let Ok(text) = str::from_utf8(bytes) else {
         return Err(Fault::Order);
@@ -220,8 +227,10 @@ fn read_spaced_order(alloc: Global, bytes: &[u8]) -> Result<Vec<usize>, Fault>
 
 /// The numbers that the texts write, in their order. White space around a number is dropped where `is_spaced` is true.
 fn read_numbers(alloc: Global, texts: &[&str], is_spaced: bool) -> Result<Vec<usize>, Fault>
-    ensures { let parts = map (λ t. part_of is_spaced t.now) texts.now in MatchResult result (λ numbers. WriteNumbers parts numbers.items)
-        (λ fault. (fault ≡ Fault.Memory) ⊎ ((fault ≡ Fault.Order) × ((numbers : List ℕ) → ¬ WriteNumbers parts numbers))) }
+    ensures { let parts = map (λ t. part_of is_spaced t.now) texts.now in
+        MatchResult result (λ numbers. WriteNumbers parts numbers.items)
+        (λ fault. (fault ≡ Fault.Memory) ⊎ ((fault ≡ Fault.Order)
+        × ((numbers : List ℕ) → ¬ WriteNumbers parts numbers))) }
 {
     let mut numbers = Vec::with_capacity(alloc, texts.len())?;
     for text in texts {

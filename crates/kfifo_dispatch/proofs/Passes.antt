@@ -1,5 +1,6 @@
 -- The passes of an opening.
-use Rattle.std.proofs.Common.{◌≡◌, ℕ, zero, suc, List, [], ◌∷◌, All, max, ◌+◌, ◌∙◌, refl, sym, ap, arith, take, drop, ◌++◌, slice_index_or, Result, Ok, Err, IfOk}
+use Rattle.std.proofs.Common.{◌≡◌, ℕ, zero, suc, List, [], ◌∷◌, All, max, ◌+◌, ◌∙◌, refl, sym, ap, arith, take, drop, ◌++◌, slice_index_or}
+use Rattle.std.proofs.Common.{Result, Ok, Err, IfOk}
 use Rattle.std.proofs.lemmas.List.Elements.{All-cons, All-nil}
 use Rattle.kfifo_words.specs.declared.shape.Shape.{Shape}
 use Rattle.kfifo_live.specs.Pass.{OpenQueue, IsPassOf}
@@ -9,7 +10,8 @@ use Rattle.kfifo_dispatch.specs.Working.{IsOpened}
 
 all_of : (q : OpenQueue) (first count : ℕ) → All (λ (p : PayPassView Progress). IsPassOf q p.pass) (new_pay_passes q first count)
 all_of q first zero = All-nil (λ (p : PayPassView Progress). IsPassOf q p.pass)
-all_of q first (suc count) = All-cons (λ (p : PayPassView Progress). IsPassOf q p.pass) _ (new_pay_passes q (suc first) count) (refl, refl) (all_of q (suc first) count)
+all_of q first (suc count) = All-cons (λ (p : PayPassView Progress). IsPassOf q p.pass) _ (new_pay_passes q (suc first) count) (refl, refl)
+    (all_of q (suc first) count)
 
 pub is_opened : (shape : Shape) (workers tasks : ℕ) (q : OpenQueue) (all passes : List (PayPassView Progress)) (own : PayPassView Progress)
     → q.opened ≡ pay_opening shape (workers + 1) (max tasks 1) → all ≡ new_pay_passes q 0 (workers + 1) → own ≡ slice_index_or all 0 own

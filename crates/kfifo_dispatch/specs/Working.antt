@@ -10,8 +10,10 @@ use Rattle.kfifo_dispatch.specs.Jobs.{Progress}
 use Rattle.kfifo_dispatch.specs.Running.{AreEach, GivesAll, Runs}
 use Rattle.kfifo_dispatch.specs.Starts.{Draws}
 
--- a queue of this shape for a caller and so many workers, with a token a pass for each of so many tasks, the caller's pass and the others
-pub record IsOpened (shape : Shape) (workers tasks : ℕ) (queue : OpenQueue) (own : PayPassView Progress) (passes : List (PayPassView Progress)) : Type 0 where
+-- a queue of this shape for a caller and so many workers, with a token a pass for each of so many tasks, the caller's
+-- pass and the others
+pub record IsOpened (shape : Shape) (workers tasks : ℕ) (queue : OpenQueue) (own : PayPassView Progress)
+    (passes : List (PayPassView Progress)) : Type 0 where
   pub opened : queue.opened ≡ pay_opening shape (workers + 1) (max tasks 1)
   pub own_is : new_pay_passes queue 0 1 ≡ own ∷ []
   pub passes_are : passes ≡ new_pay_passes queue 1 workers
@@ -39,8 +41,9 @@ module _ {T : Type 0} where
 abbrev pub PassRuns : (ℕ → ℕ → Type 0) → Shape → ℕ → PayPassView Progress → PayPassView Progress → List ℕ → Type 0
 PassRuns passed shape seed s t kept = Runs (PassPasses passed) PassTakes PassGives shape seed s.pass.thread s t kept
 
--- What a dispatch does. It opens a queue with a pass for the caller and one for each worker, each with a token for each task. The
--- caller, who has the first pass, gives all tasks. Then each worker, with the pass of its number, does all its work
+-- What a dispatch does. It opens a queue with a pass for the caller and one for each worker, each with a token for each
+-- task. The caller, who has the first pass, gives all tasks. Then each worker, with the pass of its number, does all
+-- its work
 pub record HasRun (passed : ℕ → ℕ → Type 0) (shape : Shape) (workers seed : ℕ) (tasks : List Task) : Type 0 where
   pub queue : OpenQueue
   pub opened : queue.opened ≡ pay_opening shape (workers + 1) (max (length tasks) 1)
@@ -50,4 +53,5 @@ pub record HasRun (passed : ℕ → ℕ → Type 0) (shape : Shape) (workers see
   pub first_is : new_pay_passes queue 0 1 ≡ first ∷ []
   pub gives : GivesAll PassGives (shape.n + 2) 0 tasks first given refused
   pub lasts : List (PayPassView Progress)
-  pub runs : AreEach (λ first last. (kept : List ℕ) × PassRuns passed shape seed first last kept) (new_pay_passes queue 1 workers) lasts
+  pub runs : AreEach (λ first last. (kept : List ℕ) × PassRuns passed shape seed first last kept)
+      (new_pay_passes queue 1 workers) lasts

@@ -1,11 +1,13 @@
 //! What workers pass and tell.
 ghost use Rattle.std.specs.Prelude.{ℕ};
 
-/// What each worker passes before each of its calls to take a task, and tells of each unit of work. The workers share it.
+/// What each worker passes before each of its calls to take a task, and tells of each unit of work. The workers share
+/// it.
 ///
 /// A test can hold a worker back there, or see who does what. Both calls always return.
 pub trait Gate {
-    // This worker has passed before this call. A gate may leave out what that means: a dispatch is proved for any meaning.
+    // This worker has passed before this call. A gate may leave out what that means: a dispatch is proved for any
+    // meaning.
     ghost passed: { Self → ℕ → ℕ → Type 0 } = { λ _ _ _. Unit {0} };
 
     // This worker has told of a unit of work on the task of this number.

@@ -25,8 +25,8 @@ fn push_answer(text: &mut String, answer: Answer) -> Result<(), AllocError> {
     }
 }
 
-/// The label of a call: its number, what it asks for, its answer, its place in the order, and whether the order fails at it or it is
-/// named.
+/// The label of a call: its number, what it asks for, its answer, its place in the order, and whether the order fails
+/// at it or it is named.
 pub(crate) fn label_of(
     alloc: Global,
     marks: &Marks,

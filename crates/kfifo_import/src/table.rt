@@ -1,7 +1,9 @@
 //! Logs as tables of comma-separated fields.
-ghost use Rattle.std.specs.Prelude.{◌≡◌, ◌≤◌, ◌↔◌, ◌++◌, ◌∷◌, [], ℕ, List, IfErr, IfOk, IfSome, IsTrue, None, OnOk, Some, MatchResult, length, option_map};
+ghost use Rattle.std.specs.Prelude.{◌≡◌, ◌≤◌, ◌↔◌, ◌++◌, ◌∷◌, [], ℕ, List, IfErr, IfOk, IfSome, IsTrue, None, OnOk};
+ghost use Rattle.std.specs.Prelude.{Some, MatchResult, length, option_map};
 ghost use Rattle.csv.specs.Records.{field_at, fields_of};
-ghost use Rattle.kfifo_import.specs.Fields.{Gives, GivesText, HasColumns, IsAnswer, IsCallOf, IsDigits, IsEnd, IsOp, IsPutAnswer, IsTakeAnswer, WritesSmall, WritesWhole};
+ghost use Rattle.kfifo_import.specs.Fields.{Gives, GivesText, HasColumns, IsAnswer, IsCallOf, IsDigits, IsEnd, IsOp};
+ghost use Rattle.kfifo_import.specs.Fields.{IsPutAnswer, IsTakeAnswer, WritesSmall, WritesWhole};
 ghost use Rattle.kfifo_import.specs.Tables.{Holds, IsImported, IsReadLog, IsTextFault, IsUnimported, ReadsLog};
 
 use crate::log::{ImportFault, Line, Log, log_of};
@@ -166,7 +168,8 @@ fn answer_of(op: Op, text: &[u8], item: Option<u32>) -> Option<Answer>
     }
 }
 
-/// The end of a call; none at all where one of its two fields is empty and the other is not, or an unfinished dequeue has an item.
+/// The end of a call; none at all where one of its two fields is empty and the other is not, or an unfinished dequeue
+/// has an item.
 fn end_of(
     op: Op,
     last: Option<u64>,
@@ -274,11 +277,12 @@ fn lines_of(alloc: Global, text: &[u8]) -> Result<Vec<Line>, ImportFault>
     }
 }
 
-/// The log that a text in CSV is, with a header that has, in any order, `thread`, `op`, `item`, `first`, `last` and `answer`,
-/// and a call a line, in any order. A field that does not apply is empty. `first` and `last` are whole numbers, as nanoseconds
-/// of a clock. Each call comes with the number of its line in the text, from 1, and its times.
+/// The log that a text in CSV is, with a header that has, in any order, `thread`, `op`, `item`, `first`, `last` and
+/// `answer`, and a call a line, in any order. A field that does not apply is empty. `first` and `last` are whole
+/// numbers, as nanoseconds of a clock. Each call comes with the number of its line in the text, from 1, and its times.
 ///
-/// Refused: first what a line itself has wrong, by lines: Csv, NotACall, and TooMany at line 65,537; then as by `log_of`.
+/// Refused: first what a line itself has wrong, by lines: Csv, NotACall, and TooMany at line 65,537; then as by
+/// `log_of`.
 pub fn read_log(alloc: Global, text: &[u8]) -> Result<Log, ImportFault>
     ensures read { MatchResult result (λ log. IsReadLog text.now log.history log.calls.items) (IsUnimported text.now) }
     ensures few { IfOk result (λ log. length log.history ≤ 65536) }

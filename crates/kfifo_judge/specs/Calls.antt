@@ -72,12 +72,14 @@ fate_part h Nothing = []
 
 -- what a call did, when it did, and what became of the item that it put
 abbrev pub deed_text : List Call → ℕ → Action → Occurrence → List ℕ
-deed_text h thread a o = codes ": thread " ++ decimal thread ++ codes " " ++ action_text a ++ times_text o ++ fate_part h a
+deed_text h thread a o = codes ": thread " ++ decimal thread ++ codes " " ++ action_text a ++ times_text o
+    ++ fate_part h a
 
 -- the line of a call
 abbrev pub call_line : List LoggedCall → List Call → ℕ → List ℕ
 call_line logged h n =
-    line (name_text n (occurrence logged (call h n) n).line ++ deed_text h (call h n).thread (action (does h n)) (occurrence logged (call h n) n))
+    line (name_text n (occurrence logged (call h n) n).line
+    ++ deed_text h (call h n).thread (action (does h n)) (occurrence logged (call h n) n))
 
 -- the lines of these calls
 abbrev pub call_lines : List LoggedCall → List Call → List ℕ → List ℕ

@@ -31,12 +31,14 @@ shown_line true order = numbers_line (codes "order ") order
 shown_line false order = []
 
 abbrev pub legal_text : ℕ → Bool → List Call → List ℕ → List ℕ
-legal_text k show h order = about (codes "legal") k ++ worst_line (greatest (ranks_of k h order)) ++ shown_line show order
+legal_text k show h order = about (codes "legal") k ++ worst_line (greatest (ranks_of k h order))
+    ++ shown_line show order
 
 -- the evidence with the calls that it names, and what follows it
 abbrev pub IsNoOrderText : ℕ → List LoggedCall → List Call → Evidence → List ℕ → Type 0
 IsNoOrderText k logged h found text =
-    (rest : List ℕ) × FollowsReason h found rest × (text ≡ about (codes "no order") k ++ reason_lines logged h found ++ rest)
+    (rest : List ℕ) × FollowsReason h found rest
+    × (text ≡ about (codes "no order") k ++ reason_lines logged h found ++ rest)
 
 -- why the search stopped
 abbrev pub stuck_text : Stuck → List ℕ
@@ -60,7 +62,8 @@ outcome (NoOrder found) = outcomes.Unordered
 outcome (Undecided stuck) = outcomes.Undecided
 
 -- The text and the outcome answer a history: what is to be said of a verdict on it, the order shown or not.
-pub record IsJudgeAnswer (k : ℕ) (show : Bool) (logged : List LoggedCall) (h : List Call) (text : List ℕ) (said : Outcome) : Type 0 where
+pub record IsJudgeAnswer (k : ℕ) (show : Bool) (logged : List LoggedCall) (h : List Call) (text : List ℕ)
+    (said : Outcome) : Type 0 where
   pub judgement : Judgement
   pub judged : IsJudgement k h judgement
   pub told : IsJudgementText k show logged h judgement text

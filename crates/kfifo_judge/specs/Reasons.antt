@@ -33,7 +33,8 @@ reason_text h (TakenTwice get) = got_text h get (codes ", which was taken more o
 reason_text h (NotEmpty empty puts) =
     counted (codes "call ") empty (codes " found nothing, while there were items: calls " ++ joined puts.items)
 reason_text h (TooYoung get puts) =
-    got_text h get (counted (codes ", while ") (length puts.items) (codes " older items were there: calls " ++ joined puts.items))
+    got_text h get (counted (codes ", while ") (length puts.items)
+    (codes " older items were there: calls " ++ joined puts.items))
 
 -- the calls that the evidence names, in its order
 abbrev pub named : Evidence → List ℕ

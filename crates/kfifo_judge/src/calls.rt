@@ -2,7 +2,8 @@
 ghost use Rattle.std.specs.Prelude.{◌≡◌, ◌++◌, Bool, OnOk, string_bytes, take};
 ghost use Rattle.kfifo_model.specs.Histories.{call, does, effect_of};
 ghost use Rattle.kfifo_model.specs.Overtaking.{takes};
-ghost use Rattle.kfifo_judge.specs.Calls.{action, action_text, call_line, call_lines, deed_text, fate_part, in_log, in_record, last_part, name_text, occurrence, taker, taker_part, times_text};
+ghost use Rattle.kfifo_judge.specs.Calls.{action, action_text, call_line, call_lines, deed_text, fate_part, in_log};
+ghost use Rattle.kfifo_judge.specs.Calls.{in_record, last_part, name_text, occurrence, taker, taker_part, times_text};
 
 use kfifo_import::LoggedCall;
 use kfifo_model::{Answer, Call, End, History, Op};
@@ -190,7 +191,8 @@ fn push_deed(
     action: Action,
     occurrence: Occurrence,
 ) -> Result<(), AllocError>
-    ensures { OnOk result (string_bytes text.new ≡ string_bytes text.old ++ deed_text history.now thread action occurrence) }
+    ensures { OnOk result (string_bytes text.new
+        ≡ string_bytes text.old ++ deed_text history.now thread action occurrence) }
 {
     write!(text, ": thread {thread} ")?;
     push_action(text, action)?;

@@ -3,7 +3,8 @@ ghost use Rattle.std.specs.Prelude.{◌≡◌, ◌≤◌, ◌++◌, IfOk, List, 
 ghost use Rattle.kfifo_model.specs.Histories.{IsLegal};
 ghost use Rattle.kfifo_model.specs.Ranks.{ranks_of};
 ghost use Rattle.kfifo_judge.specs.Bounds.{FollowsReason};
-ghost use Rattle.kfifo_judge.specs.Judgements.{IsJudgeAnswer, IsNoOrderText, IsUndecidedText, about, legal_text, outcome, shown_line, stuck_text, worst_line};
+ghost use Rattle.kfifo_judge.specs.Judgements.{IsJudgeAnswer, IsNoOrderText, IsUndecidedText, about, legal_text};
+ghost use Rattle.kfifo_judge.specs.Judgements.{outcome, shown_line, stuck_text, worst_line};
 ghost use Rattle.kfifo_judge.specs.Numbers.{greatest};
 ghost use Rattle.kfifo_judge.specs.Repeats.{IsRepeatNote};
 
@@ -106,7 +107,8 @@ fn reason_of(stuck: Stuck) -> &'static str
 
 /// Adds that items repeat, where they do.
 fn push_repeat_note(alloc: Global, text: &mut String, history: &History) -> Result<(), AllocError>
-    ensures { OnOk result ((note : List ℕ) × IsRepeatNote history.now note × (string_bytes text.new ≡ string_bytes text.old ++ note)) }
+    ensures { OnOk result ((note : List ℕ) × IsRepeatNote history.now note
+        × (string_bytes text.new ≡ string_bytes text.old ++ note)) }
 {
     if items_repeat(alloc, history)? {
         text.push_str("; items repeat")
@@ -140,9 +142,9 @@ fn outcome_of(judgement: &Judgement) -> Outcome
 
 /// A verdict on a history for a queue that may give any of its k oldest items, 1 to 64, as a text: `legal` with the
 /// greatest rank of the order that was found, and the order itself where it is to be shown; or `no order` with the
-/// evidence, the calls that it names and, where it is about this k alone, bounds of the least k; or `undecided` with the
-/// reason. `log` has the line and the times of each call, where the history is the record of a log. `tries` is the number
-/// of choices that each search for an order may undo.
+/// evidence, the calls that it names and, where it is about this k alone, bounds of the least k; or `undecided` with
+/// the reason. `log` has the line and the times of each call, where the history is the record of a log. `tries` is the
+/// number of choices that each search for an order may undo.
 pub fn judge_text(
     alloc: Global,
     history: &History,

@@ -1,5 +1,5 @@
-//! What the program says of records and logs: the streams of `check` and `measure`, and the verdicts of `judge` and `least`
-//! with their reasons, as texts.
+//! What the program says of records and logs: the streams of `check` and `measure`, and the verdicts of `judge` and
+//! `least` with their reasons, as texts.
 #![tactic(auto)]
 
 mod bounds;

@@ -55,7 +55,8 @@ fn firsts_of(
 
 /// Whether two of the calls put one item, or two got one.
 pub(crate) fn items_repeat(alloc: Global, history: &History) -> Result<bool, AllocError>
-    ensures { IfOk result (λ repeat. MatchBool repeat (HasDistinctItems history.now → ⊥) (HasDistinctItems history.now)) }
+    ensures { IfOk result (λ repeat. MatchBool repeat (HasDistinctItems history.now → ⊥)
+        (HasDistinctItems history.now)) }
 {
     let calls = history.calls();
     let Some(_puts) = firsts_of(alloc, calls, Side::Puts)? else {

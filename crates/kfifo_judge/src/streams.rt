@@ -1,5 +1,6 @@
 //! Sources of bytes and sinks for them.
-ghost use Rattle.std.specs.Prelude.{ℕ, ◌≡◌, ◌+◌, ◌≤◌, ◌<◌, ◌⊎◌, ◌++◌, List, Option, Some, None, length, IfOk, OnOk, IfErr, IfSome, Err, IsTrue, false, MatchResult, MatchBool};
+ghost use Rattle.std.specs.Prelude.{ℕ, ◌≡◌, ◌+◌, ◌≤◌, ◌<◌, ◌⊎◌, ◌++◌, List, Option, Some, None, length, IfOk, OnOk};
+ghost use Rattle.std.specs.Prelude.{IfErr, IfSome, Err, IsTrue, false, MatchResult, MatchBool};
 ghost use Rattle.std.specs.Io.{ReadsAtMost, WritesAtMost};
 ghost use Rattle.std.specs.Io.KnownBytes.{Appends, Consumes, Keeps, ReadConsumes, WriteAppends};
 ghost use Rattle.kfifo_judge.specs.Streams.{countable, CountsOne, CountsRead, CountsWrite, AppendsPart};
@@ -152,7 +153,8 @@ pub fn read_all<R: Source>(alloc: Global, source: &mut R) -> Result<Vec<u8>, Rea
 pub fn write_all<W: Sink>(sink: &mut W, text: &[u8]) -> bool
     ensures whole { IsTrue result → Appends (W.contents sink.old) (W.contents sink.new) text.now }
     ensures beginning { result ≡ false → AppendsPart (W.contents sink.old) (W.contents sink.new) text.now }
-    ensures failures { MatchBool result (W.failed sink.new ≡ W.failed sink.old) (CountsOne (W.failed sink.old) (W.failed sink.new)) }
+    ensures failures { MatchBool result (W.failed sink.new ≡ W.failed sink.old)
+        (CountsOne (W.failed sink.old) (W.failed sink.new)) }
 {
     let mut written = 0;
     while written < text.len() {

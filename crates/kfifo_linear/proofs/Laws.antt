@@ -20,8 +20,16 @@ module _ (k : ℕ) (h : List Call) (m : Marks) (f : PointsFit k (does h) m) (s :
   laws_from at_end =
       record {
         one_each = f.slots_differ;
-        left_first = λ g x end is at. omega (arith, f.beyond g x (ended_stands g end at) is, f.tail_rises (m.point g) end.last (in_time g end at));
-        reached = λ c x end is at. omega (arith, f.added c x (ended_stands c end at) is, f.tail_rises (m.point c) end.last (in_time c end at));
+        left_first = λ g x end is at. omega (
+          arith,
+          f.beyond g x (ended_stands g end at) is,
+          f.tail_rises (m.point g) end.last (in_time g end at),
+        );
+        reached = λ c x end is at. omega (
+          arith,
+          f.added c x (ended_stands c end at) is,
+          f.tail_rises (m.point c) end.last (in_time c end at),
+        );
         head_stays = λ c p a none. elim (cases_lt (m.visit c) (m.head p)) [
           | inl lt ↦ let t = f.left_behind c p a lt in absurd (none t.0 t.1)
           | inr le ↦ le

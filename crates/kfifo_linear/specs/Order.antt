@@ -1,4 +1,5 @@
--- The linearization order of a schedule: the calls that stand in it, by rising point, those of one point by rising number.
+-- The linearization order of a schedule: the calls that stand in it, by rising point, those of one point by rising
+-- number.
 use Rattle.std.specs.Prelude.{ℕ, zero, suc, ◌-◌, ◌%◌, Bool, nat_lt, if◌then◌else◌, List, Option, Some, None, is_some}
 use Rattle.kfifo_words.specs.declared.shape.Shape.{Shape}
 use Rattle.kfifo_machine.specs.declared.event.Event.{Event}
@@ -27,7 +28,8 @@ point l c = point_of (spot l c)
 -- The order of a schedule's calls, by their numbers in its history
 abbrev pub order_of : Shape → ℕ → List Event → List ℕ
 order_of shape threads events =
-    by_point (stands (ledger_after_all shape threads events)) (point (ledger_after_all shape threads events)) (ledger_after_all shape threads events).now (history_of shape threads events)
+    by_point (stands (ledger_after_all shape threads events)) (point (ledger_after_all shape threads events))
+    (ledger_after_all shape threads events).now (history_of shape threads events)
 
 -- the role of a call that stands
 abbrev pub role_of : Option Spot → Role

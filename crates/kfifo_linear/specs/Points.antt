@@ -76,4 +76,5 @@ pub record StandsFit (h : List Call) (m : Marks) : Type 0 where
 
 -- The calls that stand with their points among the first steps, step by step, those of one step by number.
 abbrev pub by_point : (ℕ → Bool) → (ℕ → ℕ) → ℕ → List Call → List ℕ
-by_point stands point steps h = flat_map (λ p. filter (λ c. stands c && eqb (point c) p) (numbers_of h)) (range_with_len 0 steps)
+by_point stands point steps h = flat_map (λ p. filter (λ c. stands c && eqb (point c) p) (numbers_of h))
+    (range_with_len 0 steps)

@@ -35,8 +35,8 @@ pub record Held : Type 0 where
   pub enqueue_start : ℕ
   pub dequeue_start : ℕ
 
--- a payload pass in a handle, the slots at which its next `give` and its next `take` begin, and how often it had no token before a
--- `give` and too many after a `take`
+-- a payload pass in a handle, the slots at which its next `give` and its next `take` begin, and how often it had no
+-- token before a `give` and too many after a `take`
 pub record PayHeld (T : Type 0) : Type 0 where
   pub pass : PayPassView T
   pub give_start : ℕ
@@ -66,8 +66,8 @@ module _ {T : Type 0} where
     pub gives : Gives old.give_start (enough_turns old.pass.pass) payload answer ready new.pass
     pub shortages : new.shortages ≡ shortages_after old.pass.tokens old.shortages
 
-  -- What `take` of a handle did: the pass took as a pass does, and where it then had more tokens than it was opened with, it laid one
-  -- down, if the queue has a pool, and the handle counted that
+  -- What `take` of a handle did: the pass took as a pass does, and where it then had more tokens than it was opened
+  -- with, it laid one down, if the queue has a pool, and the handle counted that
   pub record TakesAndLaysDown (answer : Taken T) (old new : PayHeld T) : Type 0 where
     pub taken : PayPassView T
     pub takes : TakesOut old.take_start (enough_turns old.pass.pass) answer old.pass taken

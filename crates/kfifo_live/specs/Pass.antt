@@ -32,8 +32,8 @@ queue_of table o = record { table = table; opened = o }
 abbrev pub pass_view : {T : Type 0} → TableId → ℕ → View T → PassView
 pass_view table thread v = record { table = table; opened = v.opened; thread = thread; seen = seen_of v }
 
--- what is always so of a pass: it acts for its thread alone, which is in no call, its seat holds no slot, and its queue was
--- opened for few threads and stamped calls
+-- what is always so of a pass: it acts for its thread alone, which is in no call, its seat holds no slot, and its queue
+-- was opened for few threads and stamped calls
 pub record IsPass {T : Type 0} (thread : ℕ) (me : Me (Option T) (View T)) : Type 0 where
   pub alone : me.0.parts ≡ part thread (seen_of me.0) (gifts_of me.0) (hand_of me.0) ∷ []
   pub held : me.1 ≡ []
@@ -55,7 +55,8 @@ IsSamePass p q = (q.table ≡ p.table) × (q.opened ≡ p.opened) × (q.thread �
 -- the passes of threads first, first + 1, .., which have seen the empty schedule
 abbrev pub new_passes : OpenQueue → ℕ → ℕ → List PassView
 new_passes q first zero = []
-new_passes q first (suc count) = record { table = q.table; opened = q.opened; thread = first; seen = [] } ∷ new_passes q (suc first) count
+new_passes q first (suc count) = record { table = q.table; opened = q.opened; thread = first; seen = [] }
+    ∷ new_passes q (suc first) count
 
 -- the word was this after a schedule that the pass has then seen: others' events follow what it had seen
 pub record Finds (p q : PassView) (index word : ℕ) : Type 0 where
@@ -78,19 +79,21 @@ pub record IsComplete (threads : ℕ) (ps : List PassView) : Type 0 where
   pub count : length ps ≡ threads
   pub each : (thread : ℕ) → thread < threads → list_any (λ p. p.thread == thread) ps ≡ true
 
--- the view w has the parts of v, and what was seen by these passes: a schedule which all parts begin, they have all seen
+-- the view w has the parts of v, and what was seen by these passes: a schedule which all parts begin, they have all
+-- seen
 pub record IsJoined {T : Type 0} (v : View T) (ps : List PassView) (w : View T) : Type 0 where
   pub opened : w.opened ≡ v.opened
   pub all_seen : (all : List Event) → AllBegin w.parts all → AllBegin v.parts all × AllSeen ps all
 
 -- What is left at the end: there is one schedule, a beginning of which each pass has seen with all its own events, and
--- the items are those of the filled slots after it. No item is lost and none comes twice: those put in that schedule are
--- those undone, those taken and those left, each as often. And that schedule keeps the promise
+-- the items are those of the filled slots after it. No item is lost and none comes twice: those put in that schedule
+-- are those undone, those taken and those left, each as often. And that schedule keeps the promise
 pub record Closes (q : OpenQueue) (ps : List PassView) (items : List ℕ) : Type 0 where
   pub all : List Event
   pub world : World
   pub reached : world_after q.opened all ≡ Some world
   pub begin : AllSeen ps all
   pub items_are : items ≡ items_left q.opened.shape world.words
-  pub balance : (item : ℕ) → puts item q.opened all ≡ undos item q.opened all + (takes item q.opened all + times item items)
+  pub balance : (item : ℕ) → puts item q.opened all
+      ≡ undos item q.opened all + (takes item q.opened all + times item items)
   pub promise : KeepsPromise q.opened all

@@ -1,5 +1,6 @@
 -- The one schedule of a running queue, and what each seat of its table has seen of it.
-use Rattle.std.specs.Prelude.{◌≡◌, ℕ, zero, suc, ◌+◌, ◌-◌, ◌*◌, ◌<◌, ◌≤◌, Bool, true, false, List, [], ◌∷◌, Option, Some, None, take, drop, length, filter, ◌++◌}
+use Rattle.std.specs.Prelude.{◌≡◌, ℕ, zero, suc, ◌+◌, ◌-◌, ◌*◌, ◌<◌, ◌≤◌, Bool, true, false, List, [], ◌∷◌, Option}
+use Rattle.std.specs.Prelude.{Some, None, take, drop, length, filter, ◌++◌}
 use Rattle.std.proofs.Common.{lit<, lit≤}
 use mathlib.Core.Option.{some}
 use lib.ListN.{get_elem?}
@@ -36,8 +37,8 @@ module _ {T : Type 0} where
 abbrev pub world_after : Opening → List Event → Option World
 world_after o events = after o.shape o.threads events
 
--- The holder law: each enqueue of the schedule begins with an item that is in no slot and that no other enqueue in progress
--- holds
+-- The holder law: each enqueue of the schedule begins with an item that is in no slot and that no other enqueue in
+-- progress holds
 abbrev pub HolderLaw : Opening → List Event → Type 0
 HolderLaw o all = AllBeginFree o.shape (Some (first_world o.shape o.threads)) all
 
@@ -110,16 +111,18 @@ module _ {T : Type 0} where
   AreResting threads [] = Unit {0}
   AreResting threads (p ∷ ps) = IsResting threads p.thread p.hand × AreResting threads ps
 
-  pub record Fits (o : Opening) (all : List Event) (gifts : Gifts T) (owner : ℕ → ℕ × ℕ) (seat : ℕ) (v : View T) : Type 0 where
+  pub record Fits (o : Opening) (all : List Event) (gifts : Gifts T) (owner : ℕ → ℕ × ℕ) (seat : ℕ)
+      (v : View T) : Type 0 where
     pub opened : v.opened ≡ o
     pub begin : AllBegin v.parts all
     pub given : AllGiven v.parts gifts
     pub owns : Owns owner seat 0 v.parts
     pub resting : AreResting o.threads v.parts
 
-  -- One schedule: the words of the table are those after it, what each seat has seen of its threads is a beginning of it with
-  -- all their events, and the clock has ticked so seldom that it is not spent. The gifts are of its enqueues, in turn. Where
-  -- there are tokens, each is in one place, and each thread has a hand that fits, be its seat there or not
+  -- One schedule: the words of the table are those after it, what each seat has seen of its threads is a beginning of
+  -- it with all their events, and the clock has ticked so seldom that it is not spent. The gifts are of its enqueues,
+  -- in turn. Where there are tokens, each is in one place, and each thread has a hand that fits, be its seat there or
+  -- not
   pub record OneSchedule (o : Opening) (words : List ℕ) (homes : Homes T) (views : List (View T)) : Type 0 where
     pub all : List Event
     pub gifts : Gifts T
@@ -213,7 +216,8 @@ module _ {T : Type 0} where
 
   -- the first thread's tokens at home are these
   abbrev pub with_home : View T → List ℕ → View T
-  with_home v tokens = with_seen v (seen_of v) (gifts_of v) (record { at_home = tokens; out = (hand_of v).out; payload = (hand_of v).payload })
+  with_home v tokens = with_seen v (seen_of v) (gifts_of v)
+      (record { at_home = tokens; out = (hand_of v).out; payload = (hand_of v).payload })
 
   -- a view cut in two: the first thread less the token that it uses next, and that token at rest
   abbrev pub less_next : View T → View T

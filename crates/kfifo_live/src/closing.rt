@@ -1,5 +1,6 @@
 //! Closing a queue.
-ghost use Rattle.std.specs.Prelude.{◌≡◌, ◌<◌, ◌≤◌, ◌+◌, ◌*◌, ◌↔◌, ◌==◌, [], IfOk, length, slice_index, IsErrOf, IsTrue, All};
+ghost use Rattle.std.specs.Prelude.{◌≡◌, ◌<◌, ◌≤◌, ◌+◌, ◌*◌, ◌↔◌, ◌==◌, [], IfOk, length, slice_index, IsErrOf, IsTrue};
+ghost use Rattle.std.specs.Prelude.{All};
 ghost use Rattle.std.specs.List.{list_any};
 ghost use Rattle.core.specs.Mem.Slots.{slots_items, slots_len, IsFull};
 ghost use Rattle.kfifo_words.specs.Words.{head_of};
@@ -44,7 +45,8 @@ pub(crate) fn read_words<T>(
     closed: &Closed<Option<T>, Global>,
     count: usize,
 ) -> Result<Vec<u64>, AllocError>
-    requires { (slots_len closed.now.words ≡ count) × IsFull closed.now.words × (length (slots_items closed.now.words) ≡ count) }
+    requires { (slots_len closed.now.words ≡ count) × IsFull closed.now.words
+        × (length (slots_items closed.now.words) ≡ count) }
     ensures { IfOk result (λ v. v.items ≡ slots_items closed.now.words) }
 {
     let mut words = Vec::with_capacity(alloc, count)?;
@@ -97,10 +99,10 @@ fn join_all(shared: &Words<()>, mut seat: ThreadSeat<()>, mut passes: Vec<Pass>)
     seat
 }
 
-/// Closes a queue and returns the items that are left, if each pass of the opening is given back: segment by segment from
-/// the head's round the ring, within a segment by slot number. Each item is among them as often as it was put, less how
-/// often it was undone and taken. The one schedule of all calls of the queue keeps its promise: a legal order of them, in
-/// which no item is overtaken k times where items are distinct.
+/// Closes a queue and returns the items that are left, if each pass of the opening is given back: segment by segment
+/// from the head's round the ring, within a segment by slot number. Each item is among them as often as it was put,
+/// less how often it was undone and taken. The one schedule of all calls of the queue keeps its promise: a legal order
+/// of them, in which no item is overtaken k times where items are distinct.
 ///
 /// ```rust
 /// let left = close(alloc, queue, vec![in alloc; pass]?)?; // the items that are left

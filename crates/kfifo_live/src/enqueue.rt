@@ -67,7 +67,9 @@ impl<T> Enqueue<'_, T> {
         // A dequeue may have seen this slot empty, before the put, and be about to move the head on. It
         // would pass the item: raising the version makes its compare-and-swap fail.
         let held = Ends::pack(ends.head(), ends.tail(), ends.version() + 1);
-        let found = self.ring.compare_exchange(seat, ENDS, ends.into(), held.into());
+        let found = self
+            .ring
+            .compare_exchange(seat, ENDS, ends.into(), held.into());
         if found == ends.into() {
             return Some(Answer::Done);
         }

@@ -41,7 +41,8 @@ impl Model for Handle {
         × (h.turns ≡ h.pass.opened.shape.n + 2) };
 }
 
-/// The starts of the calls of a pass: where there are no more threads than slots, each thread begins at a slot of its own.
+/// The starts of the calls of a pass: where there are no more threads than slots, each thread begins at a slot of its
+/// own.
 fn starts_of(queue: &Queue, pass: &Pass) -> RoundRobin
     requires { IsPassOf queue.now pass.now }
     ensures { result ≡ record { k = pass.now.opened.shape.k; start = first_of pass.now } }
@@ -50,7 +51,8 @@ fn starts_of(queue: &Queue, pass: &Pass) -> RoundRobin
 }
 
 impl Handle {
-    /// The handle of a pass. Its first enqueue and its first dequeue begin at slot `thread * k / threads`, rounded down.
+    /// The handle of a pass. Its first enqueue and its first dequeue begin at slot `thread * k / threads`, rounded
+    /// down.
     pub fn new(queue: &Queue, pass: Pass) -> Handle
         requires { IsPassOf queue.now pass }
         ensures { result ≡ record { pass = pass; enqueue_start = first_of pass; dequeue_start = first_of pass } }
@@ -88,7 +90,8 @@ impl Handle {
         requires of { IsPassOf queue.now self.old.pass }
         requires item { (1 ≤ item) × (item < 2 ^ 24) }
         ensures same { IsSamePass self.old.pass self.new.pass }
-        ensures call { MakesCall (Enqueue item self.old.enqueue_start (enough_turns self.old.pass)) result self.old.pass self.new.pass }
+        ensures call { MakesCall (Enqueue item self.old.enqueue_start (enough_turns self.old.pass)) result self.old.pass
+            self.new.pass }
         ensures busy { result ≡ Answer.Busy → IsDisturbed self.old.pass self.new.pass }
         ensures starts { (self.new.enqueue_start ≡ further self.old.pass self.old.enqueue_start)
             × (self.new.dequeue_start ≡ self.old.dequeue_start) }
@@ -106,7 +109,8 @@ impl Handle {
     pub fn dequeue(&mut self, queue: &Queue) -> Answer
         requires of { IsPassOf queue.now self.old.pass }
         ensures same { IsSamePass self.old.pass self.new.pass }
-        ensures call { MakesCall (Dequeue self.old.dequeue_start (enough_turns self.old.pass)) result self.old.pass self.new.pass }
+        ensures call { MakesCall (Dequeue self.old.dequeue_start (enough_turns self.old.pass)) result self.old.pass
+            self.new.pass }
         ensures busy { result ≡ Answer.Busy → IsDisturbed self.old.pass self.new.pass }
         ensures starts { (self.new.dequeue_start ≡ further self.old.pass self.old.dequeue_start)
             × (self.new.enqueue_start ≡ self.old.enqueue_start) }

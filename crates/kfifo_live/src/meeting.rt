@@ -6,7 +6,7 @@ ghost use Rattle.kfifo_live.specs.Pass.{IsPassOf, IsSamePass, StartsWith};
 ghost use Rattle.kfifo_live.specs.Promise.{KeepsPromise};
 
 use crate::queue::{Pass, Queue};
-use crate::seats::{join_seats, give_all, give_rest, observe};
+use crate::seats::{give_all, give_rest, join_seats, observe};
 use std::marker::Brand;
 
 /// The second pass has then seen all that the first had, by one load of the ends word, which is no

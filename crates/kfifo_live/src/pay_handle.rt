@@ -32,7 +32,13 @@ pub struct PayHandle<T: Drop> {
 impl<T: Drop> Model for PayHandle<T> {
     ghost Value = { PayHeld T };
 
-    ghost view = { λ h. record { pass = h.pass; give_start = h.gives.start; take_start = h.takes.start; shortages = h.shortages; surpluses = h.surpluses } };
+    ghost view = { λ h. record {
+      pass = h.pass;
+      give_start = h.gives.start;
+      take_start = h.takes.start;
+      shortages = h.shortages;
+      surpluses = h.surpluses;
+    } };
 
     ghost invariant = { λ h. (h.gives.k ≡ h.pass.pass.opened.shape.k) × (h.takes.k ≡ h.pass.pass.opened.shape.k)
         × (h.turns ≡ h.pass.pass.opened.shape.n + 2) };
@@ -50,7 +56,13 @@ impl<T: Drop> PayHandle<T> {
     /// The handle of a pass. Its first `give` and its first `take` begin at slot `thread * k / threads`, rounded down.
     pub fn new(queue: &PayQueue<T>, pass: PayPass<T>) -> PayHandle<T>
         requires { IsPassOf queue.now pass.pass }
-        ensures { result ≡ record { pass = pass; give_start = first_of pass.pass; take_start = first_of pass.pass; shortages = 0; surpluses = 0 } }
+        ensures { result ≡ record {
+          pass = pass;
+          give_start = first_of pass.pass;
+          take_start = first_of pass.pass;
+          shortages = 0;
+          surpluses = 0;
+        } }
     {
         let gives = starts_of(queue, &pass);
         let takes = starts_of(queue, &pass);
@@ -101,7 +113,8 @@ impl<T: Drop> PayHandle<T> {
         requires of { IsPassOf queue.now self.old.pass.pass }
         ensures picks { (picked : Bool) × PicksUp picked self.old.pass self.new.pass }
         ensures starts { (self.new.give_start ≡ self.old.give_start) × (self.new.take_start ≡ self.old.take_start) }
-        ensures counts { (self.new.shortages ≡ one_more self.old.shortages) × (self.new.surpluses ≡ self.old.surpluses) }
+        ensures counts { (self.new.shortages ≡ one_more self.old.shortages)
+            × (self.new.surpluses ≡ self.old.surpluses) }
     {
         self.shortages = self.shortages.wrapping_add(1);
         self.pass.pick_up(queue);
@@ -114,7 +127,8 @@ impl<T: Drop> PayHandle<T> {
         requires of { IsPassOf queue.now self.old.pass.pass }
         ensures lays { (laid : Bool) × LaysDown laid self.old.pass self.new.pass }
         ensures starts { (self.new.give_start ≡ self.old.give_start) × (self.new.take_start ≡ self.old.take_start) }
-        ensures counts { (self.new.surpluses ≡ one_more self.old.surpluses) × (self.new.shortages ≡ self.old.shortages) }
+        ensures counts { (self.new.surpluses ≡ one_more self.old.surpluses)
+            × (self.new.shortages ≡ self.old.shortages) }
     {
         self.surpluses = self.surpluses.wrapping_add(1);
         self.pass.lay_down(queue);
@@ -143,11 +157,11 @@ impl<T: Drop> PayHandle<T> {
         self.pass.give(queue, payload, start, self.turns)
     }
 
-    /// Takes one of the k oldest payloads out of the queue, and its token, as `PayPass::take` does. A pass that then has
-    /// more tokens than it was opened with lays one down, as `PayPass::lay_down` does.
+    /// Takes one of the k oldest payloads out of the queue, and its token, as `PayPass::take` does. A pass that then
+    /// has more tokens than it was opened with lays one down, as `PayPass::lay_down` does.
     ///
-    /// Returns Got with the payload, Empty, Worn or Busy. Busy comes only where another thread won an exchange during the
-    /// call. It never allocates, waits or locks.
+    /// Returns Got with the payload, Empty, Worn or Busy. Busy comes only where another thread won an exchange during
+    /// the call. It never allocates, waits or locks.
     #[inline(always)]
     pub fn take(&mut self, queue: &PayQueue<T>) -> Taken<T>
         requires of { IsPassOf queue.now self.old.pass.pass }

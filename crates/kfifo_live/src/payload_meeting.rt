@@ -6,7 +6,7 @@ ghost use Rattle.kfifo_live.specs.Payloads.{GivesOn};
 ghost use Rattle.kfifo_live.specs.Promise.{KeepsPromise};
 
 use crate::payload::{PayPass, PayQueue};
-use crate::seats::{join_seats, give_all, give_rest, observe};
+use crate::seats::{give_all, give_rest, join_seats, observe};
 use std::marker::Brand;
 
 impl<T: Drop> PayQueue<T> {

@@ -4,7 +4,8 @@ ghost use Rattle.std.specs.List.{list_any, AllByRecursion};
 ghost use Rattle.kfifo_live.specs.Schedule.{stamped_opening};
 ghost use Rattle.kfifo_live.specs.Pass.{IsComplete, IsPassOf, IsZeroed, new_passes};
 ghost use Rattle.kfifo_live.specs.Stamps.{Gathers, IsLog, all_logs, new_logs, passes_of};
-ghost use Rattle.kfifo_live.specs.declared.fault.OpenFault.TheVariants.{CallsOutOfRange, ThreadsOutOfRange, TokensOutOfRange};
+ghost use Rattle.kfifo_live.specs.declared.fault.OpenFault.TheVariants.{CallsOutOfRange, ThreadsOutOfRange};
+ghost use Rattle.kfifo_live.specs.declared.fault.OpenFault.TheVariants.{TokensOutOfRange};
 ghost use Rattle.kfifo_live.specs.declared.fault.GatherFault.TheVariants.{MissingPass};
 
 use crate::closing::close;
@@ -34,15 +35,15 @@ fn add_logs(alloc: Global, queue: &Queue, passes: Vec<Pass>) -> Result<Vec<Stamp
 }
 
 impl StampQueue {
-    /// Opens a queue, with one pass for each thread, numbered from 0, which may make `calls` stamped calls. The passes have
-    /// seen the empty schedule, after which all words are 0, and their logs are empty.
+    /// Opens a queue, with one pass for each thread, numbered from 0, which may make `calls` stamped calls. The passes
+    /// have seen the empty schedule, after which all words are 0, and their logs are empty.
     ///
     /// ```rust
     /// let (queue, mut passes) = StampQueue::open(alloc, shape, 1, 2)?; // room for two calls in each log
     /// ```
     ///
-    /// ThreadsOutOfRange where the number of threads is not 1 to 64; then CallsOutOfRange where the number of calls is not
-    /// 1 to 1,024; Memory where an allocation failed. Nothing is kept after a refusal.
+    /// ThreadsOutOfRange where the number of threads is not 1 to 64; then CallsOutOfRange where the number of calls is
+    /// not 1 to 1,024; Memory where an allocation failed. Nothing is kept after a refusal.
     pub fn open(
         alloc: Global,
         shape: Shape,
@@ -53,7 +54,8 @@ impl StampQueue {
             × (r.1.items ≡ new_logs (new_passes r.0 0 threads))) }
         ensures of { IfOk result (λ r. All (λ p. IsPassOf r.0 p.pass) r.1.items) }
         ensures threads { IsErrOf result ThreadsOutOfRange ↔ ((threads ≡ 0) ⊎ (64 < threads)) }
-        ensures calls { IsErrOf result CallsOutOfRange ↔ ((0 < threads) × (threads ≤ 64) × ((calls ≡ 0) ⊎ (1024 < calls))) }
+        ensures calls { IsErrOf result CallsOutOfRange
+            ↔ ((0 < threads) × (threads ≤ 64) × ((calls ≡ 0) ⊎ (1024 < calls))) }
         ensures tokens { ¬ IsErrOf result TokensOutOfRange }
         ensures zeroed { IfOk result (λ r. IsZeroed r.0.opened) }
     {
@@ -107,8 +109,8 @@ fn take_logs(alloc: Global, passes: Vec<StampPass>) -> Result<(Vec<Call>, Vec<Pa
     Ok((calls, plain))
 }
 
-/// Returns the record of the run, if each pass of the opening is given back: all logged calls, by rising first stamps. It
-/// has a legal order, in which no item is overtaken k times where items are distinct.
+/// Returns the record of the run, if each pass of the opening is given back: all logged calls, by rising first stamps.
+/// It has a legal order, in which no item is overtaken k times where items are distinct.
 ///
 /// ```rust
 /// let history = gather(alloc, queue, vec![in alloc; pass]?)?; // all logged calls, by rising first stamps

@@ -92,7 +92,8 @@ impl<T> Ring<'_, T> {
     {
         let head = self.shape.next(ends.head());
         let moved = Ends::pack(head, ends.tail(), ends.version() + 1);
-        self.compare_exchange(seat, ENDS, ends.into(), moved.into()).into()
+        self.compare_exchange(seat, ENDS, ends.into(), moved.into())
+            .into()
     }
 
     /// Moves the tail on to the next segment, and answers the ends that it found: `ends` where it was won.
@@ -105,6 +106,7 @@ impl<T> Ring<'_, T> {
     {
         let tail = self.shape.next(ends.tail());
         let moved = Ends::pack(ends.head(), tail, ends.version() + 1);
-        self.compare_exchange(seat, ENDS, ends.into(), moved.into()).into()
+        self.compare_exchange(seat, ENDS, ends.into(), moved.into())
+            .into()
     }
 }

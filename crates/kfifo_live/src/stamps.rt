@@ -120,7 +120,8 @@ impl StampPass {
         ensures same { IsSamePass self.old.pass self.new.pass }
         ensures none { IfNone result ((length self.old.log ≡ self.old.pass.opened.calls) × (self.new ≡ self.old)) }
         ensures some { IfSome result (λ answer. MakesStamped (B.Enqueue item start turns) answer self.old self.new) }
-        ensures few_steps { IfSome result (λ answer. TakesFewStampedSteps (B.Enqueue item start turns) self.old.pass self.new.pass) }
+        ensures few_steps { IfSome result (λ answer.
+            TakesFewStampedSteps (B.Enqueue item start turns) self.old.pass self.new.pass) }
         ensures promise { KeepsPromise self.new.pass.opened self.new.pass.seen }
     {
         if self.is_full(queue) {
@@ -151,7 +152,8 @@ impl StampPass {
         ensures same { IsSamePass self.old.pass self.new.pass }
         ensures none { IfNone result ((length self.old.log ≡ self.old.pass.opened.calls) × (self.new ≡ self.old)) }
         ensures some { IfSome result (λ answer. MakesStamped (B.Dequeue start turns) answer self.old self.new) }
-        ensures few_steps { IfSome result (λ answer. TakesFewStampedSteps (B.Dequeue start turns) self.old.pass self.new.pass) }
+        ensures few_steps { IfSome result (λ answer.
+            TakesFewStampedSteps (B.Dequeue start turns) self.old.pass self.new.pass) }
         ensures promise { KeepsPromise self.new.pass.opened self.new.pass.seen }
     {
         if self.is_full(queue) {

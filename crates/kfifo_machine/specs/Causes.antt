@@ -1,5 +1,6 @@
 -- Why a call was refused: what it saw in the table, step by step.
-use Rattle.std.specs.Prelude.{◌≡◌, ◌≢◌, ℕ, ◌+◌, ◌<◌, ◌⊎◌, ◌==◌, List, [], ◌∷◌, ◌++◌, length, Option, Some, None, if◌then◌else◌}
+use Rattle.std.specs.Prelude.{◌≡◌, ◌≢◌, ℕ, ◌+◌, ◌<◌, ◌⊎◌, ◌==◌, List, [], ◌∷◌, ◌++◌, length, Option, Some, None}
+use Rattle.std.specs.Prelude.{if◌then◌else◌}
 use Rattle.kfifo_words.specs.declared.shape.Shape.{Shape}
 use Rattle.kfifo_words.specs.Words.{value_of, version_of, head_of, tail_of}
 use Rattle.kfifo_words.specs.Ring.{next_segment}
@@ -30,7 +31,8 @@ abbrev pub looks : Shape → ℕ → Option World → List Event → List Look
 looks shape thread world [] = []
 looks shape thread None (event ∷ events) = []
 looks shape thread (Some world) (event ∷ events) =
-    (if event.thread == thread then looks_from shape world (going shape (place_of world event.thread) event.begin) else [])
+    (if event.thread == thread then looks_from shape world (going shape (place_of world event.thread) event.begin) else
+    [])
     ++ looks shape thread (world_of (step shape world event)) events
 
 -- the round of a look, told by the rounds that were left, this one among them
@@ -48,16 +50,17 @@ abbrev pub AllOfRound : ℕ → List Look → Type 0
 AllOfRound round [] = Unit {0}
 AllOfRound round (look ∷ looks) = (round_of look.running ≡ round) × AllOfRound round looks
 
--- these looks are loads of filled slots of a segment, of one slot after the other from the start, beginning at this offset
+-- these looks are loads of filled slots of a segment, of one slot after the other from the start, beginning at this
+-- offset
 abbrev pub AllFilled : Shape → ℕ → ℕ → ℕ → List Look → Type 0
 AllFilled shape segment start offset [] = Unit {0}
 AllFilled shape segment start offset (look ∷ looks) =
     Loads shape look (scan_index shape segment start offset) look.word × (value_of look.word ≢ 0)
     × AllFilled shape segment start (offset + 1) looks
 
--- Full: in one round the call loaded the ends word twice as the same word, whose tail's segment is the last before the head's, and
--- between these two it loaded `probes` filled slots of the tail's segment, from the start on; and it loaded that same word again, and
--- between a filled slot of the head's segment
+-- Full: in one round the call loaded the ends word twice as the same word, whose tail's segment is the last before the
+-- head's, and between these two it loaded `probes` filled slots of the tail's segment, from the start on; and it loaded
+-- that same word again, and between a filled slot of the head's segment
 pub record CauseOfFull (shape : Shape) (start : ℕ) (all : List Look) : Type 0 where
   pub earlier : List Look
   pub first : Look
@@ -79,7 +82,8 @@ pub record CauseOfFull (shape : Shape) (start : ℕ) (all : List Look) : Type 0 
   pub loads_filled : Loads shape filled (scan_index shape (head_of ends) 0 offset) filled.word
   pub is_filled : value_of filled.word ≢ 0
 
--- a look that loaded an empty slot whose version leaves no room for a put and its undo, or an ends word of the last version
+-- a look that loaded an empty slot whose version leaves no room for a put and its undo, or an ends word of the last
+-- version
 pub record FindsWorn (shape : Shape) (look : Look) : Type 0 where
   pub index : ℕ
   pub loads : Loads shape look index look.word
@@ -104,13 +108,16 @@ start_of B.Tick = 0
 -- the looks of a complete execution
 abbrev pub looks_of : (shape : Shape) (threads thread : ℕ) (call : Begin) (answer : Answer) (old new : List Event)
     → CompleteExecution shape threads thread call answer old new → List Look
-looks_of shape threads thread call answer old new whole = looks shape thread (after shape threads old) (whole.between ++ whole.last ∷ [])
+looks_of shape threads thread call answer old new whole =
+    looks shape thread (after shape threads old) (whole.between ++ whole.last ∷ [])
 
 -- a call is answered Full and Worn only with their causes, in every schedule
 abbrev pub FullHasCause : Shape → ℕ → Type 0
-FullHasCause shape threads = (thread : ℕ) (call : Begin) (old new : List Event) (whole : CompleteExecution shape threads thread call Full old new)
+FullHasCause shape threads = (thread : ℕ) (call : Begin) (old new : List Event)
+    (whole : CompleteExecution shape threads thread call Full old new)
     → CauseOfFull shape (start_of call) (looks_of shape threads thread call Full old new whole)
 
 abbrev pub WornHasCause : Shape → ℕ → Type 0
-WornHasCause shape threads = (thread : ℕ) (call : Begin) (old new : List Event) (whole : CompleteExecution shape threads thread call Worn old new)
+WornHasCause shape threads = (thread : ℕ) (call : Begin) (old new : List Event)
+    (whole : CompleteExecution shape threads thread call Worn old new)
     → CauseOfWorn shape (looks_of shape threads thread call Worn old new whole)

@@ -2,7 +2,8 @@
 
 ghost use Rattle.std.specs.Prelude.{◌≡◌, ◌≢◌, ℕ, ◌+◌, ◌*◌, ◌^◌, ◌<◌, ◌≤◌};
 ghost use Rattle.kfifo_words.specs.Words.{value_of, version_of, head_of, tail_of};
-ghost use Rattle.kfifo_machine.specs.Program.{scan_index, access, advance, enqueue_access, dequeue_access, enqueue_advance, dequeue_advance, enqueue_again, dequeue_again};
+ghost use Rattle.kfifo_machine.specs.Program.{scan_index, access, advance, enqueue_access, dequeue_access};
+ghost use Rattle.kfifo_machine.specs.Program.{enqueue_advance, dequeue_advance, enqueue_again, dequeue_again};
 ghost use Rattle.kfifo_machine.specs.Places.{IsEnds, IsPlace, IsEnqueuePhase, IsDequeuePhase, IsFound, IsFoundBy};
 
 use crate::{Access, DequeuePhase, EnqueuePhase, Found, Next, Running};
@@ -162,7 +163,8 @@ impl EnqueueRound {
         requires start { self.start < shape.now.k }
         requires ends { IsEnds shape.now ends }
         requires offset { offset < shape.now.probes }
-        ensures { result ≡ enqueue_advance shape.now self.item self.start self.left (EnqueuePhase.ScanTail ends offset) word }
+        ensures { result ≡ enqueue_advance shape.now self.item self.start self.left (EnqueuePhase.ScanTail ends offset)
+            word }
     {
         if word.value() == 0 {
             let index = scan(shape, ends.tail(), self.start, offset);
@@ -187,7 +189,8 @@ impl EnqueueRound {
     fn rechecked(self, shape: &Shape, ends: Ends, found: Found, now: Ends) -> Next
         requires left { 0 < self.left }
         requires ends { IsEnds shape.now ends }
-        ensures { result ≡ enqueue_advance shape.now self.item self.start self.left (EnqueuePhase.Recheck ends found) now }
+        ensures { result ≡ enqueue_advance shape.now self.item self.start self.left (EnqueuePhase.Recheck ends found)
+            now }
     {
         if now != ends {
             return self.again();
@@ -220,7 +223,8 @@ impl EnqueueRound {
     fn placed(self, shape: &Shape, ends: Ends, index: usize, filled: Word, now: Ends) -> Next
         requires ends { IsEnds shape.now ends }
         requires now { IsEnds shape.now now }
-        ensures { result ≡ enqueue_advance shape.now self.item self.start self.left (EnqueuePhase.ReloadEnds ends index filled) now }
+        ensures { result ≡ enqueue_advance shape.now self.item self.start self.left
+            (EnqueuePhase.ReloadEnds ends index filled) now }
     {
         let segment = ends.tail();
         let head = now.head();
@@ -251,7 +255,8 @@ impl EnqueueRound {
     fn head_scanned(self, shape: &Shape, ends: Ends, offset: u32, word: Word) -> Next
         requires ends { IsEnds shape.now ends }
         requires offset { offset < shape.now.k }
-        ensures { result ≡ enqueue_advance shape.now self.item self.start self.left (EnqueuePhase.ScanHead ends offset) word }
+        ensures { result ≡ enqueue_advance shape.now self.item self.start self.left (EnqueuePhase.ScanHead ends offset)
+            word }
     {
         if word.value() != 0 {
             self.goes(EnqueuePhase::ConfirmFull { ends })
@@ -270,7 +275,8 @@ impl EnqueueRound {
     /// After an undo.
     fn undone(self, filled: Word, worn: bool, index: usize, word: Word, shape: &Shape) -> Next
         requires left { 0 < self.left }
-        ensures { result ≡ enqueue_advance shape.now self.item self.start self.left (EnqueuePhase.Undo index filled worn) word }
+        ensures { result ≡ enqueue_advance shape.now self.item self.start self.left
+            (EnqueuePhase.Undo index filled worn) word }
     {
         if word != filled {
             Next::Answers(Answer::Done)
@@ -286,7 +292,8 @@ impl EnqueueRound {
         requires item { self.item < 2 ^ 24 }
         requires left { 0 < self.left }
         requires version { version_of empty + 2 ≤ shape.now.last }
-        ensures { result ≡ enqueue_advance shape.now self.item self.start self.left (EnqueuePhase.Put ends index empty) word }
+        ensures { result ≡ enqueue_advance shape.now self.item self.start self.left (EnqueuePhase.Put ends index empty)
+            word }
     {
         if word == empty {
             let filled = Word::pack(self.item, empty.version() + 1);
@@ -309,7 +316,8 @@ impl EnqueueRound {
         filled: Word,
         word: Word,
     ) -> Next
-        ensures { result ≡ enqueue_advance shape.now self.item self.start self.left (EnqueuePhase.ReloadSlot ends index filled) word }
+        ensures { result ≡ enqueue_advance shape.now self.item self.start self.left
+            (EnqueuePhase.ReloadSlot ends index filled) word }
     {
         if word == filled {
             self.goes(EnqueuePhase::ReloadEnds {
@@ -324,7 +332,8 @@ impl EnqueueRound {
 
     /// After an exchange that raises the version of the ends word.
     fn head_held(self, shape: &Shape, index: usize, filled: Word, held: Ends, now: Ends) -> Next
-        ensures { result ≡ enqueue_advance shape.now self.item self.start self.left (EnqueuePhase.HoldHead index filled held) now }
+        ensures { result ≡ enqueue_advance shape.now self.item self.start self.left
+            (EnqueuePhase.HoldHead index filled held) now }
     {
         if now == held {
             Next::Answers(Answer::Done)
@@ -340,7 +349,8 @@ impl EnqueueRound {
     /// After the ends word was loaded again, a slot of the head's segment being filled.
     fn full_confirmed(self, shape: &Shape, ends: Ends, now: Ends) -> Next
         requires left { 0 < self.left }
-        ensures { result ≡ enqueue_advance shape.now self.item self.start self.left (EnqueuePhase.ConfirmFull ends) now }
+        ensures { result ≡ enqueue_advance shape.now self.item self.start self.left (EnqueuePhase.ConfirmFull ends)
+            now }
     {
         if now == ends {
             Next::Answers(Answer::Full)

@@ -1,5 +1,6 @@
 -- Items by the calls that put and got them, and the overtakings of all items.
-use Rattle.std.specs.Prelude.{ℕ, zero, suc, ◌≡◌, ◌<◌, ◌&&◌, Bool, true, ltb, List, [], ◌∷◌, ◌++◌, Option, Some, None, length}
+use Rattle.std.specs.Prelude.{ℕ, zero, suc, ◌≡◌, ◌<◌, ◌&&◌, Bool, true, ltb, List, [], ◌∷◌, ◌++◌, Option, Some, None}
+use Rattle.std.specs.Prelude.{length}
 use Rattle.std.specs.Option.{option_map, option_to_list, MatchOption}
 use Rattle.kfifo_model.specs.declared.calls.Op.{Op}
 use Rattle.kfifo_model.specs.declared.calls.Op.TheVariants.{Enqueue, Dequeue}
@@ -24,11 +25,13 @@ kind_effect Gots x = Takes x
 
 -- two calls of the kind have one item
 abbrev pub HasTwo : List Call → Kind → Type 0
-HasTwo h kind = (x : ℕ) × (i : ℕ) × (j : ℕ) × (i < j) × (j < length h) × (does h i ≡ kind_effect kind x) × (does h j ≡ kind_effect kind x)
+HasTwo h kind = (x : ℕ) × (i : ℕ) × (j : ℕ) × (i < j) × (j < length h) × (does h i ≡ kind_effect kind x)
+    × (does h j ≡ kind_effect kind x)
 
 -- The first step of each item's call of the kind, of the first n calls, which have each item once.
 pub record IsIndex (h : List Call) (kind : Kind) (n : ℕ) (first_of : ℕ → Option ℕ) : Type 0 where
-  pub finds : (x : ℕ) → MatchOption (first_of x) ((j : ℕ) → j < n → does h j ≡ kind_effect kind x → ⊥) (λ f. (j : ℕ) × (j < n) × (does h j ≡ kind_effect kind x) × ((call h j).first ≡ f))
+  pub finds : (x : ℕ) → MatchOption (first_of x) ((j : ℕ) → j < n → does h j ≡ kind_effect kind x → ⊥)
+      (λ f. (j : ℕ) × (j < n) × (does h j ≡ kind_effect kind x) × ((call h j).first ≡ f))
   pub once : (x i j : ℕ) → i < n → j < n → does h i ≡ kind_effect kind x → does h j ≡ kind_effect kind x → i ≡ j
 
 abbrev pub last_of : Option End → ℕ

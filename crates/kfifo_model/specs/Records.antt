@@ -1,8 +1,11 @@
 -- Records of histories: JSON arrays whose members are objects, one for each call.
-use Rattle.std.specs.Prelude.{ℕ, ◌≡◌, ◌≢◌, ◌^◌, ◌<◌, ◌≤◌, ◌&&◌, ◌||◌, Bool, true, false, not, if◌then◌else◌, nat_lt, List, [], ◌∷◌, ◌++◌, Option, Some, None, Result, Ok, Err, length, codes, slice_index_or, option_and_then}
+use Rattle.std.specs.Prelude.{ℕ, ◌≡◌, ◌≢◌, ◌^◌, ◌<◌, ◌≤◌, ◌&&◌, ◌||◌, Bool, true, false, not, if◌then◌else◌, nat_lt}
+use Rattle.std.specs.Prelude.{List, [], ◌∷◌, ◌++◌, Option, Some, None, Result, Ok, Err, length, codes, slice_index_or}
+use Rattle.std.specs.Prelude.{option_and_then}
 use Rattle.std.specs.Option.{option_map}
 use Rattle.std.specs.Str.{bytes_eq}
-use Rattle.serde_json.specs.Data.{Data, null, boolean, number, string, array, object, Items, no_items, item, Members, no_members, member}
+use Rattle.serde_json.specs.Data.{Data, null, boolean, number, string, array, object, Items, no_items, item, Members}
+use Rattle.serde_json.specs.Data.{no_members, member}
 use Rattle.serde_json.specs.Find.{get, as_number, as_u64, as_str, as_array}
 use Rattle.kfifo_model.specs.declared.calls.Op.{Op}
 use Rattle.kfifo_model.specs.declared.calls.Op.TheVariants as ops
@@ -27,7 +30,9 @@ use Rattle.kfifo_model.specs.Validity.{IsHistory, IsFault}
 
 abbrev pub is_key : List ℕ → Bool
 is_key k =
-    bytes_eq k (codes "thread") || (bytes_eq k (codes "op") || (bytes_eq k (codes "item") || (bytes_eq k (codes "first") || (bytes_eq k (codes "last") || bytes_eq k (codes "answer")))))
+    bytes_eq k (codes "thread") || (bytes_eq k (codes "op")
+    || (bytes_eq k (codes "item") || (bytes_eq k (codes "first")
+    || (bytes_eq k (codes "last") || bytes_eq k (codes "answer")))))
 
 abbrev pub are_keys : Members → Bool
 are_keys no_members = true
@@ -68,7 +73,8 @@ IsAnswerWord t Got = t ≡ codes "got"
 IsAnswerWord t Empty = t ≡ codes "empty"
 IsAnswerWord t Busy = t ≡ codes "busy"
 IsAnswerWord t Worn = t ≡ codes "worn"
-IsAnswerWord t Other = (t ≢ codes "done") × (t ≢ codes "full") × (t ≢ codes "got") × (t ≢ codes "empty") × (t ≢ codes "busy")
+IsAnswerWord t Other = (t ≢ codes "done") × (t ≢ codes "full") × (t ≢ codes "got") × (t ≢ codes "empty")
+    × (t ≢ codes "busy")
     × (t ≢ codes "worn")
 
 -- `last` and `answer` stand both or neither

@@ -48,7 +48,8 @@ IsRun k items (e ∷ es) = (after : List ℕ) × Leaves k items e after × IsRun
 -- the list that a legal effect leaves where the first of equal items goes
 abbrev pub next : ℕ → List ℕ → Effect → Option (List ℕ)
 next k items (Adds x) = Some (items ++ x ∷ [])
-next k items (Takes x) = cond (ltb (place items x) k && ltb (place items x) (length items)) (Some (remove items (place items x))) None
+next k items (Takes x) = cond (ltb (place items x) k && ltb (place items x) (length items))
+    (Some (remove items (place items x))) None
 next k [] FindsNone = Some []
 next k (x ∷ items) FindsNone = None
 next k items Refused = Some items

@@ -52,8 +52,10 @@ EachMakes [] [] [] = Unit {0}
 EachMakes (script ∷ scripts) (old ∷ olds) (new ∷ news) = MakesInTurn script old new × EachMakes scripts olds news
 EachMakes scripts olds news = ⊥
 
--- these are the passes of a queue of this shape, opened with one for each script and room for its calls, before any call
-pub record IsOpenFor (shape : Shape) (scripts : List (List Begin)) (queue : OpenQueue) (passes : List Logged) : Type 0 where
+-- these are the passes of a queue of this shape, opened with one for each script and room for its calls, before any
+-- call
+pub record IsOpenFor (shape : Shape) (scripts : List (List Begin)) (queue : OpenQueue)
+    (passes : List Logged) : Type 0 where
   pub opened : queue.opened ≡ stamped_opening shape (length scripts) (room_for scripts)
   pub passes_are : passes ≡ new_logs (new_passes queue 0 (length scripts))
 
@@ -66,9 +68,9 @@ pub record MayRun (queue : OpenQueue) (scripts : List (List Begin)) (pass : Logg
   pub room : length (script_of scripts pass.pass.thread) ≤ queue.opened.calls
   pub few : queue.opened.calls ≤ 1024
 
--- What the run of scripts came to: of one queue pass t made the calls of script t in turn, each between two stamps. The history has
--- them by rising first stamps, all of them ended: those of thread t are script t in its order, and no other thread made one. It has a legal
--- order, and little overtakes (`Gathers`)
+-- What the run of scripts came to: of one queue pass t made the calls of script t in turn, each between two stamps. The
+-- history has them by rising first stamps, all of them ended: those of thread t are script t in its order, and no other
+-- thread made one. It has a legal order, and little overtakes (`Gathers`)
 pub record IsRecord (shape : Shape) (scripts : List (List Begin)) (h : List Call) : Type 0 where
   pub queue : OpenQueue
   pub fresh : List Logged

@@ -1,8 +1,10 @@
 //! Running scripts, each on a thread of its own, and gathering the record of the run.
 ghost use Rattle.std.specs.Prelude.{◌≡◌, ◌<◌, ◌≤◌, ◌⊎◌, ◌↔◌, ◌^◌, ◌-◌, [], min, All, IfOk, IsErrOf, length};
-ghost use Rattle.kfifo_live.specs.declared.fault.OpenFault.TheVariants.{CallsOutOfRange, ThreadsOutOfRange, TokensOutOfRange};
+ghost use Rattle.kfifo_live.specs.declared.fault.OpenFault.TheVariants.{CallsOutOfRange, ThreadsOutOfRange};
+ghost use Rattle.kfifo_live.specs.declared.fault.OpenFault.TheVariants.{TokensOutOfRange};
 ghost use Rattle.kfifo_live.specs.Pass.{IsPassOf};
-ghost use Rattle.kfifo_record.specs.Scripts.{AreScripts, EachMakes, IsCall, IsOpenFor, IsRecord, MakesInTurn, MakesOne, MayRun, longest, script_of, scripts_in};
+ghost use Rattle.kfifo_record.specs.Scripts.{AreScripts, EachMakes, IsCall, IsOpenFor, IsRecord, MakesInTurn, MakesOne};
+ghost use Rattle.kfifo_record.specs.Scripts.{MayRun, longest, script_of, scripts_in};
 
 use crate::gate::Gate;
 use kfifo_live::{GatherFault, OpenFault, StampPass, StampQueue, gather};
@@ -12,9 +14,9 @@ use kfifo_words::Shape;
 use std::alloc::{AllocError, Global};
 use std::thread::{Threads, map_vec};
 
-/// Runs scripts on one queue of this shape, and returns the record of the run. A thread of its own runs script t, call by
-/// call, with pass t. The record has the calls of all threads by rising first stamps, those of thread t being script t in
-/// its order: at most 65,536 in all, as many as a record may have.
+/// Runs scripts on one queue of this shape, and returns the record of the run. A thread of its own runs script t, call
+/// by call, with pass t. The record has the calls of all threads by rising first stamps, those of thread t being script
+/// t in its order: at most 65,536 in all, as many as a record may have.
 ///
 /// ```rust
 /// let history = record_scripts(threads, alloc, shape, scripts.as_slice(), &OpenGate)?;

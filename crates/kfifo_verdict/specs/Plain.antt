@@ -1,5 +1,5 @@
--- How the calls of a plain history take their turns for k = 1. Moments are numbers of calls: a call may stand at one from
--- its own number on, until the first call that it precedes.
+-- How the calls of a plain history take their turns for k = 1. Moments are numbers of calls: a call may stand at one
+-- from its own number on, until the first call that it precedes.
 use Rattle.std.specs.Prelude.{ℕ, ◌≡◌, ◌+◌, ◌<◌, ◌≤◌, ◌⊎◌, Bool, List, length, slice_index_or}
 use Rattle.std.specs.List.{All, Contains}
 use Rattle.std.specs.List.Sorted.{IsSortedBy}
@@ -21,8 +21,8 @@ pub record IsLate (h : List Call) (gone late : ℕ) : Type 0 where
   pub got : gone < length h → IsStart h (call h gone).end late
   pub never : length h ≤ gone → late ≡ length h + 1
 
--- The moment by which the item of put p has to be in: until its put ends, and its get, and the put of each item whose get
--- begins after that get.
+-- The moment by which the item of put p has to be in: until its put ends, and its get, and the put of each item whose
+-- get begins after that get.
 pub record IsDue (ps : List Presence) (p late due : ℕ) : Type 0 where
   pub put : due ≤ (presence ps p).start
   pub got : due ≤ late
@@ -85,7 +85,8 @@ pub record IsLatest (ps : List Presence) (line : List (ℕ × ℕ × ℕ)) (i la
   pub attained : (j : ℕ) × (j ≤ i) × ((latest ≡ (place line j).0) ⊎ (latest ≡ (presence ps (place line j).2).gone))
 
 -- The turns of the put and the get of the item at place i of the line, of put p.
-pub record IsItemTurn (h : List Call) (ps : List Presence) (line : List (ℕ × ℕ × ℕ)) (ts : List Turn) (p i : ℕ) : Type 0 where
+pub record IsItemTurn (h : List Call) (ps : List Presence) (line : List (ℕ × ℕ × ℕ)) (ts : List Turn)
+    (p i : ℕ) : Type 0 where
   pub inside : i < length line
   pub is : (place line i).2 ≡ p
   pub put : turn ts p ≡ record { moment = (place line i).0; rank = i }
@@ -93,7 +94,8 @@ pub record IsItemTurn (h : List Call) (ps : List Presence) (line : List (ℕ × 
       × (turn ts (presence ps p).gone ≡ record { moment = latest; rank = length line + i })
 
 -- the turns of all calls, those of the items at the first n places of the line among them
-pub record AreTurns (h : List Call) (ps : List Presence) (line : List (ℕ × ℕ × ℕ)) (n : ℕ) (ts : List Turn) : Type 0 where
+pub record AreTurns (h : List Call) (ps : List Presence) (line : List (ℕ × ℕ × ℕ)) (n : ℕ)
+    (ts : List Turn) : Type 0 where
   pub sized : length ts ≡ length h
   pub items : (j : ℕ) → j < n → (i : ℕ) × (i < n) × IsItemTurn h ps line ts (place line j).2 i
   pub idle : (c : ℕ) → c < length h → ((x : ℕ) → Puts h x c → ⊥) → ((x : ℕ) → Gets h x c → ⊥)

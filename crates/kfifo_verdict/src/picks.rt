@@ -13,8 +13,8 @@ pub(crate) struct Picks {
     pub candidate: usize,
     /// The way, of those for this put.
     way: usize,
-    /// Which of the choices of an item that leaves the front are to come: a binary digit for each, 1 where the other item
-    /// leaves.
+    /// Which of the choices of an item that leaves the front are to come: a binary digit for each, 1 where the other
+    /// item leaves.
     rest: usize,
     /// How many of these choices there were, up to `MAX_CHANGED`.
     passed: u32,

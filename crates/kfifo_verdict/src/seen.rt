@@ -8,8 +8,8 @@ const MAX_KEPT: usize = 1_048_576;
 /// How many states are kept for each call.
 const KEPT_PER_CALL: usize = 16;
 
-/// States that the search has been in, by numbers that tell them apart. A state may be forgotten where another one has its
-/// slot: then it is searched once more.
+/// States that the search has been in, by numbers that tell them apart. A state may be forgotten where another one has
+/// its slot: then it is searched once more.
 #[derive(Drop)]
 pub(crate) struct Seen {
     /// The number of a state in each slot, or 0.

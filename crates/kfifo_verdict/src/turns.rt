@@ -1,14 +1,17 @@
 //! A legal order of the calls of a plain history for k = 1.
 //!
-//! Moments are numbers of calls. Each item goes in as late as it may: its put may not end before, nor its get, nor the put of
-//! an item whose get begins after that get. The items stand in line by these moments, and each goes out as soon as its get
-//! has begun and those before it are out. So the list is empty as each call begins at which no item is certainly there.
-ghost use Rattle.std.specs.Prelude.{ℕ, ◌≡◌, ◌+◌, ◌<◌, ◌≤◌, ◌↔◌, ◌^◌, IsTrue, List, length, map, slice_index_or, IfOk, IfSome, IsSome};
+//! Moments are numbers of calls. Each item goes in as late as it may: its put may not end before, nor its get, nor the
+//! put of an item whose get begins after that get. The items stand in line by these moments, and each goes out as soon
+//! as its get has begun and those before it are out. So the list is empty as each call begins at which no item is
+//! certainly there.
+ghost use Rattle.std.specs.Prelude.{ℕ, ◌≡◌, ◌+◌, ◌<◌, ◌≤◌, ◌↔◌, ◌^◌, IsTrue, List, length, map, slice_index_or, IfOk};
+ghost use Rattle.std.specs.Prelude.{IfSome, IsSome};
 ghost use Rattle.kfifo_model.specs.Histories.{IsLegal};
 ghost use Rattle.kfifo_model.specs.Validity.{IsHistory};
 ghost use Rattle.kfifo_verdict.specs.Finding.{ArePresences, AreStays, AreLongest, IsIndexed};
 ghost use Rattle.kfifo_verdict.specs.Judging.{HasNoEvidence, IsPlain};
-ghost use Rattle.kfifo_verdict.specs.Plain.{presence, IsLate, IsDue, ArePlaces, IsLine, AreIdle, AreTurns, AreNumbered, IsByTurns};
+ghost use Rattle.kfifo_verdict.specs.Plain.{presence, IsLate, IsDue, ArePlaces, IsLine, AreIdle, AreTurns, AreNumbered};
+ghost use Rattle.kfifo_verdict.specs.Plain.{IsByTurns};
 
 use crate::deeds::{Deed, deed_of, first_after};
 use crate::finding::{Covered, Stay, cover, longest_stays};
@@ -102,7 +105,8 @@ fn line_of(
     Ok(line)
 }
 
-/// A turn for each call, as if all neither put nor got an item: an Empty as a call begins at which no item is certainly there.
+/// A turn for each call, as if all neither put nor got an item: an Empty as a call begins at which no item is certainly
+/// there.
 fn idle_turns(
     alloc: Global,
     calls: &[Call],
@@ -225,8 +229,8 @@ fn plain_order(alloc: Global, calls: &[Call], items: &Items) -> Result<Vec<usize
     by_turns(alloc, turns.as_slice())
 }
 
-/// A legal order for k = 1 of the calls of a history without evidence, where it is plain: each item that is put is single,
-/// and each call has ended. Its time is near linear in the calls.
+/// A legal order for k = 1 of the calls of a history without evidence, where it is plain: each item that is put is
+/// single, and each call has ended. Its time is near linear in the calls.
 pub(crate) fn order_of_plain(
     alloc: Global,
     calls: &[Call],

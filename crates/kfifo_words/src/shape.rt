@@ -39,7 +39,8 @@ impl Shape {
     ///
     /// Refused, in this order, where k is not 1 to 64, n not 2 to 1,024, `last` not 2 to 2^40 - 1.
     pub fn new(k: u32, n: u32, last: u64) -> Result<Shape, ShapeFault>
-        ensures { MatchResult result (λ s. (s.k ≡ k) × (s.n ≡ n) × (s.last ≡ last) × (s.probes ≡ k)) (λ f. fault_of k n last k ≡ Some f) }
+        ensures { MatchResult result (λ s. (s.k ≡ k) × (s.n ≡ n) × (s.last ≡ last) × (s.probes ≡ k))
+            (λ f. fault_of k n last k ≡ Some f) }
     {
         Shape::with_probes(k, n, last, k)
     }
@@ -133,7 +134,8 @@ impl Shape {
         ensures value { result ≡ slot_at self.now.k segment slot }
         ensures not_ends { 0 < result }
         ensures below_clock { result < clock_at self.now.k self.now.n }
-        ensures distinct { (s i : ℕ) → s < self.now.n → i < self.now.k → slot_at self.now.k s i ≡ result → (s ≡ segment) × (i ≡ slot) }
+        ensures distinct { (s i : ℕ) → s < self.now.n → i < self.now.k → slot_at self.now.k s i ≡ result → (s ≡ segment)
+            × (i ≡ slot) }
     {
         1 + segment as usize * self.k as usize + slot as usize
     }

@@ -1,11 +1,11 @@
 //! The lines of faults.
 
+use kfifo_cli_texts::{Fault, Printer};
 use kfifo_dispatch::DispatchFault;
 use kfifo_import::ImportFault;
 use kfifo_live::OpenFault;
 use kfifo_model::{RecordFault, SearchFault};
 use kfifo_replay::ReplayFault;
-use kfifo_cli_texts::{Fault, Printer};
 use kfifo_words::ShapeFault;
 use std::test::Fail;
 

@@ -3,8 +3,8 @@
 #![tactic(auto)]
 
 use kfifo_cli_commands::{Request, RunOptions, Sizes, Started, carry_out, start_program};
-use kfifo_judge::FromStd;
 use kfifo_cli_texts::Printer;
+use kfifo_judge::FromStd;
 use std::process::ExitCode;
 
 /// Asks for a queue whose segments have no slot.

@@ -87,8 +87,8 @@ fn bars_of(alloc: Global, picture: &str) -> Result<Vec<Bar>, Fail> {
     Ok(bars)
 }
 
-/// Whether two finished calls stand one behind the other: the bar of one ends before that of the other begins exactly where it
-/// precedes it.
+/// Whether two finished calls stand one behind the other: the bar of one ends before that of the other begins exactly
+/// where it precedes it.
 fn stand_as_they_precede(calls: &[Call], bars: &[Bar]) -> bool {
     for (call, bar) in calls.iter().zip(bars.iter()) {
         for (other, beside) in calls.iter().zip(bars.iter()) {

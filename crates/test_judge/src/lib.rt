@@ -1,5 +1,5 @@
-//! Tests of the public calls that judge, explain, draw and import records, in a crate of their own: tests beside the proofs
-//! would have every proof made once more.
+//! Tests of the public calls that judge, explain, draw and import records, in a crate of their own: tests beside the
+//! proofs would have every proof made once more.
 #![tactic(auto)]
 
 #[cfg(test)]

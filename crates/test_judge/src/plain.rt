@@ -3,9 +3,8 @@
 ghost use Rattle.std.specs.Prelude.{◌≤◌};
 
 use kfifo_draw::{DrawFault, Drawing, Marking, Part, Style};
-use kfifo_judge::Outcome;
 use kfifo_import::ImportFault;
-use kfifo_judge::{Sink, Source, StreamFault};
+use kfifo_judge::{Outcome, Sink, Source, StreamFault};
 use kfifo_model::{Call, History, RecordFault, SearchFault};
 use kfifo_verdict::{Evidence, Judgement};
 use std::alloc::{AllocError, Global};

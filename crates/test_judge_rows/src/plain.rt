@@ -3,9 +3,8 @@
 
 use crate::streams::{Input, Output};
 use kfifo_draw::{DrawFault, Drawing, Marking, Part, Style};
-use kfifo_judge::Outcome;
 use kfifo_import::ImportFault;
-use kfifo_judge::StreamFault;
+use kfifo_judge::{Outcome, StreamFault};
 use kfifo_model::History;
 use serde_json::Value;
 use std::alloc::{AllocError, Global};

@@ -1,4 +1,5 @@
-//! The running queue by many threads, and where memory is refused. Its calls by one thread are rows of `test_live_rows`.
+//! The running queue by many threads, and where memory is refused. Its calls by one thread are rows of
+//! `test_live_rows`.
 ghost use Rattle.std.specs.Prelude.{◌≡◌, ◌<◌, ◌≤◌};
 ghost use Rattle.kfifo_live.specs.Pass.{IsPassOf, IsSamePass};
 

@@ -1,5 +1,5 @@
-//! The calls that the tests make, with no more said of each than the next call asks for. No test needs the rest of what the
-//! contracts say, and some take long to prove with it in view.
+//! The calls that the tests make, with no more said of each than the next call asks for. No test needs the rest of what
+//! the contracts say, and some take long to prove with it in view.
 ghost use Rattle.std.specs.Prelude.{◌≡◌, ◌<◌, ◌≤◌, IfOk, All};
 ghost use Rattle.kfifo_live.specs.Pass.{IsPassOf, IsSamePass};
 

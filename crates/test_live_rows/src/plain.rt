@@ -1,5 +1,5 @@
-//! The calls that the drivers make, with no more said of each than the next call asks for. What a call asks of its numbers is
-//! tested here.
+//! The calls that the drivers make, with no more said of each than the next call asks for. What a call asks of its
+//! numbers is tested here.
 ghost use Rattle.std.specs.Prelude.{IfOk, All};
 ghost use Rattle.kfifo_live.specs.Pass.{IsPassOf, IsSamePass};
 

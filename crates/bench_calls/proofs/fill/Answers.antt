@@ -10,8 +10,10 @@ loop-item-preserved c =
     let same = c.loop-item.invariant.same in
     let now = c.enqueue.ensures.same in
     let more : calls c.args.pass.now.thread c.enqueue.new.self.seen ≡ calls c.args.pass.now.thread c.loop-item.pass.seen + 1 =
-    subst (λ t. calls t c.enqueue.new.self.seen ≡ calls t c.loop-item.pass.seen + 1) same.2 (one_more _ _ _ _ _ _ _ c.enqueue.ensures.run) in
-    let one : items_put c.args.pass.now.thread c.enqueue.new.self.seen ≡ items_put c.args.pass.now.thread c.loop-item.pass.seen ++ c.loop-item.item ∷ [] =
+    subst (λ t. calls t c.enqueue.new.self.seen ≡ calls t c.loop-item.pass.seen + 1) same.2
+    (one_more _ _ _ _ _ _ _ c.enqueue.ensures.run) in
+    let one : items_put c.args.pass.now.thread c.enqueue.new.self.seen
+    ≡ items_put c.args.pass.now.thread c.loop-item.pass.seen ++ c.loop-item.item ∷ [] =
     subst (λ t. items_put t c.enqueue.new.self.seen ≡ items_put t c.loop-item.pass.seen ++ c.loop-item.item ∷ []) same.2
     (item_more _ _ _ _ _ _ _ _ _ c.enqueue.ensures.run) in
     record {

@@ -5,4 +5,5 @@ use Rattle.kfifo_live.specs.Pass.{IsPassOf}
 use Rattle.example_threads.proofs.finish.Goals as goal
 
 pub close-requires : goal.close-requires
-close-requires c = subst (All (IsPassOf c.args.queue)) (sym c.in_ok-passes.ensures) (All-map (IsPassOf c.args.queue) (λ w. w.handle.pass) c.args.workers.items c.requires)
+close-requires c = subst (All (IsPassOf c.args.queue)) (sym c.in_ok-passes.ensures)
+    (All-map (IsPassOf c.args.queue) (λ w. w.handle.pass) c.args.workers.items c.requires)

@@ -10,7 +10,8 @@ use std::alloc::Global;
 use std::marker::Model;
 use std::sync::Arc;
 
-/// A pass with the starts and rounds of its calls, a part in the queue that it is of, and the number of that queue's passes.
+/// A pass with the starts and rounds of its calls, a part in the queue that it is of, and the number of that queue's
+/// passes.
 #[derive(Drop)]
 pub struct ValueSeat {
     pub(crate) queue: Arc<PayQueue<u64>, Global>,

@@ -38,8 +38,10 @@ A unit of work adds LEFT to SUM and takes 1 from LEFT. A task is finished when L
 SUM + LEFT + (LEFT - 1) + .. + 1, whoever works on it.
 
 The tasks go round. The program puts them into one queue. Each worker, a thread of its own, takes a task, does one unit
-of work on it, and puts it back while work is left. A task that the queue refuses is worked off by who holds it. A worker
-ends when it finds the queue empty, or after 65536 tries to take a task; what is left then, the program works off itself.
+of work on it, and puts it back while work is left. A task that the queue refuses is worked off by who holds it. A
+    worker
+ends when it finds the queue empty, or after 65536 tries to take a task;
+    what is left then, the program works off itself.
 Where no thread can be made, workers run one after the other.
 
 The answer is a line <ID> <SUM> for each task, by rising ID; no line where there are no tasks. It does not depend on

@@ -8,8 +8,8 @@ ghost use Rattle.kfifo_cli_commands.specs.Statuses.{status_number};
 
 use crate::options::CheckOptions;
 use crate::status::Status;
-use kfifo_judge::{FromStd, Source, check_stream};
 use kfifo_cli_texts::{Fault, order_of};
+use kfifo_judge::{FromStd, Source, check_stream};
 use std::alloc::Global;
 use std::rt::Files;
 
@@ -22,7 +22,8 @@ pub fn answer<H: Files, S: Source>(
 ) -> Result<(Vec<u8>, Status), Fault>
     ensures ok { IfOk result (λ a. IsCheck options.entry (S.remaining input.old) a.0.items (status_number a.1)) }
     ensures status { IfOk result (λ a. (a.1 ≡ Status.Answered) ⊎ (a.1 ≡ Status.Unordered)) }
-    ensures err { IfErr result (IsCheckRefusal options.entry (S.remaining input.old) (S.failed input.old) (S.failed input.new)) }
+    ensures err { IfErr result (IsCheckRefusal options.entry (S.remaining input.old) (S.failed input.old)
+        (S.failed input.new)) }
     ensures silent { IfErr result (λ fault. fault ≢ Fault.Output) }
     ensures reads { ReadsWell result (S.failed input.old) (S.failed input.new) }
 {
@@ -42,10 +43,12 @@ fn judge<S: Source>(
 ) -> Result<(Vec<u8>, Status), Fault>
     requires { (1 ≤ k) × (k ≤ 64) }
     ensures ok { let o = option_map (λ s. s.now) order.entry in
-        IfOk result (λ a. (bytes : List ℕ) × IsInput (S.remaining input.old) bytes × IsChecked k o bytes a.0.items (status_number a.1)) }
+        IfOk result (λ a. (bytes : List ℕ) × IsInput (S.remaining input.old) bytes
+        × IsChecked k o bytes a.0.items (status_number a.1)) }
     ensures status { IfOk result (λ a. (a.1 ≡ Status.Answered) ⊎ (a.1 ≡ Status.Unordered)) }
     ensures err { let o = option_map (λ s. s.now) order.entry in
-        IfErr result (IsStreamFault (S.remaining input.old) (S.failed input.old) (S.failed input.new) (IsCheckFault o)) }
+        IfErr result (IsStreamFault (S.remaining input.old) (S.failed input.old) (S.failed input.new)
+        (IsCheckFault o)) }
     ensures silent { IfErr result (λ fault. fault ≢ Fault.Output) }
     ensures reads { ReadsWell result (S.failed input.old) (S.failed input.new) }
 {

@@ -8,11 +8,11 @@ ghost use Rattle.kfifo_draw.specs.Drawing.{AreFew, AreMany, IsInPart};
 use crate::cut::{Cut, cut_of, is_of_lines, part_of};
 use crate::input::{read_calls, read_input};
 use crate::options::DrawOptions;
+use kfifo_cli_texts::{Fault, order_of};
 use kfifo_draw::{DrawFault, Drawing, Marking, Part, Style, draw};
 use kfifo_import::LoggedCall;
 use kfifo_judge::Source;
 use kfifo_model::{Answer, Call, End, History};
-use kfifo_cli_texts::{Fault, order_of};
 use kfifo_verdict::{Evidence, evidence};
 use std::alloc::{AllocError, Global};
 use std::fmt::Write;
@@ -26,7 +26,8 @@ pub fn answer<H: Files, S: Source>(
     input: &mut S,
 ) -> Result<String, Fault>
     ensures ok { IfOk result (λ _. IsDraw options.entry (S.remaining input.old)) }
-    ensures err { IfErr result (IsDrawRefusal options.entry (S.remaining input.old) (S.failed input.old) (S.failed input.new)) }
+    ensures err { IfErr result (IsDrawRefusal options.entry (S.remaining input.old) (S.failed input.old)
+        (S.failed input.new)) }
     ensures silent { IfErr result (λ fault. fault ≢ Fault.Output) }
     ensures reads { ReadsWell result (S.failed input.old) (S.failed input.new) }
 {
@@ -43,7 +44,8 @@ fn order_given<H: Files>(
     options: DrawOptions<'_>,
 ) -> Result<Option<Vec<usize>>, Fault>
     ensures ok { IfOk result (λ order. IsOrder options.entry.check (option_map (λ o. o.items) order)) }
-    ensures err { IfErr result (λ fault. (fault ≡ Fault.Memory) ⊎ ((fault ≡ Fault.Order) × IsOrderFault options.entry.check)) }
+    ensures err { IfErr result (λ fault. (fault ≡ Fault.Memory)
+        ⊎ ((fault ≡ Fault.Order) × IsOrderFault options.entry.check)) }
 {
     let Some(text) = options.check.order else {
         return Ok(None);
@@ -92,7 +94,8 @@ fn picture_of<'x>(
     cut: Cut,
     order: &'x Option<Vec<usize>>,
 ) -> Result<String, DrawFault>
-    ensures { MatchResult result (λ _. IsPictureOf AreFew options.entry.check.k options.entry.evidence cut history.now logged.now)
+    ensures { MatchResult result (λ _. IsPictureOf AreFew options.entry.check.k options.entry.evidence cut history.now
+        logged.now)
         (λ fault. fault ≡ DrawFault.TooMany
         → IsPictureOf AreMany options.entry.check.k options.entry.evidence cut history.now logged.now) }
 {
@@ -175,7 +178,8 @@ fn marked<'x>(
 ) -> Result<String, DrawFault>
     requires { (1 ≤ k) × (k ≤ 64) }
     ensures { MatchResult result (λ _. AreFew (IsInPart history.now logged.now part.entry) (length history.now))
-        (λ fault. fault ≡ DrawFault.TooMany → AreMany (IsInPart history.now logged.now part.entry) (length history.now)) }
+        (λ fault. fault ≡ DrawFault.TooMany
+        → AreMany (IsInPart history.now logged.now part.entry) (length history.now)) }
 {
     let marking = Marking::Calls(named, reason);
     draw(

@@ -4,9 +4,9 @@ ghost use Rattle.kfifo_cli_commands.specs.Imports.{IsImport, IsImportRefusal};
 ghost use Rattle.kfifo_cli_commands.specs.Records.{ReadsWell};
 
 use crate::input::read_input;
+use kfifo_cli_texts::{Fault, record_line};
 use kfifo_import::import_text;
 use kfifo_judge::Source;
-use kfifo_cli_texts::{Fault, record_line};
 use std::alloc::Global;
 
 /// The line of the record of the log that the input is.

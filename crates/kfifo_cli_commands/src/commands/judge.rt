@@ -8,9 +8,8 @@ ghost use Rattle.kfifo_cli_commands.specs.Verdicts.{IsJudge, IsJudged, IsVerdict
 use crate::input::{read_calls, read_input};
 use crate::options::JudgeOptions;
 use crate::status::{Status, status_of};
-use kfifo_judge::judge_text;
-use kfifo_judge::Source;
 use kfifo_cli_texts::Fault;
+use kfifo_judge::{Source, judge_text};
 use std::alloc::Global;
 
 /// The lines that answer the calls of the input, and the status.
@@ -32,7 +31,8 @@ pub fn answer<S: Source>(
 
 /// The lines that answer the calls of these bytes, and the status.
 fn text_of(alloc: Global, options: JudgeOptions, bytes: &[u8]) -> Result<(String, Status), Fault>
-    ensures said { MatchResult result (λ a. IsJudged options bytes.now (string_bytes a.0) (status_number a.1)) (IsNoCalls bytes.now) }
+    ensures said { MatchResult result (λ a. IsJudged options bytes.now (string_bytes a.0) (status_number a.1))
+        (IsNoCalls bytes.now) }
     ensures status { IfOk result (λ a. (a.1 ≡ Status.Answered) ⊎ (a.1 ≡ Status.Unordered) ⊎ (a.1 ≡ Status.Undecided)) }
 {
     let calls = read_calls(alloc, bytes)?;

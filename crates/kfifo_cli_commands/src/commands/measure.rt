@@ -2,8 +2,8 @@
 ghost use Rattle.std.specs.Prelude.{◌≡◌, ◌≢◌, IfOk, IfErr};
 ghost use Rattle.kfifo_cli_commands.specs.Records.{IsMeasure, IsMeasureRefusal, ReadsWell};
 
-use kfifo_judge::{FromStd, Source, measure_stream};
 use kfifo_cli_texts::Fault;
+use kfifo_judge::{FromStd, Source, measure_stream};
 use std::alloc::Global;
 
 /// The lines that answer the record of the input.

@@ -5,9 +5,9 @@ ghost use Rattle.kfifo_record.specs.Scripts.{AreScripts, scripts_in};
 ghost use Rattle.kfifo_cli_commands.specs.RealRuns.{IsRealRun, IsRealRunRefusal};
 
 use crate::options::RecordOptions;
+use kfifo_cli_texts::{Fault, read_scripts, record_line};
 use kfifo_machine::Begin;
 use kfifo_record::{OpenGate, first_over, record_scripts, repeat_scripts};
-use kfifo_cli_texts::{Fault, read_scripts, record_line};
 use std::alloc::Global;
 use std::thread::Threads;
 
@@ -32,7 +32,8 @@ pub fn answer<R: Threads + Sync>(
 /// The scripts made so many times over, with items of their own each time.
 fn repeat(alloc: Global, scripts: &[Vec<Begin>], count: u32) -> Result<Vec<Vec<Begin>>, Fault>
     requires { 1 ≤ count }
-    ensures ok { let own = scripts_in scripts.now in IfOk result (λ made. scripts_in made.items ≡ all_repeated count own) }
+    ensures ok { let own = scripts_in scripts.now in
+        IfOk result (λ made. scripts_in made.items ≡ all_repeated count own) }
     ensures range { (shape : _) → AreScripts shape (scripts_in scripts.now)
         → IfOk result (λ made. AreScripts shape (scripts_in made.items)) }
     ensures err { let own = scripts_in scripts.now in IfErr result (λ fault. (fault ≡ Fault.Memory)

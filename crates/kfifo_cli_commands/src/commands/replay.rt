@@ -1,19 +1,22 @@
 //! The command `replay`: scripts run on the machine in the order of given picks.
-ghost use Rattle.std.specs.Prelude.{◌≡◌, ◌≢◌, ◌⊎◌, ◌≤◌, ◌+◌, ◌++◌, ◌∷◌, [], List, ℕ, IfOk, IfErr, OnOk, map, replicate, string_bytes};
+ghost use Rattle.std.specs.Prelude.{◌≡◌, ◌≢◌, ◌⊎◌, ◌≤◌, ◌+◌, ◌++◌, ◌∷◌, [], List, ℕ, IfOk, IfErr, OnOk, map, replicate};
+ghost use Rattle.std.specs.Prelude.{string_bytes};
 ghost use Rattle.kfifo_words.specs.declared.shape.Shape.{Shape as ShapeData};
 ghost use Rattle.kfifo_machine.specs.declared.event.Begin.{Begin as BeginData};
 ghost use Rattle.kfifo_replay.specs.Player.{OfItsPicks, StandsFor, Stops};
 ghost use Rattle.kfifo_cli_texts.specs.Picks as picks;
 ghost use Rattle.kfifo_cli_texts.specs.Picks.{count_of, picks_of};
-ghost use Rattle.kfifo_cli_commands.specs.Replays.{IsPlainText, IsPointsLine, IsRecordLine, IsRefusal, IsReplayAnswer, IsReplayRefusal, IsReplayText, IsReportText, IsUnplayed, Makes, first_lines, last_lines, traces};
+ghost use Rattle.kfifo_cli_commands.specs.Replays.{IsPlainText, IsPointsLine, IsRecordLine, IsRefusal, IsReplayAnswer};
+ghost use Rattle.kfifo_cli_commands.specs.Replays.{IsReplayRefusal, IsReplayText, IsReportText, IsUnplayed, Makes};
+ghost use Rattle.kfifo_cli_commands.specs.Replays.{first_lines, last_lines, traces};
 
 use crate::options::ReplayOptions;
 use crate::progress::{Meter, Progress};
 use crate::tracing;
+use kfifo_cli_texts::{Fault, Group, read_picks, read_scripts, record_text};
 use kfifo_judge::push_numbers;
 use kfifo_machine::Begin;
 use kfifo_replay::{Replay, ReplayFault, Report};
-use kfifo_cli_texts::{Fault, Group, read_picks, read_scripts, record_text};
 use kfifo_words::Shape;
 use std::alloc::{AllocError, Global};
 use std::fmt::Write;
@@ -53,7 +56,8 @@ fn played<P: Progress>(
 ) -> Result<String, Fault>
     requires { count_of groups.now ≤ 16777216 }
     ensures ok { let own = map (λ script. script.items) scripts.now in
-        let o = options.now in IfOk result (λ text. (made : List ℕ) × Makes o.stopped shape own (picks_of groups.now) made
+        let o = options.now in IfOk result
+        (λ text. (made : List ℕ) × Makes o.stopped shape own (picks_of groups.now) made
         × IsReplayText o.record o.trace o.points o.stopped shape own made (string_bytes text)) }
     ensures err { let own = map (λ script. script.items) scripts.now in
         IfErr result (IsUnplayed options.now shape own (picks_of groups.now)) }
@@ -85,8 +89,10 @@ fn play<P: Progress>(
 ) -> Result<Replay, ReplayFault>
     requires { count_of groups.now ≤ 16777216 }
     ensures ok { let own = map (λ script. script.items) scripts.now in
-        IfOk result (λ replay. (made : List ℕ) × Makes stopped shape own (picks_of groups.now) made × StandsFor shape own made replay) }
-    ensures err { IfErr result (IsRefusal stopped shape (map (λ script. script.items) scripts.now) (picks_of groups.now)) }
+        IfOk result (λ replay. (made : List ℕ) × Makes stopped shape own (picks_of groups.now) made
+        × StandsFor shape own made replay) }
+    ensures err { IfErr result (IsRefusal stopped shape (map (λ script. script.items) scripts.now)
+        (picks_of groups.now)) }
 {
     let mut replay = Replay::open(alloc, shape, scripts)?;
     let mut meter = Meter::new(progress, count_picks(groups));
@@ -226,7 +232,8 @@ fn push_first(text: &mut String, report: &Report) -> Result<(), AllocError>
 /// Adds the line of the points, where it is asked for.
 fn push_points(alloc: Global, text: &mut String, wanted: bool, replay: &Replay) -> Result<(), Fault>
     ensures ok { OnOk result (OfItsPicks replay.now (λ shape scripts picks.
-        (middle : List ℕ) × IsPointsLine wanted shape scripts picks middle × (string_bytes text.new ≡ string_bytes text.old ++ middle))) }
+        (middle : List ℕ) × IsPointsLine wanted shape scripts picks middle
+        × (string_bytes text.new ≡ string_bytes text.old ++ middle))) }
     ensures err { IfErr result (λ fault. (fault ≡ Fault.Memory) ⊎ (fault ≡ Fault.Replay ReplayFault.Memory)) }
 {
     if wanted {

@@ -1,5 +1,6 @@
 //! The command `run`: the calls of a script, made by one pass on the running queue.
-ghost use Rattle.std.specs.Prelude.{◌≡◌, ◌≢◌, ◌≤◌, ◌+◌, ◌*◌, ◌<◌, ◌++◌, [], List, ℕ, Some, IfOk, IfErr, OnOk, All, string_bytes};
+ghost use Rattle.std.specs.Prelude.{◌≡◌, ◌≢◌, ◌≤◌, ◌+◌, ◌*◌, ◌<◌, ◌++◌, [], List, ℕ, Some, IfOk, IfErr, OnOk, All};
+ghost use Rattle.std.specs.Prelude.{string_bytes};
 ghost use Rattle.kfifo_model.specs.declared.calls.Answer.{Answer};
 ghost use Rattle.kfifo_machine.specs.Machine.{World, after, word_at};
 ghost use Rattle.kfifo_machine.specs.Runs.{CompleteExecution};
@@ -10,9 +11,9 @@ ghost use Rattle.kfifo_cli_texts.specs.Words.{IsCall};
 ghost use Rattle.kfifo_cli_commands.specs.Reports.{IsAlone, IsReport, RunInTurn, call_line, slot_lines, world_lines};
 
 use crate::options::RunOptions;
+use kfifo_cli_texts::{Fault, push_dequeue, push_ends, push_enqueue, push_slot, read_calls};
 use kfifo_live::{Pass, Queue, close};
 use kfifo_machine::Begin;
-use kfifo_cli_texts::{Fault, push_dequeue, push_ends, push_enqueue, push_slot, read_calls};
 use kfifo_words::{Ends, Shape, Word};
 use std::alloc::{AllocError, Global};
 
@@ -43,7 +44,8 @@ fn report_of(alloc: Global, shape: Shape, calls: &[Begin]) -> Result<String, Fau
 
 /// A queue with one pass, which has seen nothing.
 fn open(alloc: Global, shape: Shape) -> Result<(Queue, Pass), Fault>
-    ensures opened { IfOk result (λ r. IsPassOf r.0 r.1 × (r.0.opened ≡ opening shape 1) × (r.1.thread ≡ 0) × (r.1.seen ≡ [])) }
+    ensures opened { IfOk result (λ r. IsPassOf r.0 r.1 × (r.0.opened ≡ opening shape 1) × (r.1.thread ≡ 0)
+        × (r.1.seen ≡ [])) }
     ensures refused { IfErr result (λ fault. fault ≡ Fault.Memory) }
 {
     let (queue, mut passes) = Queue::open(alloc, shape, 1).map_err(|_| Fault::Memory)?;
@@ -135,7 +137,8 @@ fn push_slots(
     requires segment { segment < queue.now.opened.shape.n }
     ensures same { pass.new ≡ pass.old }
     ensures lines { OnOk result ((world : World) → after queue.now.opened.shape 1 pass.old.seen ≡ Some world
-        → string_bytes text.new ≡ string_bytes text.old ++ slot_lines queue.now.opened.shape.k world segment queue.now.opened.shape.k) }
+        → string_bytes text.new ≡ string_bytes text.old
+        ++ slot_lines queue.now.opened.shape.k world segment queue.now.opened.shape.k) }
 {
     let shape = queue.shape();
     for slot in 0..shape.k() {
@@ -150,7 +153,8 @@ fn load(queue: &Queue, pass: &mut Pass, index: usize) -> u64
     requires alone { IsAlone queue.now pass.old }
     requires index { index < 2 + queue.now.opened.shape.n * queue.now.opened.shape.k }
     ensures same { pass.new ≡ pass.old }
-    ensures word { (world : World) × (after queue.now.opened.shape 1 pass.old.seen ≡ Some world) × (result ≡ word_at world index) }
+    ensures word { (world : World) × (after queue.now.opened.shape 1 pass.old.seen ≡ Some world)
+        × (result ≡ word_at world index) }
 {
     pass.word(queue, index)
 }

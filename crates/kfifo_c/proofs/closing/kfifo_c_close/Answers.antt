@@ -18,7 +18,8 @@ pub write_items-requires : goal.write_items-requires
 write_items-requires c =
     let may = match_some _ _ c.in-Ok-Some.field-0 c.in-Ok-Some.queue c.in-Ok-Some.ensures.may c.in-Ok-Some.field-0-is in
     let few = few_closed c.in-Some.queue c.in-Ok.taken.items c.in-Ok-close.left.items c.in-Ok-close.ensures.ok in
-    let wide = subst (λ (q : OpenQueue). q.opened.shape.n * q.opened.shape.k ≤ length c.args.items.now) (sym c.in-Some.ensures) may.room_is in
+    let wide = subst (λ (q : OpenQueue). q.opened.shape.n * q.opened.shape.k ≤ length c.args.items.now) (sym c.in-Some.ensures)
+    may.room_is in
     let e = ap length c.as_slice.ensures.value in
     let slots = c.in-Some.queue.opened.shape.n * c.in-Some.queue.opened.shape.k in
     subst (λ n. n ≤ length c.args.items.now) (sym e) (omega (arith, few, wide))
@@ -39,10 +40,15 @@ returns-clause-done c = λ _.
     }
 
 pub returns-in_default-into_inner-clause-may : goal.returns-in_default-into_inner-clause-may
-returns-in_default-into_inner-clause-may c = λ _. (c.in-Ok-Some.queue.value, match_some _ _ c.in-Ok-Some.field-0 c.in-Ok-Some.queue c.in-Ok-Some.ensures.may c.in-Ok-Some.field-0-is)
+returns-in_default-into_inner-clause-may c =
+    λ _. (c.in-Ok-Some.queue.value, match_some _ _ c.in-Ok-Some.field-0 c.in-Ok-Some.queue c.in-Ok-Some.ensures.may c.in-Ok-Some.field-0-is)
 
 pub returns-in_default-close-clause-may : goal.returns-in_default-close-clause-may
-returns-in_default-close-clause-may c = λ _. (c.in-Ok-Some.queue.value, match_some _ _ c.in-Ok-Some.field-0 c.in-Ok-Some.queue c.in-Ok-Some.ensures.may c.in-Ok-Some.field-0-is)
+returns-in_default-close-clause-may c = λ _.
+    (c.in-Ok-Some.queue.value, match_some _ _ c.in-Ok-Some.field-0 c.in-Ok-Some.queue c.in-Ok-Some.ensures.may c.in-Ok-Some.field-0-is)
 
 pub returns-clause-may : goal.returns-clause-may
-returns-clause-may c = λ _. (c.in-Ok-Some.queue.value, match_some _ _ c.in-Ok-Some.field-0 c.in-Ok-Some.queue c.in-Ok-Some.ensures.may c.in-Ok-Some.field-0-is)
+returns-clause-may c = λ _. (
+  c.in-Ok-Some.queue.value,
+  match_some _ _ c.in-Ok-Some.field-0 c.in-Ok-Some.queue c.in-Ok-Some.ensures.may c.in-Ok-Some.field-0-is,
+)

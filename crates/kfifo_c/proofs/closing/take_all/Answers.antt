@@ -25,7 +25,8 @@ loop-handle-preserved c =
             taken = items ∙ ap (λ l. l ++ w.into_pass.result ∷ []) inv.taken ∙ ap (λ p. passes_in (take i os) ++ p ∷ []) pass
                 ∙ sym (passes_more (take i os) seat) ∙ ap passes_in (sym next);
             theirs = subst AreTheirs (sym next) (theirs_more (take i os) (Some seat) inv.theirs
-                (subst (λ p. IsPassOf seat.queue p) pass (subst (λ s. IsPassOf s.queue w.into_pass.result) w.into_inner-seat.ensures w.into_pass.ensures.of)));
+                (subst (λ p. IsPassOf seat.queue p) pass
+                (subst (λ s. IsPassOf s.queue w.into_pass.result) w.into_inner-seat.ensures w.into_pass.ensures.of)));
             few = omega arith;
             room = omega arith;
           }

@@ -7,7 +7,9 @@ use Rattle.kfifo_c.proofs.opening.open_seats.Goals as goal
 pub seat_all-requires : goal.seat_all-requires
 seat_all-requires c = record {
   of = subst (All (IsOpenPassOf c.in_ok-queue.queue)) (sym c.in_ok-queue.ensures.ok.1)
-      (passes_of c.in_ok-queue.queue 0 c.args.threads (let are : c.in_ok-queue.queue.opened.threads ≡ c.args.threads = ap (λ o. o.threads) c.in_ok-queue.ensures.ok.0 in omega (arith, are)));
+      (passes_of c.in_ok-queue.queue 0 c.args.threads
+      (let are : c.in_ok-queue.queue.opened.threads
+      ≡ c.args.threads = ap (λ o. o.threads) c.in_ok-queue.ensures.ok.0 in omega (arith, are)));
   threads = ap (λ o. o.threads) (sym c.in_ok-queue.ensures.ok.0);
 }
 

@@ -15,7 +15,8 @@ returns-in-Err g c =
     let after = g.S.Source.failed c.answer.new.input in
     let on_output = OnPrinter g.W.Write.contents c.args.output.now c.answer.new.output in
     let on_faults = OnPrinter g.F.Write.contents c.args.faults.now c.end_with_fault.new.faults in
-    let ends : Ends (IsAnswered c.args.request input before after) (IsRefused c.args.request input before after) ⊥ on_output on_faults 1 = ends_with
+    let ends : Ends (IsAnswered c.args.request input before after) (IsRefused c.args.request input before after) ⊥ on_output on_faults 1 =
+    ends_with
     (IsAnswered c.args.request input before after) (IsRefused c.args.request input before after) on_output on_faults fault
     (λ is. c.end_with_fault.ensures.silent is)
     (λ is.
@@ -23,5 +24,6 @@ returns-in-Err g c =
     let answered : IsAnswered c.args.request input before after w.0 w.1 = (w.2, c.in-Err.ensures.reads (output_no_input fault is)) in
     (w.0, w.1, answered, w.3))
     (λ not. (c.in-Err.ensures.refused not).1) (λ not. (c.in-Err.ensures.refused not).0) (λ not. c.end_with_fault.ensures.told not) in
-    subst (λ (s : Status). Ends (IsAnswered c.args.request input before after) (IsRefused c.args.request input before after) ⊥ on_output on_faults (status_number s))
+    subst (λ (s : Status). Ends (IsAnswered c.args.request input before after) (IsRefused c.args.request input before after) ⊥ on_output
+    on_faults (status_number s))
     (sym c.end_with_fault.ensures.status) ends

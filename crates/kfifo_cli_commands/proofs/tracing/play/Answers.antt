@@ -10,7 +10,13 @@ returns-in_ok-finish-in-Some-clause-ok g c =
     let finished = c.in_ok-finish-in-Some.ensures.finished c.args.shape own (picks_of c.args.groups.now) fed in
     rw c.in-Some.is (
       picks_of c.args.groups.now ++ finished.0,
-      (finished.0, refl, subst (λ (scripts : List (List Begin)). c.in-Some.thread < length scripts) fed.stands.scripts_are c.in_ok-finish-in-Some.ensures.stopped, finished.1),
+      (
+        finished.0,
+        refl,
+        subst (λ (scripts : List (List Begin)). c.in-Some.thread < length scripts) fed.stands.scripts_are
+            c.in_ok-finish-in-Some.ensures.stopped,
+        finished.1,
+      ),
       finished.2,
     )
 

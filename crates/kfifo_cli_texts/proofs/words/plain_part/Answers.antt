@@ -5,5 +5,6 @@ use Rattle.kfifo_cli_texts.proofs.words.plain_part.Goals as goal
 
 pub returns-then-is_spaced : goal.returns-then-is_spaced
 returns-then-is_spaced c =
-    let trim : c.trim_ascii.result.now ≡ trimmed c.args.text.now = trim_is c.args.text.now c.trim_ascii.result.now c.trim_ascii.ensures.value in
+    let trim : c.trim_ascii.result.now ≡ trimmed c.args.text.now =
+    trim_is c.args.text.now c.trim_ascii.result.now c.trim_ascii.ensures.value in
     rw c.if-is_spaced.true trim

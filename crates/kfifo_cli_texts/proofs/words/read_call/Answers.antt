@@ -10,7 +10,8 @@ pub returns-in_err-item-in-Some : goal.returns-in_err-item-in-Some
 returns-in_err-item-in-Some c =
     let stripped = strip_prefix_char 101 c.in_ok-name.name.now c.strip_prefix.result c.strip_prefix.ensures.cases (omega arith) in
     let here = rw c.in-Some.is at stripped in
-    rw c.from_residual-in_err-item-in-Some.ensures (no_item c.args.k c.args.turns c.args.word.now c.in_ok-name.name.now c.in-Some.number.now c.in_ok-name.start
+    rw c.from_residual-in_err-item-in-Some.ensures
+    (no_item c.args.k c.args.turns c.args.word.now c.in_ok-name.name.now c.in-Some.number.now c.in_ok-name.start
     c.in_ok-name.ensures here c.in_err-item-in-Some.ensures)
 
 pub returns-in-None-2 : goal.returns-in-None-2

@@ -11,12 +11,15 @@ returns-in-None-clause-fault c = let none = rw c.in-None.is at c.in_ok-read.ensu
   record {
     inside = c.loop-index-test.true;
     unread = λ word script written. none script
-        (subst (λ w. WritesScript c.args.k c.args.turns w.now script) (get_or_default c.args.texts.now c.loop-index.index word _ c.loop-index-test.true) written);
+        (subst (λ w. WritesScript c.args.k c.args.turns w.now script)
+        (get_or_default c.args.texts.now c.loop-index.index word _ c.loop-index-test.true) written);
     before = (map (λ script. script.items) c.loop-index.scripts.items, c.loop-index.invariant);
   },
 )
 
 pub loop-index-preserved : goal.loop-index-preserved
-loop-index-preserved c = let read = rw c.in-Some.is at c.in_ok-read.ensures in rw (c.in_ok-push-in-Some.ensures.items, map_push (λ script. script.items) c.loop-index.scripts.items c.in-Some.script)
-    (read_more (WritesScript c.args.k c.args.turns) (λ t. t) c.args.texts.now c.loop-index.index _ (map (λ script. script.items) c.loop-index.scripts.items) c.in-Some.script.items
+loop-index-preserved c = let read = rw c.in-Some.is at c.in_ok-read.ensures in
+    rw (c.in_ok-push-in-Some.ensures.items, map_push (λ script. script.items) c.loop-index.scripts.items c.in-Some.script)
+    (read_more (WritesScript c.args.k c.args.turns) (λ t. t) c.args.texts.now c.loop-index.index _
+    (map (λ script. script.items) c.loop-index.scripts.items) c.in-Some.script.items
     c.loop-index-test.true c.loop-index.invariant read)

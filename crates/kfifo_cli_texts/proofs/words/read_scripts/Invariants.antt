@@ -5,4 +5,5 @@ use Rattle.kfifo_cli_texts.proofs.Each.{texts_by}
 use Rattle.kfifo_cli_texts.proofs.words.read_scripts.Given as goal
 
 abbrev pub invariant-loop-index : goal.invariant-loop-index
-invariant-loop-index l = EachWrites (WritesScript l.k l.turns) (texts_by (λ t. t) (take l.index l.texts)) (map (λ script. script.items) l.scripts.items)
+invariant-loop-index l = EachWrites (WritesScript l.k l.turns) (texts_by (λ t. t) (take l.index l.texts))
+    (map (λ script. script.items) l.scripts.items)

@@ -15,8 +15,12 @@ pub returns-in_ok-read_within-in-Some : goal.returns-in_ok-read_within-in-Some
 returns-in_ok-read_within-in-Some c =
     let parts = split_parts 58 c.args.word.now c.split_once.result c.split_once.ensures.cases (omega arith) in
     let here = rw c.in-Some.is at parts in
-    let start = c.in_ok-read_within-in-Some.ensures in
-    (58 ∷ c.in-Some.number.now, record { split = here.0; plain = here.1 }, inr (c.in-Some.number.now, refl, start.0), omega (arith, start.2))
+    let start = c.in_ok-read_within-in-Some.ensures in (
+      58 ∷ c.in-Some.number.now,
+      record { split = here.0; plain = here.1 },
+      inr (c.in-Some.number.now, refl, start.0),
+      omega (arith, start.2),
+    )
 
 pub returns-in-None : goal.returns-in-None
 returns-in-None c =

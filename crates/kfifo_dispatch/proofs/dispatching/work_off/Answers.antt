@@ -23,6 +23,8 @@ returns-clause-run g c =
       first_is = opened.own_is;
       gives = c.in_ok-returned.ensures.gives;
       lasts = map (λ b. b.pass) backs;
-      runs = subst (λ (ps : List (PayPassView Progress)). AreEach (λ (first last : PayPassView Progress). (kept : List ℕ) × PassRuns (g.G.Gate.passed c.args.gate.now) c.args.shape c.args.seed first last kept)
+      runs = subst (λ (ps : List (PayPassView Progress)).
+          AreEach (λ (first last : PayPassView Progress). (kept : List ℕ)
+          × PassRuns (g.G.Gate.passed c.args.gate.now) c.args.shape c.args.seed first last kept)
           ps (map (λ b. b.pass) backs)) opened.passes_are ran;
     })

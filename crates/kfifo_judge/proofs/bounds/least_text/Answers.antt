@@ -26,15 +26,18 @@ returns-then-names_no_k c =
       found = c.in-Some.found;
       first = λ k. for_each 64 k c.args.history.now c.in-Some.found named first;
       named = named;
-      refuted = λ k. first_refutes k c.args.history.now c.in-Some.found c.requires (for_each 64 k c.args.history.now c.in-Some.found named first);
+      refuted = λ k. first_refutes k c.args.history.now c.in-Some.found c.requires
+          (for_each 64 k c.args.history.now c.in-Some.found named first);
       told = search rules;
       ended = refl;
     })
 
 -- with no evidence that names no k, the bounds are the answer
-bounded : (logged : List LoggedCall) (h : List Call) (text : List ℕ) (found : Option Evidence) (b : Bounds) → MatchOption found (HasNoEvidence 64 h) (IsFirstEvidence 64 h)
+bounded : (logged : List LoggedCall) (h : List Call) (text : List ℕ) (found : Option Evidence) (b : Bounds)
+    → MatchOption found (HasNoEvidence 64 h) (IsFirstEvidence 64 h)
     → IfSome found (λ e. NamesNoK e → ⊥) → AreBounds h b → text ≡ bounds_text b → IsLeastAnswer logged h text Answered
-bounded logged h text None b none named are told = inr (record { put = none.0; taken_once = none.1; empty = none.2; bounds = b; are = are; told = told; ended = refl })
+bounded logged h text None b none named are told =
+    inr (record { put = none.0; taken_once = none.1; empty = none.2; bounds = b; are = are; told = told; ended = refl })
 bounded logged h text (Some (TooYoung get puts)) b first named are told =
     inr (record { put = first.0; taken_once = first.1; empty = first.2; bounds = b; are = are; told = told; ended = refl })
 bounded logged h text (Some (NeverPut get)) b first named are told = absurd (named tt)
@@ -47,4 +50,5 @@ returns c =
       | in-Some+else-names_no_k w ↦ rw w.in-Some.is (search rules)
       | in_default w ↦ search rules
     ] in
-    bounded c.args.logged.now c.args.history.now _ c.in_ok-found.found c.in_ok-least_k.field-0 c.in_ok-found.ensures.first named c.in_ok-least_k.ensures (search rules)
+    bounded c.args.logged.now c.args.history.now _ c.in_ok-found.found c.in_ok-least_k.field-0 c.in_ok-found.ensures.first named
+    c.in_ok-least_k.ensures (search rules)

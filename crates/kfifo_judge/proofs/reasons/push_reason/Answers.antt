@@ -11,12 +11,14 @@ returns-in-NeverPut c =
 
 pub returns-in-TakenTwice : goal.returns-in-TakenTwice
 returns-in-TakenTwice c =
-    let got : c.item_got-item-in-TakenTwice.result ≡ taken (does c.args.history.now c.in-TakenTwice.get) = c.item_got-item-in-TakenTwice.ensures in
+    let got : c.item_got-item-in-TakenTwice.result ≡ taken (does c.args.history.now c.in-TakenTwice.get) =
+    c.item_got-item-in-TakenTwice.ensures in
     rw (c.in-TakenTwice.is, ← got) c.write-in-TakenTwice.ensures.bytes
 
 pub returns-in_ok-write-in-NotEmpty : goal.returns-in_ok-write-in-NotEmpty
 returns-in_ok-write-in-NotEmpty c =
-    on_ok _ _ _ _ (rw (c.in_ok-write-in-NotEmpty.ensures.bytes, c.as_slice.ensures.value, c.in-NotEmpty.is) (simp append_assoc)) c.push_joined.ensures
+    on_ok _ _ _ _ (rw (c.in_ok-write-in-NotEmpty.ensures.bytes, c.as_slice.ensures.value, c.in-NotEmpty.is) (simp append_assoc))
+    c.push_joined.ensures
 
 pub returns-in_ok-write-in-TooYoung : goal.returns-in_ok-write-in-TooYoung
 returns-in_ok-write-in-TooYoung c =
@@ -24,5 +26,6 @@ returns-in_ok-write-in-TooYoung c =
     let got : item ≡ taken (does c.args.history.now c.in-TooYoung.get) = c.item_got-item-in-TooYoung.ensures in
     let puts : c.as_slice-puts.result.now ≡ c.in-TooYoung.puts.items = c.as_slice-puts.ensures.value in
     let wrote : string_bytes c.write-in-TooYoung.new.self ≡ string_bytes c.args.text.now ++ counted (codes "call ") c.in-TooYoung.get
-    (counted (codes " got item ") item (counted (codes ", while ") (length c.as_slice-puts.result.now) (codes " older items were there: calls "))) = c.in_ok-write-in-TooYoung.ensures.bytes in
+    (counted (codes " got item ") item (counted (codes ", while ") (length c.as_slice-puts.result.now)
+    (codes " older items were there: calls "))) = c.in_ok-write-in-TooYoung.ensures.bytes in
     rw (c.in-TooYoung.is, ← got, ← puts) (on_ok _ _ _ _ (rw wrote (simp append_assoc)) c.push_joined-in-TooYoung.ensures)

@@ -26,7 +26,8 @@ join_all-seat-requires-clause-of c =
 pub close_with-closed-requires : goal.close_with-closed-requires
 close_with-closed-requires c =
     let of = All-pop (IsPassOf c.args.queue) _ _ (Some c.in-Some.last) c.in-Some.ensures.items c.requires in
-    c.join_all-seat.ensures.table ∙ ap (λ (k : PassView). k.table) c.last.view_is ∙ of.1.0 ∙ sym (ap (λ (q : OpenQueue). q.table) c.queue.view_is)
+    c.join_all-seat.ensures.table ∙ ap (λ (k : PassView). k.table) c.last.view_is ∙ of.1.0
+    ∙ sym (ap (λ (q : OpenQueue). q.table) c.queue.view_is)
 
 pub returns-clause-ok : goal.returns-clause-ok
 returns-clause-ok c =
@@ -36,13 +37,16 @@ returns-clause-ok c =
     (c.queue.invariant.0 ∙ ap (λ (q : OpenQueue). q.opened) c.queue.view_is)
     c.in-Some.ensures.items
     c.join_all-seat.ensures.all
-    (λ all b. pass_begins _ c.last.inside.seat.me c.in-Some.last all c.last.invariant (sym (ap (λ (k : PassView). k.thread) c.last.view_is)) (sym (ap (λ (k : PassView). k.seen) c.last.view_is)) b)
+    (λ all b. pass_begins _ c.last.inside.seat.me c.in-Some.last all c.last.invariant (sym (ap (λ (k : PassView). k.thread) c.last.view_is))
+    (sym (ap (λ (k : PassView). k.seen) c.last.view_is)) b)
     few
-    (c.in_ok-items.ensures ∙ ap (items_left c.queue.inside.shape) (c.as_slice-2.ensures.value ∙ c.in_ok-words.ensures) ∙ ap (λ (q : OpenQueue). items_left q.opened.shape (slots_items c.close_with-closed.result.words)) c.queue.view_is)
+    (c.in_ok-items.ensures ∙ ap (items_left c.queue.inside.shape) (c.as_slice-2.ensures.value ∙ c.in_ok-words.ensures)
+    ∙ ap (λ (q : OpenQueue). items_left q.opened.shape (slots_items c.close_with-closed.result.words)) c.queue.view_is)
     c.close_with-closed.ensures.values.2
 
 pub read_items-requires-clause-head : goal.read_items-requires-clause-head
 read_items-requires-clause-head c =
     let words = c.as_slice-2.ensures.value ∙ c.in_ok-words.ensures in
     let P : List ℕ × ℕ → Type 0 = λ x. head_of (get_or x.0 0 0) < x.1 in
-    subst P (λ i. (sym words i, ap (λ (o : Opening). o.shape.n) c.queue.invariant.0 i)) (final_head _ _ _ _ _ c.close_with-closed.ensures.values.2)
+    subst P (λ i. (sym words i, ap (λ (o : Opening). o.shape.n) c.queue.invariant.0 i))
+    (final_head _ _ _ _ _ c.close_with-closed.ensures.values.2)

@@ -8,7 +8,8 @@ use Rattle.kfifo_live.proofs.closing.join_all.Goals as goal
 
 pub gather-requires-clause-other : goal.gather-requires-clause-other
 gather-requires-clause-other c =
-    let of = All-pop (IsPassOf (queue_of c.args.seat.table_id c.args.seat.me.0.opened)) _ _ (Some c.in-Some.pass) c.in-Some.ensures.items c.loop-pass.invariant.all_of in
+    let of = All-pop (IsPassOf (queue_of c.args.seat.table_id c.args.seat.me.0.opened)) _ _ (Some c.in-Some.pass) c.in-Some.ensures.items
+    c.loop-pass.invariant.all_of in
     (ap (λ (k : PassView). k.table) c.pass.view_is ∙ of.1.0 ∙ c.requires.table.0, c.pass.invariant.held)
 
 pub loop-pass-preserved : goal.loop-pass-preserved
@@ -22,6 +23,7 @@ loop-pass-preserved c =
       all_of = of.0;
       covers = λ all b s.
           let parts = all_begin_parts _ _ all (subst (λ (ps : List (Part (Unit {0}))). AllBegin ps all) (ap (λ v. v.parts) both) b) in
-          let begins = pass_begins _ c.pass.inside.seat.me c.in-Some.pass all c.pass.invariant (sym (ap (λ (k : PassView). k.thread) c.pass.view_is)) (sym (ap (λ (k : PassView). k.seen) c.pass.view_is)) parts.1 in
+          let begins = pass_begins _ c.pass.inside.seat.me c.in-Some.pass all c.pass.invariant
+          (sym (ap (λ (k : PassView). k.thread) c.pass.view_is)) (sym (ap (λ (k : PassView). k.seen) c.pass.view_is)) parts.1 in
           i.covers all parts.0 (subst (λ (ps : List PassView). AllSeen ps all) (sym items) (all_seen_push _ _ all s begins));
     }

@@ -6,10 +6,12 @@ use Rattle.kfifo_cli.proofs.commands.draw.command.Goals as goal
 
 pub returns : goal.returns
 returns c =
-    let taken = text_rule c.option.result c.value_name.result (codes "order") _ (c.option.ensures.rule, c.option.ensures.own) c.value_name.ensures in
+    let taken = text_rule c.option.result c.value_name.result (codes "order") _ (c.option.ensures.rule, c.option.ensures.own)
+    c.value_name.ensures in
     let order = help_rule c.value_name.result c.help-order.result _ _ taken c.help-order.ensures in
     let text = help_rule c.flag.result c.help-text.result _ _ (c.flag.ensures.rule, c.flag.ensures.own) c.help-text.ensures in
-    let bare = bare_command c.new.result c.about.result c.after_help.result c.after_long_help-command.result (codes "draw") _ _ _ c.new.ensures.app c.new.ensures.local
+    let bare = bare_command c.new.result c.about.result c.after_help.result c.after_long_help-command.result (codes "draw") _ _ _
+    c.new.ensures.app c.new.ensures.local
     c.about.ensures c.after_help.ensures c.after_long_help-command.ensures in
     let placed = c.in_ok-with_places.ensures.0 ∙ ap (with_places (codes "1")) bare.0 in
     let one = adds _ c.in_ok-arg.field-0 c.help-order.result _ _ placed order c.in_ok-arg.ensures in

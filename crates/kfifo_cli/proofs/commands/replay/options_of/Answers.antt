@@ -11,7 +11,8 @@ pub returns : goal.returns
 returns c = record {
   sizes = c.sizes_of.ensures;
   turns = c.turns_of.ensures.given;
-  picks = ap (λ (t : Bor (List ℕ)). t.now) c.unwrap_or-picks.ensures ∙ (text_or c.get_str-given.result _ ∙ ap (λ (t : Option (List ℕ)). unwrap_or t (codes "none")) c.get_str-given.ensures);
+  picks = ap (λ (t : Bor (List ℕ)). t.now) c.unwrap_or-picks.ensures
+      ∙ (text_or c.get_str-given.result _ ∙ ap (λ (t : Option (List ℕ)). unwrap_or t (codes "none")) c.get_str-given.ensures);
   stopped = given 32 _ c.get_one.result c.get_one.ensures.none c.get_one.ensures.value;
   points = (c.get_flag.ensures.none, c.get_flag.ensures.value, c.get_flag.ensures.other);
   traced = (c.get_flag-2.ensures.none, c.get_flag-2.ensures.value, c.get_flag-2.ensures.other);

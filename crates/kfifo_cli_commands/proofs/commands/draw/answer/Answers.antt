@@ -3,7 +3,8 @@ use Rattle.kfifo_cli_texts.specs.declared.fault.Fault.TheVariants.{Output}
 use Rattle.kfifo_cli_texts.proofs.Outcomes.{ok_to}
 use Rattle.kfifo_cli_commands.specs.Pictures.{IsDrawRefusal}
 use Rattle.kfifo_cli_commands.specs.Records.{IsInput}
-use Rattle.kfifo_cli_commands.proofs.Drawing.{cut_refused, err_of, input_refused, ok_of, order_refused, picture_refused, read_well, refusal_told, told}
+use Rattle.kfifo_cli_commands.proofs.Drawing.{cut_refused, err_of, input_refused, ok_of, order_refused, picture_refused, read_well}
+use Rattle.kfifo_cli_commands.proofs.Drawing.{refusal_told, told}
 use Rattle.kfifo_cli_commands.proofs.Refusals.{err_to}
 use Rattle.kfifo_cli_commands.proofs.commands.draw.answer.Goals as goal
 
@@ -19,7 +20,8 @@ returns-in_err-cut-clause-silent g c =
     let at = g.S.Source.failed c.args.input.now in
     let refusal : IsDrawRefusal c.args.options (g.S.Source.remaining c.args.input.now) at at c.in_err-cut.field-0.0 =
     cut_refused (g.S.Source.remaining c.args.input.now) at at c.args.options c.in_err-cut.field-0.0 c.in_err-cut.ensures in
-    let told : c.in_err-cut.field-0.0 ≢ Output = refusal_told (g.S.Source.remaining c.args.input.now) at at c.args.options c.in_err-cut.field-0.0 refusal in
+    let told : c.in_err-cut.field-0.0 ≢ Output =
+    refusal_told (g.S.Source.remaining c.args.input.now) at at c.args.options c.in_err-cut.field-0.0 refusal in
     search (rules, told)
 
 pub returns-in_err-order-clause-err : goal.returns-in_err-order-clause-err
@@ -55,7 +57,8 @@ pub returns-clause-err : goal.returns-clause-err
 returns-clause-err g c =
     let input = g.S.Source.remaining c.args.input.now in
     let read = subst (λ (b : List ℕ). IsInput input b) (sym c.as_slice.ensures.value) c.in_ok-bytes.ensures.ok in
-    err_to _ _ (λ fault given. picture_refused input _ _ c.args.options c.in_ok-cut.cut c.in_ok-cut.ensures c.as_slice.result.now read fault given)
+    err_to _ _ (λ fault given. picture_refused input _ _ c.args.options c.in_ok-cut.cut c.in_ok-cut.ensures c.as_slice.result.now read fault
+    given)
     c.picture.result (err_of _ _ c.picture.result c.picture.ensures)
 
 pub returns-clause-silent : goal.returns-clause-silent
@@ -63,7 +66,9 @@ returns-clause-silent g c =
     let input = g.S.Source.remaining c.args.input.now in
     let at = g.S.Source.failed c.args.input.now in
     let read = subst (λ (b : List ℕ). IsInput input b) (sym c.as_slice.ensures.value) c.in_ok-bytes.ensures.ok in
-    told input at at c.args.options c.picture.result (err_to _ _ (λ fault given. picture_refused input at at c.args.options c.in_ok-cut.cut c.in_ok-cut.ensures c.as_slice.result.now read fault given)
+    told input at at c.args.options c.picture.result
+    (err_to _ _ (λ fault given. picture_refused input at at c.args.options c.in_ok-cut.cut c.in_ok-cut.ensures c.as_slice.result.now
+    read fault given)
     c.picture.result (err_of _ _ c.picture.result c.picture.ensures))
 
 pub returns-clause-reads : goal.returns-clause-reads

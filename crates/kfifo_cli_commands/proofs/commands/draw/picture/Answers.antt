@@ -20,7 +20,9 @@ returns-in_err-picture_of c =
       logged = Some c.in-Some.logged.items;
       calls = calls;
       lines = λ _. refl;
-      number = subst (λ (l : List LoggedCall). IsPictureOf AreMany k asked c.args.cut history l) c.as_slice.ensures.value (c.in_err-picture_of.ensures is);
+      number = subst (λ (l : List LoggedCall). IsPictureOf AreMany k asked c.args.cut history l) c.as_slice.ensures.value
+          (c.in_err-picture_of.ensures is);
     } in
-    let refused : IsNoPicture k asked c.args.cut c.args.bytes.now (picture_fault fault) = no_drawing k asked c.args.cut c.args.bytes.now fault many in
+    let refused : IsNoPicture k asked c.args.cut c.args.bytes.now (picture_fault fault) =
+    no_drawing k asked c.args.cut c.args.bytes.now fault many in
     search (rules, refused)

@@ -13,9 +13,11 @@ pub returns : goal.returns
 returns c =
     let found = c.in-Some.found in
     let part = c.part_of-part-2.result in
-    let sought : IsSought true c.args.k c.args.history.now (Some found) = subst (λ (o : Option Evidence). IsSought true c.args.k c.args.history.now o)
+    let sought : IsSought true c.args.k c.args.history.now (Some found) =
+    subst (λ (o : Option Evidence). IsSought true c.args.k c.args.history.now o)
     c.in-Some.is c.in_ok-found.ensures.first in
     let cut_to : IsPartOf (Some (named_by found)) c.args.cut part = subst (λ (calls : List ℕ). IsPartOf (Some calls) c.args.cut part)
     (c.as_slice-2.ensures.value ∙ c.in_ok-named.ensures) c.part_of-part-2.ensures in
     match_to _ _ _ _ (λ x few. record { found = Some found; sought = sought; part = part; cut_to = cut_to; drawn = few })
-    (λ fault h is. record { found = Some found; sought = sought; part = part; cut_to = cut_to; drawn = h is }) c.marked-2.result c.marked-2.ensures
+    (λ fault h is. record { found = Some found; sought = sought; part = part; cut_to = cut_to; drawn = h is }) c.marked-2.result
+    c.marked-2.ensures

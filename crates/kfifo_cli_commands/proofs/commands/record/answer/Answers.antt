@@ -11,14 +11,16 @@ use Rattle.kfifo_cli_commands.proofs.commands.record.answer.Goals as goal
 pub returns-in_err-once-clause-err : goal.returns-in_err-once-clause-err
 returns-in_err-once-clause-err g c =
     let refusal : IsRealRunRefusal c.args.options c.in_err-once.field-0.0 =
-    unread_refused c.args.options c.in_ok-shape.shape c.in_ok-shape.ensures.ok c.k.result c.k.ensures c.in_err-once.field-0.0 c.in_err-once.ensures.fault in
+    unread_refused c.args.options c.in_ok-shape.shape c.in_ok-shape.ensures.ok c.k.result c.k.ensures c.in_err-once.field-0.0
+    c.in_err-once.ensures.fault in
     search (rules, refusal)
 
 pub returns-in_err-scripts-clause-err : goal.returns-in_err-scripts-clause-err
 returns-in_err-scripts-clause-err g c =
     let own = scripts_in c.in_ok-once.once.items in
     let refusal : IsRealRunRefusal c.args.options c.in_err-scripts.field-0.0 =
-    over_refused c.args.options c.in_ok-shape.shape c.in_ok-shape.ensures.ok c.k.result c.k.ensures own c.in_ok-once.ensures.scripts c.in_err-scripts.field-0.0
+    over_refused c.args.options c.in_ok-shape.shape c.in_ok-shape.ensures.ok c.k.result c.k.ensures own c.in_ok-once.ensures.scripts
+    c.in_err-scripts.field-0.0
     (rw (← c.as_slice.ensures.value) c.in_err-scripts.ensures.err) in
     search (rules, refusal)
 
@@ -26,8 +28,10 @@ pub record_scripts-requires-after_bounds : goal.record_scripts-requires-after_bo
 record_scripts-requires-after_bounds g c κs within =
     let own = scripts_in c.in_ok-once.once.items in
     let shape = c.in_ok-shape.shape in
-    let all : AreScripts shape own = are_scripts c.args.options shape c.in_ok-shape.ensures.ok c.k.result c.k.ensures own c.in_ok-once.ensures.scripts c.args.options.some_turns in
-    let once : AreScripts shape (scripts_in c.as_slice.result.now) = subst (λ s. AreScripts shape (scripts_in s)) (sym c.as_slice.ensures.value) all in
+    let all : AreScripts shape own = are_scripts c.args.options shape c.in_ok-shape.ensures.ok c.k.result c.k.ensures own
+    c.in_ok-once.ensures.scripts c.args.options.some_turns in
+    let once : AreScripts shape (scripts_in c.as_slice.result.now) =
+    subst (λ s. AreScripts shape (scripts_in s)) (sym c.as_slice.ensures.value) all in
     subst (λ s. AreScripts shape (scripts_in s)) (sym c.as_slice-2.ensures.value) (c.in_ok-scripts.ensures.range shape once)
 
 pub returns-in_err-history-clause-err : goal.returns-in_err-history-clause-err
@@ -36,7 +40,8 @@ returns-in_err-history-clause-err g c =
     let made = c.as_slice-2.result.now in
     let count = c.args.options.repeat in
     let same : scripts_in made ≡ all_repeated count own =
-    ap (λ s. scripts_in s) c.as_slice-2.ensures.value ∙ c.in_ok-scripts.ensures.ok ∙ ap (λ s. all_repeated count (scripts_in s)) c.as_slice.ensures.value in
+    ap (λ s. scripts_in s) c.as_slice-2.ensures.value ∙ c.in_ok-scripts.ensures.ok
+    ∙ ap (λ s. all_repeated count (scripts_in s)) c.as_slice.ensures.value in
     let long : length made ≡ length (scripts_in made) = sym (length-map made (λ s. s.items)) in
     let fault = c.in_err-history.field-0.0 in
     let queue : IsQueueFault (scripts_in made) fault = queue_fault (scripts_in made) fault
@@ -53,7 +58,8 @@ returns-clause-ok g c =
     let own = scripts_in c.in_ok-once.once.items in
     let count = c.args.options.repeat in
     let same : scripts_in c.as_slice-2.result.now ≡ all_repeated count own =
-    ap (λ s. scripts_in s) c.as_slice-2.ensures.value ∙ c.in_ok-scripts.ensures.ok ∙ ap (λ s. all_repeated count (scripts_in s)) c.as_slice.ensures.value in
+    ap (λ s. scripts_in s) c.as_slice-2.ensures.value ∙ c.in_ok-scripts.ensures.ok
+    ∙ ap (λ s. all_repeated count (scripts_in s)) c.as_slice.ensures.value in
     record {
       shape = c.in_ok-shape.shape;
       scripts = own;

@@ -5,4 +5,5 @@ use Rattle.kfifo_cli_commands.proofs.commands.record.repeat.Goals as goal
 
 pub returns-in_ok-made-in-None-clause-range : goal.returns-in_ok-made-in-None-clause-range
 returns-in_ok-made-in-None-clause-range c = λ shape all.
-    subst (AreScripts shape) (sym c.in_ok-made-in-None.ensures) (repeated_in_range shape c.args.count (scripts_in c.args.scripts.now) all c.in-None.ensures)
+    subst (AreScripts shape) (sym c.in_ok-made-in-None.ensures)
+    (repeated_in_range shape c.args.count (scripts_in c.args.scripts.now) all c.in-None.ensures)

@@ -36,5 +36,6 @@ returns-in_ok-replay-clause-ok g c =
     ok_to _ _ (λ text told. (
       played.0,
       played.1,
-      plain_text o.points o.stopped c.args.shape own played.0 (string_bytes text) o.record o.trace none (told c.args.shape own played.0 played.2),
+      plain_text o.points o.stopped c.args.shape own played.0 (string_bytes text) o.record o.trace none
+          (told c.args.shape own played.0 played.2),
     )) c.text_of-else-is_traced.result c.text_of-else-is_traced.ensures.ok

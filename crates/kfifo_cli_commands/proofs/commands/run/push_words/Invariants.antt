@@ -8,5 +8,6 @@ abbrev pub invariant-loop-segment : goal.invariant-loop-segment
 invariant-loop-segment l = record {
   same : l.pass ≡ l.fn.pass;
   lines : (world : World) → after l.queue.opened.shape 1 l.fn.pass.seen ≡ Some world
-      → string_bytes l.text ≡ string_bytes l.fn.text ++ (ends_lines (word_at world 0) ++ segment_lines l.queue.opened.shape.k world l.segment);
+      → string_bytes l.text ≡ string_bytes l.fn.text
+      ++ (ends_lines (word_at world 0) ++ segment_lines l.queue.opened.shape.k world l.segment);
 }

@@ -17,7 +17,8 @@ returns-then-not-write_number g c =
     let b = c.write.new.self in
     let d = c.write_number.new.self in
     rw (← c.as_bytes.ensures.value)
-    (second_breaks C a b d c.as_bytes.result.now _ _ (it_wrote C c.write.result a b _ (search rules) c.write.ensures) (it_broke C c.write_number.result b d _ (search rules) c.write_number.ensures))
+    (second_breaks C a b d c.as_bytes.result.now _ _ (it_wrote C c.write.result a b _ (search rules) c.write.ensures)
+    (it_broke C c.write_number.result b d _ (search rules) c.write_number.ensures))
 
 pub returns : goal.returns
 returns g c =
@@ -27,4 +28,5 @@ returns g c =
     let d = c.write_number.new.self in
     let e = c.write_number-2.new.self in
     rw (← c.as_bytes.ensures.value)
-    (third C c.write_number-2.result a b d e c.as_bytes.result.now _ _ (it_wrote C c.write.result a b _ (search rules) c.write.ensures) (it_wrote C c.write_number.result b d _ (search rules) c.write_number.ensures) c.write_number-2.ensures)
+    (third C c.write_number-2.result a b d e c.as_bytes.result.now _ _ (it_wrote C c.write.result a b _ (search rules) c.write.ensures)
+    (it_wrote C c.write_number.result b d _ (search rules) c.write_number.ensures) c.write_number-2.ensures)

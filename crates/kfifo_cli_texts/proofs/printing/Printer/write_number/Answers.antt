@@ -17,4 +17,5 @@ returns g c =
     let b = c.write.new.self in
     let d = c.write-2.new.self in
     rw (c.in-Some.is, ← c.as_bytes.ensures.value, ← c.format-text.ensures.text, ← c.as_bytes-2.ensures.value)
-    (second_of_two C c.write-2.result a b d c.as_bytes.result.now c.as_bytes-2.result.now (it_wrote C c.write.result a b _ (search rules) c.write.ensures) c.write-2.ensures)
+    (second_of_two C c.write-2.result a b d c.as_bytes.result.now c.as_bytes-2.result.now
+    (it_wrote C c.write.result a b _ (search rules) c.write.ensures) c.write-2.ensures)

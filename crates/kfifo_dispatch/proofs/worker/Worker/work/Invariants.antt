@@ -10,6 +10,7 @@ invariant-loop-call g l = record {
   may : MayWork l.queue (g.P.Station.known l.self.pass) l.self.starts l.self.turns;
   same : IsSamePass (g.P.Station.known l.fn.self.pass) (g.P.Station.known l.self.pass);
   turns : l.self.turns ≡ l.fn.self.turns;
-  ends : Ends (g.P.Station.passes l.gate) g.P.Station.takes g.P.Station.gives l.fn.self.turns 65536 l.fn.self.pass l.fn.self.starts l.call l.self.pass l.self.starts
+  ends : Ends (g.P.Station.passes l.gate) g.P.Station.takes g.P.Station.gives l.fn.self.turns 65536 l.fn.self.pass l.fn.self.starts l.call
+      l.self.pass l.self.starts
       (map (λ (d : Progress). d.place) l.kept.items);
 }

@@ -12,4 +12,5 @@ pub undo-requires : goal.undo-requires
 undo-requires g c = goes_to c.requires c.compare_exchange-found.ensures (grind (arith, nat_tests))
 
 pub returns : goal.returns
-returns g c = comes_by (enqueue_at c.args.self (P.Undo c.args.index c.args.filled false)) c.requires c.compare_exchange-found.ensures (grind (arith, nat_tests)) c.undo.ensures
+returns g c = comes_by (enqueue_at c.args.self (P.Undo c.args.index c.args.filled false)) c.requires c.compare_exchange-found.ensures
+    (grind (arith, nat_tests)) c.undo.ensures

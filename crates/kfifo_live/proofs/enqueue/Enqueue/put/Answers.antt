@@ -12,4 +12,5 @@ pub see_put-requires : goal.see_put-requires
 see_put-requires g c = goes_to c.requires c.compare_exchange.ensures (grind (arith, nat_tests))
 
 pub returns : goal.returns
-returns g c = comes_by (enqueue_at c.args.self (P.ReloadSlot c.args.ends c.args.index c.pack-filled.result)) c.requires c.compare_exchange.ensures (grind (arith, nat_tests)) c.see_put.ensures
+returns g c = comes_by (enqueue_at c.args.self (P.ReloadSlot c.args.ends c.args.index c.pack-filled.result)) c.requires
+    c.compare_exchange.ensures (grind (arith, nat_tests)) c.see_put.ensures

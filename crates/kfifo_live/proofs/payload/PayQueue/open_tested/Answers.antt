@@ -8,4 +8,5 @@ pub returns-clause-zeroed : goal.returns-clause-zeroed
 returns-clause-zeroed g c = zeroed c.in_ok-opened.opened.0.opened
 
 pub returns-clause-of : goal.returns-clause-of
-returns-clause-of g c = subst (All (λ p. IsPassOf c.in_ok-opened.opened.0 p.pass)) (sym c.in_ok-opened.ensures.1) (pay_passes_of_new c.in_ok-opened.opened.0 0 c.args.threads)
+returns-clause-of g c = subst (All (λ p. IsPassOf c.in_ok-opened.opened.0 p.pass)) (sym c.in_ok-opened.ensures.1)
+    (pay_passes_of_new c.in_ok-opened.opened.0 0 c.args.threads)

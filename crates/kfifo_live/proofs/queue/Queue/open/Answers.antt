@@ -18,4 +18,5 @@ pub returns-clause-zeroed : goal.returns-clause-zeroed
 returns-clause-zeroed c = zeroed c.in_ok-opened.opened.0.opened
 
 pub returns-clause-of : goal.returns-clause-of
-returns-clause-of c = subst (All (IsPassOf c.in_ok-opened.opened.0)) (sym c.in_ok-opened.ensures.1) (passes_of_new c.in_ok-opened.opened.0 0 c.args.threads)
+returns-clause-of c = subst (All (IsPassOf c.in_ok-opened.opened.0)) (sym c.in_ok-opened.ensures.1)
+    (passes_of_new c.in_ok-opened.opened.0 0 c.args.threads)
