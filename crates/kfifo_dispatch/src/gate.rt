@@ -1,4 +1,4 @@
-//! What workers pass and tell.
+//! What workers pass before their calls, and tell of their work.
 ghost use Rattle.std.specs.Prelude.{ℕ};
 
 /// What each worker passes before each of its calls to take a task, and tells of each unit of work. The workers share
@@ -13,7 +13,7 @@ pub trait Gate {
     // This worker has told of a unit of work on the task of this number.
     ghost told: { Self → ℕ → ℕ → Type 0 } = { λ _ _ _. Unit {0} };
 
-    /// This worker, from 1, is about to make this call, from 1, to take a task.
+    /// This worker is about to make this call, from 1. The workers of a dispatch are numbered from 1.
     fn pass(&self, worker: u32, call: u32)
         ensures { passed self.now worker call };
 

@@ -6,7 +6,7 @@ ghost use Rattle.kfifo_live.specs.Pass.{IsPassOf};
 ghost use Rattle.kfifo_record.specs.Scripts.{AreScripts, EachMakes, IsCall, IsOpenFor, IsRecord, MakesInTurn, MakesOne};
 ghost use Rattle.kfifo_record.specs.Scripts.{MayRun, longest, script_of, scripts_in};
 
-use crate::gate::Gate;
+use kfifo_dispatch::Gate;
 use kfifo_live::{GatherFault, OpenFault, StampPass, StampQueue, gather};
 use kfifo_machine::Begin;
 use kfifo_model::History;

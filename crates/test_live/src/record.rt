@@ -164,6 +164,8 @@ impl Gate for Meeting {
         }
         self.gave_up.fetch_add(1, Ordering::SeqCst);
     }
+
+    fn unit(&self, _worker: u32, _id: u32) {}
 }
 
 #[test]
@@ -204,6 +206,8 @@ impl Gate for Count {
             self.astray.fetch_add(1, Ordering::SeqCst);
         }
     }
+
+    fn unit(&self, _worker: u32, _id: u32) {}
 }
 
 #[test]
@@ -297,6 +301,8 @@ impl Gate for Start {
             yield_now();
         }
     }
+
+    fn unit(&self, _worker: u32, _id: u32) {}
 }
 
 /// A record of drawn scripts whose workers begin together.
