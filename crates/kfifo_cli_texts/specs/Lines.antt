@@ -1,17 +1,14 @@
 -- The lines that are printed for calls and for words of the table.
 use Rattle.std.specs.Prelude.{ℕ, List, [], ◌∷◌, ◌++◌, codes, decimal}
 use Rattle.kfifo_model.specs.declared.calls.Answer.{Answer}
-use Rattle.kfifo_model.specs.declared.calls.Answer.TheVariants.{Done, Full, Got, Empty, Busy, Worn}
+use Rattle.kfifo_model.specs.declared.calls.Answer.TheVariants.{Got}
+use Rattle.kfifo_model.specs.Words.{answer_word}
 use Rattle.kfifo_words.specs.Words.{value_of, version_of, head_of, tail_of}
 
--- an answer as it is printed
+-- an answer as it is printed: its word, and behind it the item that it gives
 abbrev pub answer_text : Answer → List ℕ
-answer_text Done = codes "done"
-answer_text Full = codes "full"
-answer_text (Got item) = codes "got " ++ decimal item
-answer_text Empty = codes "empty"
-answer_text Busy = codes "busy"
-answer_text Worn = codes "worn"
+answer_text (Got item) = answer_word (Got item) ++ (codes " " ++ decimal item)
+answer_text answer = answer_word answer
 
 -- a text with a line feed behind it
 abbrev pub line : List ℕ → List ℕ

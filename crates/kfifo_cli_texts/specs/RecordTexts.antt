@@ -9,18 +9,7 @@ use Rattle.kfifo_model.specs.declared.calls.Call.{Call}
 use Rattle.kfifo_model.specs.declared.calls.End.{End}
 use Rattle.kfifo_model.specs.declared.calls.Op.{Op}
 use Rattle.kfifo_model.specs.declared.calls.Op.TheVariants.{Enqueue, Dequeue}
-
-abbrev pub op_word : Op → List ℕ
-op_word (Enqueue item) = codes "enq"
-op_word Dequeue = codes "deq"
-
-abbrev pub answer_word : Answer → List ℕ
-answer_word Done = codes "done"
-answer_word Full = codes "full"
-answer_word (Got item) = codes "got"
-answer_word Empty = codes "empty"
-answer_word Busy = codes "busy"
-answer_word Worn = codes "worn"
+use Rattle.kfifo_model.specs.Words.{answer_word, op_word}
 
 -- the item that an answer gives
 abbrev pub item_got : Answer → Option ℕ

@@ -47,15 +47,15 @@ fn record_value(alloc: Global, calls: &[Call]) -> Result<Value, AllocError>
 fn call_value(alloc: Global, call: &Call) -> Result<Value, AllocError>
     ensures { IfOk result (λ value. view value ≡ words.call_value call.now) }
 {
-    let op = op_word(call.op);
+    let op = call.op.word();
     let (first, thread) = (call.first, call.thread);
     match (call.end, item_of(call)) {
         (Some(end), Some(item)) => json!(in alloc; {
-            "answer": answer_word(end.answer), "first": first, "item": item, "last": end.last, "op": op,
+            "answer": end.answer.word(), "first": first, "item": item, "last": end.last, "op": op,
                 "thread": thread
         }),
         (Some(end), None) => json!(in alloc; {
-            "answer": answer_word(end.answer), "first": first, "last": end.last, "op": op, "thread": thread
+            "answer": end.answer.word(), "first": first, "last": end.last, "op": op, "thread": thread
         }),
         (None, Some(item)) => {
             json!(in alloc; {"first": first, "item": item, "op": op, "thread": thread})
@@ -80,29 +80,5 @@ fn item_of(call: &Call) -> Option<u32>
             ),
         ) => Some(item),
         _ => None,
-    }
-}
-
-/// The word of an operation.
-fn op_word(op: Op) -> &'static str
-    ensures { result.now ≡ words.op_word op }
-{
-    match op {
-        Op::Enqueue(_) => "enq",
-        Op::Dequeue => "deq",
-    }
-}
-
-/// The word of an answer.
-fn answer_word(answer: Answer) -> &'static str
-    ensures { result.now ≡ words.answer_word answer }
-{
-    match answer {
-        Answer::Done => "done",
-        Answer::Full => "full",
-        Answer::Got(_) => "got",
-        Answer::Empty => "empty",
-        Answer::Busy => "busy",
-        Answer::Worn => "worn",
     }
 }

@@ -16,13 +16,10 @@ impl fmt::Display for Shown {
     ghost output = { λ shown. Some (answer_text shown.0) };
 
     fn fmt<W: fmt::Write>(&self, f: &mut fmt::Formatter<W>) -> fmt::Result {
+        let word = self.0.word();
         match self.0 {
-            Answer::Done => write!(f, "done"),
-            Answer::Full => write!(f, "full"),
-            Answer::Got(item) => write!(f, "got {item}"),
-            Answer::Empty => write!(f, "empty"),
-            Answer::Busy => write!(f, "busy"),
-            Answer::Worn => write!(f, "worn"),
+            Answer::Got(item) => write!(f, "{word} {item}"),
+            _ => write!(f, "{word}"),
         }
     }
 }

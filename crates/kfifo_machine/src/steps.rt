@@ -192,11 +192,14 @@ impl EnqueueRound {
         ensures { result ≡ enqueue_advance shape.now self.item self.start self.left (EnqueuePhase.Recheck ends found)
             now }
     {
+        // The segment may no longer be the tail's. An item put there would stand behind items that came later, and be
+        // overtaken by them.
         if now != ends {
             return self.again();
         }
         match found {
             Found::Slot { index, word } => {
+                // A put needs a version, and the undo that may follow it another.
                 if shape.last() < word.version() + 2 {
                     Next::Answers(Answer::Worn)
                 } else {
@@ -226,6 +229,8 @@ impl EnqueueRound {
         ensures { result ≡ enqueue_advance shape.now self.item self.start self.left
             (EnqueuePhase.ReloadEnds ends index filled) now }
     {
+        // Since the ends were first loaded, others may have filled and emptied the segment, and the head have moved past
+        // it. Done would then leave the item behind the head, where no dequeue finds it.
         let segment = ends.tail();
         let head = now.head();
         if segment == head && now.version() == shape.last() {
@@ -235,6 +240,8 @@ impl EnqueueRound {
                 worn: true,
             })
         } else if segment == head {
+            // A dequeue may have seen this slot empty and be about to move the head past the item. The greater version
+            // makes its compare-and-swap fail.
             self.goes(EnqueuePhase::HoldHead {
                 index,
                 filled,
@@ -278,6 +285,7 @@ impl EnqueueRound {
         ensures { result ≡ enqueue_advance shape.now self.item self.start self.left
             (EnqueuePhase.Undo index filled worn) word }
     {
+        // Another word than the item's own: a dequeue has taken the item, so the enqueue has taken place.
         if word != filled {
             Next::Answers(Answer::Done)
         } else if worn {
@@ -296,6 +304,8 @@ impl EnqueueRound {
             word }
     {
         if word == empty {
+            // The version never falls. With the empty slot's old version an enqueue that read it long ago could still
+            // put its item, in a segment that is no longer the tail's (ABA).
             let filled = Word::pack(self.item, empty.version() + 1);
             self.goes(EnqueuePhase::ReloadSlot {
                 ends,
@@ -352,6 +362,8 @@ impl EnqueueRound {
         ensures { result ≡ enqueue_advance shape.now self.item self.start self.left (EnqueuePhase.ConfirmFull ends)
             now }
     {
+        // The slots were loaded one after the other. They were the tail's and the head's segment, full and not empty, in
+        // one round only if neither end has moved.
         if now == ends {
             Next::Answers(Answer::Full)
         } else {
@@ -400,6 +412,8 @@ impl EnqueueRound {
             } => self.undone(filled, worn, index, word, shape),
             Phase::ScanHead { ends, offset } => self.head_scanned(shape, ends, offset, word),
             Phase::ConfirmFull { ends } => self.full_confirmed(shape, ends, now),
+            // Won or lost, the round ends. Moving the tail too, after a lost move of the head, would let the tail meet the
+            // head: a full ring would look empty.
             Phase::MoveHead { .. } | Phase::MoveTail { .. } => self.again(),
         }
     }
@@ -468,6 +482,8 @@ impl DequeueRound {
         requires left { 0 < self.left }
         ensures { result ≡ dequeue_advance shape.now self.start self.left (DequeuePhase.Recheck ends found) now }
     {
+        // The segment may no longer be the head's: the item would not be one of the k oldest, and an item may have come
+        // into a slot after it was seen empty.
         if now != ends {
             return self.again();
         }
@@ -484,6 +500,8 @@ impl DequeueRound {
                 } else if worn {
                     Next::Answers(Answer::Worn)
                 } else {
+                    // While enqueues still fill the head's segment, more than k items could go through it and overtake
+                    // one that stays. So the tail leaves it before an item is taken.
                     self.goes(DequeuePhase::MoveTail {
                         ends,
                         index,

@@ -25,6 +25,7 @@ use Rattle.kfifo_model.specs.declared.reading.Flaw.{Flaw}
 use Rattle.kfifo_model.specs.declared.reading.Flaw.TheVariants as flaws
 use Rattle.kfifo_model.specs.Histories.{call}
 use Rattle.kfifo_model.specs.Validity.{IsHistory, IsFault}
+use Rattle.kfifo_model.specs.Words.{answer_word, op_word}
 
 -- ---- one object
 
@@ -60,22 +61,20 @@ HasNumber key d None = get key d ≡ None
 HasNumber key d (Some n) = number_at key d ≡ Some n
 
 abbrev pub op_text : OpWord → List ℕ
-op_text Enq = codes "enq"
-op_text Deq = codes "deq"
+op_text Enq = op_word (ops.Enqueue 0)
+op_text Deq = op_word ops.Dequeue
 
 abbrev pub HasOp : Data → OpWord → Type 0
 HasOp d w = text_at (codes "op") d ≡ Some (op_text w)
 
 abbrev pub IsAnswerWord : List ℕ → AnswerWord → Type 0
-IsAnswerWord t Done = t ≡ codes "done"
-IsAnswerWord t Full = t ≡ codes "full"
-IsAnswerWord t Got = t ≡ codes "got"
-IsAnswerWord t Empty = t ≡ codes "empty"
-IsAnswerWord t Busy = t ≡ codes "busy"
-IsAnswerWord t Worn = t ≡ codes "worn"
-IsAnswerWord t Other = (t ≢ codes "done") × (t ≢ codes "full") × (t ≢ codes "got") × (t ≢ codes "empty")
-    × (t ≢ codes "busy")
-    × (t ≢ codes "worn")
+IsAnswerWord t Done = t ≡ answer_word answers.Done
+IsAnswerWord t Full = t ≡ answer_word answers.Full
+IsAnswerWord t Got = t ≡ answer_word (answers.Got 0)
+IsAnswerWord t Empty = t ≡ answer_word answers.Empty
+IsAnswerWord t Busy = t ≡ answer_word answers.Busy
+IsAnswerWord t Worn = t ≡ answer_word answers.Worn
+IsAnswerWord t Other = (a : Answer) → t ≢ answer_word a
 
 -- `last` and `answer` stand both or neither
 abbrev pub HasEnding : Data → Option Ending → Type 0

@@ -144,9 +144,9 @@ fn op_word(value: &Value) -> Option<OpWord>
 {
     match value.get("op").and_then(Value::as_str) {
         Some(text) => {
-            if text == "enq" {
+            if text == Op::Enqueue(0).word() {
                 Some(OpWord::Enq)
-            } else if text == "deq" {
+            } else if text == Op::Dequeue.word() {
                 Some(OpWord::Deq)
             } else {
                 None
@@ -160,17 +160,17 @@ fn op_word(value: &Value) -> Option<OpWord>
 fn answer_word(text: &str) -> AnswerWord
     ensures { IsAnswerWord text.now result }
 {
-    if text == "done" {
+    if text == Answer::Done.word() {
         AnswerWord::Done
-    } else if text == "full" {
+    } else if text == Answer::Full.word() {
         AnswerWord::Full
-    } else if text == "got" {
+    } else if text == Answer::Got(0).word() {
         AnswerWord::Got
-    } else if text == "empty" {
+    } else if text == Answer::Empty.word() {
         AnswerWord::Empty
-    } else if text == "busy" {
+    } else if text == Answer::Busy.word() {
         AnswerWord::Busy
-    } else if text == "worn" {
+    } else if text == Answer::Worn.word() {
         AnswerWord::Worn
     } else {
         AnswerWord::Other
