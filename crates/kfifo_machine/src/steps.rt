@@ -229,8 +229,8 @@ impl EnqueueRound {
         ensures { result ≡ enqueue_advance shape.now self.item self.start self.left
             (EnqueuePhase.ReloadEnds ends index filled) now }
     {
-        // Since the ends were first loaded, others may have filled and emptied the segment, and the head have moved past
-        // it. Done would then leave the item behind the head, where no dequeue finds it.
+        // Since the ends were first loaded, others may have filled and emptied the segment, and the head have moved
+        // past it. Done would then leave the item behind the head, where no dequeue finds it.
         let segment = ends.tail();
         let head = now.head();
         if segment == head && now.version() == shape.last() {
@@ -362,8 +362,8 @@ impl EnqueueRound {
         ensures { result ≡ enqueue_advance shape.now self.item self.start self.left (EnqueuePhase.ConfirmFull ends)
             now }
     {
-        // The slots were loaded one after the other. They were the tail's and the head's segment, full and not empty, in
-        // one round only if neither end has moved.
+        // The slots were loaded one after the other. They were the tail's and the head's segment, full and not empty,
+        // in one round only if neither end has moved.
         if now == ends {
             Next::Answers(Answer::Full)
         } else {
@@ -412,8 +412,8 @@ impl EnqueueRound {
             } => self.undone(filled, worn, index, word, shape),
             Phase::ScanHead { ends, offset } => self.head_scanned(shape, ends, offset, word),
             Phase::ConfirmFull { ends } => self.full_confirmed(shape, ends, now),
-            // Won or lost, the round ends. Moving the tail too, after a lost move of the head, would let the tail meet the
-            // head: a full ring would look empty.
+            // Won or lost, the round ends. Moving the tail too, after a lost move of the head, would let the tail meet
+            // the head: a full ring would look empty.
             Phase::MoveHead { .. } | Phase::MoveTail { .. } => self.again(),
         }
     }

@@ -74,7 +74,11 @@ IsAnswerWord t Got = t ≡ answer_word (answers.Got 0)
 IsAnswerWord t Empty = t ≡ answer_word answers.Empty
 IsAnswerWord t Busy = t ≡ answer_word answers.Busy
 IsAnswerWord t Worn = t ≡ answer_word answers.Worn
-IsAnswerWord t Other = (a : Answer) → t ≢ answer_word a
+IsAnswerWord t Other = (t ≢ answer_word answers.Done) × (t ≢ answer_word answers.Full)
+    × (t ≢ answer_word (answers.Got 0))
+    × (t ≢ answer_word answers.Empty)
+    × (t ≢ answer_word answers.Busy)
+    × (t ≢ answer_word answers.Worn)
 
 -- `last` and `answer` stand both or neither
 abbrev pub HasEnding : Data → Option Ending → Type 0
