@@ -28,8 +28,7 @@ impl Model for Ends {
 
 impl Ends {
     /// The ends word with this head, this tail and this version.
-    #[tactic(auto, unfolding(crate::specs::Words::ends_word, crate::specs::Words::head_of, crate::specs::Words::tail_of,
-        crate::specs::Words::version_of))]
+    #[tactic(auto, unfolding(crate::specs::Words::ends_word, crate::specs::Words::head_of, crate::specs::Words::tail_of, crate::specs::Words::version_of))]
     pub fn pack(head: u32, tail: u32, version: u64) -> Ends
         requires head_fits { head < 4096 }
         requires tail_fits { tail < 4096 }
@@ -72,8 +71,7 @@ impl Ends {
     }
 
     /// The 64 bits. They are those that `pack` gives for the head, the tail and the version.
-    #[tactic(auto, unfolding(crate::specs::Words::ends_word, crate::specs::Words::head_of, crate::specs::Words::tail_of,
-        crate::specs::Words::version_of))]
+    #[tactic(auto, unfolding(crate::specs::Words::ends_word, crate::specs::Words::head_of, crate::specs::Words::tail_of, crate::specs::Words::version_of))]
     pub fn bits(self) -> u64
         ensures bits { result ≡ self }
         ensures packed { ends_word (head_of self) (tail_of self) (version_of self) ≡ result }

@@ -31,8 +31,7 @@ impl Model for Word {
 
 impl Word {
     /// The word with this value and this version.
-    #[tactic(auto, unfolding(crate::specs::Words::slot_word, crate::specs::Words::value_of,
-        crate::specs::Words::version_of))]
+    #[tactic(auto, unfolding(crate::specs::Words::slot_word, crate::specs::Words::value_of, crate::specs::Words::version_of))]
     pub fn pack(value: u32, version: u64) -> Word
         requires value_fits { value < 2 ^ 24 }
         requires version_fits { version < 2 ^ 40 }
@@ -64,8 +63,7 @@ impl Word {
     }
 
     /// The 64 bits. They are those that `pack` gives for the value and the version.
-    #[tactic(auto, unfolding(crate::specs::Words::slot_word, crate::specs::Words::value_of,
-        crate::specs::Words::version_of))]
+    #[tactic(auto, unfolding(crate::specs::Words::slot_word, crate::specs::Words::value_of, crate::specs::Words::version_of))]
     pub fn bits(self) -> u64
         ensures bits { result ≡ self }
         ensures packed { slot_word (value_of self) (version_of self) ≡ result }
