@@ -166,7 +166,8 @@ fn answer_of(op: Op, text: &[u8], item: Option<u32>) -> Option<Answer>
     }
 }
 
-/// The end of a call; none at all where one of its two fields is empty and the other is not, or an unfinished dequeue has an item.
+/// The end of a call; none at all where one of its two fields is empty and the other is not, or an unfinished dequeue
+/// has an item.
 fn end_of(
     op: Op,
     last: Option<u64>,
@@ -274,11 +275,12 @@ fn lines_of(alloc: Global, text: &[u8]) -> Result<Vec<Line>, ImportFault>
     }
 }
 
-/// The log that a text in CSV is, with a header that has, in any order, `thread`, `op`, `item`, `first`, `last` and `answer`,
-/// and a call a line, in any order. A field that does not apply is empty. `first` and `last` are whole numbers, as nanoseconds
-/// of a clock. Each call comes with the number of its line in the text, from 1, and its times.
+/// The log that a text in CSV is, with a header that has, in any order, `thread`, `op`, `item`, `first`, `last` and
+/// `answer`, and a call a line, in any order. A field that does not apply is empty. `first` and `last` are whole
+/// numbers, as nanoseconds of a clock. Each call comes with the number of its line in the text, from 1, and its times.
 ///
-/// Refused: first what a line itself has wrong, by lines: Csv, NotACall, and TooMany at line 65,537; then as by `log_of`.
+/// Refused: first what a line itself has wrong, by lines: Csv, NotACall, and TooMany at line 65,537; then as by
+/// `log_of`.
 pub fn read_log(alloc: Global, text: &[u8]) -> Result<Log, ImportFault>
     ensures read { MatchResult result (λ log. IsReadLog text.now log.history log.calls.items) (IsUnimported text.now) }
     ensures few { IfOk result (λ log. length log.history ≤ 65536) }
@@ -288,7 +290,14 @@ pub fn read_log(alloc: Global, text: &[u8]) -> Result<Log, ImportFault>
     log_of(alloc, lines)
 }
 
-/// The record alone of the log that a text in CSV is, with the refusals of `read_log`.
+/// Returns the record of a log in CSV, without the lines and times of its calls.
+///
+/// ```rust
+/// let history = import_text(alloc, bytes.as_slice())?;
+/// ```
+///
+/// A log has a line for each of at most 65,536 calls, under the header `thread,op,item,first,last,answer`. `alloc`, the
+/// runtime's allocator, makes room for the lines and the calls. Refuses what `read_log` refuses.
 pub fn import_text(alloc: Global, text: &[u8]) -> Result<History, ImportFault>
     ensures record { MatchResult result (IsImported text.now) (IsUnimported text.now) }
     ensures few { IfOk result (λ history. length history ≤ 65536) }

@@ -87,9 +87,21 @@ fn answer_text(
     }
 }
 
-/// Reads a record from the source and writes to the sink whether a legal order of it exists, or, where an order is
-/// given, what is to be said of that. The answer is the exit status: 0, or 3 where there is no order or the order is
-/// not legal. A failed call of the source or the sink is not made again. k is 1 to 64.
+/// Reads a record from the source and writes a line to the sink: whether the record has a legal order, or, if an order
+/// is given, whether that order is legal. Returns the exit status: 0, or 3 where there is no order or the order is not
+/// legal. k is 1 to 64: a dequeue may take any of the k oldest items.
+///
+/// ```rust
+/// let mut sink = FromStd::new(Vec::new(alloc));
+/// match check_stream(alloc, input, &mut sink, k, order) {
+///     Ok(0) => Ok((sink.inner, Status::Answered)),
+///     Ok(_) => Ok((sink.inner, Status::Unordered)),
+///     Err(fault) => Err(Fault::from(fault)),
+/// }
+/// ```
+///
+/// `alloc`, the runtime's allocator, holds the input, at most 16,777,216 bytes, and the history of at most 65,536
+/// calls. The faults are those of `StreamFault`. A failed call of the source or the sink is not made again.
 pub fn check_stream<R: Source, W: Sink>(
     alloc: Global,
     source: &mut R,

@@ -63,9 +63,18 @@ fn answer_text(alloc: Global, bytes: &[u8]) -> Result<String, StreamFault>
     }
 }
 
-/// Reads a record from the source and writes to the sink how often the item of each finished enqueue with answer
-/// Done is certainly overtaken, and the greatest count. The answer is the exit status, 0. A failed call of the source
-/// or the sink is not made again.
+/// Reads a record from the source, and writes to the sink how often the item of each finished enqueue that returned
+/// Done is certainly overtaken, and the greatest count. Returns the exit status, 0.
+///
+/// ```rust
+/// let mut sink = FromStd::new(Vec::new(alloc));
+/// match measure_stream(alloc, input, &mut sink) {
+///     Ok(_) => Ok(sink.inner),
+///     Err(fault) => Err(Fault::from(fault)),
+/// }
+/// ```
+///
+/// Memory, limits and faults are as of `check_stream`. A failed call of the source or the sink is not made again.
 pub fn measure_stream<R: Source, W: Sink>(
     alloc: Global,
     source: &mut R,

@@ -58,7 +58,14 @@ impl From<ReadFault> for StreamFault {
     }
 }
 
-/// The history that a text records, or why there is none.
+/// Returns the history that a text records: a record in JSON, as `read_history` of `kfifo_model` takes it.
+///
+/// ```rust
+/// let history = kfifo_judge::read_record(alloc, text.as_bytes())?;
+/// ```
+///
+/// Refuses: NotJson where the text is not UTF-8 or no JSON; Record with the first fault of the record; Memory where an
+/// allocation failed.
 pub fn read_record(alloc: Global, bytes: &[u8]) -> Result<History, StreamFault>
     ensures { MatchResult result (IsRecordText bytes.now) (IsTextFault bytes.now) }
 {

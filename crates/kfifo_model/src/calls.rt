@@ -1,4 +1,4 @@
-//! A call of a queue, and what it was answered.
+//! A call of a queue, and what it returned.
 
 /// The greatest item; the least is 1.
 pub const MAX_ITEM: u32 = 16_777_215;
@@ -12,7 +12,7 @@ pub enum Op {
     Dequeue,
 }
 
-/// What a call was answered.
+/// What a call returned.
 #[derive(Clone, Copy, Debug, PartialEq, Eq)]
 pub enum Answer {
     /// An enqueue's item is in the queue, or was already taken.
@@ -34,11 +34,24 @@ pub enum Answer {
 pub struct End {
     /// The place of the call's last step.
     pub last: u64,
-    /// What the call was answered.
+    /// What the call returned.
     pub answer: Answer,
 }
 
 /// A call, from its first step on. It is unfinished where it has no end.
+///
+/// ```rust
+/// let end = End { last, answer };
+/// Call {
+///     thread,
+///     op,
+///     first,
+///     end: Some(end),
+/// }
+/// ```
+///
+/// Steps are numbers of one clock that all threads share. A call precedes another if its last step is below the other's
+/// first.
 #[derive(Clone, Copy, Debug, PartialEq, Eq)]
 pub struct Call {
     /// The number of the thread that makes the call.

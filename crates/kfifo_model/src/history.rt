@@ -194,7 +194,17 @@ fn first_fault(calls: &[Call]) -> Option<RecordFault>
 }
 
 impl History {
-    /// The calls as a history, or their first fault, one of 4 to 8. It takes no memory.
+    /// Returns the calls as a history. They have to be in order, by rising first step. It takes no memory.
+    ///
+    /// ```rust
+    /// let history = History::new(made)?;
+    /// ```
+    ///
+    /// Refuses the calls for the first call that has a fault, and for its first fault. Each fault carries the number of
+    /// the call, from 0: NumberOutOfRange where the thread is not 0 to 63 or an item not 1 to 2^24 - 1; WrongAnswer
+    /// where the operation has no such answer; EndsEarly where the last step is below the first; OutOfOrder where the
+    /// first step is not above that of the call before; Overlap where an earlier call of the thread has not ended
+    /// before it.
     pub fn new(calls: Vec<Call>) -> Result<Self, RecordFault>
         ensures { MatchResult result (λ h. (h ≡ calls.items) × IsHistory calls.items) (IsFault calls.items) }
     {

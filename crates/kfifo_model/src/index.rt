@@ -223,7 +223,21 @@ fn has_done(calls: &[Call]) -> bool
     false
 }
 
-/// The certain overtakings of each item that a finished enqueue put with answer Done, by rising call number.
+/// Returns for each finished enqueue that returned Done, by rising call number, how many items certainly overtake its
+/// item. Such an item was put by a call that began after this enqueue had ended. It was taken by a call that had ended
+/// when this item's dequeue began, or this item was never taken.
+///
+/// ```rust
+/// for overtaken in measure(alloc, &history)? {
+///     assert!(rt;
+///         overtaken.count < shape.k() as usize,
+///         "{shape:?} {overtaken:?}"
+///     );
+/// }
+/// ```
+///
+/// Refuses: RepeatedItem where there is such an enqueue, and two enqueues that are Done or unfinished carry one item or
+/// two dequeues got one; Memory where an allocation failed.
 pub fn measure(alloc: Global, history: &History) -> Result<Vec<Overtaken>, MeasureFault>
     ensures { MatchResult result
         (λ v. (v.items ≡ measured history.now (length history.now)) × ((n : ℕ) → IsDoneEnqueue history.now n → HasDistinctItems history.now))

@@ -234,8 +234,15 @@ pub(crate) fn judge(
     }
 }
 
-/// Judges an order of a history's calls, given by their numbers, for a queue that may give any of its k oldest
-/// items. The time is near linear in the lengths of both, times k, which is 1 to 64.
+/// Returns whether an order of a history's calls, given by their numbers from 0, is legal for a queue that may give any
+/// of its k oldest items, and if not, its first fault. k is 1 to 64.
+///
+/// ```rust
+/// let verdict = check_order(alloc, history, k, order)?;
+/// ```
+///
+/// The time is near linear in the lengths of history and order, times k. It takes memory for the numbers of the order
+/// and for the items of the queue. An error means that an allocation failed.
 pub fn check_order(
     alloc: Global,
     history: &History,

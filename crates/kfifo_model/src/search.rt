@@ -464,7 +464,17 @@ fn search(alloc: Global, calls: &[Call], k: usize) -> Result<bool, AllocError>
     }
 }
 
-/// Whether some order of the history is legal for a queue that may give any of its k oldest items.
+/// Returns whether some order of the history is legal for a queue that may give any of its k oldest items. k is 1 to
+/// 64.
+///
+/// ```rust
+/// let history = History::new(made)?;
+/// assert!(rt; has_order(rt.alloc(), &history, k)?, "{shape:?} {round}");
+/// ```
+///
+/// It tries all orders, so it takes at most 12 calls: `judge` of `kfifo_verdict` takes more, and may leave the answer
+/// open. Refuses: TooLong where the history has over 12 calls, unfinished ones counted; Memory where an allocation
+/// failed.
 pub fn has_order(alloc: Global, history: &History, k: u32) -> Result<bool, SearchFault>
     requires { (1 ≤ k) × (k ≤ 64) }
     ensures { MatchResult result (λ found. (length history.now ≤ 12) × (IsTrue found ↔ HasOrder k history.now))

@@ -25,8 +25,16 @@ pub const MAX_CALLS: usize = 64;
 
 /// A replay of scripts, one for each thread, that has made the events of the picks that it was fed.
 ///
+/// ```rust
+/// let mut replay = Replay::open(alloc, shape, scripts)?;
+/// replay.feed(picks)?; // these picks, one by one
+/// replay.feed_many(thread, count)?; // one pick so many times, with no list
+/// replay.finish(stopped)?; // all threads but this one go to the ends of their scripts
+/// let report = replay.report(alloc)?;
+/// ```
+///
 /// It keeps the machine's state, one entry for each call of the scripts, and what the order of the calls
-/// needs: no list of picks or events. All its room is made by `open`, so no pick takes memory.
+/// needs, but no list of picks or events. `open` makes all its room, so no pick takes memory.
 #[derive(Drop)]
 pub struct Replay {
     shape: Shape,
@@ -140,10 +148,19 @@ fn is_undoing(place: &Option<Running>) -> bool
 }
 
 impl Replay {
-    /// The replay of these scripts, script i being that of thread i, with no pick.
+    /// Returns the replay of these scripts with no pick. Script i lists the calls of thread i. These are two threads
+    /// that dequeue once, from slot 0, and give up after one round:
     ///
-    /// Refused, in this order: BadScript where there is no script, or there are over 64, or one has over
-    /// 64 calls, a tick, or a call out of range; Memory where an allocation failed.
+    /// ```rust
+    /// let mut scripts = Vec::new(alloc);
+    /// for _script in 0..2 {
+    ///     let script = vec![in alloc; Begin::Dequeue { start: 0, turns: 1 }].ok()?;
+    ///     scripts.push(script).ok()?;
+    /// }
+    /// ```
+    ///
+    /// Refuses: BadScript where there is no script, or there are over 64, or one has over 64 calls, a tick, or a call
+    /// out of range; then Memory where an allocation failed.
     pub fn open(alloc: Global, shape: Shape, scripts: &[Vec<Begin>]) -> Result<Replay, ReplayFault>
         ensures opened { IfOk result (λ r. StandsFor shape (map (λ script. script.items) scripts.now) [] r) }
         ensures refused { (result ≡ Err ReplayFault.BadScript) ↔ (AreScripts shape (map (λ script. script.items) scripts.now) → ⊥) }
