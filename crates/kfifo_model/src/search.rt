@@ -464,8 +464,7 @@ fn search(alloc: Global, calls: &[Call], k: usize) -> Result<bool, AllocError>
     }
 }
 
-/// Returns whether some order of the history is legal for a queue that may give any of its k oldest items. k is 1 to
-/// 64.
+/// Returns whether the history has a legal order for a queue that may give any of its k oldest items. k is 1 to 64.
 ///
 /// ```rust
 /// let history = History::new(made)?;
