@@ -38,7 +38,7 @@ fn seat_all(
     Ok(seats)
 }
 
-/// The seats of a new queue, that of the last thread first.
+/// The seats of a new queue, the last thread's first.
 fn open_seats(
     alloc: Global,
     shape: Shape,
