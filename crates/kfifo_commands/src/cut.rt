@@ -25,7 +25,7 @@ pub(crate) enum Cut {
     Evidence(u32),
 }
 
-/// Whether the calls to be drawn are those of lines of a log.
+/// Whether lines of a log say which calls are drawn.
 pub(crate) fn is_of_lines(cut: Cut) -> bool
     ensures { IsTrue result ↔ IsOfLines cut }
 {

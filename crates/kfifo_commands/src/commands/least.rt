@@ -13,7 +13,7 @@ use kfifo_judge::Source;
 use kfifo_texts::Fault;
 use std::alloc::Global;
 
-/// The lines that answer the calls of the input, and the status.
+/// The lines for the calls of the input, and the status.
 pub fn answer<S: Source>(
     alloc: Global,
     options: LeastOptions,
@@ -30,7 +30,7 @@ pub fn answer<S: Source>(
     Ok((text, status))
 }
 
-/// The lines that answer the calls of these bytes, and the status.
+/// The lines for the calls of these bytes, and the status.
 fn text_of(alloc: Global, options: LeastOptions, bytes: &[u8]) -> Result<(String, Status), Fault>
     ensures said { MatchResult result (λ a. IsBounded bytes.now (string_bytes a.0) (status_number a.1)) (IsNoCalls bytes.now) }
     ensures status { IfOk result (λ a. (a.1 ≡ Status.Answered) ⊎ (a.1 ≡ Status.Unordered)) }
