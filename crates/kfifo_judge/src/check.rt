@@ -43,7 +43,7 @@ fn status_of(verdict: Verdict) -> u8
     }
 }
 
-/// The text and the status that answer a history.
+/// The text and the status for a history.
 fn answer(
     alloc: Global,
     history: &History,
@@ -67,7 +67,7 @@ fn answer(
     }
 }
 
-/// The text and the status that answer a record's text.
+/// The text and the status for a record's text.
 fn answer_text(
     alloc: Global,
     bytes: &[u8],
@@ -101,7 +101,7 @@ fn answer_text(
 /// ```
 ///
 /// `alloc`, the runtime's allocator, holds the input, at most 16,777,216 bytes, and the history of at most 65,536
-/// calls. The faults are those of `StreamFault`. A failed call of the source or the sink is not made again.
+/// calls. `StreamFault` lists the faults. A failed call of the source or the sink is not made again.
 pub fn check_stream<R: Source, W: Sink>(
     alloc: Global,
     source: &mut R,
@@ -128,10 +128,10 @@ pub fn check_stream<R: Source, W: Sink>(
     ensures faults { let o = option_map (λ s. s.now) order.entry in
         IfErr result (λ f. f ≢ StreamFault.Input → f ≢ StreamFault.Output → f ≢ StreamFault.Memory →
         (bytes : List ℕ) × IfSome (R.remaining source.old) (λ given. given ≡ bytes) × IsCheckFault o bytes f) }
-    // Every answer but Input and Memory: all that the source had to give, no longer than the limit, was read.
+    // Every result but Input and Memory: all that the source had to give, no longer than the limit, was read.
     ensures short { result ≢ Err StreamFault.Input → result ≢ Err StreamFault.Memory
         → IfSome (R.remaining source.old) (λ given. length given ≤ 16777216) }
-    // No call failed but the one that was answered.
+    // No call failed but the one that is reported.
     ensures source_calls { (result ≢ Err StreamFault.Input) → R.failed source.new ≡ R.failed source.old }
     ensures sink_calls { (result ≢ Err StreamFault.Output) → W.failed sink.new ≡ W.failed sink.old }
     ensures sink_failed { result ≡ Err StreamFault.Output → CountsOne (W.failed sink.old) (W.failed sink.new) }

@@ -18,7 +18,7 @@ pub trait Source {
     // The bytes that reads will give from here on, where they are known.
     ghost remaining: { Self → Option (List ℕ) };
 
-    // How many calls of `read` answered an error so far.
+    // How many calls of `read` returned an error so far.
     ghost failed: { Self → ℕ };
 
     /// As std's `Read`: the number of bytes put into the piece, 0 at the end.
@@ -33,7 +33,7 @@ pub trait Sink {
     // The bytes that it holds, where they are known.
     ghost contents: { Self → Option (List ℕ) };
 
-    // How many calls of `write` answered an error so far, or took no byte though there were some.
+    // How many calls of `write` returned an error so far, or took no byte though there were some.
     ghost failed: { Self → ℕ };
 
     /// As std's `Write`: the number of bytes of the piece that were taken.
@@ -148,7 +148,7 @@ pub fn read_all<R: Source>(alloc: Global, source: &mut R) -> Result<Vec<u8>, Rea
     }
 }
 
-/// Writes the whole text, or answers false after a call that failed or took no byte, which is not made again.
+/// Writes the whole text, or returns false after a call that failed or took no byte, which is not made again.
 pub fn write_all<W: Sink>(sink: &mut W, text: &[u8]) -> bool
     ensures whole { IsTrue result → Appends (W.contents sink.old) (W.contents sink.new) text.now }
     ensures beginning { result ≡ false → AppendsPart (W.contents sink.old) (W.contents sink.new) text.now }
