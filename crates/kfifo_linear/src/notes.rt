@@ -31,7 +31,7 @@ pub struct Caller {
 pub enum Whereabouts {
     /// Nowhere yet.
     Nowhere,
-    /// Its item is in this slot, of which its point is noted.
+    /// Its item is in this slot, and the slot's notes have its point.
     InSlot(usize),
     /// At this step.
     At(u64),
@@ -277,7 +277,7 @@ impl Notes {
         }
     }
 
-    /// The thread's call ends, if the step came to an answer.
+    /// The thread's call ends, if the step ended it.
     fn end(&mut self, thread: usize, outcome: Outcome)
         requires thread { thread < length self.old.callers }
         requires call { own_call self.old thread < length self.old.calls }
