@@ -43,8 +43,8 @@ impl<T> Enqueue<'_, T> {
         requires { Stands self.ring seat.old (enqueue_at self (EnqueuePhase.Undo index filled worn)) }
         ensures { Comes seat.old (enqueue_round self.entry result) seat.new }
     {
-        // The version rises. If it went back to that of the empty slot, an enqueue that has read the slot
-        // as empty could put its item long after, in a segment that is no longer the tail's (ABA).
+        // The version rises. If it went back to the empty slot's, an enqueue that has read the slot as empty could put
+        // its item long after, in a segment that is no longer the tail's (ABA).
         let emptied = Word::pack(0, filled.version() + 1);
         if self.ring.exchange(seat, index, filled, emptied) != filled {
             return Some(Answer::Done);
