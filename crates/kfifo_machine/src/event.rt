@@ -34,7 +34,7 @@ pub enum Outcome {
     Ended(Answer),
 }
 
-/// Why an event cannot be made. The first fault in this order is answered.
+/// Why an event cannot be made: the first of these faults that applies.
 #[derive(Clone, Copy, PartialEq, Eq, Debug, Error)]
 pub enum NotEnabled {
     /// 1: no thread has this number.

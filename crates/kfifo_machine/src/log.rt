@@ -126,7 +126,7 @@ fn log_events(
 ///
 /// Refused as by `run`.
 ///
-/// The clause `floor` speaks of every schedule of this shape and number of threads, whatever is answered.
+/// The clause `floor` speaks of every schedule of this shape and number of threads, whatever the call returns.
 pub fn history(
     alloc: Global,
     shape: Shape,

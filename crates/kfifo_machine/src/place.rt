@@ -56,7 +56,7 @@ pub enum EnqueuePhase {
         filled: Word,
         held: Ends,
     },
-    /// Takes the item out again; a won undo answers Worn where `worn` says so.
+    /// Takes the item out again; a won undo returns Worn where `worn` says so.
     Undo {
         index: usize,
         filled: Word,
@@ -157,7 +157,7 @@ impl Access {
 pub enum Next {
     /// Its call goes on from this place.
     Goes(Running),
-    /// Its call answers.
+    /// Its call returns.
     Answers(Answer),
 }
 

@@ -144,7 +144,7 @@ impl EnqueueRound {
         })
     }
 
-    /// The round ends: the next one begins, or the call answers Busy.
+    /// The round ends: the next one begins, or the call returns Busy.
     fn again(self) -> Next
         requires { 0 < self.left }
         ensures { result ≡ enqueue_again self.item self.start self.left }
@@ -414,7 +414,7 @@ impl DequeueRound {
         })
     }
 
-    /// The round ends: the next one begins, or the call answers Busy.
+    /// The round ends: the next one begins, or the call returns Busy.
     fn again(self) -> Next
         requires { 0 < self.left }
         ensures { result ≡ dequeue_again self.start self.left }
