@@ -19,7 +19,7 @@ pub enum Verdict {
     Legal,
     /// 1: a number stands twice.
     Repeats,
-    /// 2: a number is that of no call, or of an unfinished dequeue.
+    /// 2: no call has a number, or an unfinished dequeue has it.
     NotACall,
     /// 3: a finished call is missing.
     LeavesOut,
@@ -70,7 +70,7 @@ fn distinct_numbers(alloc: Global, order: &[usize]) -> Result<Option<BTreeSet<us
     Ok(Some(seen))
 }
 
-/// Whether each number is that of a finished call or of an unfinished enqueue.
+/// Whether a finished call or an unfinished enqueue has each number.
 fn has_only_calls(calls: &[Call], order: &[usize]) -> bool
     ensures { IsTrue result ↔ HasOnlyCalls calls.now order.now }
 {
