@@ -227,7 +227,7 @@ impl Replay {
         self.event(thread, &self.linearizer.place(thread))
     }
 
-    /// Makes the event of this pick, or answers false where it is refused, and stays as it was.
+    /// Makes the event of this pick, or returns false where it is refused, and stays as it was.
     pub(crate) fn pick(&mut self, thread: u32) -> bool
         ensures made { result ≡ true → OfItsPicks self.old (λ shape scripts earlier. StandsFor shape scripts (earlier ++ thread ∷ []) self.new) }
         ensures refused { result ≡ false → OfItsPicks self.old (λ shape scripts earlier. IsRefused shape scripts earlier thread) }
@@ -251,8 +251,8 @@ impl Replay {
         true
     }
 
-    /// Makes the events of these picks, each of which names the thread that makes the next event: an
-    /// idle thread begins the next call of its script, and a thread inside a call goes on.
+    /// Makes the events of these picks. Each pick names the thread that makes the next event: an idle thread begins the
+    /// next call of its script, and a thread inside a call goes on.
     ///
     /// BadPick with the place among these picks, from 0, of the first one that names no script or a
     /// thread whose script has ended: the picks before it are made, it and the later ones are not. It

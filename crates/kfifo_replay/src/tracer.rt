@@ -83,7 +83,7 @@ impl Tracer {
         })
     }
 
-    /// Makes the event of this pick, or answers false where it is refused, and stays as it was.
+    /// Makes the event of this pick, or returns false where it is refused, and stays as it was.
     fn pick(&mut self, thread: u32) -> bool
         ensures made { result ≡ true → OfTracedPicks self.old (λ shape scripts earlier. Traces shape scripts (earlier ++ thread ∷ []) self.new) }
         ensures refused { result ≡ false → OfTracedPicks self.old (λ shape scripts earlier. IsRefused shape scripts earlier thread) }
