@@ -153,7 +153,7 @@ pub(crate) enum Covered {
     Gap(usize),
 }
 
-/// Puts of items of which one is certainly there at each moment of a call, or a moment at which none is.
+/// Puts whose items cover a call, one certainly there at each moment of it, or a moment at which none is.
 pub(crate) fn cover(
     alloc: Global,
     calls: &[Call],
@@ -179,7 +179,7 @@ pub(crate) fn cover(
     Ok(Covered::Whole(puts))
 }
 
-/// The first call that was answered Empty while there were items.
+/// The first call that returned Empty while there were items.
 fn not_empty(
     alloc: Global,
     calls: &[Call],

@@ -130,7 +130,7 @@ fn idle_turns(
     Ok(turns)
 }
 
-/// The turns of all calls, from those of the calls that neither put nor get an item.
+/// The turns of all calls, from the turns of the calls that neither put nor get an item.
 fn with_items(calls: &[Call], presences: &[Presence], line: &[Place], idle: Vec<Turn>) -> Vec<Turn>
     requires history { IsHistory calls.now }
     requires plain { IsPlain calls.now }

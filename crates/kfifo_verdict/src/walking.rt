@@ -199,7 +199,7 @@ impl Walk {
         (found, false)
     }
 
-    /// A due get takes an item. One at the front is best: then there is more room. Else it takes that of a put, in one of
+    /// A due get takes an item. One at the front is best: then there is more room. Else it takes a put's, in one of
     /// several ways.
     fn serve(&mut self, get: usize, step: u64, way: usize) -> Result<Outcome, AllocError> {
         let item = self.facts.at(get).item;
@@ -230,8 +230,8 @@ impl Walk {
         })
     }
 
-    /// All items leave the list that are there for certain: those at the front, and those of puts that have ended. Returns
-    /// whether waiting gets took them all.
+    /// All items that are there for certain leave the list: the ones at the front, and the ones of puts that have
+    /// ended. Returns whether waiting gets took them all.
     fn drain(&mut self, step: u64) -> Result<bool, AllocError> {
         for _ in 0..self.facts.count() {
             if self.state.is_free(&self.facts, step) {
