@@ -144,7 +144,7 @@ impl Shape {
 
     /// The index of a slot's word in the table.
     ///
-    /// Distinct slots have distinct indexes, none of which is that of the ends word or of the clock.
+    /// Distinct slots have distinct indexes, and no slot has the ends word's or the clock's.
     pub fn slot_index(&self, segment: u32, slot: u32) -> usize
         requires segment_in { segment < self.now.n }
         requires slot_in { slot < self.now.k }
