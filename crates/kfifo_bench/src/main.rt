@@ -1,10 +1,11 @@
 //! Makes many calls of a running queue by one thread, so that their instructions can be counted.
 //!
-//! The arguments are k, 1 to 64; `half`, `empty` or `payloads`, the first two also with `-called`, all three also with `-handle`; and
-//! the number of turns. The ring has 1,024 slots. With `half` it is filled half, and each turn makes an enqueue and a dequeue; with
-//! `payloads` likewise, in a queue of payloads of 16 bytes; with `empty` each turn makes a dequeue of an empty queue. Starts are random.
-//! The modes that end in `called` do the same by functions that are not inlined, and those that end in `handle` by the calls of a
-//! handle, with its starts. It prints how many calls had the answer that is wanted.
+//! The arguments are k, 1 to 64; `half`, `empty` or `payloads`, the first two also with `-called`, all three also with
+//! `-handle`; and the number of turns. The ring has 1,024 slots. With `half` it is filled half, and each turn makes an
+//! enqueue and a dequeue; with `payloads` likewise, in a queue of payloads of 16 bytes; with `empty` each turn makes a
+//! dequeue of an empty queue. Starts are random. The modes that end in `called` do the same by functions that are not
+//! inlined, and those that end in `handle` by the calls of a handle, with its starts. It prints how many calls had the
+//! answer that is wanted.
 #![tactic(auto)]
 
 ghost use Rattle.std.specs.Prelude.{◌≡◌, ◌<◌, ◌≤◌, ◌+◌, ◌*◌, ◌++◌};
