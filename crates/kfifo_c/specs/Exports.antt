@@ -83,8 +83,8 @@ pub record CalledFrom (call : Begin) (answer : Answer) (old new : Seated) : Type
   pub same_put : new.put_start ≡ old.put_start
   pub same_get : new.get_start ≡ old.get_start
 
--- A put: an enqueue from the handle's start, in so many rounds that Busy is another thread's doing. The next put begins one
--- slot further
+-- A put: an enqueue from the handle's start, in so many rounds that Busy is another thread's doing. The next put begins
+-- one slot further
 pub record Puts (item : ℕ) (answer : Answer) (old new : Seated) : Type 0 where
   pub called : Called (Enqueue item old.put_start (enough_turns old.pass)) answer old new
   pub busy : answer ≡ Busy → IsDisturbed old.pass new.pass
@@ -98,8 +98,8 @@ pub record Gets (answer : Answer) (old new : Seated) : Type 0 where
   pub same_put : new.put_start ≡ old.put_start
   pub next_get : new.get_start ≡ further old.pass old.get_start
 
--- A call by a handle. It is not made, and nothing changes, exactly where the handle is closed or the call may not be made
--- with its arguments. Else what is behind the handle makes it, and is there still
+-- A call by a handle. It is not made, and nothing changes, exactly where the handle is closed or the call may not be
+-- made with its arguments. Else what is behind the handle makes it, and is there still
 module _ {A S : Type 0} where
   abbrev pub Tries : (S → Type 0) → (A → S → S → Type 0) → Option A → Option S → Option S → Type 0
   Tries may makes None old new = (new ≡ old) × IfSome old (λ seat. ¬ may seat)
@@ -188,14 +188,16 @@ abbrev pub IsOpenOf : OpenQueue → Option Seated → Type 0
 IsOpenOf queue None = ⊥
 IsOpenOf queue (Some seat) = seat.queue ≡ queue
 
--- these handles are of all passes of the queue, one at least and each there once, and there is room for an item of each slot
+-- these handles are of all passes of the queue, one at least and each there once, and there is room for an item of each
+-- slot
 pub record MayClose (queue : OpenQueue) (handles : List (Option Seated)) (room : ℕ) : Type 0 where
   pub some_pass : 1 ≤ queue.opened.threads
   pub each_open : All (IsOpenOf queue) handles
   pub complete : IsComplete queue.opened.threads (passes_in handles)
   pub room_is : queue.opened.shape.n * queue.opened.shape.k ≤ room
 
--- a queue was closed by these handles, and the items that were left were written, and their number: all that the running queue says of a close
+-- a queue was closed by these handles, and the items that were left were written, and their number: all that the
+-- running queue says of a close
 pub record ClosesInto (handles : List (Option Seated)) (old new : List ℕ) (count : ℕ) : Type 0 where
   pub queue : OpenQueue
   pub each_open : All (IsOpenOf queue) handles

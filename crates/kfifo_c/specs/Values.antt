@@ -108,15 +108,16 @@ last_from last (Some seat ∷ handles) = last_from (Some seat) handles
 abbrev pub last_seat : List (Option ValueSeated) → Option ValueSeated
 last_seat handles = last_from None handles
 
--- these handles are open, of the queue, and as many as it has passes, one at least; and there is room for a value of each slot
+-- these handles are open, of the queue, and as many as it has passes, one at least; and there is room for a value of
+-- each slot
 pub record MayCloseValues (queue : OpenQueue) (handles : List (Option ValueSeated)) (room : ℕ) : Type 0 where
   pub some_pass : 1 ≤ length handles
   pub each_open : All (IsOpenOfValues queue) handles
   pub count : length handles ≡ queue.opened.threads
   pub room_is : queue.opened.shape.n * queue.opened.shape.k ≤ room
 
--- A queue was closed by these handles, and the values that were left were written, and their number: all that the running queue says of a close
--- by the pass of the last one
+-- A queue was closed by these handles, and the values that were left were written, and their number: all that the
+-- running queue says of a close by the pass of the last one
 pub record ClosesValues (handles : List (Option ValueSeated)) (old new : List ℕ) (count : ℕ) : Type 0 where
   pub queue : OpenQueue
   pub each_open : All (IsOpenOfValues queue) handles

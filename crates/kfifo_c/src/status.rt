@@ -19,7 +19,8 @@ pub(crate) const BAD_TOKENS: u32 = 15;
 /// The queue was closed, and an allocation failed, so the items that were left are lost.
 pub(crate) const LOST: u32 = 9;
 
-/// The number of a call's answer, if it was made. In this order it is how the compiler stores the answer, so it costs nothing.
+/// The number of a call's answer, if it was made. In this order it is how the compiler stores the answer, so it costs
+/// nothing.
 #[inline(always)]
 pub(crate) fn status(answer: Option<Answer>) -> u32
     ensures { result ≡ number_of answer }
