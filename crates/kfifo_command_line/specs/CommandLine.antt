@@ -139,7 +139,8 @@ dispatch_command = with_rule (with_rule (with_rule (with_sizes (new_app (codes "
     (default_option (codes "seed") (small_numbers 0 4294967295) (codes "0")))
     any_words
 
--- the program before its commands: its words begin with the first argument, and one has to be a command, or ask for the version
+-- the program before its commands: its words begin with the first argument, and one has to be a command, or ask for the
+-- version
 abbrev pub bare_program : App
 bare_program = record {
   top = record (new_app (codes "kfifo")).top {
@@ -176,6 +177,7 @@ IsCommand app command = (app_of command ≡ app) × ((fields_of command).has_glo
 unfoldable pub named : List Text → Option (Text × List Row)
 named words = subcommand_of kfifo words
 
--- the kinds of the first fault of the words, or of what they ask for in place of a command; none where they name a command
+-- the kinds of the first fault of the words, or of what they ask for in place of a command; none where they name a
+-- command
 unfoldable pub kinds : List Text → Kinds
 kinds words = fault_of kfifo words

@@ -982,7 +982,8 @@ pub fn command<'a>(alloc: Global) -> Result<Command<'a>, AllocError>
         .arg(words)
 }
 
-// The constants stand behind functions of their own, in four parts: what borrows more at once takes the check too many steps.
+// The constants stand behind functions of their own, in four parts: what borrows more at once takes the check too many
+// steps.
 /// The first quarter of the faults and answers.
 fn first_topics() -> &'static [Topic] {
     FIRST_TOPICS
