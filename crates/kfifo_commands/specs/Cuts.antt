@@ -13,7 +13,8 @@ use Rattle.kfifo_commands.specs.declared.options.DrawOptions.{DrawOptions}
 use Rattle.kfifo_commands.specs.declared.cut.Cut.{Cut}
 use Rattle.kfifo_commands.specs.declared.cut.Cut.TheVariants as cuts
 
--- The options contradict each other: `--evidence` and `--order`, `--around` with no `--evidence`, or `--calls` and `--lines`.
+-- The options contradict each other: `--evidence` and `--order`, `--around` with no `--evidence`, or `--calls` and
+-- `--lines`.
 abbrev pub Contradict : DrawOptions → Type 0
 Contradict options = ((options.evidence ≡ true) × IsSome options.check.order)
     ⊎ ((options.evidence ≡ false) × IsSome options.around)

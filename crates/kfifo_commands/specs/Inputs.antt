@@ -15,7 +15,8 @@ use Rattle.kfifo_texts.specs.declared.fault.Fault.TheVariants.{Import, NotJson, 
 abbrev pub IsSpace : ℕ → Type 0
 IsSpace byte = (byte ≡ 32) ⊎ (byte ≡ 9) ⊎ (byte ≡ 10) ⊎ (byte ≡ 13)
 
--- The first byte that is no white space is `[`: the input is a record in JSON. Any other input is a log in CSV, an empty one too.
+-- The first byte that is no white space is `[`: the input is a record in JSON. Any other input is a log in CSV, an
+-- empty one too.
 pub record BeginsRecord (bytes : List ℕ) : Type 0 where
   pub place : ℕ
   pub inside : place < length bytes

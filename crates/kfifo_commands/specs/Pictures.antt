@@ -19,7 +19,8 @@ abbrev pub IsSought : Bool → ℕ → List Call → Option Evidence → Type 0
 IsSought true k h found = MatchOption found (HasNoEvidence k h) (IsFirstEvidence k h)
 IsSought false k h found = found ≡ None
 
--- The number of the calls to be drawn: `Has` says of a fact and of how many calls there are whether it holds of few or of many.
+-- The number of the calls to be drawn: `Has` says of a fact and of how many calls there are whether it holds of few or
+-- of many.
 pub record IsPictureOf (Has : (ℕ → Type 0) → ℕ → Type 0) (k : ℕ) (asked : Bool) (cut : Cut) (h : List Call) (logged : List LoggedCall) : Type 0 where
   pub found : Option Evidence
   pub sought : IsSought asked k h found

@@ -23,8 +23,8 @@ call_line (Enqueue item start turns) answer = enqueue_line item answer
 call_line (Dequeue start turns) answer = dequeue_line answer
 call_line Tick answer = []
 
--- Calls that were made in turn by thread 0 of a machine with one thread, each as one complete execution with its answer: the
--- schedule has grown from old to new, and the lines of the calls are this text
+-- Calls that were made in turn by thread 0 of a machine with one thread, each as one complete execution with its
+-- answer: the schedule has grown from old to new, and the lines of the calls are this text
 abbrev pub RunInTurn : Shape → List Begin → List Answer → List Event → List Event → List ℕ → Type 0
 RunInTurn shape [] [] old new text = (new ≡ old) × (text ≡ [])
 RunInTurn shape [] (answer ∷ answers) old new text = ⊥

@@ -73,8 +73,8 @@ pub struct LeastOptions {
 /// What `draw` is given.
 #[derive(Clone, Copy)]
 pub struct DrawOptions<'a> {
-    /// The order that is drawn too, and the k of its verdict or of the evidence, as `check` is given them; no order to draw the
-    /// calls alone.
+    /// The order that is drawn too, and the k of its verdict or of the evidence, as `check` is given them; no order to
+    /// draw the calls alone.
     pub check: CheckOptions<'a>,
     /// Whether the picture is one of characters.
     pub text: bool,
