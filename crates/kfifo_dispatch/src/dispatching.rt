@@ -28,22 +28,24 @@ const MAX_TASKS: usize = 1_024;
 /// The greatest number of workers of a dispatch.
 const MAX_WORKERS: u32 = 63;
 
-/// Runs the tasks on worker threads that share one queue of this shape, and returns the finished list: each task once, by
-/// rising id, with its sum and all its work added up. One thread would return the same list, whatever the threads do.
+/// Runs the tasks on worker threads that share one queue of this shape, and returns the finished list: each task once,
+/// by rising id, with its sum and all its work added up. One thread would return the same list, whatever the threads
+/// do.
 ///
 /// ```rust
 /// let shape = Shape::new(2, 16, MAX_VERSION)?; // k, segments, greatest version
 /// let list = dispatch(&rt, alloc, tasks.as_slice(), 4, shape, 0, &OpenGate)?; // 4 workers, seed 0
 /// ```
 ///
-/// The caller gives the tasks to the queue in their order. Each worker takes one, does a unit of work on it, and gives it
-/// back while work is left. Worker w, from 1, draws the starts of its calls from `Starts::new(seed, w, k)`, and passes the
-/// gate before each call to take. It ends where the queue is empty, where a version is used up, or after 65,536 calls to
-/// take. A worker finishes itself each task that the queue refuses to take back. The caller finishes what is left when all
-/// have ended. The dispatch returns if the gate's calls return.
+/// The caller gives the tasks to the queue in their order. Each worker takes one, does a unit of work on it, and gives
+/// it back while work is left. Worker w, from 1, draws the starts of its calls from `Starts::new(seed, w, k)`, and
+/// passes the gate before each call to take. It ends where the queue is empty, where a version is used up, or after
+/// 65,536 calls to take. A worker finishes itself each task that the queue refuses to take back. The caller finishes
+/// what is left when all have ended. The dispatch returns if the gate's calls return.
 ///
-/// TooManyTasks where there are over 1,024; then RepeatedId where two have one id; then WorkersOutOfRange where the number of workers
-/// is not 1 to 63; Memory where an allocation failed. After a refusal nothing is kept, and all workers that were started have ended.
+/// TooManyTasks where there are over 1,024; then RepeatedId where two have one id; then WorkersOutOfRange where the
+/// number of workers is not 1 to 63; Memory where an allocation failed. After a refusal nothing is kept, and all
+/// workers that were started have ended.
 pub fn dispatch<R: Threads + Sync, G: Gate + Sync>(
     threads: &R,
     alloc: Global,
