@@ -38,7 +38,8 @@ pub(crate) struct Band {
     pub columns: usize,
 }
 
-/// How many columns a band has: up to the last place, and room for the labels and the ends of bars that do not end in it.
+/// How many columns a band has: up to the last place, and room for the labels and the ends of bars that do not end in
+/// it.
 fn column_count(spans: &[Span], widths: &[usize], places: &[usize]) -> usize {
     let mut count = places.last().map_or(0, |last| last.saturating_add(1));
     for (span, width) in spans.iter().zip(widths.iter()) {
@@ -73,8 +74,8 @@ struct Parts {
     widths: Vec<usize>,
 }
 
-/// The parts of these spans that lie among the places from one to another. Where a call goes on from the band before, the band
-/// has a place of its own at its left edge.
+/// The parts of these spans that lie among the places from one to another. Where a call goes on from the band before,
+/// the band has a place of its own at its left edge.
 fn parts_of(
     alloc: Global,
     spans: &[Span],
@@ -145,7 +146,8 @@ fn fits(
     Ok(band.columns <= most)
 }
 
-/// Up to which place a band goes that begins at this one: as far as it has at most so many columns, and at least a place.
+/// Up to which place a band goes that begins at this one: as far as it has at most so many columns, and at least a
+/// place.
 fn end_of_band(
     alloc: Global,
     spans: &[Span],

@@ -76,7 +76,8 @@ fn push_notes(text: &mut String, scene: &Scene<'_>) -> Result<(), AllocError> {
     Ok(())
 }
 
-/// The lanes of the calls, a line each, in bands with an empty line between them, and behind them what is said of the whole.
+/// The lanes of the calls, a line each, in bands with an empty line between them, and behind them what is said of the
+/// whole.
 pub(crate) fn text_picture(alloc: Global, scene: &Scene<'_>) -> Result<String, AllocError> {
     let mut text = String::new(alloc);
     for band in scene.layout.bands.iter() {

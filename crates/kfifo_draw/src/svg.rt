@@ -218,8 +218,8 @@ fn outline_of(call: &Call, bar: &Bar, top: usize, width: usize) -> Outline {
     }
 }
 
-/// Adds the bar of a call, with its label, and all that is known of the call as a title, which viewers show where the pointer
-/// rests.
+/// Adds the bar of a call, with its label, and all that is known of the call as a title, which viewers show where the
+/// pointer rests.
 fn push_call(
     text: &mut String,
     scene: &Scene<'_>,
