@@ -1,5 +1,5 @@
-//! A program to start from: threads that share a queue. Each puts 10,000 items and takes one after each, and the program
-//! prints what was put and what came out, which is the same in every run.
+//! A program to start from: threads that share a queue. Each puts 10,000 items and takes one after each, and the
+//! program prints what was put and what came out, which is the same in every run.
 #![tactic(auto)]
 
 ghost use Rattle.std.specs.Prelude.{◌≡◌, All, IfOk, map};
