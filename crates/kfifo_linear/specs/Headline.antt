@@ -73,8 +73,8 @@ PutsInVisit shape threads = (events : List Event) (here : World) → after shape
     → (c : ℕ) → IsAdd (does (history_of shape threads events)) (marks_of shape (ledger_after_all shape threads events)) c
     → (marks_of shape (ledger_after_all shape threads events)).tail ((ledger_after_all shape threads events).recheck_before_put c) ≤ (marks_of shape (ledger_after_all shape threads events)).visit c
 
--- A take that is about to be won is of a visit from which the head has gone at most once round, and the tail at most twice: the
--- steps of the last 2n visits of head and tail have both points
+-- A take that is about to be won is of a visit from which the head has gone at most once round, and the tail at most
+-- twice: the steps of the last 2n visits of head and tail have both points
 abbrev pub TakesInTime : Shape → ℕ → Type 0
 TakesInTime shape threads = (events : List Event) (here : World) → after shape threads events ≡ Some here
     → (thread start left ends index filled : ℕ)
