@@ -32,8 +32,8 @@ queue_of table o = record { table = table; opened = o }
 abbrev pub known_of : {T : Type 0} → TableId → ℕ → View T → Known
 known_of table thread v = record { table = table; opened = v.opened; thread = thread; seen = seen_of v }
 
--- what is always so of a pass: it acts for its thread alone, which is in no call, its seat holds no slot, and its queue was
--- opened for few threads and stamped calls
+-- what is always so of a pass: it acts for its thread alone, which is in no call, its seat holds no slot, and its queue
+-- was opened for few threads and stamped calls
 pub record IsPass {T : Type 0} (thread : ℕ) (me : Me (Option T) (View T)) : Type 0 where
   pub alone : me.0.parts ≡ part thread (seen_of me.0) (gifts_of me.0) (hand_of me.0) ∷ []
   pub held : me.1 ≡ []
@@ -78,7 +78,8 @@ pub record IsComplete (threads : ℕ) (ps : List Known) : Type 0 where
   pub count : length ps ≡ threads
   pub each : (thread : ℕ) → thread < threads → list_any (λ p. p.thread == thread) ps ≡ true
 
--- the view w has the parts of v, and what was seen by these passes: a schedule which all parts begin, they have all seen
+-- the view w has the parts of v, and what was seen by these passes: a schedule which all parts begin, they have all
+-- seen
 pub record IsGathered {T : Type 0} (v : View T) (ps : List Known) (w : View T) : Type 0 where
   pub opened : w.opened ≡ v.opened
   pub all_seen : (all : List Event) → AllBegin w.parts all → AllBegin v.parts all × AllSeen ps all

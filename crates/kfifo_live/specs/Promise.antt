@@ -25,7 +25,8 @@ pub record KeepsPromise (o : Opening) (seen : List Event) : Type 0 where
   -- it is a schedule of the machine
   pub world : World
   pub reached : world_after o seen ≡ Some world
-  -- the order of its calls is legal: it has all finished ones, keeps each return before a call, and is a run of the k-relaxed queue
+  -- the order of its calls is legal: it has all finished ones, keeps each return before a call, and is a run of the
+  -- k-relaxed queue
   pub legal : IsLegal o.shape.k (calls_of o seen) (order_in o seen)
   -- in that order, where its enqueues carry distinct items, each item is overtaken fewer than k times
   pub few_overtake : AddsAreDistinct (does (calls_of o seen)) (order_in o seen) → (c x : ℕ) → IsIn c (order_in o seen)

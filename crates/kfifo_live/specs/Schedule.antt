@@ -36,8 +36,8 @@ module _ {T : Type 0} where
 abbrev pub world_after : Opening → List Event → Option World
 world_after o events = after o.shape o.threads events
 
--- The holder law: each enqueue of the schedule begins with an item that is in no slot and that no other enqueue in progress
--- holds
+-- The holder law: each enqueue of the schedule begins with an item that is in no slot and that no other enqueue in
+-- progress holds
 abbrev pub HolderLaw : Opening → List Event → Type 0
 HolderLaw o all = AllBeginFree o.shape (Some (first_world o.shape o.threads)) all
 
@@ -117,9 +117,10 @@ module _ {T : Type 0} where
     pub owns : Owns owner seat 0 v.parts
     pub resting : AreResting o.threads v.parts
 
-  -- One schedule: the words of the table are those after it, what each seat has seen of its threads is a beginning of it with
-  -- all their events, and the clock has ticked so seldom that it is not spent. The gifts are of its enqueues, in turn. Where
-  -- there are tokens, each is in one place, and each thread has a hand that fits, be its seat there or not
+  -- One schedule: the words of the table are those after it, what each seat has seen of its threads is a beginning of
+  -- it with all their events, and the clock has ticked so seldom that it is not spent. The gifts are of its enqueues,
+  -- in turn. Where there are tokens, each is in one place, and each thread has a hand that fits, be its seat there or
+  -- not
   pub record OneSchedule (o : Opening) (words : List ℕ) (homes : Homes T) (views : List (View T)) : Type 0 where
     pub all : List Event
     pub gifts : Gifts T

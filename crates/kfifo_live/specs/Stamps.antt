@@ -1,4 +1,5 @@
--- Stamped calls: a tick of the clock, one complete execution of a call, and a tick again; and what a pass has logged of them.
+-- Stamped calls: a tick of the clock, one complete execution of a call, and a tick again; and what a pass has logged of
+-- them.
 use Rattle.std.specs.Prelude.{◌≡◌, ◌==◌, ◌+◌, filter, map, ℕ, ◌*◌, ◌<◌, ◌≤◌, List, [], ◌∷◌, ◌++◌, length, Some, Ok, IsPermutation}
 use Rattle.kfifo_words.specs.Ring.{clock_at}
 use Rattle.kfifo_model.specs.declared.calls.Answer.{Answer}
@@ -61,8 +62,8 @@ pub record Draws (stamp : ℕ) (old new : Known) : Type 0 where
 abbrev pub stamped_call : ℕ → Op → ℕ → ℕ → Answer → Call
 stamped_call thread op first last answer = record { thread = thread; op = op; first = first; end = Some (record { last = last; answer = answer }) }
 
--- A stamped call: a tick, one complete execution of this call with this answer, and a tick; the log has one call more, whose first and
--- last are what the ticks drew. What is promised of a call is so of its run
+-- A stamped call: a tick, one complete execution of this call with this answer, and a tick; the log has one call more,
+-- whose first and last are what the ticks drew. What is promised of a call is so of its run
 pub record MakesStamped (begin : Begin) (answer : Answer) (old new : Logged) : Type 0 where
   pub room : length old.log < old.pass.opened.calls
   pub begun : Known
@@ -81,8 +82,9 @@ pub record MakesStamped (begin : Begin) (answer : Answer) (old new : Logged) : T
 abbrev pub TakesFewStampedSteps : Begin → Known → Known → Type 0
 TakesFewStampedSteps begin old new = length (own old.thread (added old new)) ≤ most_events old.opened.shape begin + 2
 
--- A logged call is a call of the schedule under other stamps: its first is what a tick drew that stands before the first event
--- of the call, with no event of the thread between; its last is what a tick drew that stands after the last event
+-- A logged call is a call of the schedule under other stamps: its first is what a tick drew that stands before the
+-- first event of the call, with no event of the thread between; its last is what a tick drew that stands after the last
+-- event
 pub record IsStamped (all : List Event) (logged made : Call) : Type 0 where
   pub thread : logged.thread ≡ made.thread
   pub op : logged.op ≡ made.op
@@ -111,8 +113,8 @@ pub record HasCalls (o : Opening) (all : List Event) (thread : ℕ) (log : List 
   pub logged : (n : ℕ) → n < length (calls_of o all) → (call (calls_of o all) n).thread ≡ thread → (i : ℕ) × (i < length log)
       × IsStamped all (call log i) (call (calls_of o all) n)
 
--- What is always so of a log: it has the calls of the pass in the schedule that it has seen, each between two ticks of its own,
--- one after the other, and the pass has made no tick but these
+-- What is always so of a log: it has the calls of the pass in the schedule that it has seen, each between two ticks of
+-- its own, one after the other, and the pass has made no tick but these
 pub record IsLogIn (o : Opening) (thread : ℕ) (seen : List Event) (log : List Call) : Type 0 where
   pub count : ticks (own thread seen) ≡ 2 * length log
   pub room : length log ≤ o.calls

@@ -60,8 +60,8 @@ module _ {T : Type 0} where
     pub afterwards : w.0 ≡ with_seen v.0 ((seen_of v.0 ++ between) ++ event (thread_of v.0) begin ∷ []) ((gifts_of v.0 ++ given) ++ gift begin v.1) hand
     pub carries : w.1 ≡ carrying v.0.opened.tokens hand.out hand.payload
 
-  -- A tick of the first part's thread, which is in no call: events of others, after which it finds this stamp on the clock,
-  -- and then its own tick
+  -- A tick of the first part's thread, which is in no call: events of others, after which it finds this stamp on the
+  -- clock, and then its own tick
   pub record DrawsStamp (v : View T) (stamp : ℕ) (w : View T) : Type 0 where
     pub between : List Event
     pub given : Gifts T

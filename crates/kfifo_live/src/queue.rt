@@ -82,16 +82,16 @@ impl Pass {
     /// let put = pass.enqueue(&queue, 7, 0, 258); // item, start slot, turns
     /// ```
     ///
-    /// Scans begin at slot `start`, below k. Returns Done, Full where the ring was seen full, Busy where each of `turns`
-    /// rounds, at least 1, was lost, or Worn where a version would pass the greatest one. After Full, Busy and Worn the
-    /// item is not in the queue and never comes out. It never allocates, waits or locks.
+    /// Scans begin at slot `start`, below k. Returns Done, Full where the ring was seen full, Busy where each of
+    /// `turns` rounds, at least 1, was lost, or Worn where a version would pass the greatest one. After Full, Busy and
+    /// Worn the item is not in the queue and never comes out. It never allocates, waits or locks.
     ///
-    /// What the pass has seen grows by events of others and by one complete execution of the call, whose last event comes
-    /// last. The laws of such executions stand beside it: how many events of its own a call has at most, and what a call
-    /// saw that returned Full, Worn or Busy. Busy after n + 2 rounds or more is another thread's doing.
+    /// What the pass has seen grows by events of others and by one complete execution of the call, whose last event
+    /// comes last. The laws of such executions stand beside it: how many events of its own a call has at most, and what
+    /// a call saw that returned Full, Worn or Busy. Busy after n + 2 rounds or more is another thread's doing.
     ///
-    /// What the pass has then seen keeps the promise: a legal order of its calls, this one among them, in which no item is
-    /// overtaken k times where items are distinct.
+    /// What the pass has then seen keeps the promise: a legal order of its calls, this one among them, in which no item
+    /// is overtaken k times where items are distinct.
     #[inline(always)]
     pub fn enqueue(&mut self, queue: &Queue, item: u32, start: u32, turns: u16) -> Answer
         requires of { IsOf queue.now self.old }
@@ -119,15 +119,15 @@ impl Pass {
     /// let took = pass.dequeue(&queue, 0, 258);
     /// ```
     ///
-    /// Scans begin at slot `start`, below k. Returns Got with the item, Empty where the queue was empty, Busy where each of
-    /// `turns` rounds, at least 1, was lost, or Worn where a version would pass the greatest one. It never allocates, waits
-    /// or locks.
+    /// Scans begin at slot `start`, below k. Returns Got with the item, Empty where the queue was empty, Busy where
+    /// each of `turns` rounds, at least 1, was lost, or Worn where a version would pass the greatest one. It never
+    /// allocates, waits or locks.
     ///
-    /// What the pass has seen grows by events of others and by one complete execution of the call, whose last event comes
-    /// last. The laws of such executions stand beside it, as at `enqueue`.
+    /// What the pass has seen grows by events of others and by one complete execution of the call, whose last event
+    /// comes last. The laws of such executions stand beside it, as at `enqueue`.
     ///
-    /// What the pass has then seen keeps the promise: a legal order of its calls, this one among them, in which no item is
-    /// overtaken k times where items are distinct.
+    /// What the pass has then seen keeps the promise: a legal order of its calls, this one among them, in which no item
+    /// is overtaken k times where items are distinct.
     #[inline(always)]
     pub fn dequeue(&mut self, queue: &Queue, start: u32, turns: u16) -> Answer
         requires of { IsOf queue.now self.old }
