@@ -271,7 +271,8 @@ fn first_filled(is_there: &[bool; 4], start: u32) -> usize
     slot % 4
 }
 
-/// The order in which one worker takes four tasks from a segment of four slots, by the starts of a seed, as digits of a number.
+/// The order in which one worker takes four tasks from a segment of four slots, by the starts of a seed, as digits of a
+/// number.
 fn order_of_starts(seed: u64) -> u64 {
     let mut starts = Starts::new(seed, 1, 4);
     let mut is_there = [true; 4];
@@ -299,7 +300,8 @@ fn order_of_tasks<R: Threads + Sync>(rt: &R, alloc: Global, seed: u64) -> Result
     Ok(order.tasks.load(Ordering::SeqCst))
 }
 
-/// One worker takes tasks in the order that its starts give: each time the first that is there from the start on, round the segment.
+/// One worker takes tasks in the order that its starts give: each time the first that is there from the start on, round
+/// the segment.
 #[test]
 fn the_seed_picks_the_starts(rt: HostRuntime) -> Result<(), Fail> {
     for seed in &[0, 1, 7, 9_223_372_036_854_775_808u64] {
@@ -415,8 +417,8 @@ fn long_tasks(alloc: Global) -> Result<Vec<Task>, AllocError> {
     Ok(tasks)
 }
 
-/// Prints how long one, two and four workers take where a unit of work takes longer than the calls of the queue. The finished
-/// lists and the work done are the same.
+/// Prints how long one, two and four workers take where a unit of work takes longer than the calls of the queue. The
+/// finished lists and the work done are the same.
 #[test]
 fn times_of_workers(rt: HostRuntime) -> Result<(), Fail> {
     let tasks = long_tasks(rt.alloc())?;
