@@ -48,16 +48,17 @@ abbrev pub AllOfRound : ℕ → List Look → Type 0
 AllOfRound round [] = Unit {0}
 AllOfRound round (look ∷ looks) = (round_of look.running ≡ round) × AllOfRound round looks
 
--- these looks are loads of filled slots of a segment, of one slot after the other from the start, beginning at this offset
+-- these looks are loads of filled slots of a segment, of one slot after the other from the start, beginning at this
+-- offset
 abbrev pub AllFilled : Shape → ℕ → ℕ → ℕ → List Look → Type 0
 AllFilled shape segment start offset [] = Unit {0}
 AllFilled shape segment start offset (look ∷ looks) =
     Loads shape look (scan_index shape segment start offset) look.word × (value_of look.word ≢ 0)
     × AllFilled shape segment start (offset + 1) looks
 
--- Full: in one round the call loaded the ends word twice as the same word, whose tail's segment is the last before the head's, and
--- between these two it loaded `probes` filled slots of the tail's segment, from the start on; and it loaded that same word again, and
--- between a filled slot of the head's segment
+-- Full: in one round the call loaded the ends word twice as the same word, whose tail's segment is the last before the
+-- head's, and between these two it loaded `probes` filled slots of the tail's segment, from the start on; and it loaded
+-- that same word again, and between a filled slot of the head's segment
 pub record CauseOfFull (shape : Shape) (start : ℕ) (all : List Look) : Type 0 where
   pub earlier : List Look
   pub first : Look
@@ -79,7 +80,8 @@ pub record CauseOfFull (shape : Shape) (start : ℕ) (all : List Look) : Type 0 
   pub loads_filled : Loads shape filled (scan_index shape (head_of ends) 0 offset) filled.word
   pub is_filled : value_of filled.word ≢ 0
 
--- a look that loaded an empty slot whose version leaves no room for a put and its undo, or an ends word of the last version
+-- a look that loaded an empty slot whose version leaves no room for a put and its undo, or an ends word of the last
+-- version
 pub record FindsWorn (shape : Shape) (look : Look) : Type 0 where
   pub index : ℕ
   pub loads : Loads shape look index look.word

@@ -1,5 +1,5 @@
--- The two programs of Kirsch, Lippautz and Payer's bounded k-FIFO queue (2013), a step at a time: which atomic step comes
--- next at each place in a call, and what the thread does with the word that it found.
+-- The two programs of Kirsch, Lippautz and Payer's bounded k-FIFO queue (2013), a step at a time: which atomic step
+-- comes next at each place in a call, and what the thread does with the word that it found.
 use Rattle.std.specs.Prelude.{ℕ, ◌+◌, ◌-◌, ◌%◌, ◌==◌, not, nat_lt, nat_le, if◌then◌else◌, true, false}
 use Rattle.kfifo_words.specs.declared.shape.Shape.{Shape}
 use Rattle.kfifo_words.specs.Words.{slot_word, value_of, version_of, ends_word, head_of, tail_of}
