@@ -1,5 +1,5 @@
--- Two histories of the same calls, each with numbers of its own. A call may seem to take longer in the first of them, as
--- to someone who watches from outside, so fewer calls seem to precede others there.
+-- Two histories of the same calls, each with numbers of its own. A call may seem to take longer in the first of them,
+-- as to someone who watches from outside, so fewer calls seem to precede others there.
 use Rattle.std.specs.Prelude.{ℕ, ◌≡◌, ◌<◌, length, List, Some}
 use Rattle.kfifo_model.specs.declared.calls.End.{End}
 use Rattle.kfifo_model.specs.declared.calls.Call.{Call}

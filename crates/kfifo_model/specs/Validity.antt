@@ -62,7 +62,8 @@ IsHistory h = (n : ℕ) → n < length h → IsGood h n
 abbrev pub IsGoodBelow : List Call → ℕ → Type 0
 IsGoodBelow h n = (n < length h) × ((j : ℕ) → j < n → IsGood h j)
 
--- the first fault of a list of calls: of the least faulty call the first, in this order. The other faults are a record's
+-- the first fault of a list of calls: of the least faulty call the first, in this order. The other faults are a
+-- record's
 abbrev pub IsFault : List Call → RecordFault → Type 0
 IsFault h (NumberOutOfRange n) = IsGoodBelow h n × (IsInRange (call h n) → ⊥)
 IsFault h (WrongAnswer n) = IsGoodBelow h n × IsInRange (call h n) × (Answers (call h n).op (call h n).end → ⊥)

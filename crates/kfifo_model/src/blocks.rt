@@ -15,8 +15,8 @@ const BLOCK: usize = 512;
 
 /// Rivals, with the first and the last of the steps at which their items were put.
 ///
-/// Where all of them were put after an item, those that overtake it are told by the steps at which they ended
-/// alone, so a search among these finds their number.
+/// If all of them were put after an item, their last steps alone tell which of them overtake it. So a search among
+/// these finds how many do.
 ///
 /// Clauses see it as the list of its rivals.
 #[derive(Drop)]

@@ -234,8 +234,8 @@ pub(crate) fn judge(
     }
 }
 
-/// Returns whether an order of a history's calls, given by their numbers from 0, is legal for a queue that may give any
-/// of its k oldest items, and if not, its first fault. k is 1 to 64.
+/// Returns whether an order of a history's calls is legal for a queue that may give any of its k oldest items, and if
+/// not, its first fault. The order has the numbers of the calls, from 0. k is 1 to 64.
 ///
 /// ```rust
 /// let verdict = check_order(alloc, history, k, order)?;

@@ -1,9 +1,9 @@
 //! The search for a legal order.
 //!
-//! Beginnings of orders are built level by level, one call more in each. Of a beginning only the calls done and the
-//! items left count, so equal ones are kept once, and an item that no call takes any more is as good as any other
-//! such item. A call that is legal and changes nothing goes at once. A beginning from which some dequeue can no
-//! longer get its item is dropped.
+//! The search builds beginnings of orders level by level, one call more in each. Of a beginning only the calls done and
+//! the items left count, so equal ones are kept once. An item that no call takes any more is as good as any other such
+//! item. A call that is legal and changes nothing goes at once. A beginning from which some dequeue can no longer get
+//! its item is dropped.
 ghost use Rattle.std.specs.Prelude.{ℕ, ◌≡◌, ◌≤◌, ◌<◌, ◌+◌, ◌↔◌, ◌⊎◌, Bool, true, false, slice_set, replicate, List, [], ◌∷◌};
 ghost use Rattle.std.specs.Prelude.{length, All, Contains, Any, IsTrue, IsSome, IfSome, IfOk, OnOk, MatchOption, MatchResult};
 ghost use Rattle.kfifo_model.specs.Lists.{IsIn};
