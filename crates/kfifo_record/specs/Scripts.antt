@@ -52,7 +52,8 @@ EachMakes [] [] [] = Unit {0}
 EachMakes (script ∷ scripts) (old ∷ olds) (new ∷ news) = MakesInTurn script old new × EachMakes scripts olds news
 EachMakes scripts olds news = ⊥
 
--- these are the passes of a queue of this shape, opened with one for each script and room for its calls, before any call
+-- these are the passes of a queue of this shape, opened with one for each script and room for its calls, before any
+-- call
 pub record IsOpenFor (shape : Shape) (scripts : List (List Begin)) (queue : OpenQueue) (passes : List Logged) : Type 0 where
   pub opened : queue.opened ≡ stamped_opening shape (length scripts) (room_for scripts)
   pub passes_are : passes ≡ new_logs (new_passes queue 0 (length scripts))
