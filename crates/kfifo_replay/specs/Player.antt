@@ -87,7 +87,8 @@ pub record IsFirstRefused (shape : Shape) (scripts : List (List Begin)) (picks :
   pub made : IsTrue (is_some (events_of shape scripts (take place picks)))
   pub refused : IsRefused shape scripts (take place picks) (get_or picks place 0)
 
--- Of these picks, after earlier ones, the first that is refused is at this place: those before it were made, and no other
+-- Of these picks, after earlier ones, the first that is refused is at this place: those before it were made, and no
+-- other
 pub record StopsAt (shape : Shape) (scripts : List (List Begin)) (earlier picks : List ℕ) (place : ℕ) (p : Player) : Type 0 where
   pub within : place < length picks
   pub refused : IsRefused shape scripts (earlier ++ take place picks) (get_or picks place 0)
