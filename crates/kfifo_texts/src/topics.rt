@@ -66,8 +66,8 @@ fn push_meaning(text: &mut String, help: &str, topic: &Topic) -> Result<(), Allo
     Ok(())
 }
 
-/// What is said of the first of the topics with which the arguments begin, none where they begin with none: its lines of
-/// the help, and what is allowed and what to do. The topics name the helps by their places.
+/// What is said of the first of the topics with which the arguments begin, none where they begin with none: its lines
+/// of the help, and what is allowed and what to do. The topics name the helps by their places.
 pub fn explanation(
     alloc: Global,
     arguments: &[&str],
