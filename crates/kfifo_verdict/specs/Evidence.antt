@@ -35,7 +35,8 @@ pub record IsSingle (h : List Call) (x p : ℕ) : Type 0 where
   pub alone : (c : ℕ) → Puts h x c → c ≡ p
   pub once : (c d : ℕ) → Gets h x c → Gets h x d → c ≡ d
 
--- The certain presence of the single item that call p puts: after the call's end, and before the call that gets it begins.
+-- The certain presence of the single item that call p puts: after the call's end, and before the call that gets it
+-- begins.
 pub record IsCertainlyThere (h : List Call) (p moment : ℕ) : Type 0 where
   pub item : ℕ
   pub single : IsSingle h item p
@@ -62,8 +63,8 @@ pub record IsNotEmpty (h : List Call) (c : ℕ) (puts : List ℕ) : Type 0 where
   pub met : AllByRecursion (λ p. (moment : ℕ) × IsMomentOf h c moment × IsCertainlyThere h p moment) puts
   pub distinct : HasNoRepeats puts
 
--- The single item that p puts is certainly older than what `put` puts, and there at the call `get`: p precedes `put`, and
--- no call gets the item but one that `get` precedes.
+-- The single item that p puts is certainly older than what `put` puts, and there at the call `get`: p precedes `put`,
+-- and no call gets the item but one that `get` precedes.
 pub record IsOlder (h : List Call) (get put p : ℕ) : Type 0 where
   pub item : ℕ
   pub single : IsSingle h item p

@@ -1,5 +1,5 @@
--- How the calls of a plain history take their turns for k = 1. Moments are numbers of calls: a call may stand at one from
--- its own number on, until the first call that it precedes.
+-- How the calls of a plain history take their turns for k = 1. Moments are numbers of calls: a call may stand at one
+-- from its own number on, until the first call that it precedes.
 use Rattle.std.specs.Prelude.{ℕ, ◌≡◌, ◌+◌, ◌<◌, ◌≤◌, ◌⊎◌, Bool, List, length, slice_index_or}
 use Rattle.std.specs.List.{All, Contains}
 use Rattle.std.specs.List.Sorted.{IsSortedBy}
@@ -21,8 +21,8 @@ pub record IsLate (h : List Call) (gone late : ℕ) : Type 0 where
   pub got : gone < length h → IsStart h (call h gone).end late
   pub never : length h ≤ gone → late ≡ length h + 1
 
--- The moment by which the item of put p has to be in: until its put ends, and its get, and the put of each item whose get
--- begins after that get.
+-- The moment by which the item of put p has to be in: until its put ends, and its get, and the put of each item whose
+-- get begins after that get.
 pub record IsDue (ps : List Presence) (p late due : ℕ) : Type 0 where
   pub put : due ≤ (presence ps p).start
   pub got : due ≤ late

@@ -219,8 +219,8 @@ pub(crate) fn no_skips(alloc: Global, count: usize) -> Result<Vec<usize>, AllocE
     Ok(skips)
 }
 
-/// How many items are certainly there from call `put` on and got by no call below `after`, or `limit` if they are no fewer.
-/// Items that are gone at call n are passed over from then on.
+/// How many items are certainly there from call `put` on and got by no call below `after`, or `limit` if they are no
+/// fewer. Items that are gone at call n are passed over from then on.
 fn count_older(
     presences: &[Presence],
     skips: &mut Vec<usize>,
@@ -386,8 +386,9 @@ fn evidence_among(alloc: Global, calls: &[Call], k: usize) -> Result<Option<Evid
     Ok(None)
 }
 
-/// The evidence that a history has no legal order for a queue that may give any of its k oldest items: of the kinds that
-/// are there the first, and of that kind the one with the least call. None exactly where there is none of the four.
+/// The evidence that a history has no legal order for a queue that may give any of its k oldest items: of the kinds
+/// that are there the first, and of that kind the one with the least call. None exactly where there is none of the
+/// four.
 pub fn evidence(alloc: Global, history: &History, k: u32) -> Result<Option<Evidence>, AllocError>
     requires { (1 ≤ k) × (k ≤ 64) }
     ensures first { IfOk result (λ found. MatchOption found (HasNoEvidence k history.now) (IsFirstEvidence k history.now)) }

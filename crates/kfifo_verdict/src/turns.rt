@@ -1,8 +1,9 @@
 //! A legal order of the calls of a plain history for k = 1.
 //!
-//! Moments are numbers of calls. Each item goes in as late as it may: its put may not end before, nor its get, nor the put of
-//! an item whose get begins after that get. The items stand in line by these moments, and each goes out as soon as its get
-//! has begun and those before it are out. So the list is empty as each call begins at which no item is certainly there.
+//! Moments are numbers of calls. Each item goes in as late as it may: its put may not end before, nor its get, nor the
+//! put of an item whose get begins after that get. The items stand in line by these moments, and each goes out as soon
+//! as its get has begun and those before it are out. So the list is empty as each call begins at which no item is
+//! certainly there.
 ghost use Rattle.std.specs.Prelude.{ℕ, ◌≡◌, ◌+◌, ◌<◌, ◌≤◌, ◌↔◌, ◌^◌, IsTrue, List, length, map, slice_index_or, IfOk, IfSome, IsSome};
 ghost use Rattle.kfifo_model.specs.Histories.{IsLegal};
 ghost use Rattle.kfifo_model.specs.Validity.{IsHistory};
@@ -102,7 +103,8 @@ fn line_of(
     Ok(line)
 }
 
-/// A turn for each call, as if all neither put nor got an item: an Empty as a call begins at which no item is certainly there.
+/// A turn for each call, as if all neither put nor got an item: an Empty as a call begins at which no item is certainly
+/// there.
 fn idle_turns(
     alloc: Global,
     calls: &[Call],
@@ -225,8 +227,8 @@ fn plain_order(alloc: Global, calls: &[Call], items: &Items) -> Result<Vec<usize
     by_turns(alloc, turns.as_slice())
 }
 
-/// A legal order for k = 1 of the calls of a history without evidence, where it is plain: each item that is put is single,
-/// and each call has ended. Its time is near linear in the calls.
+/// A legal order for k = 1 of the calls of a history without evidence, where it is plain: each item that is put is
+/// single, and each call has ended. Its time is near linear in the calls.
 pub(crate) fn order_of_plain(
     alloc: Global,
     calls: &[Call],

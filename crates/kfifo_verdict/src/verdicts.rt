@@ -39,7 +39,8 @@ pub enum Judgement {
     Legal(Vec<usize>),
     /// No order is legal, because of this.
     NoOrder(Evidence),
-    /// There is none of the four kinds of evidence, and no order was found, for this reason: there may be one all the same.
+    /// There is none of the four kinds of evidence, and no order was found, for this reason: there may be one all the
+    /// same.
     Undecided(Stuck),
 }
 

@@ -1,14 +1,14 @@
 //! The search for a legal order.
 //!
-//! It walks through the finished calls by rising last step, and lets each go when it is due, or when another needs it to.
-//! Which of two overlapping puts comes first is left open until a get needs to know. Of all puts of its item a due get
-//! takes one that has begun. Puts that precede that one have to stand before it: their items come to the *front*, where
-//! fewer than k have room. Where there is no room, the item of a waiting get leaves the front. An Empty needs an empty
-//! front, and that no put has ended whose item is there.
+//! It walks through the finished calls by rising last step, and lets each go when it is due, or when another needs it
+//! to. Which of two overlapping puts comes first is left open until a get needs to know. Of all puts of its item a due
+//! get takes one that has begun. Puts that precede that one have to stand before it: their items come to the *front*,
+//! where fewer than k have room. Where there is no room, the item of a waiting get leaves the front. An Empty needs an
+//! empty front, and that no put has ended whose item is there.
 //!
 //! So few choices are left: which put of an item that was put more than once, which item leaves the front, and when an
-//! Empty goes. Where a due call cannot go, the last of them is changed. A state in which the walk has been before is not
-//! gone through again, since from there on it would only fail once more.
+//! Empty goes. Where a due call cannot go, the last of them is changed. A state in which the walk has been before is
+//! not gone through again, since from there on it would only fail once more.
 ghost use Rattle.std.specs.Prelude.{◌≤◌, IfOk, IfSome};
 ghost use Rattle.kfifo_model.specs.Histories.{IsLegal};
 
@@ -120,8 +120,8 @@ impl Walk {
         (best, others)
     }
 
-    /// An item leaves the front, if any can, so that get `but` has room. The one whose get ends first goes, since it has
-    /// to go first anyhow; or, where that led nowhere, the one whose get ends last.
+    /// An item leaves the front, if any can, so that get `but` has room. The one whose get ends first goes, since it
+    /// has to go first anyhow; or, where that led nowhere, the one whose get ends last.
     fn make_room(&mut self, but: usize, step: u64, picks: &mut Picks) -> Result<bool, AllocError> {
         let (exit, others) = self.exit(but, picks.is_turned());
         if others {
@@ -168,9 +168,9 @@ impl Walk {
         None
     }
 
-    /// Of the puts of an item that have begun, those that come into question: each begins later than the one before it and
-    /// ends sooner. Any other begins later and ends later than one of these, which is better: fewer puts precede it, and
-    /// it is the one that precedes more. Returns the one at place `at`, and whether there is a next one.
+    /// Of the puts of an item that have begun, those that come into question: each begins later than the one before it
+    /// and ends sooner. Any other begins later and ends later than one of these, which is better: fewer puts precede
+    /// it, and it is the one that precedes more. Returns the one at place `at`, and whether there is a next one.
     fn candidate(&self, item: usize, at: usize) -> (Option<usize>, bool) {
         let mut found: Option<usize> = None;
         let mut best = u64::MAX;
@@ -264,8 +264,8 @@ impl Walk {
         Ok(drained)
     }
 
-    /// A put ends. From here on its item is there for certain until it is got, so Empties that wait had better go before,
-    /// if they can. They may also go later.
+    /// A put ends. From here on its item is there for certain until it is got, so Empties that wait had better go
+    /// before, if they can. They may also go later.
     fn end_put(&mut self, put: usize, step: u64, way: usize) -> Result<Outcome, AllocError> {
         let waits = self.state.empty_that_waits(&self.facts).is_some();
         if way > 0 || !waits || !self.state.loose.has(put) {
