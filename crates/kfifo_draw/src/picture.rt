@@ -109,7 +109,8 @@ impl<T: Drop> From<AllocFailed<T>> for DrawFault {
 /// picture says whether the order of the whole is legal for k; of one that is not, the call at which it fails is
 /// marked.
 ///
-/// Refuses: TooMany where over 4,096 calls belong to the part, else Memory where an allocation failed.
+/// `alloc`, the runtime's allocator, makes room for the text. Refuses: TooMany where over 4,096 calls belong to the
+/// part, else Memory where an allocation failed.
 pub fn draw(alloc: Global, history: &History, drawing: &Drawing<'_>) -> Result<String, DrawFault>
     ensures { MatchResult result (λ _. AreFew (IsInPart history.now drawing.now.logged.now drawing.now.part) (length history.now))
         (IsDrawFault history.now drawing.now.logged.now drawing.now.part) }
