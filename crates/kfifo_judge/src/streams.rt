@@ -43,7 +43,11 @@ pub trait Sink {
         ensures failures { CountsWrite result (length piece.now) (failed self.old) (failed self.new) };
 }
 
-/// A reader or a writer of std as a source or a sink.
+/// A reader or a writer of std as a source or a sink. This sink keeps in memory what is written:
+///
+/// ```rust
+/// let mut sink = FromStd::new(Vec::new(alloc));
+/// ```
 #[derive(Drop)]
 pub struct FromStd<T> {
     /// The reader or the writer.
@@ -123,7 +127,8 @@ impl From<AllocError> for ReadFault {
     }
 }
 
-/// All that a source gives, at most 16,777,216 bytes. A call that failed is not made again.
+/// Returns all that a source gives. Refuses: Failed where a call of the source failed, which is not made again; TooLong
+/// where over 16,777,216 bytes came; Memory where an allocation failed.
 pub fn read_all<R: Source>(alloc: Global, source: &mut R) -> Result<Vec<u8>, ReadFault>
     ensures read { IfOk result (λ v. IfSome (R.remaining source.old) (λ xs. xs ≡ v.items)) }
     ensures small { IfOk result (λ v. length v.items ≤ 16777216) }
