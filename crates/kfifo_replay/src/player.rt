@@ -159,8 +159,8 @@ impl Replay {
     /// }
     /// ```
     ///
-    /// Refuses: BadScript where there is no script, or there are over 64, or one has over 64 calls, a tick, or a call
-    /// out of range; then Memory where an allocation failed.
+    /// `alloc`, the runtime's allocator, makes all the room. Refuses: BadScript where there is no script, or there are
+    /// over 64, or one has over 64 calls, a tick, or a call out of range; then Memory where an allocation failed.
     pub fn open(alloc: Global, shape: Shape, scripts: &[Vec<Begin>]) -> Result<Replay, ReplayFault>
         ensures opened { IfOk result (λ r. StandsFor shape (map (λ script. script.items) scripts.now) [] r) }
         ensures refused { (result ≡ Err ReplayFault.BadScript) ↔ (AreScripts shape (map (λ script. script.items) scripts.now) → ⊥) }
@@ -269,7 +269,7 @@ impl Replay {
         Ok(())
     }
 
-    /// As `feed` of a list with this pick so many times.
+    /// Makes the events of this pick so many times, and refuses as `feed` does with such a list.
     pub fn feed_many(&mut self, pick: u32, count: u32) -> Result<(), ReplayFault>
         ensures made { OnOk result (OfItsPicks self.old (λ shape scripts earlier. StandsFor shape scripts (earlier ++ replicate count pick) self.new)) }
         ensures refused { IfErr result (λ fault. OfItsPicks self.old (λ shape scripts earlier. Stops shape scripts earlier (replicate count pick) fault self.new)) }

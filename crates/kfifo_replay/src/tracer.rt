@@ -102,7 +102,7 @@ impl Tracer {
         true
     }
 
-    /// Makes the events of these picks, as `Replay::feed`.
+    /// Makes the events of these picks, and refuses one, as `Replay::feed`.
     pub fn feed(&mut self, picks: &[u32]) -> Result<(), ReplayFault>
         ensures made { OnOk result (OfTracedPicks self.old (λ shape scripts earlier. Traces shape scripts (earlier ++ picks.now) self.new)) }
         ensures refused { IfErr result (λ fault. OfTracedPicks self.old (λ shape scripts earlier. Stops shape scripts earlier picks.now fault self.new.player)) }
