@@ -62,7 +62,8 @@ fn lower_bound(alloc: Global, calls: &[Call]) -> Result<usize, AllocError>
 
 /// Returns bounds of the least k for which the history has a legal order. It is at least one more than the greatest
 /// number of items that are certainly older and there where a single item is got. It is at most the least k, from there
-/// to 64, for which `witness` finds an order.
+/// to 64, for which `witness` finds an order with `tries`; a smaller k may have an order that `witness` does not find.
+/// An error means that an allocation failed.
 pub fn least_k(alloc: Global, history: &History, tries: u64) -> Result<Bounds, AllocError>
     ensures { IfOk result (AreBounds history.now) }
 {

@@ -429,9 +429,9 @@ pub(crate) fn search(
     }
 }
 
-/// A legal order of the history for a queue that may give any of its k oldest items, or none where none was found: then
-/// there may be one all the same. At most `tries` choices of the search are undone; where none is, its time is near
-/// linear in the calls times k.
+/// Returns a legal order of the history for a queue that may give any of its k oldest items, or none where it found
+/// none: then there may be one all the same. Its search undoes at most `tries` choices; where it undoes none, its time
+/// is near linear in the calls times k. An error means that an allocation failed.
 pub fn witness(
     alloc: Global,
     history: &History,
