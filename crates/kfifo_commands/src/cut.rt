@@ -20,8 +20,8 @@ pub(crate) enum Cut {
     Calls(Stretch),
     /// Those in these lines of the log.
     Lines(Stretch),
-    /// Those that the evidence names, and those that overlap one of them or stand within so many calls of one; all
-    /// where there is no evidence.
+    /// The calls that the evidence names, and the calls that overlap one of them or stand within so many calls of one;
+    /// all calls where there is no evidence.
     Evidence(u32),
 }
 

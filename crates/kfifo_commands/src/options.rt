@@ -36,8 +36,7 @@ pub struct ReplayOptions<'a> {
     pub turns: u16,
     /// The picks, as they are written.
     pub picks: &'a str,
-    /// The thread that makes no event behind the picks, while each other goes to the end of its script; none where
-    /// nobody does.
+    /// The thread that stops after the picks, while each other goes to the end of its script; none where all stop.
     pub stopped: Option<u32>,
     /// Whether the points of the calls in the order are printed too.
     pub points: bool,

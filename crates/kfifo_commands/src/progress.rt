@@ -23,7 +23,7 @@ impl Progress for Silent {
 /// The steps that are made between two calls of a progress.
 const PIECE: u32 = 262_144;
 
-/// Counts the steps of a work, and tells each time that 262,144 further ones are made.
+/// Counts the steps of a piece of work, and tells the progress at each 262,144 further ones.
 #[derive(Drop)]
 pub struct Meter<'a, P> {
     progress: &'a mut P,
