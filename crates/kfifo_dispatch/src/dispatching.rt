@@ -43,9 +43,9 @@ const MAX_WORKERS: u32 = 63;
 /// 65,536 calls to take. A worker finishes itself each task that the queue refuses to take back. The caller finishes
 /// what is left when all have ended. The dispatch returns if the gate's calls return.
 ///
-/// TooManyTasks where there are over 1,024; then RepeatedId where two have one id; then WorkersOutOfRange where the
-/// number of workers is not 1 to 63; Memory where an allocation failed. After a refusal nothing is kept, and all
-/// workers that were started have ended.
+/// Refuses: TooManyTasks where there are over 1,024; then RepeatedId where two have one id; then WorkersOutOfRange
+/// where the number of workers is not 1 to 63; Memory where an allocation failed. After a refusal nothing is kept, and
+/// all workers that were started have ended.
 pub fn dispatch<R: Threads + Sync, G: Gate + Sync>(
     threads: &R,
     alloc: Global,

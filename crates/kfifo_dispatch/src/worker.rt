@@ -153,7 +153,7 @@ pub(crate) fn work_off_refused<L: Tasks, G: Gate>(
     }
 }
 
-/// Adds a finished task, if there is one, to those that are kept.
+/// Adds a finished task, if there is one, to the ones that are kept.
 pub(crate) fn keep<L: Tasks>(
     kept: &mut Vec<Done<L>>,
     finished: Option<Done<L>>,
