@@ -37,8 +37,7 @@ pub struct Drawing<'a> {
     pub marking: Marking<'a>,
     /// The k of the verdict on an order, 1 to 64: a dequeue may give any of the k oldest items.
     pub k: u32,
-    /// Where each call of the history stands in the log that it is the record of, and when it was, by the calls'
-    /// numbers; empty of a history of no log.
+    /// For the record of a log, where each call stands in the log and when it was, by the calls' numbers; else empty.
     pub logged: &'a [LoggedCall],
     pub ghost some_places: { 1 ≤ k },
     pub ghost few_places: { k ≤ 64 },

@@ -9,7 +9,7 @@ use std::fmt::Write;
 
 /// The width of a column, somewhat more than a character's.
 const COLUMN: usize = 8;
-/// The room at the left, for the numbers of the threads, and that at the right.
+/// The room at the left, for the numbers of the threads, and the room at the right.
 const LEFT: usize = 96;
 
 const RIGHT: usize = 16;
@@ -146,7 +146,7 @@ fn column_left(column: usize) -> usize {
     column.saturating_mul(COLUMN).saturating_add(LEFT)
 }
 
-/// Where the lines of a picture are that are as wide and as high as it.
+/// Where the lines stand that are as wide and as high as a picture.
 #[derive(Clone, Copy)]
 struct Frame {
     /// The width of the picture.
