@@ -35,7 +35,7 @@ pub fn few_overtake_in_the_order()
         → overtaken_in h (by_point m.stands m.point steps h) c < k }
 {}
 
-/// Of the overtakings of an item fewer than k are certain by the history, where its items are distinct.
+/// Fewer than k overtakings of an item are certain by the history, where its items are distinct.
 pub fn few_certainly_overtake()
     ensures { (k : ℕ) (h : List Call) (m : Marks) → PointsFit k (does h) m → StandsFit h m → AddsAreDistinct (does h) (numbers_of h)
         → (c x : ℕ) → IsFinished h c → does h c ≡ Adds x → certainly_overtaken h c < k }

@@ -116,8 +116,8 @@ fn order_events(
 
 /// The linearization order of the schedule of these events, as numbers of calls by their first events.
 ///
-/// Refused: NotASchedule exactly where the number of threads is not 1 to 64, or else, Memory aside, an
-/// event is not enabled; Memory where an allocation failed.
+/// Refuses: NotASchedule exactly where the number of threads is not 1 to 64, or else, Memory aside, an event is not
+/// enabled; Memory where an allocation failed.
 ///
 /// The clauses from `legal` on speak of every schedule of this shape and number of threads, whatever the call returns.
 /// The order of a schedule is a legal order of its history: it has all finished calls and some unfinished enqueues,

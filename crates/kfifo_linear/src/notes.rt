@@ -75,8 +75,8 @@ impl Visits {
     }
 }
 
-/// What is kept of a schedule: of head and tail the latest visits, of each slot what stands in it, of
-/// each thread its call, and where each call stands.
+/// What is kept of a schedule: the latest visits of head and tail, what stands in each slot, each thread's call, and
+/// where each call stands.
 #[derive(Drop)]
 pub struct Notes {
     step: u64,
@@ -107,7 +107,7 @@ impl Model for Notes {
 }
 
 impl Notes {
-    /// Of no event, with room for the latest 2n visits, and for these threads and calls.
+    /// Makes the notes of no event, with room for the latest 2n visits, and for these threads and calls.
     pub fn new(
         alloc: Global,
         shape: &Shape,
