@@ -106,8 +106,8 @@ fn gather_all(shared: &Words<()>, mut seat: ThreadSeat<()>, mut passes: Vec<Pass
 /// let left = close(alloc, queue, vec![in alloc; pass]?)?; // the items that are left
 /// ```
 ///
-/// MissingPass where not each pass of the opening is there once, which is tested first; Memory where an allocation
-/// failed. The items are then lost to the caller.
+/// Refuses: MissingPass where not each pass of the opening is there once, which is tested first; Memory where an
+/// allocation failed. The items are then lost to the caller.
 pub fn close(alloc: Global, queue: Queue, mut passes: Vec<Pass>) -> Result<Vec<u32>, CloseFault>
     requires { All (IsOf queue) passes.items }
     ensures ok { IfOk result (λ items. Closes queue passes.items items.items) }
