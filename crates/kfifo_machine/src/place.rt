@@ -67,7 +67,7 @@ pub enum EnqueuePhase {
         ends: Ends,
         offset: u32,
     },
-    /// Loads the ends word again, a slot of the head's segment being filled.
+    /// Loads the ends word again, after a filled slot of the head's segment.
     ConfirmFull {
         ends: Ends,
     },

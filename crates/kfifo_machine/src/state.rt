@@ -39,7 +39,7 @@ impl Model for State {
 
 /// The opening state: every word is 0, every thread idle.
 ///
-/// ThreadsOutOfRange where the number of threads is not 1 to 64; Memory where an allocation failed.
+/// Refuses: ThreadsOutOfRange where the number of threads is not 1 to 64; Memory where an allocation failed.
 pub fn start(alloc: Global, shape: Shape, threads: u32) -> Result<State, StartFault>
     ensures opening { IfOk result (λ s. (s.shape ≡ shape) × (s.world ≡ opening shape threads)) }
     ensures threads { (result ≡ Err StartFault.ThreadsOutOfRange) ↔ ((threads ≡ 0) ⊎ (64 < threads)) }
