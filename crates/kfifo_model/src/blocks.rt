@@ -1,4 +1,4 @@
-//! Calls that got an item, in blocks by when it was put, so that those which overtake an item are counted fast.
+//! Calls that got an item, in blocks by when it was put, so that the calls that overtake an item are counted fast.
 ghost use Rattle.std.specs.Prelude.{ℕ, ◌≡◌, ◌≤◌, ◌<◌, List, map, length, IfOk, All, IsPermutation, count_by};
 ghost use Rattle.std.specs.List.{flat_map};
 ghost use Rattle.std.specs.List.Sorted.{IsNonDecreasingBy};

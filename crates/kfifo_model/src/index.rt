@@ -33,7 +33,7 @@ pub struct Overtaken {
 /// Why nothing was counted.
 #[derive(Clone, Copy, Debug, PartialEq, Eq, Error)]
 pub enum MeasureFault {
-    /// 2, as of one call: two enqueues, each Done or unfinished, carry one item, or two dequeues got one.
+    /// 2, as for one call: two enqueues, each Done or unfinished, carry one item, or two dequeues got one.
     #[error("an item is repeated: it was put or taken twice")]
     RepeatedItem,
     /// 3: an allocation failed.
@@ -199,7 +199,7 @@ fn measure_calls(
     ensures { IfOk result (λ v. v.items ≡ measured calls.now (length calls.now)) }
 {
     let mut rivals = rivals(alloc, calls, puts)?;
-    // Blocks of rivals that were put soon after each other: of all blocks one at most is counted one by one.
+    // Blocks of rivals that were put soon after each other: at most one of all blocks is counted one by one.
     rivals.sort_by_key(|rival| rival.put_first)?;
     let blocks = blocks_of(alloc, &rivals)?;
     let mut found = Vec::new(alloc);

@@ -141,7 +141,7 @@ fn is_legal(alloc: Global, calls: &[Call], k: usize, order: &[usize]) -> Result<
 
 /// For each Got of a legal order in turn, the place in the list of the item that it removes.
 ///
-/// Refused: NotLegal exactly where the order is no legal one of the history; Memory where an allocation failed.
+/// Refuses: NotLegal exactly where the order is no legal one of the history; Memory where an allocation failed.
 pub fn ranks(
     alloc: Global,
     history: &History,
@@ -320,7 +320,7 @@ fn overtaken_among(calls: &[Call], call: usize) -> Result<usize, OvertakenFault>
 
 /// How many overtakings of the item that this enqueue put are certain. It takes no memory.
 ///
-/// Refused, in this order: NotAnEnqueue where no finished enqueue that returned Done has the number; RepeatedItem where
+/// Refuses, in this order: NotAnEnqueue where no finished enqueue that returned Done has the number; RepeatedItem where
 /// an item was put or taken twice.
 pub fn overtaken(history: &History, call: usize) -> Result<usize, OvertakenFault>
     ensures { MatchResult result
