@@ -23,8 +23,8 @@ use std::thread::{Threads, map_vec};
 /// Before call number c of script t, from 1, its worker passes `gate` with t and c. One of the workers is the calling
 /// thread. Where no thread can be made, scripts run one after the other. The call returns if the gate's calls return.
 ///
-/// ThreadsOutOfRange where there are not 1 to 64 scripts; then CallsOutOfRange where one has over 1,024 calls; Memory
-/// where an allocation failed. After a refusal nothing is kept, and all workers that were started have ended.
+/// Refuses: ThreadsOutOfRange where there are not 1 to 64 scripts; then CallsOutOfRange where one has over 1,024 calls;
+/// Memory where an allocation failed. After a refusal nothing is kept, and all workers that were started have ended.
 pub fn record_scripts<R: Threads + Sync, G: Gate + Sync>(
     threads: &R,
     alloc: Global,
