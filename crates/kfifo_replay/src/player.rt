@@ -254,9 +254,8 @@ impl Replay {
     /// Makes the events of these picks. Each pick names the thread that makes the next event: an idle thread begins the
     /// next call of its script, and a thread inside a call goes on.
     ///
-    /// BadPick with the place among these picks, from 0, of the first one that names no script or a
-    /// thread whose script has ended: the picks before it are made, it and the later ones are not. It
-    /// takes no memory.
+    /// Refuses: BadPick with the place among these picks, from 0, of the first one that names no script or a thread
+    /// whose script has ended: the picks before it are made, it and the later ones are not. It takes no memory.
     pub fn feed(&mut self, picks: &[u32]) -> Result<(), ReplayFault>
         ensures made { OnOk result (OfItsPicks self.old (λ shape scripts earlier. StandsFor shape scripts (earlier ++ picks.now) self.new)) }
         ensures refused { IfErr result (λ fault. OfItsPicks self.old (λ shape scripts earlier. Stops shape scripts earlier picks.now fault self.new)) }
@@ -291,7 +290,7 @@ impl Replay {
 
     /// By rising number, each thread but the stopped one makes all events that its script still has.
     ///
-    /// BadScript where no script has the number of the stopped thread; then nothing changes. It takes no
+    /// Refuses: BadScript where no script has the number of the stopped thread; then nothing changes. It takes no
     /// memory.
     pub fn finish(&mut self, stopped: u32) -> Result<(), ReplayFault>
         ensures finished { OnOk result (OfItsPicks self.old (λ shape scripts earlier. Finished stopped shape scripts (length scripts) earlier self.new)) }
