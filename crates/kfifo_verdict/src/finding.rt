@@ -90,7 +90,7 @@ fn taken_twice(calls: &[Call], puts: &Tallies, gets: &Tallies) -> Option<usize>
     None
 }
 
-/// For each call, of the items that are certainly there from that call on the one that stays longest.
+/// For each call, the item that stays longest of all that are certainly there from that call on.
 fn stays_from(
     alloc: Global,
     calls: &[Call],
@@ -115,7 +115,7 @@ fn stays_from(
     Ok(stays)
 }
 
-/// For each call, of the items that are certainly there from that call or an earlier one on the one that stays longest.
+/// For each call, the item that stays longest of all that are certainly there from that call or an earlier one on.
 pub(crate) fn longest_stays(
     alloc: Global,
     calls: &[Call],

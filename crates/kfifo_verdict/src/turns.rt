@@ -21,7 +21,7 @@ use std::alloc::{AllocError, Global};
 /// The place of an item in the line: by when it has to be in, by when out, and its put.
 type Place = (usize, usize, usize);
 
-/// When a call has its turn: at a moment, and of those at one moment by rising rank.
+/// When a call has its turn: at a moment, and at one moment by rising rank.
 #[derive(Clone, Copy)]
 pub(crate) struct Turn {
     /// The moment: a call's number, for when it begins, or the number of calls, for the end.

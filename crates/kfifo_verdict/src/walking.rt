@@ -7,8 +7,8 @@
 //! empty front, and that no put has ended whose item is there.
 //!
 //! So few choices are left: which put of an item that was put more than once, which item leaves the front, and when an
-//! Empty goes. Where a due call cannot go, the last of them is changed. A state in which the walk has been before is
-//! not gone through again, since from there on it would only fail once more.
+//! Empty goes. Where a due call cannot go, the walk changes the last of them. A state in which the walk has been before
+//! is not gone through again, since from there on it would only fail once more.
 ghost use Rattle.std.specs.Prelude.{◌≤◌, IfOk, IfSome};
 ghost use Rattle.kfifo_model.specs.Histories.{IsLegal};
 
