@@ -32,7 +32,11 @@ fn run_events(
     Ok(state)
 }
 
-/// The state after these events, from the opening.
+/// Returns the state after these events, from the opening.
+///
+/// ```rust
+/// kfifo_machine::run(alloc, shape, threads, events)
+/// ```
 ///
 /// Refuses, in this order: ThreadsOutOfRange where the number of threads is not 1 to 64; Memory where an allocation
 /// failed; NotASchedule with the place of the first event that is not enabled.
