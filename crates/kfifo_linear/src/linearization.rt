@@ -114,7 +114,11 @@ fn order_events(
     Ok(linearizer.order(alloc)?)
 }
 
-/// The linearization order of the schedule of these events, as numbers of calls by their first events.
+/// Returns the linearization order of the schedule of these events, as numbers of calls by their first events.
+///
+/// ```rust
+/// kfifo_linear::linearize(alloc, shape, threads, events)
+/// ```
 ///
 /// Refuses: NotASchedule exactly where the number of threads is not 1 to 64, or else, Memory aside, an event is not
 /// enabled; Memory where an allocation failed.
