@@ -27,7 +27,7 @@ impl Drop for Counted {
     }
 }
 
-/// What `give` returns, with the number of the payload that it returns, which is then dropped.
+/// What `give` returns, with the number of the payload that comes back, which is then dropped.
 fn given_text(alloc: Global, given: Option<Given<Counted>>) -> Result<String, AllocError> {
     let (word, payload) = match given {
         Some(Given::Done) => return "Done".to_string(alloc),

@@ -32,7 +32,7 @@ impl Drop for Counted {
     }
 }
 
-/// What `give` returns, and the number of the payload that it returns, which is then dropped.
+/// What `give` returns, and the number of the payload that comes back, which is then dropped.
 fn given(given: Given<Counted>) -> (&'static str, Option<u64>) {
     match given {
         Given::Done => ("Done", None),
