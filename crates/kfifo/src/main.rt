@@ -1,9 +1,9 @@
 //! The program `kfifo`: a bounded-size lock-free k-FIFO queue at the command line.
 #![tactic(auto)]
 
-pub use kfifo_command_line::program;
-use kfifo_command_line::program_showing;
-use kfifo_commands::{Started, start_program};
+pub use kfifo_cli::program;
+use kfifo_cli::program_showing;
+use kfifo_cli_commands::{Started, start_program};
 pub use kfifo_judge::{FromStd, Sink, Source, check_stream, measure_stream};
 pub use kfifo_record::record_scripts;
 use std::process::ExitCode;

@@ -1,5 +1,6 @@
 -- What is behind handles, read one after the other, and when a queue may be closed by them.
-use Rattle.std.proofs.Common.{◌≡◌, ◌+◌, ◌*◌, ◌<◌, ◌≤◌, ℕ, zero, suc, List, [], ◌∷◌, ◌++◌, Option, Some, None, IfSome, MatchOption, All, length, map, take, get_or, refl, sym, ap, subst, ◌∙◌, ◌≢◌, arith, rules, below_more}
+use Rattle.std.proofs.Common.{◌≡◌, ◌+◌, ◌*◌, ◌<◌, ◌≤◌, ℕ, zero, suc, List, [], ◌∷◌, ◌++◌, Option, Some, None, IfSome, MatchOption, All}
+use Rattle.std.proofs.Common.{length, map, take, get_or, refl, sym, ap, subst, ◌∙◌, ◌≢◌, arith, rules, below_more}
 use Rattle.std.specs.Prelude.{◌==◌}
 use Rattle.std.specs.List.{list_any}
 use Rattle.std.proofs.lemmas.List.{take_more, length-map, length-append, get_or-set_same, get_or-set_other}
@@ -9,7 +10,7 @@ use Rattle.std.proofs.Math.Seq.{map-set_same}
 use Rattle.kfifo_words.specs.declared.shape.Shape.{Shape}
 use Rattle.kfifo_words.specs.Words.{head_of}
 use Rattle.kfifo_words.specs.Ring.{next_segment, slot_at}
-use Rattle.kfifo_live.specs.Pass.{OpenQueue, Known, IsOf, IsComplete, Closes}
+use Rattle.kfifo_live.specs.Pass.{OpenQueue, PassView, IsPassOf, IsComplete, Closes}
 use Rattle.kfifo_live.specs.Left.{item_in, slots_left, segments_left, items_left}
 use Rattle.kfifo_c.specs.declared.handle.Handle.{Handle}
 use Rattle.kfifo_c.specs.Seats.{Seated}
@@ -25,7 +26,8 @@ pub same_address : (hs : List Handle) (i : ℕ) (h d : Handle) → h.address ≡
 same_address hs i h d e = map-set_same (λ handle. handle.address) hs i h d e
 
 -- the next handle of a list
-pub next_behind : (hs : List Handle) (os : List (Option Seated)) (i : ℕ) (d : Handle) (o : Option Seated) → behind hs ≡ os → i < length hs → (get_or hs i d).held.value ≡ o
+pub next_behind : (hs : List Handle) (os : List (Option Seated)) (i : ℕ) (d : Handle) (o : Option Seated) → behind hs ≡ os → i < length hs
+    → (get_or hs i d).held.value ≡ o
     → take (i + 1) os ≡ take i os ++ o ∷ []
 next_behind hs os i d o e below is =
     let below' : i < length (behind hs) = subst (λ (n : ℕ). i < n) (sym (length-map hs (λ handle. handle.held.value))) below in
@@ -43,18 +45,19 @@ passes_same [] = refl
 passes_same (None ∷ os) = passes_same os
 passes_same (Some x ∷ os) = ap (λ l. x.pass ∷ l) (passes_same os)
 
-pub theirs_more : (os : List (Option Seated)) (o : Option Seated) → AreTheirs os → IfSome o (λ s. IsOf s.queue s.pass) → AreTheirs (os ++ o ∷ [])
+pub theirs_more : (os : List (Option Seated)) (o : Option Seated) → AreTheirs os → IfSome o (λ s. IsPassOf s.queue s.pass)
+    → AreTheirs (os ++ o ∷ [])
 theirs_more [] None all is = tt
 theirs_more [] (Some s) all is = (is, tt)
 theirs_more (None ∷ os) o all is = theirs_more os o all is
 theirs_more (Some s ∷ os) o all is = (all.0, theirs_more os o all.1 is)
 
 -- the passes of open handles of one queue
-pub theirs_of : (q : OpenQueue) (os : List (Option Seated)) → All (IsOpenOf q) os → AreTheirs os → All (IsOf q) (passes_in os)
-theirs_of q [] each all = All-nil (IsOf q)
+pub theirs_of : (q : OpenQueue) (os : List (Option Seated)) → All (IsOpenOf q) os → AreTheirs os → All (IsPassOf q) (passes_in os)
+theirs_of q [] each all = All-nil (IsPassOf q)
 theirs_of q (None ∷ os) each all = absurd (All-head (IsOpenOf q) None os each)
-theirs_of q (Some s ∷ os) each all = All-cons (IsOf q) s.pass (passes_in os)
-    (subst (λ (q' : OpenQueue). IsOf q' s.pass) (All-head (IsOpenOf q) (Some s) os each) all.0)
+theirs_of q (Some s ∷ os) each all = All-cons (IsPassOf q) s.pass (passes_in os)
+    (subst (λ (q' : OpenQueue). IsPassOf q' s.pass) (All-head (IsOpenOf q) (Some s) os each) all.0)
     (theirs_of q os (All-tail (IsOpenOf q) (Some s) os each) all.1)
 
 many_passes : (q : OpenQueue) (os : List (Option Seated)) → All (IsOpenOf q) os → length (passes_in os) ≡ length os
@@ -81,17 +84,17 @@ same_queue q first (None ∷ os) one begins = absurd begins
 same_queue q first (Some s ∷ os) one begins = begins ∙ All-head (OneQueue q) (Some s) os one
 
 -- a test of numbers is one of passes
-any_number : (ps : List Known) (t : ℕ) → list_any (λ n. n == t) (map (λ p. p.thread) ps) ≡ list_any (λ p. p.thread == t) ps
+any_number : (ps : List PassView) (t : ℕ) → list_any (λ n. n == t) (map (λ p. p.thread) ps) ≡ list_any (λ p. p.thread == t) ps
 any_number [] t = refl
 any_number (p ∷ ps) t = search (rules, any_number ps t)
 
-pub complete : (threads : ℕ) (ps : List Known) → HasEach threads (map (λ p. p.thread) ps) → IsComplete threads ps
+pub complete : (threads : ℕ) (ps : List PassView) → HasEach threads (map (λ p. p.thread) ps) → IsComplete threads ps
 complete threads ps has = record {
   count = sym (length-map ps (λ p. p.thread)) ∙ has.count;
   each = λ t below. sym (any_number ps t) ∙ has.each t below;
 }
 
-pub has_all : (threads : ℕ) (ps : List Known) → IsComplete threads ps → HasEach threads (map (λ p. p.thread) ps)
+pub has_all : (threads : ℕ) (ps : List PassView) → IsComplete threads ps → HasEach threads (map (λ p. p.thread) ps)
 has_all threads ps is = record {
   count = length-map ps (λ p. p.thread) ∙ is.count;
   each = λ t below. any_number ps t ∙ is.each t below;
@@ -111,7 +114,8 @@ few_slots words index (suc count) =
 few_segments : (shape : Shape) (words : List ℕ) (segment count : ℕ) → length (segments_left shape words segment count) ≤ count * shape.k
 few_segments shape words segment zero = omega arith
 few_segments shape words segment (suc count) =
-    let e = length-append (slots_left words (slot_at shape.k segment 0) shape.k) (segments_left shape words (next_segment shape.n segment) count) in
+    let e = length-append (slots_left words (slot_at shape.k segment 0) shape.k)
+    (segments_left shape words (next_segment shape.n segment) count) in
     let one = few_slots words (slot_at shape.k segment 0) shape.k in
     let rest = few_segments shape words (next_segment shape.n segment) count in omega arith
 
@@ -131,7 +135,8 @@ pub rest_more : (olds hs : List Handle) (i : ℕ) (h : Handle) → ((k : ℕ) (d
     → (k : ℕ) (d : Handle) → i + 1 ≤ k → get_or (set hs i h) k d ≡ get_or olds k d
 rest_more olds hs i h rest k d above = let ne : k ≢ i = omega arith in get_or-set_other hs i k h d ne ∙ rest k d (omega arith)
 
-pub closed_more : (hs : List Handle) (i : ℕ) (h : Handle) → ((k : ℕ) (d : Handle) → k < i → (get_or hs k d).held.value ≡ None) → h.held.value ≡ None → i < length hs
+pub closed_more : (hs : List Handle) (i : ℕ) (h : Handle) → ((k : ℕ) (d : Handle) → k < i → (get_or hs k d).held.value ≡ None)
+    → h.held.value ≡ None → i < length hs
     → (k : ℕ) (d : Handle) → k < i + 1 → (get_or (set hs i h) k d).held.value ≡ None
 closed_more hs i h closed is below k d under = below_more (λ (j : ℕ). (get_or (set hs i h) j d).held.value ≡ None) i
     (λ j lt. let ne : j ≢ i = omega arith in ap (λ x. x.held.value) (get_or-set_other hs i j h d ne) ∙ closed j d lt)
@@ -167,7 +172,8 @@ begun q [] begins = absurd begins
 begun q (o ∷ os) begins = omega arith
 
 -- when a queue may be closed, by what was read of its handles
-pub may_close : (os : List (Option Seated)) (room : ℕ) (first q : OpenQueue) → All (OneQueue q) os → BeginsWith first os → HasEach first.opened.threads (numbers_in os)
+pub may_close : (os : List (Option Seated)) (room : ℕ) (first q : OpenQueue) → All (OneQueue q) os → BeginsWith first os
+    → HasEach first.opened.threads (numbers_in os)
     → length (numbers_in os) ≡ length os → first.opened.shape.n * first.opened.shape.k ≤ room → MayClose first os room
 may_close os room first q one begins has many wide =
     let is = same_queue q first os one begins in
@@ -187,8 +193,11 @@ pub match_some : {X : Type 0} (P : Type 0) (Q : X → Type 0) (o : Option X) (x 
 match_some {X} P Q o x m e = subst (λ (o' : Option X). MatchOption o' P Q) e m
 
 -- at most as many items are left as there are slots
-pub few_closed : (q : OpenQueue) (ps : List Known) (items : List ℕ) → Closes q ps items → length items ≤ q.opened.shape.n * q.opened.shape.k
-few_closed q ps items closes = subst (λ (l : List ℕ). length l ≤ q.opened.shape.n * q.opened.shape.k) (sym closes.items_are) (few_left q.opened.shape closes.world.words)
+pub few_closed : (q : OpenQueue) (ps : List PassView) (items : List ℕ) → Closes q ps items
+    → length items ≤ q.opened.shape.n * q.opened.shape.k
+few_closed q ps items closes = subst (λ (l : List ℕ). length l ≤ q.opened.shape.n * q.opened.shape.k) (sym closes.items_are)
+    (few_left q.opened.shape closes.world.words)
 
-pub closes_theirs : (os : List (Option Seated)) (room : ℕ) (q : OpenQueue) → MayClose q os room → AreTheirs os → All (IsOf q) (passes_in os)
+pub closes_theirs : (os : List (Option Seated)) (room : ℕ) (q : OpenQueue) → MayClose q os room → AreTheirs os
+    → All (IsPassOf q) (passes_in os)
 closes_theirs os room q may theirs = theirs_of q os may.each_open theirs

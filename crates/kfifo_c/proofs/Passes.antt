@@ -1,12 +1,13 @@
 -- Passes of one opening, and handles that are open.
-use Rattle.std.proofs.Common.{◌≡◌, ◌<◌, ◌+◌, All, arith, take, sym, ap, ◌∙◌, map, reverse, length, ℕ, zero, suc, List, [], ◌∷◌, ◌++◌, Option, Some, None, refl}
+use Rattle.std.proofs.Common.{◌≡◌, ◌<◌, ◌+◌, All, arith, take, sym, ap, ◌∙◌, map, reverse, length, ℕ, zero, suc, List, [], ◌∷◌, ◌++◌}
+use Rattle.std.proofs.Common.{Option, Some, None, refl}
 use Rattle.std.proofs.lemmas.List.{append_assoc, take_more_set, map-append, reverse-append, length-reverse, length-map}
 use Rattle.std.proofs.lemmas.List.Elements.{All-cons, All-nil}
 use Rattle.std.proofs.Math.ListN.{set}
 use Rattle.kfifo_live.specs.Pass.{OpenQueue, new_passes}
 use Rattle.kfifo_c.specs.declared.handle.Handle.{Handle}
 use Rattle.kfifo_c.specs.Handles.{behind}
-use Rattle.kfifo_c.specs.Seats.{Seated, seated, starts_of, IsPassOf}
+use Rattle.kfifo_c.specs.Seats.{Seated, seated, starts_of, IsOpenPassOf}
 use Rattle.kfifo_c.specs.Exports.{seats_of}
 
 -- a handle from which a scan may begin somewhere is open
@@ -31,8 +32,10 @@ pub reverse_mapped : {A B : Type 0} (f : A → B) (xs : List A) (x : A) → reve
 reverse_mapped f xs x = ap reverse (map-append f xs (x ∷ [])) ∙ reverse-append (map f xs) (f x ∷ [])
 
 -- a seat that is taken from the end of a list and put behind the next handle
-pub put_more : {B : Type 0} (f : B → Seated) (hs : List Handle) (i : ℕ) (h : Handle) (rest : List B) (b : B) (all : List (Option Seated)) → i < length hs → h.held.value ≡ Some (f b)
-    → behind (take i hs) ++ map Some (reverse (map f (rest ++ b ∷ []))) ≡ all → behind (take (i + 1) (set hs i h)) ++ map Some (reverse (map f rest)) ≡ all
+pub put_more : {B : Type 0} (f : B → Seated) (hs : List Handle) (i : ℕ) (h : Handle) (rest : List B) (b : B) (all : List (Option Seated))
+    → i < length hs → h.held.value ≡ Some (f b)
+    → behind (take i hs) ++ map Some (reverse (map f (rest ++ b ∷ []))) ≡ all
+    → behind (take (i + 1) (set hs i h)) ++ map Some (reverse (map f rest)) ≡ all
 put_more {B} f hs i h rest b all below is e =
     let left : List (Option Seated) = map Some (reverse (map f rest)) in
     ap (λ (l : List Handle). behind l ++ left) (take_more_set hs i h below)
@@ -52,6 +55,6 @@ pub length_seats : (q : OpenQueue) (first count : ℕ) → length (seats_of q (n
 length_seats q first count = length-map (new_passes q first count) (λ p. seated q p) ∙ length_passes q first count
 
 -- the new passes of a queue are of its threads
-pub passes_of : (q : OpenQueue) (first count : ℕ) → q.opened.threads ≡ first + count → All (IsPassOf q) (new_passes q first count)
-passes_of q first zero are = All-nil (IsPassOf q)
-passes_of q first (suc count) are = All-cons (IsPassOf q) _ _ ((refl, refl), omega arith) (passes_of q (suc first) count (omega arith))
+pub passes_of : (q : OpenQueue) (first count : ℕ) → q.opened.threads ≡ first + count → All (IsOpenPassOf q) (new_passes q first count)
+passes_of q first zero are = All-nil (IsOpenPassOf q)
+passes_of q first (suc count) are = All-cons (IsOpenPassOf q) _ _ ((refl, refl), omega arith) (passes_of q (suc first) count (omega arith))

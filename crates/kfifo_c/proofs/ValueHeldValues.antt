@@ -31,16 +31,21 @@ Held = held.the_row
 module _ {M : Type 1} {𝓤 : Ura M} {𝓛 : Logic 𝓤} {K : Type 0} {Γ : List (Item 𝓤)} {G : Goal 𝓤 𝓛.H} where
   -- a handle that is open, taken apart
   pub held_out : K → (d : Held.Denot) (x : Seat.Denot) (vs : List Val) → d.value ≡ Some x
-      → ((b o : _) → d.at ≡ block_ptr b o → vs ≡ lone_val (vptr b o) ∷ [] → Seq K 𝓛 (‵ (box_owns (ghosts.dealloc_token heap) Seat (block_ptr b o) x) ∷ Γ) G)
+      → ((b o : _) → d.at ≡ block_ptr b o → vs ≡ lone_val (vptr b o) ∷ []
+      → Seq K 𝓛 (‵ (box_owns (ghosts.dealloc_token heap) Seat (block_ptr b o) x) ∷ Γ) G)
       → Seq K 𝓛 (‵ (Held.own_val d vs) ∷ Γ) G
   held_out t d x vs has k =
-      fsplit t $ fpick t (λ vss. fsplit t $ feq_l t (λ ev. fsplit t $ feq_l t (λ ep. drop t $ rewrite t 0 (λ (u : Option Seat.Denot). ‵ (held_owns Seat d.at u)) has refl $
-      in_a_block t d.at (λ p. box_owns (ghosts.dealloc_token heap) Seat p x) (fst∗ 𝓤 (never 𝓤) (sem 𝓛 (ghosts.dealloc_token heap (bare (lone Seat.mir)) null_ptr))) (λ b o e. k b o e
-      (subst (λ (p : Ptr). vs ≡ vstruct (of_list (ptr_val p ∷ [])) ∷ []) e (subst (λ (ps : List Val). vs ≡ vstruct (of_list (ps ++ [])) ∷ []) ep ev))))))
+      fsplit t $ fpick t (λ vss. fsplit t $ feq_l t
+      (λ ev. fsplit t $ feq_l t (λ ep. drop t $ rewrite t 0 (λ (u : Option Seat.Denot). ‵ (held_owns Seat d.at u)) has refl $
+      in_a_block t d.at (λ p. box_owns (ghosts.dealloc_token heap) Seat p x)
+      (fst∗ 𝓤 (never 𝓤) (sem 𝓛 (ghosts.dealloc_token heap (bare (lone Seat.mir)) null_ptr))) (λ b o e. k b o e
+      (subst (λ (p : Ptr). vs ≡ vstruct (of_list (ptr_val p ∷ [])) ∷ []) e
+      (subst (λ (ps : List Val). vs ≡ vstruct (of_list (ps ++ [])) ∷ []) ep ev))))))
 
   -- a handle, made of its pointer and of what that owns
   pub held_in : K → (p : Ptr) (u : Option Seat.Denot)
       → Step K 𝓛 (‵ (Held.own_val (record { at = p; value = u }) (lone_val (ptr_val p) ∷ [])) ∷ Γ) G (‵ (held_owns Seat p u) ∷ Γ) G
   held_in t p u = step (λ s. let v : Val = lone_val (ptr_val p) in
-      nothing t $ feq_i t (List Val) (ptr_val p ∷ []) (ptr_val p ∷ []) refl $ fjoin t $ feq_i t (List Val) (v ∷ []) (v ∷ []) refl $ fjoin t $
+      nothing t $ feq_i t (List Val) (ptr_val p ∷ []) (ptr_val p ∷ []) refl $ fjoin t $ feq_i t (List Val) (v ∷ []) (v ∷ []) refl $ fjoin t
+      $
       fpack t (Valss (RawPtr ∷ [])) (within (shape held.the_type) (p, tt) (v ∷ [])) (ptr_val p ∷ [], tt) $ fjoin t $ s)

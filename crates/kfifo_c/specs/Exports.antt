@@ -1,5 +1,6 @@
 -- What C gets from a call, and what that says of the pass behind a handle. c/kfifo.h has the same numbers.
-use Rattle.std.specs.Prelude.{◌≡◌, ℕ, ◌+◌, ◌*◌, ◌^◌, ◌<◌, ◌≤◌, Option, Some, None, IfSome, List, [], ◌∷◌, ◌++◌, map, length, drop, All, true, ◌==◌, ⊤}
+use Rattle.std.specs.Prelude.{◌≡◌, ℕ, ◌+◌, ◌*◌, ◌^◌, ◌<◌, ◌≤◌, Option, Some, None, IfSome, List, [], ◌∷◌, ◌++◌, map}
+use Rattle.std.specs.Prelude.{length, drop, All, true, ◌==◌, ⊤}
 use Rattle.std.specs.List.{list_any}
 use Rattle.kfifo_words.specs.declared.fault.ShapeFault.{ShapeFault}
 use Rattle.kfifo_words.specs.Sizes.{shape_fault_number}
@@ -16,7 +17,8 @@ use Rattle.kfifo_live.specs.declared.fault.OpenFault.{OpenFault}
 use Rattle.kfifo_live.specs.declared.fault.OpenFault.TheVariants.{ThreadsOutOfRange, TokensOutOfRange}
 use Rattle.kfifo_live.specs.Calls.{Makes, TakesFewSteps, HasCause, IsDisturbed, LeavesNoItem}
 use Rattle.kfifo_live.specs.Promise.{KeepsPromise}
-use Rattle.kfifo_live.specs.Pass.{OpenQueue, Known, IsOf, IsSame, Finds, IsZeroed, new_passes, IsComplete, Closes}
+use Rattle.kfifo_live.specs.Pass.{OpenQueue, PassView, IsPassOf, IsSamePass, Finds, IsZeroed, new_passes, IsComplete}
+use Rattle.kfifo_live.specs.Pass.{Closes}
 use Rattle.kfifo_live.specs.Handles.{enough_turns, further}
 use Rattle.kfifo_c.specs.Seats.{Seated, seated}
 
@@ -69,7 +71,7 @@ pub record MayPut (item : ℕ) (seat : Seated) : Type 0 where
 -- the pass made this call, and was given this answer: all that the running queue says of its calls
 pub record Called (call : Begin) (answer : Answer) (old new : Seated) : Type 0 where
   pub queue : new.queue ≡ old.queue
-  pub same : IsSame old.pass new.pass
+  pub same : IsSamePass old.pass new.pass
   pub run : Makes call answer old.pass new.pass
   pub few_steps : TakesFewSteps call old.pass new.pass
   pub cause : HasCause call answer old.pass new.pass
@@ -109,7 +111,7 @@ module _ {A S : Type 0} where
 -- the pass read this word, and saw what it says of the queue
 pub record HasRead (index word : ℕ) (old new : Seated) : Type 0 where
   pub queue : new.queue ≡ old.queue
-  pub same : IsSame old.pass new.pass
+  pub same : IsSamePass old.pass new.pass
   pub finds : Finds old.pass new.pass index word
   pub same_put : new.put_start ≡ old.put_start
   pub same_get : new.get_start ≡ old.get_start
@@ -125,7 +127,7 @@ word_after old (Some word) = word
 word_after old None = old
 
 -- the seats of these passes of one queue, in their order
-abbrev pub seats_of : OpenQueue → List Known → List Seated
+abbrev pub seats_of : OpenQueue → List PassView → List Seated
 seats_of queue = map (λ pass. seated queue pass)
 
 -- a queue of these sizes was opened, and these are its new seats: all that the running queue says of an opening
@@ -164,7 +166,7 @@ BeginsWith queue (None ∷ handles) = ⊥
 BeginsWith queue (Some seat ∷ handles) = queue ≡ seat.queue
 
 -- the passes behind the open ones of these handles, and their numbers
-abbrev pub passes_in : List (Option Seated) → List Known
+abbrev pub passes_in : List (Option Seated) → List PassView
 passes_in [] = []
 passes_in (None ∷ handles) = passes_in handles
 passes_in (Some seat ∷ handles) = seat.pass ∷ passes_in handles
@@ -176,7 +178,7 @@ numbers_in handles = map (λ pass. pass.thread) (passes_in handles)
 abbrev pub AreTheirs : List (Option Seated) → Type 0
 AreTheirs [] = ⊤
 AreTheirs (None ∷ handles) = AreTheirs handles
-AreTheirs (Some seat ∷ handles) = IsOf seat.queue seat.pass × AreTheirs handles
+AreTheirs (Some seat ∷ handles) = IsPassOf seat.queue seat.pass × AreTheirs handles
 
 -- as many numbers as there are threads, one for each
 pub record HasEach (threads : ℕ) (numbers : List ℕ) : Type 0 where

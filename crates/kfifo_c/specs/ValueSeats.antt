@@ -1,7 +1,7 @@
 -- What a handle of a queue of values stands for, as clauses see it.
 use Rattle.std.specs.Prelude.{ℕ, Option, Some, None}
 use Rattle.kfifo_live.specs.Pass.{OpenQueue}
-use Rattle.kfifo_live.specs.Payloads.{PayKnown}
+use Rattle.kfifo_live.specs.Payloads.{PayPassView}
 use Rattle.kfifo_live.specs.Handles.{PayHeld, first_of}
 
 -- a queue, and a pass that is of it, with the slots at which its next give and its next take begin
@@ -10,8 +10,17 @@ pub record ValueSeated : Type 0 where
   pub held : PayHeld ℕ
 
 -- with a new pass
-abbrev pub value_seated : OpenQueue → PayKnown ℕ → ValueSeated
-value_seated q p = record { queue = q; held = record { pass = p; give_start = first_of p.pass; take_start = first_of p.pass; shortages = 0; surpluses = 0 } }
+abbrev pub value_seated : OpenQueue → PayPassView ℕ → ValueSeated
+value_seated q p = record {
+  queue = q;
+  held = record {
+    pass = p;
+    give_start = first_of p.pass;
+    take_start = first_of p.pass;
+    shortages = 0;
+    surpluses = 0;
+  };
+}
 
 -- k, and 0 where the handle is closed
 abbrev pub value_starts_of : Option ValueSeated → ℕ

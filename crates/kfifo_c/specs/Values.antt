@@ -1,6 +1,7 @@
 -- What C is told of the calls with values, and what these say of the pass behind a handle. c/kfifo.h has the same
 -- numbers.
-use Rattle.std.specs.Prelude.{◌≡◌, ℕ, ◌*◌, ◌≤◌, Option, Some, None, IfSome, List, [], ◌∷◌, ◌++◌, map, length, drop, All, ⊤}
+use Rattle.std.specs.Prelude.{◌≡◌, ℕ, ◌*◌, ◌≤◌, Option, Some, None, IfSome, List, [], ◌∷◌, ◌++◌, map, length, drop, All}
+use Rattle.std.specs.Prelude.{⊤}
 use Rattle.kfifo_words.specs.declared.shape.Shape.{Shape}
 use Rattle.kfifo_live.specs.declared.payload.Given.{Given}
 use Rattle.kfifo_live.specs.declared.payload.Given.TheVariants as G
@@ -8,8 +9,8 @@ use Rattle.kfifo_live.specs.declared.payload.Taken.{Taken}
 use Rattle.kfifo_live.specs.declared.payload.Taken.TheVariants as K
 use Rattle.kfifo_live.specs.Calls.{IsDisturbed}
 use Rattle.kfifo_live.specs.Promise.{KeepsPromise}
-use Rattle.kfifo_live.specs.Pass.{OpenQueue, IsSame, IsZeroed}
-use Rattle.kfifo_live.specs.Payloads.{PayKnown, pay_opening, new_pay_passes, PayCloses}
+use Rattle.kfifo_live.specs.Pass.{OpenQueue, IsSamePass, IsZeroed}
+use Rattle.kfifo_live.specs.Payloads.{PayPassView, pay_opening, new_pay_passes, PayCloses}
 use Rattle.kfifo_live.specs.Handles.{PicksUpAndGives, TakesAndLaysDown, further}
 use Rattle.kfifo_c.specs.ValueSeats.{ValueSeated, value_seated}
 
@@ -38,7 +39,7 @@ value_after old other = old
 -- the pass gave this value: all that the running queue says of it
 pub record GivesValue (value : ℕ) (answer : Given ℕ) (old new : ValueSeated) : Type 0 where
   pub queue : new.queue ≡ old.queue
-  pub same : IsSame old.held.pass.pass new.held.pass.pass
+  pub same : IsSamePass old.held.pass.pass new.held.pass.pass
   pub gives : PicksUpAndGives value answer old.held new.held
   pub busy : (back : ℕ) → answer ≡ G.Busy back → IsDisturbed old.held.pass.pass new.held.pass.pass
   pub next_give : new.held.give_start ≡ further old.held.pass.pass old.held.give_start
@@ -49,7 +50,7 @@ pub record GivesValue (value : ℕ) (answer : Given ℕ) (old new : ValueSeated)
 -- the pass took: all that the running queue says of it
 pub record TakesValue (answer : Taken ℕ) (old new : ValueSeated) : Type 0 where
   pub queue : new.queue ≡ old.queue
-  pub same : IsSame old.held.pass.pass new.held.pass.pass
+  pub same : IsSamePass old.held.pass.pass new.held.pass.pass
   pub takes : TakesAndLaysDown answer old.held new.held
   pub busy : answer ≡ K.Busy → IsDisturbed old.held.pass.pass new.held.pass.pass
   pub next_take : new.held.take_start ≡ further old.held.pass.pass old.held.take_start
@@ -58,7 +59,7 @@ pub record TakesValue (answer : Taken ℕ) (old new : ValueSeated) : Type 0 wher
   pub promise : KeepsPromise new.held.pass.pass.opened new.held.pass.pass.seen
 
 -- the seats of these passes of one queue, in their order
-abbrev pub value_seats_of : OpenQueue → List (PayKnown ℕ) → List ValueSeated
+abbrev pub value_seats_of : OpenQueue → List (PayPassView ℕ) → List ValueSeated
 value_seats_of queue = map (λ pass. value_seated queue pass)
 
 -- a queue of these sizes was opened, and these are its new seats: all that the running queue says of an opening
@@ -69,7 +70,8 @@ pub record OpensValues (shape : Shape) (threads tokens : ℕ) (seats : List Valu
   pub zeroed : IsZeroed queue.opened
 
 -- those of these sizes
-pub record OpensValueSizes (k segments last probes threads tokens : ℕ) (handles : List (Option ValueSeated)) : Type 0 where
+pub record OpensValueSizes (k segments last probes threads tokens : ℕ)
+    (handles : List (Option ValueSeated)) : Type 0 where
   pub shape : Shape
   pub k_is : shape.k ≡ k
   pub segments_are : shape.n ≡ segments

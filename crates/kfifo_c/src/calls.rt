@@ -2,7 +2,8 @@
 ghost use Rattle.std.specs.Prelude.{◌≡◌, ℕ, None, Option, All, ⊤};
 ghost use Rattle.kfifo_model.specs.declared.calls.Answer.{Answer as Answered};
 ghost use Rattle.kfifo_machine.specs.declared.event.Begin.TheVariants.{Enqueue, Dequeue};
-ghost use Rattle.kfifo_c.specs.Exports.{Tries, MayEnqueue, MayDequeue, MayPut, MayRead, CalledFrom, Puts, Gets, HasRead, number_of, item_after, read_number, word_after};
+ghost use Rattle.kfifo_c.specs.Exports.{Tries, MayEnqueue, MayDequeue, MayPut, MayRead, CalledFrom, Puts, Gets};
+ghost use Rattle.kfifo_c.specs.Exports.{HasRead, number_of, item_after, read_number, word_after};
 
 use crate::handle::Handle;
 use crate::status::{BAD_CALL, DONE, status};
@@ -14,10 +15,12 @@ use std::alloc::Global;
 #[unsafe(no_mangle)]
 pub extern "C" fn kfifo_c_enqueue(pass: &mut Handle, item: u32, start: u32, turns: u16) -> u32
     ensures answer { (answer : Option Answered) × (result ≡ number_of answer)
-        × Tries (MayEnqueue item start turns) (CalledFrom (Enqueue item start turns)) answer pass.old.held.value pass.new.held.value }
+        × Tries (MayEnqueue item start turns) (CalledFrom (Enqueue item start turns)) answer pass.old.held.value
+        pass.new.held.value }
     ensures address { pass.new.address ≡ pass.old.address }
 {
-    // The look at the handle stands between two tests of registers: else the compiler makes one of them, and a longer one.
+    // The look at the handle stands between two tests of registers: else the compiler makes one of them, and a longer
+    // one.
     if item < 1 || item > MAX_ITEM || !pass.has_start(start) {
         return BAD_CALL;
     }
@@ -31,7 +34,8 @@ pub extern "C" fn kfifo_c_enqueue(pass: &mut Handle, item: u32, start: u32, turn
 #[unsafe(no_mangle)]
 pub extern "C" fn kfifo_c_dequeue(pass: &mut Handle, item: &mut u32, start: u32, turns: u16) -> u32
     ensures answer { (answer : Option Answered) × (result ≡ number_of answer) × (item.new ≡ item_after item.old answer)
-        × Tries (MayDequeue start turns) (CalledFrom (Dequeue start turns)) answer pass.old.held.value pass.new.held.value }
+        × Tries (MayDequeue start turns) (CalledFrom (Dequeue start turns)) answer pass.old.held.value
+        pass.new.held.value }
     ensures address { pass.new.address ≡ pass.old.address }
 {
     if !pass.has_start(start) {

@@ -1,9 +1,11 @@
 //! Closing a queue.
-ghost use Rattle.std.specs.Prelude.{◌≡◌, ◌⊎◌, ◌↔◌, ◌≤◌, ◌++◌, ◌==◌, None, Some, MatchOption, IfOk, IsErr, IsTrue, All, length, drop};
+ghost use Rattle.std.specs.Prelude.{◌≡◌, ◌⊎◌, ◌↔◌, ◌≤◌, ◌++◌, ◌==◌, None, Some, MatchOption, IfOk, IsErr, IsTrue, All};
+ghost use Rattle.std.specs.Prelude.{length, drop};
 ghost use Rattle.std.specs.List.{list_any};
 ghost use Rattle.kfifo_live.specs.Pass.{OpenQueue};
 ghost use Rattle.kfifo_c.specs.Handles.{behind, addresses};
-ghost use Rattle.kfifo_c.specs.Exports.{AreOfOneQueue, AreTheirs, BeginsWith, HasEach, MayClose, ClosesInto, numbers_in, passes_in};
+ghost use Rattle.kfifo_c.specs.Exports.{AreOfOneQueue, AreTheirs, BeginsWith, HasEach, MayClose, ClosesInto};
+ghost use Rattle.kfifo_c.specs.Exports.{numbers_in, passes_in};
 
 use crate::handle::Handle;
 use crate::status::{BAD_CALL, DONE, LOST, NO_MEMORY};
@@ -15,7 +17,8 @@ use std::sync::Arc;
 fn first_queue(handles: &mut [Handle]) -> Result<Option<(Arc<Queue, Global>, u32)>, AllocError>
     ensures same { behind handles.new ≡ behind handles.old }
     ensures addresses { addresses handles.new ≡ addresses handles.old }
-    ensures first { IfOk result (λ found. MatchOption found (¬ ((queue : OpenQueue) × BeginsWith queue (behind handles.old)))
+    ensures first { IfOk result (λ found.
+        MatchOption found (¬ ((queue : OpenQueue) × BeginsWith queue (behind handles.old)))
         (λ found. BeginsWith found.0.value (behind handles.old) × (found.1 ≡ found.0.value.opened.threads))) }
 {
     let Some(first) = handles.first_mut() else {
@@ -76,7 +79,8 @@ fn ready(
     requires { AreOfOneQueue (behind handles.old) }
     ensures same { behind handles.new ≡ behind handles.old }
     ensures addresses { addresses handles.new ≡ addresses handles.old }
-    ensures may { IfOk result (λ found. MatchOption found (¬ ((queue : OpenQueue) × MayClose queue (behind handles.old) room))
+    ensures may { IfOk result (λ found.
+        MatchOption found (¬ ((queue : OpenQueue) × MayClose queue (behind handles.old) room))
         (λ queue. MayClose queue.value (behind handles.old) room)) }
 {
     let Some((queue, threads)) = first_queue(handles)? else {
@@ -135,7 +139,8 @@ pub extern "C" fn kfifo_c_close(
     requires { AreOfOneQueue (behind passes.old) }
     ensures answers { (result ≡ 0) ⊎ (result ≡ 6) ⊎ (result ≡ 7) ⊎ (result ≡ 9) }
     ensures bad { result ≡ 6 → ¬ ((queue : OpenQueue) × MayClose queue (behind passes.old) (length items.old)) }
-    ensures may { (result ≡ 0) ⊎ (result ≡ 9) → (queue : OpenQueue) × MayClose queue (behind passes.old) (length items.old) }
+    ensures may { (result ≡ 0) ⊎ (result ≡ 9) → (queue : OpenQueue)
+        × MayClose queue (behind passes.old) (length items.old) }
     ensures nothing { (result ≡ 6) ⊎ (result ≡ 7) → (behind passes.new ≡ behind passes.old)
         × (addresses passes.new ≡ addresses passes.old) }
     ensures closed { (result ≡ 0) ⊎ (result ≡ 9) → All (λ pass. pass.held.value ≡ None) passes.new }

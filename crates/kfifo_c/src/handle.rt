@@ -56,7 +56,8 @@ impl Handle {
 
     /// The seat behind the handle, which is then closed.
     pub(crate) fn take(&mut self, alloc: Global) -> Option<Box<Seat, Global>>
-        ensures value { MatchOption result (self.old.held.value ≡ None) (λ seat. self.old.held.value ≡ Some seat.value) }
+        ensures value { MatchOption result (self.old.held.value ≡ None)
+            (λ seat. self.old.held.value ≡ Some seat.value) }
         ensures closed { self.new.held.value ≡ None }
     {
         let Handle {

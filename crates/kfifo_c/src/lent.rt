@@ -14,7 +14,8 @@ impl Held {
     #[inline(always)]
     pub(crate) fn seat_mut(&mut self) -> &mut Seat
         requires { (seat : Seated) × (self.old.value ≡ Some seat) }
-        ensures* writes_back { sem 𝓛 (follows held_row seat_row self.entry.ghost_name result.ghost_name (held_with self.old)) }
+        ensures* writes_back { sem 𝓛 (follows held_row seat_row self.entry.ghost_name result.ghost_name
+            (held_with self.old)) }
         ensures value { self.old.value ≡ Some result.now }
     {
         unsafe { &mut *(self.at as *mut Seat) }

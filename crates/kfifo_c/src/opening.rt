@@ -1,9 +1,10 @@
 //! Opening a queue.
-ghost use Rattle.std.specs.Prelude.{◌≡◌, ◌≢◌, ◌<◌, ◌≤◌, ◌⊎◌, ◌↔◌, None, Some, IfSome, IfOk, IsErrOf, All, length, map, reverse};
+ghost use Rattle.std.specs.Prelude.{◌≡◌, ◌≢◌, ◌<◌, ◌≤◌, ◌⊎◌, ◌↔◌, None, Some, IfSome, IfOk, IsErrOf, All, length, map};
+ghost use Rattle.std.specs.Prelude.{reverse};
 ghost use denote.RawPtr.{Ptr};
 ghost use Rattle.kfifo_words.specs.Sizes.{fault_of};
 ghost use Rattle.kfifo_live.specs.declared.fault.OpenFault.TheVariants.{ThreadsOutOfRange, TokensOutOfRange};
-ghost use Rattle.kfifo_c.specs.Seats.{IsPassOf};
+ghost use Rattle.kfifo_c.specs.Seats.{IsOpenPassOf};
 ghost use Rattle.kfifo_c.specs.Handles.{behind};
 ghost use Rattle.kfifo_c.specs.Exports.{seats_of, Opens, OpensSizes, shape_number};
 
@@ -23,7 +24,7 @@ fn seat_all(
     mut passes: Vec<Pass>,
     threads: u32,
 ) -> Result<Vec<Box<Seat, Global>>, AllocError>
-    requires of { All (IsPassOf queue) passes.items }
+    requires of { All (IsOpenPassOf queue) passes.items }
     requires threads { threads ≡ queue.opened.threads }
     ensures { IfOk result (λ seats. reverse (map (λ seat. seat.value) seats.items) ≡ seats_of queue passes.items) }
 {
@@ -89,8 +90,10 @@ pub extern "C" fn kfifo_c_open(
     ensures address { result ≡ 0 → (address : Ptr) × All (λ pass. pass.address ≡ address) passes.new }
     ensures refused { result ≢ 0 → passes.new ≡ passes.old }
     ensures shape { IfSome (fault_of k segments last probes) (λ fault. result ≡ shape_number fault) }
-    ensures threads { fault_of k segments last probes ≡ None → (length passes.old ≡ 0) ⊎ (64 < length passes.old) → result ≡ 8 }
-    ensures memory { fault_of k segments last probes ≡ None → 1 ≤ length passes.old → length passes.old ≤ 64 → (result ≡ 0) ⊎ (result ≡ 7) }
+    ensures threads { fault_of k segments last probes ≡ None → (length passes.old ≡ 0) ⊎ (64 < length passes.old)
+        → result ≡ 8 }
+    ensures memory { fault_of k segments last probes ≡ None → 1 ≤ length passes.old → length passes.old ≤ 64
+        → (result ≡ 0) ⊎ (result ≡ 7) }
 {
     let shape = match Shape::with_probes(k, segments, last, probes) {
         Ok(shape) => shape,

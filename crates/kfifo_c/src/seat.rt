@@ -1,8 +1,8 @@
 //! What a handle stands for.
 ghost use Rattle.std.specs.Prelude.{◌≡◌, ◌<◌, ◌≤◌, ◌^◌, ◌+◌, ◌*◌, MatchOption, IfOk};
 ghost use Rattle.kfifo_machine.specs.declared.event.Begin.TheVariants.{Enqueue, Dequeue};
-ghost use Rattle.kfifo_live.specs.Pass.{IsOf};
-ghost use Rattle.kfifo_c.specs.Seats.{Seated, seated, IsPassOf};
+ghost use Rattle.kfifo_live.specs.Pass.{IsPassOf};
+ghost use Rattle.kfifo_c.specs.Seats.{Seated, seated, IsOpenPassOf};
 ghost use Rattle.kfifo_c.specs.Exports.{MayEnqueue, MayDequeue, MayRead, CalledFrom, Puts, Gets, HasRead};
 
 use crate::address::address_of;
@@ -12,8 +12,8 @@ use std::alloc::{AllocError, Global};
 use std::marker::Model;
 use std::sync::Arc;
 
-/// A pass, a part in the queue that it is of, and the number of that queue's passes; and what the calls with nothing to choose
-/// need: their starts, and how many rounds they make.
+/// A pass, a part in the queue that it is of, and the number of that queue's passes; and what the calls with nothing to
+/// choose need: their starts, and how many rounds they make.
 #[derive(Drop)]
 pub struct Seat {
     pub(crate) queue: Arc<Queue, Global>,
@@ -29,9 +29,14 @@ pub struct Seat {
 impl Model for Seat {
     ghost Value = { Seated };
 
-    ghost view = { λ s. record { queue = s.queue.value; pass = s.pass; put_start = s.puts.start; get_start = s.gets.start } };
+    ghost view = { λ s. record {
+      queue = s.queue.value;
+      pass = s.pass;
+      put_start = s.puts.start;
+      get_start = s.gets.start;
+    } };
 
-    ghost invariant = { λ s. IsOf s.queue.value s.pass × (s.threads ≡ s.queue.value.opened.threads)
+    ghost invariant = { λ s. IsPassOf s.queue.value s.pass × (s.threads ≡ s.queue.value.opened.threads)
         × (s.puts.k ≡ s.queue.value.opened.shape.k) × (s.gets.k ≡ s.queue.value.opened.shape.k)
         × (s.turns ≡ s.queue.value.opened.shape.n + 2) };
 }
@@ -39,7 +44,7 @@ impl Model for Seat {
 impl Seat {
     /// A seat for this pass of a queue of so many.
     pub(crate) fn new(queue: Arc<Queue, Global>, pass: Pass, threads: u32) -> Seat
-        requires of { IsPassOf queue.value pass }
+        requires of { IsOpenPassOf queue.value pass }
         requires threads { threads ≡ queue.value.opened.threads }
         ensures { result ≡ seated queue.value pass }
     {
@@ -93,7 +98,7 @@ impl Seat {
     /// The pass, with the part in the queue given up.
     pub(crate) fn into_pass(self) -> Pass
         ensures pass { result ≡ self.pass }
-        ensures of { IsOf self.queue result }
+        ensures of { IsPassOf self.queue result }
     {
         let Seat {
             queue: _queue,
@@ -109,7 +114,8 @@ impl Seat {
         requires item { (1 ≤ item) × (item < 2 ^ 24) }
         requires start { start < self.old.queue.opened.shape.k }
         ensures { MatchOption result ((self.new ≡ self.old) × (¬ MayEnqueue item start turns self.old))
-            (λ answer. MayEnqueue item start turns self.old × CalledFrom (Enqueue item start turns) answer self.old self.new) }
+            (λ answer. MayEnqueue item start turns self.old
+            × CalledFrom (Enqueue item start turns) answer self.old self.new) }
     {
         if turns < 1 {
             return None;

@@ -1,29 +1,31 @@
 -- The passes of an opening.
-use Rattle.std.proofs.Common.{◌≡◌, ℕ, zero, suc, List, [], ◌∷◌, All, max, ◌+◌, ◌∙◌, refl, sym, ap, arith, take, drop, ◌++◌, slice_index_or, Result, Ok, Err, IfOk}
+use Rattle.std.proofs.Common.{◌≡◌, ℕ, zero, suc, List, [], ◌∷◌, All, max, ◌+◌, ◌∙◌, refl, sym, ap, arith, take, drop, ◌++◌, slice_index_or}
+use Rattle.std.proofs.Common.{Result, Ok, Err, IfOk}
 use Rattle.std.proofs.lemmas.List.Elements.{All-cons, All-nil}
 use Rattle.kfifo_words.specs.declared.shape.Shape.{Shape}
-use Rattle.kfifo_live.specs.Pass.{OpenQueue, IsOf}
-use Rattle.kfifo_live.specs.Payloads.{PayKnown, new_pay_passes, pay_opening}
+use Rattle.kfifo_live.specs.Pass.{OpenQueue, IsPassOf}
+use Rattle.kfifo_live.specs.Payloads.{PayPassView, new_pay_passes, pay_opening}
 use Rattle.kfifo_dispatch.specs.Jobs.{Progress}
 use Rattle.kfifo_dispatch.specs.Working.{IsOpened}
 
-all_of : (q : OpenQueue) (first count : ℕ) → All (λ (p : PayKnown Progress). IsOf q p.pass) (new_pay_passes q first count)
-all_of q first zero = All-nil (λ (p : PayKnown Progress). IsOf q p.pass)
-all_of q first (suc count) = All-cons (λ (p : PayKnown Progress). IsOf q p.pass) _ (new_pay_passes q (suc first) count) (refl, refl) (all_of q (suc first) count)
+all_of : (q : OpenQueue) (first count : ℕ) → All (λ (p : PayPassView Progress). IsPassOf q p.pass) (new_pay_passes q first count)
+all_of q first zero = All-nil (λ (p : PayPassView Progress). IsPassOf q p.pass)
+all_of q first (suc count) = All-cons (λ (p : PayPassView Progress). IsPassOf q p.pass) _ (new_pay_passes q (suc first) count) (refl, refl)
+    (all_of q (suc first) count)
 
-pub is_opened : (shape : Shape) (workers tasks : ℕ) (q : OpenQueue) (all passes : List (PayKnown Progress)) (own : PayKnown Progress)
+pub is_opened : (shape : Shape) (workers tasks : ℕ) (q : OpenQueue) (all passes : List (PayPassView Progress)) (own : PayPassView Progress)
     → q.opened ≡ pay_opening shape (workers + 1) (max tasks 1) → all ≡ new_pay_passes q 0 (workers + 1) → own ≡ slice_index_or all 0 own
     → passes ≡ take 0 all ++ drop 1 all → IsOpened shape workers tasks q own passes
 is_opened shape workers tasks q all passes own opened all_are own_is passes_are =
     let more : workers + 1 ≡ suc workers = omega arith in
     let all_are' = all_are ∙ ap (new_pay_passes q 0) more in
-    let own_is' = own_is ∙ ap (λ (ps : List (PayKnown Progress)). slice_index_or ps 0 own) all_are' in
-    let passes_are' = passes_are ∙ ap (λ (ps : List (PayKnown Progress)). take 0 ps ++ drop 1 ps) all_are' in
+    let own_is' = own_is ∙ ap (λ (ps : List (PayPassView Progress)). slice_index_or ps 0 own) all_are' in
+    let passes_are' = passes_are ∙ ap (λ (ps : List (PayPassView Progress)). take 0 ps ++ drop 1 ps) all_are' in
     record {
       opened = opened;
-      own_is = ap (λ (p : PayKnown Progress). p ∷ []) (sym own_is');
+      own_is = ap (λ (p : PayPassView Progress). p ∷ []) (sym own_is');
       passes_are = passes_are';
-      own_of = (ap (λ (p : PayKnown Progress). p.pass.table) own_is', ap (λ (p : PayKnown Progress). p.pass.opened) own_is');
+      own_of = (ap (λ (p : PayPassView Progress). p.pass.table) own_is', ap (λ (p : PayPassView Progress). p.pass.opened) own_is');
       of = rw passes_are' (all_of q 1 workers);
     }
 

@@ -1,5 +1,6 @@
 -- The calls of a worker, one turn of its loop after the other.
-use Rattle.std.proofs.Common.{◌≡◌, ◌≤◌, ◌<◌, ◌∙◌, ◌⊎◌, ◌+◌, ◌-◌, ℕ, zero, suc, List, [], ◌∷◌, ◌++◌, map, length, get_or, take, Option, Some, None, refl, sym, ap, subst, arith, inl, inr, Result, Ok, Err, IfOk, IsOk}
+use Rattle.std.proofs.Common.{◌≡◌, ◌≤◌, ◌<◌, ◌∙◌, ◌⊎◌, ◌+◌, ◌-◌, ℕ, zero, suc, List, [], ◌∷◌, ◌++◌, map, length, get_or, take, Option, Some}
+use Rattle.std.proofs.Common.{None, refl, sym, ap, subst, arith, inl, inr, Result, Ok, Err, IfOk, IsOk}
 use Rattle.std.proofs.lemmas.List.{length-take, take_more}
 use Rattle.std.specs.List.{AllByRecursion}
 use Rattle.kfifo_live.specs.declared.payload.Given.{Given}
@@ -10,7 +11,7 @@ use Rattle.kfifo_dispatch.specs.declared.worker.Turn.{Turn}
 use Rattle.kfifo_dispatch.specs.declared.worker.Turn.TheVariants as W
 use Rattle.kfifo_dispatch.specs.Running.{AreEach, GivesAll, GoesOn, IsTurn, Works, begun, kept_after, place_kept}
 use Rattle.kfifo_dispatch.specs.Working.{MayWork}
-use Rattle.kfifo_live.specs.Pass.{IsSame, Known, OpenQueue}
+use Rattle.kfifo_live.specs.Pass.{IsSamePass, PassView, OpenQueue}
 use Rattle.kfifo_dispatch.specs.declared.task.Task.{Task}
 
 append_nil : {A : Type 0} (xs : List A) → xs ++ [] ≡ xs
@@ -21,11 +22,12 @@ append_assoc' : {A : Type 0} (xs ys zs : List A) → (xs ++ ys) ++ zs ≡ xs ++ 
 append_assoc' [] ys zs = refl
 append_assoc' (x ∷ xs) ys zs = ap (λ ws. x ∷ ws) (append_assoc' xs ys zs)
 
-pub same_trans : (p q r : Known) → IsSame p q → IsSame q r → IsSame p r
+pub same_trans : (p q r : PassView) → IsSamePass p q → IsSamePass q r → IsSamePass p r
 same_trans p q r a b = (b.0 ∙ a.0, b.1 ∙ a.1, b.2 ∙ a.2)
 
 -- a worker that may work may do so after a call
-pub may_still : (q : OpenQueue) (p p' : Known) (d d' : Draws) (n n' : ℕ) → MayWork q p d n → IsSame p p' → d'.k ≡ d.k → n' ≡ n → MayWork q p' d' n'
+pub may_still : (q : OpenQueue) (p p' : PassView) (d d' : Draws) (n n' : ℕ) → MayWork q p d n → IsSamePass p p' → d'.k ≡ d.k → n' ≡ n
+    → MayWork q p' d' n'
 may_still q p p' d d' n n' may same k turns = record {
   of = (same.0 ∙ may.of.0, same.1 ∙ may.of.1);
   starts_fit = k ∙ may.starts_fit;
@@ -45,8 +47,10 @@ module _ {S : Type 0} (Passes : S → ℕ → S → Type 0) (Takes : S → ℕ �
       subst (λ (n : ℕ). Works Passes Takes Gives turns n 1 s d t later) none works
 
   -- one more take
-  one_turn : (turns left call : ℕ) (s u t : S) (d e : Draws) (turn : Turn Progress) (kept : List ℕ) → IsTurn Passes Takes Gives turns call s d turn u e
-      → GoesOn Passes Takes Gives (Works Passes Takes Gives turns left (suc call)) turn u e t kept → Works Passes Takes Gives turns (suc left) call s d t kept
+  one_turn : (turns left call : ℕ) (s u t : S) (d e : Draws) (turn : Turn Progress) (kept : List ℕ)
+      → IsTurn Passes Takes Gives turns call s d turn u e
+      → GoesOn Passes Takes Gives (Works Passes Takes Gives turns left (suc call)) turn u e t kept
+      → Works Passes Takes Gives turns (suc left) call s d t kept
   unfolding Works
   one_turn turns left call s u t d e turn kept is goes = (turn, u, e, is, goes)
 
@@ -62,18 +66,22 @@ module _ {S : Type 0} (Passes : S → ℕ → S → Type 0) (Takes : S → ℕ �
   next_turn turns all call s u t d e turn kept less is goes =
       let left : suc (all - (call + 1)) ≡ all - call = omega (arith, less) in
       let number : call + 1 + 1 ≡ suc (call + 1) = omega arith in
-      let goes' = subst (λ (n : ℕ). GoesOn Passes Takes Gives (Works Passes Takes Gives turns (all - (call + 1)) n) turn u e t kept) number goes in
+      let goes' = subst (λ (n : ℕ). GoesOn Passes Takes Gives (Works Passes Takes Gives turns (all - (call + 1)) n) turn u e t kept) number
+      goes in
       subst (λ (n : ℕ). Works Passes Takes Gives turns n (call + 1) s d t kept) left
       (one_turn turns (all - (call + 1)) (call + 1) s u t d e turn kept is goes')
 
   -- a take after which the worker goes on
-  pub goes_on : (turns turns' all call : ℕ) (s0 s u : S) (d0 d e : Draws) (kept kept' : List ℕ) (turn : Turn Progress) (now : Option Progress)
+  pub goes_on : (turns turns' all call : ℕ) (s0 s u : S) (d0 d e : Draws) (kept kept' : List ℕ) (turn : Turn Progress)
+      (now : Option Progress)
       → Ends turns all s0 d0 call s d kept → call < all → turns' ≡ turns → turn ≡ W.On now
-      → IsTurn Passes Takes Gives turns' (call + 1) s d turn u e → kept' ≡ kept ++ place_kept now → Ends turns all s0 d0 (call + 1) u e kept'
+      → IsTurn Passes Takes Gives turns' (call + 1) s d turn u e → kept' ≡ kept ++ place_kept now
+      → Ends turns all s0 d0 (call + 1) u e kept'
   goes_on turns turns' all call s0 s u d0 d e kept kept' turn now ends less same on is more t later works =
       let is' = subst (λ (n : ℕ). IsTurn Passes Takes Gives n (call + 1) s d (W.On now) u e) same
       (subst (λ (w : Turn Progress). IsTurn Passes Takes Gives turns' (call + 1) s d w u e) on is) in
-      let whole = ends t (place_kept now ++ later) (next_turn turns all call s u t d e (W.On now) (place_kept now ++ later) less is' (later, works, refl)) in
+      let whole = ends t (place_kept now ++ later)
+      (next_turn turns all call s u t d e (W.On now) (place_kept now ++ later) less is' (later, works, refl)) in
       subst (λ (ns : List ℕ). Works Passes Takes Gives turns all 1 s0 d0 t ns)
       (sym (append_assoc' kept (place_kept now) later) ∙ ap (λ (ns : List ℕ). ns ++ later) (sym more)) whole
 
@@ -122,8 +130,10 @@ module _ {S : Type 0} (Gives : S → Progress → ℕ → ℕ → Given Progress
         ap (λ (ns : List ℕ). ns ++ kept_after answer) gives.5 ∙ append_assoc' (kept_after gives.1) gives.2 (kept_after answer),
       )
 
-  pub gives_more : (turns turns' n : ℕ) (tasks : List Task) (s0 s u : S) (task : Task) (job : Progress) (answer : Given Progress) (kept kept' : List ℕ)
-      → n < length tasks → GivesAll Gives turns 0 (take n tasks) s0 s kept → get_or tasks n task ≡ task → job ≡ begun n task → turns' ≡ turns
+  pub gives_more : (turns turns' n : ℕ) (tasks : List Task) (s0 s u : S) (task : Task) (job : Progress) (answer : Given Progress)
+      (kept kept' : List ℕ)
+      → n < length tasks → GivesAll Gives turns 0 (take n tasks) s0 s kept → get_or tasks n task ≡ task → job ≡ begun n task
+      → turns' ≡ turns
       → Gives s job 0 turns' answer u → kept' ≡ kept ++ kept_after answer → GivesAll Gives turns 0 (take (n + 1) tasks) s0 u kept'
   gives_more turns turns' n tasks s0 s u task job answer kept kept' less gives at job_is same one more =
       let here : n ≡ 0 + length (take n tasks) = omega (arith, length-take n tasks, less) in
@@ -158,7 +168,8 @@ pub each_ran : {A B V D : Type 0} (firsts : List A) (backs : List B) (last : B �
 each_ran [] [] last kept places R run ok = tt
 each_ran [] (b ∷ bs) last kept places R run ok = run
 each_ran (a ∷ rest) [] last kept places R run ok = run
-each_ran {A} {B} {V} {D} (a ∷ rest) (b ∷ bs) last kept places R run ok = (one (kept b) run.0 ok.0, each_ran rest bs last kept places R run.1 ok.1) where
-  one : (r : Result V D) → IfOk r (λ v. R a (last b) (places v)) → IsOk r → (ks : List ℕ) × R a (last b) ks
-  one (Ok v) found there = (places v, found)
-  one (Err e) found there = absurd (let h = there in cc)
+each_ran {A} {B} {V} {D} (a ∷ rest) (b ∷ bs) last kept places R run ok =
+    (one (kept b) run.0 ok.0, each_ran rest bs last kept places R run.1 ok.1) where
+      one : (r : Result V D) → IfOk r (λ v. R a (last b) (places v)) → IsOk r → (ks : List ℕ) × R a (last b) ks
+      one (Ok v) found there = (places v, found)
+      one (Err e) found there = absurd (let h = there in cc)

@@ -1,5 +1,6 @@
 -- What a worker does, call by call.
-use Rattle.std.specs.Prelude.{◌≡◌, ◌≤◌, ◌<◌, ◌⊎◌, ℕ, zero, suc, ◌+◌, ◌-◌, ◌%◌, ◌^◌, List, [], ◌∷◌, ◌++◌, Option, Some, None}
+use Rattle.std.specs.Prelude.{◌≡◌, ◌≤◌, ◌<◌, ◌⊎◌, ℕ, zero, suc, ◌+◌, ◌-◌, ◌%◌, ◌^◌, List, [], ◌∷◌, ◌++◌, Option, Some}
+use Rattle.std.specs.Prelude.{None}
 use Rattle.rand_pcg.specs.Pcg.{pcg32}
 use Rattle.kfifo_live.specs.declared.payload.Given.{Given}
 use Rattle.kfifo_live.specs.declared.payload.Given.TheVariants as G
@@ -88,7 +89,8 @@ module _ {S : Type 0} (Gives : S → Progress → ℕ → ℕ → Given Progress
   abbrev pub GivesAll : ℕ → ℕ → List Task → S → S → List ℕ → Type 0
   GivesAll turns place [] s t kept = (t ≡ s) × (kept ≡ [])
   GivesAll turns place (task ∷ tasks) s t kept = (u : S) × (answer : Given Progress) × (later : List ℕ)
-      × Gives s (begun place task) 0 turns answer u × GivesAll turns (suc place) tasks u t later × (kept ≡ kept_after answer ++ later)
+      × Gives s (begun place task) 0 turns answer u × GivesAll turns (suc place) tasks u t later
+      × (kept ≡ kept_after answer ++ later)
 
 -- each of the first list is so to its counterpart in the second, and there are as many
 abbrev pub AreEach : {A B : Type 0} → (A → B → Type 0) → List A → List B → Type 0

@@ -1,8 +1,8 @@
 -- What a worker needs, and what a dispatch begins with.
 use Rattle.std.specs.Prelude.{◌≡◌, ℕ, ◌≤◌, ◌+◌, List, [], ◌∷◌, All, length, max}
 use Rattle.kfifo_words.specs.declared.shape.Shape.{Shape}
-use Rattle.kfifo_live.specs.Pass.{IsOf, Known, OpenQueue}
-use Rattle.kfifo_live.specs.Payloads.{Gives, PayKnown, TakesOut, new_pay_passes, pay_opening}
+use Rattle.kfifo_live.specs.Pass.{IsPassOf, PassView, OpenQueue}
+use Rattle.kfifo_live.specs.Payloads.{Gives, PayPassView, TakesOut, new_pay_passes, pay_opening}
 use Rattle.kfifo_live.specs.declared.payload.Given.{Given}
 use Rattle.kfifo_live.specs.declared.payload.Taken.{Taken}
 use Rattle.kfifo_dispatch.specs.declared.task.Task.{Task}
@@ -10,44 +10,48 @@ use Rattle.kfifo_dispatch.specs.Jobs.{Progress}
 use Rattle.kfifo_dispatch.specs.Running.{AreEach, GivesAll, Runs}
 use Rattle.kfifo_dispatch.specs.Starts.{Draws}
 
--- a queue of this shape for a caller and so many workers, with a token a pass for each of so many tasks, the caller's pass and the others
-pub record IsOpened (shape : Shape) (workers tasks : ℕ) (queue : OpenQueue) (own : PayKnown Progress) (passes : List (PayKnown Progress)) : Type 0 where
+-- a queue of this shape for a caller and so many workers, with a token a pass for each of so many tasks, the caller's
+-- pass and the others
+pub record IsOpened (shape : Shape) (workers tasks : ℕ) (queue : OpenQueue) (own : PayPassView Progress)
+    (passes : List (PayPassView Progress)) : Type 0 where
   pub opened : queue.opened ≡ pay_opening shape (workers + 1) (max tasks 1)
   pub own_is : new_pay_passes queue 0 1 ≡ own ∷ []
   pub passes_are : passes ≡ new_pay_passes queue 1 workers
-  pub own_of : IsOf queue own.pass
-  pub of : All (λ pass. IsOf queue pass.pass) passes
+  pub own_of : IsPassOf queue own.pass
+  pub of : All (λ pass. IsPassOf queue pass.pass) passes
 
 -- a worker's pass is of the queue, its starts are below k, and its calls have a round at least
-pub record MayWork (queue : OpenQueue) (pass : Known) (starts : Draws) (turns : ℕ) : Type 0 where
-  pub of : IsOf queue pass
+pub record MayWork (queue : OpenQueue) (pass : PassView) (starts : Draws) (turns : ℕ) : Type 0 where
+  pub of : IsPassOf queue pass
   pub starts_fit : starts.k ≡ queue.opened.shape.k
   pub turns_some : 1 ≤ turns
 
 -- what the calls of a worker do whose pass is of a payload queue: the gate is passed, and leaves the pass as it is
 module _ {T : Type 0} where
-  abbrev pub PassPasses : (ℕ → ℕ → Type 0) → PayKnown T → ℕ → PayKnown T → Type 0
+  abbrev pub PassPasses : (ℕ → ℕ → Type 0) → PayPassView T → ℕ → PayPassView T → Type 0
   PassPasses passed s call t = (t ≡ s) × passed s.pass.thread call
 
-  abbrev pub PassTakes : PayKnown T → ℕ → ℕ → Taken T → PayKnown T → Type 0
+  abbrev pub PassTakes : PayPassView T → ℕ → ℕ → Taken T → PayPassView T → Type 0
   PassTakes s start turns answer t = TakesOut start turns answer s t
 
-  abbrev pub PassGives : PayKnown T → T → ℕ → ℕ → Given T → PayKnown T → Type 0
+  abbrev pub PassGives : PayPassView T → T → ℕ → ℕ → Given T → PayPassView T → Type 0
   PassGives s payload start turns answer t = Gives start turns payload answer s t
 
 -- the whole work of a worker with such a pass, and the places of the tasks that it finished
-abbrev pub PassRuns : (ℕ → ℕ → Type 0) → Shape → ℕ → PayKnown Progress → PayKnown Progress → List ℕ → Type 0
+abbrev pub PassRuns : (ℕ → ℕ → Type 0) → Shape → ℕ → PayPassView Progress → PayPassView Progress → List ℕ → Type 0
 PassRuns passed shape seed s t kept = Runs (PassPasses passed) PassTakes PassGives shape seed s.pass.thread s t kept
 
--- What a dispatch does. It opens a queue with a pass for the caller and one for each worker, each with a token for each task. The
--- caller, who has the first pass, gives all tasks. Then each worker, with the pass of its number, does all its work
+-- What a dispatch does. It opens a queue with a pass for the caller and one for each worker, each with a token for each
+-- task. The caller, who has the first pass, gives all tasks. Then each worker, with the pass of its number, does all
+-- its work
 pub record HasRun (passed : ℕ → ℕ → Type 0) (shape : Shape) (workers seed : ℕ) (tasks : List Task) : Type 0 where
   pub queue : OpenQueue
   pub opened : queue.opened ≡ pay_opening shape (workers + 1) (max (length tasks) 1)
-  pub given : PayKnown Progress
+  pub given : PayPassView Progress
   pub refused : List ℕ
-  pub first : PayKnown Progress
+  pub first : PayPassView Progress
   pub first_is : new_pay_passes queue 0 1 ≡ first ∷ []
   pub gives : GivesAll PassGives (shape.n + 2) 0 tasks first given refused
-  pub lasts : List (PayKnown Progress)
-  pub runs : AreEach (λ first last. (kept : List ℕ) × PassRuns passed shape seed first last kept) (new_pay_passes queue 1 workers) lasts
+  pub lasts : List (PayPassView Progress)
+  pub runs : AreEach (λ first last. (kept : List ℕ) × PassRuns passed shape seed first last kept)
+      (new_pay_passes queue 1 workers) lasts

@@ -1,8 +1,9 @@
 //! Worker threads run tasks that they give to each other through one queue.
 ghost use Rattle.std.specs.Prelude.{◌≡◌, ◌+◌, ◌<◌, ◌≤◌, ◌⊎◌, ◌↔◌, All, IfOk, IsErrOf, IsOk, length, map};
 ghost use Rattle.std.specs.List.{AllByRecursion};
-ghost use Rattle.kfifo_live.specs.Pass.{IsOf, IsSame};
-ghost use Rattle.kfifo_dispatch.specs.declared.fault.DispatchFault.TheVariants.{RepeatedId, TooManyTasks, WorkersOutOfRange};
+ghost use Rattle.kfifo_live.specs.Pass.{IsPassOf, IsSamePass};
+ghost use Rattle.kfifo_dispatch.specs.declared.fault.DispatchFault.TheVariants.{RepeatedId, TooManyTasks};
+ghost use Rattle.kfifo_dispatch.specs.declared.fault.DispatchFault.TheVariants.{WorkersOutOfRange};
 ghost use Rattle.kfifo_dispatch.specs.Tasks.{HasRepeatedId, IsFinishedList};
 ghost use Rattle.kfifo_dispatch.specs.Running.{AreEach, GivesAll, Runs};
 ghost use Rattle.kfifo_dispatch.specs.Working.{HasRun, IsOpened, PassRuns};
@@ -94,7 +95,7 @@ fn work_off<L: Tasks + Send + Sync, R: Threads + Sync, G: Gate + Sync>(
     let (queue, mut own, passes) = open::<L>(alloc, shape, workers, tasks.len() as u32)?;
     let mut returned = give_all(alloc, &queue, &mut own, tasks, shape, gate)?;
     let backs = run_workers(threads, alloc, &queue, passes, shape, seed, gate)?;
-    gather(&queue, &mut own, backs, &mut returned)?;
+    collect_finished(&queue, &mut own, backs, &mut returned)?;
     let Ok(left) = queue.close(alloc, own) else {
         return Err(AllocError);
     };
@@ -148,9 +149,9 @@ fn give_all<L: Tasks, G: Gate, P: Station<Job<L>, G>>(
 ) -> Result<Vec<Done<L>>, AllocError>
     requires tasks { L.tasks ≡ tasks.now }
     requires few { length tasks.now ≤ 1024 }
-    requires of { IsOf queue.now (P.known pass.old) }
+    requires of { IsPassOf queue.now (P.known pass.old) }
     requires shape { queue.now.opened.shape ≡ shape }
-    ensures same { IsSame (P.known pass.old) (P.known pass.new) }
+    ensures same { IsSamePass (P.known pass.old) (P.known pass.new) }
     ensures gives { IfOk result (λ returned. GivesAll P.gives (shape.n + 2) 0 tasks.now pass.old pass.new
         (map (λ done. done.place) returned.items)) }
 {
@@ -180,9 +181,9 @@ fn run_workers<L: Tasks + Send + Sync, R: Threads + Sync, G: Gate + Sync>(
     seed: u64,
     gate: &G,
 ) -> Result<Vec<Back<L, PayPass<Job<L>>>>, AllocError>
-    requires of { All (λ pass. IsOf queue.now pass.pass) passes.items }
+    requires of { All (λ pass. IsPassOf queue.now pass.pass) passes.items }
     requires shape { queue.now.opened.shape ≡ shape }
-    ensures of { IfOk result (λ backs. All (λ back. IsOf queue.now back.pass.pass) backs.items) }
+    ensures of { IfOk result (λ backs. All (λ back. IsPassOf queue.now back.pass.pass) backs.items) }
     ensures run { IfOk result (λ backs. AreEach (λ pass back. IfOk back.kept (λ kept.
         PassRuns (G.passed gate.now) shape seed pass back.pass (map (λ done. done.place) kept.items)))
         passes.items backs.items) }
@@ -191,9 +192,9 @@ fn run_workers<L: Tasks + Send + Sync, R: Threads + Sync, G: Gate + Sync>(
         threads,
         passes,
         &|pass: PayPass<Job<L>>|
-            requires of { IsOf queue.now pass.pass }
+            requires of { IsPassOf queue.now pass.pass }
             requires shape { queue.now.opened.shape ≡ shape }
-            ensures same { IsSame pass.pass result.pass.pass }
+            ensures same { IsSamePass pass.pass result.pass.pass }
             ensures runs { IfOk result.kept (λ kept. PassRuns (G.passed gate.entry.now) shape seed pass result.pass
                 (map (λ done. done.place) kept.items)) }
         { run_one(alloc, queue, pass, shape, seed, gate) },
@@ -210,9 +211,9 @@ fn run_one<L: Tasks, G: Gate>(
     seed: u64,
     gate: &G,
 ) -> Back<L, PayPass<Job<L>>>
-    requires of { IsOf queue.now pass.pass }
+    requires of { IsPassOf queue.now pass.pass }
     requires shape { queue.now.opened.shape ≡ shape }
-    ensures same { IsSame pass.pass result.pass.pass }
+    ensures same { IsSamePass pass.pass result.pass.pass }
     ensures runs { IfOk result.kept (λ kept. PassRuns (G.passed gate.now) shape seed pass result.pass
         (map (λ done. done.place) kept.items)) }
 {
@@ -228,9 +229,9 @@ fn run_at_station<L: Tasks, G: Gate, P: Station<Job<L>, G> + Drop>(
     seed: u64,
     gate: &G,
 ) -> Back<L, P>
-    requires of { IsOf queue.now (P.known pass) }
+    requires of { IsPassOf queue.now (P.known pass) }
     requires shape { queue.now.opened.shape ≡ shape }
-    ensures same { IsSame (P.known pass) (P.known result.pass) }
+    ensures same { IsSamePass (P.known pass) (P.known result.pass) }
     ensures runs { IfOk result.kept (λ kept. Runs (P.passes gate.now) P.takes P.gives shape seed
         (P.known pass).thread pass result.pass (map (λ done. done.place) kept.items)) }
 {
@@ -245,15 +246,15 @@ fn run_at_station<L: Tasks, G: Gate, P: Station<Job<L>, G> + Drop>(
 }
 
 /// Meets all workers' passes, so that the caller's pass has seen all that they did, and gathers what they finished.
-fn gather<L: Tasks>(
+fn collect_finished<L: Tasks>(
     queue: &PayQueue<Job<L>>,
     own: &mut PayPass<Job<L>>,
     backs: Vec<Back<L, PayPass<Job<L>>>>,
     returned: &mut Vec<Done<L>>,
 ) -> Result<(), AllocError>
-    requires own { IsOf queue.now own.old.pass }
-    requires of { All (λ back. IsOf queue.now back.pass.pass) backs.items }
-    ensures same { IsSame own.old.pass own.new.pass }
+    requires own { IsPassOf queue.now own.old.pass }
+    requires of { All (λ back. IsPassOf queue.now back.pass.pass) backs.items }
+    ensures same { IsSamePass own.old.pass own.new.pass }
     ensures all { IfOk result (λ _. AllByRecursion (λ back. IsOk back.kept) backs.items) }
 {
     for mut back in backs {

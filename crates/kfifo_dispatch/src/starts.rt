@@ -8,7 +8,8 @@ use rand_core::utils::NextWord;
 use rand_pcg::Pcg32;
 use std::marker::Model;
 
-/// The starts of a worker's calls, drawn one after the other: random slots of a segment, the same ones from the same seed.
+/// The starts of a worker's calls, drawn one after the other: random slots of a segment, the same ones from the same
+/// seed.
 ///
 /// Clauses see it as k beside the generator.
 #[derive(Drop)]
@@ -26,7 +27,8 @@ impl Model for Starts {
 }
 
 impl Starts {
-    /// The starts of a worker for segments of k slots, k from 1 to 64. The generator is PCG32, seeded by the sum of `seed` and `worker`, which wraps.
+    /// The starts of a worker for segments of k slots, k from 1 to 64. The generator is PCG32, seeded by the sum of
+    /// `seed` and `worker`, which wraps.
     pub fn new(seed: u64, worker: u32, k: u32) -> Starts
         requires { (1 ≤ k) × (k ≤ 64) }
         ensures { result ≡ record { k = k; generator = seeded ((seed + worker) % 2 ^ 64) } }

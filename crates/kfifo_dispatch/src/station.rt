@@ -1,6 +1,6 @@
 //! What a worker makes its calls by.
 ghost use Rattle.std.specs.Prelude.{◌≡◌, ◌<◌, ◌≤◌, ℕ};
-ghost use Rattle.kfifo_live.specs.Pass.{IsOf, IsSame, Known};
+ghost use Rattle.kfifo_live.specs.Pass.{IsPassOf, IsSamePass, PassView};
 ghost use Rattle.kfifo_live.specs.declared.payload.Given.{Given};
 ghost use Rattle.kfifo_live.specs.declared.payload.Taken.{Taken};
 ghost use Rattle.kfifo_dispatch.specs.Working.{PassGives, PassPasses, PassTakes};
@@ -14,7 +14,7 @@ use kfifo_live::{Given, PayPass, PayQueue, Taken};
 /// proved to have done by such steps it has done by calls.
 pub(crate) trait Station<T: Drop, G> {
     // What is known of its pass.
-    ghost known: { Self → Known };
+    ghost known: { Self → PassView };
 
     // A call with this number was announced at the gate.
     ghost passes: { G → Self → ℕ → Self → Type 0 };
@@ -31,23 +31,23 @@ pub(crate) trait Station<T: Drop, G> {
 
     /// Passes the gate before the take of this number, from 1.
     fn pass_gate(&mut self, gate: &G, call: u32)
-        ensures same { IsSame (known self.old) (known self.new) }
+        ensures same { IsSamePass (known self.old) (known self.new) }
         ensures passes { passes gate.now self.old call self.new };
 
     /// As `PayPass::take`.
     fn take(&mut self, queue: &PayQueue<T>, start: u32, turns: u16) -> Taken<T>
-        requires of { IsOf queue.now (known self.old) }
+        requires of { IsPassOf queue.now (known self.old) }
         requires start { start < queue.now.opened.shape.k }
         requires turns { 1 ≤ turns }
-        ensures same { IsSame (known self.old) (known self.new) }
+        ensures same { IsSamePass (known self.old) (known self.new) }
         ensures takes { takes self.old start turns result self.new };
 
     /// As `PayPass::give`.
     fn give(&mut self, queue: &PayQueue<T>, payload: T, start: u32, turns: u16) -> Given<T>
-        requires of { IsOf queue.now (known self.old) }
+        requires of { IsPassOf queue.now (known self.old) }
         requires start { start < queue.now.opened.shape.k }
         requires turns { 1 ≤ turns }
-        ensures same { IsSame (known self.old) (known self.new) }
+        ensures same { IsSamePass (known self.old) (known self.new) }
         ensures gives { gives self.old payload start turns result self.new };
 }
 
@@ -70,10 +70,10 @@ impl<T: Drop, G: Gate> Station<T, G> for PayPass<T> {
 
     #[inline(always)]
     fn take(&mut self, queue: &PayQueue<T>, start: u32, turns: u16) -> Taken<T>
-        requires of { IsOf queue.now self.old.pass }
+        requires of { IsPassOf queue.now self.old.pass }
         requires start { start < queue.now.opened.shape.k }
         requires turns { 1 ≤ turns }
-        ensures same { IsSame self.old.pass self.new.pass }
+        ensures same { IsSamePass self.old.pass self.new.pass }
         ensures takes { PassTakes self.old start turns result self.new }
     {
         PayPass::take(self, queue, start, turns)
@@ -81,10 +81,10 @@ impl<T: Drop, G: Gate> Station<T, G> for PayPass<T> {
 
     #[inline(always)]
     fn give(&mut self, queue: &PayQueue<T>, payload: T, start: u32, turns: u16) -> Given<T>
-        requires of { IsOf queue.now self.old.pass }
+        requires of { IsPassOf queue.now self.old.pass }
         requires start { start < queue.now.opened.shape.k }
         requires turns { 1 ≤ turns }
-        ensures same { IsSame self.old.pass self.new.pass }
+        ensures same { IsSamePass self.old.pass self.new.pass }
         ensures gives { PassGives self.old payload start turns result self.new }
     {
         PayPass::give(self, queue, payload, start, turns)

@@ -1,6 +1,6 @@
 //! What a worker does.
 ghost use Rattle.std.specs.Prelude.{◌≡◌, ◌<◌, ◌≤◌, ◌++◌, IfOk, map};
-ghost use Rattle.kfifo_live.specs.Pass.{IsOf, IsSame};
+ghost use Rattle.kfifo_live.specs.Pass.{IsPassOf, IsSamePass};
 ghost use Rattle.kfifo_dispatch.specs.Jobs.{id_at};
 ghost use Rattle.kfifo_dispatch.specs.Running.{IsTurn, Works, WorksAt, kept_after, place_kept};
 ghost use Rattle.kfifo_dispatch.specs.Working.{MayWork};
@@ -13,7 +13,7 @@ use kfifo_live::{Given, PayQueue, Taken};
 use std::alloc::{AllocError, Global};
 
 /// A worker calls to take a task so many times at most.
-const MOST_TAKES: u32 = 65_536;
+const MAX_TAKES: u32 = 65_536;
 
 /// What a worker works with.
 #[derive(Drop)]
@@ -48,7 +48,7 @@ impl<P> Worker<P> {
     where
         P: Station<Job<L>, G> + Drop,
         requires { MayWork queue.now (P.known self.pass) self.starts self.turns }
-        ensures same { IsSame (P.known self.pass) (P.known result.pass) }
+        ensures same { IsSamePass (P.known self.pass) (P.known result.pass) }
         ensures works { IfOk result.kept (λ kept. Works (P.passes gate.now) P.takes P.gives self.turns 65536 1
             self.pass self.starts result.pass
             (map (λ done. done.place) kept.items)) }
@@ -70,13 +70,13 @@ impl<P> Worker<P> {
     where
         P: Station<Job<L>, G> + Drop,
         requires { MayWork queue.now (P.known self.old.pass) self.old.starts self.old.turns }
-        ensures same { IsSame (P.known self.old.pass) (P.known self.new.pass) }
+        ensures same { IsSamePass (P.known self.old.pass) (P.known self.new.pass) }
         ensures works { IfOk result (λ kept. Works (P.passes gate.now) P.takes P.gives self.old.turns 65536 1
             self.old.pass self.old.starts self.new.pass
             (map (λ done. done.place) kept.items)) }
     {
         let mut kept = Vec::new(alloc);
-        for call in 0..MOST_TAKES {
+        for call in 0..MAX_TAKES {
             match self.take_once(call + 1, queue, gate) {
                 Turn::Over => return Ok(kept),
                 Turn::On(finished) => keep(&mut kept, finished)?,
@@ -95,7 +95,7 @@ impl<P> Worker<P> {
     where
         P: Station<Job<L>, G> + Drop,
         requires { MayWork queue.now (P.known self.old.pass) self.old.starts self.old.turns }
-        ensures same { IsSame (P.known self.old.pass) (P.known self.new.pass)
+        ensures same { IsSamePass (P.known self.old.pass) (P.known self.new.pass)
             × (self.new.starts.k ≡ self.old.starts.k) × (self.new.turns ≡ self.old.turns) }
         ensures turn { IsTurn (P.passes gate.now) P.takes P.gives self.old.turns call
             self.old.pass self.old.starts result self.new.pass self.new.starts }
@@ -120,7 +120,7 @@ impl<P> Worker<P> {
     where
         P: Station<Job<L>, G> + Drop,
         requires { MayWork queue.now (P.known self.old.pass) self.old.starts self.old.turns }
-        ensures same { IsSame (P.known self.old.pass) (P.known self.new.pass)
+        ensures same { IsSamePass (P.known self.old.pass) (P.known self.new.pass)
             × (self.new.starts.k ≡ self.old.starts.k) × (self.new.turns ≡ self.old.turns) }
         ensures works { WorksAt (P.passes gate.now) P.takes P.gives self.old.turns job
             self.old.pass self.old.starts self.new.pass self.new.starts (place_kept result) }

@@ -10,8 +10,8 @@ struct Room {
     columns: usize,
 }
 
-/// The rooms that finished calls need, whose labels have these widths, by rising end. Their label and the two ends stand
-/// beside each other.
+/// The rooms that finished calls need, whose labels have these widths, by rising end. Their label and the two ends
+/// stand beside each other.
 fn rooms_of(alloc: Global, spans: &[Span], widths: &[usize]) -> Result<Vec<Room>, AllocError> {
     let mut rooms = Vec::new(alloc);
     for (span, width) in spans.iter().zip(widths.iter()) {

@@ -5,7 +5,7 @@ use std::alloc::{AllocError, Global};
 use std::fmt::Write;
 
 /// How many columns a band has at most: a line has at most 120 characters, with the 11 of its thread.
-pub(crate) const MOST_COLUMNS: usize = 109;
+pub(crate) const MAX_COLUMNS: usize = 109;
 
 /// Adds a character so many times.
 fn push_times(text: &mut String, mark: char, count: usize) -> Result<(), AllocError> {

@@ -16,4 +16,4 @@ mod words;
 
 pub use marks::Marking;
 pub use part::Part;
-pub use picture::{DrawFault, Drawing, MOST_DRAWN, Style, draw};
+pub use picture::{DrawFault, Drawing, MAX_DRAWN, Style, draw};

@@ -15,7 +15,7 @@ use std::alloc::{AllocError, AllocFailed, Global};
 use thiserror::Error;
 
 /// The most calls of a picture.
-pub const MOST_DRAWN: usize = 4_096;
+pub const MAX_DRAWN: usize = 4_096;
 
 /// What a picture is made of.
 #[derive(Clone, Copy, Debug, PartialEq, Eq)]
@@ -111,11 +111,12 @@ impl<T: Drop> From<AllocFailed<T>> for DrawFault {
 /// `alloc`, the runtime's allocator, makes room for the text. Refuses: TooMany where over 4,096 calls belong to the
 /// part, else Memory where an allocation failed.
 pub fn draw(alloc: Global, history: &History, drawing: &Drawing<'_>) -> Result<String, DrawFault>
-    ensures { MatchResult result (λ _. AreFew (IsInPart history.now drawing.now.logged.now drawing.now.part) (length history.now))
+    ensures { MatchResult result (λ _. AreFew (IsInPart history.now drawing.now.logged.now drawing.now.part)
+        (length history.now))
         (IsDrawFault history.now drawing.now.logged.now drawing.now.part) }
 {
     let calls = history.calls();
-    if count_drawn(calls, drawing.logged, drawing.part) > MOST_DRAWN {
+    if count_drawn(calls, drawing.logged, drawing.part) > MAX_DRAWN {
         return Err(DrawFault::TooMany);
     }
     let text = picture_of(alloc, history, drawing)?;
@@ -144,8 +145,8 @@ fn picture_of(
     let calls = calls_at(alloc, whole, numbers.as_slice())?;
     let marks = Marks::of(alloc, history, drawing.k, drawing.marking)?;
     let most = match drawing.style {
-        Style::Svg => svg::MOST_COLUMNS,
-        Style::Text => lanes::MOST_COLUMNS,
+        Style::Svg => svg::MAX_COLUMNS,
+        Style::Text => lanes::MAX_COLUMNS,
     };
     let layout = Layout::of(alloc, calls.as_slice(), numbers.as_slice(), &marks, most)?;
     let scene = Scene {

@@ -7,7 +7,7 @@ use std::alloc::AllocError;
 use std::fmt::Write;
 
 /// Of a whole history of more calls than these, a picture says how to draw a part.
-const MOST_AT_ONCE: usize = 400;
+const MAX_AT_ONCE: usize = 400;
 
 /// What is drawn, and where.
 #[derive(Clone, Copy)]
@@ -29,7 +29,7 @@ pub(crate) struct Scene<'a> {
 impl Scene<'_> {
     /// Whether the calls are all, and too many to be looked at.
     pub(crate) fn is_crowded(&self) -> bool {
-        self.whole > MOST_AT_ONCE && self.calls.len() == self.whole
+        self.whole > MAX_AT_ONCE && self.calls.len() == self.whole
     }
 
     /// Whether some calls are left out.

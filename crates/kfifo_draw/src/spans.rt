@@ -2,8 +2,8 @@
 use kfifo_model::Call;
 use std::alloc::{AllocError, Global};
 
-/// From where to where a call reaches: places among all beginnings and ends by rising step, where at one step beginnings
-/// come before ends, and ends at one step have one place.
+/// From where to where a call reaches: places among all beginnings and ends by rising step, where at one step
+/// beginnings come before ends, and ends at one step have one place.
 #[derive(Clone, Copy)]
 pub(crate) struct Span {
     /// The place of the beginning.
@@ -56,8 +56,8 @@ pub(crate) fn goes_on(span: &Span, from: usize) -> bool {
     span.from < from && span.to.map_or(true, |end| end >= from)
 }
 
-/// What of a span lies among the places from one to another, counted from `edge` on; none where nothing does. What began before
-/// has the place 0, and what ends behind has no end.
+/// What of a span lies among the places from one to another, counted from `edge` on; none where nothing does. What
+/// began before has the place 0, and what ends behind has no end.
 pub(crate) fn clipped(span: &Span, from: usize, to: usize, edge: usize) -> Option<Span> {
     let is_before = span.to.map_or(false, |end| end < from);
     if is_before || span.from >= to {

@@ -14,7 +14,7 @@ const LEFT: usize = 96;
 
 const RIGHT: usize = 16;
 /// How many columns a band has at most: so a picture is at most 4,000 pixels wide.
-pub(crate) const MOST_COLUMNS: usize = 486;
+pub(crate) const MAX_COLUMNS: usize = 486;
 /// The room above the lanes, for a line on what is said of the whole, and the height of a further one.
 const TOP: usize = 60;
 

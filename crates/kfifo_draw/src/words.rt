@@ -7,26 +7,24 @@ use std::fmt::Write;
 
 /// Adds the operation, with its item.
 fn push_op(text: &mut String, op: Op) -> Result<(), AllocError> {
+    text.push_str(op.word())?;
     match op {
-        Op::Enqueue(item) => write!(text, "enq {item}"),
-        Op::Dequeue => text.push_str("deq"),
+        Op::Enqueue(item) => write!(text, " {item}"),
+        Op::Dequeue => Ok(()),
     }
 }
 
 /// Adds an answer.
 fn push_answer(text: &mut String, answer: Answer) -> Result<(), AllocError> {
+    text.push_str(answer.word())?;
     match answer {
-        Answer::Done => text.push_str("done"),
-        Answer::Full => text.push_str("full"),
-        Answer::Got(item) => write!(text, "got {item}"),
-        Answer::Empty => text.push_str("empty"),
-        Answer::Busy => text.push_str("busy"),
-        Answer::Worn => text.push_str("worn"),
+        Answer::Got(item) => write!(text, " {item}"),
+        _ => Ok(()),
     }
 }
 
-/// The label of a call: its number, what it asks for, its answer, its place in the order, and whether the order fails at it or it is
-/// named.
+/// The label of a call: its number, what it asks for, its answer, its place in the order, and whether the order fails
+/// at it or it is named.
 pub(crate) fn label_of(
     alloc: Global,
     marks: &Marks,

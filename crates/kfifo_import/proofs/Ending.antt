@@ -1,5 +1,6 @@
 -- The ends of a log's calls, one by one, and their ranks.
-use Rattle.std.proofs.Common.{ℕ, zero, suc, ◌≡◌, ◌+◌, ◌<◌, ◌≤◌, true, false, List, [], ◌∷◌, ◌++◌, Option, Some, None, length, count_by, is_some, refl, sym, ◌∙◌, ap, subst, inl, inr, arith, length-append}
+use Rattle.std.proofs.Common.{ℕ, zero, suc, ◌≡◌, ◌+◌, ◌<◌, ◌≤◌, true, false, List, [], ◌∷◌, ◌++◌, Option, Some, None, length, count_by}
+use Rattle.std.proofs.Common.{is_some, refl, sym, ◌∙◌, ap, subst, inl, inr, arith, length-append}
 use Rattle.std.specs.List.{Contains}
 use Rattle.std.specs.List.Sorted.{IsPermutation}
 use Rattle.std.proofs.lemmas.Bool.{cases_eq}
@@ -15,17 +16,20 @@ use Rattle.kfifo_import.specs.Stamping.{AreEnds, AreEndsTo, end_at}
 pub no_ends : (l : List Call) → AreEndsTo l [] 0
 no_ends l = record { each = All-nil (λ n. n < length l); all = λ m lt. absurd (omega arith); count = refl }
 
-pub one_end : (l : List Call) (ends : List ℕ) (n : ℕ) → n < length l → AreEndsTo l ends n → is_some (end_at l n) ≡ true → AreEndsTo l (ends ++ n ∷ []) (n + 1)
+pub one_end : (l : List Call) (ends : List ℕ) (n : ℕ) → n < length l → AreEndsTo l ends n → is_some (end_at l n) ≡ true
+    → AreEndsTo l (ends ++ n ∷ []) (n + 1)
 one_end l ends n lt was is = record {
   each = All-append (λ n. n < length l) ends (n ∷ []) was.each (All-cons (λ n. n < length l) n [] lt (All-nil (λ n. n < length l)));
   all = λ m less h. elim (cases_eq m n) [
     | inl same ↦ subst (λ x. Contains (ends ++ n ∷ []) x) (sym same) (Contains-push ends n)
     | inr ne ↦ Contains-append_left ends (n ∷ []) m (was.all m (omega arith) h)
   ];
-  count = let a = length-append ends (n ∷ []) in let b = count_by_more_yes (λ c. is_some c.end) l n no_call lt is in let e = was.count in omega (arith, a, b, e);
+  count = let a = length-append ends (n ∷ []) in let b = count_by_more_yes (λ c. is_some c.end) l n no_call lt is in let e = was.count in
+      omega (arith, a, b, e);
 }
 
-pub no_end : (l : List Call) (ends : List ℕ) (n : ℕ) → n < length l → AreEndsTo l ends n → is_some (end_at l n) ≡ false → AreEndsTo l ends (n + 1)
+pub no_end : (l : List Call) (ends : List ℕ) (n : ℕ) → n < length l → AreEndsTo l ends n → is_some (end_at l n) ≡ false
+    → AreEndsTo l ends (n + 1)
 no_end l ends n lt was is = record {
   each = was.each;
   all = λ m less h. elim (cases_eq m n) [

@@ -22,13 +22,19 @@ calls_rise lines rise i j d le inside =
     let small : length (calls_of lines) ≡ length lines = length-map lines (λ (x : Line). x.call) in
     rw (a, b) (rise i j e le (omega (arith, small)))
 
-pub refused : (lines sorted : List Line) (calls : List Call) (found : RecordFault) → AreByFirst lines sorted → AreStamped (calls_of sorted) calls → IsFault calls found
+pub refused : (lines sorted : List Line) (calls : List Call) (found : RecordFault) → AreByFirst lines sorted
+    → AreStamped (calls_of sorted) calls → IsFault calls found
     → IsImportFault lines (import_fault sorted found)
-refused lines sorted calls (records.NumberOutOfRange n) b s f = record { sorted = sorted; by_first = b; calls = calls; stamped = s; found = records.NumberOutOfRange n; first = f; is = refl }
-refused lines sorted calls (records.WrongAnswer n) b s f = record { sorted = sorted; by_first = b; calls = calls; stamped = s; found = records.WrongAnswer n; first = f; is = refl }
-refused lines sorted calls (records.EndsEarly n) b s f = record { sorted = sorted; by_first = b; calls = calls; stamped = s; found = records.EndsEarly n; first = f; is = refl }
-refused lines sorted calls (records.Overlap n) b s f = record { sorted = sorted; by_first = b; calls = calls; stamped = s; found = records.Overlap n; first = f; is = refl }
-refused lines sorted calls (records.OutOfOrder n) b s f = absurd (f.4 (λ j e. (let x = s.begin j n (omega arith) (subst (λ m. n < m) s.sized f.0.0) in x)))
+refused lines sorted calls (records.NumberOutOfRange n) b s f =
+    record { sorted = sorted; by_first = b; calls = calls; stamped = s; found = records.NumberOutOfRange n; first = f; is = refl }
+refused lines sorted calls (records.WrongAnswer n) b s f =
+    record { sorted = sorted; by_first = b; calls = calls; stamped = s; found = records.WrongAnswer n; first = f; is = refl }
+refused lines sorted calls (records.EndsEarly n) b s f =
+    record { sorted = sorted; by_first = b; calls = calls; stamped = s; found = records.EndsEarly n; first = f; is = refl }
+refused lines sorted calls (records.Overlap n) b s f =
+    record { sorted = sorted; by_first = b; calls = calls; stamped = s; found = records.Overlap n; first = f; is = refl }
+refused lines sorted calls (records.OutOfOrder n) b s f =
+    absurd (f.4 (λ j e. (let x = s.begin j n (omega arith) (subst (λ m. n < m) s.sized f.0.0) in x)))
 refused lines sorted calls records.NotAList b s f = absurd f
 refused lines sorted calls records.TooMany b s f = absurd f
 refused lines sorted calls (records.NotACall n) b s f = absurd f

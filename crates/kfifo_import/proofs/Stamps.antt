@@ -1,5 +1,6 @@
 -- Stamps stand as the times do.
-use Rattle.std.proofs.Common.{ℕ, zero, suc, [], ◌∷◌, ◌≡◌, ◌≢◌, ◌+◌, ◌<◌, ◌≤◌, List, Option, Some, None, length, get_or, sym, ◌∙◌, ap, subst, refl, inl, inr, arith}
+use Rattle.std.proofs.Common.{ℕ, zero, suc, [], ◌∷◌, ◌≡◌, ◌≢◌, ◌+◌, ◌<◌, ◌≤◌, List, Option, Some, None, length, get_or, sym, ◌∙◌, ap, subst}
+use Rattle.std.proofs.Common.{refl, inl, inr, arith}
 use Rattle.std.specs.List.Sorted.{IsNonDecreasingBy}
 use Rattle.std.proofs.lemmas.Bool.{cases_lt}
 use Rattle.std.proofs.lemmas.List.{get_or_default}
@@ -7,7 +8,8 @@ use Rattle.kfifo_model.specs.declared.calls.End.{End}
 use Rattle.kfifo_model.specs.declared.calls.Call.{Call}
 use Rattle.kfifo_model.specs.Histories.{call, no_call, HasEnd, EndsBelow}
 use Rattle.kfifo_model.specs.Validity.{EndsFrom}
-use Rattle.kfifo_import.specs.Stamping.{AnswersAlike, AreRanks, AreSortedEnds, AreStamped, AreStampedTo, HaveBegun, HaveEnded, IsEndStamp, IsStampOf, end_at, first_at, last_in, last_of}
+use Rattle.kfifo_import.specs.Stamping.{AnswersAlike, AreRanks, AreSortedEnds, AreStamped, AreStampedTo, HaveBegun, HaveEnded, IsEndStamp}
+use Rattle.kfifo_import.specs.Stamping.{IsStampOf, end_at, first_at, last_in, last_of}
 
 -- ---- ends as numbers
 
@@ -74,7 +76,8 @@ more first last r b e d f g le = elim (cases_lt r e) [
 -- more have begun by a later time
 begun_more : (l : List Call) (s t b d : ℕ) → s ≤ t → HaveBegun l s b → HaveBegun l t d → b ≤ d
 begun_more l s t b d le p q = elim (cases_lt d b) [
-  | inl lt ↦ (let x = p.1.0 d no_call (omega arith) lt in let y = q.1.1 d no_call (omega arith) (omega (arith, p.0)) in absurd (omega (arith, x, y)))
+  | inl lt ↦ (let x = p.1.0 d no_call (omega arith) lt in let y = q.1.1 d no_call (omega arith) (omega (arith, p.0)) in
+      absurd (omega (arith, x, y)))
   | inr ge ↦ ge
 ]
 
@@ -87,7 +90,8 @@ ended_more l ends s t b d le p q = elim (cases_lt d b) [
 
 -- ---- the stamps
 
-module _ (l h : List Call) (ends ranks : List ℕ) (sorted : AreSortedEnds l ends) (ranked : AreRanks ends ranks (length l) (length ends)) (sized : length h ≡ length l)
+module _ (l h : List Call) (ends ranks : List ℕ) (sorted : AreSortedEnds l ends) (ranked : AreRanks ends ranks (length l) (length ends))
+    (sized : length h ≡ length l)
     (by_first : IsNonDecreasingBy (λ c. c.first) l) (are : (n : ℕ) → n < length l → IsStampOf l ends ranks n (call l n) (call h n)) where
   stands : (c : ℕ) → HasEnd (end_at l c) → (get_or ranks c 0 < length ends) × (get_or ends (get_or ranks c 0) 0 ≡ c)
   stands c has =
@@ -169,7 +173,8 @@ module _ (l h : List Call) (ends ranks : List ℕ) (sorted : AreSortedEnds l end
     begin = λ c d lt small.
         let s = are c (omega arith) in
         let t = are d small in
-        let e = ended_more l ends (first_at l c) (first_at l d) s.ended t.ended (by_first c d no_call (omega arith) small) s.have_ended t.have_ended in
+        let e = ended_more l ends (first_at l c) (first_at l d) s.ended t.ended (by_first c d no_call (omega arith) small) s.have_ended
+        t.have_ended in
         omega (arith, e, s.first, t.first);
     before = λ c d small low. (
       λ p. let x = below_is (end_at l c) (first_at l d) p in
@@ -195,7 +200,8 @@ module _ (l h : List Call) (ends ranks : List ℕ) (sorted : AreSortedEnds l end
   }
 
 -- all calls with their stamps
-pub all_stamped : (l found : List Call) (ends ranks : List ℕ) (n : ℕ) → length l ≡ n → AreSortedEnds l ends → AreRanks ends ranks (length l) (length ends) → IsNonDecreasingBy (λ c. c.first) l
+pub all_stamped : (l found : List Call) (ends ranks : List ℕ) (n : ℕ) → length l ≡ n → AreSortedEnds l ends
+    → AreRanks ends ranks (length l) (length ends) → IsNonDecreasingBy (λ c. c.first) l
     → AreStampedTo l ends ranks n found → AreStamped l found
 all_stamped l found ends ranks n same sorted ranked by_first to =
     are_stamped l found ends ranks sorted ranked (to.sized ∙ sym same) by_first (λ m lt. to.each m (omega (arith, same)))

@@ -83,7 +83,8 @@ IsUnfinished Dequeue item = item ≡ None
 
 -- a call ends where it has a last time and an answer, and is unfinished where it has neither
 abbrev pub IsEnd : Op → Option ℕ → Option (List ℕ) → Option ℕ → Option End → Type 0
-IsEnd op last answer item (Some end) = (text : List ℕ) × (last ≡ Some end.last) × (answer ≡ Some text) × IsAnswer op text item end.answer
+IsEnd op last answer item (Some end) = (text : List ℕ) × (last ≡ Some end.last) × (answer ≡ Some text)
+    × IsAnswer op text item end.answer
 IsEnd op last answer item None = (last ≡ None) × (answer ≡ None) × IsUnfinished op item
 
 -- The fields of a line are the call's, whose steps are times.

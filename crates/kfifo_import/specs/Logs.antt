@@ -8,7 +8,8 @@ use Rattle.kfifo_model.specs.declared.history.RecordFault.TheVariants as records
 use Rattle.kfifo_model.specs.Histories.{no_call}
 use Rattle.kfifo_model.specs.Validity.{IsFault, IsHistory}
 use Rattle.kfifo_import.specs.declared.log.ImportFault.{ImportFault}
-use Rattle.kfifo_import.specs.declared.log.ImportFault.TheVariants.{Csv, TooMany, NotACall, NumberOutOfRange, WrongAnswer, EndsEarly, Overlap, Memory}
+use Rattle.kfifo_import.specs.declared.log.ImportFault.TheVariants.{Csv, TooMany, NotACall, NumberOutOfRange}
+use Rattle.kfifo_import.specs.declared.log.ImportFault.TheVariants.{WrongAnswer, EndsEarly, Overlap, Memory}
 use Rattle.kfifo_import.specs.declared.log.Line.{Line}
 use Rattle.kfifo_import.specs.declared.log.LoggedCall.{LoggedCall}
 use Rattle.kfifo_import.specs.Stamping.{AreStamped}
@@ -31,7 +32,11 @@ pub record AreByFirst (lines sorted : List Line) : Type 0 where
 
 -- what a log says of the call of a line beside its record: where it stands and when it was
 abbrev pub logged_call : Line → LoggedCall
-logged_call line = record { line = line.number; first = line.call.first; last = option_map (λ end. end.last) line.call.end }
+logged_call line = record {
+  line = line.number;
+  first = line.call.first;
+  last = option_map (λ end. end.last) line.call.end;
+}
 
 -- The history is the record of the log, which has at most 65,536 lines: its calls by rising first time, with stamps.
 -- The calls of the log, by the numbers of the record, are these.

@@ -1,5 +1,6 @@
 -- Stamps for the calls of a log, whose steps are times: the places of their beginnings and ends.
-use Rattle.std.specs.Prelude.{ℕ, ◌≡◌, ◌≢◌, ◌+◌, ◌<◌, ◌≤◌, ◌↔◌, List, Option, Some, None, length, slice_index_or, count_by, is_some, take}
+use Rattle.std.specs.Prelude.{ℕ, ◌≡◌, ◌≢◌, ◌+◌, ◌<◌, ◌≤◌, ◌↔◌, List, Option, Some, None, length, slice_index_or}
+use Rattle.std.specs.Prelude.{count_by, is_some, take}
 use Rattle.std.specs.List.{All, Contains}
 use Rattle.std.specs.List.Sorted.{IsNonDecreasingBy, IsPartitionPoint}
 use Rattle.kfifo_model.specs.declared.calls.End.{End}
@@ -41,15 +42,18 @@ pub record IsRestamped (c s : Call) : Type 0 where
   pub op : s.op ≡ c.op
   pub answer : AnswersAlike c.end s.end
 
--- h has the calls l with stamps: the places of the calls' beginnings and ends by rising time, where at one time beginnings come before
--- ends, and earlier calls begin first. So each stamp is below the number of moments, and stamps stand as the times do.
+-- h has the calls l with stamps: the places of the calls' beginnings and ends by rising time, where at one time
+-- beginnings come before ends, and earlier calls begin first. So each stamp is below the number of moments, and stamps
+-- stand as the times do.
 pub record AreStamped (l h : List Call) : Type 0 where
   pub sized : length h ≡ length l
   pub same : (n : ℕ) → n < length l → IsRestamped (call l n) (call h n)
   pub begin : (c d : ℕ) → c < d → d < length l → first_at h c < first_at h d
   pub before : (c d : ℕ) → c < length l → d < length l → Precedes l c d ↔ Precedes h c d
-  pub after : (c d : ℕ) → c < length l → d < length l → EndsFrom (first_at l d) (end_at l c) → EndsFrom (first_at h d + 1) (end_at h c)
-  pub end : (c d : ℕ) → HasEnd (end_at l c) → HasEnd (end_at l d) → last_of l c < last_of l d → last_of h c < last_of h d
+  pub after : (c d : ℕ) → c < length l → d < length l → EndsFrom (first_at l d) (end_at l c)
+      → EndsFrom (first_at h d + 1) (end_at h c)
+  pub end : (c d : ℕ) → HasEnd (end_at l c) → HasEnd (end_at l d) → last_of l c < last_of l d
+      → last_of h c < last_of h d
   pub apart : (c d : ℕ) → HasEnd (end_at l c) → HasEnd (end_at l d) → c ≢ d → last_of h c ≢ last_of h d
   pub begin_below : (n : ℕ) → n < length l → first_at h n < moments l
   pub end_below : (n : ℕ) → HasEnd (end_at l n) → last_of h n < moments l
@@ -78,11 +82,13 @@ pub record AreRanks (ends ranks : List ℕ) (count place : ℕ) : Type 0 where
   pub sized : length ranks ≡ count
   pub small : All (λ rank. rank ≤ length ends) ranks
   pub below : (q d : ℕ) → q < place → slice_index_or ranks (slice_index_or ends q d) d < length ends
-  pub there : (q d : ℕ) → q < place → slice_index_or ends (slice_index_or ranks (slice_index_or ends q d) d) d ≡ slice_index_or ends q d
+  pub there : (q d : ℕ) → q < place → slice_index_or ends (slice_index_or ranks (slice_index_or ends q d) d) d
+      ≡ slice_index_or ends q d
 
 -- so many of the finished calls, by rising last time, ended before this time
 abbrev pub HaveEnded : List Call → List ℕ → ℕ → ℕ → Type 0
-HaveEnded l ends time count = (count ≤ length ends) × IsPartitionPoint (λ n. last_of l n < time) (λ n. time ≤ last_of l n) ends count
+HaveEnded l ends time count = (count ≤ length ends)
+    × IsPartitionPoint (λ n. last_of l n < time) (λ n. time ≤ last_of l n) ends count
 
 -- so many of the calls, by rising first time, have begun by this time
 abbrev pub HaveBegun : List Call → ℕ → ℕ → Type 0
@@ -91,7 +97,8 @@ HaveBegun l time count = (count ≤ length l) × IsPartitionPoint (λ c. c.first
 -- a call's end with a stamp: its rank among the ends and the number of the beginnings before it
 abbrev pub IsEndStamp : List Call → ℕ → Option End → Option End → Type 0
 IsEndStamp l rank None s = s ≡ None
-IsEndStamp l rank (Some end) s = (begun : ℕ) × HaveBegun l end.last begun × (s ≡ Some (record end { last = rank + begun }))
+IsEndStamp l rank (Some end) s = (begun : ℕ) × HaveBegun l end.last begun
+    × (s ≡ Some (record end { last = rank + begun }))
 
 -- the call c with the number n and stamps
 pub record IsStampOf (l : List Call) (ends ranks : List ℕ) (n : ℕ) (c s : Call) : Type 0 where

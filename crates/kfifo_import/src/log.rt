@@ -1,10 +1,11 @@
 //! Logs of calls, whose steps are times of a clock.
 ghost use Rattle.std.specs.Prelude.{◌≡◌, IfOk, MatchResult, map};
 ghost use Rattle.kfifo_import.specs.Logs as specs;
-ghost use Rattle.kfifo_import.specs.Logs.{AreByFirst, IsImportFault, IsLogOf, IsRecordOfLog, import_fault, line_number, logged_call};
+ghost use Rattle.kfifo_import.specs.Logs.{AreByFirst, IsImportFault, IsLogOf, IsRecordOfLog, import_fault, line_number};
+ghost use Rattle.kfifo_import.specs.Logs.{logged_call};
 
 use crate::stamping::stamped;
-use kfifo_model::{Call, History, MOST_CALLS, RecordFault};
+use kfifo_model::{Call, History, MAX_CALLS, RecordFault};
 use std::alloc::{AllocError, AllocFailed, Global};
 use thiserror::Error;
 
@@ -146,17 +147,17 @@ fn all_logged(alloc: Global, lines: &[Line]) -> Result<Vec<LoggedCall>, AllocErr
     lines.iter().map(|line| logged(line)).collect(alloc)
 }
 
-/// The log that has these lines: its record, with the calls by rising first time, of equal ones the earlier line first, and
-/// with stamps in place of times; and where each of them stands and when it was. Stamps are the places of the calls' beginnings
-/// and ends by rising time, where at one time beginnings come before ends. So a call precedes another in the record exactly
-/// where its last time is less than the other's first.
+/// The log that has these lines: its record, with the calls by rising first time, of equal ones the earlier line first,
+/// and with stamps in place of times; and where each of them stands and when it was. Stamps are the places of the
+/// calls' beginnings and ends by rising time, where at one time beginnings come before ends. So a call precedes another
+/// in the record exactly where its last time is less than the other's first.
 ///
 /// Refused: TooMany of over 65,536 lines; else the first fault of the record, at the line of its call; Memory where an
 /// allocation failed.
 pub fn log_of(alloc: Global, lines: Vec<Line>) -> Result<Log, ImportFault>
     ensures { MatchResult result (λ log. IsLogOf lines.items log.history log.calls.items) (IsImportFault lines.items) }
 {
-    if lines.len() > MOST_CALLS {
+    if lines.len() > MAX_CALLS {
         return Err(ImportFault::TooMany);
     }
     let lines = by_first(lines)?;

@@ -1,7 +1,8 @@
 //! Calls with stamps in place of times.
 ghost use Rattle.std.specs.Prelude.{ℕ, ◌≡◌, ◌+◌, ◌^◌, ◌<◌, ◌≤◌, length, slice_index_or, IfOk};
 ghost use Rattle.std.specs.List.Sorted.{IsNonDecreasingBy};
-ghost use Rattle.kfifo_import.specs.Stamping.{AreRanks, AreSortedEnds, AreStamped, HaveBegun, HaveEnded, IsEndStamp, IsStampOf, last_of};
+ghost use Rattle.kfifo_import.specs.Stamping.{AreRanks, AreSortedEnds, AreStamped, HaveBegun, HaveEnded, IsEndStamp};
+ghost use Rattle.kfifo_import.specs.Stamping.{IsStampOf, last_of};
 
 use crate::ends::{last_at, ranks_of, sorted_ends};
 use kfifo_model::{Call, End};

@@ -1,12 +1,14 @@
 //! Logs as tables of comma-separated fields.
-ghost use Rattle.std.specs.Prelude.{◌≡◌, ◌≤◌, ◌↔◌, ◌++◌, ◌∷◌, [], ℕ, List, IfErr, IfOk, IfSome, IsTrue, None, OnOk, Some, MatchResult, length, option_map};
+ghost use Rattle.std.specs.Prelude.{◌≡◌, ◌≤◌, ◌↔◌, ◌++◌, ◌∷◌, [], ℕ, List, IfErr, IfOk, IfSome, IsTrue, None, OnOk};
+ghost use Rattle.std.specs.Prelude.{Some, MatchResult, length, option_map};
 ghost use Rattle.csv.specs.Records.{field_at, fields_of};
-ghost use Rattle.kfifo_import.specs.Fields.{Gives, GivesText, HasColumns, IsAnswer, IsCallOf, IsDigits, IsEnd, IsOp, IsPutAnswer, IsTakeAnswer, WritesSmall, WritesWhole};
+ghost use Rattle.kfifo_import.specs.Fields.{Gives, GivesText, HasColumns, IsAnswer, IsCallOf, IsDigits, IsEnd, IsOp};
+ghost use Rattle.kfifo_import.specs.Fields.{IsPutAnswer, IsTakeAnswer, WritesSmall, WritesWhole};
 ghost use Rattle.kfifo_import.specs.Tables.{Holds, IsImported, IsReadLog, IsTextFault, IsUnimported, ReadsLog};
 
 use crate::log::{ImportFault, Line, Log, log_of};
 use csv::{ByteRecord, ErrorKind, ReaderBuilder};
-use kfifo_model::{Answer, Call, End, History, MOST_CALLS, Op};
+use kfifo_model::{Answer, Call, End, History, MAX_CALLS, Op};
 use std::alloc::Global;
 
 /// Where the fields of a call stand in a line.
@@ -242,7 +244,7 @@ impl Table {
             self.columns = Some(columns);
             return Ok(());
         };
-        if self.lines.len() >= MOST_CALLS {
+        if self.lines.len() >= MAX_CALLS {
             return Err(ImportFault::TooMany);
         }
         let call = call_of(row, &columns).ok_or(ImportFault::NotACall(number))?;

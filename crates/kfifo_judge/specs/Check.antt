@@ -3,7 +3,8 @@ use Rattle.std.specs.Prelude.{ℕ, ◌≡◌, ◌<◌, ◌≤◌, ◌⊎◌, Lis
 use Rattle.std.specs.Fmt.{decimal}
 use Rattle.kfifo_model.specs.declared.calls.Call.{Call}
 use Rattle.kfifo_model.specs.declared.orders.Verdict.{Verdict}
-use Rattle.kfifo_model.specs.declared.orders.Verdict.TheVariants.{Legal, Repeats, NotACall, LeavesOut, BreaksBefore, NotARun}
+use Rattle.kfifo_model.specs.declared.orders.Verdict.TheVariants.{Legal, Repeats, NotACall, LeavesOut, BreaksBefore}
+use Rattle.kfifo_model.specs.declared.orders.Verdict.TheVariants.{NotARun}
 use Rattle.kfifo_model.specs.declared.search.SearchFault.TheVariants as searches
 use Rattle.kfifo_model.specs.Verdicts.{IsVerdict}
 use Rattle.kfifo_model.specs.Searching.{HasOrder}
@@ -38,8 +39,10 @@ verdict_status (NotARun place) = 3
 abbrev pub IsCheckAnswer : ℕ → Option (List ℕ) → List Call → List ℕ → ℕ → Type 0
 IsCheckAnswer k None h text status =
     (length h ≤ 12)
-    × ((HasOrder k h × (text ≡ line (codes "order")) × (status ≡ 0)) ⊎ ((HasOrder k h → ⊥) × (text ≡ line (codes "no order")) × (status ≡ 3)))
-IsCheckAnswer k (Some order) h text status = (v : Verdict) × IsVerdict k h order v × (text ≡ verdict_text v) × (status ≡ verdict_status v)
+    × ((HasOrder k h × (text ≡ line (codes "order")) × (status ≡ 0))
+    ⊎ ((HasOrder k h → ⊥) × (text ≡ line (codes "no order")) × (status ≡ 3)))
+IsCheckAnswer k (Some order) h text status = (v : Verdict) × IsVerdict k h order v × (text ≡ verdict_text v)
+    × (status ≡ verdict_status v)
 
 -- This is the text and the status for the record that the bytes are.
 pub record IsChecked (k : ℕ) (order : Option (List ℕ)) (bytes text : List ℕ) (status : ℕ) : Type 0 where

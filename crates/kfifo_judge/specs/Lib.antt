@@ -4,3 +4,9 @@ pub mod Inputs
 pub mod Check
 pub mod TextFaults
 pub mod Measure
+pub mod Numbers
+pub mod Calls
+pub mod Reasons
+pub mod Repeats
+pub mod Bounds
+pub mod Judgements

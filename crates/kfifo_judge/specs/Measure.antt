@@ -12,7 +12,8 @@ use Rattle.kfifo_judge.specs.TextFaults.{IsTextFault}
 use Rattle.kfifo_judge.specs.Check.{line}
 
 abbrev pub overtaken_line : Overtaken → List ℕ
-overtaken_line o = line (codes "call " ++ decimal o.call ++ codes " item " ++ decimal o.item ++ codes " overtaken " ++ decimal o.count)
+overtaken_line o = line (codes "call " ++ decimal o.call ++ codes " item " ++ decimal o.item ++ codes " overtaken "
+    ++ decimal o.count)
 
 abbrev pub overtaken_lines : List Overtaken → List ℕ
 overtaken_lines [] = []

@@ -23,4 +23,5 @@ CountsWrite (Err e) offered before after = CountsOne before after
 
 -- a beginning of the text was appended
 abbrev pub AppendsPart : Option (List ℕ) → Option (List ℕ) → List ℕ → Type 0
-AppendsPart before after text = (written : List ℕ) × (rest : List ℕ) × (text ≡ written ++ rest) × Appends before after written
+AppendsPart before after text = (written : List ℕ) × (rest : List ℕ) × (text ≡ written ++ rest)
+    × Appends before after written

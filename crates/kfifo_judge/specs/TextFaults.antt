@@ -1,7 +1,8 @@
 -- Why a text records no history.
 use Rattle.std.specs.Prelude.{ℕ, List}
 use Rattle.kfifo_judge.specs.declared.record.StreamFault.{StreamFault}
-use Rattle.kfifo_judge.specs.declared.record.StreamFault.TheVariants.{Input, NotJson, Record, Search, RepeatedItem, Memory, Output}
+use Rattle.kfifo_judge.specs.declared.record.StreamFault.TheVariants.{Input, NotJson, Record, Search, RepeatedItem}
+use Rattle.kfifo_judge.specs.declared.record.StreamFault.TheVariants.{Memory, Output}
 use Rattle.kfifo_judge.specs.Inputs.{IsNoJson, IsFaultyText}
 
 abbrev pub IsTextFault : List ℕ → StreamFault → Type 0

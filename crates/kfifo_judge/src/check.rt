@@ -1,11 +1,13 @@
 //! The answer of the command `check`.
-ghost use Rattle.std.specs.Prelude.{ℕ, ◌≡◌, ◌≢◌, ◌≤◌, ◌<◌, ◌⊎◌, ◌++◌, List, Option, Some, None, length, string_bytes, Ok, Err, IfOk, IfErr, IfSome, MatchResult, MatchBool};
+ghost use Rattle.std.specs.Prelude.{ℕ, ◌≡◌, ◌≢◌, ◌≤◌, ◌<◌, ◌⊎◌, ◌++◌, List, Option, Some, None, length, string_bytes};
+ghost use Rattle.std.specs.Prelude.{Ok, Err, IfOk, IfErr, IfSome, MatchResult, MatchBool};
 ghost use Rattle.std.specs.Option.{option_map};
 ghost use Rattle.std.specs.Io.KnownBytes.{Appends, Keeps};
 ghost use Rattle.kfifo_model.specs.declared.calls.Call.{Call};
 ghost use Rattle.kfifo_judge.specs.Inputs.{IsRecordText};
 ghost use Rattle.kfifo_judge.specs.Streams.{CountsOne, AppendsPart};
-ghost use Rattle.kfifo_judge.specs.Check.{line, verdict_text, verdict_status, IsCheckAnswer, IsChecked, IsUnanswered, IsCheckFault};
+ghost use Rattle.kfifo_judge.specs.Check.{line, verdict_text, verdict_status, IsCheckAnswer, IsChecked, IsUnanswered};
+ghost use Rattle.kfifo_judge.specs.Check.{IsCheckFault};
 
 use crate::record::{StreamFault, read_record};
 use crate::streams::{Sink, Source, read_all, write_all};
@@ -112,7 +114,8 @@ pub fn check_stream<R: Source, W: Sink>(
     requires { (1 ≤ k) × (k ≤ 64) }
     // A status: the answer to what was read is written.
     ensures answered { let o = option_map (λ s. s.now) order.entry in
-        IfOk result (λ status. (bytes : List ℕ) × (text : List ℕ) × IfSome (R.remaining source.old) (λ given. given ≡ bytes)
+        IfOk result (λ status. (bytes : List ℕ) × (text : List ℕ)
+        × IfSome (R.remaining source.old) (λ given. given ≡ bytes)
         × IsChecked k o bytes text status × Appends (W.contents sink.old) (W.contents sink.new) text) }
     // A fault of writing: a beginning of the answer is.
     ensures cut { let o = option_map (λ s. s.now) order.entry in
@@ -124,7 +127,8 @@ pub fn check_stream<R: Source, W: Sink>(
     // The causes.
     ensures input { result ≡ Err StreamFault.Input →
         CountsOne (R.failed source.old) (R.failed source.new)
-        ⊎ ((R.failed source.new ≡ R.failed source.old) × IfSome (R.remaining source.old) (λ given. 16777216 < length given)) }
+        ⊎ ((R.failed source.new ≡ R.failed source.old)
+        × IfSome (R.remaining source.old) (λ given. 16777216 < length given)) }
     ensures faults { let o = option_map (λ s. s.now) order.entry in
         IfErr result (λ f. f ≢ StreamFault.Input → f ≢ StreamFault.Output → f ≢ StreamFault.Memory →
         (bytes : List ℕ) × IfSome (R.remaining source.old) (λ given. given ≡ bytes) × IsCheckFault o bytes f) }

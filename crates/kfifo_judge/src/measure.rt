@@ -1,5 +1,6 @@
 //! The answer of the command `measure`.
-ghost use Rattle.std.specs.Prelude.{ℕ, ◌≡◌, ◌≢◌, ◌<◌, ◌≤◌, ◌⊎◌, List, string_bytes, length, Err, IfOk, IfErr, IfSome, MatchResult};
+ghost use Rattle.std.specs.Prelude.{ℕ, ◌≡◌, ◌≢◌, ◌<◌, ◌≤◌, ◌⊎◌, List, string_bytes, length, Err, IfOk, IfErr, IfSome};
+ghost use Rattle.std.specs.Prelude.{MatchResult};
 ghost use Rattle.std.specs.Io.KnownBytes.{Appends, Keeps};
 ghost use Rattle.kfifo_model.specs.declared.calls.Call.{Call};
 ghost use Rattle.kfifo_model.specs.Measures.{IsDoneEnqueue, HasDistinctItems};
@@ -81,7 +82,8 @@ pub fn measure_stream<R: Source, W: Sink>(
     sink: &mut W,
 ) -> Result<u8, StreamFault>
     // A status: the answer to what was read is written.
-    ensures answered { IfOk result (λ status. (bytes : List ℕ) × (text : List ℕ) × IfSome (R.remaining source.old) (λ given. given ≡ bytes)
+    ensures answered { IfOk result (λ status. (bytes : List ℕ) × (text : List ℕ)
+        × IfSome (R.remaining source.old) (λ given. given ≡ bytes)
         × IsMeasured bytes text status × Appends (W.contents sink.old) (W.contents sink.new) text) }
     // A fault of writing: a beginning of the answer is.
     ensures cut { result ≡ Err StreamFault.Output → (bytes : List ℕ) × (text : List ℕ) × (status : ℕ)
@@ -92,7 +94,8 @@ pub fn measure_stream<R: Source, W: Sink>(
     // The causes.
     ensures input { result ≡ Err StreamFault.Input →
         CountsOne (R.failed source.old) (R.failed source.new)
-        ⊎ ((R.failed source.new ≡ R.failed source.old) × IfSome (R.remaining source.old) (λ given. 16777216 < length given)) }
+        ⊎ ((R.failed source.new ≡ R.failed source.old)
+        × IfSome (R.remaining source.old) (λ given. 16777216 < length given)) }
     ensures faults { IfErr result (λ f. f ≢ StreamFault.Input → f ≢ StreamFault.Output → f ≢ StreamFault.Memory →
         (bytes : List ℕ) × IfSome (R.remaining source.old) (λ given. given ≡ bytes) × IsMeasuringFault bytes f) }
     // Every result but Input and Memory: all that the source had to give, no longer than the limit, was read.

@@ -1,5 +1,6 @@
 //! Sources of bytes and sinks for them.
-ghost use Rattle.std.specs.Prelude.{ℕ, ◌≡◌, ◌+◌, ◌≤◌, ◌<◌, ◌⊎◌, ◌++◌, List, Option, Some, None, length, IfOk, OnOk, IfErr, IfSome, Err, IsTrue, false, MatchResult, MatchBool};
+ghost use Rattle.std.specs.Prelude.{ℕ, ◌≡◌, ◌+◌, ◌≤◌, ◌<◌, ◌⊎◌, ◌++◌, List, Option, Some, None, length, IfOk, OnOk};
+ghost use Rattle.std.specs.Prelude.{IfErr, IfSome, Err, IsTrue, false, MatchResult, MatchBool};
 ghost use Rattle.std.specs.Io.{ReadsAtMost, WritesAtMost};
 ghost use Rattle.std.specs.Io.KnownBytes.{Appends, Consumes, Keeps, ReadConsumes, WriteAppends};
 ghost use Rattle.kfifo_judge.specs.Streams.{countable, CountsOne, CountsRead, CountsWrite, AppendsPart};
@@ -11,7 +12,7 @@ use std::io::{Read, Write};
 use thiserror::Error;
 
 /// The most bytes of an input.
-pub const MOST_BYTES: usize = 16_777_216;
+pub const MAX_BYTES: usize = 16_777_216;
 
 /// Where bytes come from.
 pub trait Source {
@@ -146,7 +147,7 @@ pub fn read_all<R: Source>(alloc: Global, source: &mut R) -> Result<Vec<u8>, Rea
         if count == 0 {
             return Ok(bytes);
         }
-        if count > MOST_BYTES - bytes.len() {
+        if count > MAX_BYTES - bytes.len() {
             return Err(ReadFault::TooLong);
         }
         bytes.extend_from_slice(&piece[..count])?;
@@ -157,7 +158,8 @@ pub fn read_all<R: Source>(alloc: Global, source: &mut R) -> Result<Vec<u8>, Rea
 pub fn write_all<W: Sink>(sink: &mut W, text: &[u8]) -> bool
     ensures whole { IsTrue result → Appends (W.contents sink.old) (W.contents sink.new) text.now }
     ensures beginning { result ≡ false → AppendsPart (W.contents sink.old) (W.contents sink.new) text.now }
-    ensures failures { MatchBool result (W.failed sink.new ≡ W.failed sink.old) (CountsOne (W.failed sink.old) (W.failed sink.new)) }
+    ensures failures { MatchBool result (W.failed sink.new ≡ W.failed sink.old)
+        (CountsOne (W.failed sink.old) (W.failed sink.new)) }
 {
     let mut written = 0;
     while written < text.len() {

@@ -1,5 +1,6 @@
 -- The machine over words and places as functions, and inductions over its schedules.
-use Rattle.std.proofs.Common.{◌==◌, ltb, ◌≡◌, ℕ, ◌+◌, ◌*◌, ◌<◌, ◌⊎◌, inl, inr, true, cond, eqb, refl, sym, ◌∙◌, ap, subst, arith, List, [], ◌∷◌, length, get_or, set, Option, Some, None, Result, Ok, Err}
+use Rattle.std.proofs.Common.{◌==◌, ltb, ◌≡◌, ℕ, ◌+◌, ◌*◌, ◌<◌, ◌⊎◌, inl, inr, true, cond, eqb, refl, sym, ◌∙◌, ap, subst, arith, List, []}
+use Rattle.std.proofs.Common.{◌∷◌, length, get_or, set, Option, Some, None, Result, Ok, Err}
 use Rattle.std.proofs.lemmas.Bool.{cases_Bool, cond_both, ltb-true, cases_eq}
 use Rattle.std.proofs.lemmas.Grind.{get_or-set_at}
 use Rattle.std.proofs.lemmas.Bool.Decides.{nat_tests}
@@ -11,7 +12,8 @@ use Rattle.kfifo_machine.specs.declared.event.Begin.TheVariants as B
 use Rattle.std.proofs.lemmas.Option.{none-some, same_Some}
 use Rattle.std.proofs.Math.Path.{fun_ext}
 use Rattle.kfifo_linear.specs.Ledger.{Ledger, called, found_in, ledger_after, ledger_from, ledger_of, noted, stepped}
-use Rattle.kfifo_machine.specs.Machine.{World, begun, found, may_begin, moved, place_after, place_of, run, step, step_from, ticked, word_at, words_after}
+use Rattle.kfifo_machine.specs.Machine.{World, begun, found, may_begin, moved, place_after, place_of, run, step, step_from, ticked, word_at}
+use Rattle.kfifo_machine.specs.Machine.{words_after}
 use Rattle.kfifo_machine.specs.Program.{access, accessed, advance}
 use Rattle.kfifo_machine.specs.declared.event.Begin.{Begin}
 use Rattle.kfifo_machine.specs.declared.event.Event.{Event}
@@ -32,7 +34,8 @@ unfolding noted
 noted-other notes i j x ne = grind (arith, nat_tests)
 
 -- for `grind`: what stands at j after a note at i
-pub noted_tells : {X : Type 0} (notes : ℕ → X) (i : ℕ) (x : X) (j : ℕ) → (noted notes i x j ≡ noted notes i x j) × (((j ≡ i) × (noted notes i x j ≡ x)) ⊎ ((j ≡ i → ⊥) × (noted notes i x j ≡ notes j)))
+pub noted_tells : {X : Type 0} (notes : ℕ → X) (i : ℕ) (x : X) (j : ℕ) → (noted notes i x j ≡ noted notes i x j)
+    × (((j ≡ i) × (noted notes i x j ≡ x)) ⊎ ((j ≡ i → ⊥) × (noted notes i x j ≡ notes j)))
 noted_tells notes i x j =
     (refl, elim (cases_eq j i) [ inl e ↦ inl (e, noted-same notes i j x e) | inr ne ↦ inr (ne, noted-other notes i j x ne) ])
 
@@ -45,35 +48,48 @@ words_by (Exchange index from to) words i = cond (eqb (words index) from) (noted
 abbrev pub table_size : Shape → ℕ
 table_size shape = 2 + shape.n * shape.k
 
-get_or-set-noted : {X : Type 0} (xs : List X) (i j : ℕ) (x d : X) → i < length xs → get_or (set xs i x) j d ≡ noted (λ k. get_or xs k d) i x j
+get_or-set-noted : {X : Type 0} (xs : List X) (i j : ℕ) (x d : X) → i < length xs
+    → get_or (set xs i x) j d ≡ noted (λ k. get_or xs k d) i x j
 get_or-set-noted xs i j x d h =
     elim (cases_eq j i) [
       | inl e ↦ get_or-set_at xs i j x d e h ∙ sym (noted-same (λ k. get_or xs k d) i j x e)
       | inr ne ↦ get_or-set_other xs i j x d ne ∙ sym (noted-other (λ k. get_or xs k d) i j x ne)
     ]
 
-exchanged : (words : List ℕ) (index from to i : ℕ) → index < length words → get_or (cond (eqb (get_or words index 0) from) (set words index to) words) i 0 ≡ cond (eqb (get_or words index 0) from) (noted (λ j. get_or words j 0) index to i) (get_or words i 0)
-exchanged words index from to i h = elim (cases_Bool (eqb (get_or words index 0) from)) [ inl e ↦ rw e (get_or-set-noted words index i to 0 h) | inr e ↦ rw e refl ]
+exchanged : (words : List ℕ) (index from to i : ℕ) → index < length words
+    → get_or (cond (eqb (get_or words index 0) from) (set words index to) words) i 0
+    ≡ cond (eqb (get_or words index 0) from) (noted (λ j. get_or words j 0) index to i) (get_or words i 0)
+exchanged words index from to i h = elim (cases_Bool (eqb (get_or words index 0) from))
+    [ inl e ↦ rw e (get_or-set-noted words index i to 0 h) | inr e ↦ rw e refl ]
 
-get_or-words_after : (a : Access) (words : List ℕ) (i : ℕ) → accessed a < length words → get_or (words_after a words) i 0 ≡ words_by a (λ j. get_or words j 0) i
+get_or-words_after : (a : Access) (words : List ℕ) (i : ℕ) → accessed a < length words
+    → get_or (words_after a words) i 0 ≡ words_by a (λ j. get_or words j 0) i
 get_or-words_after (Load index) words i h = refl
 get_or-words_after (Exchange index from to) words i h = exchanged words index from to i h
 
 length-words_after : (a : Access) (words : List ℕ) → length (words_after a words) ≡ length words
 length-words_after (Load index) words = refl
-length-words_after (Exchange index from to) words = cond_both (eqb (get_or words index 0) from) (set words index to) words (λ ws. length ws ≡ length words) (λ _. length-set words index to) (λ _. refl)
+length-words_after (Exchange index from to) words =
+    cond_both (eqb (get_or words index 0) from) (set words index to) words (λ ws. length ws ≡ length words) (λ _. length-set words index to)
+    (λ _. refl)
 
-pub word_at-moved : (shape : Shape) (world : World) (thread : ℕ) (running : Running) → accessed (access shape running) < length world.words → word_at (moved shape world thread running) ≡ words_by (access shape running) (word_at world)
+pub word_at-moved : (shape : Shape) (world : World) (thread : ℕ) (running : Running) → accessed (access shape running) < length world.words
+    → word_at (moved shape world thread running) ≡ words_by (access shape running) (word_at world)
 unfolding word_at moved
 word_at-moved shape world thread running h = fun_ext (λ i. get_or-words_after (access shape running) world.words i h)
 
-pub length-moved : (shape : Shape) (world : World) (thread : ℕ) (running : Running) → length (moved shape world thread running).words ≡ length world.words
+pub length-moved : (shape : Shape) (world : World) (thread : ℕ) (running : Running)
+    → length (moved shape world thread running).words ≡ length world.words
 unfolding moved
 length-moved shape world thread running = length-words_after (access shape running) world.words
 
-pub place_of-moved : (shape : Shape) (world : World) (thread : ℕ) (running : Running) → thread < length world.places → place_of (moved shape world thread running) ≡ noted (place_of world) thread (place_after (advance shape running (found_in shape (word_at world) running)))
+pub place_of-moved : (shape : Shape) (world : World) (thread : ℕ) (running : Running) → thread < length world.places
+    → place_of (moved shape world thread running)
+    ≡ noted (place_of world) thread (place_after (advance shape running (found_in shape (word_at world) running)))
 unfolding place_of word_at moved found
-place_of-moved shape world thread running h = fun_ext (λ i. get_or-set-noted world.places thread i (place_after (advance shape running (found_in shape (λ j. get_or world.words j 0) running))) None h)
+place_of-moved shape world thread running h =
+    fun_ext (λ i. get_or-set-noted world.places thread i
+    (place_after (advance shape running (found_in shape (λ j. get_or world.words j 0) running))) None h)
 
 pub noted-noted : {X : Type 0} (notes : ℕ → X) (i : ℕ) (x y : X) → noted (noted notes i x) i y ≡ noted notes i y
 noted-noted notes i x y =
@@ -92,37 +108,61 @@ pub run-none : (shape : Shape) (events : List Event) → run shape None events �
 run-none shape [] = refl
 run-none shape (event ∷ events) = refl
 
-on_result : {P : Type 0} (r : Result (World × Outcome) NotEnabled) → ((next : World) (outcome : Outcome) → r ≡ Ok (next, outcome) → P) → ((fault : NotEnabled) → r ≡ Err fault → P) → P
+on_result : {P : Type 0} (r : Result (World × Outcome) NotEnabled) → ((next : World) (outcome : Outcome) → r ≡ Ok (next, outcome) → P)
+    → ((fault : NotEnabled) → r ≡ Err fault → P) → P
 on_result (Ok v) ok err = ok v.0 v.1 refl
 on_result (Err f) ok err = err f refl
 
 -- An induction over schedules: what a call's begin, a thread's step and a tick keep holds after every schedule.
 module _ (shape : Shape) (Inv : (ℕ → ℕ) → (ℕ → Option Running) → Ledger → Type 0)
-    (in_table : (w : ℕ → ℕ) (p : ℕ → Option Running) (l : Ledger) (t : ℕ) (r : Running) → Inv w p l → p t ≡ Some r → accessed (access shape r) < table_size shape)
-    (begins : (w : ℕ → ℕ) (p : ℕ → Option Running) (l : Ledger) (t : ℕ) (b : Begin) (r : Running) → Inv w p l → p t ≡ None → may_begin shape b ≡ true → begun b ≡ Some r → Inv w (noted p t (Some r)) (called t b l))
-    (steps : (w : ℕ → ℕ) (p : ℕ → Option Running) (l : Ledger) (t : ℕ) (r : Running) → Inv w p l → p t ≡ Some r → Inv (words_by (access shape r) w) (noted p t (place_after (advance shape r (found_in shape w r)))) (stepped shape w t r l))
-    (ticks : (w : ℕ → ℕ) (p : ℕ → Option Running) (l : Ledger) → Inv w p l → Inv (noted w (clock_at shape.k shape.n) (w (clock_at shape.k shape.n) + 1)) p (record l { now = l.now + 1 }))
+    (in_table : (w : ℕ → ℕ) (p : ℕ → Option Running) (l : Ledger) (t : ℕ) (r : Running) → Inv w p l → p t ≡ Some r
+    → accessed (access shape r) < table_size shape)
+    (begins : (w : ℕ → ℕ) (p : ℕ → Option Running) (l : Ledger) (t : ℕ) (b : Begin) (r : Running) → Inv w p l → p t ≡ None
+    → may_begin shape b ≡ true → begun b ≡ Some r → Inv w (noted p t (Some r)) (called t b l))
+    (steps : (w : ℕ → ℕ) (p : ℕ → Option Running) (l : Ledger) (t : ℕ) (r : Running) → Inv w p l → p t ≡ Some r
+    → Inv (words_by (access shape r) w) (noted p t (place_after (advance shape r (found_in shape w r)))) (stepped shape w t r l))
+    (ticks : (w : ℕ → ℕ) (p : ℕ → Option Running) (l : Ledger) → Inv w p l
+    → Inv (noted w (clock_at shape.k shape.n) (w (clock_at shape.k shape.n) + 1)) p (record l { now = l.now + 1 }))
   where
     -- a world and a ledger at which it holds
     pub record At (world : World) (l : Ledger) : Type 0 where
       pub size : length world.words ≡ table_size shape
       pub holds : Inv (word_at world) (place_of world) l
 
-    moved_at : (world : World) (thread : ℕ) (r : Running) (l : Ledger) → length world.words ≡ table_size shape → thread < length world.places → Inv (word_at world) (noted (place_of world) thread (Some r)) l → At (moved shape world thread r) (stepped shape (word_at world) thread r l)
+    moved_at : (world : World) (thread : ℕ) (r : Running) (l : Ledger) → length world.words ≡ table_size shape
+        → thread < length world.places → Inv (word_at world) (noted (place_of world) thread (Some r)) l
+        → At (moved shape world thread r) (stepped shape (word_at world) thread r l)
     moved_at world thread r l size t h =
-        let within : accessed (access shape r) < length world.words = omega (arith, in_table (word_at world) (noted (place_of world) thread (Some r)) l thread r h (noted-same (place_of world) thread thread (Some r) refl), size) in
-        let s : Inv (words_by (access shape r) (word_at world)) (noted (noted (place_of world) thread (Some r)) thread (place_after (advance shape r (found_in shape (word_at world) r)))) (stepped shape (word_at world) thread r l)
-        = steps (word_at world) (noted (place_of world) thread (Some r)) l thread r h (noted-same (place_of world) thread thread (Some r) refl) in
-        let u : Inv (words_by (access shape r) (word_at world)) (noted (place_of world) thread (place_after (advance shape r (found_in shape (word_at world) r)))) (stepped shape (word_at world) thread r l)
-        = subst (λ p. Inv (words_by (access shape r) (word_at world)) p (stepped shape (word_at world) thread r l)) (noted-noted (place_of world) thread (Some r) (place_after (advance shape r (found_in shape (word_at world) r)))) s in
-        let v : Inv (word_at (moved shape world thread r)) (noted (place_of world) thread (place_after (advance shape r (found_in shape (word_at world) r)))) (stepped shape (word_at world) thread r l)
-        = subst (λ w. Inv w (noted (place_of world) thread (place_after (advance shape r (found_in shape (word_at world) r)))) (stepped shape (word_at world) thread r l)) (sym (word_at-moved shape world thread r within)) u in
+        let within : accessed (access shape r) < length world.words =
+        omega (
+          arith,
+          in_table (word_at world) (noted (place_of world) thread (Some r)) l thread r h
+              (noted-same (place_of world) thread thread (Some r) refl),
+          size,
+        ) in
+        let s : Inv (words_by (access shape r) (word_at world))
+        (noted (noted (place_of world) thread (Some r)) thread (place_after (advance shape r (found_in shape (word_at world) r))))
+        (stepped shape (word_at world) thread r l)
+        = steps (word_at world) (noted (place_of world) thread (Some r)) l thread r h
+        (noted-same (place_of world) thread thread (Some r) refl) in
+        let u : Inv (words_by (access shape r) (word_at world))
+        (noted (place_of world) thread (place_after (advance shape r (found_in shape (word_at world) r))))
+        (stepped shape (word_at world) thread r l)
+        = subst (λ p. Inv (words_by (access shape r) (word_at world)) p (stepped shape (word_at world) thread r l))
+        (noted-noted (place_of world) thread (Some r) (place_after (advance shape r (found_in shape (word_at world) r)))) s in
+        let v : Inv (word_at (moved shape world thread r))
+        (noted (place_of world) thread (place_after (advance shape r (found_in shape (word_at world) r))))
+        (stepped shape (word_at world) thread r l)
+        = subst (λ w. Inv w (noted (place_of world) thread (place_after (advance shape r (found_in shape (word_at world) r))))
+        (stepped shape (word_at world) thread r l)) (sym (word_at-moved shape world thread r within)) u in
         record {
           size = length-moved shape world thread r ∙ size;
-          holds = subst (λ p. Inv (word_at (moved shape world thread r)) p (stepped shape (word_at world) thread r l)) (sym (place_of-moved shape world thread r t)) v;
+          holds = subst (λ p. Inv (word_at (moved shape world thread r)) p (stepped shape (word_at world) thread r l))
+              (sym (place_of-moved shape world thread r t)) v;
         }
 
-    noted-there : (world : World) (thread : ℕ) (r : Running) → place_of world thread ≡ Some r → noted (place_of world) thread (Some r) ≡ place_of world
+    noted-there : (world : World) (thread : ℕ) (r : Running) → place_of world thread ≡ Some r
+        → noted (place_of world) thread (Some r) ≡ place_of world
     noted-there world thread r e =
         fun_ext (λ j. elim (cases_eq j thread) [
           | inl s ↦ noted-same (place_of world) thread j (Some r) s ∙ sym e ∙ ap (place_of world) (sym s)
@@ -135,25 +175,35 @@ module _ (shape : Shape) (Inv : (ℕ → ℕ) → (ℕ → Option Running) → L
         let within : clock_at shape.k shape.n < length world.words = omega (arith, h.size) in
         record {
           size = length-set world.words (clock_at shape.k shape.n) (get_or world.words (clock_at shape.k shape.n) 0 + 1) ∙ h.size;
-          holds = subst (λ w. Inv w (place_of world) (record l { now = l.now + 1 })) (fun_ext (λ i. sym (get_or-set-noted world.words (clock_at shape.k shape.n) i (get_or world.words (clock_at shape.k shape.n) 0 + 1) 0 within))) (ticks (word_at world) (place_of world) l h.holds);
+          holds = subst (λ w. Inv w (place_of world) (record l { now = l.now + 1 }))
+              (fun_ext (λ i. sym (get_or-set-noted world.words (clock_at shape.k shape.n) i
+              (get_or world.words (clock_at shape.k shape.n) 0 + 1) 0 within))) (ticks (word_at world) (place_of world) l h.holds);
         }
 
-    step_at : (world next : World) (outcome : Outcome) (thread : ℕ) (place : Option Running) (begin : Option Begin) (l : Ledger) → thread < length world.places → place_of world thread ≡ place → At world l → step_from shape world thread place begin ≡ Ok (next, outcome) → At next (ledger_from shape (word_at world) thread place begin l)
+    step_at : (world next : World) (outcome : Outcome) (thread : ℕ) (place : Option Running) (begin : Option Begin) (l : Ledger)
+        → thread < length world.places → place_of world thread ≡ place → At world l
+        → step_from shape world thread place begin ≡ Ok (next, outcome) → At next (ledger_from shape (word_at world) thread place begin l)
     step_at world next outcome thread None None l t p h e = cc
     step_at world next outcome thread None (Some (B.Enqueue item start turns)) l t p h e =
         elim (cases_Bool (may_begin shape (B.Enqueue item start turns))) [
           | inl m ↦
               let s : moved shape world thread (R.Enqueue item start turns E.LoadEnds) ≡ next = ok_world (rw m at e) in
-              subst (λ w. At w (stepped shape (word_at world) thread (R.Enqueue item start turns E.LoadEnds) (called thread (B.Enqueue item start turns) l))) s
-              (moved_at world thread (R.Enqueue item start turns E.LoadEnds) (called thread (B.Enqueue item start turns) l) h.size t (begins (word_at world) (place_of world) l thread (B.Enqueue item start turns) (R.Enqueue item start turns E.LoadEnds) h.holds p m refl))
+              subst (λ w. At w (stepped shape (word_at world) thread (R.Enqueue item start turns E.LoadEnds)
+              (called thread (B.Enqueue item start turns) l))) s
+              (moved_at world thread (R.Enqueue item start turns E.LoadEnds) (called thread (B.Enqueue item start turns) l) h.size t
+              (begins (word_at world) (place_of world) l thread (B.Enqueue item start turns) (R.Enqueue item start turns E.LoadEnds)
+              h.holds p m refl))
           | inr m ↦ absurd (err_ok (rw m at e))
         ]
     step_at world next outcome thread None (Some (B.Dequeue start turns)) l t p h e =
         elim (cases_Bool (may_begin shape (B.Dequeue start turns))) [
           | inl m ↦
               let s : moved shape world thread (R.Dequeue start turns D.LoadEnds) ≡ next = ok_world (rw m at e) in
-              subst (λ w. At w (stepped shape (word_at world) thread (R.Dequeue start turns D.LoadEnds) (called thread (B.Dequeue start turns) l))) s
-              (moved_at world thread (R.Dequeue start turns D.LoadEnds) (called thread (B.Dequeue start turns) l) h.size t (begins (word_at world) (place_of world) l thread (B.Dequeue start turns) (R.Dequeue start turns D.LoadEnds) h.holds p m refl))
+              subst (λ w. At w (stepped shape (word_at world) thread (R.Dequeue start turns D.LoadEnds)
+              (called thread (B.Dequeue start turns) l))) s
+              (moved_at world thread (R.Dequeue start turns D.LoadEnds) (called thread (B.Dequeue start turns) l) h.size t
+              (begins (word_at world) (place_of world) l thread (B.Dequeue start turns) (R.Dequeue start turns D.LoadEnds) h.holds p m
+              refl))
           | inr m ↦ absurd (err_ok (rw m at e))
         ]
     step_at world next outcome thread None (Some B.Tick) l t p h e =
@@ -168,7 +218,8 @@ module _ (shape : Shape) (Inv : (ℕ → ℕ) → (ℕ → Option Running) → L
         (moved_at world thread r l h.size t (subst (λ q. Inv (word_at world) q l) (sym (noted-there world thread r p)) h.holds))
     step_at world next outcome thread (Some r) (Some b) l t p h e = cc
 
-    pub event_at : (world next : World) (outcome : Outcome) (event : Event) (l : Ledger) → At world l → step shape world event ≡ Ok (next, outcome) → At next (ledger_after shape world event l)
+    pub event_at : (world next : World) (outcome : Outcome) (event : Event) (l : Ledger) → At world l
+        → step shape world event ≡ Ok (next, outcome) → At next (ledger_after shape world event l)
     unfolding step ledger_after
     event_at world next outcome event l h e =
         elim (cases_Bool (ltb event.thread (length world.places))) [
@@ -177,9 +228,11 @@ module _ (shape : Shape) (Inv : (ℕ → ℕ) → (ℕ → Option Running) → L
         ]
 
     -- after every schedule
-    pub after_all : (events : List Event) (world final : World) (l : Ledger) → At world l → run shape (Some world) events ≡ Some final → At final (ledger_of shape (Some world) events l)
+    pub after_all : (events : List Event) (world final : World) (l : Ledger) → At world l → run shape (Some world) events ≡ Some final
+        → At final (ledger_of shape (Some world) events l)
     after_all [] world final l h e = subst (λ w. At w l) (same_Some world final e) h
     after_all (event ∷ events) world final l h e =
         on_result (step shape world event)
-        (λ next outcome s. rw s (after_all events next final (ledger_after shape world event l) (event_at world next outcome event l h s) (rw s at e)))
+        (λ next outcome s. rw s (after_all events next final (ledger_after shape world event l) (event_at world next outcome event l h s)
+        (rw s at e)))
         (λ fault s. absurd (none-some final (sym (run-none shape events) ∙ (rw s at e))))

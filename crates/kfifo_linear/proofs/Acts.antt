@@ -17,7 +17,7 @@ use Rattle.kfifo_machine.specs.declared.event.Begin.TheVariants as B
 use Rattle.kfifo_machine.specs.declared.place.Running.{Running}
 use Rattle.kfifo_machine.specs.Calls.{Log}
 use Rattle.kfifo_linear.specs.Ledger.{Ledger, Outside, Took, item_of}
-use Rattle.kfifo_linear.specs.Roles.{Role, Puts, Gets, Finds_none, Refused, Spot, spot, spot_of, refused_at}
+use Rattle.kfifo_linear.specs.Roles.{Role, Puts, Gets, FindsNone, Refused, Spot, spot, spot_of, refused_at}
 use Rattle.kfifo_linear.proofs.Invariant.{Inv, Fits, InsideOk}
 use Rattle.kfifo_linear.proofs.Facts.{Facts, Stands, RoleAnswers, puts_standing}
 use Rattle.kfifo_linear.proofs.Agrees.{Agrees, op_of, end_of}
@@ -26,10 +26,11 @@ use Rattle.kfifo_linear.proofs.Agrees.{Agrees, op_of, end_of}
 abbrev pub Acts : (ℕ → ℕ) → ℕ → Role → Effect → Type 0
 Acts items own (Puts visit index) e = e ≡ M.Adds own
 Acts items own (Gets call visit) e = e ≡ M.Takes (items call)
-Acts items own (Finds_none visit) e = e ≡ M.Finds_none
+Acts items own (FindsNone visit) e = e ≡ M.FindsNone
 Acts items own Refused e = e ≡ M.Refused
 
-finished_acts : (items : ℕ → ℕ) (b : Begin) (x : Answer) (role : Role) → (effect (op_of b) x ≡ M.Wrong → ⊥) → RoleAnswers items x role → Acts items (item_of b) role (effect (op_of b) x)
+finished_acts : (items : ℕ → ℕ) (b : Begin) (x : Answer) (role : Role) → (effect (op_of b) x ≡ M.Wrong → ⊥) → RoleAnswers items x role
+    → Acts items (item_of b) role (effect (op_of b) x)
 finished_acts items b x role right fits = grind arith
 
 unfinished_acts : (items : ℕ → ℕ) (b : Begin) (v i : ℕ) → item_of b ≢ 0 → Acts items (item_of b) (Puts v i) (effect_unfinished (op_of b))
@@ -56,7 +57,8 @@ by_option : {X : Type 0} (o : Option X) → (o ≡ None) ⊎ ((x : X) × (o ≡ 
 by_option None = inl refl
 by_option (Some x) = inr (x, refl)
 
-module _ (shape : Shape) (w : ℕ → ℕ) (p : ℕ → Option Running) (log : Log) (l : Ledger) (place : ℕ) (inv : Inv shape w p l) (facts : Facts shape l) (h : Agrees log l place) (good : IsHistory log.calls) where
+module _ (shape : Shape) (w : ℕ → ℕ) (p : ℕ → Option Running) (log : Log) (l : Ledger) (place : ℕ) (inv : Inv shape w p l)
+    (facts : Facts shape l) (h : Agrees log l place) (good : IsHistory log.calls) where
   -- a call that stands is one of the history
   pub known : (c : ℕ) (s : Spot) → spot l c ≡ Some s → c < l.calls
   unfolding spot
@@ -74,9 +76,11 @@ module _ (shape : Shape) (w : ℕ → ℕ) (p : ℕ → Option Running) (log : L
 
   -- an answered call has a last step
   last_is : (c : ℕ) (x : Answer) → l.answer c ≡ Some x → (e : ℕ) × (l.last c ≡ Some e)
-  last_is c x answered = elim (by_option (l.last c)) [ inl none ↦ absurd (none-some x (sym (inv.calls.unended c none) ∙ answered)) | inr some ↦ some ]
+  last_is c x answered = elim (by_option (l.last c))
+      [ inl none ↦ absurd (none-some x (sym (inv.calls.unended c none) ∙ answered)) | inr some ↦ some ]
 
-  pub end_is : (c : ℕ) (x : Answer) → c < l.calls → l.answer c ≡ Some x → (e : ℕ) × ((l.last c ≡ Some e) × ((call log.calls c).end ≡ Some (record { last = e; answer = x })))
+  pub end_is : (c : ℕ) (x : Answer) → c < l.calls → l.answer c ≡ Some x → (e : ℕ)
+      × ((l.last c ≡ Some e) × ((call log.calls c).end ≡ Some (record { last = e; answer = x })))
   end_is c x less answered =
       let e = last_is c x answered in
       (e.0, (e.1, (h.each c less).end ∙ ap (λ o. end_of o (l.answer c)) e.1 ∙ ap (end_of (Some e.0)) answered))
@@ -94,10 +98,12 @@ module _ (shape : Shape) (w : ℕ → ℕ) (p : ℕ → Option Running) (log : L
       let t = inv.calls.took d o v q took in
       let x = some_is (l.answer d) t.finished in
       let less : d < l.calls = elim (cases_lt d l.calls) [ inl lt ↦ lt | inr ge ↦ absurd (none-some x.0 (sym (h.none d ge).1 ∙ x.1)) ] in
-      let got : x.0 ≡ Got (item_of (l.begin o)) = got_item l.begin x.0 o v q (subst (Fits l.begin x.0) took (inv.calls.answered d x.0 x.1)) in
+      let got : x.0 ≡ Got (item_of (l.begin o)) =
+      got_item l.begin x.0 o v q (subst (Fits l.begin x.0) took (inv.calls.answered d x.0 x.1)) in
       let end = end_is d x.0 less x.1 in
       let ranged : EndInRange (call log.calls d).end = (good d (counted d less)).ranged.2 in
-      let item : IsItem (item_of (l.begin o)) = subst EndInRange (end.1.1 ∙ ap (λ a. Some (record { last = end.0; answer = a })) got) ranged in
+      let item : IsItem (item_of (l.begin o)) =
+      subst EndInRange (end.1.1 ∙ ap (λ a. Some (record { last = end.0; answer = a })) got) ranged in
       absurd (omega (arith, item.0))
 
   put_item : (c v i q : ℕ) → Stands l c (Puts v i) q → item_of (l.begin c) ≢ 0
@@ -112,7 +118,8 @@ module _ (shape : Shape) (w : ℕ → ℕ) (p : ℕ → Option Running) (log : L
   does_at : (c : ℕ) → c < l.calls → does log.calls c ≡ effect_at (op_of (l.begin c)) (call log.calls c).end
   does_at c less = ap (λ o. effect_at o (call log.calls c).end) (h.each c less).op
 
-  right : (c e : ℕ) (x : Answer) → c < l.calls → (call log.calls c).end ≡ Some (record { last = e; answer = x }) → effect (op_of (l.begin c)) x ≡ M.Wrong → ⊥
+  right : (c e : ℕ) (x : Answer) → c < l.calls → (call log.calls c).end ≡ Some (record { last = e; answer = x })
+      → effect (op_of (l.begin c)) x ≡ M.Wrong → ⊥
   right c e x less end wrong =
       let answers = (good c (counted c less)).answers in
       rw (end, (h.each c less).op) at answers wrong
@@ -124,9 +131,11 @@ module _ (shape : Shape) (w : ℕ → ℕ) (p : ℕ → Option Running) (log : L
       elim (by_option (l.answer c)) [
         | inl none ↦
             let put = facts.unfinished c s none e in
-            let is : does log.calls c ≡ effect_unfinished (op_of (l.begin c)) = does_at c less ∙ ap (effect_at (op_of (l.begin c))) (unended_is c less none) in
+            let is : does log.calls c ≡ effect_unfinished (op_of (l.begin c)) =
+            does_at c less ∙ ap (effect_at (op_of (l.begin c))) (unended_is c less none) in
             let stands : Stands l c (Puts put.0 put.1.0) s.point = e ∙ ap (λ r. Some (record { role = r; point = s.point })) put.1.1 in
-            rw (is, put.1.1) (unfinished_acts (λ o. item_of (l.begin o)) (l.begin c) put.0 put.1.0 (put_item c put.0 put.1.0 s.point stands))
+            rw (is, put.1.1) (unfinished_acts (λ o. item_of (l.begin o)) (l.begin c) put.0 put.1.0
+            (put_item c put.0 put.1.0 s.point stands))
         | inr x ↦
             let end = end_is c x.0 less x.1 in
             let f = facts.finished c x.0 x.1 in

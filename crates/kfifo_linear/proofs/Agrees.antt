@@ -1,5 +1,6 @@
 -- The ledger and the log of a schedule tell the same of each call.
-use Rattle.std.proofs.Common.{◌≡◌, ◌≢◌, ℕ, ◌+◌, ◌<◌, ◌≤◌, List, [], ◌∷◌, ◌++◌, length, get_or, set, Option, Some, None, Ok, refl, sym, ap, ◌∙◌, subst, inl, inr, arith, length-append}
+use Rattle.std.proofs.Common.{◌≡◌, ◌≢◌, ℕ, ◌+◌, ◌<◌, ◌≤◌, List, [], ◌∷◌, ◌++◌, length, get_or, set, Option, Some, None, Ok, refl, sym, ap}
+use Rattle.std.proofs.Common.{◌∙◌, subst, inl, inr, arith, length-append}
 use Rattle.std.proofs.Math.ListN.{get_or-append}
 use Rattle.std.proofs.Math.Seq.{get_or-append_seam}
 use Rattle.std.proofs.lemmas.Bool.{cases_eq}
@@ -71,7 +72,8 @@ call-set_other : (h : List Call) (c : Call) (n m : ℕ) → m ≢ n → call (se
 call-set_other h c n m ne = get_or-set_other h n m c no_call ne
 
 -- a call begins
-agree_begins : (log : Log) (l : Ledger) (place thread : ℕ) (b : Begin) → Agrees log l place → thread < length log.latest → Agrees (begins place thread (op_of b) log) (called thread b l) place
+agree_begins : (log : Log) (l : Ledger) (place thread : ℕ) (b : Begin) → Agrees log l place → thread < length log.latest
+    → Agrees (begins place thread (op_of b) log) (called thread b l) place
 unfolding called
 agree_begins log l place thread b h within =
     let opened : Call = record { thread = thread; op = op_of b; first = place; end = None } in
@@ -84,7 +86,8 @@ agree_begins log l place thread b h within =
             record {
               op = ap (λ (x : Call). x.op) new ∙ ap op_of (sym (noted-same l.begin l.calls c b same));
               first = ap (λ (x : Call). x.first) new ∙ sym h.now ∙ sym (noted-same l.first l.calls c l.now same);
-              end = ap (λ (x : Call). x.end) new ∙ sym (ap (end_of (noted l.last l.calls None c)) (noted-same l.answer l.calls c None same));
+              end = ap (λ (x : Call). x.end) new ∙ sym
+                  (ap (end_of (noted l.last l.calls None c)) (noted-same l.answer l.calls c None same));
             }
         | inr ne ↦
             let was = h.each c (omega arith) in
@@ -92,7 +95,8 @@ agree_begins log l place thread b h within =
             record {
               op = ap (λ (x : Call). x.op) old ∙ was.op ∙ ap op_of (sym (noted-other l.begin l.calls c b ne));
               first = ap (λ (x : Call). x.first) old ∙ was.first ∙ sym (noted-other l.first l.calls c l.now ne);
-              end = ap (λ (x : Call). x.end) old ∙ was.end ∙ ap (λ x. end_of x (l.answer c)) (sym (noted-other l.last l.calls c None ne)) ∙ ap (end_of (noted l.last l.calls None c)) (sym (noted-other l.answer l.calls c None ne));
+              end = ap (λ (x : Call). x.end) old ∙ was.end ∙ ap (λ x. end_of x (l.answer c)) (sym (noted-other l.last l.calls c None ne))
+                  ∙ ap (end_of (noted l.last l.calls None c)) (sym (noted-other l.answer l.calls c None ne));
             }
       ];
       none = λ c above.
@@ -100,19 +104,31 @@ agree_begins log l place thread b h within =
           let was = h.none c (omega arith) in
           (noted-other l.last l.calls c None ne ∙ was.0, noted-other l.answer l.calls c None ne ∙ was.1);
       latest = λ t. elim (cases_eq t thread) [
-        | inl same ↦ get_or-set_at log.latest thread t (length log.calls) 0 same within ∙ h.count ∙ sym (noted-same l.caller thread t l.calls same)
-        | inr ne ↦ get_or-set_other log.latest thread t (length log.calls) 0 ne ∙ h.latest t ∙ sym (noted-other l.caller thread t l.calls ne)
+        | inl same ↦ get_or-set_at log.latest thread t (length log.calls) 0 same within ∙ h.count
+            ∙ sym (noted-same l.caller thread t l.calls same)
+        | inr ne ↦ get_or-set_other log.latest thread t (length log.calls) 0 ne ∙ h.latest t
+            ∙ sym (noted-other l.caller thread t l.calls ne)
       ];
     }
 
 -- a step after which the call goes on
-agree_goes : (shape : Shape) (w : ℕ → ℕ) (t : ℕ) (r q : Running) (log : Log) (l : Ledger) (place : ℕ) → Agrees log l place → advance shape r (found_in shape w r) ≡ Goes q → Agrees log (ledger.stepped shape w t r l) (place + 1)
+agree_goes : (shape : Shape) (w : ℕ → ℕ) (t : ℕ) (r q : Running) (log : Log) (l : Ledger) (place : ℕ) → Agrees log l place
+    → advance shape r (found_in shape w r) ≡ Goes q → Agrees log (ledger.stepped shape w t r l) (place + 1)
 unfolding ledger.stepped
 agree_goes shape w t r q log l place h goes =
-    rw goes (record { count = h.count; now = ap (λ n. n + 1) h.now; each = λ c less. let was = h.each c less in record { op = was.op; first = was.first; end = was.end }; none = h.none; latest = h.latest })
+    rw goes (record {
+      count = h.count;
+      now = ap (λ n. n + 1) h.now;
+      each = λ c less. let was = h.each c less in record { op = was.op; first = was.first; end = was.end };
+      none = h.none;
+      latest =
+          h.latest;
+    })
 
 -- a step with which it ends
-agree_ends : (shape : Shape) (w : ℕ → ℕ) (t : ℕ) (r : Running) (x : Answer) (log : Log) (l : Ledger) (place : ℕ) → Agrees log l place → advance shape r (found_in shape w r) ≡ Answers x → l.caller t < l.calls → Agrees (ends place t x log) (ledger.stepped shape w t r l) (place + 1)
+agree_ends : (shape : Shape) (w : ℕ → ℕ) (t : ℕ) (r : Running) (x : Answer) (log : Log) (l : Ledger) (place : ℕ) → Agrees log l place
+    → advance shape r (found_in shape w r) ≡ Answers x → l.caller t < l.calls
+    → Agrees (ends place t x log) (ledger.stepped shape w t r l) (place + 1)
 unfolding ledger.stepped
 agree_ends shape w t r x log l place h answers known =
     let mine : get_or log.latest t 0 ≡ l.caller t = h.latest t in
@@ -124,22 +140,28 @@ agree_ends shape w t r x log l place h answers known =
       each = λ c less. elim (cases_eq c (l.caller t)) [
         | inl same ↦
             let here : c ≡ get_or log.latest t 0 = same ∙ sym mine in
-            let new : call (set log.calls (get_or log.latest t 0) closed) c ≡ closed = call-set_at log.calls closed (get_or log.latest t 0) c here within in
+            let new : call (set log.calls (get_or log.latest t 0) closed) c ≡ closed =
+            call-set_at log.calls closed (get_or log.latest t 0) c here within in
             let was = h.each c less in
             let as_was : call log.calls (get_or log.latest t 0) ≡ call log.calls c = ap (call log.calls) (sym here) in
             record {
               op = ap (λ (y : Call). y.op) new ∙ ap (λ (y : Call). y.op) as_was ∙ was.op;
               first = ap (λ (y : Call). y.first) new ∙ ap (λ (y : Call). y.first) as_was ∙ was.first;
-              end = ap (λ (y : Call). y.end) new ∙ ap (λ n. Some (record { last = n; answer = x })) (sym h.now) ∙ ap (end_of (Some l.now)) (sym (noted-same l.answer (l.caller t) c (Some x) same)) ∙ ap (λ y. end_of y (noted l.answer (l.caller t) (Some x) c)) (sym (noted-same l.last (l.caller t) c (Some l.now) same));
+              end = ap (λ (y : Call). y.end) new ∙ ap (λ n. Some (record { last = n; answer = x })) (sym h.now)
+                  ∙ ap (end_of (Some l.now)) (sym (noted-same l.answer (l.caller t) c (Some x) same))
+                  ∙ ap (λ y. end_of y (noted l.answer (l.caller t) (Some x) c)) (sym (noted-same l.last (l.caller t) c (Some l.now) same));
             }
         | inr ne ↦
             let apart : c ≢ get_or log.latest t 0 = λ e. ne (e ∙ mine) in
-            let old : call (set log.calls (get_or log.latest t 0) closed) c ≡ call log.calls c = call-set_other log.calls closed (get_or log.latest t 0) c apart in
+            let old : call (set log.calls (get_or log.latest t 0) closed) c ≡ call log.calls c =
+            call-set_other log.calls closed (get_or log.latest t 0) c apart in
             let was = h.each c less in
             record {
               op = ap (λ (y : Call). y.op) old ∙ was.op;
               first = ap (λ (y : Call). y.first) old ∙ was.first;
-              end = ap (λ (y : Call). y.end) old ∙ was.end ∙ ap (λ y. end_of y (l.answer c)) (sym (noted-other l.last (l.caller t) c (Some l.now) ne)) ∙ ap (end_of (noted l.last (l.caller t) (Some l.now) c)) (sym (noted-other l.answer (l.caller t) c (Some x) ne));
+              end = ap (λ (y : Call). y.end) old ∙ was.end
+                  ∙ ap (λ y. end_of y (l.answer c)) (sym (noted-other l.last (l.caller t) c (Some l.now) ne))
+                  ∙ ap (end_of (noted l.last (l.caller t) (Some l.now) c)) (sym (noted-other l.answer (l.caller t) c (Some x) ne));
             }
       ];
       none = λ c above.
@@ -151,33 +173,49 @@ agree_ends shape w t r x log l place h answers known =
 
 agree_tick : (log : Log) (l : Ledger) (place : ℕ) → Agrees log l place → Agrees log (record l { now = l.now + 1 }) (place + 1)
 agree_tick log l place h =
-    record { count = h.count; now = ap (λ n. n + 1) h.now; each = λ c less. let was = h.each c less in record { op = was.op; first = was.first; end = was.end }; none = h.none; latest = h.latest }
+    record {
+      count = h.count;
+      now = ap (λ n. n + 1) h.now;
+      each = λ c less. let was = h.each c less in record { op = was.op; first = was.first; end = was.end };
+      none = h.none;
+      latest =
+          h.latest;
+    }
 
 -- the invariant of a world and a ledger
 abbrev pub InvAt : Shape → World → Ledger → Type 0
 InvAt shape world l = At shape (Inv shape) (inv_table shape) (inv_begin shape) (inv_step shape) (inv_tick shape) world l
 
-module _ (shape : Shape) (world next : World) (outcome : Outcome) (e : Event) (log : Log) (l : Ledger) (place : ℕ) (inv : InvAt shape world l) (h : Agrees log l place) (known : length log.latest ≡ length world.places)
+module _ (shape : Shape) (world next : World) (outcome : Outcome) (e : Event) (log : Log) (l : Ledger) (place : ℕ)
+    (inv : InvAt shape world l) (h : Agrees log l place) (known : length log.latest ≡ length world.places)
     (made : step shape world e ≡ Ok (next, outcome)) where
-  by_next : (r : Running) (n : Next) → place_of world e.thread ≡ Some r → advance shape r (found_in shape (word_at world) r) ≡ n → Agrees (logged place e.thread None (outcome_of n) log) (ledger.stepped shape (word_at world) e.thread r l) (place + 1)
+  by_next : (r : Running) (n : Next) → place_of world e.thread ≡ Some r → advance shape r (found_in shape (word_at world) r) ≡ n
+      → Agrees (logged place e.thread None (outcome_of n) log) (ledger.stepped shape (word_at world) e.thread r l) (place + 1)
   by_next r (Goes q) was goes = agree_goes shape (word_at world) e.thread r q log l place h goes
-  by_next r (Answers x) was answers = agree_ends shape (word_at world) e.thread r x log l place h answers (inv.holds.threads e.thread r was).known
+  by_next r (Answers x) was answers = agree_ends shape (word_at world) e.thread r x log l place h answers
+      (inv.holds.threads e.thread r was).known
 
-  begins_so : (b : Begin) (r q : Running) → advance shape r (found_in shape (word_at world) r) ≡ Goes q → Agrees (begins place e.thread (op_of b) log) (ledger.stepped shape (word_at world) e.thread r (called e.thread b l)) (place + 1)
+  begins_so : (b : Begin) (r q : Running) → advance shape r (found_in shape (word_at world) r) ≡ Goes q
+      → Agrees (begins place e.thread (op_of b) log) (ledger.stepped shape (word_at world) e.thread r (called e.thread b l)) (place + 1)
   begins_so b r q goes =
       let within : e.thread < length world.places = made_within shape world e next outcome made in
-      agree_goes shape (word_at world) e.thread r q (begins place e.thread (op_of b) log) (called e.thread b l) place (agree_begins log l place e.thread b h (omega arith)) goes
+      agree_goes shape (word_at world) e.thread r q (begins place e.thread (op_of b) log) (called e.thread b l) place
+      (agree_begins log l place e.thread b h (omega arith)) goes
 
-  by_place : (at : Option Running) (begin : Option Begin) (r : Running) → place_of world e.thread ≡ at → going shape at begin ≡ Some r → outcome ≡ outcome_of (advance shape r (found_in shape (word_at world) r))
+  by_place : (at : Option Running) (begin : Option Begin) (r : Running) → place_of world e.thread ≡ at → going shape at begin ≡ Some r
+      → outcome ≡ outcome_of (advance shape r (found_in shape (word_at world) r))
       → Agrees (logged place e.thread begin outcome log) (ledger_from shape (word_at world) e.thread at begin l) (place + 1)
   by_place None None r was goes comes = absurd (cc)
   by_place (Some q) None r was goes comes =
       let same : q ≡ r = Some-injective q r goes in
-      subst (λ (o : Outcome). Agrees (logged place e.thread None o log) (ledger.stepped shape (word_at world) e.thread q l) (place + 1)) (sym (comes ∙ ap (λ (x : Running). outcome_of (advance shape x (found_in shape (word_at world) x))) (sym same)))
+      subst (λ (o : Outcome). Agrees (logged place e.thread None o log) (ledger.stepped shape (word_at world) e.thread q l) (place + 1))
+      (sym (comes ∙ ap (λ (x : Running). outcome_of (advance shape x (found_in shape (word_at world) x))) (sym same)))
       (by_next q (advance shape q (found_in shape (word_at world) q)) was refl)
   by_place (Some q) (Some b) r was goes comes = absurd (cc)
-  by_place None (Some (B.Enqueue item start turns)) r was goes comes = begins_so (B.Enqueue item start turns) (R.Enqueue item start turns E.LoadEnds) _ refl
-  by_place None (Some (B.Dequeue start turns)) r was goes comes = begins_so (B.Dequeue start turns) (R.Dequeue start turns D.LoadEnds) _ refl
+  by_place None (Some (B.Enqueue item start turns)) r was goes comes =
+      begins_so (B.Enqueue item start turns) (R.Enqueue item start turns E.LoadEnds) _ refl
+  by_place None (Some (B.Dequeue start turns)) r was goes comes =
+      begins_so (B.Dequeue start turns) (R.Dequeue start turns D.LoadEnds) _ refl
   by_place None (Some B.Tick) r was goes comes = agree_tick log l place h
 
   agree_step : Agrees (logged place e.thread e.begin outcome log) (ledger_after shape world e l) (place + 1)
@@ -186,7 +224,8 @@ module _ (shape : Shape) (world next : World) (outcome : Outcome) (e : Event) (l
       elim (stepped shape world e next outcome made) [
         | inl s ↦ by_place (place_of world e.thread) e.begin s.running refl s.goes s.outcome_is
         | inr t ↦
-            let goal : Agrees (logged place e.thread (Some B.Tick) outcome log) (ledger_from shape (word_at world) e.thread None (Some B.Tick) l) (place + 1) = agree_tick log l place h in
+            let goal : Agrees (logged place e.thread (Some B.Tick) outcome log)
+            (ledger_from shape (word_at world) e.thread None (Some B.Tick) l) (place + 1) = agree_tick log l place h in
             rw (t.begins, t.idle) goal
       ]
 
@@ -197,12 +236,16 @@ module _ (shape : Shape) (world next : World) (outcome : Outcome) (e : Event) (l
       known_by : (begin : Option Begin) (o : Outcome) → length (logged place e.thread begin o log).latest ≡ length log.latest
       known_by begin o = grind (arith, length-set)
 
-pub agree_all : (shape : Shape) (world final : World) (events : List Event) (log : Log) (l : Ledger) (place : ℕ) → InvAt shape world l → Agrees log l place → length log.latest ≡ length world.places → run shape (Some world) events ≡ Some final
+pub agree_all : (shape : Shape) (world final : World) (events : List Event) (log : Log) (l : Ledger) (place : ℕ) → InvAt shape world l
+    → Agrees log l place → length log.latest ≡ length world.places → run shape (Some world) events ≡ Some final
     → Agrees (log_from shape (Some world) place events log) (ledger_of shape (Some world) events l) (place + length events)
 agree_all shape world final [] log l place inv h known is = let z : place ≡ place + 0 = omega arith in subst (λ n. Agrees log l n) z h
 agree_all shape world final (e ∷ es) log l place inv h known is =
     let m = first_made shape world e final es is in
-    let at : InvAt shape m.0 (ledger_after shape world e l) = event_at shape (Inv shape) (inv_table shape) (inv_begin shape) (inv_step shape) (inv_tick shape) world m.0 m.1.0 e l inv m.1.1.0 in
-    let all = agree_all shape m.0 final es (logged place e.thread e.begin m.1.0 log) (ledger_after shape world e l) (place + 1) at (agree_step shape world m.0 m.1.0 e log l place inv h known m.1.1.0) (known_step shape world m.0 m.1.0 e log l place inv h known m.1.1.0) m.1.1.1 in
+    let at : InvAt shape m.0 (ledger_after shape world e l) =
+    event_at shape (Inv shape) (inv_table shape) (inv_begin shape) (inv_step shape) (inv_tick shape) world m.0 m.1.0 e l inv m.1.1.0 in
+    let all = agree_all shape m.0 final es (logged place e.thread e.begin m.1.0 log) (ledger_after shape world e l) (place + 1) at
+    (agree_step shape world m.0 m.1.0 e log l place inv h known m.1.1.0)
+    (known_step shape world m.0 m.1.0 e log l place inv h known m.1.1.0) m.1.1.1 in
     let places : (place + 1) + length es ≡ place + length (e ∷ es) = omega arith in
     subst (λ n. Agrees (log_from shape (Some world) place (e ∷ es) log) (ledger_of shape (Some world) (e ∷ es) l) n) places (rw m.1.1.0 all)

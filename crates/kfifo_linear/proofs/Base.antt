@@ -1,5 +1,6 @@
 -- Head and tail are where their numbers say, and the tail is never a whole round ahead.
-use Rattle.std.proofs.Common.{suc, ◌≡◌, ◌≢◌, ℕ, ◌+◌, ◌*◌, ◌%◌, ◌<◌, ◌≤◌, inl, inr, true, refl, sym, ◌∙◌, ap, subst, arith, Option, Some, None, List, replicate, length, get_or, zero}
+use Rattle.std.proofs.Common.{suc, ◌≡◌, ◌≢◌, ℕ, ◌+◌, ◌*◌, ◌%◌, ◌<◌, ◌≤◌, inl, inr, true, refl, sym, ◌∙◌, ap, subst, arith, Option, Some}
+use Rattle.std.proofs.Common.{None, List, replicate, length, get_or, zero}
 use Rattle.std.proofs.Math.Nat.{zero-mod, mod-lt, mul-le-mul_right}
 use Rattle.std.proofs.lemmas.Bool.{and_parts, cases_eq}
 use Rattle.std.proofs.lemmas.Bool.Decides.{nat_tests}
@@ -67,7 +68,8 @@ abbrev pub NextSane : Shape → Next → Type 0
 NextSane shape (Goes running) = Sane shape running
 NextSane shape (Answers answer) = Unit {0}
 
-pub scan_index-is_slot : (shape : Shape) (segment start offset : ℕ) → segment < shape.n → IsSlotIndex shape (scan_index shape segment start offset)
+pub scan_index-is_slot : (shape : Shape) (segment start offset : ℕ) → segment < shape.n
+    → IsSlotIndex shape (scan_index shape segment start offset)
 unfolding scan_index
 scan_index-is_slot shape segment start offset h =
     let k : 0 < shape.k = shape.some_slot in
@@ -76,10 +78,12 @@ scan_index-is_slot shape segment start offset h =
     record { above = omega arith; below = omega arith }
 
 pub filled_with-value : (item empty : ℕ) → 0 < item → item < 16777216 → value_of (filled_with item empty) ≢ 0
-filled_with-value item empty h f e = let v : value_of (filled_with item empty) ≡ item = value-slot_word item (version_of empty + 1) f in omega arith
+filled_with-value item empty h f e = let v : value_of (filled_with item empty) ≡ item = value-slot_word item (version_of empty + 1) f in
+    omega arith
 
 -- a thread's place stays sane. A load of the ends' word finds ends in the ring
-pub stays_sane : (shape : Shape) (running : Running) (word : ℕ) → Sane shape running → (accessed (access shape running) ≡ 0 → InRing shape word) → NextSane shape (advance shape running word)
+pub stays_sane : (shape : Shape) (running : Running) (word : ℕ) → Sane shape running
+    → (accessed (access shape running) ≡ 0 → InRing shape word) → NextSane shape (advance shape running word)
 stays_sane shape running word s h = let k : 0 < shape.k = shape.some_slot in grind (arith, nat_tests, scan_index-is_slot, filled_with-value)
 
 module _ (shape : Shape) (ends a b : ℕ) (ok : EndsOk shape ends a b) where
@@ -88,12 +92,16 @@ module _ (shape : Shape) (ends a b : ℕ) (ok : EndsOk shape ends a b) where
       record { head = head_below shape ends a b ok; tail = tail_below shape ends a b ok }
 
 -- after a step
-pub ends_stay : (shape : Shape) → (words : ℕ → ℕ) (thread : ℕ) (running : Running) (l : Ledger) → EndsOk shape (words 0) l.head l.tail → Sane shape running → EndsOk shape (words_by (access shape running) words 0) (stepped shape words thread running l).head (stepped shape words thread running l).tail
+pub ends_stay : (shape : Shape) → (words : ℕ → ℕ) (thread : ℕ) (running : Running) (l : Ledger) → EndsOk shape (words 0) l.head l.tail
+    → Sane shape running → EndsOk shape (words_by (access shape running) words 0) (stepped shape words thread running l).head
+    (stepped shape words thread running l).tail
 unfolding stepped
 ends_stay shape words thread running l ok s =
     let r : InRing shape (words 0) = ends_in_ring shape (words 0) l.head l.tail ok in
-    let nh : next_segment shape.n (head_of (words 0)) ≡ (l.head + 1) % shape.n = ap (next_segment shape.n) ok.head ∙ next-mod shape.n l.head shape.some_segments in
-    let nt : next_segment shape.n (tail_of (words 0)) ≡ (l.tail + 1) % shape.n = ap (next_segment shape.n) ok.tail ∙ next-mod shape.n l.tail shape.some_segments in
+    let nh : next_segment shape.n (head_of (words 0)) ≡ (l.head + 1) % shape.n =
+    ap (next_segment shape.n) ok.head ∙ next-mod shape.n l.head shape.some_segments in
+    let nt : next_segment shape.n (tail_of (words 0)) ≡ (l.tail + 1) % shape.n =
+    ap (next_segment shape.n) ok.tail ∙ next-mod shape.n l.tail shape.some_segments in
     let same = same_end shape (words 0) l.head l.tail ok in
     let other = other_end shape (words 0) l.head l.tail ok in
     let full = full_ring shape (words 0) l.head l.tail ok in
@@ -126,20 +134,24 @@ unfolding opening
 opening_size shape threads = length-replicate (table_size shape) 0
 
 module _ (shape : Shape) where
-  pub base_step : (w : ℕ → ℕ) (p : ℕ → Option Running) (l : Ledger) (t : ℕ) (r : Running) → Base shape w p l → p t ≡ Some r → Base shape (words_by (access shape r) w) (noted p t (place_after (advance shape r (found_in shape w r)))) (stepped shape w t r l)
+  pub base_step : (w : ℕ → ℕ) (p : ℕ → Option Running) (l : Ledger) (t : ℕ) (r : Running) → Base shape w p l → p t ≡ Some r
+      → Base shape (words_by (access shape r) w) (noted p t (place_after (advance shape r (found_in shape w r)))) (stepped shape w t r l)
   base_step w p l t r h e =
       let s : Sane shape r = h.sane t r e in
-      let look : accessed (access shape r) ≡ 0 → InRing shape (found_in shape w r) = λ z. rw z (ends_in_ring shape (w 0) l.head l.tail h.ends) in
+      let look : accessed (access shape r) ≡ 0 → InRing shape (found_in shape w r) =
+      λ z. rw z (ends_in_ring shape (w 0) l.head l.tail h.ends) in
       let n : NextSane shape (advance shape r (found_in shape w r)) = stays_sane shape r (found_in shape w r) s look in
       record {
         ends = ends_stay shape w t r l h.ends s;
         sane = λ u q f. elim (cases_eq u t) [
-          | inl same ↦ place_sane shape (advance shape r (found_in shape w r)) q n (sym (noted-same p t u (place_after (advance shape r (found_in shape w r))) same) ∙ f)
+          | inl same ↦ place_sane shape (advance shape r (found_in shape w r)) q n
+              (sym (noted-same p t u (place_after (advance shape r (found_in shape w r))) same) ∙ f)
           | inr ne ↦ h.sane u q (sym (noted-other p t u (place_after (advance shape r (found_in shape w r))) ne) ∙ f)
         ];
       }
 
-  pub base_begin : (w : ℕ → ℕ) (p : ℕ → Option Running) (l : Ledger) (t : ℕ) (b : Begin) (r : Running) → Base shape w p l → p t ≡ None → may_begin shape b ≡ true → begun b ≡ Some r → Base shape w (noted p t (Some r)) (called t b l)
+  pub base_begin : (w : ℕ → ℕ) (p : ℕ → Option Running) (l : Ledger) (t : ℕ) (b : Begin) (r : Running) → Base shape w p l → p t ≡ None
+      → may_begin shape b ≡ true → begun b ≡ Some r → Base shape w (noted p t (Some r)) (called t b l)
   unfolding called
   base_begin w p l t b r h e m g =
       record {
@@ -150,14 +162,16 @@ module _ (shape : Shape) where
         ];
       }
 
-  pub base_tick : (w : ℕ → ℕ) (p : ℕ → Option Running) (l : Ledger) → Base shape w p l → Base shape (noted w (clock_at shape.k shape.n) (w (clock_at shape.k shape.n) + 1)) p (record l { now = l.now + 1 })
+  pub base_tick : (w : ℕ → ℕ) (p : ℕ → Option Running) (l : Ledger) → Base shape w p l
+      → Base shape (noted w (clock_at shape.k shape.n) (w (clock_at shape.k shape.n) + 1)) p (record l { now = l.now + 1 })
   base_tick w p l h =
       record {
         ends = rw (noted-other w (clock_at shape.k shape.n) 0 (w (clock_at shape.k shape.n) + 1) (λ z. omega (arith, z))) h.ends;
         sane = h.sane;
       }
 
-  pub base_table : (w : ℕ → ℕ) (p : ℕ → Option Running) (l : Ledger) (t : ℕ) (r : Running) → Base shape w p l → p t ≡ Some r → accessed (access shape r) < table_size shape
+  pub base_table : (w : ℕ → ℕ) (p : ℕ → Option Running) (l : Ledger) (t : ℕ) (r : Running) → Base shape w p l → p t ≡ Some r
+      → accessed (access shape r) < table_size shape
   base_table w p l t r h e = sane_in_table shape r (h.sane t r e)
 
   pub base_opening : (threads : ℕ) → Base shape (word_at (opening shape threads)) (place_of (opening shape threads)) blank
@@ -165,12 +179,19 @@ module _ (shape : Shape) where
   base_opening threads =
       let z = get_or_replicate {X = ℕ} (table_size shape) 0 0 in
       record {
-        ends = record { head = rw z (sym (zero-mod shape.n)); tail = rw z (sym (zero-mod shape.n)); ordered = omega arith; no_wrap = omega (arith, shape.some_segments) };
+        ends = record {
+          head = rw z (sym (zero-mod shape.n));
+          tail = rw z (sym (zero-mod shape.n));
+          ordered = omega arith;
+          no_wrap = omega (arith, shape.some_segments);
+        };
         sane = λ t r f. absurd (none-some r (sym (get_or_replicate threads t None) ∙ f));
       }
 
   -- after every schedule the tail is less than a round ahead of the head, and both are where their numbers say
-  pub no_wrap : (threads : ℕ) (events : List Event) (final : World) → run shape (Some (opening shape threads)) events ≡ Some final → EndsOk shape (word_at final 0) (ledger_of shape (Some (opening shape threads)) events blank).head (ledger_of shape (Some (opening shape threads)) events blank).tail
+  pub no_wrap : (threads : ℕ) (events : List Event) (final : World) → run shape (Some (opening shape threads)) events ≡ Some final
+      → EndsOk shape (word_at final 0) (ledger_of shape (Some (opening shape threads)) events blank).head
+      (ledger_of shape (Some (opening shape threads)) events blank).tail
   no_wrap threads events final e =
       (after_all shape (Base shape) base_table base_begin base_step base_tick events (opening shape threads) final blank
       (record { size = opening_size shape threads; holds = base_opening threads })

@@ -34,7 +34,8 @@ segment_of-scan_index shape segment start offset =
     rw e (div-mul-add segment shape.k ((start + offset) % shape.k) j)
 
 -- no word ever falls
-pub words_rise : (shape : Shape) → (w : ℕ → ℕ) (r : Running) → Sane shape r → InRing shape (w 0) → (i : ℕ) → w i ≤ words_by (access shape r) w i
+pub words_rise : (shape : Shape) → (w : ℕ → ℕ) (r : Running) → Sane shape r → InRing shape (w 0) → (i : ℕ)
+    → w i ≤ words_by (access shape r) w i
 words_rise shape w r s ring i =
     let few = shape.few_segments in
     grind (arith, nat_tests, noted_tells, slot_word-above, ends_word-above, next_segment-below)
@@ -112,7 +113,8 @@ pub record EndsChange (w w' : ℕ → ℕ) (l l' : Ledger) : Type 0 where
   pub heads_kept : (v : ℕ) → v < l.head → l'.heads v ≡ l.heads v
   pub heads_new : (v : ℕ) → l.head ≤ v → v < l'.head → l'.heads v ≡ l.now
 
-pub ends_change : (shape : Shape) → (w : ℕ → ℕ) (l : Ledger) (t : ℕ) (r : Running) → Sane shape r → EndsOk shape (w 0) l.head l.tail → EndsChange w (words_by (access shape r) w) l (stepped shape w t r l)
+pub ends_change : (shape : Shape) → (w : ℕ → ℕ) (l : Ledger) (t : ℕ) (r : Running) → Sane shape r → EndsOk shape (w 0) l.head l.tail
+    → EndsChange w (words_by (access shape r) w) l (stepped shape w t r l)
 unfolding stepped
 ends_change shape w l t r s ok =
     let ring : InRing shape (w 0) = ends_in_ring shape (w 0) l.head l.tail ok in
@@ -130,7 +132,8 @@ ends_change shape w l t r s ok =
     }
 
 -- the ends that a round loaded say what they said
-pub loaded_stays : (shape : Shape) (w w' : ℕ → ℕ) (l l' : Ledger) (u x : ℕ) → EndsChange w w' l l' → l'.head_seen u ≡ l.head_seen u → l'.tail_seen u ≡ l.tail_seen u → Loaded shape w l u x → Loaded shape w' l' u x
+pub loaded_stays : (shape : Shape) (w w' : ℕ → ℕ) (l l' : Ledger) (u x : ℕ) → EndsChange w w' l l' → l'.head_seen u ≡ l.head_seen u
+    → l'.tail_seen u ≡ l.tail_seen u → Loaded shape w l u x → Loaded shape w' l' u x
 loaded_stays shape w w' l l' u x c h t ld =
     record {
       ends = rw (h, t) ld.ends;
@@ -139,7 +142,9 @@ loaded_stays shape w w' l l' u x c h t ld =
       tail_same = λ e. let z : w' 0 ≡ w 0 = omega (arith, ld.below, c.rise) in omega (arith, t, ld.tail_same (sym z ∙ e), c.tail_kept z);
     }
 
-pub round_stays : (w w' : ℕ → ℕ) (l l' : Ledger) (u : ℕ) → EndsChange w w' l l' → l'.head_seen u ≡ l.head_seen u → l'.tail_seen u ≡ l.tail_seen u → l'.caller u ≡ l.caller u → l'.first (l.caller u) ≡ l.first (l.caller u) → l.first (l.caller u) ≤ l.now → Round l u → Round l' u
+pub round_stays : (w w' : ℕ → ℕ) (l l' : Ledger) (u : ℕ) → EndsChange w w' l l' → l'.head_seen u ≡ l.head_seen u
+    → l'.tail_seen u ≡ l.tail_seen u → l'.caller u ≡ l.caller u → l'.first (l.caller u) ≡ l.first (l.caller u)
+    → l.first (l.caller u) ≤ l.now → Round l u → Round l' u
 round_stays w w' l l' u c h t k f n r =
     record {
       head_below = omega (arith, h, r.head_below, c.head_rise);
@@ -159,8 +164,11 @@ abbrev pub IfGoes : (Running → Type 0) → Next → Type 0
 IfGoes P (Goes running) = P running
 IfGoes P (Answers answer) = Unit {0}
 
-pub HasLoaded-others : (shape : Shape) (w w' : ℕ → ℕ) (l l' : Ledger) (u : ℕ) (q : Running) → ((x : ℕ) → Loaded shape w l u x → Loaded shape w' l' u x) → HasLoaded shape w l u q → HasLoaded shape w' l' u q
+pub HasLoaded-others : (shape : Shape) (w w' : ℕ → ℕ) (l l' : Ledger) (u : ℕ) (q : Running)
+    → ((x : ℕ) → Loaded shape w l u x → Loaded shape w' l' u x) → HasLoaded shape w l u q → HasLoaded shape w' l' u q
 HasLoaded-others shape w w' l l' u q keep h = grind arith
 
-pub HasLoaded-own : (shape : Shape) (w w' : ℕ → ℕ) (l l' : Ledger) (t : ℕ) (r : Running) (word : ℕ) → ((x : ℕ) → at_load r ≡ false → Loaded shape w l t x → Loaded shape w' l' t x) → (at_load r ≡ true → Loaded shape w' l' t word) → HasLoaded shape w l t r → IfGoes (HasLoaded shape w' l' t) (advance shape r word)
+pub HasLoaded-own : (shape : Shape) (w w' : ℕ → ℕ) (l l' : Ledger) (t : ℕ) (r : Running) (word : ℕ)
+    → ((x : ℕ) → at_load r ≡ false → Loaded shape w l t x → Loaded shape w' l' t x) → (at_load r ≡ true → Loaded shape w' l' t word)
+    → HasLoaded shape w l t r → IfGoes (HasLoaded shape w' l' t) (advance shape r word)
 HasLoaded-own shape w w' l l' t r word keep new h = grind (arith, nat_tests)

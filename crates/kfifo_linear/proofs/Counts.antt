@@ -19,11 +19,13 @@ use Rattle.kfifo_linear.specs.Ledger as ledger
 use Rattle.kfifo_linear.specs.Headline.{NumbersAgree}
 
 -- a step counts where it moves the head, or the tail
-head_step : (shape : Shape) (w : ℕ → ℕ) (t : ℕ) (r : Running) (l : Ledger) → (ledger.stepped shape w t r l).head ≡ l.head + cond (moves_head r (found_in shape w r)) 1 0
+head_step : (shape : Shape) (w : ℕ → ℕ) (t : ℕ) (r : Running) (l : Ledger)
+    → (ledger.stepped shape w t r l).head ≡ l.head + cond (moves_head r (found_in shape w r)) 1 0
 unfolding ledger.stepped
 head_step shape w t r l = grind (arith, nat_tests)
 
-tail_step : (shape : Shape) (w : ℕ → ℕ) (t : ℕ) (r : Running) (l : Ledger) → (ledger.stepped shape w t r l).tail ≡ l.tail + cond (moves_tail r (found_in shape w r)) 1 0
+tail_step : (shape : Shape) (w : ℕ → ℕ) (t : ℕ) (r : Running) (l : Ledger)
+    → (ledger.stepped shape w t r l).tail ≡ l.tail + cond (moves_tail r (found_in shape w r)) 1 0
 unfolding ledger.stepped
 tail_step shape w t r l = grind (arith, nat_tests)
 
@@ -32,12 +34,14 @@ unfolding called
 called_same t b l = (refl, refl)
 
 -- a call's first step moves neither
-none_counted : (shape : Shape) (moves : Running → ℕ → Bool) (world : World) (r : Running) (may : Bool) → moves r (found shape world r) ≡ false → counted shape moves world (cond may (Some r) None) ≡ 0
+none_counted : (shape : Shape) (moves : Running → ℕ → Bool) (world : World) (r : Running) (may : Bool)
+    → moves r (found shape world r) ≡ false → counted shape moves world (cond may (Some r) None) ≡ 0
 none_counted shape moves world r true e = ap (λ b. cond b 1 0) e
 none_counted shape moves world r false e = refl
 
 module _ (shape : Shape) (world : World) (t : ℕ) (l : Ledger) where
-  head_from : (place : Option Running) (begin : Option Begin) → (r : Running) → going shape place begin ≡ Some r → (ledger_from shape (word_at world) t place begin l).head ≡ l.head + counted shape moves_head world (going shape place begin)
+  head_from : (place : Option Running) (begin : Option Begin) → (r : Running) → going shape place begin ≡ Some r
+      → (ledger_from shape (word_at world) t place begin l).head ≡ l.head + counted shape moves_head world (going shape place begin)
   unfolding found
   head_from None None r e = absurd (cc)
   head_from None (Some (B.Enqueue item start turns)) r e =
@@ -52,7 +56,8 @@ module _ (shape : Shape) (world : World) (t : ℕ) (l : Ledger) where
   head_from (Some q) None r e = head_step shape (word_at world) t q l
   head_from (Some q) (Some b) r e = absurd (cc)
 
-  tail_from : (place : Option Running) (begin : Option Begin) → (r : Running) → going shape place begin ≡ Some r → (ledger_from shape (word_at world) t place begin l).tail ≡ l.tail + counted shape moves_tail world (going shape place begin)
+  tail_from : (place : Option Running) (begin : Option Begin) → (r : Running) → going shape place begin ≡ Some r
+      → (ledger_from shape (word_at world) t place begin l).tail ≡ l.tail + counted shape moves_tail world (going shape place begin)
   unfolding found
   tail_from None None r e = absurd (cc)
   tail_from None (Some (B.Enqueue item start turns)) r e =
@@ -68,7 +73,8 @@ module _ (shape : Shape) (world : World) (t : ℕ) (l : Ledger) where
   tail_from (Some q) (Some b) r e = absurd (cc)
 
   ticked_same : (place : Option Running) (begin : Option Begin) → place ≡ None → begin ≡ Some B.Tick
-      → ((ledger_from shape (word_at world) t place begin l).head ≡ l.head + counted shape moves_head world (going shape place begin)) × ((ledger_from shape (word_at world) t place begin l).tail ≡ l.tail + counted shape moves_tail world (going shape place begin))
+      → ((ledger_from shape (word_at world) t place begin l).head ≡ l.head + counted shape moves_head world (going shape place begin))
+      × ((ledger_from shape (word_at world) t place begin l).tail ≡ l.tail + counted shape moves_tail world (going shape place begin))
   ticked_same None (Some B.Tick) idle begins = (omega arith, omega arith)
   ticked_same None (Some (B.Enqueue item start turns)) idle begins = absurd (cc)
   ticked_same None (Some (B.Dequeue start turns)) idle begins = absurd (cc)
@@ -76,26 +82,37 @@ module _ (shape : Shape) (world : World) (t : ℕ) (l : Ledger) where
   ticked_same (Some q) begin idle begins = absurd (cc)
 
 -- an event that was made
-event_counts : (shape : Shape) (world next : World) (e : Event) (l : Ledger) → ((outcome : Outcome) × (step shape world e ≡ Ok (next, outcome)))
-    → ((ledger_after shape world e l).head ≡ l.head + counted shape moves_head world (going shape (place_of world e.thread) e.begin)) × ((ledger_after shape world e l).tail ≡ l.tail + counted shape moves_tail world (going shape (place_of world e.thread) e.begin))
+event_counts : (shape : Shape) (world next : World) (e : Event) (l : Ledger)
+    → ((outcome : Outcome) × (step shape world e ≡ Ok (next, outcome)))
+    → ((ledger_after shape world e l).head ≡ l.head + counted shape moves_head world (going shape (place_of world e.thread) e.begin))
+    × ((ledger_after shape world e l).tail ≡ l.tail + counted shape moves_tail world (going shape (place_of world e.thread) e.begin))
 unfolding ledger_after
 event_counts shape world next e l made =
     elim (stepped shape world e next made.0 made.1) [
-      | inl s ↦ (head_from shape world e.thread l (place_of world e.thread) e.begin s.running s.goes, tail_from shape world e.thread l (place_of world e.thread) e.begin s.running s.goes)
+      | inl s ↦ (
+        head_from shape world e.thread l (place_of world e.thread) e.begin s.running s.goes,
+        tail_from shape world e.thread l (place_of world e.thread) e.begin s.running s.goes,
+      )
       | inr t ↦ ticked_same shape world e.thread l (place_of world e.thread) e.begin t.idle t.begins
     ]
 
 counts_all : (shape : Shape) (world final : World) (events : List Event) (l : Ledger) → run shape (Some world) events ≡ Some final
-    → ((ledger_of shape (Some world) events l).head ≡ l.head + count shape moves_head (Some world) events) × ((ledger_of shape (Some world) events l).tail ≡ l.tail + count shape moves_tail (Some world) events)
+    → ((ledger_of shape (Some world) events l).head ≡ l.head + count shape moves_head (Some world) events)
+    × ((ledger_of shape (Some world) events l).tail ≡ l.tail + count shape moves_tail (Some world) events)
 counts_all shape world final [] l is = (omega arith, omega arith)
 counts_all shape world final (e ∷ es) l is =
     let m = first_made shape world e final es is in
     let now = event_counts shape world m.0 e l (m.1.0, m.1.1.0) in
     let rest = counts_all shape m.0 final es (ledger_after shape world e l) m.1.1.1 in
-    let ledgers : ledger_of shape (Some world) (e ∷ es) l ≡ ledger_of shape (Some m.0) es (ledger_after shape world e l) = ap (λ o. ledger_of shape (world_of o) es (ledger_after shape world e l)) m.1.1.0 in
-    let heads : count shape moves_head (world_of (step shape world e)) es ≡ count shape moves_head (Some m.0) es = ap (λ o. count shape moves_head (world_of o) es) m.1.1.0 in
-    let tails : count shape moves_tail (world_of (step shape world e)) es ≡ count shape moves_tail (Some m.0) es = ap (λ o. count shape moves_tail (world_of o) es) m.1.1.0 in
-    (omega (arith, now.0, rest.0, ap (λ (x : Ledger). x.head) ledgers, heads), omega (arith, now.1, rest.1, ap (λ (x : Ledger). x.tail) ledgers, tails))
+    let ledgers : ledger_of shape (Some world) (e ∷ es) l ≡ ledger_of shape (Some m.0) es (ledger_after shape world e l) =
+    ap (λ o. ledger_of shape (world_of o) es (ledger_after shape world e l)) m.1.1.0 in
+    let heads : count shape moves_head (world_of (step shape world e)) es ≡ count shape moves_head (Some m.0) es =
+    ap (λ o. count shape moves_head (world_of o) es) m.1.1.0 in
+    let tails : count shape moves_tail (world_of (step shape world e)) es ≡ count shape moves_tail (Some m.0) es =
+    ap (λ o. count shape moves_tail (world_of o) es) m.1.1.0 in (
+      omega (arith, now.0, rest.0, ap (λ (x : Ledger). x.head) ledgers, heads),
+      omega (arith, now.1, rest.1, ap (λ (x : Ledger). x.tail) ledgers, tails),
+    )
 
 pub numbers_agree : (shape : Shape) (threads : ℕ) → NumbersAgree shape threads
 unfolding blank

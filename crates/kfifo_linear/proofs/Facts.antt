@@ -1,14 +1,16 @@
 -- What the order of calls is made of: of each call's role and place, after every schedule.
-use Rattle.std.proofs.Common.{◌≡◌, ℕ, ◌+◌, ◌-◌, ◌%◌, ◌<◌, ◌≤◌, ◌⊎◌, inl, inr, Bool, true, false, refl, sym, ◌∙◌, ap, arith, Option, Some, None, is_some}
+use Rattle.std.proofs.Common.{◌≡◌, ℕ, ◌+◌, ◌-◌, ◌%◌, ◌<◌, ◌≤◌, ◌⊎◌, inl, inr, Bool, true, false, refl, sym, ◌∙◌, ap, arith, Option, Some}
+use Rattle.std.proofs.Common.{None, is_some}
 use Rattle.std.proofs.lemmas.Bool.{cases_Bool, false≢true}
 use Rattle.std.proofs.lemmas.Option.{none-some, same_Some}
 use Rattle.std.proofs.Common.{List}
 use Rattle.kfifo_linear.proofs.Claims.{segment_of}
-use Rattle.kfifo_linear.proofs.Invariant.{AtHead, AtTail, Fits, FullOk, GoneOk, InsideOk, Inv, SettledOk, StoodOk, TookOk, gone_visit, is_gone}
+use Rattle.kfifo_linear.proofs.Invariant.{AtHead, AtTail, Fits, FullOk, GoneOk, InsideOk, Inv, SettledOk, StoodOk, TookOk, gone_visit}
+use Rattle.kfifo_linear.proofs.Invariant.{is_gone}
 use Rattle.kfifo_linear.proofs.Ring.{place_below}
 use Rattle.kfifo_linear.proofs.Whole.{invariant}
 use Rattle.kfifo_linear.specs.Ledger.{Gone, Inside, Ledger, Outside, Standing, Stood, Took, blank, item_of, ledger_of}
-use Rattle.kfifo_linear.specs.Roles.{Finds_none, Gets, Puts, Refused, Role, Spot, refused_at, spot, spot_if, spot_of}
+use Rattle.kfifo_linear.specs.Roles.{FindsNone, Gets, Puts, Refused, Role, Spot, refused_at, spot, spot_if, spot_of}
 use Rattle.kfifo_machine.specs.Machine.{World, opening, place_of, run, word_at}
 use Rattle.kfifo_machine.specs.Places.{IsSlotIndex}
 use Rattle.kfifo_machine.specs.declared.event.Event.{Event}
@@ -31,7 +33,7 @@ pub record HeadAt (l : Ledger) (v p : ℕ) : Type 0 where
 abbrev pub RoleAnswers : (ℕ → ℕ) → Answer → Role → Type 0
 RoleAnswers items Done (Puts visit index) = Unit {0}
 RoleAnswers items (Got item) (Gets call visit) = items call ≡ item
-RoleAnswers items Empty (Finds_none visit) = Unit {0}
+RoleAnswers items Empty (FindsNone visit) = Unit {0}
 RoleAnswers items Full Refused = Unit {0}
 RoleAnswers items Busy Refused = Unit {0}
 RoleAnswers items Worn Refused = Unit {0}
@@ -49,20 +51,23 @@ pub record Facts (shape : Shape) (l : Ledger) : Type 0 where
   -- two items of one visit are in different slots
   pub apart : (c d v i p q : ℕ) → Stands l c (Puts v i) p → Stands l d (Puts v i) q → c ≡ d
   -- an Empty has its place where head and tail are in one visit, and each item whose place is not later is of an earlier visit
-  pub none_tail : (c v p : ℕ) → Stands l c (Finds_none v) p → AtTail l v p × HeadAt l v p
-  pub none_before : (c v p d u i q : ℕ) → Stands l c (Finds_none v) p → Stands l d (Puts u i) q → q ≤ p → u < v
+  pub none_tail : (c v p : ℕ) → Stands l c (FindsNone v) p → AtTail l v p × HeadAt l v p
+  pub none_before : (c v p d u i q : ℕ) → Stands l c (FindsNone v) p → Stands l d (Puts u i) q → q ≤ p → u < v
   -- and that place is its last step
-  pub none_last : (c v p e : ℕ) → Stands l c (Finds_none v) p → l.last c ≡ Some e → p ≡ e
+  pub none_last : (c v p e : ℕ) → Stands l c (FindsNone v) p → l.last c ≡ Some e → p ≡ e
   -- each place is between its call's first and last step
-  pub within : (c : ℕ) (s : Spot) → spot l c ≡ Some s → (l.first c ≤ s.point) × ((e : ℕ) → l.last c ≡ Some e → s.point ≤ e) × (s.point < l.now)
+  pub within : (c : ℕ) (s : Spot) → spot l c ≡ Some s → (l.first c ≤ s.point) × ((e : ℕ) → l.last c ≡ Some e → s.point ≤ e)
+      × (s.point < l.now)
   -- no two dequeues get one item
   pub once : (c d o v p u q : ℕ) → Stands l c (Gets o v) p → Stands l d (Gets o u) q → c ≡ d
   -- a finished call stands in the order, in the role that its answer says; an unfinished one there is an enqueue
-  pub finished : (c : ℕ) (x : Answer) → l.answer c ≡ Some x → (s : Spot) × (spot l c ≡ Some s) × RoleAnswers (λ o. item_of (l.begin o)) x s.role
+  pub finished : (c : ℕ) (x : Answer) → l.answer c ≡ Some x → (s : Spot) × (spot l c ≡ Some s)
+      × RoleAnswers (λ o. item_of (l.begin o)) x s.role
   pub unfinished : (c : ℕ) (s : Spot) → l.answer c ≡ None → spot l c ≡ Some s → (v : ℕ) × ((i : ℕ) × (s.role ≡ Puts v i))
 
 -- what a role says of the standing
-pub puts_standing : (l : Ledger) (c v i p : ℕ) → Stands l c (Puts v i) p → (l.standing c ≡ Gone i v p) ⊎ ((l.standing c ≡ Inside i) × (l.settled i ≡ true) × (l.visit i ≡ v) × (l.point i ≡ p))
+pub puts_standing : (l : Ledger) (c v i p : ℕ) → Stands l c (Puts v i) p → (l.standing c ≡ Gone i v p)
+    ⊎ ((l.standing c ≡ Inside i) × (l.settled i ≡ true) × (l.visit i ≡ v) × (l.point i ≡ p))
 unfolding spot
 puts_standing l c v i p e = grind arith
 
@@ -70,7 +75,7 @@ pub gets_standing : (l : Ledger) (c o v p : ℕ) → Stands l c (Gets o v) p →
 unfolding spot
 gets_standing l c o v p e = grind arith
 
-none_standing : (l : Ledger) (c v p : ℕ) → Stands l c (Finds_none v) p → l.standing c ≡ Stood v p
+none_standing : (l : Ledger) (c v p : ℕ) → Stands l c (FindsNone v) p → l.standing c ≡ Stood v p
 unfolding spot
 none_standing l c v p e = grind arith
 
@@ -93,13 +98,16 @@ gone_spelled (Stood v q) e = absurd (false≢true e)
 abbrev Within : Ledger → ℕ → Spot → Type 0
 Within l c s = (l.first c ≤ s.point) × ((e : ℕ) → l.last c ≡ Some e → s.point ≤ e) × (s.point < l.now)
 
-within_refused : (l : Ledger) (c : ℕ) (last : Option ℕ) (s : Spot) → l.last c ≡ last → ((e : ℕ) → l.last c ≡ Some e → (l.first c ≤ e) × (e < l.now)) → refused_at last ≡ Some s → Within l c s
+within_refused : (l : Ledger) (c : ℕ) (last : Option ℕ) (s : Spot) → l.last c ≡ last
+    → ((e : ℕ) → l.last c ≡ Some e → (l.first c ≤ e) × (e < l.now)) → refused_at last ≡ Some s → Within l c s
 within_refused l c None s f h e = absurd (none-some s e)
 within_refused l c (Some x) s f h e =
     let g : record { role = Refused; point = x } ≡ s = same_Some (record { role = Refused; point = x }) s e in
     rw (← g) ((h x f).0, (λ y z. omega (arith, same_Some x y (sym f ∙ z))), (h x f).1)
 
-within_inside : (l : Ledger) (c i : ℕ) (settled : Bool) (s : Spot) → (settled ≡ true → Within l c (record { role = Puts (l.visit i) i; point = l.point i })) → spot_if settled (record { role = Puts (l.visit i) i; point = l.point i }) ≡ Some s → Within l c s
+within_inside : (l : Ledger) (c i : ℕ) (settled : Bool) (s : Spot)
+    → (settled ≡ true → Within l c (record { role = Puts (l.visit i) i; point = l.point i }))
+    → spot_if settled (record { role = Puts (l.visit i) i; point = l.point i }) ≡ Some s → Within l c s
 within_inside l c i true s h e = rw (← (same_Some (record { role = Puts (l.visit i) i; point = l.point i }) s e)) (h refl)
 within_inside l c i false s h e = absurd (none-some s e)
 
@@ -123,7 +131,7 @@ inside_stands : (l : Ledger) (c i : ℕ) → l.standing c ≡ Inside i → l.set
 unfolding spot
 inside_stands l c i e s = rw (e, s) refl
 
-stood_stands : (l : Ledger) (c v p : ℕ) → l.standing c ≡ Stood v p → Stands l c (Finds_none v) p
+stood_stands : (l : Ledger) (c v p : ℕ) → l.standing c ≡ Stood v p → Stands l c (FindsNone v) p
 unfolding spot
 stood_stands l c v p e = rw e refl
 
@@ -143,7 +151,8 @@ module _ (shape : Shape) (w : ℕ → ℕ) (p : ℕ → Option Running) (l : Led
       let g : SettledOk shape l i = settled_of c i e s in
       let wrap : l.tail < l.head + shape.n = inv.base.ends.no_wrap in
       let same : l.tail_at_load i % shape.n ≡ l.visit i % shape.n = f.place ∙ sym g.place in
-      let under : l.tail_at_load i ≤ l.visit i = place_below shape.n (l.visit i) (l.tail_at_load i) (omega (arith, f.load_to_tail, g.from_head)) same in
+      let under : l.tail_at_load i ≤ l.visit i =
+      place_below shape.n (l.visit i) (l.tail_at_load i) (omega (arith, f.load_to_tail, g.from_head)) same in
       omega (arith, f.untaken_to_load)
 
   within_of : (c : ℕ) (x : Standing) (s : Spot) → l.standing c ≡ x → spot_of l c x ≡ Some s → Within l c s
@@ -161,14 +170,16 @@ module _ (shape : Shape) (w : ℕ → ℕ) (p : ℕ → Option Running) (l : Led
       rw (← (same_Some (record { role = Gets o v; point = q }) s e)) (g.started, g.ended, g.at_head.past)
   within_of c (Stood v q) s k e =
       let g : StoodOk shape l c v q = inv.calls.stood c v q k in
-      rw (← (same_Some (record { role = Finds_none v; point = q }) s e)) (g.started, (λ y z. omega (arith, g.ended y z)), g.at_tail.past)
+      rw (← (same_Some (record { role = FindsNone v; point = q }) s e)) (g.started, (λ y z. omega (arith, g.ended y z)), g.at_tail.past)
 
-  refused : (c : ℕ) (x : Answer) → RoleAnswers (λ o. item_of (l.begin o)) x Refused → l.standing c ≡ Outside → l.answer c ≡ Some x → (s : Spot) × (spot l c ≡ Some s) × RoleAnswers (λ o. item_of (l.begin o)) x s.role
+  refused : (c : ℕ) (x : Answer) → RoleAnswers (λ o. item_of (l.begin o)) x Refused → l.standing c ≡ Outside → l.answer c ≡ Some x
+      → (s : Spot) × (spot l c ≡ Some s) × RoleAnswers (λ o. item_of (l.begin o)) x s.role
   refused c x h k e =
       let g = some_of (l.last c) (λ z. none-some x (sym (inv.calls.unended c z) ∙ e)) in
       (record { role = Refused; point = g.0 }, refused_stands l c g.0 k g.1, h)
 
-  finished_of : (c : ℕ) (x : Answer) (st : Standing) → l.standing c ≡ st → l.answer c ≡ Some x → Fits l.begin x st → (s : Spot) × (spot l c ≡ Some s) × RoleAnswers (λ o. item_of (l.begin o)) x s.role
+  finished_of : (c : ℕ) (x : Answer) (st : Standing) → l.standing c ≡ st → l.answer c ≡ Some x → Fits l.begin x st → (s : Spot)
+      × (spot l c ≡ Some s) × RoleAnswers (λ o. item_of (l.begin o)) x s.role
   finished_of c Done (Inside i) k e h =
       let g : InsideOk shape w l c i = slot_of c i k in
       let f : FullOk shape l i = (inv.slots i g.is_slot).full g.full in
@@ -181,10 +192,11 @@ module _ (shape : Shape) (w : ℕ → ℕ) (p : ℕ → Option Running) (l : Led
   finished_of c Busy Outside k e h = refused c Busy tt k e
   finished_of c Worn Outside k e h = refused c Worn tt k e
   finished_of c (Got item) (Took o v q) k e h = (record { role = Gets o v; point = q }, took_stands l c o v q k, h)
-  finished_of c Empty (Stood v q) k e h = (record { role = Finds_none v; point = q }, stood_stands l c v q k, tt)
+  finished_of c Empty (Stood v q) k e h = (record { role = FindsNone v; point = q }, stood_stands l c v q k, tt)
   finished_of c x st k e h = absurd h
 
-  unfinished_of : (c : ℕ) (x : Standing) (s : Spot) → l.standing c ≡ x → l.answer c ≡ None → spot_of l c x ≡ Some s → (v : ℕ) × ((i : ℕ) × (s.role ≡ Puts v i))
+  unfinished_of : (c : ℕ) (x : Standing) (s : Spot) → l.standing c ≡ x → l.answer c ≡ None → spot_of l c x ≡ Some s → (v : ℕ)
+      × ((i : ℕ) × (s.role ≡ Puts v i))
   unfinished_of c Outside s k n e =
       let g = refused_ended l c (l.last c) s e in
       absurd (false≢true (ap is_some (sym n) ∙ inv.calls.ended c g.0 g.1))
@@ -241,6 +253,9 @@ module _ (shape : Shape) (w : ℕ → ℕ) (p : ℕ → Option Running) (l : Led
       }
 
 -- after every schedule
-pub facts_after : (shape : Shape) → (threads : ℕ) (events : List Event) (final : World) → run shape (Some (opening shape threads)) events ≡ Some final → Facts shape (ledger_of shape (Some (opening shape threads)) events blank)
+pub facts_after : (shape : Shape) → (threads : ℕ) (events : List Event) (final : World)
+    → run shape (Some (opening shape threads)) events ≡ Some final
+    → Facts shape (ledger_of shape (Some (opening shape threads)) events blank)
 facts_after shape threads events final e =
-    facts shape (word_at final) (place_of final) (ledger_of shape (Some (opening shape threads)) events blank) (invariant shape threads events final e)
+    facts shape (word_at final) (place_of final) (ledger_of shape (Some (opening shape threads)) events blank)
+    (invariant shape threads events final e)

@@ -43,7 +43,8 @@ pub record Own (shape : Shape) (w : ℕ → ℕ) (l : Ledger) (t index filled : 
 abbrev pub HasOwn : Shape → (ℕ → ℕ) → Ledger → ℕ → Running → Type 0
 HasOwn shape w l t (R.Enqueue item start left (E.ReloadSlot ends index filled)) = Own shape w l t index filled
 HasOwn shape w l t (R.Enqueue item start left (E.ReloadEnds ends index filled)) = Own shape w l t index filled
-HasOwn shape w l t (R.Enqueue item start left (E.HoldHead index filled held)) = Own shape w l t index filled × (head_of held ≡ l.tail_seen t % shape.n)
+HasOwn shape w l t (R.Enqueue item start left (E.HoldHead index filled held)) = Own shape w l t index filled
+    × (head_of held ≡ l.tail_seen t % shape.n)
 HasOwn shape w l t (R.Enqueue item start left (E.Undo index filled worn)) = Own shape w l t index filled
 HasOwn shape w l t other = Unit {0}
 
@@ -59,10 +60,13 @@ pub record ToTake (shape : Shape) (w : ℕ → ℕ) (l : Ledger) (t index filled
 
 abbrev pub HasTarget : Shape → (ℕ → ℕ) → Ledger → ℕ → Running → Type 0
 HasTarget shape w l t (R.Enqueue item start left (E.Recheck ends (Slot index seen))) = ToFill shape w l t index seen
-HasTarget shape w l t (R.Enqueue item start left (E.Put ends index empty)) = ToFill shape w l t index empty × (w index ≡ empty → l.untaken_from index ≤ l.tail_seen t)
+HasTarget shape w l t (R.Enqueue item start left (E.Put ends index empty)) = ToFill shape w l t index empty
+    × (w index ≡ empty → l.untaken_from index ≤ l.tail_seen t)
 HasTarget shape w l t (R.Dequeue start left (D.Recheck ends (Slot index seen))) = ToTake shape w l t index seen
-HasTarget shape w l t (R.Dequeue start left (D.MoveTail ends index filled)) = ToTake shape w l t index filled × (w index ≡ filled → l.tail_at_load index ≤ l.head_seen t)
-HasTarget shape w l t (R.Dequeue start left (D.Take ends index filled)) = ToTake shape w l t index filled × (w index ≡ filled → l.tail_at_load index ≤ l.head_seen t) × (l.head_seen t < l.tail)
+HasTarget shape w l t (R.Dequeue start left (D.MoveTail ends index filled)) = ToTake shape w l t index filled
+    × (w index ≡ filled → l.tail_at_load index ≤ l.head_seen t)
+HasTarget shape w l t (R.Dequeue start left (D.Take ends index filled)) = ToTake shape w l t index filled
+    × (w index ≡ filled → l.tail_at_load index ≤ l.head_seen t) × (l.head_seen t < l.tail)
 HasTarget shape w l t other = Unit {0}
 
 -- the slots of the head's segment that a scan from start saw in its first offset looks have no settled item, as long as the ends stand

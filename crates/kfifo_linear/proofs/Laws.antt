@@ -3,7 +3,7 @@ use Rattle.std.proofs.Common.{◌≡◌, ℕ, ◌≤◌, true, List, Some, sym, 
 use Rattle.std.proofs.lemmas.Bool.{cases_lt}
 use Rattle.kfifo_model.specs.declared.calls.Call.{Call}
 use Rattle.kfifo_model.specs.declared.calls.End.{End}
-use Rattle.kfifo_model.specs.Relaxed.{Finds_none}
+use Rattle.kfifo_model.specs.Relaxed.{FindsNone}
 use Rattle.kfifo_model.specs.Histories.{call, does, HasEnd}
 use Rattle.kfifo_linear.specs.Points.{Marks, PointsFit, StandsFit, IsNoLater}
 use Rattle.kfifo_linear.specs.Headline.{OrderLaws}
@@ -16,12 +16,20 @@ module _ (k : ℕ) (h : List Call) (m : Marks) (f : PointsFit k (does h) m) (s :
   in_time : (c : ℕ) (end : End) → (call h c).end ≡ Some end → m.point c ≤ end.last
   in_time c end is = subst (IsNoLater (m.point c)) is (s.point_to c (ended_stands c end is))
 
-  pub laws_from : ((e : ℕ) (end : End) → does h e ≡ Finds_none → (call h e).end ≡ Some end → m.point e ≡ end.last) → OrderLaws h m
+  pub laws_from : ((e : ℕ) (end : End) → does h e ≡ FindsNone → (call h e).end ≡ Some end → m.point e ≡ end.last) → OrderLaws h m
   laws_from at_end =
       record {
         one_each = f.slots_differ;
-        left_first = λ g x end is at. omega (arith, f.beyond g x (ended_stands g end at) is, f.tail_rises (m.point g) end.last (in_time g end at));
-        reached = λ c x end is at. omega (arith, f.added c x (ended_stands c end at) is, f.tail_rises (m.point c) end.last (in_time c end at));
+        left_first = λ g x end is at. omega (
+          arith,
+          f.beyond g x (ended_stands g end at) is,
+          f.tail_rises (m.point g) end.last (in_time g end at),
+        );
+        reached = λ c x end is at. omega (
+          arith,
+          f.added c x (ended_stands c end at) is,
+          f.tail_rises (m.point c) end.last (in_time c end at),
+        );
         head_stays = λ c p a none. elim (cases_lt (m.visit c) (m.head p)) [
           | inl lt ↦ let t = f.left_behind c p a lt in absurd (none t.0 t.1)
           | inr le ↦ le

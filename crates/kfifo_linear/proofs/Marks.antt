@@ -14,7 +14,7 @@ use Rattle.kfifo_model.specs.Validity.{IsHistory}
 use Rattle.kfifo_machine.specs.declared.place.Running.{Running}
 use Rattle.kfifo_machine.specs.Calls.{Log}
 use Rattle.kfifo_linear.specs.Ledger.{Ledger, item_of}
-use Rattle.kfifo_linear.specs.Roles.{Role, Puts, Gets, Finds_none, Refused, Spot, spot}
+use Rattle.kfifo_linear.specs.Roles.{Role, Puts, Gets, FindsNone, Refused, Spot, spot}
 use Rattle.kfifo_linear.specs.Points.{IsTakeOf, PointsFit, StandsFit, IsNoLater}
 use Rattle.kfifo_linear.specs.Order.{stands, point, point_of, role_of, visit_of, slot_of, source_of, number_at, marks_of}
 use Rattle.kfifo_linear.proofs.Claims.{segment_of}
@@ -28,17 +28,18 @@ use Rattle.kfifo_linear.proofs.Acts.{Acts, acts, known, finished_stands, may_sta
 adds_put : (items : ℕ → ℕ) (own : ℕ) (role : Role) (x : ℕ) → Acts items own role (M.Adds x) → (v : ℕ) × ((i : ℕ) × (role ≡ Puts v i))
 adds_put items own (Puts v i) x a = (v, (i, refl))
 adds_put items own (Gets o v) x a = absurd (cc)
-adds_put items own (Finds_none v) x a = absurd (cc)
+adds_put items own (FindsNone v) x a = absurd (cc)
 adds_put items own Refused x a = absurd (cc)
 
-takes_get : (items : ℕ → ℕ) (own : ℕ) (role : Role) (x : ℕ) → Acts items own role (M.Takes x) → (o : ℕ) × ((v : ℕ) × ((role ≡ Gets o v) × (x ≡ items o)))
+takes_get : (items : ℕ → ℕ) (own : ℕ) (role : Role) (x : ℕ) → Acts items own role (M.Takes x) → (o : ℕ)
+    × ((v : ℕ) × ((role ≡ Gets o v) × (x ≡ items o)))
 takes_get items own (Gets o v) x a = (o, (v, (refl, cc)))
 takes_get items own (Puts v i) x a = absurd (cc)
-takes_get items own (Finds_none v) x a = absurd (cc)
+takes_get items own (FindsNone v) x a = absurd (cc)
 takes_get items own Refused x a = absurd (cc)
 
-none_stood : (items : ℕ → ℕ) (own : ℕ) (role : Role) → Acts items own role M.Finds_none → (v : ℕ) × (role ≡ Finds_none v)
-none_stood items own (Finds_none v) a = (v, refl)
+none_stood : (items : ℕ → ℕ) (own : ℕ) (role : Role) → Acts items own role M.FindsNone → (v : ℕ) × (role ≡ FindsNone v)
+none_stood items own (FindsNone v) a = (v, refl)
 none_stood items own (Puts v i) a = absurd (cc)
 none_stood items own (Gets o v) a = absurd (cc)
 none_stood items own Refused a = absurd (cc)
@@ -46,7 +47,7 @@ none_stood items own Refused a = absurd (cc)
 never_wrong : (items : ℕ → ℕ) (own : ℕ) (role : Role) → Acts items own role M.Wrong → ⊥
 never_wrong items own (Puts v i) a = cc
 never_wrong items own (Gets o v) a = cc
-never_wrong items own (Finds_none v) a = cc
+never_wrong items own (FindsNone v) a = cc
 never_wrong items own Refused a = cc
 
 spot_is : (o : Option Spot) → is_some o ≡ true → (s : Spot) × (o ≡ Some s)
@@ -76,10 +77,11 @@ pub record Get (l : Ledger) (g x : ℕ) : Type 0 where
 pub record Found_none (l : Ledger) (e : ℕ) : Type 0 where
   pub visit : ℕ
   pub point : ℕ
-  pub stands : Stands l e (Finds_none visit) point
+  pub stands : Stands l e (FindsNone visit) point
 
 -- two slots of one segment that have one place in it
-one_slot : (shape : Shape) (i j : ℕ) → 0 < i → 0 < j → segment_of shape i ≡ segment_of shape j → (i - 1) % shape.k ≡ (j - 1) % shape.k → i ≡ j
+one_slot : (shape : Shape) (i j : ℕ) → 0 < i → 0 < j → segment_of shape i ≡ segment_of shape j → (i - 1) % shape.k ≡ (j - 1) % shape.k
+    → i ≡ j
 unfolding segment_of
 one_slot shape i j a b segment slot =
     let some : 0 < shape.k = shape.some_slot in
@@ -88,9 +90,12 @@ one_slot shape i j a b segment slot =
     let z : (i - 1) / shape.k * shape.k ≡ (j - 1) / shape.k * shape.k = ap (λ q. q * shape.k) segment in
     omega arith
 
-module _ (shape : Shape) (w : ℕ → ℕ) (p : ℕ → Option Running) (log : Log) (l : Ledger) (place : ℕ) (inv : Inv shape w p l) (facts : Facts shape l) (h : Agrees log l place) (good : IsHistory log.calls) where
-  acts_of : (c : ℕ) (s : Spot) → spot l c ≡ Some s → (e : Effect) → does log.calls c ≡ e → Acts (λ o. item_of (l.begin o)) (item_of (l.begin c)) s.role e
-  acts_of c s at e is = subst (Acts (λ o. item_of (l.begin o)) (item_of (l.begin c)) s.role) is (acts shape w p log l place inv facts h good c s at)
+module _ (shape : Shape) (w : ℕ → ℕ) (p : ℕ → Option Running) (log : Log) (l : Ledger) (place : ℕ) (inv : Inv shape w p l)
+    (facts : Facts shape l) (h : Agrees log l place) (good : IsHistory log.calls) where
+  acts_of : (c : ℕ) (s : Spot) → spot l c ≡ Some s → (e : Effect) → does log.calls c ≡ e
+      → Acts (λ o. item_of (l.begin o)) (item_of (l.begin c)) s.role e
+  acts_of c s at e is = subst (Acts (λ o. item_of (l.begin o)) (item_of (l.begin c)) s.role) is
+      (acts shape w p log l place inv facts h good c s at)
 
   pub put_of : (c x : ℕ) → stands l c ≡ true → does log.calls c ≡ M.Adds x → Put l c
   put_of c x st is =
@@ -102,12 +107,18 @@ module _ (shape : Shape) (w : ℕ → ℕ) (p : ℕ → Option Running) (log : L
   get_of g x st is =
       let s = spot_is (spot l g) st in
       let r = takes_get (λ o. item_of (l.begin o)) (item_of (l.begin g)) s.0.role x (acts_of g s.0 s.1 (M.Takes x) is) in
-      record { source = r.0; visit = r.1.0; point = s.0.point; stands = s.1 ∙ ap (λ q. Some (record { role = q; point = s.0.point })) r.1.1.0; item = r.1.1.1 }
+      record {
+        source = r.0;
+        visit = r.1.0;
+        point = s.0.point;
+        stands = s.1 ∙ ap (λ q. Some (record { role = q; point = s.0.point })) r.1.1.0;
+        item = r.1.1.1;
+      }
 
-  none_of : (e : ℕ) → stands l e ≡ true → does log.calls e ≡ M.Finds_none → Found_none l e
+  none_of : (e : ℕ) → stands l e ≡ true → does log.calls e ≡ M.FindsNone → Found_none l e
   none_of e st is =
       let s = spot_is (spot l e) st in
-      let r = none_stood (λ o. item_of (l.begin o)) (item_of (l.begin e)) s.0.role (acts_of e s.0 s.1 M.Finds_none is) in
+      let r = none_stood (λ o. item_of (l.begin o)) (item_of (l.begin e)) s.0.role (acts_of e s.0 s.1 M.FindsNone is) in
       record { visit = r.0; point = s.0.point; stands = s.1 ∙ ap (λ q. Some (record { role = q; point = s.0.point })) r.1 }
 
   -- what is marked on a call that stands so
@@ -162,7 +173,8 @@ module _ (shape : Shape) (w : ℕ → ℕ) (p : ℕ → Option Running) (log : L
   once : (c g k x y : ℕ) (one : Get l g x) (two : Get l k y) → (marks_of shape l).source g ≡ c → (marks_of shape l).source k ≡ c → g ≡ k
   once c g k x y one two a b =
       let same : two.source ≡ one.source = sym (source_is k y two) ∙ b ∙ sym a ∙ source_is g x one in
-      let st : Stands l k (Gets one.source two.visit) two.point = two.stands ∙ ap (λ o. Some (record { role = Gets o two.visit; point = two.point })) same in
+      let st : Stands l k (Gets one.source two.visit) two.point =
+      two.stands ∙ ap (λ o. Some (record { role = Gets o two.visit; point = two.point })) same in
       facts.once g k one.source one.visit one.point two.visit two.point one.stands st
 
   pub points_fit : PointsFit shape.k (does log.calls) (marks_of shape l)
@@ -202,8 +214,10 @@ module _ (shape : Shape) (w : ℕ → ℕ) (p : ℕ → Option Running) (log : L
         beyond = λ g x st is.
             let got = get_of g x st is in
             let at = facts.gets_head g got.source got.visit got.point got.stands in
-            let past : got.visit < number_at l.tails l.tail got.point = number_past l.tails l.tail got.visit got.point at.tail_past at.tail_before in
-            let e : number_at l.tails l.tail (point l g) ≡ number_at l.tails l.tail got.point = ap (number_at l.tails l.tail) (at_point g got.point (Gets got.source got.visit) got.stands) in
+            let past : got.visit < number_at l.tails l.tail got.point =
+            number_past l.tails l.tail got.visit got.point at.tail_past at.tail_before in
+            let e : number_at l.tails l.tail (point l g) ≡ number_at l.tails l.tail got.point =
+            ap (number_at l.tails l.tail) (at_point g got.point (Gets got.source got.visit) got.stands) in
             omega (arith, source_visit g x got);
         taken_once = λ c g k a b. once c g k a.1 b.1 (get_of g a.1 a.0 a.2) (get_of k b.1 b.0 b.2) a.3 b.3;
         left_behind = λ c q a lt.
@@ -215,18 +229,22 @@ module _ (shape : Shape) (w : ℕ → ℕ) (p : ℕ → Option Running) (log : L
         empty_ends = λ e st is.
             let none = none_of e st is in
             let at = facts.none_tail e none.visit none.point none.stands in
-            let q = at_point e none.point (Finds_none none.visit) none.stands in
-            ap (number_at l.heads l.head) q ∙ head_is none.visit none.point at.1 ∙ sym (tail_is none.visit none.point at.0) ∙ sym (ap (number_at l.tails l.tail) q);
+            let q = at_point e none.point (FindsNone none.visit) none.stands in
+            ap (number_at l.heads l.head) q ∙ head_is none.visit none.point at.1 ∙ sym (tail_is none.visit none.point at.0)
+            ∙ sym (ap (number_at l.tails l.tail) q);
         empty_visit = λ e c st is a le same.
             let none = none_of e st is in
             let put = put_of c a.1 a.0 a.2 in
             let at = facts.none_tail e none.visit none.point none.stands in
-            let q = at_point e none.point (Finds_none none.visit) none.stands in
+            let q = at_point e none.point (FindsNone none.visit) none.stands in
             let r = at_point c put.point (Puts put.visit put.index) put.stands in
-            let lt : put.visit < none.visit = facts.none_before e none.visit none.point c put.visit put.index put.point none.stands put.stands (omega arith) in
-            let head : number_at l.heads l.head (point l e) ≡ none.visit = ap (number_at l.heads l.head) q ∙ head_is none.visit none.point at.1 in
+            let lt : put.visit < none.visit = facts.none_before e none.visit none.point c put.visit put.index put.point none.stands
+            put.stands (omega arith) in
+            let head : number_at l.heads l.head (point l e) ≡ none.visit =
+            ap (number_at l.heads l.head) q ∙ head_is none.visit none.point at.1 in
             absurd (omega (arith, visit_is c put.visit put.index put.point put.stands));
-        sound = λ c st wrong. let s = spot_is (spot l c) st in never_wrong (λ o. item_of (l.begin o)) (item_of (l.begin c)) s.0.role (acts_of c s.0 s.1 M.Wrong wrong);
+        sound = λ c st wrong. let s = spot_is (spot l c) st in
+            never_wrong (λ o. item_of (l.begin o)) (item_of (l.begin c)) s.0.role (acts_of c s.0 s.1 M.Wrong wrong);
       }
 
   no_later : (q : ℕ) (c : ℕ) (o : Option End) → ((e : End) → o ≡ Some e → q ≤ e.last) → IsNoLater q o
@@ -247,12 +265,14 @@ module _ (shape : Shape) (w : ℕ → ℕ) (p : ℕ → Option Running) (log : L
             let s = spot_is (spot l c) st in
             let less = known shape w p log l place inv facts h good c s.0 s.1 in
             let q : point l c ≡ s.0.point = ap point_of s.1 in
-            no_later (point l c) c (call log.calls c).end (λ e is. rw q ((facts.within c s.0 s.1).1 e.last (end_last (l.last c) (l.answer c) e (sym (h.each c less).end ∙ is))));
+            no_later (point l c) c (call log.calls c).end
+            (λ e is. rw q ((facts.within c s.0 s.1).1 e.last (end_last (l.last c) (l.answer c) e (sym (h.each c less).end ∙ is))));
       }
 
 -- a call that found none has its point at its last step
-pub none_at_end : (shape : Shape) (w : ℕ → ℕ) (p : ℕ → Option Running) (log : Log) (l : Ledger) (place : ℕ) → Inv shape w p l → Facts shape l → Agrees log l place → IsHistory log.calls
-    → (c : ℕ) (end : End) → does log.calls c ≡ M.Finds_none → (call log.calls c).end ≡ Some end → point l c ≡ end.last
+pub none_at_end : (shape : Shape) (w : ℕ → ℕ) (p : ℕ → Option Running) (log : Log) (l : Ledger) (place : ℕ) → Inv shape w p l
+    → Facts shape l → Agrees log l place → IsHistory log.calls
+    → (c : ℕ) (end : End) → does log.calls c ≡ M.FindsNone → (call log.calls c).end ≡ Some end → point l c ≡ end.last
 none_at_end shape w p log l place inv facts h good c end is at =
     let s = finished_stands shape w p log l place inv facts h good c (subst HasEnd (sym at) tt) in
     let less = known shape w p log l place inv facts h good c s.0 s.1 in

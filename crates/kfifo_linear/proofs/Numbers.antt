@@ -11,7 +11,10 @@ fewer : (steps : ℕ → ℕ) (n : ℕ) → Rise steps (suc n) → Rise steps n
 fewer steps n rise u v lt below = rise u v lt (omega arith)
 
 last_is_most : (steps : ℕ → ℕ) (n v : ℕ) → Rise steps (suc n) → v < suc n → steps v ≤ steps n
-last_is_most steps n v rise below = elim (cases_eq v n) [ inl e ↦ let same : steps v ≡ steps n = ap steps e in omega arith | inr ne ↦ let lt : steps v < steps n = rise v n (omega arith) (omega arith) in omega arith ]
+last_is_most steps n v rise below = elim (cases_eq v n) [
+  | inl e ↦ let same : steps v ≡ steps n = ap steps e in omega arith
+  | inr ne ↦ let lt : steps v < steps n = rise v n (omega arith) (omega arith) in omega arith
+]
 
 pub number_most : (steps : ℕ → ℕ) (n p : ℕ) → number_at steps n p ≤ n
 number_most steps zero p = omega arith
@@ -22,7 +25,8 @@ number_most steps (suc n) p =
     ]
 
 -- where v steps come before p and no further one does
-pub number_is : (steps : ℕ → ℕ) (n v p : ℕ) → Rise steps n → v ≤ n → (0 < v → steps (v - 1) < p) → (v < n → p ≤ steps v) → number_at steps n p ≡ v
+pub number_is : (steps : ℕ → ℕ) (n v p : ℕ) → Rise steps n → v ≤ n → (0 < v → steps (v - 1) < p) → (v < n → p ≤ steps v)
+    → number_at steps n p ≡ v
 number_is steps zero v p rise most after before = omega arith
 number_is steps (suc n) v p rise most after before =
     elim (cases_Bool (ltb (steps n) p)) [

@@ -18,7 +18,8 @@ in_rest c x xs (inl e) ne = absurd (ne e)
 in_rest c x xs (inr i) ne = i
 
 -- the first of both
-same_first : (point : ℕ → ℕ) (x y : ℕ) (xs ys : List ℕ) → EachPair (IsEarlier point) (x ∷ xs) → EachPair (IsEarlier point) (y ∷ ys) → IsIn x (y ∷ ys) → IsIn y (x ∷ xs) → x ≡ y
+same_first : (point : ℕ → ℕ) (x y : ℕ) (xs ys : List ℕ) → EachPair (IsEarlier point) (x ∷ xs) → EachPair (IsEarlier point) (y ∷ ys)
+    → IsIn x (y ∷ ys) → IsIn y (x ∷ xs) → x ≡ y
 same_first point x y xs ys p q i j =
     elim (cases_eq x y) [
       | inl e ↦ e
@@ -36,7 +37,8 @@ not_first point x c xs p i e =
     let lt : x < c = later.1 same in
     absurd (omega arith)
 
-one_list : (point : ℕ → ℕ) (xs ys : List ℕ) → EachPair (IsEarlier point) xs → EachPair (IsEarlier point) ys → ((c : ℕ) → IsIn c xs → IsIn c ys) → ((c : ℕ) → IsIn c ys → IsIn c xs) → xs ≡ ys
+one_list : (point : ℕ → ℕ) (xs ys : List ℕ) → EachPair (IsEarlier point) xs → EachPair (IsEarlier point) ys
+    → ((c : ℕ) → IsIn c xs → IsIn c ys) → ((c : ℕ) → IsIn c ys → IsIn c xs) → xs ≡ ys
 one_list point [] [] p q f g = refl
 one_list point [] (y ∷ ys) p q f g = absurd (g y (inl refl))
 one_list point (x ∷ xs) [] p q f g = absurd (f x (inl refl))

@@ -31,7 +31,9 @@ unfolding distance
 at_distance n a s h =
     let below : a % n < n = mod-lt a (omega arith) in
     let d_below : (s + n - a % n) % n < n = mod-lt (s + n - a % n) (omega arith) in
-    let r : ((a % n + (s + n - a % n) % n < n) × ((a + (s + n - a % n) % n) % n ≡ a % n + (s + n - a % n) % n)) ⊎ ((n ≤ a % n + (s + n - a % n) % n) × ((a + (s + n - a % n) % n) % n + n ≡ a % n + (s + n - a % n) % n)) = ring_add n a ((s + n - a % n) % n) d_below in
+    let r : ((a % n + (s + n - a % n) % n < n) × ((a + (s + n - a % n) % n) % n ≡ a % n + (s + n - a % n) % n))
+    ⊎ ((n ≤ a % n + (s + n - a % n) % n) × ((a + (s + n - a % n) % n) % n + n ≡ a % n + (s + n - a % n) % n)) =
+    ring_add n a ((s + n - a % n) % n) d_below in
     elim (cases_lt (s + n - a % n) n) [
       | inl lt ↦
           let u : (s + n - a % n) % n ≡ s + n - a % n = mod-eq_of_lt lt in

@@ -47,15 +47,18 @@ inv_at_opening : (shape : Shape) (threads : ℕ) → InvAt shape (opening shape 
 inv_at_opening shape threads = record { size = opening_size shape threads; holds = inv_opening shape threads }
 
 -- after every schedule the ledger tells what the history does
-pub agreed : (shape : Shape) (threads : ℕ) (events : List Event) (here : World) → after shape threads events ≡ Some here → Agrees (log_of shape threads events) (ledger_after_all shape threads events) (length events)
+pub agreed : (shape : Shape) (threads : ℕ) (events : List Event) (here : World) → after shape threads events ≡ Some here
+    → Agrees (log_of shape threads events) (ledger_after_all shape threads events) (length events)
 agreed shape threads events here is =
-    let all = agree_all shape (opening shape threads) here events (log.blank threads) blank 0 (inv_at_opening shape threads) (agree_opening threads) (known_opening shape threads) is in
+    let all = agree_all shape (opening shape threads) here events (log.blank threads) blank 0 (inv_at_opening shape threads)
+    (agree_opening threads) (known_opening shape threads) is in
     let z : 0 + length events ≡ length events = omega arith in
     subst (λ n. Agrees (log_of shape threads events) (ledger_after_all shape threads events) n) z all
 
 -- a finished enqueue answered Done
 done_finished : (op : Op) (end : Option End) → EndsDone op end → HasEnd end × ((x : ℕ) × (effect_at op end ≡ Adds x))
-done_finished (O.Enqueue x) (Some end) done = (tt, (x, ap (λ a. effect_at (O.Enqueue x) (Some (record { last = end.last; answer = a }))) done))
+done_finished (O.Enqueue x) (Some end) done =
+    (tt, (x, ap (λ a. effect_at (O.Enqueue x) (Some (record { last = end.last; answer = a }))) done))
 done_finished (O.Enqueue x) None done = absurd done
 done_finished O.Dequeue end done = absurd done
 
@@ -66,36 +69,45 @@ module _ (shape : Shape) (threads : ℕ) (few : threads ≤ 64) where
       let facts = facts_after shape threads events here is in
       let same = agreed shape threads events here is in
       let good = history_is shape threads events here few is in (
-        points_fit shape (word_at here) (place_of here) (log_of shape threads events) (ledger_after_all shape threads events) (length events) inv facts same good,
-        stands_fit shape (word_at here) (place_of here) (log_of shape threads events) (ledger_after_all shape threads events) (length events) inv facts same good,
+        points_fit shape (word_at here) (place_of here) (log_of shape threads events) (ledger_after_all shape threads events)
+            (length events) inv facts same good,
+        stands_fit shape (word_at here) (place_of here) (log_of shape threads events) (ledger_after_all shape threads events)
+            (length events) inv facts same good,
       )
 
   -- the order is by point
-  by_points : (events : List Event) (here : World) → after shape threads events ≡ Some here → IsByPoint (marks_of shape (ledger_after_all shape threads events)) (order_of shape threads events)
+  by_points : (events : List Event) (here : World) → after shape threads events ≡ Some here
+      → IsByPoint (marks_of shape (ledger_after_all shape threads events)) (order_of shape threads events)
   by_points events here is =
-      is_by_point (history_of shape threads events) (marks_of shape (ledger_after_all shape threads events)) (ledger_after_all shape threads events).now (points_hold events here is).1
+      is_by_point (history_of shape threads events) (marks_of shape (ledger_after_all shape threads events))
+      (ledger_after_all shape threads events).now (points_hold events here is).1
       (points_below shape (ledger_after_all shape threads events) (facts_after shape threads events here is))
 
   pub has_legal_order : HasLegalOrder shape threads
   has_legal_order events here is =
       let hold = points_hold events here is in
-      legal_by_point shape.k (history_of shape threads events) (marks_of shape (ledger_after_all shape threads events)) (order_of shape threads events) hold.0 hold.1 (by_points events here is)
+      legal_by_point shape.k (history_of shape threads events) (marks_of shape (ledger_after_all shape threads events))
+      (order_of shape threads events) hold.0 hold.1 (by_points events here is)
 
   pub few_overtake : FewOvertake shape threads
   few_overtake events here is distinct c x within adds =
-      overtaken_in_order shape.k (history_of shape threads events) (marks_of shape (ledger_after_all shape threads events)) (order_of shape threads events) c x (points_hold events here is).0 (by_points events here is) distinct within adds
+      overtaken_in_order shape.k (history_of shape threads events) (marks_of shape (ledger_after_all shape threads events))
+      (order_of shape threads events) c x (points_hold events here is).0 (by_points events here is) distinct within adds
 
   pub few_certainly : FewCertainlyOvertake shape threads
   few_certainly events here is c done distinct =
       let hold = points_hold events here is in
       let d = done_finished (call (history_of shape threads events) c).op (call (history_of shape threads events) c).end done in
-      certainly_overtaken_below shape.k (history_of shape threads events) (marks_of shape (ledger_after_all shape threads events)) c d.1.0 hold.0 hold.1 distinct.0 d.0 d.1.1
+      certainly_overtaken_below shape.k (history_of shape threads events) (marks_of shape (ledger_after_all shape threads events)) c d.1.0
+      hold.0 hold.1 distinct.0 d.0 d.1.1
 
   pub laws_hold : LawsHold shape threads
   laws_hold events here is =
       let hold = points_hold events here is in
       laws_from shape.k (history_of shape threads events) (marks_of shape (ledger_after_all shape threads events)) hold.0 hold.1
-      (none_at_end shape (word_at here) (place_of here) (log_of shape threads events) (ledger_after_all shape threads events) (length events) (invariant shape threads events here is) (facts_after shape threads events here is) (agreed shape threads events here is) (history_is shape threads events here few is))
+      (none_at_end shape (word_at here) (place_of here) (log_of shape threads events) (ledger_after_all shape threads events)
+      (length events) (invariant shape threads events here is) (facts_after shape threads events here is)
+      (agreed shape threads events here is) (history_is shape threads events here few is))
 
   pub puts_in_visit : PutsInVisit shape threads
   puts_in_visit events here is c a =
@@ -113,4 +125,5 @@ module _ (shape : Shape) (threads : ℕ) (few : threads ≤ 64) where
       rw visit low
 
   pub one_order : OneOrder shape threads
-  one_order events here is list sorted = one_by_point (marks_of shape (ledger_after_all shape threads events)) list (order_of shape threads events) sorted (by_points events here is)
+  one_order events here is list sorted = one_by_point (marks_of shape (ledger_after_all shape threads events)) list
+      (order_of shape threads events) sorted (by_points events here is)

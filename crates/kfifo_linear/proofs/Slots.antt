@@ -1,5 +1,6 @@
 -- A step keeps what the ledger says of slots and times.
-use Rattle.std.proofs.Common.{lit<, ◌≡◌, ◌≢◌, ℕ, ◌+◌, ◌-◌, ◌*◌, ◌/◌, ◌%◌, ◌<◌, ◌≤◌, ◌⊎◌, inl, inr, true, false, refl, sym, ◌∙◌, ap, arith, Some, None}
+use Rattle.std.proofs.Common.{lit<, ◌≡◌, ◌≢◌, ℕ, ◌+◌, ◌-◌, ◌*◌, ◌/◌, ◌%◌, ◌<◌, ◌≤◌, ◌⊎◌, inl, inr, true, false, refl, sym, ◌∙◌, ap, arith}
+use Rattle.std.proofs.Common.{Some, None}
 use Rattle.std.proofs.Math.Nat.{mod-lt, add-mod-mod, add-mod_right, mod-eq_of_lt}
 use Rattle.std.proofs.lemmas.Nat.{div-add-mod'}
 use Rattle.std.proofs.lemmas.Bool.{cases_lt}
@@ -29,7 +30,8 @@ filled_with-item item empty h = value-slot_word item (version_of empty + 1) h
 pub emptied-value : (filled : ℕ) → value_of (emptied filled) ≡ 0
 emptied-value filled = value-slot_word 0 (version_of filled + 1) (lit< tt)
 
-module _ (shape : Shape) (w : ℕ → ℕ) (l : Ledger) (t : ℕ) (r : Running) (s : Sane shape r) (ok : EndsOk shape (w 0) l.head l.tail) (me : ThreadOk shape w l t r) (times : Times l) where
+module _ (shape : Shape) (w : ℕ → ℕ) (l : Ledger) (t : ℕ) (r : Running) (s : Sane shape r) (ok : EndsOk shape (w 0) l.head l.tail)
+    (me : ThreadOk shape w l t r) (times : Times l) where
   -- a head-on is won only where the tail is past the head
   head_on_past : (stepped shape w t r l).head ≡ l.head + 1 → l.head < l.tail
   unfolding stepped
@@ -79,7 +81,8 @@ at_head_stays w w' l l' v p c n h =
     }
 
 -- an item that is settled now: the place of its enqueue. After the step, since the place may be the step itself
-pub settle_at_tail : (w w' : ℕ → ℕ) (l l' : Ledger) (v : ℕ) → EndsChange w w' l l' → l'.now ≡ l.now + 1 → Times l → v ≤ l.tail → l'.tail ≡ l.tail → AtTail l' v (settle_point l v)
+pub settle_at_tail : (w w' : ℕ → ℕ) (l l' : Ledger) (v : ℕ) → EndsChange w w' l l' → l'.now ≡ l.now + 1 → Times l → v ≤ l.tail
+    → l'.tail ≡ l.tail → AtTail l' v (settle_point l v)
 unfolding settle_point
 settle_at_tail w w' l l' v c n times h e =
     let past = times.tails_past in
@@ -100,11 +103,13 @@ pub back-below : (shape : Shape) (i start : ℕ) → 0 < shape.k → back shape 
 unfolding back
 back-below shape i start k = mod-lt ((i - 1) % shape.k + shape.k - start) k
 
-pub scan_index-back : (shape : Shape) (i start : ℕ) → 0 < shape.k → 0 < i → start < shape.k → scan_index shape (segment_of shape i) start (back shape i start) ≡ i
+pub scan_index-back : (shape : Shape) (i start : ℕ) → 0 < shape.k → 0 < i → start < shape.k
+    → scan_index shape (segment_of shape i) start (back shape i start) ≡ i
 unfolding back scan_index segment_of
 scan_index-back shape i start k pos h =
     let j : (i - 1) % shape.k < shape.k = mod-lt (i - 1) k in
-    let e : (start + ((i - 1) % shape.k + shape.k - start) % shape.k) % shape.k ≡ (start + ((i - 1) % shape.k + shape.k - start)) % shape.k = add-mod-mod start ((i - 1) % shape.k + shape.k - start) shape.k in
+    let e : (start + ((i - 1) % shape.k + shape.k - start) % shape.k) % shape.k
+    ≡ (start + ((i - 1) % shape.k + shape.k - start)) % shape.k = add-mod-mod start ((i - 1) % shape.k + shape.k - start) shape.k in
     let f : start + ((i - 1) % shape.k + shape.k - start) ≡ (i - 1) % shape.k + shape.k = omega arith in
     let g : ((i - 1) % shape.k + shape.k) % shape.k ≡ (i - 1) % shape.k = add-mod_right ((i - 1) % shape.k) shape.k ∙ mod-eq_of_lt j in
     let d : (i - 1) / shape.k * shape.k + (i - 1) % shape.k ≡ i - 1 = div-add-mod' (i - 1) shape.k in
@@ -121,13 +126,15 @@ pub moves_head : (shape : Shape) (w : ℕ → ℕ) (l : Ledger) (t : ℕ) (r : R
 unfolding stepped
 moves_head shape w l t r e = grind (arith, nat_tests)
 
-pub clear_slot : (shape : Shape) (w : ℕ → ℕ) (l : Ledger) (i ends start : ℕ) → 0 < shape.k → 0 < i → start < shape.k → Clear shape w l ends start shape.k → w 0 ≡ ends → segment_of shape i ≡ head_of (w 0) → l.settled i ≡ false
+pub clear_slot : (shape : Shape) (w : ℕ → ℕ) (l : Ledger) (i ends start : ℕ) → 0 < shape.k → 0 < i → start < shape.k
+    → Clear shape w l ends start shape.k → w 0 ≡ ends → segment_of shape i ≡ head_of (w 0) → l.settled i ≡ false
 clear_slot shape w l i ends start k pos h c e g =
     ap l.settled (sym (scan_index-back shape i start k pos h) ∙ ap (λ x. scan_index shape x start (back shape i start)) (g ∙ ap head_of e))
     ∙ c e (back shape i start) (back-below shape i start k)
 
 -- a won head-on leaves no settled item of the visit behind
-head_on_clear : (shape : Shape) (w : ℕ → ℕ) (l : Ledger) (i : ℕ) (r : Running) → 0 < shape.k → 0 < i → Sane shape r → HasClear shape w l r → MovesHead w r → segment_of shape i ≡ head_of (w 0) → l.settled i ≡ false
+head_on_clear : (shape : Shape) (w : ℕ → ℕ) (l : Ledger) (i : ℕ) (r : Running) → 0 < shape.k → 0 < i → Sane shape r → HasClear shape w l r
+    → MovesHead w r → segment_of shape i ≡ head_of (w 0) → l.settled i ≡ false
 head_on_clear shape w l i (R.Enqueue item start left (E.MoveHead ends)) k pos s c e g = clear_slot shape w l i ends 0 k pos k c e g
 head_on_clear shape w l i (R.Dequeue start left (D.MoveHead ends)) k pos s c e g = clear_slot shape w l i ends start k pos s.0 c e g
 head_on_clear shape w l i other k pos s c e g = absurd e
@@ -136,7 +143,8 @@ zero_below : (n : ℕ) → 2 ≤ n → 0 < n
 zero_below n h = omega arith
 
 -- one slot
-module _ (shape : Shape) (w : ℕ → ℕ) (l : Ledger) (t : ℕ) (r : Running) (s : Sane shape r) (ok : EndsOk shape (w 0) l.head l.tail) (me : ThreadOk shape w l t r) (times : Times l) (all : Slots shape w l)
+module _ (shape : Shape) (w : ℕ → ℕ) (l : Ledger) (t : ℕ) (r : Running) (s : Sane shape r) (ok : EndsOk shape (w 0) l.head l.tail)
+    (me : ThreadOk shape w l t r) (times : Times l) (all : Slots shape w l)
     (i : ℕ) (is_slot : IsSlotIndex shape i) (here : SlotOk shape w l i) where
   slot_untaken_to_tail : (stepped shape w t r l).untaken_from i ≤ (stepped shape w t r l).tail
   unfolding stepped
@@ -154,7 +162,8 @@ module _ (shape : Shape) (w : ℕ → ℕ) (l : Ledger) (t : ℕ) (r : Running) 
   unfolding stepped
   full_known v = let h = here.full in let k = me.known in grind (arith, nat_tests, noted_tells, emptied-value)
 
-  full_untaken_to_load : value_of (words_by (access shape r) w i) ≢ 0 → (stepped shape w t r l).untaken_from i ≤ (stepped shape w t r l).tail_at_load i
+  full_untaken_to_load : value_of (words_by (access shape r) w i) ≢ 0
+      → (stepped shape w t r l).untaken_from i ≤ (stepped shape w t r l).tail_at_load i
   unfolding stepped
   full_untaken_to_load v = let h = here.full in let g = me.target in grind (arith, nat_tests, noted_tells, emptied-value)
 
@@ -166,15 +175,19 @@ module _ (shape : Shape) (w : ℕ → ℕ) (l : Ledger) (t : ℕ) (r : Running) 
   unfolding stepped
   full_place v = let h = here.full in let g = me.target in grind (arith, nat_tests, noted_tells, emptied-value)
 
-  full_unsettled : value_of (words_by (access shape r) w i) ≢ 0 → (stepped shape w t r l).settled i ≡ false → (stepped shape w t r l).last ((stepped shape w t r l).owner i) ≡ None
+  full_unsettled : value_of (words_by (access shape r) w i) ≢ 0 → (stepped shape w t r l).settled i ≡ false
+      → (stepped shape w t r l).last ((stepped shape w t r l).owner i) ≡ None
   unfolding stepped
-  full_unsettled v n = let h = here.full in let f = me.fresh in let own = me.own in let e = me.unended in grind (arith, nat_tests, noted_tells, emptied-value)
+  full_unsettled v n = let h = here.full in let f = me.fresh in let own = me.own in let e = me.unended in
+      grind (arith, nat_tests, noted_tells, emptied-value)
 
-  full_begun : value_of (words_by (access shape r) w i) ≢ 0 → (stepped shape w t r l).first ((stepped shape w t r l).owner i) ≤ (stepped shape w t r l).now
+  full_begun : value_of (words_by (access shape r) w i) ≢ 0
+      → (stepped shape w t r l).first ((stepped shape w t r l).owner i) ≤ (stepped shape w t r l).now
   unfolding stepped
   full_begun v = let h = here.full in let k = me.started in grind (arith, nat_tests, noted_tells, emptied-value)
 
-  full_after : value_of (words_by (access shape r) w i) ≢ 0 → (x : ℕ) → (stepped shape w t r l).tail_at_load i ≤ x → x < (stepped shape w t r l).tail → (stepped shape w t r l).first ((stepped shape w t r l).owner i) ≤ (stepped shape w t r l).tails x
+  full_after : value_of (words_by (access shape r) w i) ≢ 0 → (x : ℕ) → (stepped shape w t r l).tail_at_load i ≤ x
+      → x < (stepped shape w t r l).tail → (stepped shape w t r l).first ((stepped shape w t r l).owner i) ≤ (stepped shape w t r l).tails x
   unfolding stepped
   full_after v x x1 x2 = let h = here.full in let k = me.started in let g = me.round in grind (arith, nat_tests, noted_tells, emptied-value)
 
@@ -234,7 +247,12 @@ module _ (shape : Shape) (w : ℕ → ℕ) (l : Ledger) (t : ℕ) (r : Running) 
   last_old c = grind (arith, nat_tests, noted_tells)
 
   -- a settled item was so before, or is now
-  pub settled_old : (stepped shape w t r l).settled i ≡ true → ((l.settled i ≡ true) × ((stepped shape w t r l).visit i ≡ l.visit i) × ((stepped shape w t r l).point i ≡ l.point i) × ((stepped shape w t r l).owner i ≡ l.owner i)) ⊎ (((stepped shape w t r l).visit i ≤ l.tail) × ((stepped shape w t r l).point i ≡ settle_point l ((stepped shape w t r l).visit i)) × ((stepped shape w t r l).tail ≡ l.tail) × ((stepped shape w t r l).last (l.caller t) ≡ Some l.now) × ((stepped shape w t r l).owner i ≡ l.caller t))
+  pub settled_old : (stepped shape w t r l).settled i ≡ true
+      → ((l.settled i ≡ true) × ((stepped shape w t r l).visit i ≡ l.visit i) × ((stepped shape w t r l).point i ≡ l.point i)
+      × ((stepped shape w t r l).owner i ≡ l.owner i))
+      ⊎ (((stepped shape w t r l).visit i ≤ l.tail) × ((stepped shape w t r l).point i ≡ settle_point l ((stepped shape w t r l).visit i))
+      × ((stepped shape w t r l).tail ≡ l.tail) × ((stepped shape w t r l).last (l.caller t) ≡ Some l.now)
+      × ((stepped shape w t r l).owner i ≡ l.caller t))
   unfolding stepped settle_visit
   settled_old e =
       let d = d_tail in
@@ -242,7 +260,8 @@ module _ (shape : Shape) (w : ℕ → ℕ) (l : Ledger) (t : ℕ) (r : Running) 
       let own = me.own in
       grind (arith, nat_tests, noted_tells)
 
-  settled_started : (stepped shape w t r l).settled i ≡ true → (stepped shape w t r l).first ((stepped shape w t r l).owner i) ≤ (stepped shape w t r l).point i
+  settled_started : (stepped shape w t r l).settled i ≡ true
+      → (stepped shape w t r l).first ((stepped shape w t r l).owner i) ≤ (stepped shape w t r l).point i
   unfolding stepped settle_visit settle_point
   settled_started e =
       let h = here.settled in
@@ -259,14 +278,18 @@ module _ (shape : Shape) (w : ℕ → ℕ) (l : Ledger) (t : ℕ) (r : Running) 
       let pb = place_below shape.n in
       grind (arith, nat_tests, noted_tells)
 
-  settled_at_tail : (stepped shape w t r l).settled i ≡ true → AtTail (stepped shape w t r l) ((stepped shape w t r l).visit i) ((stepped shape w t r l).point i)
+  settled_at_tail : (stepped shape w t r l).settled i ≡ true
+      → AtTail (stepped shape w t r l) ((stepped shape w t r l).visit i) ((stepped shape w t r l).point i)
   settled_at_tail e =
       elim (settled_old e) [
-        | inl p ↦ rw (p.1, p.2) (at_tail_stays w (words_by (access shape r) w) l (stepped shape w t r l) (l.visit i) (l.point i) change now_next (here.settled p.0).at_tail)
-        | inr p ↦ rw p.1 (settle_at_tail w (words_by (access shape r) w) l (stepped shape w t r l) ((stepped shape w t r l).visit i) change now_next times p.0 p.2)
+        | inl p ↦ rw (p.1, p.2) (at_tail_stays w (words_by (access shape r) w) l (stepped shape w t r l) (l.visit i) (l.point i) change
+            now_next (here.settled p.0).at_tail)
+        | inr p ↦ rw p.1 (settle_at_tail w (words_by (access shape r) w) l (stepped shape w t r l) ((stepped shape w t r l).visit i) change
+            now_next times p.0 p.2)
       ]
 
-  settled_ended : (stepped shape w t r l).settled i ≡ true → (x : ℕ) → (stepped shape w t r l).last ((stepped shape w t r l).owner i) ≡ Some x → (stepped shape w t r l).point i ≤ x
+  settled_ended : (stepped shape w t r l).settled i ≡ true → (x : ℕ)
+      → (stepped shape w t r l).last ((stepped shape w t r l).owner i) ≡ Some x → (stepped shape w t r l).point i ≤ x
   settled_ended e x g =
       let past : (stepped shape w t r l).point i ≤ l.now = omega (arith, settled_reached e, now_next) in
       elim (settled_old e) [
@@ -278,7 +301,8 @@ module _ (shape : Shape) (w : ℕ → ℕ) (l : Ledger) (t : ℕ) (r : Running) 
         | inr p ↦ let z : l.now ≡ x = same_Some l.now x (sym p.3 ∙ ap (stepped shape w t r l).last (sym p.4) ∙ g) in omega arith
       ]
 
-  slot_item : value_of (words_by (access shape r) w i) ≢ 0 → item_of ((stepped shape w t r l).begin ((stepped shape w t r l).owner i)) ≡ value_of (words_by (access shape r) w i)
+  slot_item : value_of (words_by (access shape r) w i) ≢ 0
+      → item_of ((stepped shape w t r l).begin ((stepped shape w t r l).owner i)) ≡ value_of (words_by (access shape r) w i)
   unfolding stepped
   slot_item v = let h = here.item in let m = me.makes in grind (arith, nat_tests, noted_tells, emptied-value, filled_with-item)
 

@@ -1,5 +1,6 @@
 -- The calls that stand, sorted by point and number, are the order.
-use Rattle.std.proofs.Common.{◌≡◌, ℕ, zero, suc, ◌+◌, ◌-◌, ◌<◌, ◌≤◌, ◌⊎◌, inl, inr, Bool, true, false, cond, eqb, refl, sym, ◌∙◌, ap, subst, arith, List, [], ◌∷◌, ◌++◌, length, get_or, append-nil, map, Option, Some, None, is_some}
+use Rattle.std.proofs.Common.{◌≡◌, ℕ, zero, suc, ◌+◌, ◌-◌, ◌<◌, ◌≤◌, ◌⊎◌, inl, inr, Bool, true, false, cond, eqb, refl, sym, ◌∙◌, ap, subst}
+use Rattle.std.proofs.Common.{arith, List, [], ◌∷◌, ◌++◌, length, get_or, append-nil, map, Option, Some, None, is_some}
 use Rattle.std.proofs.lemmas.Bool.{cases_eq, cases_lt, eq-eqb, ne_eqb, false≢true}
 use Rattle.std.proofs.lemmas.List.{get_or-map, get_or_default, get_or_past, length-map}
 use Rattle.std.proofs.lemmas.Grind.{same_number_lists}
@@ -77,7 +78,8 @@ rises : (xs : List (ℕ × ℕ)) (d : ℕ × ℕ) → IsSortedBy lower xs → (i
 rises xs d up i zero less = let z : i + 0 ≡ i = omega arith in rw z (inr (refl, omega arith))
 rises xs d up i (suc m) less =
     let before : Lex (get_or xs i d) (get_or xs (i + m) d) = rises xs d up i m (omega arith) in
-    let next : Lex (get_or xs (i + m) d) (get_or xs ((i + m) + 1) d) = not_lower (get_or xs (i + m) d) (get_or xs ((i + m) + 1) d) (up (i + m) d (omega arith) (omega arith)) in
+    let next : Lex (get_or xs (i + m) d) (get_or xs ((i + m) + 1) d) =
+    not_lower (get_or xs (i + m) d) (get_or xs ((i + m) + 1) d) (up (i + m) d (omega arith) (omega arith)) in
     let z : i + suc m ≡ (i + m) + 1 = omega arith in
     rw z (lex_trans (get_or xs i d) (get_or xs (i + m) d) (get_or xs ((i + m) + 1) d) before next)
 
@@ -96,7 +98,8 @@ in_with None call c h = absurd h
 below : (n : Notes) (m c : ℕ) → IsIn c (numbers (points_below n m)) → c < m
 below n zero c h = absurd h
 below n (suc m) c h =
-    elim (in_append c (numbers (points_below n m)) (numbers (with_point (point_at n m) m)) (subst (IsIn c) (numbers-append (points_below n m) (with_point (point_at n m) m)) h)) [
+    elim (in_append c (numbers (points_below n m)) (numbers (with_point (point_at n m) m))
+    (subst (IsIn c) (numbers-append (points_below n m) (with_point (point_at n m) m)) h)) [
       | inl a ↦ let lt = below n m c a in omega arith
       | inr b ↦ let is = in_with (point_at n m) m c b in omega arith
     ]
@@ -104,13 +107,15 @@ below n (suc m) c h =
 abbrev Below : ℕ → ℕ → Type 0
 Below x y = x < y
 
-rise_with : (o : Option ℕ) (m : ℕ) (a : List ℕ) → EachPair Below a → ((x : ℕ) → IsIn x a → x < m) → EachPair Below (a ++ numbers (with_point o m))
+rise_with : (o : Option ℕ) (m : ℕ) (a : List ℕ) → EachPair Below a → ((x : ℕ) → IsIn x a → x < m)
+    → EachPair Below (a ++ numbers (with_point o m))
 rise_with None m a p h = rw (append-nil a) p
 rise_with (Some x) m a p h = pairs_push Below a m p h
 
 numbers_rise : (n : Notes) (m : ℕ) → EachPair Below (numbers (points_below n m))
 numbers_rise n zero = tt
-numbers_rise n (suc m) = rw (numbers-append (points_below n m) (with_point (point_at n m) m)) (rise_with (point_at n m) m (numbers (points_below n m)) (numbers_rise n m) (below n m))
+numbers_rise n (suc m) = rw (numbers-append (points_below n m) (with_point (point_at n m) m))
+    (rise_with (point_at n m) m (numbers (points_below n m)) (numbers_rise n m) (below n m))
 
 -- each has its point
 abbrev HasPoint : Notes → ℕ × ℕ → Type 0
@@ -122,14 +127,16 @@ point_with n (Some p) m e = All-cons (HasPoint n) (p, m) [] e (All-nil (HasPoint
 
 have_points : (n : Notes) (m : ℕ) → All (HasPoint n) (points_below n m)
 have_points n zero = All-nil (HasPoint n)
-have_points n (suc m) = All-append (HasPoint n) (points_below n m) (with_point (point_at n m) m) (have_points n m) (point_with n (point_at n m) m refl)
+have_points n (suc m) = All-append (HasPoint n) (points_below n m) (with_point (point_at n m) m) (have_points n m)
+    (point_with n (point_at n m) m refl)
 
 -- each that has a point is there
 is_there : (n : Notes) (m c p : ℕ) → c < m → point_at n c ≡ Some p → IsIn c (numbers (points_below n m))
 is_there n zero c p less e = absurd (omega arith)
 is_there n (suc m) c p less e =
     rw (numbers-append (points_below n m) (with_point (point_at n m) m)) (elim (cases_eq c m) [
-      | inl same ↦ in_right c (numbers (points_below n m)) (numbers (with_point (point_at n m) m)) (rw (sym (ap (point_at n) same) ∙ e) (inl same))
+      | inl same ↦ in_right c (numbers (points_below n m)) (numbers (with_point (point_at n m) m))
+          (rw (sym (ap (point_at n) same) ∙ e) (inl same))
       | inr ne ↦ in_left c (numbers (points_below n m)) (numbers (with_point (point_at n m) m)) (is_there n m c p (omega arith) e)
     ])
 
@@ -143,13 +150,15 @@ point_if_is : (b c : Bool) (p q : ℕ) (s : Spot) → b ≡ c → p ≡ q → s.
 point_if_is b true p q s e f g = rw (e, f) (ap Some (sym g))
 point_if_is b false p q s e f g = rw e refl
 
-point_of_standing : (l : Ledger) (n : Notes) (c : ℕ) (standing : Standing) → Tells l n → point_from n (brief standing (l.last c)) ≡ point_in (spot_of l c standing)
+point_of_standing : (l : Ledger) (n : Notes) (c : ℕ) (standing : Standing) → Tells l n
+    → point_from n (brief standing (l.last c)) ≡ point_in (spot_of l c standing)
 point_of_standing l n c Outside h = by_last (l.last c)
   where
     by_last : (last : Option ℕ) → point_from n (brief Outside last) ≡ point_in (refused_at last)
     by_last None = refl
     by_last (Some e) = refl
-point_of_standing l n c (Inside i) h = point_if_is (slot n i).settled (l.settled i) (slot n i).point (l.point i) _ (h.settled i) (h.point i) refl
+point_of_standing l n c (Inside i) h = point_if_is (slot n i).settled (l.settled i) (slot n i).point (l.point i) _ (h.settled i) (h.point i)
+    refl
 point_of_standing l n c (Gone i v p) h = refl
 point_of_standing l n c (Took o v p) h = refl
 point_of_standing l n c (Stood v p) h = refl
@@ -184,7 +193,8 @@ distinct xs h = IsDistinct-from_apart eqb xs (λ i j d lt less.
 apart_in : (xs : List ℕ) (i j : ℕ) → IsDistinct eqb xs → i < j → j < length xs → get_or xs i 0 ≡ get_or xs j 0 → ⊥
 apart_in xs i j h lt less e = false≢true (sym (apart_from_distinct eqb xs i j 0 h lt less) ∙ eq-eqb (get_or xs i 0) (get_or xs j 0) e)
 
-module _ (shape : Shape) (l : Ledger) (n : Notes) (h : Tells l n) (sorted : List (ℕ × ℕ)) (moved : IsPermutation (points_below n (length n.calls)) sorted) (up : IsSortedBy lower sorted) where
+module _ (shape : Shape) (l : Ledger) (n : Notes) (h : Tells l n) (sorted : List (ℕ × ℕ))
+    (moved : IsPermutation (points_below n (length n.calls)) sorted) (up : IsSortedBy lower sorted) where
   all_points : All (HasPoint n) sorted
   all_points = All-permutation (HasPoint n) (points_below n (length n.calls)) sorted moved (have_points n (length n.calls))
 
@@ -192,16 +202,21 @@ module _ (shape : Shape) (l : Ledger) (n : Notes) (h : Tells l n) (sorted : List
   moved_numbers = IsPermutation-map (λ (x : ℕ × ℕ). x.1) (points_below n (length n.calls)) sorted moved
 
   differ : IsDistinct eqb (numbers sorted)
-  differ = IsDistinct-IsPermutation eqb eqb-flips (numbers (points_below n (length n.calls))) (numbers sorted) moved_numbers (distinct (numbers (points_below n (length n.calls))) (numbers_rise n (length n.calls)))
+  differ = IsDistinct-IsPermutation eqb eqb-flips (numbers (points_below n (length n.calls))) (numbers sorted) moved_numbers
+      (distinct (numbers (points_below n (length n.calls))) (numbers_rise n (length n.calls)))
 
   -- the call at a place
   number_at : (i : ℕ) → i < length sorted → get_or (numbers sorted) i 0 ≡ (get_or sorted i (0, 0)).1
   number_at i less = get_or-map (λ (x : ℕ × ℕ). x.1) sorted i (0, 0) 0 less
 
-  standing_at : (i : ℕ) → i < length sorted → (stands l (get_or (numbers sorted) i 0) ≡ true) × (point l (get_or (numbers sorted) i 0) ≡ (get_or sorted i (0, 0)).0)
-  standing_at i less = rw (number_at i less) (point_stands (spot l (get_or sorted i (0, 0)).1) (get_or sorted i (0, 0)).0 (sym (point_is l n (get_or sorted i (0, 0)).1 h) ∙ all_points i (0, 0) less))
+  standing_at : (i : ℕ) → i < length sorted → (stands l (get_or (numbers sorted) i 0) ≡ true)
+      × (point l (get_or (numbers sorted) i 0) ≡ (get_or sorted i (0, 0)).0)
+  standing_at i less = rw (number_at i less)
+      (point_stands (spot l (get_or sorted i (0, 0)).1) (get_or sorted i (0, 0)).0
+      (sym (point_is l n (get_or sorted i (0, 0)).1 h) ∙ all_points i (0, 0) less))
 
-  earlier : (i j : ℕ) → i < j → j < length (numbers sorted) → IsEarlier (point l) (get_or (numbers sorted) i 0) (get_or (numbers sorted) j 0)
+  earlier : (i j : ℕ) → i < j → j < length (numbers sorted)
+      → IsEarlier (point l) (get_or (numbers sorted) i 0) (get_or (numbers sorted) j 0)
   earlier i j lt less =
       let long : length (numbers sorted) ≡ length sorted = length-map sorted (λ (x : ℕ × ℕ). x.1) in
       let within : j < length sorted = omega (arith, less, long) in
@@ -210,7 +225,8 @@ module _ (shape : Shape) (l : Ledger) (n : Notes) (h : Tells l n) (sorted : List
       let na = number_at i (omega arith) in
       let nb = number_at j within in
       let z : i + (j - i) ≡ j = omega arith in
-      let lex : Lex (get_or sorted i (0, 0)) (get_or sorted j (0, 0)) = subst (λ k. Lex (get_or sorted i (0, 0)) (get_or sorted k (0, 0))) z (rises sorted (0, 0) up i (j - i) (omega arith)) in
+      let lex : Lex (get_or sorted i (0, 0)) (get_or sorted j (0, 0)) =
+      subst (λ k. Lex (get_or sorted i (0, 0)) (get_or sorted k (0, 0))) z (rises sorted (0, 0) up i (j - i) (omega arith)) in
       elim lex [
         | inl low ↦ (omega (arith, a.1, b.1, low), λ e. absurd (omega (arith, a.1, b.1, low, e)))
         | inr same ↦ (
@@ -232,7 +248,9 @@ module _ (shape : Shape) (l : Ledger) (n : Notes) (h : Tells l n) (sorted : List
     every = λ c s.
         let has : point_at n c ≡ Some (point l c) = point_is l n c h ∙ stands_point (spot l c) s in
         elim (cases_lt c (length n.calls)) [
-          | inl less ↦ contains_in (numbers sorted) c (Contains-permutation (numbers (points_below n (length n.calls))) (numbers sorted) c moved_numbers (in_contains (numbers (points_below n (length n.calls))) c (is_there n (length n.calls) c (point l c) less has)))
+          | inl less ↦ contains_in (numbers sorted) c
+              (Contains-permutation (numbers (points_below n (length n.calls))) (numbers sorted) c moved_numbers
+              (in_contains (numbers (points_below n (length n.calls))) c (is_there n (length n.calls) c (point l c) less has)))
           | inr past ↦ absurd (none-some (point l c) (sym (ap (point_from n) (get_or_past n.calls c Nowhere past)) ∙ has))
         ];
   }
@@ -246,14 +264,19 @@ module _ (shape : Shape) (l : Ledger) (n : Notes) (h : Tells l n) (sorted : List
       let all : length (map (point l) (numbers sorted)) ≡ length (numbers sorted) = length-map (numbers sorted) (point l) in
       same_number_lists firsts (map (point l) (numbers sorted)) (omega arith) (λ k less.
       let within : k < length sorted = omega arith in
-      get_or-map (λ (x : ℕ × ℕ). x.0) sorted k (0, 0) 0 within ∙ sym (standing_at k within).1 ∙ sym (get_or-map (point l) (numbers sorted) k 0 0 (omega arith)))
+      get_or-map (λ (x : ℕ × ℕ). x.0) sorted k (0, 0) 0 within ∙ sym (standing_at k within).1
+      ∙ sym (get_or-map (point l) (numbers sorted) k 0 0 (omega arith)))
 
 -- of a linearizer that has followed a schedule, the calls by their sorted points are the order
-pub order_is : (f : Follower) (threads room : ℕ) (events : List Event) (sorted : List (ℕ × ℕ)) → Follows threads room events f → threads ≤ 64 → IsPermutation (points_below f.notes (length f.notes.calls)) sorted → IsSortedBy lower sorted
+pub order_is : (f : Follower) (threads room : ℕ) (events : List Event) (sorted : List (ℕ × ℕ)) → Follows threads room events f
+    → threads ≤ 64 → IsPermutation (points_below f.notes (length f.notes.calls)) sorted → IsSortedBy lower sorted
     → numbers sorted ≡ order_of f.shape threads events
 order_is f threads room events sorted h few moved up =
-    one_order f.shape threads few events f.world h.reached (numbers sorted) (sorted_by_point f.shape (ledger_after_all f.shape threads events) f.notes h.tells sorted moved up)
+    one_order f.shape threads few events f.world h.reached (numbers sorted)
+    (sorted_by_point f.shape (ledger_after_all f.shape threads events) f.notes h.tells sorted moved up)
 
-pub points_follow : (f : Follower) (threads room : ℕ) (events : List Event) (sorted : List (ℕ × ℕ)) → Follows threads room events f → IsPermutation (points_below f.notes (length f.notes.calls)) sorted → IsSortedBy lower sorted
+pub points_follow : (f : Follower) (threads room : ℕ) (events : List Event) (sorted : List (ℕ × ℕ)) → Follows threads room events f
+    → IsPermutation (points_below f.notes (length f.notes.calls)) sorted → IsSortedBy lower sorted
     → map (λ (x : ℕ × ℕ). x.0) sorted ≡ map (point (ledger_after_all f.shape threads events)) (numbers sorted)
-points_follow f threads room events sorted h moved up = points_are f.shape (ledger_after_all f.shape threads events) f.notes h.tells sorted moved up
+points_follow f threads room events sorted h moved up =
+    points_are f.shape (ledger_after_all f.shape threads events) f.notes h.tells sorted moved up

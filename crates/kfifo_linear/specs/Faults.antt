@@ -18,7 +18,9 @@ abbrev pub linear_fault_number : LinearFault → ℕ
 linear_fault_number NotASchedule = 1
 linear_fault_number Memory = 2
 
--- what holds where events have no order: it is no schedule of 1 to 64 threads, or memory failed, after the number of threads was tested
+-- what holds where events have no order: it is no schedule of 1 to 64 threads, or memory failed, after the number of
+-- threads was tested
 abbrev pub IsLinearFault : Shape → ℕ → List Event → LinearFault → Type 0
-IsLinearFault shape threads events NotASchedule = ((threads ≡ 0) ⊎ (64 < threads)) ⊎ (IsSchedule shape threads events → ⊥)
+IsLinearFault shape threads events NotASchedule = ((threads ≡ 0) ⊎ (64 < threads))
+    ⊎ (IsSchedule shape threads events → ⊥)
 IsLinearFault shape threads events Memory = (0 < threads) × (threads ≤ 64)

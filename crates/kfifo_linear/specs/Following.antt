@@ -29,7 +29,8 @@ brief (Stood visit point) last = At point
 
 -- the steps at which the latest visits were left, as many as there is room for
 abbrev pub TellVisits : (ℕ → ℕ) → ℕ → List ℕ → Type 0
-TellVisits left number steps = (visit : ℕ) → visit < number → number ≤ visit + length steps → left_at steps visit ≡ left visit
+TellVisits left number steps = (visit : ℕ) → visit < number → number ≤ visit + length steps
+    → left_at steps visit ≡ left visit
 
 pub record Tells (l : Ledger) (n : Notes) : Type 0 where
   pub step : n.step ≡ l.now

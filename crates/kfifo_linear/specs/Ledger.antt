@@ -1,6 +1,7 @@
--- Auxiliary state of the proof, a ghost log kept beside the machine, which no step reads: the visits of head and tail, and where each
--- call's item is.
-use Rattle.std.specs.Prelude.{ℕ, ◌+◌, Bool, true, false, not, ◌&&◌, ◌==◌, nat_lt, nat_le, min, if◌then◌else◌, List, [], ◌∷◌, Option, Some, None}
+-- Auxiliary state of the proof, a ghost log kept beside the machine, which no step reads: the visits of head and tail,
+-- and where each call's item is.
+use Rattle.std.specs.Prelude.{ℕ, ◌+◌, Bool, true, false, not, ◌&&◌, ◌==◌, nat_lt, nat_le, min, if◌then◌else◌, List, []}
+use Rattle.std.specs.Prelude.{◌∷◌, Option, Some, None}
 use Rattle.kfifo_machine.specs.declared.place.EnqueuePhase.TheVariants as E
 use Rattle.kfifo_machine.specs.declared.place.DequeuePhase.TheVariants as D
 use Rattle.kfifo_machine.specs.declared.place.Running.TheVariants as R
@@ -8,7 +9,8 @@ use Rattle.kfifo_machine.specs.declared.event.Begin.TheVariants as B
 use Rattle.kfifo_machine.specs.Machine.{World, place_of, step, word_at, world_of}
 use Rattle.kfifo_machine.specs.Program.{access, accessed, advance}
 use Rattle.kfifo_linear.specs.declared.action.Action.{Action}
-use Rattle.kfifo_linear.specs.declared.action.Action.TheVariants.{HoldHead, LoadEnds, MoveHead, MoveTail, Unnoted, Put, Recheck, RecheckEmpty, ReloadEnds, Take, Undo}
+use Rattle.kfifo_linear.specs.declared.action.Action.TheVariants.{HoldHead, LoadEnds, MoveHead, MoveTail, Unnoted, Put}
+use Rattle.kfifo_linear.specs.declared.action.Action.TheVariants.{Recheck, RecheckEmpty, ReloadEnds, Take, Undo}
 use Rattle.kfifo_machine.specs.declared.event.Begin.{Begin}
 use Rattle.kfifo_machine.specs.declared.event.Event.{Event}
 use Rattle.kfifo_machine.specs.declared.place.DequeuePhase.{DequeuePhase}
@@ -27,12 +29,15 @@ abbrev pub action_if : Bool → Action → Action
 action_if true action = action
 action_if false action = Unnoted
 
--- what an enqueue's reload of the ends did, its item being in a slot of this segment: it is between head and tail, or not
+-- what an enqueue's reload of the ends after_action, its item being in a slot of this segment: it is between head and
+-- tail, or not
 abbrev pub settles : Shape → ℕ → ℕ → ℕ → Action
 settles shape segment index word =
-    action_if (not (segment == head_of word) && nat_le (distance shape.n (head_of word) segment) (distance shape.n (head_of word) (tail_of word))) (ReloadEnds index segment)
+    action_if (not (segment == head_of word)
+    && nat_le (distance shape.n (head_of word) segment) (distance shape.n (head_of word) (tail_of word)))
+    (ReloadEnds index segment)
 
--- what a step of an enqueue did that found this word
+-- what a step of an enqueue after_action that found this word
 abbrev pub enqueue_action : Shape → EnqueuePhase → ℕ → Action
 enqueue_action shape E.LoadEnds word = LoadEnds
 enqueue_action shape (E.ScanTail ends offset) word = Unnoted
@@ -57,7 +62,7 @@ dequeue_action (D.MoveTail ends index filled) word = action_if (word == ends) Mo
 dequeue_action (D.Take ends index filled) word = action_if (word == filled) (Take index)
 dequeue_action (D.MoveHead ends) word = action_if (word == ends) MoveHead
 
--- what a step from this place did
+-- what a step from this place after_action
 abbrev pub action : Shape → Running → ℕ → Action
 action shape (R.Enqueue item start left phase) word = enqueue_action shape phase word
 action shape (R.Dequeue start left phase) word = dequeue_action phase word
@@ -87,8 +92,9 @@ pub record Ledger : Type 0 where
   pub tail : ℕ
   pub heads : ℕ → ℕ
   pub tails : ℕ → ℕ
-  -- of each slot by its index: the call that last put there, the tail's visit at the first load of its round, the head's at its put;
-  -- no item of this visit or a later one was taken from it; whether its item is settled, in which visit, and the point of its enqueue
+  -- of each slot by its index: the call that last put there, the tail's visit at the first load of its round, the
+  -- head's at its put; no item of this visit or a later one was taken from it; whether its item is settled, in which
+  -- visit, and the point of its enqueue
   pub owner : ℕ → ℕ
   pub tail_at_load : ℕ → ℕ
   pub head_at_put : ℕ → ℕ
@@ -158,7 +164,8 @@ abbrev pub tails_after : Action → Ledger → ℕ → ℕ
 tails_after MoveTail l v = noted l.tails l.tail l.now v
 tails_after other l v = l.tails v
 
--- who put into a slot last, and where tail and head then were: the tail at the first load of the round, the head at the put
+-- who put into a slot last, and where tail and head then were: the tail at the first load of the round, the head at the
+-- put
 abbrev pub owner_after : Action → ℕ → Ledger → ℕ → ℕ
 owner_after (Put index) thread l i = noted l.owner index (l.caller thread) i
 owner_after other thread l i = l.owner i
@@ -181,22 +188,28 @@ abbrev pub settled_after : Action → ℕ → Ledger → ℕ → Bool
 settled_after (Put index) thread l i = noted l.settled index false i
 settled_after (Undo index) thread l i = noted l.settled index false i
 settled_after (Take index) thread l i = noted l.settled index false i
-settled_after (ReloadEnds index segment) thread l i = if is_inside (l.standing (l.caller thread)) then noted l.settled index true i else l.settled i
-settled_after (HoldHead index) thread l i = if is_inside (l.standing (l.caller thread)) then noted l.settled index true i else l.settled i
+settled_after (ReloadEnds index segment) thread l i =
+    if is_inside (l.standing (l.caller thread)) then noted l.settled index true i else l.settled i
+settled_after (HoldHead index) thread l i =
+    if is_inside (l.standing (l.caller thread)) then noted l.settled index true i else l.settled i
 settled_after other thread l i = l.settled i
 
 -- the visit of a settled item
 abbrev pub visit_after : Shape → Action → ℕ → ℕ → Ledger → ℕ → ℕ
 visit_after shape (ReloadEnds index segment) thread ends l i =
-    if is_inside (l.standing (l.caller thread)) then noted l.visit index (settle_visit shape l (head_of ends) segment) i else l.visit i
-visit_after shape (HoldHead index) thread ends l i = if is_inside (l.standing (l.caller thread)) then noted l.visit index l.head i else l.visit i
+    if is_inside (l.standing (l.caller thread)) then noted l.visit index (settle_visit shape l (head_of ends) segment)
+    i else l.visit i
+visit_after shape (HoldHead index) thread ends l i =
+    if is_inside (l.standing (l.caller thread)) then noted l.visit index l.head i else l.visit i
 visit_after shape other thread ends l i = l.visit i
 
 -- the point of its enqueue
 abbrev pub point_after : Shape → Action → ℕ → ℕ → Ledger → ℕ → ℕ
 point_after shape (ReloadEnds index segment) thread ends l i =
-    if is_inside (l.standing (l.caller thread)) then noted l.point index (settle_point l (settle_visit shape l (head_of ends) segment)) i else l.point i
-point_after shape (HoldHead index) thread ends l i = if is_inside (l.standing (l.caller thread)) then noted l.point index (settle_point l l.head) i else l.point i
+    if is_inside (l.standing (l.caller thread)) then noted l.point index
+    (settle_point l (settle_visit shape l (head_of ends) segment)) i else l.point i
+point_after shape (HoldHead index) thread ends l i =
+    if is_inside (l.standing (l.caller thread)) then noted l.point index (settle_point l l.head) i else l.point i
 point_after shape other thread ends l i = l.point i
 
 -- where calls stand: a take overrides what was settled
@@ -241,8 +254,8 @@ answer_after (Goes running) l call c = l.answer c
 answer_after (Answers answer) l call c = noted l.answer call (Some answer) c
 
 -- the ledger after a step that does this action, finds these ends, and after which the thread does this
-abbrev pub did : Shape → ℕ → ℕ → Action → Next → Ledger → Ledger
-did shape thread ends what next l =
+abbrev pub after_action : Shape → ℕ → ℕ → Action → Next → Ledger → Ledger
+after_action shape thread ends what next l =
     record {
       now = l.now + 1;
       head = head_after what l;
@@ -276,7 +289,8 @@ found_in shape words running = words (accessed (access shape running))
 -- the ledger after the step of a thread at this place
 unfoldable pub stepped : Shape → (ℕ → ℕ) → ℕ → Running → Ledger → Ledger
 stepped shape words thread running l =
-    did shape thread (words 0) (action shape running (found_in shape words running)) (advance shape running (found_in shape words running)) l
+    after_action shape thread (words 0) (action shape running (found_in shape words running))
+    (advance shape running (found_in shape words running)) l
 
 -- a call begins
 unfoldable pub called : ℕ → Begin → Ledger → Ledger
@@ -303,7 +317,8 @@ ledger_from shape words thread (Some running) begin l = stepped shape words thre
 
 -- the ledger after an event
 unfoldable pub ledger_after : Shape → World → Event → Ledger → Ledger
-ledger_after shape world event l = ledger_from shape (word_at world) event.thread (place_of world event.thread) event.begin l
+ledger_after shape world event l = ledger_from shape (word_at world) event.thread (place_of world event.thread)
+    event.begin l
 
 -- the ledger at the opening
 unfoldable pub blank : Ledger
@@ -338,4 +353,5 @@ blank =
 abbrev pub ledger_of : Shape → Option World → List Event → Ledger → Ledger
 ledger_of shape world [] l = l
 ledger_of shape None (event ∷ events) l = l
-ledger_of shape (Some world) (event ∷ events) l = ledger_of shape (world_of (step shape world event)) events (ledger_after shape world event l)
+ledger_of shape (Some world) (event ∷ events) l =
+    ledger_of shape (world_of (step shape world event)) events (ledger_after shape world event l)

@@ -1,5 +1,7 @@
--- What is kept of the ledger of a schedule in lists of fixed sizes, and how each event changes it. It is enough to name the order.
-use Rattle.std.specs.Prelude.{ℕ, zero, suc, ◌+◌, ◌*◌, ◌%◌, ◌<◌, Bool, true, false, nat_lt, min, if◌then◌else◌, List, [], ◌∷◌, ◌++◌, length, get_or, set, replicate, filter, Option, Some, None}
+-- What is kept of the ledger of a schedule in lists of fixed sizes, and how each event changes it. It is enough to name
+-- the order.
+use Rattle.std.specs.Prelude.{ℕ, zero, suc, ◌+◌, ◌*◌, ◌%◌, ◌<◌, Bool, true, false, nat_lt, min, if◌then◌else◌, List, []}
+use Rattle.std.specs.Prelude.{◌∷◌, ◌++◌, length, get_or, set, replicate, filter, Option, Some, None}
 use Rattle.kfifo_words.specs.declared.shape.Shape.{Shape}
 use Rattle.kfifo_words.specs.Ring.{distance}
 use Rattle.kfifo_words.specs.Words.{head_of}
@@ -12,7 +14,8 @@ use Rattle.kfifo_machine.specs.declared.place.Running.{Running}
 use Rattle.kfifo_machine.specs.Machine.{World, found, place_of, word_at}
 use Rattle.kfifo_linear.specs.Ledger.{action}
 use Rattle.kfifo_linear.specs.declared.action.Action.{Action}
-use Rattle.kfifo_linear.specs.declared.action.Action.TheVariants.{HoldHead, LoadEnds, MoveHead, MoveTail, Unnoted, Put, Recheck, RecheckEmpty, ReloadEnds, Take, Undo}
+use Rattle.kfifo_linear.specs.declared.action.Action.TheVariants.{HoldHead, LoadEnds, MoveHead, MoveTail, Unnoted, Put}
+use Rattle.kfifo_linear.specs.declared.action.Action.TheVariants.{Recheck, RecheckEmpty, ReloadEnds, Take, Undo}
 use Rattle.kfifo_linear.specs.declared.notes.Caller.{Caller}
 use Rattle.kfifo_linear.specs.declared.notes.Filling.{Filling}
 use Rattle.kfifo_linear.specs.declared.notes.Whereabouts.{Whereabouts}
@@ -91,10 +94,12 @@ loads_ends thread n = record n { callers = set n.callers thread (record (caller 
 -- a thread's item is put into a slot, and taken back
 abbrev pub puts : ℕ → ℕ → Notes → Notes
 puts thread index n =
-    goes_to (own_call n thread) (InSlot index) (slot_is index (record (slot n index) { owner = own_call n thread; settled = false }) n)
+    goes_to (own_call n thread) (InSlot index)
+    (slot_is index (record (slot n index) { owner = own_call n thread; settled = false }) n)
 
 abbrev pub undoes : ℕ → ℕ → Notes → Notes
-undoes thread index n = goes_to (own_call n thread) Nowhere (slot_is index (record (slot n index) { settled = false }) n)
+undoes thread index n = goes_to (own_call n thread) Nowhere
+    (slot_is index (record (slot n index) { settled = false }) n)
 
 -- the point of an enqueue whose item is settled in this visit
 abbrev pub settle_point : Notes → ℕ → ℕ
@@ -102,7 +107,8 @@ settle_point n visit = if nat_lt visit n.tail then left_at n.tails visit else n.
 
 -- an item that is still in its slot is settled in a visit
 abbrev pub settles_if : Whereabouts → ℕ → ℕ → Notes → Notes
-settles_if (InSlot at) index visit n = slot_is index (record (slot n index) { settled = true; point = settle_point n visit }) n
+settles_if (InSlot at) index visit n =
+    slot_is index (record (slot n index) { settled = true; point = settle_point n visit }) n
 settles_if other index visit n = n
 
 abbrev pub settles : ℕ → ℕ → ℕ → Notes → Notes
@@ -110,7 +116,8 @@ settles thread index visit n = settles_if (whereabouts n (own_call n thread)) in
 
 -- the points of an enqueue whose item is taken in this visit, and of the dequeue that takes it
 abbrev pub gone_point : Notes → ℕ → ℕ → ℕ
-gone_point n index visit = if (slot n index).settled then min (slot n index).point (left_at n.tails visit) else left_at n.tails visit
+gone_point n index visit = if (slot n index).settled then min (slot n index).point (left_at n.tails visit) else left_at
+    n.tails visit
 
 abbrev pub took_point : Notes → ℕ → ℕ
 took_point n visit = if nat_lt visit n.head then left_at n.heads visit else n.step
@@ -118,7 +125,9 @@ took_point n visit = if nat_lt visit n.head then left_at n.heads visit else n.st
 -- a thread takes the item of a slot, in the visit at which its round began
 abbrev pub takes_in : ℕ → ℕ → ℕ → Notes → Notes
 takes_in visit thread index n =
-    goes_to (own_call n thread) (At (took_point n visit)) (goes_to (slot n index).owner (At (gone_point n index visit)) (slot_is index (record (slot n index) { settled = false }) n))
+    goes_to (own_call n thread) (At (took_point n visit))
+    (goes_to (slot n index).owner (At (gone_point n index visit))
+    (slot_is index (record (slot n index) { settled = false }) n))
 
 abbrev pub takes : ℕ → ℕ → Notes → Notes
 takes thread index n = takes_in (caller n thread).head_seen thread index n
@@ -130,7 +139,8 @@ marked shape thread ends LoadEnds n = loads_ends thread n
 marked shape thread ends Recheck n = n
 marked shape thread ends (Put index) n = puts thread index n
 marked shape thread ends (Undo index) n = undoes thread index n
-marked shape thread ends (ReloadEnds index segment) n = settles thread index (n.head + distance shape.n (head_of ends) segment) n
+marked shape thread ends (ReloadEnds index segment) n =
+    settles thread index (n.head + distance shape.n (head_of ends) segment) n
 marked shape thread ends (HoldHead index) n = settles thread index n.head n
 marked shape thread ends (Take index) n = takes thread index n
 marked shape thread ends MoveHead n = record n { head = n.head + 1; heads = leaves n.head n.step n.heads }
@@ -157,13 +167,18 @@ stepped shape thread ends action outcome n = later (ended thread outcome (marked
 
 -- a call begins
 abbrev pub called : ℕ → Notes → Notes
-called thread n = record n { callers = set n.callers thread (record (caller n thread) { call = n.begun }); begun = n.begun + 1 }
+called thread n = record n {
+  callers = set n.callers thread (record (caller n thread) { call = n.begun });
+  begun = n.begun + 1;
+}
 
 -- after an event of a thread that begins this, or else does this action, that finds these ends and comes to this
 abbrev pub noted_event : Shape → ℕ → Option Begin → ℕ → Action → Outcome → Notes → Notes
 noted_event shape thread None ends action outcome n = stepped shape thread ends action outcome n
-noted_event shape thread (Some (B.Enqueue item start turns)) ends action outcome n = stepped shape thread ends LoadEnds outcome (called thread n)
-noted_event shape thread (Some (B.Dequeue start turns)) ends action outcome n = stepped shape thread ends LoadEnds outcome (called thread n)
+noted_event shape thread (Some (B.Enqueue item start turns)) ends action outcome n =
+    stepped shape thread ends LoadEnds outcome (called thread n)
+noted_event shape thread (Some (B.Dequeue start turns)) ends action outcome n =
+    stepped shape thread ends LoadEnds outcome (called thread n)
 noted_event shape thread (Some B.Tick) ends action outcome n = later n
 
 -- there is room for the slot and the call of an action
@@ -182,7 +197,8 @@ action_at shape world (Some running) = action shape running (found shape world r
 
 -- the notes after an event that comes to this
 abbrev pub fed : Shape → World → Event → Outcome → Notes → Notes
-fed shape world event outcome n = noted_event shape event.thread event.begin (word_at world 0) (action_at shape world (place_of world event.thread)) outcome n
+fed shape world event outcome n = noted_event shape event.thread event.begin (word_at world 0)
+    (action_at shape world (place_of world event.thread)) outcome n
 
 -- an event that begins this begins a call: a tick is none
 abbrev pub begins_call : Option Begin → Bool
@@ -191,7 +207,8 @@ begins_call (Some (B.Enqueue item start turns)) = true
 begins_call (Some (B.Dequeue start turns)) = true
 begins_call (Some B.Tick) = false
 
--- the point that is noted of a slot, of a call by where it stands, and of a call; none where it does not stand in the order
+-- the point that is noted of a slot, of a call by where it stands, and of a call; none where it does not stand in the
+-- order
 abbrev pub point_if : Filling → Option ℕ
 point_if filling = if filling.settled then Some filling.point else None
 

@@ -28,7 +28,8 @@ point l c = point_of (spot l c)
 -- The order of a schedule's calls, by their numbers in its history
 abbrev pub order_of : Shape → ℕ → List Event → List ℕ
 order_of shape threads events =
-    by_point (stands (ledger_after_all shape threads events)) (point (ledger_after_all shape threads events)) (ledger_after_all shape threads events).now (history_of shape threads events)
+    by_point (stands (ledger_after_all shape threads events)) (point (ledger_after_all shape threads events))
+    (ledger_after_all shape threads events).now (history_of shape threads events)
 
 -- the role of a call that stands
 abbrev pub role_of : Option Spot → Role

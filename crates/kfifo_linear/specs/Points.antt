@@ -4,7 +4,7 @@ use Rattle.std.specs.List.{filter, flat_map, range_with_len}
 use Rattle.kfifo_model.specs.declared.calls.Call.{Call}
 use Rattle.kfifo_model.specs.declared.calls.End.{End}
 use Rattle.kfifo_model.specs.Lists.{IsIn, EachPair}
-use Rattle.kfifo_model.specs.Relaxed.{Effect, Adds, Takes, Finds_none, Wrong}
+use Rattle.kfifo_model.specs.Relaxed.{Effect, Adds, Takes, FindsNone, Wrong}
 use Rattle.kfifo_model.specs.Histories.{call, IsFinished, CanStand}
 use Rattle.kfifo_model.specs.Overtaking.{numbers_of}
 
@@ -46,8 +46,8 @@ pub record PointsFit (k : ℕ) (act : ℕ → Effect) (m : Marks) : Type 0 where
   -- an item whose visit the head has left was taken
   pub left_behind : (c p : ℕ) → IsAdd act m c → m.visit c < m.head p → (g : ℕ) × IsTakeOf act m c g
   -- at the point of an Empty head and tail are in one visit, to which nothing has been added
-  pub empty_ends : (e : ℕ) → m.stands e ≡ true → act e ≡ Finds_none → m.head (m.point e) ≡ m.tail (m.point e)
-  pub empty_visit : (e c : ℕ) → m.stands e ≡ true → act e ≡ Finds_none → IsAdd act m c → m.point c ≤ m.point e
+  pub empty_ends : (e : ℕ) → m.stands e ≡ true → act e ≡ FindsNone → m.head (m.point e) ≡ m.tail (m.point e)
+  pub empty_visit : (e c : ℕ) → m.stands e ≡ true → act e ≡ FindsNone → IsAdd act m c → m.point c ≤ m.point e
       → m.visit c ≢ m.head (m.point e)
   -- no standing call has an answer of the other operation
   pub sound : (c : ℕ) → m.stands c ≡ true → act c ≢ Wrong
@@ -76,4 +76,5 @@ pub record StandsFit (h : List Call) (m : Marks) : Type 0 where
 
 -- The calls that stand with their points among the first steps, step by step, and at one step by number.
 abbrev pub by_point : (ℕ → Bool) → (ℕ → ℕ) → ℕ → List Call → List ℕ
-by_point stands point steps h = flat_map (λ p. filter (λ c. stands c && eqb (point c) p) (numbers_of h)) (range_with_len 0 steps)
+by_point stands point steps h = flat_map (λ p. filter (λ c. stands c && eqb (point c) p) (numbers_of h))
+    (range_with_len 0 steps)

@@ -9,7 +9,7 @@ pub data Role : Type 0 where
   -- it gets the item of that call, of this visit
   Gets : (call visit : ℕ) → Role
   -- it finds the list empty, in this visit
-  Finds_none : (visit : ℕ) → Role
+  FindsNone : (visit : ℕ) → Role
   -- it changes nothing
   Refused : Role
 
@@ -31,7 +31,7 @@ spot_of l c Outside = refused_at (l.last c)
 spot_of l c (Inside i) = spot_if (l.settled i) (record { role = Puts (l.visit i) i; point = l.point i })
 spot_of l c (Gone i v p) = Some (record { role = Puts v i; point = p })
 spot_of l c (Took o v p) = Some (record { role = Gets o v; point = p })
-spot_of l c (Stood v p) = Some (record { role = Finds_none v; point = p })
+spot_of l c (Stood v p) = Some (record { role = FindsNone v; point = p })
 
 -- the role and place of a call, where it stands in the order
 unfoldable pub spot : Ledger → ℕ → Option Spot

@@ -16,7 +16,8 @@ ghost use Rattle.kfifo_model.specs.Histories.{does, IsFinished, IsLegal};
 ghost use Rattle.kfifo_model.specs.Overtaking.{numbers_of, overtaken_in, certainly_overtaken, AddsAreDistinct};
 ghost use Rattle.kfifo_linear.specs.Points.{Marks, PointsFit, StandsFit, by_point};
 ghost use Rattle.kfifo_linear.specs.Rows.{IsTwoByTwo, RowsHold};
-ghost use Rattle.kfifo_linear.specs.Headline.{HasLegalOrder, FewOvertake, FewCertainlyOvertake, PointsHold, LawsHold, PutsInVisit, NumbersAgree, OneOrder, TakesInTime};
+ghost use Rattle.kfifo_linear.specs.Headline.{HasLegalOrder, FewOvertake, FewCertainlyOvertake, PointsHold, LawsHold};
+ghost use Rattle.kfifo_linear.specs.Headline.{PutsInVisit, NumbersAgree, OneOrder, TakesInTime};
 
 pub use linearization::{LinearFault, linearization_points, linearize};
 pub use linearizer::Linearizer;
@@ -30,14 +31,16 @@ pub fn points_give_an_order()
 /// In that order each item is overtaken fewer than k times, where the items enqueued in it are distinct.
 pub fn few_overtake_in_the_order()
     ensures { (k steps : ℕ) (h : List Call) (m : Marks) → PointsFit k (does h) m → StandsFit h m
-        → ((c : ℕ) → m.stands c ≡ true → m.point c < steps) → AddsAreDistinct (does h) (by_point m.stands m.point steps h)
+        → ((c : ℕ) → m.stands c ≡ true → m.point c < steps)
+        → AddsAreDistinct (does h) (by_point m.stands m.point steps h)
         → (c x : ℕ) → IsIn c (by_point m.stands m.point steps h) → does h c ≡ Adds x
         → overtaken_in h (by_point m.stands m.point steps h) c < k }
 {}
 
 /// Fewer than k overtakings of an item are certain by the history, where its items are distinct.
 pub fn few_certainly_overtake()
-    ensures { (k : ℕ) (h : List Call) (m : Marks) → PointsFit k (does h) m → StandsFit h m → AddsAreDistinct (does h) (numbers_of h)
+    ensures { (k : ℕ) (h : List Call) (m : Marks) → PointsFit k (does h) m → StandsFit h m
+        → AddsAreDistinct (does h) (numbers_of h)
         → (c x : ℕ) → IsFinished h c → does h c ≡ Adds x → certainly_overtaken h c < k }
 {}
 

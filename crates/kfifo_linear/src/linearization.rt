@@ -157,7 +157,8 @@ pub fn linearization_points(
     events: &[Event],
 ) -> Result<Vec<u64>, LinearFault>
     ensures points { IfOk result (λ points. (0 < threads) × (threads ≤ 64) × IsSchedule shape threads events.now
-        × (points.items ≡ map (point (ledger_after_all shape threads events.now)) (order_of shape threads events.now))) }
+        × (points.items ≡ map (point (ledger_after_all shape threads events.now))
+        (order_of shape threads events.now))) }
     ensures refused { IfErr result (IsLinearFault shape threads events.now) }
 {
     let linearizer = followed(alloc, shape, threads, events)?;

@@ -1,5 +1,6 @@
 //! Following a schedule event by event.
-ghost use Rattle.std.specs.Prelude.{◌≡◌, ℕ, ◌+◌, ◌-◌, ◌^◌, ◌<◌, ◌≤◌, ◌⊎◌, ◌↔◌, List, [], ◌∷◌, ◌++◌, length, map, true, IfOk, IfErr, OnErr, Ok, Err};
+ghost use Rattle.std.specs.Prelude.{◌≡◌, ℕ, ◌+◌, ◌-◌, ◌^◌, ◌<◌, ◌≤◌, ◌⊎◌, ◌↔◌, List, [], ◌∷◌, ◌++◌, length, map, true};
+ghost use Rattle.std.specs.Prelude.{IfOk, IfErr, OnErr, Ok, Err};
 ghost use Rattle.kfifo_machine.specs.Machine;
 ghost use Rattle.kfifo_machine.specs.Machine.{place_of};
 ghost use Rattle.kfifo_machine.specs.declared.event.Event.{Event};
@@ -104,10 +105,12 @@ impl Linearizer {
         requires steps { self.old.notes.step < 2 ^ 64 - 1 }
         requires room { begins_call event.begin ≡ true → self.old.notes.begun < length self.old.notes.calls }
         ensures shape { self.new.shape ≡ self.old.shape }
-        ensures made { IfOk result (λ outcome. Machine.step self.old.shape self.old.world event ≡ Ok (self.new.world, outcome)) }
+        ensures made { IfOk result (λ outcome. Machine.step self.old.shape self.old.world event
+            ≡ Ok (self.new.world, outcome)) }
         ensures refused { IfErr result (λ fault. Machine.step self.old.shape self.old.world event ≡ Err fault) }
         ensures unchanged { OnErr result (self.new ≡ self.old) }
-        ensures follows { IfOk result (λ _. (threads room : ℕ) (events : List Event) → Follows threads room events self.old
+        ensures follows { IfOk result (λ _. (threads room : ℕ) (events : List Event)
+            → Follows threads room events self.old
             → Follows threads room (events ++ event ∷ []) self.new) }
     {
         let shape = self.state.shape();
@@ -123,8 +126,10 @@ impl Linearizer {
         ensures calls { IfOk result (λ placed. (threads room : ℕ) (events : List Event)
             → Follows threads room events self.now → threads ≤ 64
             → map (λ p. p.1) placed.items ≡ order_of self.now.shape threads events) }
-        ensures points { IfOk result (λ placed. (threads room : ℕ) (events : List Event) → Follows threads room events self.now
-            → map (λ p. p.0) placed.items ≡ map (point (ledger_after_all self.now.shape threads events)) (map (λ p. p.1) placed.items)) }
+        ensures points { IfOk result (λ placed. (threads room : ℕ) (events : List Event)
+            → Follows threads room events self.now
+            → map (λ p. p.0) placed.items ≡ map (point (ledger_after_all self.now.shape threads events))
+            (map (λ p. p.1) placed.items)) }
     {
         let mut points = self.notes.points(alloc)?;
         points.sort_unstable();
@@ -134,7 +139,8 @@ impl Linearizer {
     /// The linearization order of the events that it has followed, as numbers of calls by their first
     /// events. Memory where an allocation failed.
     pub fn order(&self, alloc: Global) -> Result<Vec<usize>, AllocError>
-        ensures { IfOk result (λ order. (threads room : ℕ) (events : List Event) → Follows threads room events self.now → threads ≤ 64
+        ensures { IfOk result (λ order. (threads room : ℕ) (events : List Event) → Follows threads room events self.now
+            → threads ≤ 64
             → order.items ≡ order_of self.now.shape threads events) }
     {
         let placed = self.sorted(alloc)?;
@@ -144,8 +150,10 @@ impl Linearizer {
     /// The points of the calls in that order, each a step of the schedule. Memory where an allocation
     /// failed.
     pub fn points(&self, alloc: Global) -> Result<Vec<u64>, AllocError>
-        ensures { IfOk result (λ points. (threads room : ℕ) (events : List Event) → Follows threads room events self.now → threads ≤ 64
-            → points.items ≡ map (point (ledger_after_all self.now.shape threads events)) (order_of self.now.shape threads events)) }
+        ensures { IfOk result (λ points. (threads room : ℕ) (events : List Event) → Follows threads room events self.now
+            → threads ≤ 64
+            → points.items ≡ map (point (ledger_after_all self.now.shape threads events))
+            (order_of self.now.shape threads events)) }
     {
         let placed = self.sorted(alloc)?;
         points_of(alloc, placed.as_slice())

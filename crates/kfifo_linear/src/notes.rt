@@ -1,7 +1,10 @@
 //! What is kept of a schedule to name the order of its calls: lists of fixed sizes, made once.
 ghost use Rattle.std.specs.Prelude.{◌≡◌, ◌+◌, ◌-◌, ◌*◌, ◌^◌, ◌<◌, None, true, length, replicate, IfOk};
 ghost use Rattle.kfifo_machine.specs.Places.{IsEnds};
-ghost use Rattle.kfifo_linear.specs.Notes.{Notes, HasRoom, own_call, slot, left_at, leaves, loads_ends, puts, undoes, settle_point, settles, took_point, gone_point, takes, marked, ended, stepped, called, later, no_notes, begins_call, noted_event, point_at, points_below};
+ghost use Rattle.kfifo_linear.specs.Notes.{Notes, HasRoom, own_call, slot, left_at, leaves, loads_ends, puts, undoes};
+ghost use Rattle.kfifo_linear.specs.Notes.{settle_point, settles, took_point, gone_point, takes, marked, ended};
+ghost use Rattle.kfifo_linear.specs.Notes.{stepped, called, later, no_notes, begins_call, noted_event, point_at};
+ghost use Rattle.kfifo_linear.specs.Notes.{points_below};
 
 use crate::action::Action;
 use kfifo_machine::{Begin, Event, Outcome};

@@ -19,7 +19,8 @@ use Rattle.kfifo_live.specs.Scans.{IsScan, Scan, is_empty, is_filled}
 
 -- an enqueue looks for an empty slot of the tail's segment
 pub tail_is_scan : {T : Type 0} (call : Enqueue T) (ends segment limit : ℕ) → segment ≡ tail_of ends → limit ≡ call.ring.shape.now.probes
-    → IsScan call.ring.shape.now is_empty segment call.start limit (λ seen. enqueue_at call (E.ScanTail ends seen)) (λ found. Goes (enqueue_at call (E.Recheck ends found)))
+    → IsScan call.ring.shape.now is_empty segment call.start limit (λ seen. enqueue_at call (E.ScanTail ends seen))
+    (λ found. Goes (enqueue_at call (E.Recheck ends found)))
 tail_is_scan call ends segment limit at all = record {
   looks = λ seen. ap (λ s. Load (scan_index call.ring.shape.now s call.start seen)) (sym at);
   finds = λ seen word stops. grind (arith, nat_tests);
@@ -27,7 +28,8 @@ tail_is_scan call ends segment limit at all = record {
   goes_on = λ seen word vain more. grind (arith, nat_tests);
 }
 
-abbrev pub tail_scan : {T : Type 0} (call : Enqueue T) (ends segment limit : ℕ) → segment ≡ tail_of ends → limit ≡ call.ring.shape.now.probes → Scan call.ring.shape.now is_empty segment call.start limit
+abbrev pub tail_scan : {T : Type 0} (call : Enqueue T) (ends segment limit : ℕ) → segment ≡ tail_of ends
+    → limit ≡ call.ring.shape.now.probes → Scan call.ring.shape.now is_empty segment call.start limit
 tail_scan call ends segment limit at all = record {
   looking = λ seen. enqueue_at call (E.ScanTail ends seen);
   leads = λ found. Goes (enqueue_at call (E.Recheck ends found));
@@ -37,7 +39,8 @@ tail_scan call ends segment limit at all = record {
 -- where the ring may be full, it looks for a filled slot of the head's segment
 abbrev pub after_full_scan : {T : Type 0} → Enqueue T → ℕ → Found → Next
 after_full_scan call ends (Slot index word) = Goes (enqueue_at call (E.ConfirmFull ends))
-after_full_scan call ends Nothing = if version_of ends == call.ring.shape.now.last then Answers Worn else Goes (enqueue_at call (E.MoveHead ends))
+after_full_scan call ends Nothing = if version_of ends == call.ring.shape.now.last then Answers Worn else Goes
+    (enqueue_at call (E.MoveHead ends))
 
 pub full_is_scan : {T : Type 0} (call : Enqueue T) (ends segment limit : ℕ) → segment ≡ head_of ends → limit ≡ call.ring.shape.now.k
     → IsScan call.ring.shape.now is_filled segment 0 limit (λ seen. enqueue_at call (E.ScanHead ends seen)) (after_full_scan call ends)
@@ -48,7 +51,8 @@ full_is_scan call ends segment limit at all = record {
   goes_on = λ seen word vain more. grind (arith, nat_tests);
 }
 
-abbrev pub full_scan : {T : Type 0} (call : Enqueue T) (ends segment limit : ℕ) → segment ≡ head_of ends → limit ≡ call.ring.shape.now.k → Scan call.ring.shape.now is_filled segment 0 limit
+abbrev pub full_scan : {T : Type 0} (call : Enqueue T) (ends segment limit : ℕ) → segment ≡ head_of ends → limit ≡ call.ring.shape.now.k
+    → Scan call.ring.shape.now is_filled segment 0 limit
 full_scan call ends segment limit at all = record {
   looking = λ seen. enqueue_at call (E.ScanHead ends seen);
   leads = after_full_scan call ends;
@@ -57,7 +61,8 @@ full_scan call ends segment limit at all = record {
 
 -- a dequeue looks for a filled slot of the head's segment
 pub head_is_scan : {T : Type 0} (call : Dequeue T) (ends segment limit : ℕ) → segment ≡ head_of ends → limit ≡ call.ring.shape.now.k
-    → IsScan call.ring.shape.now is_filled segment call.start limit (λ seen. dequeue_at call (D.ScanHead ends seen)) (λ found. Goes (dequeue_at call (D.Recheck ends found)))
+    → IsScan call.ring.shape.now is_filled segment call.start limit (λ seen. dequeue_at call (D.ScanHead ends seen))
+    (λ found. Goes (dequeue_at call (D.Recheck ends found)))
 head_is_scan call ends segment limit at all = record {
   looks = λ seen. ap (λ s. Load (scan_index call.ring.shape.now s call.start seen)) (sym at);
   finds = λ seen word stops. grind (arith, nat_tests);
@@ -65,7 +70,8 @@ head_is_scan call ends segment limit at all = record {
   goes_on = λ seen word vain more. grind (arith, nat_tests);
 }
 
-abbrev pub head_scan : {T : Type 0} (call : Dequeue T) (ends segment limit : ℕ) → segment ≡ head_of ends → limit ≡ call.ring.shape.now.k → Scan call.ring.shape.now is_filled segment call.start limit
+abbrev pub head_scan : {T : Type 0} (call : Dequeue T) (ends segment limit : ℕ) → segment ≡ head_of ends → limit ≡ call.ring.shape.now.k
+    → Scan call.ring.shape.now is_filled segment call.start limit
 head_scan call ends segment limit at all = record {
   looking = λ seen. dequeue_at call (D.ScanHead ends seen);
   leads = λ found. Goes (dequeue_at call (D.Recheck ends found));

@@ -14,11 +14,12 @@ use Rattle.kfifo_live.specs.declared.view.View.{View}
 use Rattle.kfifo_live.specs.Schedule.{world_after, seen_of, AllBegin, OneSchedule}
 use Rattle.kfifo_live.specs.Left.{items_left}
 use Rattle.kfifo_live.specs.Balance.{times, undos, takes}
-use Rattle.kfifo_live.specs.Pass.{OpenQueue, Known, IsPass, AllSeen, IsGathered, Closes}
+use Rattle.kfifo_live.specs.Pass.{OpenQueue, PassView, IsPass, AllSeen, IsJoined, Closes}
 use Rattle.kfifo_live.proofs.Balance.{balance}
 use Rattle.kfifo_live.proofs.Passes.{keeps_promise}
 
-pub all_seen_push : (ps : List Known) (p : Known) (all : List Event) → AllSeen ps all → Begins p.thread p.seen all → AllSeen (ps ++ p ∷ []) all
+pub all_seen_push : (ps : List PassView) (p : PassView) (all : List Event) → AllSeen ps all → Begins p.thread p.seen all
+    → AllSeen (ps ++ p ∷ []) all
 all_seen_push [] p all s b = (b, tt)
 all_seen_push (x ∷ ps) p all s b = (s.0, all_seen_push ps p all s.1 b)
 
@@ -27,15 +28,19 @@ all_begin_parts [] ys all b = (tt, b)
 all_begin_parts (x ∷ xs) ys all b = let r = all_begin_parts xs ys all b.1 in ((b.0, r.0), r.1)
 
 -- the one part of a pass
-pub pass_begins : {T : Type 0} (thread : ℕ) (me : Me (Option T) (View T)) (p : Known) (all : List Event) → IsPass thread me → p.thread ≡ thread → p.seen ≡ seen_of me.0 → AllBegin me.0.parts all → Begins p.thread p.seen all
+pub pass_begins : {T : Type 0} (thread : ℕ) (me : Me (Option T) (View T)) (p : PassView) (all : List Event) → IsPass thread me
+    → p.thread ≡ thread → p.seen ≡ seen_of me.0 → AllBegin me.0.parts all → Begins p.thread p.seen all
 pass_begins {T} thread me p all is same_thread same_seen b =
     let one = subst (λ (ps : List (Part T)). AllBegin ps all) is.alone b in
     subst (λ (x : ℕ × List Event). Begins x.0 x.1 all) (λ i. (sym same_thread i, sym same_seen i)) one.0
 
-pub closes : {T : Type 0} (q : OpenQueue) (ps : List Known) (items table_words : List ℕ) (slots : List (Option T)) (key : Opening) (id : ℕ) (v w : View T) (rest : List Known) (last : Known)
-    → key ≡ q.opened → ps ≡ rest ++ last ∷ [] → IsGathered v rest w
+pub closes : {T : Type 0} (q : OpenQueue) (ps : List PassView) (items table_words : List ℕ) (slots : List (Option T)) (key : Opening)
+    (id : ℕ) (v w : View T) (rest : List PassView) (last : PassView)
+    → key ≡ q.opened → ps ≡ rest ++ last ∷ [] → IsJoined v rest w
     → ((all : List Event) → AllBegin v.parts all → Begins last.thread last.seen all)
-    → q.opened.threads ≤ 64 → items ≡ items_left q.opened.shape table_words → Final (Seen (λ (s : State (Option T) (View T)). OneSchedule key s.words s.homes s.views) id w) table_words slots → Closes q ps items
+    → q.opened.threads ≤ 64 → items ≡ items_left q.opened.shape table_words
+    → Final (Seen (λ (s : State (Option T) (View T)). OneSchedule key s.words s.homes s.views) id w) table_words slots
+    → Closes q ps items
 closes q ps items table_words slots key id v w rest last opened ps_are gathered of_last few same f =
     let kept = f.1.0 in
     let parts = (kept.fit id w f.1.1).begin in
@@ -46,14 +51,18 @@ closes q ps items table_words slots key id v w rest last opened ps_are gathered 
       all = kept.all;
       world = kept.world;
       reached = reached;
-      begin = subst (λ (xs : List Known). AllSeen xs kept.all) (sym ps_are) (all_seen_push rest last kept.all seen.1 (of_last kept.all seen.0));
+      begin = subst (λ (xs : List PassView). AllSeen xs kept.all) (sym ps_are)
+          (all_seen_push rest last kept.all seen.1 (of_last kept.all seen.0));
       items_are = items_are;
-      balance = λ item. balance q.opened kept.all kept.world item reached ∙ ap (λ xs. undos item q.opened kept.all + (takes item q.opened kept.all + times item xs)) (sym items_are);
+      balance = λ item. balance q.opened kept.all kept.world item reached
+          ∙ ap (λ xs. undos item q.opened kept.all + (takes item q.opened kept.all + times item xs)) (sym items_are);
       promise = keeps_promise q.opened kept.all kept.world few reached;
     }
 
 -- the ends word of a closed table names segments
-pub final_head : {T : Type 0} (slots : List (Option T)) (words : List ℕ) (o : Opening) (id : ℕ) (w : View T) → Final (Seen (λ (s : State (Option T) (View T)). OneSchedule o s.words s.homes s.views) id w) words slots → head_of (get_or words 0 0) < o.shape.n
+pub final_head : {T : Type 0} (slots : List (Option T)) (words : List ℕ) (o : Opening) (id : ℕ) (w : View T)
+    → Final (Seen (λ (s : State (Option T) (View T)). OneSchedule o s.words s.homes s.views) id w) words slots
+    → head_of (get_or words 0 0) < o.shape.n
 unfolding word_at
 final_head slots words o id w f =
     let kept = f.1.0 in

@@ -1,5 +1,7 @@
 -- Which enqueue put the word that stands in a slot: where the holder law is kept, the one that last began with its item.
-use Rattle.std.proofs.Common.{◌≡◌, ◌≢◌, ◌⊎◌, ℕ, zero, suc, ◌+◌, ◌*◌, ◌<◌, ◌≤◌, List, [], ◌∷◌, ◌++◌, map, get_or, replicate, append_assoc, Option, Some, None, Ok, Bool, true, false, refl, sym, ap, ◌∙◌, subst, inl, inr, arith, cond, eqb, eq-eqb, ne_eqb, eqb-true}
+use Rattle.std.proofs.Common.{◌≡◌, ◌≢◌, ◌⊎◌, ℕ, zero, suc, ◌+◌, ◌*◌, ◌<◌, ◌≤◌, List, [], ◌∷◌, ◌++◌, map, get_or, replicate, append_assoc}
+use Rattle.std.proofs.Common.{Option, Some, None, Ok, Bool, true, false, refl, sym, ap, ◌∙◌, subst, inl, inr, arith, cond, eqb, eq-eqb}
+use Rattle.std.proofs.Common.{ne_eqb, eqb-true}
 use Rattle.std.specs.Prelude.{◌==◌}
 use Rattle.std.proofs.lemmas.Bool.{cases_eq}
 use Rattle.std.proofs.lemmas.Bool.Decides.{nat_tests}
@@ -24,7 +26,8 @@ use Rattle.kfifo_machine.specs.declared.place.Next.{Next}
 use Rattle.kfifo_machine.specs.declared.place.Next.TheVariants.{Goes, Answers}
 use Rattle.kfifo_machine.specs.declared.place.Access.TheVariants.{Exchange}
 use Rattle.kfifo_machine.specs.Program.{access, accessed, advance, emptied, enqueue_advance, filled_with}
-use Rattle.kfifo_machine.specs.Machine.{World, opening, moved, found, word_at, place_of, place_after, outcome_of, begun, may_begin, world_of, step, run}
+use Rattle.kfifo_machine.specs.Machine.{World, opening, moved, found, word_at, place_of, place_after, outcome_of, begun, may_begin}
+use Rattle.kfifo_machine.specs.Machine.{world_of, step, run}
 use Rattle.kfifo_machine.specs.Runs.{event, own, going, AllGoOn, CompleteExecution}
 use Rattle.kfifo_machine.specs.Places.{IsPlace}
 use Rattle.kfifo_machine.specs.Laws.{PutsNext}
@@ -39,7 +42,7 @@ use Rattle.kfifo_machine.proofs.Versions.{one_word, won_word, word_rises}
 use Rattle.kfifo_live.specs.declared.view.Opening.{Opening}
 use Rattle.kfifo_live.specs.Schedule.{HolderLaw, world_after}
 use Rattle.kfifo_live.specs.Hands.{Gifts, InTurn, beside, item_begun, items_begun, last_gift, own_item, out_at, out_in}
-use Rattle.kfifo_live.specs.Payloads.{PayKnown, TakesAtLast, TookWhatWasPut, WasPutWith}
+use Rattle.kfifo_live.specs.Payloads.{PayPassView, TakesAtLast, TookWhatWasPut, WasPutWith}
 use Rattle.kfifo_live.proofs.Balance.{Knows, know_after, value-zero}
 use Rattle.kfifo_live.proofs.Holders.{begin_free_before}
 use Rattle.kfifo_live.proofs.Turns.{items_begun-append}
@@ -882,7 +885,7 @@ took_last o thread start turns token old new run =
     ]
 
 -- What a pass took was put with the payload that it hands back
-pub took_what_was_put : {T : Type 0} (token : ℕ) (payload : T) (p : PayKnown T) (start turns : ℕ) (old : List Event)
+pub took_what_was_put : {T : Type 0} (token : ℕ) (payload : T) (p : PayPassView T) (start turns : ℕ) (old : List Event)
     → CompleteExecution p.pass.opened.shape p.pass.opened.threads p.pass.thread (B.Dequeue start turns) (Got token) old p.pass.seen
     → 0 < token → HolderLaw p.pass.opened p.pass.seen → InTurn p.pass.seen p.gifts → beside token p.gifts ≡ Some payload
     → TookWhatWasPut token payload p

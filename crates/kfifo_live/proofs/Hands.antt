@@ -1,5 +1,6 @@
 -- What a step of a thread does to the tokens, its own and those of others.
-use Rattle.std.proofs.Common.{◌≡◌, ◌≢◌, ◌⊎◌, ℕ, zero, suc, ◌-◌, ◌<◌, ◌≤◌, List, [], ◌∷◌, ◌++◌, length, Option, Some, None, Bool, true, false, refl, sym, ap, ◌∙◌, subst, inl, inr, arith, cond, eq-eqb, ne_eqb}
+use Rattle.std.proofs.Common.{◌≡◌, ◌≢◌, ◌⊎◌, ℕ, zero, suc, ◌-◌, ◌<◌, ◌≤◌, List, [], ◌∷◌, ◌++◌, length, Option, Some, None, Bool, true}
+use Rattle.std.proofs.Common.{false, refl, sym, ap, ◌∙◌, subst, inl, inr, arith, cond, eq-eqb, ne_eqb}
 use Rattle.std.specs.Prelude.{◌==◌, slice_set}
 use Rattle.std.proofs.lemmas.Bool.{cases_eq}
 use Rattle.std.proofs.lemmas.Bool.Decides.{nat_tests}
@@ -28,25 +29,31 @@ use Rattle.kfifo_machine.proofs.Alone.{slots_stay}
 use Rattle.kfifo_machine.proofs.Quiet.{words_by}
 use Rattle.kfifo_machine.proofs.Tokens.{EnqueueKnows, value-emptied, value-filled_with}
 use Rattle.kfifo_live.specs.declared.view.Hand.{Hand}
-use Rattle.kfifo_live.specs.Hands.{FitsOwn, Gifts, Homes, Where, Home, Out, In, Move, Stays, Lays, Lifts, Takes, move, out_in, out_at, own_item, out_next, last_gift, beside, AllHome, PutFits, GiftFits, CallFits, HandFits, Leaves, SlotsFit, where_after, hand_after, slot_of, act_of}
+use Rattle.kfifo_live.specs.Hands.{FitsOwn, Gifts, Homes, Where, Home, Out, In, Move, Stays, Lays, Lifts, Takes, move, out_in, out_at}
+use Rattle.kfifo_live.specs.Hands.{own_item, out_next, last_gift, beside, AllHome, PutFits, GiftFits, CallFits, HandFits, Leaves, SlotsFit}
+use Rattle.kfifo_live.specs.Hands.{where_after, hand_after, slot_of, act_of}
 use Rattle.kfifo_live.proofs.Balance.{DequeueKnows, Knows}
 
 -- the last gift of an item, after one more
-last_gift-snoc : {T : Type 0} (item x : ℕ) (found p : Option T) (gifts : Gifts T) → last_gift item found (gifts ++ (x, p) ∷ []) ≡ cond (x == item) p (last_gift item found gifts)
+last_gift-snoc : {T : Type 0} (item x : ℕ) (found p : Option T) (gifts : Gifts T)
+    → last_gift item found (gifts ++ (x, p) ∷ []) ≡ cond (x == item) p (last_gift item found gifts)
 last_gift-snoc item x found p [] = refl
 last_gift-snoc item x found p (g ∷ gs) = last_gift-snoc item x (cond (g.0 == item) g.1 found) p gs
 
 pub beside-same : {T : Type 0} (x : ℕ) (p : Option T) (gifts : Gifts T) → beside x (gifts ++ (x, p) ∷ []) ≡ p
 beside-same x p gifts = last_gift-snoc x x None p gifts ∙ ap (λ b. cond b p (beside x gifts)) (eq-eqb x x refl)
 
-pub beside-other : {T : Type 0} (item x : ℕ) (p : Option T) (gifts : Gifts T) → x ≢ item → beside item (gifts ++ (x, p) ∷ []) ≡ beside item gifts
+pub beside-other : {T : Type 0} (item x : ℕ) (p : Option T) (gifts : Gifts T) → x ≢ item
+    → beside item (gifts ++ (x, p) ∷ []) ≡ beside item gifts
 beside-other item x p gifts ne = last_gift-snoc item x None p gifts ∙ ap (λ b. cond b p (beside item gifts)) (ne_eqb x item ne)
 
 -- what a step does to the slots and the tokens
 pub data Turn (c : ℕ) (w v : ℕ → ℕ) (r : Running) (m : Move) : Type 0 where
   Quiet : m ≡ Stays → ((i : ℕ) → 0 < i → i < c → v i ≡ w i) → Turn c w v r m
-  Laid : (index : ℕ) → m ≡ Lays index → 0 < own_item r → out_at r ≡ own_item r → value_of (v index) ≡ own_item r → ((i : ℕ) → i ≢ index → v i ≡ w i) → Turn c w v r m
-  Lifted : (index x : ℕ) → (m ≡ Lifts x) ⊎ (m ≡ Takes x) → 0 < index → index < c → value_of (w index) ≡ x → 0 < x → out_at r ≡ 0 → value_of (v index) ≡ 0 → ((i : ℕ) → i ≢ index → v i ≡ w i) → Turn c w v r m
+  Laid : (index : ℕ) → m ≡ Lays index → 0 < own_item r → out_at r ≡ own_item r → value_of (v index) ≡ own_item r
+      → ((i : ℕ) → i ≢ index → v i ≡ w i) → Turn c w v r m
+  Lifted : (index x : ℕ) → (m ≡ Lifts x) ⊎ (m ≡ Takes x) → 0 < index → index < c → value_of (w index) ≡ x → 0 < x → out_at r ≡ 0
+      → value_of (v index) ≡ 0 → ((i : ℕ) → i ≢ index → v i ≡ w i) → Turn c w v r m
 
 other_word : (w : ℕ → ℕ) (index from to i : ℕ) → i ≢ index → words_by (Exchange index from to) w i ≡ w i
 other_word w index from to i ne = grind (arith, nat_tests)
@@ -71,14 +78,16 @@ module _ (shape : Shape) (w : ℕ → ℕ) where
   abbrev pub Turns : Running → Type 0
   Turns r = Turn (clock_at shape.k shape.n) w (words_by (access shape r) w) r (move r (w (accessed (access shape r))))
 
-  turns_enqueue : (item start left : ℕ) (phase : EnqueuePhase) → IsPlace shape (R.Enqueue item start left phase) → EnqueueKnows item phase → Turns (R.Enqueue item start left phase)
+  turns_enqueue : (item start left : ℕ) (phase : EnqueuePhase) → IsPlace shape (R.Enqueue item start left phase) → EnqueueKnows item phase
+      → Turns (R.Enqueue item start left phase)
   turns_enqueue item start left E.LoadEnds place knows = Quiet refl (λ i a b. refl)
   turns_enqueue item start left (E.ScanTail ends offset) place knows = Quiet refl (λ i a b. refl)
   turns_enqueue item start left (E.Recheck ends seen) place knows = Quiet refl (λ i a b. refl)
   turns_enqueue item start left (E.Put ends index empty) place knows =
       elim (cases_eq (w index) empty) [
         | inl won ↦ Laid index (won_move (w index) empty (Lays index) won) place.0 refl
-            (ap value_of (this_word w index empty (filled_with item empty) won) ∙ value-filled_with item empty place.1) (λ i ne. other_word w index empty (filled_with item empty) i ne)
+            (ap value_of (this_word w index empty (filled_with item empty) won) ∙ value-filled_with item empty place.1)
+            (λ i ne. other_word w index empty (filled_with item empty) i ne)
         | inr lost ↦ Quiet (lost_move (w index) empty (Lays index) lost) (λ i a b. lost_word w index empty (filled_with item empty) i lost)
       ]
   turns_enqueue item start left (E.ReloadSlot ends index filled) place knows = Quiet refl (λ i a b. refl)
@@ -86,8 +95,10 @@ module _ (shape : Shape) (w : ℕ → ℕ) where
   turns_enqueue item start left (E.HoldHead index filled held) place knows = Quiet refl (λ i a b. slots_stay w held _ i a)
   turns_enqueue item start left (E.Undo index filled worn) place knows =
       elim (cases_eq (w index) filled) [
-        | inl won ↦ Lifted index item (inl (won_move (w index) filled (Lifts item) won)) place.4.1.above place.4.1.below (ap value_of won ∙ knows) place.0 refl
-            (ap value_of (this_word w index filled (emptied filled) won) ∙ value-emptied filled) (λ i ne. other_word w index filled (emptied filled) i ne)
+        | inl won ↦ Lifted index item (inl (won_move (w index) filled (Lifts item) won)) place.4.1.above place.4.1.below
+            (ap value_of won ∙ knows) place.0 refl
+            (ap value_of (this_word w index filled (emptied filled) won) ∙ value-emptied filled)
+            (λ i ne. other_word w index filled (emptied filled) i ne)
         | inr lost ↦ Quiet (lost_move (w index) filled (Lifts item) lost) (λ i a b. lost_word w index filled (emptied filled) i lost)
       ]
   turns_enqueue item start left (E.ScanHead ends offset) place knows = Quiet refl (λ i a b. refl)
@@ -95,16 +106,20 @@ module _ (shape : Shape) (w : ℕ → ℕ) where
   turns_enqueue item start left (E.MoveHead ends) place knows = Quiet refl (λ i a b. slots_stay w ends _ i a)
   turns_enqueue item start left (E.MoveTail ends) place knows = Quiet refl (λ i a b. slots_stay w ends _ i a)
 
-  turns_dequeue : (start left : ℕ) (phase : DequeuePhase) → IsPlace shape (R.Dequeue start left phase) → DequeueKnows phase → Turns (R.Dequeue start left phase)
+  turns_dequeue : (start left : ℕ) (phase : DequeuePhase) → IsPlace shape (R.Dequeue start left phase) → DequeueKnows phase
+      → Turns (R.Dequeue start left phase)
   turns_dequeue start left D.LoadEnds place knows = Quiet refl (λ i a b. refl)
   turns_dequeue start left (D.ScanHead ends offset) place knows = Quiet refl (λ i a b. refl)
   turns_dequeue start left (D.Recheck ends seen) place knows = Quiet refl (λ i a b. refl)
   turns_dequeue start left (D.MoveTail ends index filled) place knows = Quiet refl (λ i a b. slots_stay w ends _ i a)
   turns_dequeue start left (D.Take ends index filled) place knows =
       elim (cases_eq (w index) filled) [
-        | inl won ↦ Lifted index (value_of filled) (inr (won_move (w index) filled (Takes (value_of filled)) won)) place.2.1.above place.2.1.below (ap value_of won) (above_zero (value_of filled) knows) refl
-            (ap value_of (this_word w index filled (emptied filled) won) ∙ value-emptied filled) (λ i ne. other_word w index filled (emptied filled) i ne)
-        | inr lost ↦ Quiet (lost_move (w index) filled (Takes (value_of filled)) lost) (λ i a b. lost_word w index filled (emptied filled) i lost)
+        | inl won ↦ Lifted index (value_of filled) (inr (won_move (w index) filled (Takes (value_of filled)) won)) place.2.1.above
+            place.2.1.below (ap value_of won) (above_zero (value_of filled) knows) refl
+            (ap value_of (this_word w index filled (emptied filled) won) ∙ value-emptied filled)
+            (λ i ne. other_word w index filled (emptied filled) i ne)
+        | inr lost ↦ Quiet (lost_move (w index) filled (Takes (value_of filled)) lost)
+            (λ i a b. lost_word w index filled (emptied filled) i lost)
       ]
   turns_dequeue start left (D.MoveHead ends) place knows = Quiet refl (λ i a b. slots_stay w ends _ i a)
 
@@ -120,7 +135,8 @@ out_after out (Lifts item) = item
 out_after out (Takes item) = item
 
 enqueue_out : (shape : Shape) (item start left : ℕ) (phase : EnqueuePhase) (word : ℕ)
-    → out_next item (enqueue_advance shape item start left phase word) ≡ out_after (out_in item phase) (move (R.Enqueue item start left phase) word)
+    → out_next item (enqueue_advance shape item start left phase word)
+    ≡ out_after (out_in item phase) (move (R.Enqueue item start left phase) word)
 unfolding out_after
 enqueue_out shape item start left phase word = grind (arith, nat_tests)
 
@@ -136,13 +152,15 @@ NextGift words gifts payload (Goes (R.Dequeue start left phase)) = Unit {0}
 NextGift words gifts payload (Answers answer) = Unit {0}
 
 module _ {T : Type 0} (shape : Shape) (w : ℕ → ℕ) (gifts : Gifts T) (payload : Option T) (item start left : ℕ) where
-  pub held_on : (phase : EnqueuePhase) (v : ℕ → ℕ) (word : ℕ) → move (R.Enqueue item start left phase) word ≡ Stays → out_in item phase ≡ item → 0 < item → beside item gifts ≡ payload
+  pub held_on : (phase : EnqueuePhase) (v : ℕ → ℕ) (word : ℕ) → move (R.Enqueue item start left phase) word ≡ Stays
+      → out_in item phase ≡ item → 0 < item → beside item gifts ≡ payload
       → NextGift v gifts payload (enqueue_advance shape item start left phase word)
   held_on phase v word stays out positive is = grind (arith, nat_tests)
 
 -- an item that was put
 module _ {T : Type 0} (shape : Shape) (w : ℕ → ℕ) (gifts : Gifts T) (payload : Option T) (item start left : ℕ) where
-  put_on : (phase : EnqueuePhase) (v : ℕ → ℕ) (word : ℕ) → move (R.Enqueue item start left phase) word ≡ Stays → out_in item phase ≡ 0 → 0 < item
+  put_on : (phase : EnqueuePhase) (v : ℕ → ℕ) (word : ℕ) → move (R.Enqueue item start left phase) word ≡ Stays → out_in item phase ≡ 0
+      → 0 < item
       → ((index filled : ℕ) → PutFits w gifts payload item index filled → PutFits v gifts payload item index filled)
       → GiftFits w gifts payload item phase → NextGift v gifts payload (enqueue_advance shape item start left phase word)
   put_on phase v word stays out positive same fits = grind (arith, nat_tests)
@@ -196,34 +214,51 @@ module _ {T : Type 0} (shape : Shape) (w v : ℕ → ℕ) (at at' : ℕ → Wher
         )
       ]
 
-  gift_other : (u item start left : ℕ) (phase : EnqueuePhase) (payload : Option T) → u ≢ thread → IsPlace shape (R.Enqueue item start left phase) → EnqueueKnows item phase
-      → (out_in item phase ≢ 0 → at (out_in item phase) ≡ Out u) → GiftFits w gifts payload item phase → GiftFits v gifts' payload item phase
-  gift_other u item start left E.LoadEnds payload ne place knows out fits = gift_held u item payload ne (out (λ none. absurd (let positive = place.0 in omega arith))) fits
-  gift_other u item start left (E.ScanTail ends offset) payload ne place knows out fits = gift_held u item payload ne (out (λ none. absurd (let positive = place.0 in omega arith))) fits
-  gift_other u item start left (E.Recheck ends seen) payload ne place knows out fits = gift_held u item payload ne (out (λ none. absurd (let positive = place.0 in omega arith))) fits
-  gift_other u item start left (E.Put ends index empty) payload ne place knows out fits = gift_held u item payload ne (out (λ none. absurd (let positive = place.0 in omega arith))) fits
-  gift_other u item start left (E.ReloadSlot ends index filled) payload ne place knows out fits = gift_put item index filled payload place.0 knows place.4.2.above place.4.2.below fits
-  gift_other u item start left (E.ReloadEnds ends index filled) payload ne place knows out fits = gift_put item index filled payload place.0 knows place.4.2.above place.4.2.below fits
-  gift_other u item start left (E.HoldHead index filled held) payload ne place knows out fits = gift_put item index filled payload place.0 knows place.4.3.above place.4.3.below fits
-  gift_other u item start left (E.Undo index filled worn) payload ne place knows out fits = gift_put item index filled payload place.0 knows place.4.1.above place.4.1.below fits
-  gift_other u item start left (E.ScanHead ends offset) payload ne place knows out fits = gift_held u item payload ne (out (λ none. absurd (let positive = place.0 in omega arith))) fits
-  gift_other u item start left (E.ConfirmFull ends) payload ne place knows out fits = gift_held u item payload ne (out (λ none. absurd (let positive = place.0 in omega arith))) fits
-  gift_other u item start left (E.MoveHead ends) payload ne place knows out fits = gift_held u item payload ne (out (λ none. absurd (let positive = place.0 in omega arith))) fits
-  gift_other u item start left (E.MoveTail ends) payload ne place knows out fits = gift_held u item payload ne (out (λ none. absurd (let positive = place.0 in omega arith))) fits
+  gift_other : (u item start left : ℕ) (phase : EnqueuePhase) (payload : Option T) → u ≢ thread
+      → IsPlace shape (R.Enqueue item start left phase) → EnqueueKnows item phase
+      → (out_in item phase ≢ 0 → at (out_in item phase) ≡ Out u) → GiftFits w gifts payload item phase
+      → GiftFits v gifts' payload item phase
+  gift_other u item start left E.LoadEnds payload ne place knows out fits =
+      gift_held u item payload ne (out (λ none. absurd (let positive = place.0 in omega arith))) fits
+  gift_other u item start left (E.ScanTail ends offset) payload ne place knows out fits =
+      gift_held u item payload ne (out (λ none. absurd (let positive = place.0 in omega arith))) fits
+  gift_other u item start left (E.Recheck ends seen) payload ne place knows out fits =
+      gift_held u item payload ne (out (λ none. absurd (let positive = place.0 in omega arith))) fits
+  gift_other u item start left (E.Put ends index empty) payload ne place knows out fits =
+      gift_held u item payload ne (out (λ none. absurd (let positive = place.0 in omega arith))) fits
+  gift_other u item start left (E.ReloadSlot ends index filled) payload ne place knows out fits =
+      gift_put item index filled payload place.0 knows place.4.2.above place.4.2.below fits
+  gift_other u item start left (E.ReloadEnds ends index filled) payload ne place knows out fits =
+      gift_put item index filled payload place.0 knows place.4.2.above place.4.2.below fits
+  gift_other u item start left (E.HoldHead index filled held) payload ne place knows out fits =
+      gift_put item index filled payload place.0 knows place.4.3.above place.4.3.below fits
+  gift_other u item start left (E.Undo index filled worn) payload ne place knows out fits =
+      gift_put item index filled payload place.0 knows place.4.1.above place.4.1.below fits
+  gift_other u item start left (E.ScanHead ends offset) payload ne place knows out fits =
+      gift_held u item payload ne (out (λ none. absurd (let positive = place.0 in omega arith))) fits
+  gift_other u item start left (E.ConfirmFull ends) payload ne place knows out fits =
+      gift_held u item payload ne (out (λ none. absurd (let positive = place.0 in omega arith))) fits
+  gift_other u item start left (E.MoveHead ends) payload ne place knows out fits =
+      gift_held u item payload ne (out (λ none. absurd (let positive = place.0 in omega arith))) fits
+  gift_other u item start left (E.MoveTail ends) payload ne place knows out fits =
+      gift_held u item payload ne (out (λ none. absurd (let positive = place.0 in omega arith))) fits
 
-  calls_other : (u : ℕ) (place : Option Running) (hand : Hand T) → u ≢ thread → ((r : Running) → place ≡ Some r → IsPlace shape r) → ((r : Running) → place ≡ Some r → Knows r) → (hand.out ≢ 0 → at hand.out ≡ Out u)
+  calls_other : (u : ℕ) (place : Option Running) (hand : Hand T) → u ≢ thread → ((r : Running) → place ≡ Some r → IsPlace shape r)
+      → ((r : Running) → place ≡ Some r → Knows r) → (hand.out ≢ 0 → at hand.out ≡ Out u)
       → CallFits w gifts hand place → CallFits v gifts' hand place
   calls_other u None hand ne is_place knows out fits = tt
   calls_other u (Some (R.Dequeue start left phase)) hand ne is_place knows out fits = fits
   calls_other u (Some (R.Enqueue item start left phase)) hand ne is_place knows out fits = (
     fits.0,
     fits.1,
-    gift_other u item start left phase hand.payload ne (is_place (R.Enqueue item start left phase) refl) (knows (R.Enqueue item start left phase) refl)
+    gift_other u item start left phase hand.payload ne (is_place (R.Enqueue item start left phase) refl)
+        (knows (R.Enqueue item start left phase) refl)
         (λ some_out. ap at (sym fits.0) ∙ out (λ none_out. some_out (sym fits.0 ∙ none_out))) fits.2,
   )
 
   -- the hand of another thread
-  pub other_hand : (u : ℕ) (place : Option Running) (hand : Hand T) → u ≢ thread → ((r : Running) → place ≡ Some r → IsPlace shape r) → ((r : Running) → place ≡ Some r → Knows r)
+  pub other_hand : (u : ℕ) (place : Option Running) (hand : Hand T) → u ≢ thread → ((r : Running) → place ≡ Some r → IsPlace shape r)
+      → ((r : Running) → place ≡ Some r → Knows r)
       → HandFits w place at gifts homes u hand → HandFits v place at' gifts' homes' u hand
   other_hand u place hand ne is_place knows fits = record {
     home = home_on u hand.at_home fits.home;
@@ -234,10 +269,14 @@ module _ {T : Type 0} (shape : Shape) (w v : ℕ → ℕ) (at at' : ℕ → Wher
   -- a slot whose word and token stay
   pub slot_on : (i : ℕ) → 0 < i → i < clock_at shape.k shape.n → v i ≡ w i
       → ((x : ℕ) → 0 < x → at x ≡ In i → (at' x ≡ at x) × (get_elem? homes' (x - 1) ≡ get_elem? homes (x - 1)))
-      → value_of (v i) ≢ 0 → (at' (value_of (v i)) ≡ In i) × ((payload : T) × (beside (value_of (v i)) gifts' ≡ Some payload)) × (get_elem? homes' (value_of (v i) - 1) ≡ some (some (beside (value_of (v i)) gifts')))
-  slot_on i above below same stays filled = subst (λ (x : ℕ). (at' x ≡ In i) × ((payload : T) × (beside x gifts' ≡ Some payload)) × (get_elem? homes' (x - 1) ≡ some (some (beside x gifts')))) (ap value_of (sym same)) of_old
+      → value_of (v i) ≢ 0 → (at' (value_of (v i)) ≡ In i) × ((payload : T) × (beside (value_of (v i)) gifts' ≡ Some payload))
+      × (get_elem? homes' (value_of (v i) - 1) ≡ some (some (beside (value_of (v i)) gifts')))
+  slot_on i above below same stays filled = subst
+      (λ (x : ℕ). (at' x ≡ In i) × ((payload : T) × (beside x gifts' ≡ Some payload))
+      × (get_elem? homes' (x - 1) ≡ some (some (beside x gifts')))) (ap value_of (sym same)) of_old
     where
-      of_old : (at' (value_of (w i)) ≡ In i) × ((payload : T) × (beside (value_of (w i)) gifts' ≡ Some payload)) × (get_elem? homes' (value_of (w i) - 1) ≡ some (some (beside (value_of (w i)) gifts')))
+      of_old : (at' (value_of (w i)) ≡ In i) × ((payload : T) × (beside (value_of (w i)) gifts' ≡ Some payload))
+          × (get_elem? homes' (value_of (w i) - 1) ≡ some (some (beside (value_of (w i)) gifts')))
       of_old =
           let x = value_of (w i) in
           let filled_before : x ≢ 0 = λ none. filled (ap value_of same ∙ none) in
@@ -251,16 +290,19 @@ abbrev NotEnqueue : Next → Type 0
 NotEnqueue (Goes (R.Enqueue item start left phase)) = ⊥
 NotEnqueue next = Unit {0}
 
-dequeue_goes : (shape : Shape) (start left : ℕ) (phase : DequeuePhase) (word : ℕ) → NotEnqueue (advance shape (R.Dequeue start left phase) word)
+dequeue_goes : (shape : Shape) (start left : ℕ) (phase : DequeuePhase) (word : ℕ)
+    → NotEnqueue (advance shape (R.Dequeue start left phase) word)
 dequeue_goes shape start left phase word = grind (arith, nat_tests)
 
-next_enqueue : {T : Type 0} (v : ℕ → ℕ) (gifts : Gifts T) (hand : Hand T) (own : ℕ) (next : Next) → out_next own next ≡ hand.out → ((payload : T) × (hand.payload ≡ Some payload)) → NextGift v gifts hand.payload next
+next_enqueue : {T : Type 0} (v : ℕ → ℕ) (gifts : Gifts T) (hand : Hand T) (own : ℕ) (next : Next) → out_next own next ≡ hand.out
+    → ((payload : T) × (hand.payload ≡ Some payload)) → NextGift v gifts hand.payload next
     → CallFits v gifts hand (place_after next)
 next_enqueue v gifts hand own (Goes (R.Enqueue item start left phase)) out payload fits = (sym out, payload, fits)
 next_enqueue v gifts hand own (Goes (R.Dequeue start left phase)) out payload fits = sym out
 next_enqueue v gifts hand own (Answers answer) out payload fits = tt
 
-next_dequeue : {T : Type 0} (v : ℕ → ℕ) (gifts : Gifts T) (hand : Hand T) (own : ℕ) (next : Next) → out_next own next ≡ hand.out → NotEnqueue next → CallFits v gifts hand (place_after next)
+next_dequeue : {T : Type 0} (v : ℕ → ℕ) (gifts : Gifts T) (hand : Hand T) (own : ℕ) (next : Next) → out_next own next ≡ hand.out
+    → NotEnqueue next → CallFits v gifts hand (place_after next)
 next_dequeue v gifts hand own (Goes (R.Enqueue item start left phase)) out never = absurd never
 next_dequeue v gifts hand own (Goes (R.Dequeue start left phase)) out never = sym out
 next_dequeue v gifts hand own (Answers answer) out never = tt
@@ -273,7 +315,8 @@ out-hand_after (Lifts item) gifts hand = refl
 out-hand_after (Takes item) gifts hand = refl
 
 -- an enqueue's step keeps what the seat has written beside it
-enqueue_payload : {T : Type 0} (item start left : ℕ) (phase : EnqueuePhase) (word : ℕ) (gifts : Gifts T) (hand : Hand T) → (hand_after (move (R.Enqueue item start left phase) word) gifts hand).payload ≡ hand.payload
+enqueue_payload : {T : Type 0} (item start left : ℕ) (phase : EnqueuePhase) (word : ℕ) (gifts : Gifts T) (hand : Hand T)
+    → (hand_after (move (R.Enqueue item start left phase) word) gifts hand).payload ≡ hand.payload
 enqueue_payload item start left E.LoadEnds word gifts hand = refl
 enqueue_payload item start left (E.ScanTail ends offset) word gifts hand = refl
 enqueue_payload item start left (E.Recheck ends seen) word gifts hand = refl
@@ -296,69 +339,92 @@ enqueue_payload item start left (E.MoveHead ends) word gifts hand = refl
 enqueue_payload item start left (E.MoveTail ends) word gifts hand = refl
 
 module _ {T : Type 0} (shape : Shape) (w : ℕ → ℕ) (gifts : Gifts T) (payload : Option T) where
-  put_same : (v : ℕ → ℕ) (item index filled : ℕ) → v index ≡ w index → PutFits w gifts payload item index filled → PutFits v gifts payload item index filled
+  put_same : (v : ℕ → ℕ) (item index filled : ℕ) → v index ≡ w index → PutFits w gifts payload item index filled
+      → PutFits v gifts payload item index filled
   put_same v item index filled same fits = (let e = ap version_of same in let le = fits.0 in omega arith, λ is. fits.1 (sym same ∙ is))
 
-  undo_on : (item start left index filled word : ℕ) (worn : Bool) (v : ℕ → ℕ) → word ≡ filled → beside item gifts ≡ payload → NextGift v gifts payload (enqueue_advance shape item start left (E.Undo index filled worn) word)
+  undo_on : (item start left index filled word : ℕ) (worn : Bool) (v : ℕ → ℕ) → word ≡ filled → beside item gifts ≡ payload
+      → NextGift v gifts payload (enqueue_advance shape item start left (E.Undo index filled worn) word)
   undo_on item start left index filled word worn v won is = grind (arith, nat_tests)
 
-  put_won : (item start left ends index empty word : ℕ) (v : ℕ → ℕ) → word ≡ empty → v index ≡ filled_with item empty → beside item gifts ≡ payload
+  put_won : (item start left ends index empty word : ℕ) (v : ℕ → ℕ) → word ≡ empty → v index ≡ filled_with item empty
+      → beside item gifts ≡ payload
       → NextGift v gifts payload (enqueue_advance shape item start left (E.Put ends index empty) word)
   put_won item start left ends index empty word v won now is =
-      let e : enqueue_advance shape item start left (E.Put ends index empty) word ≡ Goes (R.Enqueue item start left (E.ReloadSlot ends index (filled_with item empty))) = grind (arith, nat_tests) in
+      let e : enqueue_advance shape item start left (E.Put ends index empty) word
+      ≡ Goes (R.Enqueue item start left (E.ReloadSlot ends index (filled_with item empty))) = grind (arith, nat_tests) in
       let same = ap version_of now in
       let le : version_of (filled_with item empty) ≤ version_of (v index) = omega arith in
       let fits : PutFits v gifts payload item index (filled_with item empty) = (le, λ stays. is) in
       subst (λ (next : Next). NextGift v gifts payload next) (sym e) fits
 
-  gift_on : (item start left : ℕ) (phase : EnqueuePhase) → IsPlace shape (R.Enqueue item start left phase) → GiftFits w gifts payload item phase
-      → NextGift (words_by (access shape (R.Enqueue item start left phase)) w) gifts payload (enqueue_advance shape item start left phase (w (accessed (access shape (R.Enqueue item start left phase)))))
+  gift_on : (item start left : ℕ) (phase : EnqueuePhase) → IsPlace shape (R.Enqueue item start left phase)
+      → GiftFits w gifts payload item phase
+      → NextGift (words_by (access shape (R.Enqueue item start left phase)) w) gifts payload
+      (enqueue_advance shape item start left phase (w (accessed (access shape (R.Enqueue item start left phase)))))
   gift_on item start left E.LoadEnds place fits = held_on shape w gifts payload item start left E.LoadEnds w (w 0) refl refl place.0 fits
-  gift_on item start left (E.ScanTail ends offset) place fits = held_on shape w gifts payload item start left (E.ScanTail ends offset) w _ refl refl place.0 fits
-  gift_on item start left (E.Recheck ends seen) place fits = held_on shape w gifts payload item start left (E.Recheck ends seen) w _ refl refl place.0 fits
+  gift_on item start left (E.ScanTail ends offset) place fits =
+      held_on shape w gifts payload item start left (E.ScanTail ends offset) w _ refl refl place.0 fits
+  gift_on item start left (E.Recheck ends seen) place fits =
+      held_on shape w gifts payload item start left (E.Recheck ends seen) w _ refl refl place.0 fits
   gift_on item start left (E.Put ends index empty) place fits =
       elim (cases_eq (w index) empty) [
         | inl won ↦ put_won item start left ends index empty (w index) _ won (this_word w index empty (filled_with item empty) won) fits
-        | inr lost ↦ held_on shape w gifts payload item start left (E.Put ends index empty) _ (w index) (lost_move (w index) empty (Lays index) lost) refl place.0 fits
+        | inr lost ↦ held_on shape w gifts payload item start left (E.Put ends index empty) _ (w index)
+            (lost_move (w index) empty (Lays index) lost) refl place.0 fits
       ]
-  gift_on item start left (E.ReloadSlot ends index filled) place fits = put_on shape w gifts payload item start left (E.ReloadSlot ends index filled) w _ refl refl place.0 (λ i f p. p) fits
-  gift_on item start left (E.ReloadEnds ends index filled) place fits = put_on shape w gifts payload item start left (E.ReloadEnds ends index filled) w _ refl refl place.0 (λ i f p. p) fits
+  gift_on item start left (E.ReloadSlot ends index filled) place fits =
+      put_on shape w gifts payload item start left (E.ReloadSlot ends index filled) w _ refl refl place.0 (λ i f p. p) fits
+  gift_on item start left (E.ReloadEnds ends index filled) place fits =
+      put_on shape w gifts payload item start left (E.ReloadEnds ends index filled) w _ refl refl place.0 (λ i f p. p) fits
   gift_on item start left (E.HoldHead index filled held) place fits =
       let v = words_by (access shape (R.Enqueue item start left (E.HoldHead index filled held))) w in
-      put_on shape v gifts payload item start left (E.HoldHead index filled held) v _ refl refl place.0 (λ i f p. p) (put_same v item index filled (slots_stay w held _ index place.4.3.above) fits)
+      put_on shape v gifts payload item start left (E.HoldHead index filled held) v _ refl refl place.0 (λ i f p. p)
+      (put_same v item index filled (slots_stay w held _ index place.4.3.above) fits)
   gift_on item start left (E.Undo index filled worn) place fits =
       elim (cases_eq (w index) filled) [
         | inl won ↦ undo_on item start left index filled (w index) worn _ won (fits.1 won)
         | inr lost ↦
             let v = words_by (access shape (R.Enqueue item start left (E.Undo index filled worn))) w in
-            put_on shape v gifts payload item start left (E.Undo index filled worn) v (w index) (lost_move (w index) filled (Lifts item) lost) refl place.0 (λ i f p. p)
+            put_on shape v gifts payload item start left (E.Undo index filled worn) v (w index)
+            (lost_move (w index) filled (Lifts item) lost) refl place.0 (λ i f p. p)
             (put_same v item index filled (lost_word w index filled (emptied filled) index lost) fits)
       ]
-  gift_on item start left (E.ScanHead ends offset) place fits = held_on shape w gifts payload item start left (E.ScanHead ends offset) w _ refl refl place.0 fits
-  gift_on item start left (E.ConfirmFull ends) place fits = held_on shape w gifts payload item start left (E.ConfirmFull ends) w _ refl refl place.0 fits
-  gift_on item start left (E.MoveHead ends) place fits = held_on shape w gifts payload item start left (E.MoveHead ends) _ (w 0) refl refl place.0 fits
-  gift_on item start left (E.MoveTail ends) place fits = held_on shape w gifts payload item start left (E.MoveTail ends) _ (w 0) refl refl place.0 fits
+  gift_on item start left (E.ScanHead ends offset) place fits =
+      held_on shape w gifts payload item start left (E.ScanHead ends offset) w _ refl refl place.0 fits
+  gift_on item start left (E.ConfirmFull ends) place fits =
+      held_on shape w gifts payload item start left (E.ConfirmFull ends) w _ refl refl place.0 fits
+  gift_on item start left (E.MoveHead ends) place fits =
+      held_on shape w gifts payload item start left (E.MoveHead ends) _ (w 0) refl refl place.0 fits
+  gift_on item start left (E.MoveTail ends) place fits =
+      held_on shape w gifts payload item start left (E.MoveTail ends) _ (w 0) refl refl place.0 fits
 
-pub stands_on : {T : Type 0} (shape : Shape) (w : ℕ → ℕ) (gifts : Gifts T) (hand : Hand T) (r : Running) → IsPlace shape r → CallFits w gifts hand (Some r)
-    → CallFits (words_by (access shape r) w) gifts (hand_after (move r (w (accessed (access shape r)))) gifts hand) (place_after (advance shape r (w (accessed (access shape r)))))
+pub stands_on : {T : Type 0} (shape : Shape) (w : ℕ → ℕ) (gifts : Gifts T) (hand : Hand T) (r : Running) → IsPlace shape r
+    → CallFits w gifts hand (Some r)
+    → CallFits (words_by (access shape r) w) gifts (hand_after (move r (w (accessed (access shape r)))) gifts hand)
+    (place_after (advance shape r (w (accessed (access shape r)))))
 stands_on {T} shape w gifts hand (R.Enqueue item start left phase) place fits =
     let r = R.Enqueue item start left phase in
     let word = w (accessed (access shape r)) in
     let same = enqueue_payload item start left phase word gifts hand in
     let after = hand_after (move r word) gifts hand in
     next_enqueue (words_by (access shape r) w) gifts after item (enqueue_advance shape item start left phase word)
-    (enqueue_out shape item start left phase word ∙ ap (λ out. out_after out (move r word)) (sym fits.0) ∙ sym (out-hand_after (move r word) gifts hand))
+    (enqueue_out shape item start left phase word ∙ ap (λ out. out_after out (move r word)) (sym fits.0)
+    ∙ sym (out-hand_after (move r word) gifts hand))
     (fits.1.0, same ∙ fits.1.1)
-    (subst (λ (p : Option T). NextGift (words_by (access shape r) w) gifts p (enqueue_advance shape item start left phase word)) (sym same) (gift_on shape w gifts hand.payload item start left phase place fits.2))
+    (subst (λ (p : Option T). NextGift (words_by (access shape r) w) gifts p (enqueue_advance shape item start left phase word)) (sym same)
+    (gift_on shape w gifts hand.payload item start left phase place fits.2))
 stands_on {T} shape w gifts hand (R.Dequeue start left phase) place fits =
     let r = R.Dequeue start left phase in
     let word = w (accessed (access shape r)) in
     next_dequeue (words_by (access shape r) w) gifts (hand_after (move r word) gifts hand) 0 (advance shape r word)
-    (dequeue_out shape start left phase word ∙ ap (λ out. out_after out (move r word)) (sym fits) ∙ sym (out-hand_after (move r word) gifts hand))
+    (dequeue_out shape start left phase word ∙ ap (λ out. out_after out (move r word)) (sym fits)
+    ∙ sym (out-hand_after (move r word) gifts hand))
     (dequeue_goes shape start left phase word)
 
 -- what the thread has of the token that is out
-pub out_gift : {T : Type 0} (w : ℕ → ℕ) (gifts : Gifts T) (hand : Hand T) (r : Running) → CallFits w gifts hand (Some r) → 0 < own_item r → out_at r ≡ own_item r
+pub out_gift : {T : Type 0} (w : ℕ → ℕ) (gifts : Gifts T) (hand : Hand T) (r : Running) → CallFits w gifts hand (Some r) → 0 < own_item r
+    → out_at r ≡ own_item r
     → (beside (own_item r) gifts ≡ hand.payload) × ((payload : T) × (hand.payload ≡ Some payload))
 out_gift w gifts hand (R.Enqueue item start left E.LoadEnds) fits positive out = (fits.2, fits.1)
 out_gift w gifts hand (R.Enqueue item start left (E.ScanTail ends offset)) fits positive out = (fits.2, fits.1)
@@ -379,7 +445,8 @@ out_is w gifts hand (R.Enqueue item start left phase) fits = fits.0
 out_is w gifts hand (R.Dequeue start left phase) fits = fits
 
 -- a won undo finds the thread's own payload
-undo_gift : {T : Type 0} (shape : Shape) (w : ℕ → ℕ) (gifts : Gifts T) (hand : Hand T) (r : Running) (x : ℕ) → CallFits w gifts hand (Some r) → move r (w (accessed (access shape r))) ≡ Lifts x → beside x gifts ≡ hand.payload
+undo_gift : {T : Type 0} (shape : Shape) (w : ℕ → ℕ) (gifts : Gifts T) (hand : Hand T) (r : Running) (x : ℕ)
+    → CallFits w gifts hand (Some r) → move r (w (accessed (access shape r))) ≡ Lifts x → beside x gifts ≡ hand.payload
 undo_gift shape w gifts hand (R.Enqueue item start left E.LoadEnds) x fits is = absurd (cc)
 undo_gift shape w gifts hand (R.Enqueue item start left (E.ScanTail ends offset)) x fits is = absurd (cc)
 undo_gift shape w gifts hand (R.Enqueue item start left (E.Recheck ends seen)) x fits is = absurd (cc)
@@ -420,14 +487,20 @@ undo_gift shape w gifts hand (R.Dequeue start left (D.Take ends index filled)) x
 undo_gift shape w gifts hand (R.Dequeue start left (D.MoveHead ends)) x fits is = absurd (cc)
 
 -- what a step of a thread leaves of the tokens, by its move
-pub record After {T : Type 0} (shape : Shape) (w v : ℕ → ℕ) (at : ℕ → Where) (gifts gifts' : Gifts T) (homes : Homes T) (thread : ℕ) (r : Running) (hand : Hand T) (held : List (ℕ × Option T)) (m : Move) : Type 0 where
+pub record After {T : Type 0} (shape : Shape) (w v : ℕ → ℕ) (at : ℕ → Where) (gifts gifts' : Gifts T) (homes : Homes T) (thread : ℕ)
+    (r : Running) (hand : Hand T) (held : List (ℕ × Option T)) (m : Move) : Type 0 where
   pub valid : Valid homes held (act_of 1 m gifts')
-  pub slots : SlotsFit (clock_at shape.k shape.n) v (where_after thread (own_item r) m at) gifts' (homes_after homes held (act_of 1 m gifts'))
-  pub home : AllHome (where_after thread (own_item r) m at) (homes_after homes held (act_of 1 m gifts')) thread (hand_after m gifts' hand).at_home
+  pub slots : SlotsFit (clock_at shape.k shape.n) v (where_after thread (own_item r) m at) gifts'
+      (homes_after homes held (act_of 1 m gifts'))
+  pub home : AllHome (where_after thread (own_item r) m at) (homes_after homes held (act_of 1 m gifts')) thread
+      (hand_after m gifts' hand).at_home
   pub out : (hand_after m gifts' hand).out ≢ 0
-      → (where_after thread (own_item r) m at (hand_after m gifts' hand).out ≡ Out thread) × ((hand_after m gifts' hand).out ≤ length (homes_after homes held (act_of 1 m gifts')))
-  pub others : (u : ℕ) (place : Option Running) (hand : Hand T) → u ≢ thread → ((s : Running) → place ≡ Some s → IsPlace shape s) → ((s : Running) → place ≡ Some s → Knows s)
-      → HandFits w place at gifts homes u hand → HandFits v place (where_after thread (own_item r) m at) gifts' (homes_after homes held (act_of 1 m gifts')) u hand
+      → (where_after thread (own_item r) m at (hand_after m gifts' hand).out ≡ Out thread)
+      × ((hand_after m gifts' hand).out ≤ length (homes_after homes held (act_of 1 m gifts')))
+  pub others : (u : ℕ) (place : Option Running) (hand : Hand T) → u ≢ thread → ((s : Running) → place ≡ Some s → IsPlace shape s)
+      → ((s : Running) → place ≡ Some s → Knows s)
+      → HandFits w place at gifts homes u hand → HandFits v place (where_after thread (own_item r) m at) gifts'
+      (homes_after homes held (act_of 1 m gifts')) u hand
   pub taken : (x : ℕ) → m ≡ Takes x → (0 < x) × ((payload : T) × (beside x gifts' ≡ Some payload))
   pub carries : carried_after held (act_of 1 m gifts') ≡ slot_of (hand_after m gifts' hand).out (hand_after m gifts' hand).payload
 
@@ -452,7 +525,8 @@ slot-some : {T : Type 0} (out : ℕ) (payload : Option T) → 0 < out → slot_o
 slot-some zero payload positive = absurd (omega arith)
 slot-some (suc out) payload positive = ap (λ n. (n, payload) ∷ []) (let e : out ≡ suc out - 1 = omega arith in e)
 
-module _ {T : Type 0} (shape : Shape) (w v : ℕ → ℕ) (at : ℕ → Where) (gifts gifts' : Gifts T) (homes : Homes T) (thread : ℕ) (r : Running) (hand : Hand T) (held : List (ℕ × Option T))
+module _ {T : Type 0} (shape : Shape) (w v : ℕ → ℕ) (at : ℕ → Where) (gifts gifts' : Gifts T) (homes : Homes T) (thread : ℕ) (r : Running)
+    (hand : Hand T) (held : List (ℕ × Option T))
     (same_gift : (x : ℕ) → at x ≢ Out thread → beside x gifts' ≡ beside x gifts)
     (rises : (i : ℕ) → (v i ≡ w i) ⊎ (version_of (w i) < version_of (v i)))
     (slots : SlotsFit (clock_at shape.k shape.n) w at gifts homes)
@@ -463,21 +537,28 @@ module _ {T : Type 0} (shape : Shape) (w v : ℕ → ℕ) (at : ℕ → Where) (
   quiet : ((i : ℕ) → 0 < i → i < clock_at shape.k shape.n → v i ≡ w i) → After shape w v at gifts gifts' homes thread r hand held Stays
   quiet same = record {
     valid = tt;
-    slots = λ i above below filled. slot_on shape w v at at gifts gifts' homes homes thread same_gift rises slots refl (λ x t j p e. (refl, refl)) (λ x u ne e. refl) i above below (same i above below) (λ x p e. (refl, refl)) filled;
+    slots = λ i above below filled. slot_on shape w v at at gifts gifts' homes homes thread same_gift rises slots refl
+        (λ x t j p e. (refl, refl)) (λ x u ne e. refl) i above below (same i above below) (λ x p e. (refl, refl)) filled;
     home = home;
     out = out;
-    others = λ u place other ne is_place knows fits. other_hand shape w v at at gifts gifts' homes homes thread same_gift rises slots refl (λ x t j p e. (refl, refl)) (λ x u ne e. refl) u place other ne is_place knows fits;
+    others = λ u place other ne is_place knows fits.
+        other_hand shape w v at at gifts gifts' homes homes thread same_gift rises slots refl (λ x t j p e. (refl, refl)) (λ x u ne e. refl)
+        u place other ne is_place knows fits;
     taken = λ x e. absurd (Stays-not-Takes x e);
     carries = held_is;
   }
 
-  laid : (index : ℕ) → 0 < own_item r → out_at r ≡ own_item r → value_of (v index) ≡ own_item r → ((i : ℕ) → i ≢ index → v i ≡ w i) → After shape w v at gifts gifts' homes thread r hand held (Lays index)
+  laid : (index : ℕ) → 0 < own_item r → out_at r ≡ own_item r → value_of (v index) ≡ own_item r → ((i : ℕ) → i ≢ index → v i ≡ w i)
+      → After shape w v at gifts gifts' homes thread r hand held (Lays index)
   laid index positive mine put same = record {
     valid = tt;
     slots = λ i above below filled. slots_laid i above below filled;
-    home = home_on shape w v at at' gifts gifts' homes homes' thread same_gift rises slots size stays_home stays_out thread hand.at_home home;
+    home = home_on shape w v at at' gifts gifts' homes homes' thread same_gift rises slots size stays_home stays_out thread hand.at_home
+        home;
     out = λ some_out. absurd (some_out refl);
-    others = λ u place other ne is_place knows fits. other_hand shape w v at at' gifts gifts' homes homes' thread same_gift rises slots size stays_home stays_out u place other ne is_place knows fits;
+    others = λ u place other ne is_place knows fits.
+        other_hand shape w v at at' gifts gifts' homes homes' thread same_gift rises slots size stays_home stays_out u place other ne
+        is_place knows fits;
     taken = λ x e. absurd (Lays-not-Takes index x e);
     carries = ap (λ (xs : List (ℕ × Option T)). carried_after xs (act_of 1 (Lays index) gifts')) held_now;
   }
@@ -489,7 +570,8 @@ module _ {T : Type 0} (shape : Shape) (w v : ℕ → ℕ) (at : ℕ → Where) (
       out_own = out_is w gifts' hand r stands ∙ mine
 
       own_out : (at own ≡ Out thread) × (own ≤ length homes)
-      own_out = subst (λ (x : ℕ). (at x ≡ Out thread) × (x ≤ length homes)) out_own (out (λ none_out. absurd (let e = out_own in let p = positive in omega arith)))
+      own_out = subst (λ (x : ℕ). (at x ≡ Out thread) × (x ≤ length homes)) out_own
+          (out (λ none_out. absurd (let e = out_own in let p = positive in omega arith)))
 
       held_now : held ≡ (own - 1, hand.payload) ∷ []
       held_now = held_is ∙ ap (λ x. slot_of x hand.payload) out_own ∙ slot-some own hand.payload positive
@@ -510,7 +592,8 @@ module _ {T : Type 0} (shape : Shape) (w v : ℕ → ℕ) (at : ℕ → Where) (
       at_other x ne = ap (λ b. cond b (In index) (at x)) (ne_eqb x own ne)
 
       home_other : (x : ℕ) → 0 < x → x ≢ own → get_elem? homes' (x - 1) ≡ get_elem? homes (x - 1)
-      home_other x p ne = ap (λ (hs : Homes T). get_elem? hs (x - 1)) homes_are ∙ set_else homes (own - 1) (x - 1) (some hand.payload) (λ e. ne (omega arith))
+      home_other x p ne = ap (λ (hs : Homes T). get_elem? hs (x - 1)) homes_are
+          ∙ set_else homes (own - 1) (x - 1) (some hand.payload) (λ e. ne (omega arith))
 
       apart : (x : ℕ) (y : Where) → at x ≡ y → y ≢ Out thread → x ≢ own
       apart x y e ne same_token = ne (sym e ∙ ap at same_token ∙ own_out.0)
@@ -533,12 +616,16 @@ module _ {T : Type 0} (shape : Shape) (w v : ℕ → ℕ) (at : ℕ → Where) (
                 let there : at' own ≡ In i = ap (λ b. cond b (In index) (at own)) (eq-eqb own own refl) ∙ ap In (sym here) in
                 let le = own_out.1 in
                 let stored : get_elem? homes' (own - 1) ≡ some (some (beside own gifts')) =
-                ap (λ (hs : Homes T). get_elem? hs (own - 1)) homes_are ∙ set_here homes (own - 1) (some hand.payload) (omega arith) ∙ ap (λ (p : Option T). some (some p)) (sym g.0) in
-                subst (λ (x : ℕ). (at' x ≡ In i) × ((payload : T) × (beside x gifts' ≡ Some payload)) × (get_elem? homes' (x - 1) ≡ some (some (beside x gifts')))) (sym is) (there, (g.1.0, g.0 ∙ g.1.1), stored)
-            | inr else ↦ slot_on shape w v at at' gifts gifts' homes homes' thread same_gift rises slots size stays_home stays_out i above below (same i else) (stays_in i) filled
+                ap (λ (hs : Homes T). get_elem? hs (own - 1)) homes_are ∙ set_here homes (own - 1) (some hand.payload) (omega arith)
+                ∙ ap (λ (p : Option T). some (some p)) (sym g.0) in
+                subst (λ (x : ℕ). (at' x ≡ In i) × ((payload : T) × (beside x gifts' ≡ Some payload))
+                × (get_elem? homes' (x - 1) ≡ some (some (beside x gifts')))) (sym is) (there, (g.1.0, g.0 ∙ g.1.1), stored)
+            | inr else ↦ slot_on shape w v at at' gifts gifts' homes homes' thread same_gift rises slots size stays_home stays_out i above
+                below (same i else) (stays_in i) filled
           ]
 
-  lifted : (m : Move) (index x : ℕ) → (m ≡ Lifts x) ⊎ (m ≡ Takes x) → 0 < index → index < clock_at shape.k shape.n → value_of (w index) ≡ x → 0 < x → value_of (v index) ≡ 0 → ((i : ℕ) → i ≢ index → v i ≡ w i)
+  lifted : (m : Move) (index x : ℕ) → (m ≡ Lifts x) ⊎ (m ≡ Takes x) → 0 < index → index < clock_at shape.k shape.n → value_of (w index) ≡ x
+      → 0 < x → value_of (v index) ≡ 0 → ((i : ℕ) → i ≢ index → v i ≡ w i)
       → out_at r ≡ 0 → ((m ≡ Lifts x) → beside x gifts' ≡ hand.payload) → After shape w v at gifts gifts' homes thread r hand held m
   lifted m index x kind above below value positive gone same none_out own_gift =
       elim kind [
@@ -546,8 +633,10 @@ module _ {T : Type 0} (shape : Shape) (w v : ℕ → ℕ) (at : ℕ → Where) (
         | inr e ↦ subst (After shape w v at gifts gifts' homes thread r hand held) (sym e) of_take
       ]
     where
-      there : (at x ≡ In index) × ((payload : T) × (beside x gifts ≡ Some payload)) × (get_elem? homes (x - 1) ≡ some (some (beside x gifts)))
-      there = subst (λ (y : ℕ). (at y ≡ In index) × ((payload : T) × (beside y gifts ≡ Some payload)) × (get_elem? homes (y - 1) ≡ some (some (beside y gifts)))) value (slots index above below (λ none_there. absurd (omega arith)))
+      there : (at x ≡ In index) × ((payload : T) × (beside x gifts ≡ Some payload))
+          × (get_elem? homes (x - 1) ≡ some (some (beside x gifts)))
+      there = subst (λ (y : ℕ). (at y ≡ In index) × ((payload : T) × (beside y gifts ≡ Some payload))
+          × (get_elem? homes (y - 1) ≡ some (some (beside y gifts)))) value (slots index above below (λ none_there. absurd (omega arith)))
 
       now_gift : beside x gifts' ≡ beside x gifts
       now_gift = same_gift x (λ e. In-not-Out index thread (sym there.0 ∙ e))
@@ -583,12 +672,16 @@ module _ {T : Type 0} (shape : Shape) (w v : ℕ → ℕ) (at : ℕ → Where) (
       slots_lifted i low high filled =
           elim (cases_eq i index) [
             | inl here ↦ absurd (filled (ap (λ n. value_of (v n)) here ∙ gone))
-            | inr else ↦ slot_on shape w v at at' gifts gifts' homes homes' thread same_gift rises slots size stays_home stays_out i low high (same i else)
+            | inr else ↦ slot_on shape w v at at' gifts gifts' homes homes' thread same_gift rises slots size stays_home stays_out i low
+                high (same i else)
                 (λ y p e. let ne = apart y (In i) e (λ h. else (In-injective i index h)) in (at_other y ne, home_other y p ne)) filled
           ]
 
       out_now : (at' x ≡ Out thread) × (x ≤ length homes')
-      out_now = (ap (λ b. cond b (Out thread) (at x)) (eq-eqb x x refl), (let inside = within_list homes (x - 1) _ there.2 in omega (arith, inside, size, positive)))
+      out_now = (
+        ap (λ b. cond b (Out thread) (at x)) (eq-eqb x x refl),
+        (let inside = within_list homes (x - 1) _ there.2 in omega (arith, inside, size, positive)),
+      )
 
       slot_now : (payload : Option T) → beside x gifts' ≡ payload → (x - 1, beside x gifts') ∷ held ≡ slot_of x payload
       slot_now payload is = (λ i. (x - 1, is i) ∷ held_now i) ∙ sym (slot-some x payload positive)
@@ -600,10 +693,14 @@ module _ {T : Type 0} (shape : Shape) (w v : ℕ → ℕ) (at : ℕ → Where) (
       of_take = record {
         valid = valid_now;
         slots = slots_lifted;
-        home = home_on shape w v at at' gifts gifts' homes homes' thread same_gift rises slots size stays_home stays_out thread hand.at_home home;
+        home = home_on shape w v at at' gifts gifts' homes homes' thread same_gift rises slots size stays_home stays_out thread hand.at_home
+            home;
         out = λ some_out. out_now;
-        others = λ u place other ne is_place knows fits. other_hand shape w v at at' gifts gifts' homes homes' thread same_gift rises slots size stays_home stays_out u place other ne is_place knows fits;
-        taken = λ y e. subst (λ (z : ℕ). (0 < z) × ((payload : T) × (beside z gifts' ≡ Some payload))) (Takes-injective x y e) (positive, (there.1.0, now_gift ∙ there.1.1));
+        others = λ u place other ne is_place knows fits.
+            other_hand shape w v at at' gifts gifts' homes homes' thread same_gift rises slots size stays_home stays_out u place other ne
+            is_place knows fits;
+        taken = λ y e. subst (λ (z : ℕ). (0 < z) × ((payload : T) × (beside z gifts' ≡ Some payload))) (Takes-injective x y e)
+            (positive, (there.1.0, now_gift ∙ there.1.1));
         carries = slot_now (beside x gifts') refl;
       }
 
@@ -611,28 +708,37 @@ module _ {T : Type 0} (shape : Shape) (w v : ℕ → ℕ) (at : ℕ → Where) (
       of_lift own = record {
         valid = valid_now;
         slots = slots_lifted;
-        home = home_on shape w v at at' gifts gifts' homes homes' thread same_gift rises slots size stays_home stays_out thread hand.at_home home;
+        home = home_on shape w v at at' gifts gifts' homes homes' thread same_gift rises slots size stays_home stays_out thread hand.at_home
+            home;
         out = λ some_out. out_now;
-        others = λ u place other ne is_place knows fits. other_hand shape w v at at' gifts gifts' homes homes' thread same_gift rises slots size stays_home stays_out u place other ne is_place knows fits;
+        others = λ u place other ne is_place knows fits.
+            other_hand shape w v at at' gifts gifts' homes homes' thread same_gift rises slots size stays_home stays_out u place other ne
+            is_place knows fits;
         taken = λ y e. absurd (Lifts-not-Takes x y e);
         carries = slot_now hand.payload own;
       }
 
 -- The step of a thread leaves each token in one place, with its payload
-pub after_step : {T : Type 0} (shape : Shape) (w : ℕ → ℕ) (at : ℕ → Where) (gifts gifts' : Gifts T) (homes : Homes T) (thread : ℕ) (r : Running) (hand : Hand T) (held : List (ℕ × Option T))
+pub after_step : {T : Type 0} (shape : Shape) (w : ℕ → ℕ) (at : ℕ → Where) (gifts gifts' : Gifts T) (homes : Homes T) (thread : ℕ)
+    (r : Running) (hand : Hand T) (held : List (ℕ × Option T))
     → ((x : ℕ) → at x ≢ Out thread → beside x gifts' ≡ beside x gifts)
     → ((i : ℕ) → (words_by (access shape r) w i ≡ w i) ⊎ (version_of (w i) < version_of (words_by (access shape r) w i)))
     → SlotsFit (clock_at shape.k shape.n) w at gifts homes → AllHome at homes thread hand.at_home
-    → (hand.out ≢ 0 → (at hand.out ≡ Out thread) × (hand.out ≤ length homes)) → CallFits w gifts' hand (Some r) → held ≡ slot_of hand.out hand.payload
-    → IsPlace shape r → Knows r → After shape w (words_by (access shape r) w) at gifts gifts' homes thread r hand held (move r (w (accessed (access shape r))))
+    → (hand.out ≢ 0 → (at hand.out ≡ Out thread) × (hand.out ≤ length homes)) → CallFits w gifts' hand (Some r)
+    → held ≡ slot_of hand.out hand.payload
+    → IsPlace shape r → Knows r → After shape w (words_by (access shape r) w) at gifts gifts' homes thread r hand held
+    (move r (w (accessed (access shape r))))
 after_step shape w at gifts gifts' homes thread r hand held same_gift rises slots home out stands held_is place knows =
     let v = words_by (access shape r) w in
     elim (turns shape w r place knows) [
-      | Quiet e same ↦ subst (After shape w v at gifts gifts' homes thread r hand held) (sym e) (quiet shape w v at gifts gifts' homes thread r hand held same_gift rises slots home out stands held_is same)
+      | Quiet e same ↦ subst (After shape w v at gifts gifts' homes thread r hand held) (sym e)
+          (quiet shape w v at gifts gifts' homes thread r hand held same_gift rises slots home out stands held_is same)
       | Laid index e positive mine put same ↦ subst (After shape w v at gifts gifts' homes thread r hand held) (sym e)
-          (laid shape w v at gifts gifts' homes thread r hand held same_gift rises slots home out stands held_is index positive mine put same)
+          (laid shape w v at gifts gifts' homes thread r hand held same_gift rises slots home out stands held_is index positive mine put
+          same)
       | Lifted index x kind above below value positive none_out gone same ↦
-          lifted shape w v at gifts gifts' homes thread r hand held same_gift rises slots home out stands held_is (move r (w (accessed (access shape r)))) index x kind above below value positive gone same none_out
+          lifted shape w v at gifts gifts' homes thread r hand held same_gift rises slots home out stands held_is
+          (move r (w (accessed (access shape r)))) index x kind above below value positive gone same none_out
           (λ e. undo_gift shape w gifts' hand r x stands e)
     ]
 
@@ -641,10 +747,12 @@ abbrev NotGot : Next → Type 0
 NotGot (Answers (Got item)) = ⊥
 NotGot next = Unit {0}
 
-enqueue_fits : (shape : Shape) (item start left : ℕ) (phase : EnqueuePhase) (word : ℕ) → 0 < item → FitsOwn item (enqueue_advance shape item start left phase word)
+enqueue_fits : (shape : Shape) (item start left : ℕ) (phase : EnqueuePhase) (word : ℕ) → 0 < item
+    → FitsOwn item (enqueue_advance shape item start left phase word)
 enqueue_fits shape item start left phase word positive = grind (arith, nat_tests)
 
-dequeue_fits : (shape : Shape) (start left : ℕ) (phase : DequeuePhase) (word : ℕ) → FitsOwn 0 (advance shape (R.Dequeue start left phase) word)
+dequeue_fits : (shape : Shape) (start left : ℕ) (phase : DequeuePhase) (word : ℕ)
+    → FitsOwn 0 (advance shape (R.Dequeue start left phase) word)
 dequeue_fits shape start left phase word = grind (arith, nat_tests)
 
 abbrev SameOwn : ℕ → Next → Type 0
@@ -655,25 +763,31 @@ abbrev GotMove : Move → Next → Type 0
 GotMove m (Answers (Got item)) = m ≡ Takes item
 GotMove m next = Unit {0}
 
-enqueue_not_got : (shape : Shape) (item start left : ℕ) (phase : EnqueuePhase) (word : ℕ) → NotGot (enqueue_advance shape item start left phase word)
+enqueue_not_got : (shape : Shape) (item start left : ℕ) (phase : EnqueuePhase) (word : ℕ)
+    → NotGot (enqueue_advance shape item start left phase word)
 enqueue_not_got shape item start left phase word = grind (arith, nat_tests)
 
-enqueue_own : (shape : Shape) (item start left : ℕ) (phase : EnqueuePhase) (word : ℕ) → SameOwn item (enqueue_advance shape item start left phase word)
+enqueue_own : (shape : Shape) (item start left : ℕ) (phase : EnqueuePhase) (word : ℕ)
+    → SameOwn item (enqueue_advance shape item start left phase word)
 enqueue_own shape item start left phase word = grind (arith, nat_tests)
 
-dequeue_own : (shape : Shape) (start left : ℕ) (phase : DequeuePhase) (word : ℕ) → SameOwn 0 (advance shape (R.Dequeue start left phase) word)
+dequeue_own : (shape : Shape) (start left : ℕ) (phase : DequeuePhase) (word : ℕ)
+    → SameOwn 0 (advance shape (R.Dequeue start left phase) word)
 dequeue_own shape start left phase word = grind (arith, nat_tests)
 
-dequeue_got : (shape : Shape) (start left : ℕ) (phase : DequeuePhase) (word : ℕ) → GotMove (move (R.Dequeue start left phase) word) (advance shape (R.Dequeue start left phase) word)
+dequeue_got : (shape : Shape) (start left : ℕ) (phase : DequeuePhase) (word : ℕ)
+    → GotMove (move (R.Dequeue start left phase) word) (advance shape (R.Dequeue start left phase) word)
 dequeue_got shape start left phase word = grind (arith, nat_tests)
 
-pub leaves_step : {T : Type 0} (shape : Shape) (r : Running) (word : ℕ) (gifts : Gifts T) (hand : Hand T) (payload : Option T) → IsPlace shape r → hand.out ≡ out_at r → (0 < own_item r → hand.payload ≡ payload)
+pub leaves_step : {T : Type 0} (shape : Shape) (r : Running) (word : ℕ) (gifts : Gifts T) (hand : Hand T) (payload : Option T)
+    → IsPlace shape r → hand.out ≡ out_at r → (0 < own_item r → hand.payload ≡ payload)
     → ((x : ℕ) → move r word ≡ Takes x → (0 < x) × ((found : T) × (beside x gifts ≡ Some found)))
     → Leaves (own_item r) payload gifts (hand_after (move r word) gifts hand) (advance shape r word)
 leaves_step shape (R.Enqueue item start left phase) word gifts hand payload place out is takes_some =
     let r = R.Enqueue item start left phase in
     record {
-      out = out-hand_after (move r word) gifts hand ∙ ap (λ o. out_after o (move r word)) out ∙ sym (enqueue_out shape item start left phase word);
+      out = out-hand_after (move r word) gifts hand ∙ ap (λ o. out_after o (move r word)) out
+          ∙ sym (enqueue_out shape item start left phase word);
       kept = λ positive. enqueue_payload item start left phase word gifts hand ∙ is positive;
       taken = λ got e. absurd (subst NotGot e (enqueue_not_got shape item start left phase word));
       fits = enqueue_fits shape item start left phase word place.0;
@@ -682,7 +796,8 @@ leaves_step shape (R.Enqueue item start left phase) word gifts hand payload plac
 leaves_step shape (R.Dequeue start left phase) word gifts hand payload place out is takes_some =
     let r = R.Dequeue start left phase in
     record {
-      out = out-hand_after (move r word) gifts hand ∙ ap (λ o. out_after o (move r word)) out ∙ sym (dequeue_out shape start left phase word);
+      out = out-hand_after (move r word) gifts hand ∙ ap (λ o. out_after o (move r word)) out
+          ∙ sym (dequeue_out shape start left phase word);
       kept = λ positive. absurd (omega arith);
       taken = λ got e.
           let m = subst (GotMove (move r word)) e (dequeue_got shape start left phase word) in

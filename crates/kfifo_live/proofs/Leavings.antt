@@ -1,5 +1,7 @@
 -- What is left in a payload queue at its end: each token once, its payload in its slot.
-use Rattle.std.proofs.Common.{◌≡◌, ◌≢◌, ◌⊎◌, ℕ, zero, suc, ◌+◌, ◌-◌, ◌*◌, ◌<◌, ◌≤◌, List, [], ◌∷◌, ◌++◌, append_assoc, drop, length, map, get_or, set, Option, Some, None, refl, sym, ap, ◌∙◌, subst, inl, inr, arith, cond, eq-eqb, ne_eqb, mul-le-mul_right, suc-mul}
+use Rattle.std.proofs.Common.{◌≡◌, ◌≢◌, ◌⊎◌, ℕ, zero, suc, ◌+◌, ◌-◌, ◌*◌, ◌<◌, ◌≤◌, List, [], ◌∷◌, ◌++◌, append_assoc, drop, length, map}
+use Rattle.std.proofs.Common.{get_or, set, Option, Some, None, refl, sym, ap, ◌∙◌, subst, inl, inr, arith, cond, eq-eqb, ne_eqb}
+use Rattle.std.proofs.Common.{mul-le-mul_right, suc-mul}
 use Rattle.std.specs.Prelude.{◌==◌}
 use Rattle.std.proofs.lemmas.List.{append-nil, drop_more, length-replicate, map-append}
 use Rattle.std.proofs.lemmas.Bool.{cases_eq}
@@ -24,7 +26,7 @@ use Rattle.kfifo_live.specs.Balance.{times, undos, takes}
 use Rattle.kfifo_live.specs.Hands.{Gifts, In, beside}
 use Rattle.kfifo_live.specs.Left.{item_in, slots_left, segments_left, items_left}
 use Rattle.kfifo_live.specs.Pass.{OpenQueue}
-use Rattle.kfifo_live.specs.Payloads.{HavePayloads, IsPayPass, PayCloses, in_slot, pay_known_of}
+use Rattle.kfifo_live.specs.Payloads.{HavePayloads, IsPayPass, PayCloses, in_slot, pay_pass_view}
 use Rattle.kfifo_live.specs.Schedule.{AllGiven, OneSchedule, seen_of, world_after}
 use Rattle.kfifo_live.proofs.Balance.{balance}
 use Rattle.kfifo_live.proofs.Gathered.{final_head, pass_begins}
@@ -52,7 +54,8 @@ sum_once f i (suc m) one once =
           omega arith
       | inr not ↦
           let le = one i in
-          let later : sum f (suc i) m ≤ 1 = sum_once f (suc i) m one (λ j l low less high is. once j l (omega arith) less (omega arith) is) in
+          let later : sum f (suc i) m ≤ 1 = sum_once f (suc i) m one
+          (λ j l low less high is. once j l (omega arith) less (omega arith) is) in
           omega arith
     ]
 
@@ -67,14 +70,17 @@ item_once x word =
       | inr filled ↦
           let all = ap (times x) (filled_item word filled) in
           elim (cases_eq (value_of word) x) [
-            | inl same ↦ let t : cond {A = ℕ} (value_of word == x) 1 0 ≡ 1 = ap (λ b. cond {A = ℕ} b 1 0) (eq-eqb (value_of word) x same) in inr ((omega (arith, all, t)), same, filled)
-            | inr other ↦ let t : cond {A = ℕ} (value_of word == x) 1 0 ≡ 0 = ap (λ b. cond {A = ℕ} b 1 0) (ne_eqb (value_of word) x other) in inl (omega (arith, all, t))
+            | inl same ↦ let t : cond {A = ℕ} (value_of word == x) 1 0 ≡ 1 = ap (λ b. cond {A = ℕ} b 1 0) (eq-eqb (value_of word) x same) in
+                inr ((omega (arith, all, t)), same, filled)
+            | inr other ↦ let t : cond {A = ℕ} (value_of word == x) 1 0 ≡ 0 =
+                ap (λ b. cond {A = ℕ} b 1 0) (ne_eqb (value_of word) x other) in inl (omega (arith, all, t))
           ]
     ]
 
 -- words that name an item at one index alone leave it once at most
 pub left_once : (x : ℕ) (shape : Shape) (words : List ℕ) → head_of (get_or words 0 0) < shape.n
-    → ((i j : ℕ) → 0 < i → i < clock_at shape.k shape.n → 0 < j → j < clock_at shape.k shape.n → value_of (get_or words i 0) ≡ x → value_of (get_or words j 0) ≡ x → x ≢ 0 → i ≡ j) → times x (items_left shape words) ≤ 1
+    → ((i j : ℕ) → 0 < i → i < clock_at shape.k shape.n → 0 < j → j < clock_at shape.k shape.n → value_of (get_or words i 0) ≡ x
+    → value_of (get_or words j 0) ≡ x → x ≢ 0 → i ≡ j) → times x (items_left shape words) ≤ 1
 left_once x shape words head one =
     let all = times-left x shape words head in
     let few = sum_once (times_at x words) 1 (shape.n * shape.k)
@@ -88,7 +94,8 @@ left_once x shape words head one =
       | inr at_j ↦
           elim (item_once x (get_or words l 0)) [
             | inl none ↦ none
-            | inr at_l ↦ let same = one j l (omega arith) (omega arith) (omega arith) (omega arith) at_j.1 at_l.1 (λ e. at_j.2 (at_j.1 ∙ e)) in absurd (omega arith)
+            | inr at_l ↦ let same = one j l (omega arith) (omega arith) (omega arith) (omega arith) at_j.1 at_l.1
+                (λ e. at_j.2 (at_j.1 ∙ e)) in absurd (omega arith)
           ]
     ]) in
     omega arith
@@ -98,7 +105,8 @@ unfolding next_segment
 next_below n s h = grind (arith, nat_tests)
 
 -- what is so of the item of each filled slot is so of all that is left
-module _ (shape : Shape) (words : List ℕ) (P : ℕ → Type 0) (each : (i : ℕ) → 0 < i → i < clock_at shape.k shape.n → value_of (get_or words i 0) ≢ 0 → P (value_of (get_or words i 0))) where
+module _ (shape : Shape) (words : List ℕ) (P : ℕ → Type 0)
+    (each : (i : ℕ) → 0 < i → i < clock_at shape.k shape.n → value_of (get_or words i 0) ≢ 0 → P (value_of (get_or words i 0))) where
   each_item : (i : ℕ) → 0 < i → i < clock_at shape.k shape.n → AllByRecursion P (item_in (get_or words i 0))
   each_item i above within =
       elim (cases_eq (value_of (get_or words i 0)) 0) [
@@ -109,14 +117,16 @@ module _ (shape : Shape) (words : List ℕ) (P : ℕ → Type 0) (each : (i : �
   each_slot : (index count : ℕ) → 0 < index → index + count ≤ clock_at shape.k shape.n → AllByRecursion P (slots_left words index count)
   each_slot index zero above within = tt
   each_slot index (suc count) above within =
-      AllByRecursion-append P (item_in (get_or words index 0)) (slots_left words (suc index) count) (each_item index above (omega arith)) (each_slot (suc index) count (omega arith) (omega arith))
+      AllByRecursion-append P (item_in (get_or words index 0)) (slots_left words (suc index) count) (each_item index above (omega arith))
+      (each_slot (suc index) count (omega arith) (omega arith))
 
   each_segment : (segment count : ℕ) → segment < shape.n → AllByRecursion P (segments_left shape words segment count)
   each_segment segment zero less = tt
   each_segment segment (suc count) less =
       let up = mul-le-mul_right shape.k (let le : suc segment ≤ shape.n = omega arith in le) in
       let more = suc-mul segment shape.k in
-      AllByRecursion-append P (slots_left words (slot_at shape.k segment 0) shape.k) (segments_left shape words (next_segment shape.n segment) count)
+      AllByRecursion-append P (slots_left words (slot_at shape.k segment 0) shape.k)
+      (segments_left shape words (next_segment shape.n segment) count)
       (each_slot (slot_at shape.k segment 0) shape.k (omega arith) (omega (arith, up, more)))
       (each_segment (next_segment shape.n segment) count (next_below shape.n segment less))
 
@@ -131,9 +141,11 @@ get_or_at d (y ∷ ys) (suc i) x e = get_or_at d ys i x e
 module _ {T : Type 0} where
   -- the slot of this token has the payload that was last given with it
   abbrev HasGift : List (Option T) → Gifts T → ℕ → Type 0
-  HasGift slots gifts x = (0 < x) × (x ≤ length slots) × ((payload : T) × (in_slot slots x ≡ Some payload)) × (in_slot slots x ≡ beside x gifts)
+  HasGift slots gifts x = (0 < x) × (x ≤ length slots) × ((payload : T) × (in_slot slots x ≡ Some payload))
+      × (in_slot slots x ≡ beside x gifts)
 
-  have_payloads : (slots : List (Option T)) (gifts : Gifts T) (tokens : List ℕ) → AllByRecursion (HasGift slots gifts) tokens → ((x : ℕ) → times x tokens ≤ 1) → HavePayloads slots tokens
+  have_payloads : (slots : List (Option T)) (gifts : Gifts T) (tokens : List ℕ) → AllByRecursion (HasGift slots gifts) tokens
+      → ((x : ℕ) → times x tokens ≤ 1) → HavePayloads slots tokens
   have_payloads slots gifts [] all once = tt
   have_payloads slots gifts (x ∷ xs) all once =
       let one = once x in
@@ -142,7 +154,8 @@ module _ {T : Type 0} where
         have_payloads slots gifts xs all.1 (λ y. let le = once y in omega (arith, le)),
       )
 
-  gifts_are : (slots : List (Option T)) (gifts : Gifts T) (tokens : List ℕ) → AllByRecursion (HasGift slots gifts) tokens → map (in_slot slots) tokens ≡ map (λ x. beside x gifts) tokens
+  gifts_are : (slots : List (Option T)) (gifts : Gifts T) (tokens : List ℕ) → AllByRecursion (HasGift slots gifts) tokens
+      → map (in_slot slots) tokens ≡ map (λ x. beside x gifts) tokens
   gifts_are slots gifts [] all = refl
   gifts_are slots gifts (x ∷ xs) all = λ i. all.0.3 i ∷ gifts_are slots gifts xs all.1 i
 
@@ -151,9 +164,11 @@ module _ {T : Type 0} where
       → HavePayloads (set slots (x - 1) None) tokens × (map (in_slot (set slots (x - 1) None)) tokens ≡ map (in_slot slots) tokens)
   still_there slots x [] above apart have = (tt, refl)
   still_there slots x (y ∷ ys) above apart have =
-      let other : y ≢ x = λ e. absurd (let t : cond {A = ℕ} (y == x) 1 0 ≡ 1 = ap (λ b. cond {A = ℕ} b 1 0) (eq-eqb y x e) in omega (arith, apart, t)) in
+      let other : y ≢ x = λ e. absurd (let t : cond {A = ℕ} (y == x) 1 0
+      ≡ 1 = ap (λ b. cond {A = ℕ} b 1 0) (eq-eqb y x e) in omega (arith, apart, t)) in
       let positive = have.0.0 in
-      let same : in_slot (set slots (x - 1) None) y ≡ in_slot slots y = set_other slots (x - 1) (y - 1) (λ e. other (omega (arith, e, above, positive))) in
+      let same : in_slot (set slots (x - 1) None) y ≡ in_slot slots y =
+      set_other slots (x - 1) (y - 1) (λ e. other (omega (arith, e, above, positive))) in
       let size = length_set slots (x - 1) None in
       let within = have.0.1 in
       let later = still_there slots x ys above (omega (arith, apart)) have.1 in (
@@ -180,10 +195,13 @@ module _ {T : Type 0} where
   get_or_any (x ∷ xs) (suc i) d e less = get_or_any xs i d e (omega (arith, less))
 
   -- the payload of the next token is picked
-  pub picks : (slots first : List (Option T)) (tokens : List ℕ) (index : ℕ) (payloads : List T) (payload : T) (held : Option T) → index < length tokens → HavePayloads slots (drop index tokens)
-      → held ≡ get_or slots (get_or tokens index 0 - 1) held → held ≡ Some payload → map Some payloads ++ map (in_slot slots) (drop index tokens) ≡ map (in_slot first) tokens
+  pub picks : (slots first : List (Option T)) (tokens : List ℕ) (index : ℕ) (payloads : List T) (payload : T) (held : Option T)
+      → index < length tokens → HavePayloads slots (drop index tokens)
+      → held ≡ get_or slots (get_or tokens index 0 - 1) held → held ≡ Some payload
+      → map Some payloads ++ map (in_slot slots) (drop index tokens) ≡ map (in_slot first) tokens
       → HavePayloads (set slots (get_or tokens index 0 - 1) None) (drop (index + 1) tokens)
-      × (map Some (payloads ++ payload ∷ []) ++ map (in_slot (set slots (get_or tokens index 0 - 1) None)) (drop (index + 1) tokens) ≡ map (in_slot first) tokens)
+      × (map Some (payloads ++ payload ∷ []) ++ map (in_slot (set slots (get_or tokens index 0 - 1) None)) (drop (index + 1) tokens)
+      ≡ map (in_slot first) tokens)
   picks slots first tokens index payloads payload held less have there is upto =
       let x = get_or tokens index 0 in
       let later = drop (index + 1) tokens in
@@ -205,7 +223,8 @@ In-injective : (i j : ℕ) → In i ≡ In j → i ≡ j
 In-injective i j e = cc
 
 -- with one thread no event of another follows
-none_other : (shape : Shape) (here there : World) (rest : List Event) → length here.places ≡ 1 → run shape (Some here) rest ≡ Some there → own 0 rest ≡ [] → rest ≡ []
+none_other : (shape : Shape) (here there : World) (rest : List Event) → length here.places ≡ 1 → run shape (Some here) rest ≡ Some there
+    → own 0 rest ≡ [] → rest ≡ []
 none_other shape here there [] one is none = refl
 none_other shape here there (e ∷ es) one is none =
     let m = first_made shape here e there es is in
@@ -218,8 +237,10 @@ threads_are o seen here reached =
     let idle : Option Running = None in
     still_threads o.shape (opening o.shape o.threads) here seen reached ∙ length-replicate o.threads idle
 
-module _ {T : Type 0} (q : OpenQueue) (table : TableId) {thread room id : ℕ} {me : Me (Option T) (View T)} {at_home words : List ℕ} (slots : List (Option T)) (p : IsPayPass thread me at_home room)
-    (same : me.0.opened ≡ q.opened) (f : Final (Seen (λ (s : State (Option T) (View T)). OneSchedule q.opened s.words s.homes s.views) id me.0) words slots) where
+module _ {T : Type 0} (q : OpenQueue) (table : TableId) {thread room id : ℕ} {me : Me (Option T) (View T)} {at_home words : List ℕ}
+    (slots : List (Option T)) (p : IsPayPass thread me at_home room)
+    (same : me.0.opened ≡ q.opened) (f : Final
+    (Seen (λ (s : State (Option T) (View T)). OneSchedule q.opened s.words s.homes s.views) id me.0) words slots) where
   kept : OneSchedule q.opened f.0.words f.0.homes f.0.views
   kept = f.1.0
 
@@ -237,12 +258,14 @@ module _ {T : Type 0} (q : OpenQueue) (table : TableId) {thread room id : ℕ} {
   head = final_head slots words q.opened id me.0 f
 
   -- the filled slot with an index
-  filled_slot : (i : ℕ) → 0 < i → i < clock_at q.opened.shape.k q.opened.shape.n → value_of (get_or words i 0) ≢ 0 → HasGift slots kept.gifts (value_of (get_or words i 0))
+  filled_slot : (i : ℕ) → 0 < i → i < clock_at q.opened.shape.k q.opened.shape.n → value_of (get_or words i 0) ≢ 0
+      → HasGift slots kept.gifts (value_of (get_or words i 0))
   unfolding kept word_at
   filled_slot i above below filled =
       let at = ap (λ ws. get_or ws i 0) words_are in
       let x = value_of (get_or words i 0) in
-      let P : ℕ → Type 0 = λ w. value_of w ≢ 0 → ((payload : T) × (beside (value_of w) kept.gifts ≡ Some payload)) × (get_elem? f.0.homes (value_of w - 1) ≡ some (some (beside (value_of w) kept.gifts))) in
+      let P : ℕ → Type 0 = λ w. value_of w ≢ 0 → ((payload : T) × (beside (value_of w) kept.gifts ≡ Some payload))
+      × (get_elem? f.0.homes (value_of w - 1) ≡ some (some (beside (value_of w) kept.gifts))) in
       let fits = subst P (sym at) (λ full. let all = kept.slots some_tokens i above below full in (all.1, all.2)) filled in
       let there = f.4 (x - 1) (beside x kept.gifts) fits.1 in
       let inside = within_list slots (x - 1) (beside x kept.gifts) there in
@@ -268,7 +291,8 @@ module _ {T : Type 0} (q : OpenQueue) (table : TableId) {thread room id : ℕ} {
       (λ i j above_i below_i above_j below_j at_i at_j filled.
       In-injective i j (sym (where_is i above_i below_i at_i filled) ∙ where_is j above_j below_j at_j filled))
     where
-      where_is : (i : ℕ) → 0 < i → i < clock_at q.opened.shape.k q.opened.shape.n → value_of (get_or words i 0) ≡ x → x ≢ 0 → kept.at x ≡ In i
+      where_is : (i : ℕ) → 0 < i → i < clock_at q.opened.shape.k q.opened.shape.n → value_of (get_or words i 0) ≡ x → x ≢ 0
+          → kept.at x ≡ In i
       where_is i above below is filled =
           let there = ap (λ ws. value_of (get_or ws i 0)) (sym words_are) ∙ is in
           ap kept.at (sym there) ∙ (kept.slots some_tokens i above below (λ e. filled (sym there ∙ e))).0
@@ -277,14 +301,16 @@ module _ {T : Type 0} (q : OpenQueue) (table : TableId) {thread room id : ℕ} {
   unfolding tokens
   left_payloads = have_payloads slots kept.gifts tokens all_filled tokens_once
 
-  pub pay_closes : (payloads : List T) → map Some payloads ≡ map (in_slot slots) (items_left q.opened.shape words) → PayCloses q (pay_known_of table thread me.0) payloads
+  pub pay_closes : (payloads : List T) → map Some payloads ≡ map (in_slot slots) (items_left q.opened.shape words)
+      → PayCloses q (pay_pass_view table thread me.0) payloads
   unfolding kept tokens
   pay_closes payloads are =
       let o = q.opened in
       let few = subst (λ (x : Opening). x.threads ≤ 64) same p.pass.few.0 in
       let fit = kept.fit id me.0 f.1.1 in
       let seen = seen_of me.0 in
-      let b : Begins thread seen kept.all = pass_begins thread me record { table = table; opened = me.0.opened; thread = thread; seen = seen } kept.all p.pass refl refl fit.begin in
+      let b : Begins thread seen kept.all = pass_begins thread me
+      record { table = table; opened = me.0.opened; thread = thread; seen = seen } kept.all p.pass refl refl fit.begin in
       let given = (subst (λ (ps : List (Part T)). AllGiven ps kept.gifts) p.pass.alone fit.given).0 in
       let tokens_are : items_left o.shape words ≡ items_left o.shape kept.world.words = ap (items_left o.shape) words_are in
       record {
@@ -310,8 +336,10 @@ module _ {T : Type 0} (q : OpenQueue) (table : TableId) {thread room id : ℕ} {
         given = given;
         tokens_are = tokens_are;
         payloads_are = are ∙ gifts_are slots kept.gifts tokens all_filled;
-        were_put = λ i above below filled. was_put o kept.all kept.gifts i (word_at kept.world i) (value_of (word_at kept.world i)) kept.in_turn.in_turn
+        were_put = λ i above below filled. was_put o kept.all kept.gifts i (word_at kept.world i) (value_of (word_at kept.world i))
+            kept.in_turn.in_turn
             (who_put o kept.all kept.world kept.runs (kept.in_turn.holder_law some_tokens) i above below filled);
-        balance = λ token. balance o kept.all kept.world token kept.runs ∙ ap (λ xs. undos token o kept.all + (takes token o kept.all + times token xs)) (sym tokens_are);
+        balance = λ token. balance o kept.all kept.world token kept.runs
+            ∙ ap (λ xs. undos token o kept.all + (takes token o kept.all + times token xs)) (sym tokens_are);
         promise = keeps_promise o kept.all kept.world few kept.runs;
       }

@@ -1,5 +1,6 @@
 -- A stamped call adds one call to the log, and nothing else.
-use Rattle.std.proofs.Common.{◌≡◌, ◌≢◌, ℕ, ◌+◌, ◌*◌, ◌<◌, ◌≤◌, List, [], ◌∷◌, ◌++◌, length, filter, drop, Option, Some, None, Ok, false, refl, sym, ap, ◌∙◌, subst, inl, inr, arith, append_assoc, cond, length-append}
+use Rattle.std.proofs.Common.{◌≡◌, ◌≢◌, ℕ, ◌+◌, ◌*◌, ◌<◌, ◌≤◌, List, [], ◌∷◌, ◌++◌, length, filter, drop, Option, Some, None, Ok, false}
+use Rattle.std.proofs.Common.{refl, sym, ap, ◌∙◌, subst, inl, inr, arith, append_assoc, cond, length-append}
 use Rattle.std.proofs.Math.ListN.{get_or-append}
 use Rattle.std.proofs.Math.Seq.{drop-append_seam, get_or-append_seam}
 use Rattle.std.proofs.lemmas.Bool.{cases_eq, cases_lt}
@@ -25,7 +26,7 @@ use Rattle.kfifo_machine.specs.Runs.{AllGoOn, CompleteExecution, event, own}
 use Rattle.kfifo_machine.proofs.Schedules.{own-append, run_before}
 use Rattle.kfifo_live.specs.declared.view.Opening.{Opening}
 use Rattle.kfifo_live.specs.Schedule.{begins_tick, ticks, world_after}
-use Rattle.kfifo_live.specs.Pass.{Known, IsSame}
+use Rattle.kfifo_live.specs.Pass.{PassView, IsSamePass}
 use Rattle.kfifo_live.specs.Promise.{calls_of}
 use Rattle.kfifo_live.specs.Calls.{HasCause, IsDisturbed, LeavesNoItem, Makes, added}
 use Rattle.kfifo_live.specs.Stamps.{Draws, HasCalls, IsLog, IsLogIn, IsStamped, MakesStamped, logged_by, stamped_call}
@@ -58,12 +59,17 @@ stamped_on new all more is c d s = subst (λ (es : List Event). IsStamped es c d
 }
 
 -- a longer schedule in which no call of the thread comes
-pub has_on : (o : Opening) (new seen more : List Event) → new ≡ seen ++ more → (thread : ℕ) (log : List Call) → HasCalls o seen thread log → KeepsCalls thread (calls_of o seen) (calls_of o new) → HasCalls o new thread log
+pub has_on : (o : Opening) (new seen more : List Event) → new ≡ seen ++ more → (thread : ℕ) (log : List Call) → HasCalls o seen thread log
+    → KeepsCalls thread (calls_of o seen) (calls_of o new) → HasCalls o new thread log
 has_on o new seen more is thread log has k = record {
   made = λ i less.
       let m = has.made i less in
-      let same : call (calls_of o new) m.0 ≡ call (calls_of o seen) m.0 = k.same m.0 m.1 m.2 in
-      (m.0, (let a = m.1 in let b = k.longer in omega arith), ap (λ (c : Call). c.thread) same ∙ m.2, subst (IsStamped new (call log i)) (sym same) (stamped_on new seen more is _ _ m.3));
+      let same : call (calls_of o new) m.0 ≡ call (calls_of o seen) m.0 = k.same m.0 m.1 m.2 in (
+        m.0,
+        (let a = m.1 in let b = k.longer in omega arith),
+        ap (λ (c : Call). c.thread) same ∙ m.2,
+        subst (IsStamped new (call log i)) (sym same) (stamped_on new seen more is _ _ m.3),
+      );
   logged = λ n less mine.
       let old = k.none n less mine in
       let own_call = k.mine n old mine in
@@ -79,7 +85,8 @@ call-last : (log : List Call) (c : Call) → call (log ++ c ∷ []) (length log)
 call-last log c = get_or-append_seam log c [] no_call
 
 -- a longer schedule in which one call of the thread comes
-has_more : (o : Opening) (new seen more : List Event) → new ≡ seen ++ more → (thread : ℕ) (log : List Call) (c d : Call) → HasCalls o seen thread log → AddsCall thread (calls_of o seen) (calls_of o new) d
+has_more : (o : Opening) (new seen more : List Event) → new ≡ seen ++ more → (thread : ℕ) (log : List Call) (c d : Call)
+    → HasCalls o seen thread log → AddsCall thread (calls_of o seen) (calls_of o new) d
     → d.thread ≡ thread → IsStamped new c d → HasCalls o new thread (log ++ c ∷ [])
 has_more o new seen more on thread log c d has k of_thread stamped =
     let size : length (log ++ c ∷ []) ≡ length log + 1 = length-append log (c ∷ []) in
@@ -88,28 +95,46 @@ has_more o new seen more on thread log c d has k of_thread stamped =
         | inl old ↦
             let m = has.made i old in
             let same : call (calls_of o new) m.0 ≡ call (calls_of o seen) m.0 = k.same m.0 m.1 m.2 in
-            let inside : m.0 < length (calls_of o new) = let a = m.1 in let b = k.beyond in let e = k.within in omega arith in
-            (m.0, inside, ap (λ (x : Call). x.thread) same ∙ m.2, subst (λ (x : Call × Call). IsStamped new x.0 x.1) (λ j. (sym (call-before log c i old) j, sym same j)) (stamped_on new seen more on _ _ m.3))
+            let inside : m.0 < length (calls_of o new) = let a = m.1 in let b = k.beyond in let e = k.within in omega arith in (
+              m.0,
+              inside,
+              ap (λ (x : Call). x.thread) same ∙ m.2,
+              subst (λ (x : Call × Call). IsStamped new x.0 x.1) (λ j. (sym (call-before log c i old) j, sym same j))
+                  (stamped_on new seen more on _ _ m.3),
+            )
         | inr latest ↦
             let last : i ≡ length log = omega arith in
-            let is : call (log ++ c ∷ []) i ≡ c = ap (call (log ++ c ∷ [])) last ∙ call-last log c in
-            (k.number, k.within, ap (λ (x : Call). x.thread) k.is ∙ of_thread, subst (λ (x : Call × Call). IsStamped new x.0 x.1) (λ j. (sym is j, sym k.is j)) stamped)
+            let is : call (log ++ c ∷ []) i ≡ c = ap (call (log ++ c ∷ [])) last ∙ call-last log c in (
+              k.number,
+              k.within,
+              ap (λ (x : Call). x.thread) k.is ∙ of_thread,
+              subst (λ (x : Call × Call). IsStamped new x.0 x.1) (λ j. (sym is j, sym k.is j)) stamped,
+            )
       ];
       logged = λ n less mine. elim (cases_eq n k.number) [
         | inl latest ↦
-            let is : call (calls_of o new) n ≡ d = ap (call (calls_of o new)) latest ∙ k.is in
-            (length log, (omega arith), subst (λ (x : Call × Call). IsStamped new x.0 x.1) (λ j. (sym (call-last log c) j, sym is j)) stamped)
+            let is : call (calls_of o new) n ≡ d = ap (call (calls_of o new)) latest ∙ k.is in (
+              length log,
+              (omega arith),
+              subst (λ (x : Call × Call). IsStamped new x.0 x.1) (λ j. (sym (call-last log c) j, sym is j))
+                  stamped,
+            )
         | inr ne ↦
             let old = k.none n less mine ne in
             let own_call = k.mine n old mine in
             let m = has.logged n old own_call in
-            let same : call (calls_of o new) n ≡ call (calls_of o seen) n = k.same n old own_call in
-            (m.0, (let a = m.1 in omega arith), subst (λ (x : Call × Call). IsStamped new x.0 x.1) (λ j. (sym (call-before log c m.0 m.1) j, sym same j)) (stamped_on new seen more on _ _ m.2))
+            let same : call (calls_of o new) n ≡ call (calls_of o seen) n = k.same n old own_call in (
+              m.0,
+              (let a = m.1 in omega arith),
+              subst (λ (x : Call × Call). IsStamped new x.0 x.1)
+                  (λ j. (sym (call-before log c m.0 m.1) j, sym same j)) (stamped_on new seen more on _ _ m.2),
+            )
       ];
     }
 
 -- a call comes between schedules in which none comes
-adds_between : (thread : ℕ) (a b c e : List Call) (d : Call) → d.thread ≡ thread → KeepsCalls thread a b → AddsCall thread b c d → KeepsCalls thread c e → AddsCall thread a e d
+adds_between : (thread : ℕ) (a b c e : List Call) (d : Call) → d.thread ≡ thread → KeepsCalls thread a b → AddsCall thread b c d
+    → KeepsCalls thread c e → AddsCall thread a e d
 adds_between thread a b c e d mine x y z =
     let is_mine : (call c y.number).thread ≡ thread = ap (λ (k : Call). k.thread) y.is ∙ mine in
     record {
@@ -146,7 +171,8 @@ record DrawsIn (o : Opening) (thread stamp : ℕ) (old new : List Event) : Type 
   made : step o.shape here (event thread (Some Tick)) ≡ Ok (ticked o.shape here, Went)
   new_is : new ≡ (old ++ between) ++ event thread (Some Tick) ∷ []
 
-draws_in : (o : Opening) (thread stamp : ℕ) (p q : Known) → p.opened ≡ o → p.thread ≡ thread → Draws stamp p q → DrawsIn o thread stamp p.seen q.seen
+draws_in : (o : Opening) (thread stamp : ℕ) (p q : PassView) → p.opened ≡ o → p.thread ≡ thread → Draws stamp p q
+    → DrawsIn o thread stamp p.seen q.seen
 draws_in o thread stamp p q opened same d =
     subst (λ (x : Opening × ℕ). DrawsIn x.0 x.1 stamp p.seen q.seen) (λ i. (opened i, same i)) record {
       between = d.between;
@@ -176,7 +202,8 @@ module _ (o : Opening) (thread stamp : ℕ) (old new : List Event) (d : DrawsIn 
   draw_own =
       ap (own thread) d.new_is
       ∙ own-append thread (old ++ d.between) (event thread (Some Tick) ∷ [])
-      ∙ (λ i. (own-append thread old d.between ∙ ap (λ es. own thread old ++ es) d.others ∙ append-nil (own thread old)) i ++ own_same thread (Some Tick) i)
+      ∙ (λ i. (own-append thread old d.between ∙ ap (λ es. own thread old ++ es) d.others ∙ append-nil (own thread old)) i
+      ++ own_same thread (Some Tick) i)
 
   draw_count : ticks (own thread new) ≡ ticks (own thread old) + 1
   draw_count = ap ticks draw_own ∙ ticks-append (own thread old) (event thread (Some Tick) ∷ [])
@@ -198,7 +225,8 @@ no_ticks (e ∷ es) go_on = ap (λ b. length (cond (begins_tick b) (e ∷ filter
     filter_ticks : List Event → List Event
     filter_ticks es = filter (λ (x : Event). begins_tick x.begin) es
 
-EachPair-push : {X : Type 0} (R : X → X → Type 0) (xs : List X) (x : X) → EachPair R xs → AllByRecursion (λ y. R y x) xs → EachPair R (xs ++ x ∷ [])
+EachPair-push : {X : Type 0} (R : X → X → Type 0) (xs : List X) (x : X) → EachPair R xs → AllByRecursion (λ y. R y x) xs
+    → EachPair R (xs ++ x ∷ [])
 EachPair-push R [] x pairs all = (tt, tt)
 EachPair-push R (y ∷ ys) x pairs all = (AllByRecursion-push (R y) ys x pairs.0 all.0, EachPair-push R ys x pairs.1 all.1)
 
@@ -207,7 +235,8 @@ ends_later None m n le below = below
 ends_later (Some end) m n le below = omega arith
 
 -- a run of a call, whose own events are no ticks
-module _ (o : Opening) (thread : ℕ) (begin : Begin) (answer : Answer) (old new : List Event) (w : CompleteExecution o.shape o.threads thread begin answer old new) where
+module _ (o : Opening) (thread : ℕ) (begin : Begin) (answer : Answer) (old new : List Event)
+    (w : CompleteExecution o.shape o.threads thread begin answer old new) where
   abbrev run_more : List Event
   run_more = w.between ++ w.last ∷ []
 
@@ -216,18 +245,22 @@ module _ (o : Opening) (thread : ℕ) (begin : Begin) (answer : Answer) (old new
 
   run_count : begins_tick (Some begin) ≡ false → ticks (own thread new) ≡ ticks (own thread old)
   run_count no_tick =
-      let split = ap ticks (ap (own thread) run_is ∙ own-append thread old run_more) ∙ ticks-append (own thread old) (own thread run_more) in
+      let split = ap ticks (ap (own thread) run_is ∙ own-append thread old run_more)
+      ∙ ticks-append (own thread old) (own thread run_more) in
       let first : ticks (event thread (Some begin) ∷ []) ≡ 0 = ticks_of_one (event thread (Some begin)) ∙ ap (λ b. cond b 1 0) no_tick in
       let others = no_ticks w.one_call.others w.one_call.go_on in
-      let both : ticks (own thread run_more) ≡ ticks (event thread (Some begin) ∷ []) + ticks w.one_call.others = ap ticks w.one_call.first ∙ ticks-append (event thread (Some begin) ∷ []) w.one_call.others in
+      let both : ticks (own thread run_more) ≡ ticks (event thread (Some begin) ∷ []) + ticks w.one_call.others =
+      ap ticks w.one_call.first ∙ ticks-append (event thread (Some begin) ∷ []) w.one_call.others in
       omega arith
 
   run_from : ticks old ≤ ticks new
   run_from = let a = ap ticks run_is ∙ ticks-append old run_more in omega arith
 
 -- A stamped call: a tick, a run, a tick
-module _ (o : Opening) (thread first last : ℕ) (begin : Begin) (answer : Answer) (old begun ended new : List Event) (few : o.threads ≤ 64) (no_tick : begins_tick (Some begin) ≡ false)
-    (a : DrawsIn o thread first old begun) (w : CompleteExecution o.shape o.threads thread begin answer begun ended) (b : DrawsIn o thread last ended new) where
+module _ (o : Opening) (thread first last : ℕ) (begin : Begin) (answer : Answer) (old begun ended new : List Event) (few : o.threads ≤ 64)
+    (no_tick : begins_tick (Some begin) ≡ false)
+    (a : DrawsIn o thread first old begun) (w : CompleteExecution o.shape o.threads thread begin answer begun ended)
+    (b : DrawsIn o thread last ended new) where
   abbrev run : RunAdds o.shape o.threads thread begin answer begun ended
   run = run_adds o.shape o.threads thread begin answer begun ended few w
 
@@ -284,17 +317,20 @@ module _ (o : Opening) (thread first last : ℕ) (begin : Begin) (answer : Answe
   }
 
   adds : AddsCall thread (calls_of o old) (calls_of o new) made_call
-  adds = adds_between thread _ _ _ _ made_call refl (draw_keeps o thread first old begun a few) run.adds (draw_keeps o thread last ended new b few)
+  adds = adds_between thread _ _ _ _ made_call refl (draw_keeps o thread first old begun a few) run.adds
+      (draw_keeps o thread last ended new b few)
 
   -- the log has one call more
-  logs_on : (log : List Call) (p u : Known) → p.opened ≡ o → u.opened ≡ o → p.thread ≡ thread → u.thread ≡ thread → p.seen ≡ old → u.seen ≡ new → length log < o.calls → IsLog p log → IsLog u (log ++ the_call ∷ [])
+  logs_on : (log : List Call) (p u : PassView) → p.opened ≡ o → u.opened ≡ o → p.thread ≡ thread → u.thread ≡ thread → p.seen ≡ old
+      → u.seen ≡ new → length log < o.calls → IsLog p log → IsLog u (log ++ the_call ∷ [])
   logs_on log p u p_opened u_opened p_thread u_thread p_seen u_seen room is =
       let size : length (log ++ the_call ∷ []) ≡ length log + 1 = length-append log (the_call ∷ []) in
       let Q : Opening × ℕ × List Event → Type 0 = λ x. IsLogIn x.0 x.1 x.2 (log ++ the_call ∷ []) in
       let R : Opening × ℕ × List Event → Type 0 = λ x. IsLogIn x.0 x.1 x.2 log in
       let old_log = subst R (λ i. (p_opened i, p_thread i, p_seen i)) (is) in
       let counted : ticks (own thread new) ≡ ticks (own thread old) + 2 =
-      (let x = draw_count o thread first old begun a in let y = run_count o thread begin answer begun ended w no_tick in let z = draw_count o thread last ended new b in omega arith) in
+      (let x = draw_count o thread first old begun a in let y = run_count o thread begin answer begun ended w no_tick in let z =
+      draw_count o thread last ended new b in omega arith) in
       let from = draw_from o thread first old begun a in
       let later = draw_more o thread first old begun a in
       let still = run_from o thread begin answer begun ended w in
@@ -304,20 +340,24 @@ module _ (o : Opening) (thread first last : ℕ) (begin : Begin) (answer : Answe
         count = let c = old_log.count in omega arith;
         room = omega arith;
         mine = AllByRecursion-push (λ c. c.thread ≡ thread) log the_call old_log.mine refl;
-        in_turn = EachPair-push (λ c d. EndsBelow c.end d.first) log the_call old_log.in_turn (AllByRecursion-weaker _ _ (λ c. ends_later c.end (ticks old) first from) log old_log.past);
-        past = AllByRecursion-push (λ c. EndsBelow c.end (ticks new)) log the_call (AllByRecursion-weaker _ _ (λ c. ends_later c.end (ticks old) (ticks new) (omega arith)) log old_log.past) (omega arith);
+        in_turn = EachPair-push (λ c d. EndsBelow c.end d.first) log the_call old_log.in_turn
+            (AllByRecursion-weaker _ _ (λ c. ends_later c.end (ticks old) first from) log old_log.past);
+        past = AllByRecursion-push (λ c. EndsBelow c.end (ticks new)) log the_call
+            (AllByRecursion-weaker _ _ (λ c. ends_later c.end (ticks old) (ticks new) (omega arith)) log old_log.past) (omega arith);
         calls = has_more o new old more goes_on thread log the_call made_call old_log.calls adds refl stamped;
       } in
       (subst Q (λ i. (sym u_opened i, sym u_thread i, sym u_seen i)) new_log)
 
 -- The same of passes, step by step
-module _ (p q r u : Known) (begin : Begin) (answer : Answer) (first last : ℕ) (log : List Call) (is : IsLog p log) (room : length log < p.opened.calls) (no_tick : begins_tick (Some begin) ≡ false)
-    (a : Draws first p q) (same : IsSame q r) (makes : Makes begin answer q r) where
+module _ (p q r u : PassView) (begin : Begin) (answer : Answer) (first last : ℕ) (log : List Call) (is : IsLog p log)
+    (room : length log < p.opened.calls) (no_tick : begins_tick (Some begin) ≡ false)
+    (a : Draws first p q) (same : IsSamePass q r) (makes : Makes begin answer q r) where
   drawn_first : DrawsIn p.opened p.thread first p.seen q.seen
   drawn_first = draws_in p.opened p.thread first p q refl refl a
 
   run_between : CompleteExecution p.opened.shape p.opened.threads p.thread begin answer q.seen r.seen
-  run_between = subst (λ (x : Opening × ℕ). CompleteExecution x.0.shape x.0.threads x.1 begin answer q.seen r.seen) (λ i. (a.same.1 i, a.same.2 i)) makes
+  run_between = subst (λ (x : Opening × ℕ). CompleteExecution x.0.shape x.0.threads x.1 begin answer q.seen r.seen)
+      (λ i. (a.same.1 i, a.same.2 i)) makes
 
   -- the pass may tick once more
   pub room_left : ticks (own r.thread r.seen) < 2 * r.opened.calls
@@ -335,7 +375,8 @@ module _ (p q r u : Known) (begin : Begin) (answer : Answer) (first last : ℕ) 
     -- its log has one call more
     logs_more : IsLog u (log ++ stamped_call p.thread (op_asked begin) first last answer ∷ [])
     logs_more =
-        logs_on p.opened p.thread first last begin answer p.seen q.seen r.seen u.seen few no_tick drawn_first run_between drawn_last log p u refl (b.same.1 ∙ same.1 ∙ a.same.1) refl (b.same.2 ∙ same.2 ∙ a.same.2) refl refl room is
+        logs_on p.opened p.thread first last begin answer p.seen q.seen r.seen u.seen few no_tick drawn_first run_between drawn_last log p u
+        refl (b.same.1 ∙ same.1 ∙ a.same.1) refl (b.same.2 ∙ same.2 ∙ a.same.2) refl refl room is
 
     -- and it has made two steps more than the run
     two_more : length (own p.thread (added p u)) ≡ length (own q.thread (added q r)) + 2
@@ -344,7 +385,9 @@ module _ (p q r u : Known) (begin : Begin) (answer : Answer) (first last : ℕ) 
         let t = p.thread in
         let x = draw_length o t first p.seen q.seen drawn_first in
         let z = draw_length o t last r.seen u.seen drawn_last in
-        let whole : u.seen ≡ p.seen ++ added p u = from_start p.seen u.seen _ (goes_on o t first last begin answer p.seen q.seen r.seen u.seen few no_tick drawn_first run_between drawn_last) in
+        let whole : u.seen ≡ p.seen ++ added p u =
+        from_start p.seen u.seen _ (goes_on o t first last begin answer p.seen q.seen r.seen u.seen few no_tick drawn_first run_between
+        drawn_last) in
         let part : r.seen ≡ q.seen ++ added q r = from_start q.seen r.seen _ (run_is o t begin answer q.seen r.seen run_between) in
         let w = ap length (ap (own t) whole ∙ own-append t p.seen (added p u)) ∙ length-append (own t p.seen) (own t (added p u)) in
         let y = ap length (ap (own t) part ∙ own-append t q.seen (added q r)) ∙ length-append (own t q.seen) (own t (added q r)) in
@@ -359,26 +402,31 @@ pub has_room : (n m calls len : ℕ) → n ≤ m → m ≡ calls → len ≡ n �
 has_room n m calls len le same size ne = elim (cases_lt n m) [ inl less ↦ less | inr ge ↦ absurd (ne (omega arith)) ]
 
 -- What is known of a stamped call: a tick, a run, a tick
-pub record StampedRun (p q r u : Known) (begin : Begin) (answer : Answer) (first last : ℕ) (log : List Call) : Type 0 where
+pub record StampedRun (p q r u : PassView) (begin : Begin) (answer : Answer) (first last : ℕ) (log : List Call) : Type 0 where
   pub is : IsLog p log
   pub room : length log < p.opened.calls
   pub no_tick : begins_tick (Some begin) ≡ false
   pub few : p.opened.threads ≤ 64
   pub draws_first : Draws first p q
-  pub same : IsSame q r
+  pub same : IsSamePass q r
   pub makes : Makes begin answer q r
   pub draws_last : Draws last r u
 
-module _ {p q r u : Known} {begin : Begin} {answer : Answer} {first last : ℕ} {log : List Call} (s : StampedRun p q r u begin answer first last log) where
+module _ {p q r u : PassView} {begin : Begin} {answer : Answer} {first last : ℕ} {log : List Call}
+    (s : StampedRun p q r u begin answer first last log) where
   -- where its call was logged under the pass's own number, the log is one
-  module _ (thread : ℕ) (items : List Call) (mine : thread ≡ u.thread) (logged : items ≡ log ++ stamped_call thread (op_asked begin) first last answer ∷ []) where
+  module _ (thread : ℕ) (items : List Call) (mine : thread ≡ u.thread)
+      (logged : items ≡ log ++ stamped_call thread (op_asked begin) first last answer ∷ []) where
     added_call : items ≡ log ++ stamped_call p.thread (op_asked begin) first last answer ∷ []
-    added_call = logged ∙ ap (λ (t : ℕ). log ++ stamped_call t (op_asked begin) first last answer ∷ []) (mine ∙ s.draws_last.same.2 ∙ s.same.2 ∙ s.draws_first.same.2)
+    added_call = logged ∙ ap (λ (t : ℕ). log ++ stamped_call t (op_asked begin) first last answer ∷ [])
+        (mine ∙ s.draws_last.same.2 ∙ s.same.2 ∙ s.draws_first.same.2)
 
     pub log_grows : IsLog u items
-    log_grows = subst (IsLog u) (sym added_call) (logs_more p q r u begin answer first last log s.is s.room s.no_tick s.draws_first s.same s.makes s.few s.draws_last)
+    log_grows = subst (IsLog u) (sym added_call)
+        (logs_more p q r u begin answer first last log s.is s.room s.no_tick s.draws_first s.same s.makes s.few s.draws_last)
 
-    pub makes_stamped : HasCause begin answer q r → (answer ≡ Busy → q.opened.shape.n + 2 ≤ turns_of begin → IsDisturbed q r) → (IsRefusal answer → LeavesNoItem q r)
+    pub makes_stamped : HasCause begin answer q r → (answer ≡ Busy → q.opened.shape.n + 2 ≤ turns_of begin → IsDisturbed q r)
+        → (IsRefusal answer → LeavesNoItem q r)
         → MakesStamped begin answer (logged_by p log) (logged_by u items)
     makes_stamped cause disturbed leaves = record {
       room = s.room;
@@ -399,8 +447,10 @@ module _ {p q r u : Known} {begin : Begin} {answer : Answer} {first last : ℕ} 
   pub calls_same : u.opened.calls ≡ p.opened.calls
   calls_same = ap (λ (o : Opening). o.calls) (s.draws_last.same.1 ∙ s.same.1 ∙ s.draws_first.same.1)
 
-  pub few_steps_more : length (own q.thread (added q r)) ≤ most_events q.opened.shape begin → length (own p.thread (added p u)) ≤ most_events p.opened.shape begin + 2
+  pub few_steps_more : length (own q.thread (added q r)) ≤ most_events q.opened.shape begin
+      → length (own p.thread (added p u)) ≤ most_events p.opened.shape begin + 2
   few_steps_more few =
       let two = two_more p q r u begin answer first last log s.is s.room s.no_tick s.draws_first s.same s.makes s.few s.draws_last in
-      let shape : most_events q.opened.shape begin ≡ most_events p.opened.shape begin = ap (λ (o : Opening). most_events o.shape begin) s.draws_first.same.1 in
+      let shape : most_events q.opened.shape begin ≡ most_events p.opened.shape begin =
+      ap (λ (o : Opening). most_events o.shape begin) s.draws_first.same.1 in
       omega arith

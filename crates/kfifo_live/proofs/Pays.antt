@@ -1,5 +1,6 @@
 -- What a call with a payload leaves of its pass, and what it did.
-use Rattle.std.proofs.Common.{◌≡◌, ℕ, zero, suc, ◌+◌, ◌-◌, ◌*◌, ◌^◌, ◌<◌, ◌≤◌, List, [], ◌∷◌, ◌++◌, reverse, Option, Some, None, refl, sym, ap, ◌∙◌, subst, arith, mul-le-mul_right}
+use Rattle.std.proofs.Common.{◌≡◌, ℕ, zero, suc, ◌+◌, ◌-◌, ◌*◌, ◌^◌, ◌<◌, ◌≤◌, List, [], ◌∷◌, ◌++◌, reverse, Option, Some, None, refl, sym}
+use Rattle.std.proofs.Common.{ap, ◌∙◌, subst, arith, mul-le-mul_right}
 use Rattle.std.proofs.lemmas.List.{append_assoc, reverse-append}
 use Rattle.atomic_table.specs.Table.{Me}
 use Rattle.atomic_table.specs.Seated.{TableId}
@@ -17,11 +18,13 @@ use Rattle.kfifo_live.specs.declared.view.Opening.{Opening}
 use Rattle.kfifo_live.specs.declared.view.Part.{Part}
 use Rattle.kfifo_live.specs.declared.view.View.{View}
 use Rattle.kfifo_live.specs.Hands.{FitsOwn, Gifts, InTurn, Leaves, BeginsWith, beside, carried, carrying, gift, out_next}
-use Rattle.kfifo_live.specs.Schedule.{AllGiven, GiftsFit, IsSmall, count_up, part, thread_in, more_in, hand_in, both_parts, first_part, thread_of, seen_of, gifts_of, hand_of, with_seen}
+use Rattle.kfifo_live.specs.Schedule.{AllGiven, GiftsFit, IsSmall, count_up, part, thread_in, more_in, hand_in, both_parts, first_part}
+use Rattle.kfifo_live.specs.Schedule.{thread_of, seen_of, gifts_of, hand_of, with_seen}
 use Rattle.kfifo_live.specs.Step.{IsAt, DrawsToken, Leads, Looks}
-use Rattle.kfifo_live.specs.Pass.{Known, OpenQueue, known_of}
+use Rattle.kfifo_live.specs.Pass.{PassView, OpenQueue, pass_view}
 use Rattle.kfifo_live.specs.Calls.{Makes}
-use Rattle.kfifo_live.specs.Payloads.{new_pay_passes, pay_known_of, IsPayPass, MakesCall, GivesOn, EnqueuesWith, DequeuesWith, Refuses, Gives, TakesOut}
+use Rattle.kfifo_live.specs.Payloads.{new_pay_passes, pay_pass_view, IsPayPass, MakesCall, GivesOn, EnqueuesWith, DequeuesWith, Refuses}
+use Rattle.kfifo_live.specs.Payloads.{Gives, TakesOut}
 use Rattle.kfifo_live.proofs.Givers.{took_what_was_put}
 use Rattle.kfifo_live.proofs.Made.{takes_few_steps, has_cause, is_disturbed, leaves_none}
 use Rattle.kfifo_live.proofs.Opens.{no_slot}
@@ -40,16 +43,27 @@ module _ {T : Type 0} where
   abbrev pub IsAlone : ℕ → View T → Type 0
   IsAlone thread v = v.parts ≡ part thread (seen_of v) (gifts_of v) (hand_of v) ∷ []
 
-  pub alone_on : (thread : ℕ) (v w : View T) {seen : _} {gifts : Gifts T} {hand : Hand T} → IsAlone thread v → w ≡ with_seen v seen gifts hand → IsAlone thread w
+  pub alone_on : (thread : ℕ) (v w : View T) {seen : _} {gifts : Gifts T} {hand : Hand T} → IsAlone thread v
+      → w ≡ with_seen v seen gifts hand → IsAlone thread w
   alone_on thread v w {seen} {gifts} {hand} alone is =
       ap (λ (x : View T). x.parts) is
       ∙ (λ i. part (thread_in (alone i)) seen gifts hand ∷ more_in (alone i))
       ∙ (λ i. part thread (sym (ap seen_of is) i) (sym (ap gifts_of is) i) (sym (ap hand_of is) i) ∷ [])
 
   -- an idle thread has another hand
-  pub idle_with : (old new : Me (Option T) (View T)) (hand : Hand T) (payload : Option T) → IsAt None old → new.0 ≡ with_seen old.0 (seen_of old.0) (gifts_of old.0) hand → new.1 ≡ carrying old.0.opened.tokens hand.out payload → IsAt None new
+  pub idle_with : (old new : Me (Option T) (View T)) (hand : Hand T) (payload : Option T) → IsAt None old
+      → new.0 ≡ with_seen old.0 (seen_of old.0) (gifts_of old.0) hand → new.1 ≡ carrying old.0.opened.tokens hand.out payload
+      → IsAt None new
   idle_with old new hand payload stood is held =
-      let at : IsAt None (with_seen old.0 (seen_of old.0) (gifts_of old.0) hand, new.1) = record { here = stood.here; seated = refl; reached = stood.reached; within = stood.within; place_is = stood.place_is; carries = (payload, held) } in
+      let at : IsAt None (with_seen old.0 (seen_of old.0) (gifts_of old.0) hand, new.1) =
+      record {
+        here = stood.here;
+        seated = refl;
+        reached = stood.reached;
+        within = stood.within;
+        place_is = stood.place_is;
+        carries = (payload, held);
+      } in
       subst (λ (x : View T). IsAt None (x, new.1)) (sym is) at
 
   -- the slot of a token that is out
@@ -68,7 +82,8 @@ module _ {T : Type 0} where
 
   -- a pass between two calls has no token out
   pub pass_out : {thread room : ℕ} {me : Me (Option T) (View T)} {items : List ℕ} → IsPayPass thread me items room → (hand_of me.0).out ≡ 0
-  pass_out {thread} {room} {me} {items} p = none_out me.0.opened.tokens (hand_of me.0).out p.pass.idle.carries.0 p.some_tokens (sym p.pass.held ∙ p.pass.idle.carries.1)
+  pass_out {thread} {room} {me} {items} p = none_out me.0.opened.tokens (hand_of me.0).out p.pass.idle.carries.0 p.some_tokens
+      (sym p.pass.held ∙ p.pass.idle.carries.1)
 
   -- gifts of a view that has seen this schedule
   abbrev pub Fit : View T → Type 0
@@ -78,7 +93,8 @@ module _ {T : Type 0} where
   in_turn_as is turns = subst Fit (sym is) turns
 
   -- the pass after moves of its own
-  pub again : {thread room room_now : ℕ} {old new : Me (Option T) (View T)} {items now : List ℕ} → IsPayPass thread old items room → IsAlone thread new.0 → new.1 ≡ [] → IsAt None new → new.0.opened ≡ old.0.opened
+  pub again : {thread room room_now : ℕ} {old new : Me (Option T) (View T)} {items now : List ℕ} → IsPayPass thread old items room
+      → IsAlone thread new.0 → new.1 ≡ [] → IsAt None new → new.0.opened ≡ old.0.opened
       → (hand_of new.0).at_home ≡ reverse now → room_now ≡ room → Fit new.0 → IsPayPass thread new now room_now
   again {thread} {room} {room_now} {old} {new} p alone held idle same stacked roomy turns = record {
     pass = record { alone = alone; held = held; idle = idle; few = subst IsSmall (sym same) p.pass.few };
@@ -90,7 +106,8 @@ module _ {T : Type 0} where
   }
 
   -- after a look with another's parts beside its own, a pass has its tokens
-  module _ {thread room word found : ℕ} {items : List ℕ} {old new : Me (Option T) (View T)} (other : View T) {both seen : View T} (p : IsPayPass thread old items room) (slots : new.1 ≡ old.1)
+  module _ {thread room word found : ℕ} {items : List ℕ} {old new : Me (Option T) (View T)} (other : View T) {both seen : View T}
+      (p : IsPayPass thread old items room) (slots : new.1 ≡ old.1)
       (is : both ≡ both_parts old.0 other) (l : Looks word found both seen) (kept : new.0 ≡ first_part seen) where
     pub met_hand : hand_of new.0 ≡ hand_of old.0
     met_hand =
@@ -115,35 +132,51 @@ module _ {T : Type 0} where
         let pass = met thread word found old new other both seen p.pass slots is l kept in
         again p pass.alone pass.held pass.idle met_opened (ap (λ (h : Hand T). h.at_home) met_hand ∙ p.stacked) refl met_fit
 
-    pub met_gives_from : (giver : ℕ) (from : Me (Option T) (View T)) → IsAlone giver from.0 → other ≡ from.0 → (table table_now : TableId) → GivesOn (pay_known_of table giver from.0) (pay_known_of table_now thread new.0)
+    pub met_gives_from : (giver : ℕ) (from : Me (Option T) (View T)) → IsAlone giver from.0 → other ≡ from.0 → (table table_now : TableId)
+        → GivesOn (pay_pass_view table giver from.0) (pay_pass_view table_now thread new.0)
     met_gives_from giver from alone lent table table_now =
         let parts = ap (λ (v : View T). v.parts) is ∙ (λ i. p.pass.alone i ++ (ap (λ (v : View T). v.parts) lent ∙ alone) i) in
         let first = (subst (λ (ps : List (Part T)). AllGiven ps l.gifts) parts l.given).1.0 in
-        record { in_turn = met_fit.in_turn; holder_law = met_fit.holder_law met_some; later = first.0; goes_on = ap gifts_of met_view ∙ first.1 }
+        record {
+          in_turn = met_fit.in_turn;
+          holder_law = met_fit.holder_law met_some;
+          later = first.0;
+          goes_on = ap gifts_of met_view ∙ first.1;
+        }
 
-    pub met_gives : (table table_now : TableId) → GivesOn (pay_known_of table thread old.0) (pay_known_of table_now thread new.0)
+    pub met_gives : (table table_now : TableId) → GivesOn (pay_pass_view table thread old.0) (pay_pass_view table_now thread new.0)
     met_gives table table_now =
-        let first = (subst (λ (ps : List (Part T)). AllGiven ps l.gifts) (ap (λ (v : View T). v.parts) is ∙ ap (λ ps. ps ++ other.parts) p.pass.alone) l.given).0 in
-        record { in_turn = met_fit.in_turn; holder_law = met_fit.holder_law met_some; later = first.0; goes_on = ap gifts_of met_view ∙ first.1 }
+        let first = (subst (λ (ps : List (Part T)). AllGiven ps l.gifts)
+        (ap (λ (v : View T). v.parts) is ∙ ap (λ ps. ps ++ other.parts) p.pass.alone) l.given).0 in
+        record {
+          in_turn = met_fit.in_turn;
+          holder_law = met_fit.holder_law met_some;
+          later = first.0;
+          goes_on = ap gifts_of met_view ∙ first.1;
+        }
 
   -- a complete execution of a call, with all laws
-  pub is_call : (begin : Begin) (answer : Answer) (thread : ℕ) (table table_now : TableId) (old new : Me (Option T) (View T)) → IsAlone thread old.0 → Leads (Some begin) old (Answers answer) new
-      → MakesCall begin answer (known_of table thread old.0) (known_of table_now thread new.0)
+  pub is_call : (begin : Begin) (answer : Answer) (thread : ℕ) (table table_now : TableId) (old new : Me (Option T) (View T))
+      → IsAlone thread old.0 → Leads (Some begin) old (Answers answer) new
+      → MakesCall begin answer (pass_view table thread old.0) (pass_view table_now thread new.0)
   is_call begin answer thread table table_now old new alone leads =
       let o = old.0.opened in
-      let run : Makes begin answer (known_of table thread old.0) (known_of table_now thread new.0) =
-      subst (λ (t : ℕ). CompleteExecution o.shape o.threads t begin answer (seen_of old.0) (seen_of new.0)) (ap thread_in alone) (whole begin old new answer leads) in
+      let run : Makes begin answer (pass_view table thread old.0) (pass_view table_now thread new.0) =
+      subst (λ (t : ℕ). CompleteExecution o.shape o.threads t begin answer (seen_of old.0) (seen_of new.0)) (ap thread_in alone)
+      (whole begin old new answer leads) in
       record {
         run = run;
-        few_steps = takes_few_steps begin answer (known_of table thread old.0) (known_of table_now thread new.0) run;
-        cause = has_cause begin answer (known_of table thread old.0) (known_of table_now thread new.0) run;
-        disturbed = is_disturbed begin answer (known_of table thread old.0) (known_of table_now thread new.0) run;
-        leaves_none = leaves_none begin answer (known_of table thread old.0) (known_of table_now thread new.0) run;
+        few_steps = takes_few_steps begin answer (pass_view table thread old.0) (pass_view table_now thread new.0) run;
+        cause = has_cause begin answer (pass_view table thread old.0) (pass_view table_now thread new.0) run;
+        disturbed = is_disturbed begin answer (pass_view table thread old.0) (pass_view table_now thread new.0) run;
+        leaves_none = leaves_none begin answer (pass_view table thread old.0) (pass_view table_now thread new.0) run;
       }
 
   -- gifts of a view of which no more is known
-  fit_now : (thread : ℕ) (table : TableId) (now fin : View T) → known_of table thread now ≡ known_of table thread fin → gifts_of now ≡ gifts_of fin → Fit fin → Fit now
-  fit_now thread table now fin same gifts_same fit = subst (λ (x : Known × Gifts T). GiftsFit x.0.opened x.0.seen x.1) (λ i. (sym same i, sym gifts_same i)) fit
+  fit_now : (thread : ℕ) (table : TableId) (now fin : View T) → pass_view table thread now ≡ pass_view table thread fin
+      → gifts_of now ≡ gifts_of fin → Fit fin → Fit now
+  fit_now thread table now fin same gifts_same fit =
+      subst (λ (x : PassView × Gifts T). GiftsFit x.0.opened x.0.seen x.1) (λ i. (sym same i, sym gifts_same i)) fit
 
   -- a pass whose next token is out, its payload in the slot
   pub record IsReady (thread token : ℕ) (others : List ℕ) (payload : T) (slots : ℕ) (old start : Me (Option T) (View T)) : Type 0 where
@@ -153,27 +186,32 @@ module _ {T : Type 0} where
     pub some : 0 < token
     pub within : token ≤ slots
 
-  pub first_is : {thread token room : ℕ} {items : List ℕ} (others : List ℕ) {old : Me (Option T) (View T)} → IsPayPass thread old items room → items ≡ others ++ token ∷ [] → (hand_of old.0).at_home ≡ token ∷ reverse others
+  pub first_is : {thread token room : ℕ} {items : List ℕ} (others : List ℕ) {old : Me (Option T) (View T)} → IsPayPass thread old items room
+      → items ≡ others ++ token ∷ [] → (hand_of old.0).at_home ≡ token ∷ reverse others
   first_is {thread} {token} {room} {items} others p popped = p.stacked ∙ ap reverse popped ∙ reverse-append others (token ∷ [])
 
   -- the token that was drawn is the one that the list gave
-  drawn_is : {thread token slots room : ℕ} {items : List ℕ} (others : List ℕ) {held : Option T} {old start : Me (Option T) (View T)} → IsPayPass thread old items room → items ≡ others ++ token ∷ []
+  drawn_is : {thread token slots room : ℕ} {items : List ℕ} (others : List ℕ) {held : Option T} {old start : Me (Option T) (View T)}
+      → IsPayPass thread old items room → items ≡ others ++ token ∷ []
       → (d : DrawsToken slots held old start) → (d.token ≡ token) × (d.others ≡ reverse others)
   drawn_is others p popped d = drawn_same _ _ _ _ (sym d.was ∙ first_is others p popped)
 
-  pub ready : {thread token slots room : ℕ} {items : List ℕ} (others : List ℕ) {old start : Me (Option T) (View T)} {payload : T} → IsPayPass thread old items room → items ≡ others ++ token ∷ []
+  pub ready : {thread token slots room : ℕ} {items : List ℕ} (others : List ℕ) {old start : Me (Option T) (View T)} {payload : T}
+      → IsPayPass thread old items room → items ≡ others ++ token ∷ []
       → DrawsToken slots (Some payload) old start → IsReady thread token others payload slots old start
   ready {thread} {token} {slots} {room} {items} others {old} {start} {payload} p popped d =
       let same = drawn_is others p popped d in
       record {
-        view = d.afterwards ∙ (λ i. with_seen old.0 (seen_of old.0) (gifts_of old.0) (record { at_home = same.1 i; out = same.0 i; payload = None }));
+        view = d.afterwards ∙ (λ i. with_seen old.0 (seen_of old.0) (gifts_of old.0)
+            (record { at_home = same.1 i; out = same.0 i; payload = None }));
         held = d.holds ∙ ap (λ x. (x - 1, Some payload) ∷ []) same.0;
         first = first_is others p popped;
         some = subst (λ x. 0 < x) same.0 d.some;
         within = subst (λ x. x ≤ slots) same.0 d.within;
       }
 
-  module _ {thread token slots room : ℕ} {items others : List ℕ} {old start : Me (Option T) (View T)} {payload : T} (p : IsPayPass thread old items room) (r : IsReady thread token others payload slots old start) where
+  module _ {thread token slots room : ℕ} {items others : List ℕ} {old start : Me (Option T) (View T)} {payload : T}
+      (p : IsPayPass thread old items room) (r : IsReady thread token others payload slots old start) where
     pub opened_ready : start.0.opened ≡ old.0.opened
     opened_ready = ap (λ (v : View T). v.opened) r.view
 
@@ -187,12 +225,14 @@ module _ {T : Type 0} where
     alone_ready = alone_on thread old.0 start.0 p.pass.alone r.view
 
     pub idle_ready : IsAt None start
-    idle_ready = idle_with old start (record { at_home = reverse others; out = token; payload = None }) (Some payload) p.pass.idle r.view (r.held ∙ sym (one_slot old.0.opened.tokens token (Some payload) p.some_tokens r.some))
+    idle_ready = idle_with old start (record { at_home = reverse others; out = token; payload = None }) (Some payload) p.pass.idle r.view
+        (r.held ∙ sym (one_slot old.0.opened.tokens token (Some payload) p.some_tokens r.some))
 
     pub begins_ready : (s t : ℕ) → BeginsWith (Some (B.Enqueue token s t)) (hand_of start.0) start.1
     begins_ready s t = (ap (λ (h : Hand T). h.out) hand_ready, (payload, ap carried r.held))
 
-    module _ {s t : ℕ} {answer : Answer} {fin : Me (Option T) (View T)} (l : Leads (Some (B.Enqueue token s t)) start (Answers answer) fin) where
+    module _ {s t : ℕ} {answer : Answer} {fin : Me (Option T) (View T)}
+        (l : Leads (Some (B.Enqueue token s t)) start (Answers answer) fin) where
       left : Leaves token (Some payload) (gifts_of start.0 ++ l.given) l.hand (Answers answer)
       left = l.leaves some_ready token (Some payload) (refl, sym (ap carried r.held))
 
@@ -217,25 +257,27 @@ module _ {T : Type 0} where
       turns_given : Fit fin.0
       turns_given = in_turn_as l.now l.in_turn
 
-      enqueued : (table table_now : TableId) (now : View T) → (known_of table_now thread now ≡ known_of table_now thread fin.0) → gifts_of now ≡ gifts_of fin.0
-          → EnqueuesWith token s t answer payload (pay_known_of table thread old.0) (pay_known_of table_now thread now)
+      enqueued : (table table_now : TableId) (now : View T) → (pass_view table_now thread now ≡ pass_view table_now thread fin.0)
+          → gifts_of now ≡ gifts_of fin.0
+          → EnqueuesWith token s t answer payload (pay_pass_view table thread old.0) (pay_pass_view table_now thread now)
       enqueued table table_now now same gifts_same =
           let call = is_call (B.Enqueue token s t) answer thread table table_now start fin alone_ready l in
-          let started : known_of table thread start.0 ≡ known_of table thread old.0 = ap (known_of table thread) r.view in
+          let started : pass_view table thread start.0 ≡ pass_view table thread old.0 = ap (pass_view table thread) r.view in
           let g = l.first in
           let fit = fit_now thread table_now now fin.0 same gifts_same turns_given in
           let made : Begin = B.Enqueue token s t in
           let of_thread : thread_of start.0 ≡ thread = ap thread_in alone_ready in
           let was : seen_of start.0 ≡ seen_of old.0 = ap seen_of r.view in
-          let beside_it : gift (Some made) start.1 ≡ (token, Some payload) ∷ [] = ap (λ (v : Option T). (token, v) ∷ []) (ap carried r.held) in
+          let beside_it : gift (Some made) start.1 ≡ (token, Some payload) ∷ [] =
+          ap (λ (v : Option T). (token, v) ∷ []) (ap carried r.held) in
           record {
-            call = subst (λ (x : Known × Known). MakesCall made answer x.0 x.1) (λ i. (started i, sym same i)) call;
+            call = subst (λ (x : PassView × PassView). MakesCall made answer x.0 x.1) (λ i. (started i, sym same i)) call;
             in_turn = fit.in_turn;
-            holder_law = fit.holder_law (subst (λ (k : Known). 0 < k.opened.tokens) (sym same) some_given);
+            holder_law = fit.holder_law (subst (λ (k : PassView). 0 < k.opened.tokens) (sym same) some_given);
             before = g.before;
             after = g.after;
             seen =
-                ap (λ (k : Known). k.seen) same
+                ap (λ (k : PassView). k.seen) same
                 ∙ ap seen_of l.now
                 ∙ append_assoc (seen_of start.0) l.between (l.last ∷ [])
                 ∙ ap (λ es. seen_of start.0 ++ es) g.events_are
@@ -252,20 +294,24 @@ module _ {T : Type 0} where
                 ∙ ap (λ (x : Gifts T). (gifts_of old.0 ++ g.earlier) ++ (x ++ g.later)) beside_it;
             before_it =
                 subst (λ (x : List Event × Gifts T). InTurn (x.0 ++ g.before) (x.1 ++ g.earlier)) (λ i. (was i, ap gifts_of r.view i))
-                (in_turn_before (seen_of start.0 ++ g.before) (gifts_of start.0 ++ g.earlier) (thread_of start.0) token s t (carried start.1) g.in_turn);
+                (in_turn_before (seen_of start.0 ++ g.before) (gifts_of start.0 ++ g.earlier) (thread_of start.0) token s t
+                (carried start.1) g.in_turn);
           }
 
       -- Done: the token is gone
       pub done_pass : answer ≡ A.Done → {room_now : ℕ} → room_now ≡ room → IsPayPass thread fin others room_now
       done_pass done roomy =
           let gone : l.hand.out ≡ 0 = left.out ∙ ap (λ a. out_next token (Answers a)) done in
-          again p alone_given (l.carries ∙ ap (λ n. carrying start.0.opened.tokens n l.hand.payload) gone ∙ no_slot start.0.opened.tokens l.hand.payload) idle_given opened_given home_given roomy turns_given
+          again p alone_given (l.carries ∙ ap (λ n. carrying start.0.opened.tokens n l.hand.payload) gone
+          ∙ no_slot start.0.opened.tokens l.hand.payload) idle_given opened_given home_given roomy turns_given
 
-      pub done_gives : answer ≡ A.Done → (table table_now : TableId) → Gives s t payload G.Done (pay_known_of table thread old.0) (pay_known_of table_now thread fin.0)
+      pub done_gives : answer ≡ A.Done → (table table_now : TableId)
+          → Gives s t payload G.Done (pay_pass_view table thread old.0) (pay_pass_view table_now thread fin.0)
       done_gives done table table_now = (
         token,
         r.first ∙ ap (λ xs. token ∷ xs) (sym home_given),
-        subst (λ a. EnqueuesWith token s t a payload (pay_known_of table thread old.0) (pay_known_of table_now thread fin.0)) done (enqueued table table_now fin.0 refl refl),
+        subst (λ a. EnqueuesWith token s t a payload (pay_pass_view table thread old.0) (pay_pass_view table_now thread fin.0)) done
+            (enqueued table table_now fin.0 refl refl),
       )
 
       refused_out : (a : Answer) → FitsOwn token (Answers a) → (a ≡ A.Done → ⊥) → out_next token (Answers a) ≡ token
@@ -289,27 +335,35 @@ module _ {T : Type 0} where
           ∙ (λ i. carrying start.0.opened.tokens ((left.out ∙ refused_out answer left.fits not_done) i) (left.kept r.some i))
           ∙ one_slot start.0.opened.tokens token (Some payload) some_ready r.some
 
-      module _ {laid : Me (Option T) (View T)} (view : laid.0 ≡ with_seen fin.0 (seen_of fin.0) (gifts_of fin.0) (record { at_home = token ∷ (hand_of fin.0).at_home; out = 0; payload = None })) (held : laid.1 ≡ []) where
+      module _ {laid : Me (Option T) (View T)} (view : laid.0
+          ≡ with_seen fin.0 (seen_of fin.0) (gifts_of fin.0)
+          (record { at_home = token ∷ (hand_of fin.0).at_home; out = 0; payload = None })) (held : laid.1 ≡ []) where
         pub refused_pass : {now : List ℕ} {room_now : ℕ} → now ≡ others ++ token ∷ [] → room_now ≡ room → IsPayPass thread laid now room_now
         refused_pass {now} now_is roomy =
             again p (alone_on thread fin.0 laid.0 alone_given view) held
-            (idle_with fin laid (record { at_home = token ∷ (hand_of fin.0).at_home; out = 0; payload = None }) None idle_given view (held ∙ sym (no_slot fin.0.opened.tokens None)))
+            (idle_with fin laid (record { at_home = token ∷ (hand_of fin.0).at_home; out = 0; payload = None }) None idle_given view
+            (held ∙ sym (no_slot fin.0.opened.tokens None)))
             (ap (λ (v : View T). v.opened) view ∙ opened_given)
-            (ap (λ (v : View T). (hand_of v).at_home) view ∙ ap (λ xs. token ∷ xs) home_given ∙ sym (ap reverse now_is ∙ reverse-append others (token ∷ []))) roomy (in_turn_as view turns_given)
+            (ap (λ (v : View T). (hand_of v).at_home) view ∙ ap (λ xs. token ∷ xs) home_given
+            ∙ sym (ap reverse now_is ∙ reverse-append others (token ∷ []))) roomy (in_turn_as view turns_given)
 
-        pub refused : (answer ≡ A.Done → ⊥) → (a : Answer) → answer ≡ a → (back : T) → fin.1 ≡ (token - 1, Some back) ∷ [] → (table table_now : TableId) → Refuses s t a payload back (pay_known_of table thread old.0) (pay_known_of table_now thread laid.0)
+        pub refused : (answer ≡ A.Done → ⊥) → (a : Answer) → answer ≡ a → (back : T) → fin.1 ≡ (token - 1, Some back) ∷ []
+            → (table table_now : TableId) → Refuses s t a payload back (pay_pass_view table thread old.0)
+            (pay_pass_view table_now thread laid.0)
         refused not_done a is back back_is table table_now = record {
           same = one_payload (token - 1) back payload back_is (refused_held not_done);
           token = token;
           others = reverse others;
           first = r.first;
           kept = ap (λ (v : View T). (hand_of v).at_home) view ∙ ap (λ xs. token ∷ xs) home_given ∙ sym r.first;
-          enqueue = subst (λ a. EnqueuesWith token s t a payload (pay_known_of table thread old.0) (pay_known_of table_now thread laid.0)) is
-              (enqueued table table_now laid.0 (ap (known_of table_now thread) view) (ap gifts_of view));
+          enqueue = subst (λ a. EnqueuesWith token s t a payload (pay_pass_view table thread old.0) (pay_pass_view table_now thread laid.0))
+              is
+              (enqueued table table_now laid.0 (ap (pass_view table_now thread) view) (ap gifts_of view));
         }
 
   -- a dequeue of a pass
-  module _ {thread room s t : ℕ} {items : List ℕ} {old fin : Me (Option T) (View T)} {answer : Answer} (p : IsPayPass thread old items room) (l : Leads (Some (B.Dequeue s t)) old (Answers answer) fin) where
+  module _ {thread room s t : ℕ} {items : List ℕ} {old fin : Me (Option T) (View T)} {answer : Answer} (p : IsPayPass thread old items room)
+      (l : Leads (Some (B.Dequeue s t)) old (Answers answer) fin) where
     took : Leaves 0 None (gifts_of old.0 ++ l.given) l.hand (Answers answer)
     took = l.leaves p.some_tokens 0 None refl
 
@@ -337,15 +391,17 @@ module _ {T : Type 0} where
     turns_took : Fit fin.0
     turns_took = in_turn_as l.now l.in_turn
 
-    dequeued : (table table_now : TableId) (now : View T) → (known_of table_now thread now ≡ known_of table_now thread fin.0) → gifts_of now ≡ gifts_of fin.0
-        → DequeuesWith s t answer (pay_known_of table thread old.0) (pay_known_of table_now thread now)
+    dequeued : (table table_now : TableId) (now : View T) → (pass_view table_now thread now ≡ pass_view table_now thread fin.0)
+        → gifts_of now ≡ gifts_of fin.0
+        → DequeuesWith s t answer (pay_pass_view table thread old.0) (pay_pass_view table_now thread now)
     dequeued table table_now now same gifts_same =
         let fit = fit_now thread table_now now fin.0 same gifts_same turns_took in
         record {
-          call = subst (λ (x : Known). MakesCall (B.Dequeue s t) answer (known_of table thread old.0) x) (sym same) (is_call (B.Dequeue s t) answer thread table table_now old fin p.pass.alone l);
+          call = subst (λ (x : PassView). MakesCall (B.Dequeue s t) answer (pass_view table thread old.0) x) (sym same)
+              (is_call (B.Dequeue s t) answer thread table table_now old fin p.pass.alone l);
           gifts = record {
             in_turn = fit.in_turn;
-            holder_law = fit.holder_law (subst (λ (k : Known). 0 < k.opened.tokens) (sym same) some_took);
+            holder_law = fit.holder_law (subst (λ (k : PassView). 0 < k.opened.tokens) (sym same) some_took);
             later = l.given;
             goes_on = gifts_same ∙ ap gifts_of l.now;
           };
@@ -354,14 +410,17 @@ module _ {T : Type 0} where
     -- nothing was taken
     pub none_pass : out_next 0 (Answers answer) ≡ 0 → IsPayPass thread fin items room
     none_pass none =
-        again p alone_took (l.carries ∙ ap (λ n. carrying old.0.opened.tokens n l.hand.payload) (took.out ∙ none) ∙ no_slot old.0.opened.tokens l.hand.payload) idle_took opened_took stacked_took refl turns_took
+        again p alone_took (l.carries ∙ ap (λ n. carrying old.0.opened.tokens n l.hand.payload) (took.out ∙ none)
+        ∙ no_slot old.0.opened.tokens l.hand.payload) idle_took opened_took stacked_took refl turns_took
 
-    pub none_dequeued : (table table_now : TableId) → ((hand_of fin.0).at_home ≡ (hand_of old.0).at_home) × DequeuesWith s t answer (pay_known_of table thread old.0) (pay_known_of table_now thread fin.0)
+    pub none_dequeued : (table table_now : TableId) → ((hand_of fin.0).at_home ≡ (hand_of old.0).at_home)
+        × DequeuesWith s t answer (pay_pass_view table thread old.0) (pay_pass_view table_now thread fin.0)
     none_dequeued table table_now = (home_took, dequeued table table_now fin.0 refl refl)
 
     -- a token was taken
     module _ {token : ℕ} (is : answer ≡ A.Got token) where
-      got : (0 < token) × (l.hand.payload ≡ beside token (gifts_of old.0 ++ l.given)) × ((found : T) × (beside token (gifts_of old.0 ++ l.given) ≡ Some found))
+      got : (0 < token) × (l.hand.payload ≡ beside token (gifts_of old.0 ++ l.given))
+          × ((found : T) × (beside token (gifts_of old.0 ++ l.given) ≡ Some found))
       got = took.taken token (ap Answers is)
 
       pub got_out : (0 < token) × ((hand_of fin.0).out ≡ token)
@@ -370,30 +429,39 @@ module _ {T : Type 0} where
       pub got_held : (payload : T) × (fin.1 ≡ (token - 1, Some payload) ∷ [])
       got_held = (
         got.2.0,
-        l.carries ∙ (λ i. carrying old.0.opened.tokens ((took.out ∙ ap (λ a. out_next 0 (Answers a)) is) i) ((got.1 ∙ got.2.1) i)) ∙ one_slot old.0.opened.tokens token (Some got.2.0) p.some_tokens got.0,
+        l.carries ∙ (λ i. carrying old.0.opened.tokens ((took.out ∙ ap (λ a. out_next 0 (Answers a)) is) i) ((got.1 ∙ got.2.1) i))
+            ∙ one_slot old.0.opened.tokens token (Some got.2.0) p.some_tokens got.0,
       )
 
-      module _ {laid : Me (Option T) (View T)} (view : laid.0 ≡ with_seen fin.0 (seen_of fin.0) (gifts_of fin.0) (record { at_home = token ∷ (hand_of fin.0).at_home; out = 0; payload = None })) (held : laid.1 ≡ []) where
+      module _ {laid : Me (Option T) (View T)} (view : laid.0
+          ≡ with_seen fin.0 (seen_of fin.0) (gifts_of fin.0)
+          (record { at_home = token ∷ (hand_of fin.0).at_home; out = 0; payload = None })) (held : laid.1 ≡ []) where
         pub got_pass : {now : List ℕ} {room_now : ℕ} → now ≡ items ++ token ∷ [] → room_now ≡ room → IsPayPass thread laid now room_now
         got_pass {now} now_is roomy =
             again p (alone_on thread fin.0 laid.0 alone_took view) held
-            (idle_with fin laid (record { at_home = token ∷ (hand_of fin.0).at_home; out = 0; payload = None }) None idle_took view (held ∙ sym (no_slot fin.0.opened.tokens None)))
+            (idle_with fin laid (record { at_home = token ∷ (hand_of fin.0).at_home; out = 0; payload = None }) None idle_took view
+            (held ∙ sym (no_slot fin.0.opened.tokens None)))
             (ap (λ (v : View T). v.opened) view ∙ opened_took)
-            (ap (λ (v : View T). (hand_of v).at_home) view ∙ ap (λ xs. token ∷ xs) stacked_took ∙ sym (ap reverse now_is ∙ reverse-append items (token ∷ []))) roomy (in_turn_as view turns_took)
+            (ap (λ (v : View T). (hand_of v).at_home) view ∙ ap (λ xs. token ∷ xs) stacked_took
+            ∙ sym (ap reverse now_is ∙ reverse-append items (token ∷ []))) roomy (in_turn_as view turns_took)
 
-        pub got_takes : (payload : T) → fin.1 ≡ (token - 1, Some payload) ∷ [] → (table table_now : TableId) → TakesOut s t (K.Got payload) (pay_known_of table thread old.0) (pay_known_of table_now thread laid.0)
+        pub got_takes : (payload : T) → fin.1 ≡ (token - 1, Some payload) ∷ [] → (table table_now : TableId)
+            → TakesOut s t (K.Got payload) (pay_pass_view table thread old.0) (pay_pass_view table_now thread laid.0)
         unfolding got got_held
         got_takes payload payload_is table table_now =
             let gifts : gifts_of laid.0 ≡ gifts_of old.0 ++ l.given = ap gifts_of view ∙ ap gifts_of l.now in
             let same = one_payload (token - 1) got_held.0 payload got_held.1 payload_is in
             let last : beside token (gifts_of laid.0) ≡ Some payload = ap (beside token) gifts ∙ got.2.1 ∙ ap Some same in
-            let dequeue = subst (λ a. DequeuesWith s t a (pay_known_of table thread old.0) (pay_known_of table_now thread laid.0)) is (dequeued table table_now laid.0 (ap (known_of table_now thread) view) (ap gifts_of view)) in
+            let dequeue = subst (λ a. DequeuesWith s t a (pay_pass_view table thread old.0) (pay_pass_view table_now thread laid.0)) is
+            (dequeued table table_now laid.0 (ap (pass_view table_now thread) view) (ap gifts_of view)) in
             let opened : laid.0.opened ≡ old.0.opened = ap (λ (v : View T). v.opened) view ∙ opened_took in
-            let run = subst (λ (o : Opening). CompleteExecution o.shape o.threads thread (B.Dequeue s t) (A.Got token) (seen_of old.0) (seen_of laid.0)) (sym opened) dequeue.call.run in (
+            let run = subst (λ (o : Opening). CompleteExecution o.shape o.threads thread (B.Dequeue s t) (A.Got token) (seen_of old.0)
+            (seen_of laid.0)) (sym opened) dequeue.call.run in (
               token,
               ap (λ (v : View T). (hand_of v).at_home) view ∙ ap (λ xs. token ∷ xs) home_took,
               last,
-              took_what_was_put token payload (pay_known_of table_now thread laid.0) s t (seen_of old.0) run got.0 dequeue.gifts.holder_law dequeue.gifts.in_turn last,
+              took_what_was_put token payload (pay_pass_view table_now thread laid.0) s t (seen_of old.0) run got.0 dequeue.gifts.holder_law
+                  dequeue.gifts.in_turn last,
               dequeue,
             )
 
@@ -404,9 +472,23 @@ few_items threads tokens token few small le =
     omega (arith, up, small, le)
 
 pub new_pay_passes-snoc : {T : Type 0} (q : OpenQueue) (first n at : ℕ) → at ≡ first + n
-    → new_pay_passes {T = T} q first (n + 1) ≡ new_pay_passes q first n ++ record { pass = record { table = q.table; opened = q.opened; thread = at; seen = [] }; tokens = count_up (at * q.opened.tokens + 1) q.opened.tokens; gifts = [] } ∷ []
-new_pay_passes-snoc {T} q first zero at is = ap (λ (k : ℕ). record { pass = record { table = q.table; opened = q.opened; thread = k; seen = [] }; tokens = count_up (k * q.opened.tokens + 1) q.opened.tokens; gifts = [] } ∷ []) (let e : first ≡ at = omega (arith, is) in e)
+    → new_pay_passes {T = T} q first (n + 1) ≡ new_pay_passes q first n
+    ++ record {
+      pass = record { table = q.table; opened = q.opened; thread = at; seen = [] };
+      tokens = count_up (at * q.opened.tokens + 1) q.opened.tokens;
+      gifts = [];
+    } ∷ []
+new_pay_passes-snoc {T} q first zero at is =
+    ap (λ (k : ℕ). record {
+      pass = record { table = q.table; opened = q.opened; thread = k; seen = [] };
+      tokens = count_up (k * q.opened.tokens + 1) q.opened.tokens;
+      gifts = [];
+    } ∷ []) (let e : first ≡ at = omega (arith, is) in e)
 new_pay_passes-snoc {T} q first (suc n) at is =
     ap (new_pay_passes q first) (let e : suc n + 1 ≡ suc (n + 1) = omega arith in e)
-    ∙ ap (λ ps. record { pass = record { table = q.table; opened = q.opened; thread = first; seen = [] }; tokens = count_up (first * q.opened.tokens + 1) q.opened.tokens; gifts = [] } ∷ ps)
+    ∙ ap (λ ps. record {
+      pass = record { table = q.table; opened = q.opened; thread = first; seen = [] };
+      tokens = count_up (first * q.opened.tokens + 1) q.opened.tokens;
+      gifts = [];
+    } ∷ ps)
     (new_pay_passes-snoc q (suc first) n at (omega (arith, is)))

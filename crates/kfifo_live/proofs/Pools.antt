@@ -1,5 +1,6 @@
 -- A pass that lays a token down or picks one up.
-use Rattle.std.proofs.Common.{◌≡◌, ◌≢◌, ℕ, zero, suc, ◌+◌, ◌-◌, ◌<◌, List, [], ◌∷◌, ◌++◌, ◌≤◌, ◌*◌, length, get_or, drop, Option, refl, sym, ap, ◌∙◌, subst, ⊎_elim, arith, suc-mul}
+use Rattle.std.proofs.Common.{◌≡◌, ◌≢◌, ℕ, zero, suc, ◌+◌, ◌-◌, ◌<◌, List, [], ◌∷◌, ◌++◌, ◌≤◌, ◌*◌, length, get_or, drop, Option, refl, sym}
+use Rattle.std.proofs.Common.{ap, ◌∙◌, subst, ⊎_elim, arith, suc-mul}
 use Rattle.std.specs.Prelude.{◌⊎◌}
 use Rattle.std.proofs.lemmas.List.{append-nil}
 use Rattle.atomic_table.specs.Perched.{Roost}
@@ -11,7 +12,8 @@ use Rattle.kfifo_live.specs.Schedule.{hand_of, resting_view, IsSeated, count_up,
 use Rattle.kfifo_live.specs.Payloads.{IsPool, pool_for}
 
 -- the word at a place is of the token with its number
-pub pool_at : {T : Type 0} (table : TableId) (o : Opening) (first : ℕ) (ps : List (Roost (View T))) (i : ℕ) (p : Roost (View T)) → IsPool table o first ps → i < length ps → p ≡ get_or ps i p
+pub pool_at : {T : Type 0} (table : TableId) (o : Opening) (first : ℕ) (ps : List (Roost (View T))) (i : ℕ) (p : Roost (View T))
+    → IsPool table o first ps → i < length ps → p ≡ get_or ps i p
     → (p.table_id ≡ table) × (p.view ≡ resting_view o (first + i))
 pool_at table o first [] i p are within is = absurd (omega arith)
 pool_at table o first (q ∷ ps) zero p are within is = (
@@ -24,13 +26,16 @@ pool_at {T} table o first (q ∷ ps) (suc i) p are within is =
 
 pub count_first : (token count : ℕ) → count ≢ 0 → count_up token count ≡ token ∷ count_up (token + 1) (count - 1)
 count_first token zero some = absurd (some refl)
-count_first token (suc count) some = (λ i. token ∷ count_up ((let e : suc token ≡ token + 1 = omega arith in e) i) ((let e : count ≡ suc count - 1 = omega arith in e) i))
+count_first token (suc count) some = (λ i. token
+    ∷ count_up ((let e : suc token ≡ token + 1 = omega arith in e) i) ((let e : count ≡ suc count - 1 = omega arith in e) i))
 
 pub pool_first : {T : Type 0} (table : TableId) (o : Opening) (token count : ℕ) → count ≢ 0
-    → pool_for {T = T} table o token count ≡ record { table_id = table; view = resting_view o token } ∷ pool_for table o (token + 1) (count - 1)
+    → pool_for {T = T} table o token count ≡ record { table_id = table; view = resting_view o token }
+    ∷ pool_for table o (token + 1) (count - 1)
 pool_first table o token zero some = absurd (some refl)
 pool_first table o token (suc count) some =
-    (λ i. record { table_id = table; view = resting_view o token } ∷ pool_for table o ((let e : suc token ≡ token + 1 = omega arith in e) i) ((let e : count ≡ suc count - 1 = omega arith in e) i))
+    (λ i. record { table_id = table; view = resting_view o token }
+    ∷ pool_for table o ((let e : suc token ≡ token + 1 = omega arith in e) i) ((let e : count ≡ suc count - 1 = omega arith in e) i))
 
 -- the words of a pool, one after the other
 pub pool_is : (T : Type 0) (table : TableId) (o : Opening) (first count : ℕ) → IsPool {T = T} table o first (pool_for table o first count)
@@ -41,18 +46,22 @@ pub length-pool_for : (T : Type 0) (table : TableId) (o : Opening) (first count 
 length-pool_for T table o first zero = refl
 length-pool_for T table o first (suc count) = ap suc (length-pool_for T table o (suc first) count)
 
-pub pool_for-append : (T : Type 0) (table : TableId) (o : Opening) (first m n : ℕ) → pool_for {T = T} table o first m ++ pool_for table o (first + m) n ≡ pool_for table o first (m + n)
-pool_for-append T table o first zero n = (λ i. pool_for {T = T} table o ((let e : first + 0 ≡ first = omega arith in e) i) ((let e : n ≡ 0 + n = omega arith in e) i))
+pub pool_for-append : (T : Type 0) (table : TableId) (o : Opening) (first m n : ℕ)
+    → pool_for {T = T} table o first m ++ pool_for table o (first + m) n ≡ pool_for table o first (m + n)
+pool_for-append T table o first zero n = (λ i.
+    pool_for {T = T} table o ((let e : first + 0 ≡ first = omega arith in e) i) ((let e : n ≡ 0 + n = omega arith in e) i))
 pool_for-append T table o first (suc m) n =
     ap (λ ps. record { table_id = table; view = resting_view o first } ∷ ps)
-    (ap (λ k. pool_for {T = T} table o (suc first) m ++ pool_for table o k n) (let e : first + suc m ≡ suc first + m = omega arith in e) ∙ pool_for-append T table o (suc first) m n)
+    (ap (λ k. pool_for {T = T} table o (suc first) m ++ pool_for table o k n) (let e : first + suc m ≡ suc first + m = omega arith in e)
+    ∙ pool_for-append T table o (suc first) m n)
     ∙ ap (pool_for table o first) (let e : suc (m + n) ≡ suc m + n = omega arith in e)
 
 -- each pass has a word in the pool for all of its tokens, or for none
 pub pooled_few : (pooled tokens : ℕ) → (pooled ≡ 0) ⊎ (pooled ≡ tokens) → pooled ≤ tokens
 pooled_few pooled tokens is = ⊎_elim (λ (none : pooled ≡ 0). omega (arith, none)) (λ (all : pooled ≡ tokens). omega (arith, all)) is
 
-pub pooled_home : (first tokens pooled : ℕ) → (pooled ≡ 0) ⊎ (pooled ≡ tokens) → (others : List ℕ) × (count_up first tokens ≡ count_up first pooled ++ others)
+pub pooled_home : (first tokens pooled : ℕ) → (pooled ≡ 0) ⊎ (pooled ≡ tokens) → (others : List ℕ)
+    × (count_up first tokens ≡ count_up first pooled ++ others)
 pooled_home first tokens pooled is =
     ⊎_elim
     (λ (none : pooled ≡ 0). (count_up first tokens, ap (λ n. count_up first n ++ count_up first tokens) (sym none)))
@@ -60,25 +69,29 @@ pooled_home first tokens pooled is =
     is
 
 pub pool_goes_on : (T : Type 0) (table : TableId) (o : Opening) (thread tokens pooled : ℕ) → (pooled ≡ 0) ⊎ (pooled ≡ tokens)
-    → pool_for {T = T} table o 1 (thread * pooled) ++ pool_for table o (thread * tokens + 1) pooled ≡ pool_for table o 1 ((thread + 1) * pooled)
+    → pool_for {T = T} table o 1 (thread * pooled) ++ pool_for table o (thread * tokens + 1) pooled
+    ≡ pool_for table o 1 ((thread + 1) * pooled)
 pool_goes_on T table o thread tokens pooled is =
     let words : ℕ → List (Roost (View T)) = λ n. pool_for table o 1 n in
     let sum : thread * pooled + pooled ≡ (thread + 1) * pooled =
-    (let s = suc-mul thread pooled in let e = ap (λ (n : ℕ). n * pooled) (let e : suc thread ≡ thread + 1 = omega arith in e) in omega (arith, s, e)) in
+    (let s = suc-mul thread pooled in let e = ap (λ (n : ℕ). n * pooled) (let e : suc thread ≡ thread + 1 = omega arith in e) in
+    omega (arith, s, e)) in
     ⊎_elim
     (λ (none : pooled ≡ 0).
     subst (λ (n : ℕ). words (thread * n) ++ pool_for {T = T} table o (thread * tokens + 1) n ≡ words ((thread + 1) * n)) (sym none)
     (append-nil (words (thread * 0)) ∙ ap words (let e : thread * 0 ≡ (thread + 1) * 0 = omega arith in e)))
     (λ (all : pooled ≡ tokens).
     subst (λ (n : ℕ). words (thread * pooled) ++ pool_for {T = T} table o (thread * n + 1) pooled ≡ words ((thread + 1) * pooled)) all
-    (ap (λ n. words (thread * pooled) ++ pool_for {T = T} table o n pooled) (let e : thread * pooled + 1 ≡ 1 + thread * pooled = omega arith in e)
+    (ap (λ n. words (thread * pooled) ++ pool_for {T = T} table o n pooled)
+    (let e : thread * pooled + 1 ≡ 1 + thread * pooled = omega arith in e)
     ∙ pool_for-append T table o 1 (thread * pooled) pooled
     ∙ ap words sum))
     is
 
 module _ {T : Type 0} where
   -- a token that was cut off and came back
-  pub tokens_again : (token : ℕ) (rest : List ℕ) {old mid now new : Me (Option T) (View T)} → IsSeated old.0 → (hand_of old.0).at_home ≡ token ∷ rest → mid ≡ (less_next old.0, old.1) → now ≡ mid
+  pub tokens_again : (token : ℕ) (rest : List ℕ) {old mid now new : Me (Option T) (View T)} → IsSeated old.0
+      → (hand_of old.0).at_home ≡ token ∷ rest → mid ≡ (less_next old.0, old.1) → now ≡ mid
       → new ≡ (with_resting now.0 (resting_view now.0.opened token), now.1) → new ≡ old
   tokens_again token rest {old} {mid} {now} {new} seated home cut later taken =
       let m = later ∙ cut in

@@ -1,5 +1,6 @@
 -- The items round the ring from any segment are those in the order of the table.
-use Rattle.std.proofs.Common.{◌≡◌, ◌≢◌, ℕ, zero, suc, ◌+◌, ◌-◌, ◌*◌, ◌<◌, ◌≤◌, List, [], ◌∷◌, ◌++◌, get_or, refl, sym, ap, ◌∙◌, inl, inr, arith}
+use Rattle.std.proofs.Common.{◌≡◌, ◌≢◌, ℕ, zero, suc, ◌+◌, ◌-◌, ◌*◌, ◌<◌, ◌≤◌, List, [], ◌∷◌, ◌++◌, get_or, refl, sym, ap, ◌∙◌, inl, inr}
+use Rattle.std.proofs.Common.{arith}
 use Rattle.std.proofs.lemmas.Bool.{cases_eq}
 use Rattle.std.proofs.lemmas.Bool.Decides.{nat_tests}
 use Rattle.kfifo_words.specs.declared.shape.Shape.{Shape}
@@ -24,7 +25,8 @@ sum-append f i zero b =
 sum-append f i (suc a) b =
     let z : suc a + b ≡ suc (a + b) = omega arith in
     let y : suc i + a ≡ i + suc a = omega arith in
-    ap (sum f i) z ∙ ap (λ x. f i + x) (sum-append f (suc i) a b) ∙ ap (λ x. f i + (sum f (suc i) a + sum f x b)) y ∙ plain (f i) (sum f (suc i) a) (sum f (i + suc a) b)
+    ap (sum f i) z ∙ ap (λ x. f i + x) (sum-append f (suc i) a b) ∙ ap (λ x. f i + (sum f (suc i) a + sum f x b)) y
+    ∙ plain (f i) (sum f (suc i) a) (sum f (i + suc a) b)
   where
     plain : (x y z : ℕ) → x + (y + z) ≡ x + y + z
     plain x y z = omega arith
@@ -63,7 +65,8 @@ times_at x words i = times x (item_in (get_or words i 0))
 pub times-slots : (x : ℕ) (words : List ℕ) (i m : ℕ) → times x (slots_left words i m) ≡ sum (times_at x words) i m
 times-slots x words i zero = refl
 times-slots x words i (suc m) =
-    times-append x (item_in (get_or words i 0)) (slots_left words (suc i) m) ∙ ap (λ y. times_at x words i + y) (times-slots x words (suc i) m)
+    times-append x (item_in (get_or words i 0)) (slots_left words (suc i) m)
+    ∙ ap (λ y. times_at x words i + y) (times-slots x words (suc i) m)
 
 -- and in a segment
 abbrev pub times_in : ℕ → Shape → List ℕ → ℕ → ℕ
@@ -78,7 +81,8 @@ unfolding next_segment
 next-last n s h = grind (arith, nat_tests)
 
 -- segments that do not reach the last
-times-before : (x : ℕ) (shape : Shape) (words : List ℕ) (s m : ℕ) → s + m < shape.n → times x (segments_left shape words s m) ≡ sum (times_in x shape words) s m
+times-before : (x : ℕ) (shape : Shape) (words : List ℕ) (s m : ℕ) → s + m < shape.n
+    → times x (segments_left shape words s m) ≡ sum (times_in x shape words) s m
 times-before x shape words s zero h = refl
 times-before x shape words s (suc m) h =
     let next : next_segment shape.n s ≡ suc s = next-within shape.n s (omega arith) in
@@ -111,25 +115,32 @@ times-round x shape words s (suc a) b h =
     plain x y z = omega arith
 
 -- all segments, in the order of the table
-times-segments : (x : ℕ) (shape : Shape) (words : List ℕ) (m : ℕ) → sum (times_in x shape words) 0 m ≡ sum (times_at x words) 1 (m * shape.k)
+times-segments : (x : ℕ) (shape : Shape) (words : List ℕ) (m : ℕ)
+    → sum (times_in x shape words) 0 m ≡ sum (times_at x words) 1 (m * shape.k)
 times-segments x shape words zero = let z : 0 * shape.k ≡ 0 = omega arith in ap (sum (times_at x words) 1) (sym z)
 times-segments x shape words (suc m) =
     let one : m + 1 ≡ suc m = omega arith in
     let size : suc m * shape.k ≡ m * shape.k + shape.k = omega arith in
     let first : slot_at shape.k m 0 ≡ 1 + m * shape.k = omega arith in
-    let last : sum (times_in x shape words) 0 (m + 1) ≡ sum (times_in x shape words) 0 m + sum (times_in x shape words) (0 + m) 1 = sum-append (times_in x shape words) 0 m 1 in
+    let last : sum (times_in x shape words) 0 (m + 1) ≡ sum (times_in x shape words) 0 m + sum (times_in x shape words) (0 + m) 1 =
+    sum-append (times_in x shape words) 0 m 1 in
     let at : 0 + m ≡ m = omega arith in
     let here : times_in x shape words m ≡ sum (times_at x words) (1 + m * shape.k) shape.k =
     times-slots x words (slot_at shape.k m 0) shape.k ∙ ap (λ i. sum (times_at x words) i shape.k) first in
     let there : sum (times_in x shape words) (0 + m) 1 ≡ times_in x shape words m + 0 = ap (λ s. sum (times_in x shape words) s 1) at in
     let before = times-segments x shape words m in
-    let both : sum (times_at x words) 1 (m * shape.k + shape.k) ≡ sum (times_at x words) 1 (m * shape.k) + sum (times_at x words) (1 + m * shape.k) shape.k = sum-append (times_at x words) 1 (m * shape.k) shape.k in
-    let left : sum (times_in x shape words) 0 (suc m) ≡ sum (times_in x shape words) 0 (m + 1) = ap (sum (times_in x shape words) 0) (sym one) in
-    let right : sum (times_at x words) 1 (suc m * shape.k) ≡ sum (times_at x words) 1 (m * shape.k + shape.k) = ap (sum (times_at x words) 1) size in
+    let both : sum (times_at x words) 1 (m * shape.k + shape.k)
+    ≡ sum (times_at x words) 1 (m * shape.k) + sum (times_at x words) (1 + m * shape.k) shape.k =
+    sum-append (times_at x words) 1 (m * shape.k) shape.k in
+    let left : sum (times_in x shape words) 0 (suc m) ≡ sum (times_in x shape words) 0 (m + 1) =
+    ap (sum (times_in x shape words) 0) (sym one) in
+    let right : sum (times_at x words) 1 (suc m * shape.k) ≡ sum (times_at x words) 1 (m * shape.k + shape.k) =
+    ap (sum (times_at x words) 1) size in
     omega arith
 
 -- the items that are left hold an item as often as the slots
-pub times-left : (x : ℕ) (shape : Shape) (words : List ℕ) → head_of (get_or words 0 0) < shape.n → times x (items_left shape words) ≡ sum (times_at x words) 1 (shape.n * shape.k)
+pub times-left : (x : ℕ) (shape : Shape) (words : List ℕ) → head_of (get_or words 0 0) < shape.n
+    → times x (items_left shape words) ≡ sum (times_at x words) 1 (shape.n * shape.k)
 times-left x shape words h = from (head_of (get_or words 0 0)) h
   where
     from : (s : ℕ) → s < shape.n → times x (segments_left shape words s shape.n) ≡ sum (times_at x words) 1 (shape.n * shape.k)
@@ -137,12 +148,19 @@ times-left x shape words h = from (head_of (get_or words 0 0)) h
         let a = shape.n - suc s in
         let size : shape.n ≡ suc (a + s) = omega arith in
         let after : s + suc a ≡ shape.n = omega arith in
-        let round : times x (segments_left shape words s (suc (a + s))) ≡ sum (times_in x shape words) s (suc a) + times x (segments_left shape words 0 s) = times-round x shape words s a s after in
+        let round : times x (segments_left shape words s (suc (a + s)))
+        ≡ sum (times_in x shape words) s (suc a) + times x (segments_left shape words 0 s) = times-round x shape words s a s after in
         let zero_on : 0 + s ≡ s = omega arith in
-        let begin : times x (segments_left shape words 0 s) ≡ sum (times_in x shape words) 0 s = times-before x shape words 0 s (omega arith) in
-        let split : sum (times_in x shape words) 0 (s + suc a) ≡ sum (times_in x shape words) 0 s + sum (times_in x shape words) (0 + s) (suc a) = sum-append (times_in x shape words) 0 s (suc a) in
-        let mid : sum (times_in x shape words) (0 + s) (suc a) ≡ sum (times_in x shape words) s (suc a) = ap (λ i. sum (times_in x shape words) i (suc a)) zero_on in
-        let whole : sum (times_in x shape words) 0 (s + suc a) ≡ sum (times_in x shape words) 0 shape.n = ap (sum (times_in x shape words) 0) after in
+        let begin : times x (segments_left shape words 0 s) ≡ sum (times_in x shape words) 0 s =
+        times-before x shape words 0 s (omega arith) in
+        let split : sum (times_in x shape words) 0 (s + suc a)
+        ≡ sum (times_in x shape words) 0 s + sum (times_in x shape words) (0 + s) (suc a) =
+        sum-append (times_in x shape words) 0 s (suc a) in
+        let mid : sum (times_in x shape words) (0 + s) (suc a) ≡ sum (times_in x shape words) s (suc a) =
+        ap (λ i. sum (times_in x shape words) i (suc a)) zero_on in
+        let whole : sum (times_in x shape words) 0 (s + suc a) ≡ sum (times_in x shape words) 0 shape.n =
+        ap (sum (times_in x shape words) 0) after in
         let all = times-segments x shape words shape.n in
-        let here : times x (segments_left shape words s shape.n) ≡ times x (segments_left shape words s (suc (a + s))) = ap (λ m. times x (segments_left shape words s m)) size in
+        let here : times x (segments_left shape words s shape.n) ≡ times x (segments_left shape words s (suc (a + s))) =
+        ap (λ m. times x (segments_left shape words s m)) size in
         omega arith

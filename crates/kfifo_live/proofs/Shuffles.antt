@@ -1,5 +1,6 @@
 -- Pairs of a list in another order, and lists that have each number below their length.
-use Rattle.std.proofs.Common.{◌≡◌, ◌≢◌, ℕ, zero, suc, ◌<◌, List, [], ◌∷◌, ◌++◌, length, set, get_or, Bool, true, false, refl, sym, ap, ◌∙◌, subst, inl, inr, arith, cond}
+use Rattle.std.proofs.Common.{◌≡◌, ◌≢◌, ℕ, zero, suc, ◌<◌, List, [], ◌∷◌, ◌++◌, length, set, get_or, Bool, true, false, refl, sym, ap, ◌∙◌}
+use Rattle.std.proofs.Common.{subst, inl, inr, arith, cond}
 use Rattle.std.specs.Prelude.{IsPermutation, ◌==◌, ◌||◌}
 use Rattle.std.specs.List.{swap, list_any, AllByRecursion}
 use Rattle.std.proofs.lemmas.Bool.{cases_eq}
@@ -39,12 +40,15 @@ module _ {X : Type 0} (d : X) (R : X → X → Type 0) where
   reads_swapped l i j n p q =
       let w : List X = set l i (get_or l j d) in
       let long = length-set l i (get_or l j d) in
-      let is : get_or (swap l i j) n d ≡ get_or (set w j (get_or l i d)) n d = ap (λ (x : List X). get_or x n d) (sym (swap_is l i j d p q)) in
+      let is : get_or (swap l i j) n d ≡ get_or (set w j (get_or l i d)) n d =
+      ap (λ (x : List X). get_or x n d) (sym (swap_is l i j d p q)) in
       elim (cases_eq n j) [
         | inl at_j ↦ is ∙ get_or-set_at w j n (get_or l i d) d at_j (omega arith) ∙ ap (λ m. get_or l m d) (sym (turned_j i j n at_j))
         | inr not_j ↦ elim (cases_eq n i) [
-          | inl at_i ↦ is ∙ get_or-set_other w j n (get_or l i d) d not_j ∙ get_or-set_at l i n (get_or l j d) d at_i p ∙ ap (λ m. get_or l m d) (sym (turned_i i j n not_j at_i))
-          | inr not_i ↦ is ∙ get_or-set_other w j n (get_or l i d) d not_j ∙ get_or-set_other l i n (get_or l j d) d not_i ∙ ap (λ m. get_or l m d) (sym (turned_none i j n not_j not_i))
+          | inl at_i ↦ is ∙ get_or-set_other w j n (get_or l i d) d not_j ∙ get_or-set_at l i n (get_or l j d) d at_i p
+              ∙ ap (λ m. get_or l m d) (sym (turned_i i j n not_j at_i))
+          | inr not_i ↦ is ∙ get_or-set_other w j n (get_or l i d) d not_j ∙ get_or-set_other l i n (get_or l j d) d not_i
+              ∙ ap (λ m. get_or l m d) (sym (turned_none i j n not_j not_i))
         ]
       ]
 
@@ -52,12 +56,15 @@ module _ {X : Type 0} (d : X) (R : X → X → Type 0) where
   swapped_pairs l i j p q pairs long a b low high apart =
       let m_low : turned i j a < length l = turned_below i j a (length l) p q (omega arith) in
       let m_high : turned i j b < length l = turned_below i j b (length l) p q (omega arith) in
-      subst (λ (z : X × X). R z.0 z.1) (λ k. (sym (reads_swapped l i j a p q) k, sym (reads_swapped l i j b p q) k)) (pairs (turned i j a) (turned i j b) m_low m_high (turned_apart i j a b apart))
+      subst (λ (z : X × X). R z.0 z.1) (λ k. (sym (reads_swapped l i j a p q) k, sym (reads_swapped l i j b p q) k))
+      (pairs (turned i j a) (turned i j b) m_low m_high (turned_apart i j a b apart))
 
   -- so it does of the list in any order
   pub pairs_shuffled : (xs ys : List X) → IsPermutation xs ys → AnyPair xs → AnyPair ys
   pairs_shuffled xs ys shuffled pairs = (IsPermutation-keeps xs (λ l. (length l ≡ length xs) × AnyPair l) (refl, pairs) (λ l i j p q h.
-      let long : length (swap l i j) ≡ length l = ap (λ (x : List X). length x) (sym (swap_is l i j d p q)) ∙ length-set (set l i (get_or l j d)) j (get_or l i d) ∙ length-set l i (get_or l j d) in
+      let long : length (swap l i j) ≡ length l =
+      ap (λ (x : List X). length x) (sym (swap_is l i j d p q)) ∙ length-set (set l i (get_or l j d)) j (get_or l i d)
+      ∙ length-set l i (get_or l j d) in
       (long ∙ h.0, swapped_pairs l i j p q h.1 long)) ys shuffled).1
 
 pub later : (a b : Bool) → a ≡ false → (a || b) ≡ true → b ≡ true
@@ -78,11 +85,13 @@ without t (x ∷ xs) is = elim (cases_eq x t) [
     not_it : (b : Bool) → (x == t) ≡ b → x ≢ t → b ≡ false
     not_it b is ne = grind (arith, nat_tests)
 
-AllByRecursion-insert : {X : Type 0} (P : X → Type 0) (us vs : List X) (x : X) → AllByRecursion P (us ++ vs) → P x → AllByRecursion P (us ++ x ∷ vs)
+AllByRecursion-insert : {X : Type 0} (P : X → Type 0) (us vs : List X) (x : X) → AllByRecursion P (us ++ vs) → P x
+    → AllByRecursion P (us ++ x ∷ vs)
 AllByRecursion-insert P [] vs x all mine = (mine, all)
 AllByRecursion-insert P (u ∷ us) vs x all mine = (all.0, AllByRecursion-insert P us vs x all.1 mine)
 
-EachPair-insert : {X : Type 0} (R : X → X → Type 0) (us vs : List X) (x : X) → EachPair R (us ++ vs) → AllByRecursion (λ y. R y x × R x y) (us ++ vs) → EachPair R (us ++ x ∷ vs)
+EachPair-insert : {X : Type 0} (R : X → X → Type 0) (us vs : List X) (x : X) → EachPair R (us ++ vs)
+    → AllByRecursion (λ y. R y x × R x y) (us ++ vs) → EachPair R (us ++ x ∷ vs)
 EachPair-insert R [] vs x pairs all = (after vs all, pairs)
   where
     after : (ys : List _) → AllByRecursion (λ y. R y x × R x y) ys → AllByRecursion (R x) ys
@@ -102,7 +111,8 @@ any_without t x (u ∷ us) vs ne is = either_way (u == t) (λ rest. any_without 
     either_way true rest is = refl
     either_way false rest is = rest is
 
-pub all_once : (n : ℕ) (ts : List ℕ) → length ts ≡ n → ((t : ℕ) → t < n → list_any (λ y. y == t) ts ≡ true) → AllByRecursion (λ t. t < n) ts × EachPair (λ a b. a ≢ b) ts
+pub all_once : (n : ℕ) (ts : List ℕ) → length ts ≡ n → ((t : ℕ) → t < n → list_any (λ y. y == t) ts ≡ true) → AllByRecursion (λ t. t < n) ts
+    × EachPair (λ a b. a ≢ b) ts
 all_once zero [] size each = (tt, tt)
 all_once zero (t ∷ ts) size each = absurd (omega arith)
 all_once (suc n) ts size each =
@@ -111,7 +121,9 @@ all_once (suc n) ts size each =
     let vs = w.1 in
     let total : length (us ++ n ∷ vs) ≡ suc n = ap (λ (l : List ℕ). length l) (sym w.2) ∙ size in
     let longer : length (us ++ n ∷ vs) ≡ suc (length (us ++ vs)) = longer_by_one us vs n in
-    let rest = all_once n (us ++ vs) (omega arith) (λ t less. any_without t n us vs (λ same. absurd (omega arith)) (subst (λ (l : List ℕ). list_any (λ y. y == t) l ≡ true) w.2 (each t (omega arith)))) in
+    let rest = all_once n (us ++ vs) (omega arith)
+    (λ t less. any_without t n us vs (λ same. absurd (omega arith))
+    (subst (λ (l : List ℕ). list_any (λ y. y == t) l ≡ true) w.2 (each t (omega arith)))) in
     subst (λ (l : List ℕ). AllByRecursion (λ t. t < suc n) l × EachPair (λ a b. a ≢ b) l) (sym w.2) (
       AllByRecursion-insert (λ t. t < suc n) us vs n (weaker n (us ++ vs) rest.0) (omega arith),
       EachPair-insert (λ a b. a ≢ b) us vs n rest.1 (apart n (us ++ vs) rest.0),
@@ -127,4 +139,7 @@ all_once (suc n) ts size each =
 
     apart : (n : ℕ) (ys : List ℕ) → AllByRecursion (λ t. t < n) ys → AllByRecursion (λ y. (y ≢ n) × (n ≢ y)) ys
     apart n [] all = tt
-    apart n (y ∷ ys) all = (((λ same. absurd (let h = all.0 in omega arith)), (λ same. absurd (let h = all.0 in omega arith))), apart n ys all.1)
+    apart n (y ∷ ys) all = (
+      ((λ same. absurd (let h = all.0 in omega arith)), (λ same. absurd (let h = all.0 in omega arith))),
+      apart n ys all.1,
+    )

@@ -1,11 +1,13 @@
 -- The calls of all logs, by their first stamps, are a history: that of the schedule under other numbers and wider stamps. So an
 -- order that is legal for the one is legal for the other.
-use Rattle.std.proofs.Common.{◌≡◌, ◌≢◌, ◌⊎◌, ℕ, zero, suc, ◌+◌, ◌<◌, ◌≤◌, List, [], ◌∷◌, ◌++◌, length, map, get_or, true, Option, Some, None, refl, sym, ap, ◌∙◌, subst, inl, inr, arith, cond, append_assoc, length-append, ne_eqb, ◌-◌}
+use Rattle.std.proofs.Common.{◌≡◌, ◌≢◌, ◌⊎◌, ℕ, zero, suc, ◌+◌, ◌<◌, ◌≤◌, List, [], ◌∷◌, ◌++◌, length, map, get_or, true, Option, Some}
+use Rattle.std.proofs.Common.{None, refl, sym, ap, ◌∙◌, subst, inl, inr, arith, cond, append_assoc, length-append, ne_eqb, ◌-◌}
 use Rattle.std.specs.Prelude.{IsPermutation, ◌==◌}
 use Rattle.std.specs.List.{All, Contains, list_any, AllByRecursion}
 use Rattle.std.specs.List.Sorted.{IsNonDecreasingBy}
 use Rattle.std.proofs.lemmas.Bool.{cases_eq, cases_lt}
-use Rattle.std.proofs.lemmas.List.Elements.{All-append, All-from_get_or, All-get_or, All-nil, Contains-append_left, Contains-append_right, Contains-get_or, recursion_from_All}
+use Rattle.std.proofs.lemmas.List.Elements.{All-append, All-from_get_or, All-get_or, All-nil, Contains-append_left, Contains-append_right}
+use Rattle.std.proofs.lemmas.List.Elements.{Contains-get_or, recursion_from_All}
 use Rattle.std.proofs.lemmas.List.Sorted.{All-permutation, Contains-permutation}
 use Rattle.kfifo_words.specs.declared.shape.Shape.{Shape}
 use Rattle.kfifo_model.specs.declared.calls.Call.{Call}
@@ -18,7 +20,8 @@ use Rattle.kfifo_model.specs.Measures.{HasDistinctItems, IsDoneEnqueue}
 use Rattle.kfifo_model.specs.Overtaking.{certainly_overtaken}
 use Rattle.kfifo_model.specs.Relaxed.{Wrong, effect}
 use Rattle.kfifo_model.specs.Validity.{Answers, EndInRange, EndsFrom, IsHistory, IsInRange, OpInRange}
-use Rattle.kfifo_model.proofs.Matching.{HasPartners, done_within, match_by, matched_distinct, matched_done, matched_legal, matched_overtaken}
+use Rattle.kfifo_model.proofs.Matching.{HasPartners, done_within, match_by, matched_distinct, matched_done, matched_legal}
+use Rattle.kfifo_model.proofs.Matching.{matched_overtaken}
 use Rattle.kfifo_model.proofs.Lists.{AllByRecursion-append}
 use Rattle.kfifo_machine.specs.declared.event.Begin.TheVariants.{Tick}
 use Rattle.kfifo_machine.specs.declared.event.Event.{Event}
@@ -51,7 +54,8 @@ ticks_up_to (x ∷ xs) a (y ∷ ys) b same le =
     omega arith
 
 -- and fewer, if a tick comes behind it
-ticks_behind : (xs : List Event) (t : ℕ) (a ys b : List Event) → xs ++ event t (Some Tick) ∷ a ≡ ys ++ b → length xs < length ys → ticks xs < ticks ys
+ticks_behind : (xs : List Event) (t : ℕ) (a ys b : List Event) → xs ++ event t (Some Tick) ∷ a ≡ ys ++ b → length xs < length ys
+    → ticks xs < ticks ys
 ticks_behind xs t a ys b same lt =
     let longer : (xs ++ event t (Some Tick) ∷ []) ++ a ≡ ys ++ b = append_assoc xs (event t (Some Tick) ∷ []) a ∙ same in
     let size = length-append xs (event t (Some Tick) ∷ []) in
@@ -70,10 +74,13 @@ same_front (x ∷ xs) a (y ∷ ys) b same size =
     ((λ i. first i ∷ k.0 i), k.1)
 
 -- the events between a place and the next event of a thread
-same_gap : (t : ℕ) (xs ys : List Event) (e f : Event) (a b : List Event) → xs ++ e ∷ a ≡ ys ++ f ∷ b → own t xs ≡ [] → own t ys ≡ [] → e.thread ≡ t → f.thread ≡ t → xs ≡ ys
+same_gap : (t : ℕ) (xs ys : List Event) (e f : Event) (a b : List Event) → xs ++ e ∷ a ≡ ys ++ f ∷ b → own t xs ≡ [] → own t ys ≡ []
+    → e.thread ≡ t → f.thread ≡ t → xs ≡ ys
 same_gap t [] [] e f a b same x y own_e own_f = refl
-same_gap t [] (u ∷ ys) e f a b same x y own_e own_f = absurd (let first : e ≡ u = cc in (own_none t u ys y).0 (sym own_e ∙ ap (λ (v : Event). v.thread) first))
-same_gap t (u ∷ xs) [] e f a b same x y own_e own_f = absurd (let first : u ≡ f = cc in (own_none t u xs x).0 (sym own_f ∙ ap (λ (v : Event). v.thread) (sym first)))
+same_gap t [] (u ∷ ys) e f a b same x y own_e own_f =
+    absurd (let first : e ≡ u = cc in (own_none t u ys y).0 (sym own_e ∙ ap (λ (v : Event). v.thread) first))
+same_gap t (u ∷ xs) [] e f a b same x y own_e own_f =
+    absurd (let first : u ≡ f = cc in (own_none t u xs x).0 (sym own_f ∙ ap (λ (v : Event). v.thread) (sym first)))
 same_gap t (u ∷ xs) (v ∷ ys) e f a b same x y own_e own_f =
     let first : u ≡ v = cc in
     let rest : xs ++ e ∷ a ≡ ys ++ f ∷ b = cc in
@@ -85,7 +92,8 @@ own_there : (t : ℕ) (xs : List Event) (e : Event) (a : List Event) → e.threa
 own_there t [] e a mine none = (own_none t e a none).0 (sym mine)
 own_there t (x ∷ xs) e a mine none = own_there t xs e a mine (own_none t x (xs ++ e ∷ a) none).1
 
-same_last : (t : ℕ) (xs ys : List Event) (e f : Event) (a b : List Event) → xs ++ e ∷ a ≡ ys ++ f ∷ b → own t a ≡ [] → own t b ≡ [] → e.thread ≡ t → f.thread ≡ t → xs ≡ ys
+same_last : (t : ℕ) (xs ys : List Event) (e f : Event) (a b : List Event) → xs ++ e ∷ a ≡ ys ++ f ∷ b → own t a ≡ [] → own t b ≡ []
+    → e.thread ≡ t → f.thread ≡ t → xs ≡ ys
 same_last t [] [] e f a b same x y own_e own_f = refl
 same_last t [] (u ∷ ys) e f a b same x y own_e own_f =
     let rest : a ≡ ys ++ f ∷ b = cc in
@@ -106,9 +114,11 @@ module _ (all : List Event) where
   from_tick c d s = s.split ∙ append_assoc s.before (event c.thread (Some Tick) ∷ s.between) (s.begin ∷ s.rest)
 
   -- one stamp was drawn by one tick
-  same_tick : (c d c' d' : Call) (s : IsStamped all c d) (s' : IsStamped all c' d') → c.first ≡ c'.first → (s.before ≡ s'.before) × (c.thread ≡ c'.thread) × (s.between ++ s.begin ∷ s.rest ≡ s'.between ++ s'.begin ∷ s'.rest)
+  same_tick : (c d c' d' : Call) (s : IsStamped all c d) (s' : IsStamped all c' d') → c.first ≡ c'.first → (s.before ≡ s'.before)
+      × (c.thread ≡ c'.thread) × (s.between ++ s.begin ∷ s.rest ≡ s'.between ++ s'.begin ∷ s'.rest)
   same_tick c d c' d' s s' same =
-      let both : s.before ++ event c.thread (Some Tick) ∷ (s.between ++ s.begin ∷ s.rest) ≡ s'.before ++ event c'.thread (Some Tick) ∷ (s'.between ++ s'.begin ∷ s'.rest) = sym (from_tick c d s) ∙ from_tick c' d' s' in
+      let both : s.before ++ event c.thread (Some Tick) ∷ (s.between ++ s.begin ∷ s.rest)
+      ≡ s'.before ++ event c'.thread (Some Tick) ∷ (s'.between ++ s'.begin ∷ s'.rest) = sym (from_tick c d s) ∙ from_tick c' d' s' in
       let equal : ticks s.before ≡ ticks s'.before = sym s.first_is ∙ same ∙ s'.first_is in
       let size : length s.before ≡ length s'.before =
       elim (cases_lt (length s.before) (length s'.before)) [
@@ -133,16 +143,19 @@ module _ (all : List Event) where
   one_logged : (c c' d : Call) → IsStamped all c d → IsStamped all c' d → c.first ≡ c'.first
   one_logged c c' d s s' =
       let t : c'.thread ≡ c.thread = s'.thread ∙ sym s.thread in
-      let both : (s.before ++ event c.thread (Some Tick) ∷ s.between) ++ s.begin ∷ s.rest ≡ (s'.before ++ event c'.thread (Some Tick) ∷ s'.between) ++ s'.begin ∷ s'.rest = sym s.split ∙ s'.split in
+      let both : (s.before ++ event c.thread (Some Tick) ∷ s.between) ++ s.begin ∷ s.rest
+      ≡ (s'.before ++ event c'.thread (Some Tick) ∷ s'.between) ++ s'.begin ∷ s'.rest = sym s.split ∙ s'.split in
       let k = same_front _ _ _ _ both (sym s.made_first ∙ s'.made_first) in
-      let before = same_last c.thread s.before s'.before _ _ s.between s'.between k.0 s.quiet (ap (λ u. own u s'.between) (sym t) ∙ s'.quiet) refl t in
+      let before = same_last c.thread s.before s'.before _ _ s.between s'.between k.0 s.quiet
+      (ap (λ u. own u s'.between) (sym t) ∙ s'.quiet) refl t in
       s.first_is ∙ ap ticks before ∙ sym s'.first_is
 
   -- a stamped call ends after it began
   ends_after : (c d : Call) → EndsFrom d.first d.end → IsStamped all c d → EndsFrom c.first c.end
   ends_after c d from s =
       let step : d.first ≤ s.step = subst (EndsFrom d.first) s.made_end from in
-      let both : s.before ++ event c.thread (Some Tick) ∷ (s.between ++ s.begin ∷ s.rest) ≡ s.upto ++ event c.thread (Some Tick) ∷ s.later = sym (from_tick c d s) ∙ s.split_last in
+      let both : s.before ++ event c.thread (Some Tick) ∷ (s.between ++ s.begin ∷ s.rest) ≡ s.upto ++ event c.thread (Some Tick) ∷ s.later =
+      sym (from_tick c d s) ∙ s.split_last in
       let first = s.made_first in
       let size = length-append s.before (event c.thread (Some Tick) ∷ s.between) in
       let ended = s.ended in
@@ -155,7 +168,8 @@ module _ (all : List Event) where
   steps_apart : (c d c' d' : Call) → IsStamped all c d → IsStamped all c' d' → EndsBelow c.end c'.first → EndsBelow d.end d'.first
   steps_apart c d c' d' s s' before =
       let stamps : ticks s.upto < c'.first = subst (λ (e : Option End). EndsBelow e c'.first) s.logged_end before in
-      let both : s'.before ++ event c'.thread (Some Tick) ∷ (s'.between ++ s'.begin ∷ s'.rest) ≡ s.upto ++ event c.thread (Some Tick) ∷ s.later = sym (from_tick c' d' s') ∙ s.split_last in
+      let both : s'.before ++ event c'.thread (Some Tick) ∷ (s'.between ++ s'.begin ∷ s'.rest)
+      ≡ s.upto ++ event c.thread (Some Tick) ∷ s.later = sym (from_tick c' d' s') ∙ s.split_last in
       let is = s'.first_is in
       let far : length s.upto < length s'.before =
       elim (cases_lt (length s.upto) (length s'.before)) [
@@ -198,11 +212,13 @@ abbrev pub threads_of : List Logged → List ℕ
 threads_of [] = []
 threads_of (p ∷ ps) = p.pass.thread ∷ threads_of ps
 
-each_both : {X : Type 0} (P Q T : X → Type 0) → ((x : X) → P x → Q x → T x) → (xs : List X) → AllByRecursion P xs → AllByRecursion Q xs → AllByRecursion T xs
+each_both : {X : Type 0} (P Q T : X → Type 0) → ((x : X) → P x → Q x → T x) → (xs : List X) → AllByRecursion P xs → AllByRecursion Q xs
+    → AllByRecursion T xs
 each_both P Q T on [] p q = tt
 each_both P Q T on (x ∷ xs) p q = (on x p.0 q.0, each_both P Q T on xs p.1 q.1)
 
-pairs_append : {X : Type 0} (R : X → X → Type 0) (xs ys : List X) → EachPair R xs → EachPair R ys → AllByRecursion (λ x. AllByRecursion (R x) ys) xs → EachPair R (xs ++ ys)
+pairs_append : {X : Type 0} (R : X → X → Type 0) (xs ys : List X) → EachPair R xs → EachPair R ys
+    → AllByRecursion (λ x. AllByRecursion (R x) ys) xs → EachPair R (xs ++ ys)
 pairs_append R [] ys a b c = b
 pairs_append R (x ∷ xs) ys a b c = (AllByRecursion-append (R x) xs ys a.0 c.0, pairs_append R xs ys a.1 b c.1)
 
@@ -216,7 +232,8 @@ any_from_each d R turn [] pairs i j low high apart = absurd (omega arith)
 any_from_each d R turn (x ∷ xs) pairs zero zero low high apart = absurd (apart refl)
 any_from_each d R turn (x ∷ xs) pairs zero (suc j) low high apart = each_at d (R x) xs j (omega arith) pairs.0
 any_from_each d R turn (x ∷ xs) pairs (suc i) zero low high apart = turn x (get_or xs i d) (each_at d (R x) xs i (omega arith) pairs.0)
-any_from_each d R turn (x ∷ xs) pairs (suc i) (suc j) low high apart = any_from_each d R turn xs pairs.1 i j (omega arith) (omega arith) (λ same. apart (ap suc same))
+any_from_each d R turn (x ∷ xs) pairs (suc i) (suc j) low high apart =
+    any_from_each d R turn xs pairs.1 i j (omega arith) (omega arith) (λ same. apart (ap suc same))
 
 same_default : {X : Type 0} (xs : List X) (n : ℕ) (a b : X) → n < length xs → get_or xs n a ≡ get_or xs n b
 same_default [] n a b less = absurd (omega arith)
@@ -237,21 +254,28 @@ first_below None f g from below = absurd below
 first_below (Some end) f g from below = omega arith
 
 -- the first stamps of a log rise
-rising_log : (log : List Call) → AllByRecursion (λ c. EndsFrom c.first c.end) log → EachPair (λ c d. EndsBelow c.end d.first) log → EachPair (λ c d. c.first < d.first) log
+rising_log : (log : List Call) → AllByRecursion (λ c. EndsFrom c.first c.end) log → EachPair (λ c d. EndsBelow c.end d.first) log
+    → EachPair (λ c d. c.first < d.first) log
 rising_log [] from turn = tt
-rising_log (c ∷ cs) from turn = (each_both (λ d. EndsBelow c.end d.first) (λ d. EndsBelow c.end d.first) (λ d. c.first < d.first) (λ d below same. first_below c.end c.first d.first from.0 below) cs turn.0 turn.0, rising_log cs from.1 turn.1)
+rising_log (c ∷ cs) from turn = (
+  each_both (λ d. EndsBelow c.end d.first) (λ d. EndsBelow c.end d.first) (λ d. c.first < d.first)
+      (λ d below same. first_below c.end c.first d.first from.0 below) cs turn.0 turn.0,
+  rising_log cs from.1 turn.1,
+)
 
 turned_pair : (c d : Call) → AreApart c d → AreApart d c
 turned_pair c d a = ((λ same. a.0 (sym same)), λ same. elim (a.1 (sym same)) [ inl x ↦ inr x | inr y ↦ inl y ])
 
 -- a thread beyond the opening's has no event
-own_beyond : (shape : Shape) (t : ℕ) (here there : World) (events : List Event) → length here.places ≤ t → run shape (Some here) events ≡ Some there → own t events ≡ []
+own_beyond : (shape : Shape) (t : ℕ) (here there : World) (events : List Event) → length here.places ≤ t
+    → run shape (Some here) events ≡ Some there → own t events ≡ []
 own_beyond shape t here there [] beyond is = refl
 own_beyond shape t here there (e ∷ es) beyond is =
     let m = first_made shape here e there es is in
     let within = made_within shape here e m.0 m.1.0 m.1.1.0 in
     let still = same_threads shape here e m.0 m.1.0 m.1.1.0 in
-    ap (λ b. cond b (e ∷ own t es) (own t es)) (ne_eqb e.thread t (λ same. absurd (omega arith))) ∙ own_beyond shape t m.0 there es (omega arith) m.1.1.1
+    ap (λ b. cond b (e ∷ own t es) (own t es)) (ne_eqb e.thread t (λ same. absurd (omega arith)))
+    ∙ own_beyond shape t m.0 there es (omega arith) m.1.1.1
 
 -- All logs of a schedule
 module _ (o : Opening) (all : List Event) (here : World) (reached : world_after o all ≡ Some here) (few : o.threads ≤ 64) where
@@ -265,15 +289,19 @@ module _ (o : Opening) (all : List Event) (here : World) (reached : world_after 
   rises_by m zero within = (made_history (m + 1) within).rises m refl
   rises_by m (suc k) within =
       let before = rises_by m k (omega arith) in
-      let next : (call (calls_of o all) (m + suc k)).first < (call (calls_of o all) (m + suc (suc k))).first = (made_history (m + suc (suc k)) within).rises (m + suc k) (omega arith) in
+      let next : (call (calls_of o all) (m + suc k)).first < (call (calls_of o all) (m + suc (suc k))).first =
+      (made_history (m + suc (suc k)) within).rises (m + suc k) (omega arith) in
       omega arith
 
-  one_number : (m p : ℕ) → m < length (calls_of o all) → p < length (calls_of o all) → (call (calls_of o all) m).first ≡ (call (calls_of o all) p).first → m ≡ p
+  one_number : (m p : ℕ) → m < length (calls_of o all) → p < length (calls_of o all)
+      → (call (calls_of o all) m).first ≡ (call (calls_of o all) p).first → m ≡ p
   one_number m p low high same =
       elim (cases_lt m p) [
-        | inl lt ↦ absurd (let less = subst (λ (n : ℕ). (call (calls_of o all) m).first < (call (calls_of o all) n).first) (let e : m + suc (p - suc m) ≡ p = omega arith in e) (rises_by m (p - suc m) (omega arith)) in omega arith)
+        | inl lt ↦ absurd (let less = subst (λ (n : ℕ). (call (calls_of o all) m).first < (call (calls_of o all) n).first)
+            (let e : m + suc (p - suc m) ≡ p = omega arith in e) (rises_by m (p - suc m) (omega arith)) in omega arith)
         | inr ge ↦ elim (cases_lt p m) [
-          | inl gt ↦ absurd (let less = subst (λ (n : ℕ). (call (calls_of o all) p).first < (call (calls_of o all) n).first) (let e : p + suc (m - suc p) ≡ m = omega arith in e) (rises_by p (m - suc p) (omega arith)) in omega arith)
+          | inl gt ↦ absurd (let less = subst (λ (n : ℕ). (call (calls_of o all) p).first < (call (calls_of o all) n).first)
+              (let e : p + suc (m - suc p) ≡ m = omega arith in e) (rises_by p (m - suc p) (omega arith)) in omega arith)
           | inr le ↦ omega arith
         ]
       ]
@@ -298,7 +326,8 @@ module _ (o : Opening) (all : List Event) (here : World) (reached : world_after 
   all_calls (p ∷ ps) g = All-append Logs p.log (all_logs ps) (log_calls p g.0) (all_calls ps g.1)
 
   -- each call of the schedule is in a log
-  find_log : (m : ℕ) → m < length (calls_of o all) → (ps : List Logged) → AllByRecursion (IsGoodLog o all) ps → list_any (λ p. p.thread == (call (calls_of o all) m).thread) (passes_of ps) ≡ true
+  find_log : (m : ℕ) → m < length (calls_of o all) → (ps : List Logged) → AllByRecursion (IsGoodLog o all) ps
+      → list_any (λ p. p.thread == (call (calls_of o all) m).thread) (passes_of ps) ≡ true
       → (c : Call) × Contains (all_logs ps) c × IsStamped all c (call (calls_of o all) m)
   find_log m less [] g is = absurd (cc)
   find_log m less (p ∷ ps) g is =
@@ -308,7 +337,8 @@ module _ (o : Opening) (all : List Event) (here : World) (reached : world_after 
             let i = g.0.calls.logged m less (sym same) in
             (call p.log i.0, Contains-append_left p.log (all_logs ps) (call p.log i.0) (Contains-get_or p.log i.0 no_call i.1), i.2)
         | inr ne ↦
-            let f = find_log m less ps g.1 (later (p.pass.thread == t) (list_any (λ p. p.thread == t) (passes_of ps)) (ne_eqb p.pass.thread t ne) is) in
+            let f = find_log m less ps g.1 (later (p.pass.thread == t) (list_any (λ p. p.thread == t) (passes_of ps))
+            (ne_eqb p.pass.thread t ne) is) in
             (f.0, Contains-append_right p.log (all_logs ps) f.0 f.1, f.2)
       ]
 
@@ -316,31 +346,44 @@ module _ (o : Opening) (all : List Event) (here : World) (reached : world_after 
   call_ends c l = ends_after all c (call (calls_of o all) l.0) (made_history l.0 l.1).ends l.2
 
   pub log_rises : (p : Logged) → IsGoodLog o all p → EachPair (λ c d. c.first < d.first) p.log
-  log_rises p g = let logs = recursion_from_All Logs p.log (log_calls p g) in rising_log p.log (each_both Logs Logs (λ c. EndsFrom c.first c.end) (λ c l m. call_ends c l) p.log logs logs) g.in_turn
+  log_rises p g = let logs = recursion_from_All Logs p.log (log_calls p g) in
+      rising_log p.log (each_both Logs Logs (λ c. EndsFrom c.first c.end) (λ c l m. call_ends c l) p.log logs logs) g.in_turn
 
-  in_log_pairs : (log : List Call) → AllByRecursion (λ c. EndsFrom c.first c.end) log → EachPair (λ c d. EndsBelow c.end d.first) log → EachPair AreApart log
+  in_log_pairs : (log : List Call) → AllByRecursion (λ c. EndsFrom c.first c.end) log → EachPair (λ c d. EndsBelow c.end d.first) log
+      → EachPair AreApart log
   in_log_pairs [] from turn = tt
-  in_log_pairs (c ∷ cs) from turn =
-      (each_both (λ d. EndsBelow c.end d.first) (λ d. EndsFrom d.first d.end) (AreApart c) (λ d below ends. ((first_apart c.end c.first d.first from.0 below), (λ same. inl below))) cs turn.0 from.1, in_log_pairs cs from.1 turn.1)
+  in_log_pairs (c ∷ cs) from turn = (
+    each_both (λ d. EndsBelow c.end d.first) (λ d. EndsFrom d.first d.end) (AreApart c)
+        (λ d below ends. ((first_apart c.end c.first d.first from.0 below), (λ same. inl below))) cs turn.0 from.1,
+    in_log_pairs cs from.1 turn.1,
+  )
 
-  of_others : (t : ℕ) (ps : List Logged) → AllByRecursion (IsGoodLog o all) ps → AllByRecursion (λ u. t ≢ u) (threads_of ps) → AllByRecursion (λ d. (t ≢ d.thread) × Logs d) (all_logs ps)
+  of_others : (t : ℕ) (ps : List Logged) → AllByRecursion (IsGoodLog o all) ps → AllByRecursion (λ u. t ≢ u) (threads_of ps)
+      → AllByRecursion (λ d. (t ≢ d.thread) × Logs d) (all_logs ps)
   of_others t [] g apart = tt
   of_others t (p ∷ ps) g apart =
       AllByRecursion-append (λ d. (t ≢ d.thread) × Logs d) p.log (all_logs ps)
-      (each_both (λ d. d.thread ≡ p.pass.thread) Logs (λ d. (t ≢ d.thread) × Logs d) (λ d mine logs. ((λ same. apart.0 (same ∙ mine)), logs)) p.log g.0.mine (recursion_from_All Logs p.log (log_calls p g.0)))
+      (each_both (λ d. d.thread ≡ p.pass.thread) Logs (λ d. (t ≢ d.thread) × Logs d)
+      (λ d mine logs. ((λ same. apart.0 (same ∙ mine)), logs)) p.log g.0.mine (recursion_from_All Logs p.log (log_calls p g.0)))
       (of_others t ps g.1 apart.1)
 
   across : (c : Call) → Logs c → (ds : List Call) → AllByRecursion (λ d. (c.thread ≢ d.thread) × Logs d) ds → AllByRecursion (AreApart c) ds
   across c logs [] others = tt
-  across c logs (d ∷ ds) others =
-      (((λ same. others.0.0 (same_tick all c _ d _ logs.2 others.0.1.2 same).1), (λ same. absurd (others.0.0 same))), across c logs ds others.1)
+  across c logs (d ∷ ds) others = (
+    ((λ same. others.0.0 (same_tick all c _ d _ logs.2 others.0.1.2 same).1), (λ same. absurd (others.0.0 same))),
+    across c logs ds others.1,
+  )
 
-  across_logs : (t : ℕ) (cs ds : List Call) → AllByRecursion (λ c. c.thread ≡ t) cs → AllByRecursion Logs cs → AllByRecursion (λ d. (t ≢ d.thread) × Logs d) ds → AllByRecursion (λ c. AllByRecursion (AreApart c) ds) cs
+  across_logs : (t : ℕ) (cs ds : List Call) → AllByRecursion (λ c. c.thread ≡ t) cs → AllByRecursion Logs cs
+      → AllByRecursion (λ d. (t ≢ d.thread) × Logs d) ds → AllByRecursion (λ c. AllByRecursion (AreApart c) ds) cs
   across_logs t [] ds mine logs others = tt
-  across_logs t (c ∷ cs) ds mine logs others =
-      (across c logs.0 ds (subst (λ (u : ℕ). AllByRecursion (λ d. (u ≢ d.thread) × Logs d) ds) (sym mine.0) others), across_logs t cs ds mine.1 logs.1 others)
+  across_logs t (c ∷ cs) ds mine logs others = (
+    across c logs.0 ds (subst (λ (u : ℕ). AllByRecursion (λ d. (u ≢ d.thread) × Logs d) ds) (sym mine.0) others),
+    across_logs t cs ds mine.1 logs.1 others,
+  )
 
-  all_pairs : (ps : List Logged) → AllByRecursion (IsGoodLog o all) ps → EachPair (λ t u. t ≢ u) (threads_of ps) → EachPair AreApart (all_logs ps)
+  all_pairs : (ps : List Logged) → AllByRecursion (IsGoodLog o all) ps → EachPair (λ t u. t ≢ u) (threads_of ps)
+      → EachPair AreApart (all_logs ps)
   all_pairs [] g apart = tt
   all_pairs (p ∷ ps) g apart =
       let logs = recursion_from_All Logs p.log (log_calls p g.0) in
@@ -350,7 +393,8 @@ module _ (o : Opening) (all : List Event) (here : World) (reached : world_after 
       (across_logs p.pass.thread p.log (all_logs ps) g.0.mine logs (of_others p.pass.thread ps g.1 apart.0))
 
   -- The calls of all logs by rising first stamps
-  module _ (ps : List Logged) (h : List Call) (g : AllByRecursion (IsGoodLog o all) ps) (apart : EachPair (λ t u. t ≢ u) (threads_of ps)) (complete : (t : ℕ) → t < o.threads → list_any (λ p. p.thread == t) (passes_of ps) ≡ true)
+  module _ (ps : List Logged) (h : List Call) (g : AllByRecursion (IsGoodLog o all) ps) (apart : EachPair (λ t u. t ≢ u) (threads_of ps))
+      (complete : (t : ℕ) → t < o.threads → list_any (λ p. p.thread == t) (passes_of ps) ≡ true)
       (shuffled : IsPermutation (all_logs ps) h) (sorted : IsNonDecreasingBy (λ c. c.first) h) where
     calls : All Logs h
     calls = All-permutation Logs (all_logs ps) h shuffled (all_calls ps g)
@@ -359,7 +403,8 @@ module _ (o : Opening) (all : List Event) (here : World) (reached : world_after 
     at n less = All-get_or Logs h n no_call less calls
 
     pairs : AnyPair no_call AreApart h
-    pairs = pairs_shuffled no_call AreApart (all_logs ps) h shuffled (any_from_each no_call AreApart turned_pair (all_logs ps) (all_pairs ps g apart))
+    pairs = pairs_shuffled no_call AreApart (all_logs ps) h shuffled
+        (any_from_each no_call AreApart turned_pair (all_logs ps) (all_pairs ps g apart))
 
     pub rises : (i j : ℕ) → i < j → j < length h → (call h i).first < (call h j).first
     rises i j lt within =
@@ -378,7 +423,8 @@ module _ (o : Opening) (all : List Event) (here : World) (reached : world_after 
           rises = λ j e. rises j n (omega arith) less;
           apart = λ j before same. elim ((pairs j n (omega arith) less (λ e. absurd (omega arith))).1 same) [
             | inl below ↦ below
-            | inr other ↦ absurd (no_return (call h n).end (call h n).first (call h j).first (ends_after all (call h n) _ made.ends l.2) other (rises j n before less))
+            | inr other ↦ absurd (no_return (call h n).end (call h n).first (call h j).first (ends_after all (call h n) _ made.ends l.2)
+                other (rises j n before less))
           ];
         }
 
@@ -394,7 +440,8 @@ module _ (o : Opening) (all : List Event) (here : World) (reached : world_after 
           | inl same ↦ same
           | inr ne ↦ absurd ((pairs n p n_in p_in ne).0 (one_logged all (call h n) (call h p) (call (calls_of o all) m) x y))
         ])
-        (λ n m p n_in m_in p_in x y. one_number m p m_in p_in (one_made all (call h n) (call (calls_of o all) m) (call (calls_of o all) p) x y)) in
+        (λ n m p n_in m_in p_in x y. one_number m p m_in p_in
+        (one_made all (call h n) (call (calls_of o all) m) (call (calls_of o all) p) x y)) in
         record {
           numbers = b.0;
           same_op = λ n less. (b.1 n less).op;
@@ -407,12 +454,14 @@ module _ (o : Opening) (all : List Event) (here : World) (reached : world_after 
 
     -- the order of the schedule is legal for them
     pub logs_legal : IsLegal o.shape.k h logs_order
-    logs_legal = matched_legal o.shape.k h (calls_of o all) (order_of o.shape o.threads all) logs_match (has_legal_order o.shape o.threads few all here reached)
+    logs_legal = matched_legal o.shape.k h (calls_of o all) (order_of o.shape o.threads all) logs_match
+        (has_legal_order o.shape o.threads few all here reached)
 
     -- and few overtakings are certain
     pub logs_few : HasDistinctItems h → (c : ℕ) → IsDoneEnqueue h c → certainly_overtaken h c < o.shape.k
     logs_few distinct c done =
         let within = done_within h c done in
-        let less = few_certainly o.shape o.threads few all here reached (logs_match.numbers.to c) (matched_done h (calls_of o all) logs_match c within done) (matched_distinct h (calls_of o all) logs_match distinct) in
+        let less = few_certainly o.shape o.threads few all here reached (logs_match.numbers.to c)
+        (matched_done h (calls_of o all) logs_match c within done) (matched_distinct h (calls_of o all) logs_match distinct) in
         let le = matched_overtaken h (calls_of o all) logs_match c within in
         omega arith

@@ -1,5 +1,7 @@
 -- The ticks of the clock: the clock has the number of them, and there are few.
-use Rattle.std.proofs.Common.{◌≡◌, ◌≢◌, ℕ, zero, suc, ◌+◌, ◌*◌, ◌<◌, ◌≤◌, ◌⊎◌, List, [], ◌∷◌, ◌++◌, length, filter, get_or, set, replicate, Bool, true, false, Option, Some, None, Ok, refl, ap, ◌∙◌, subst, inl, inr, arith, le_trans, cond, length-append}
+use Rattle.std.proofs.Common.{◌≡◌, ◌≢◌, ℕ, zero, suc, ◌+◌, ◌*◌, ◌<◌, ◌≤◌, ◌⊎◌, List, [], ◌∷◌, ◌++◌, length, filter, get_or, set, replicate}
+use Rattle.std.proofs.Common.{Bool, true, false, Option, Some, None, Ok, refl, ap, ◌∙◌, subst, inl, inr, arith, le_trans, cond}
+use Rattle.std.proofs.Common.{length-append}
 use Rattle.std.proofs.lemmas.List.Elements.{filter-append}
 use Rattle.std.specs.Prelude.{◌==◌, nat_lt}
 use Rattle.std.proofs.Math.Nat.{mul-le-mul_left, mul-le-mul_right}
@@ -27,7 +29,8 @@ use Rattle.kfifo_live.specs.declared.view.Opening.{Opening}
 use Rattle.kfifo_live.specs.Schedule.{world_after, begins_tick, ticks, FewTicks}
 
 pub ticks-append : (xs ys : List Event) → ticks (xs ++ ys) ≡ ticks xs + ticks ys
-ticks-append xs ys = ap length (filter-append (λ (e : Event). begins_tick e.begin) xs ys) ∙ length-append (filter (λ (e : Event). begins_tick e.begin) xs) (filter (λ (e : Event). begins_tick e.begin) ys)
+ticks-append xs ys = ap length (filter-append (λ (e : Event). begins_tick e.begin) xs ys)
+    ∙ length-append (filter (λ (e : Event). begins_tick e.begin) xs) (filter (λ (e : Event). begins_tick e.begin) ys)
 
 -- one event is a tick or is none
 pub ticks_of_one : (e : Event) → ticks (e ∷ []) ≡ cond (begins_tick e.begin) 1 0
@@ -38,7 +41,8 @@ ticks_of_one e = by_test (begins_tick e.begin)
     by_test false = refl
 
 -- a step of a call is no tick
-pub no_tick : (shape : Shape) (place : Option Running) (begin : Option Begin) (running : Running) → going shape place begin ≡ Some running → begins_tick begin ≡ false
+pub no_tick : (shape : Shape) (place : Option Running) (begin : Option Begin) (running : Running) → going shape place begin ≡ Some running
+    → begins_tick begin ≡ false
 no_tick shape place None running is = refl
 no_tick shape place (Some (B.Enqueue item start turns)) running is = refl
 no_tick shape place (Some (B.Dequeue start turns)) running is = refl
@@ -53,7 +57,8 @@ own_one thread e = by_test (e.thread == thread)
     by_test false = inr refl
 
 -- the ticks of a thread in a schedule with one event more
-own_more : (thread : ℕ) (all : List Event) (e : Event) → ticks (own thread (all ++ e ∷ [])) ≡ ticks (own thread all) + ticks (own thread (e ∷ []))
+own_more : (thread : ℕ) (all : List Event) (e : Event)
+    → ticks (own thread (all ++ e ∷ [])) ≡ ticks (own thread all) + ticks (own thread (e ∷ []))
 own_more thread all e = ap ticks (own-append thread all (e ∷ [])) ∙ ticks-append (own thread all) (own thread (e ∷ []))
 
 -- another event leaves them few
@@ -62,11 +67,13 @@ few_more o all e none few thread =
     let old = few thread in
     let more = own_more thread all e in
     let zero_of : ticks (e ∷ []) ≡ 0 = ticks_of_one e ∙ ap (λ b. cond b 1 0) none in
-    let nothing : ticks (own thread (e ∷ [])) ≡ 0 = elim (own_one thread e) [ inl mine ↦ ap ticks mine ∙ zero_of | inr none ↦ ap ticks none ] in
+    let nothing : ticks (own thread (e ∷ [])) ≡ 0 =
+    elim (own_one thread e) [ inl mine ↦ ap ticks mine ∙ zero_of | inr none ↦ ap ticks none ] in
     omega arith
 
 -- so does a tick of a thread that may tick once more
-pub few_tick : (o : Opening) (all : List Event) (e : Event) → ticks (own e.thread all) < 2 * o.calls → FewTicks o all → FewTicks o (all ++ e ∷ [])
+pub few_tick : (o : Opening) (all : List Event) (e : Event) → ticks (own e.thread all) < 2 * o.calls → FewTicks o all
+    → FewTicks o (all ++ e ∷ [])
 few_tick o all e room few thread =
     let old = few thread in
     let more = own_more thread all e in
@@ -74,7 +81,8 @@ few_tick o all e room few thread =
     elim (cases_eq e.thread thread) [
       | inl mine ↦
           let here : ticks (own thread all) < 2 * o.calls = subst (λ (t : ℕ). ticks (own t all) < 2 * o.calls) mine room in
-          let few_of : ticks (own thread (e ∷ [])) ≤ 1 = elim (own_one thread e) [ inl same ↦ rw same one | inr none ↦ rw none (omega arith) ] in
+          let few_of : ticks (own thread (e ∷ [])) ≤ 1 =
+          elim (own_one thread e) [ inl same ↦ rw same one | inr none ↦ rw none (omega arith) ] in
           omega arith
       | inr ne ↦
           let none : own thread (e ∷ []) ≡ [] = ap (λ b. cond b (e ∷ []) []) (not_mine (e.thread == thread) refl ne) in
@@ -90,30 +98,39 @@ few_tick o all e room few thread =
     not_mine b is ne = grind (arith, nat_tests)
 
 -- An event leaves the clock, unless it is a tick, which adds one
-clock_after : (shape : Shape) (a : Access) (words : List ℕ) → accessed a < clock_at shape.k shape.n → get_or (words_after a words) (clock_at shape.k shape.n) 0 ≡ get_or words (clock_at shape.k shape.n) 0
+clock_after : (shape : Shape) (a : Access) (words : List ℕ) → accessed a < clock_at shape.k shape.n
+    → get_or (words_after a words) (clock_at shape.k shape.n) 0 ≡ get_or words (clock_at shape.k shape.n) 0
 clock_after shape (Load index) words below = refl
 clock_after shape (Exchange index from to) words below = by_test (get_or words index 0 == from)
   where
-    by_test : (b : Bool) → get_or (cond b (set words index to) words) (clock_at shape.k shape.n) 0 ≡ get_or words (clock_at shape.k shape.n) 0
+    by_test : (b : Bool) → get_or (cond b (set words index to) words) (clock_at shape.k shape.n) 0
+        ≡ get_or words (clock_at shape.k shape.n) 0
     by_test true = get_or-set_other words index (clock_at shape.k shape.n) to 0 (λ same. absurd (omega arith))
     by_test false = refl
 
-clock-moved : (shape : Shape) (here : World) (thread : ℕ) (running : Running) → IsPlace shape running → word_at (moved shape here thread running) (clock_at shape.k shape.n) ≡ word_at here (clock_at shape.k shape.n)
+clock-moved : (shape : Shape) (here : World) (thread : ℕ) (running : Running) → IsPlace shape running
+    → word_at (moved shape here thread running) (clock_at shape.k shape.n) ≡ word_at here (clock_at shape.k shape.n)
 unfolding moved word_at
 clock-moved shape here thread running place = clock_after shape (access shape running) here.words (in_table shape running place)
 
-clock-ticked : (shape : Shape) (here : World) → length here.words ≡ 2 + shape.n * shape.k → word_at (ticked shape here) (clock_at shape.k shape.n) ≡ word_at here (clock_at shape.k shape.n) + 1
+clock-ticked : (shape : Shape) (here : World) → length here.words ≡ 2 + shape.n * shape.k
+    → word_at (ticked shape here) (clock_at shape.k shape.n) ≡ word_at here (clock_at shape.k shape.n) + 1
 unfolding ticked word_at
-clock-ticked shape here size = get_or-set_at here.words (clock_at shape.k shape.n) (clock_at shape.k shape.n) (get_or here.words (clock_at shape.k shape.n) 0 + 1) 0 refl (omega (arith, size))
+clock-ticked shape here size = get_or-set_at here.words (clock_at shape.k shape.n) (clock_at shape.k shape.n)
+    (get_or here.words (clock_at shape.k shape.n) 0 + 1) 0 refl (omega (arith, size))
 
-clock_on : (shape : Shape) (here there : World) (e : Event) (outcome : Outcome) → IsSound shape here → step shape here e ≡ Ok (there, outcome)
+clock_on : (shape : Shape) (here there : World) (e : Event) (outcome : Outcome) → IsSound shape here
+    → step shape here e ≡ Ok (there, outcome)
     → word_at there (clock_at shape.k shape.n) ≡ word_at here (clock_at shape.k shape.n) + ticks (e ∷ [])
 clock_on shape here there e outcome sound made =
     elim (stepped shape here e there outcome made) [
       | inl s ↦
-          let place = going_place shape (place_of here e.thread) e.begin s.running (λ r at. place_is shape here e.thread r sound at) s.goes in
-          let same = ap (λ (w : World). word_at w (clock_at shape.k shape.n)) s.there_is ∙ clock-moved shape here e.thread s.running place in
-          let none : ticks (e ∷ []) ≡ 0 = ticks_of_one e ∙ ap (λ b. cond b 1 0) (no_tick shape (place_of here e.thread) e.begin s.running s.goes) in
+          let place = going_place shape (place_of here e.thread) e.begin s.running (λ r at. place_is shape here e.thread r sound at)
+          s.goes in
+          let same = ap (λ (w : World). word_at w (clock_at shape.k shape.n)) s.there_is
+          ∙ clock-moved shape here e.thread s.running place in
+          let none : ticks (e ∷ []) ≡ 0 = ticks_of_one e
+          ∙ ap (λ b. cond b 1 0) (no_tick shape (place_of here e.thread) e.begin s.running s.goes) in
           omega arith
       | inr t ↦
           let more = ap (λ (w : World). word_at w (clock_at shape.k shape.n)) t.there_is ∙ clock-ticked shape here sound.size in
@@ -134,11 +151,14 @@ clock_along shape here there (e ∷ es) sound is =
     omega arith
 
 -- The clock has the number of ticks
-pub clock_is : (o : Opening) (events : List Event) (here : World) → world_after o events ≡ Some here → word_at here (clock_at o.shape.k o.shape.n) ≡ ticks events
+pub clock_is : (o : Opening) (events : List Event) (here : World) → world_after o events ≡ Some here
+    → word_at here (clock_at o.shape.k o.shape.n) ≡ ticks events
 unfolding opening word_at
 clock_is o events here is =
-    let along = clock_along o.shape (opening o.shape o.threads) here events (sound o.shape o.threads [] (opening o.shape o.threads) refl) is in
-    let zero_first : word_at (opening o.shape o.threads) (clock_at o.shape.k o.shape.n) ≡ 0 = all_zero (2 + o.shape.n * o.shape.k) (clock_at o.shape.k o.shape.n) in
+    let along = clock_along o.shape (opening o.shape o.threads) here events (sound o.shape o.threads [] (opening o.shape o.threads) refl)
+    is in
+    let zero_first : word_at (opening o.shape o.threads) (clock_at o.shape.k o.shape.n) ≡ 0 =
+    all_zero (2 + o.shape.n * o.shape.k) (clock_at o.shape.k o.shape.n) in
     omega arith
   where
     all_zero : (n i : ℕ) → get_or {A = ℕ} (replicate n 0) i 0 ≡ 0
@@ -186,7 +206,8 @@ few_below o all few (suc n) =
     omega arith
 
 -- each event of a schedule is of a thread of the opening
-all_below : (shape : Shape) (here there : World) (events : List Event) → run shape (Some here) events ≡ Some there → ticks (below (length here.places) events) ≡ ticks events
+all_below : (shape : Shape) (here there : World) (events : List Event) → run shape (Some here) events ≡ Some there
+    → ticks (below (length here.places) events) ≡ ticks events
 all_below shape here there [] is = refl
 all_below shape here there (e ∷ es) is =
     let m = first_made shape here e there es is in
@@ -195,20 +216,25 @@ all_below shape here there (e ∷ es) is =
     let within = made_within shape here e m.0 m.1.0 m.1.1.0 in
     let inside : cond (nat_lt e.thread n) (ticks (e ∷ [])) 0 ≡ ticks (e ∷ []) = grind (arith, nat_tests) in
     let still : length m.0.places ≡ n = same_threads shape here e m.0 m.1.0 m.1.1.0 in
-    let rest : ticks (below n es) ≡ ticks es = subst (λ (k : ℕ). ticks (below k es) ≡ ticks es) still (all_below shape m.0 there es m.1.1.1) in
+    let rest : ticks (below n es) ≡ ticks es =
+    subst (λ (k : ℕ). ticks (below k es) ≡ ticks es) still (all_below shape m.0 there es m.1.1.1) in
     let all = ticks-append (e ∷ []) es in
     omega arith
 
 -- The clock is never spent
-pub clock_below : (o : Opening) (events : List Event) (here : World) → o.threads ≤ 64 → o.calls ≤ 1024 → FewTicks o events → world_after o events ≡ Some here
+pub clock_below : (o : Opening) (events : List Event) (here : World) → o.threads ≤ 64 → o.calls ≤ 1024 → FewTicks o events
+    → world_after o events ≡ Some here
     → word_at here (clock_at o.shape.k o.shape.n) ≤ 131072
 clock_below o events here few few_calls ticks_few is =
     let clock = clock_is o events here is in
-    let threads : length (opening o.shape o.threads).places ≡ o.threads = sound_threads o.shape o.threads [] (opening o.shape o.threads) refl in
+    let threads : length (opening o.shape o.threads).places ≡ o.threads =
+    sound_threads o.shape o.threads [] (opening o.shape o.threads) refl in
     let whole = all_below o.shape (opening o.shape o.threads) here events is in
     let under = few_below o events ticks_few (length (opening o.shape o.threads).places) in
-    let most : o.threads * (2 * o.calls) ≤ 64 * (2 * 1024) = le_trans (mul-le-mul_left o.threads (twice few_calls)) (mul-le-mul_right (2 * 1024) few) in
-    let same : length (opening o.shape o.threads).places * (2 * o.calls) ≡ o.threads * (2 * o.calls) = ap (λ (n : ℕ). n * (2 * o.calls)) threads in
+    let most : o.threads * (2 * o.calls) ≤ 64 * (2 * 1024) =
+    le_trans (mul-le-mul_left o.threads (twice few_calls)) (mul-le-mul_right (2 * 1024) few) in
+    let same : length (opening o.shape o.threads).places * (2 * o.calls) ≡ o.threads * (2 * o.calls) =
+    ap (λ (n : ℕ). n * (2 * o.calls)) threads in
     omega arith
   where
     twice : {n : ℕ} → n ≤ 1024 → 2 * n ≤ 2 * 1024

@@ -1,6 +1,7 @@
--- Tokens of a payload queue: where each of them is, what its slot holds, and what a step of a thread does to it. A token is an
--- item, and x names the slot x - 1.
-use Rattle.std.specs.Prelude.{◌≡◌, ◌≢◌, ℕ, zero, suc, ◌-◌, ◌<◌, ◌≤◌, ◌==◌, if◌then◌else◌, List, [], ◌∷◌, ◌++◌, length, map, Option, Some, None}
+-- Tokens of a payload queue: where each of them is, what its slot holds, and what a step of a thread does to it. A
+-- token is an item, and x names the slot x - 1.
+use Rattle.std.specs.Prelude.{◌≡◌, ◌≢◌, ℕ, zero, suc, ◌-◌, ◌<◌, ◌≤◌, ◌==◌, if◌then◌else◌, List, [], ◌∷◌, ◌++◌, length}
+use Rattle.std.specs.Prelude.{map, Option, Some, None}
 use mathlib.Core.Option.{Option as Maybe, some}
 use lib.ListN.{get_elem?}
 use Rattle.atomic_table.specs.Table.{Act, keeps, takes, gives}
@@ -39,15 +40,15 @@ InTurn all gifts = map (λ g. g.0) gifts ≡ items_begun all
 abbrev pub Homes : Type 0 → Type 0
 Homes T = List (Maybe (Option T))
 
--- where a token is: with the pass of a thread, which has so many others behind it, its slot at home; out with the seat of a
--- thread; or in the word with this index
+-- where a token is: with the pass of a thread, which has so many others behind it, its slot at home; out with the seat
+-- of a thread; or in the word with this index
 pub data Where : Type 0 where
   Home : ℕ → ℕ → Where
   Out : ℕ → Where
   In : ℕ → Where
 
--- the token that is out with the thread at this place in its call, or 0: an enqueue's own, until its put is won and again from
--- a won undo
+-- the token that is out with the thread at this place in its call, or 0: an enqueue's own, until its put is won and
+-- again from a won undo
 abbrev pub out_in : ℕ → EnqueuePhase → ℕ
 out_in item (E.ReloadSlot ends index filled) = 0
 out_in item (E.ReloadEnds ends index filled) = 0
@@ -71,8 +72,8 @@ out_next own (Answers Done) = 0
 out_next own (Answers (Got item)) = item
 out_next own (Answers answer) = own
 
--- what a step does to tokens: none is moved; the thread's own goes into the slot's word with this index; its own comes back; or
--- one is taken
+-- what a step does to tokens: none is moved; the thread's own goes into the slot's word with this index; its own comes
+-- back; or one is taken
 pub data Move : Type 0 where
   Stays : Move
   Lays : ℕ → Move
@@ -122,7 +123,8 @@ module _ {T : Type 0} where
 
   -- the hand at the first step of a call: an enqueue's has what it carries
   abbrev pub begun_hand : Option Begin → List (ℕ × Option T) → Hand T → Hand T
-  begun_hand (Some (B.Enqueue item start turns)) held hand = record { at_home = hand.at_home; out = hand.out; payload = carried held }
+  begun_hand (Some (B.Enqueue item start turns)) held hand =
+      record { at_home = hand.at_home; out = hand.out; payload = carried held }
   begun_hand begin held hand = hand
 
   -- the hand after a move
@@ -158,7 +160,8 @@ module _ {T : Type 0} where
   abbrev pub AllHome : (ℕ → Where) → Homes T → ℕ → List ℕ → Type 0
   AllHome at homes thread [] = Unit {0}
   AllHome at homes thread (x ∷ xs) =
-      ((0 < x) × (at x ≡ Home thread (length xs)) × (get_elem? homes (x - 1) ≡ some (some None))) × AllHome at homes thread xs
+      ((0 < x) × (at x ≡ Home thread (length xs)) × (get_elem? homes (x - 1) ≡ some (some None)))
+      × AllHome at homes thread xs
 
   -- an item that was put: as long as its word stands, the item's last gift is this
   abbrev pub PutFits : (ℕ → ℕ) → Gifts T → Option T → ℕ → ℕ → ℕ → Type 0
@@ -176,11 +179,13 @@ module _ {T : Type 0} where
   abbrev pub CallFits : (ℕ → ℕ) → Gifts T → Hand T → Option Running → Type 0
   CallFits words gifts hand None = Unit {0}
   CallFits words gifts hand (Some (R.Enqueue item start left phase)) =
-      (hand.out ≡ out_in item phase) × ((payload : T) × (hand.payload ≡ Some payload)) × GiftFits words gifts hand.payload item phase
+      (hand.out ≡ out_in item phase) × ((payload : T) × (hand.payload ≡ Some payload))
+      × GiftFits words gifts hand.payload item phase
   CallFits words gifts hand (Some (R.Dequeue start left phase)) = hand.out ≡ 0
 
   -- a thread's hand
-  pub record HandFits (words : ℕ → ℕ) (place : Option Running) (at : ℕ → Where) (gifts : Gifts T) (homes : Homes T) (thread : ℕ) (hand : Hand T) : Type 0 where
+  pub record HandFits (words : ℕ → ℕ) (place : Option Running) (at : ℕ → Where) (gifts : Gifts T) (homes : Homes T)
+      (thread : ℕ) (hand : Hand T) : Type 0 where
     pub home : AllHome at homes thread hand.at_home
     pub out : hand.out ≢ 0 → (at hand.out ≡ Out thread) × (hand.out ≤ length homes)
     pub stands : CallFits words gifts hand place
@@ -191,7 +196,8 @@ module _ {T : Type 0} where
       → (at (value_of (words i)) ≡ In i) × ((payload : T) × (beside (value_of (words i)) gifts ≡ Some payload))
       × (get_elem? homes (value_of (words i) - 1) ≡ some (some (beside (value_of (words i)) gifts)))
 
-  -- where steps of a call with this item and payload of its own leave its thread: the token that is out, and what its slot holds
+  -- where steps of a call with this item and payload of its own leave its thread: the token that is out, and what its
+  -- slot holds
   pub record Leaves (own : ℕ) (payload : Option T) (gifts : Gifts T) (hand : Hand T) (next : Next) : Type 0 where
     pub out : hand.out ≡ out_next own next
     pub kept : 0 < own → hand.payload ≡ payload
@@ -202,6 +208,7 @@ module _ {T : Type 0} where
 
   -- what a call that begins asks of the hand: an enqueue's item is the token that is out, and its slot has a payload
   abbrev pub BeginsWith : Option Begin → Hand T → List (ℕ × Option T) → Type 0
-  BeginsWith (Some (B.Enqueue item start turns)) hand held = (hand.out ≡ item) × ((payload : T) × (carried held ≡ Some payload))
+  BeginsWith (Some (B.Enqueue item start turns)) hand held = (hand.out ≡ item)
+      × ((payload : T) × (carried held ≡ Some payload))
   BeginsWith (Some (B.Dequeue start turns)) hand held = hand.out ≡ 0
   BeginsWith begin hand held = Unit {0}

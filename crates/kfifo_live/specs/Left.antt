@@ -17,7 +17,8 @@ slots_left words index (suc count) = item_in (get_or words index 0) ++ slots_lef
 abbrev pub segments_left : Shape → List ℕ → ℕ → ℕ → List ℕ
 segments_left shape words segment zero = []
 segments_left shape words segment (suc count) =
-    slots_left words (slot_at shape.k segment 0) shape.k ++ segments_left shape words (next_segment shape.n segment) count
+    slots_left words (slot_at shape.k segment 0) shape.k
+    ++ segments_left shape words (next_segment shape.n segment) count
 
 -- all items: segment by segment from the head's round the ring, within a segment by slot number
 abbrev pub items_left : Shape → List ℕ → List ℕ

@@ -20,7 +20,7 @@ pub record OpenQueue : Type 0 where
   pub opened : Opening
 
 -- a pass of a thread, and the schedule that it has seen
-pub record Known : Type 0 where
+pub record PassView : Type 0 where
   pub table : TableId
   pub opened : Opening
   pub thread : ℕ
@@ -29,8 +29,8 @@ pub record Known : Type 0 where
 abbrev pub queue_of : TableId → Opening → OpenQueue
 queue_of table o = record { table = table; opened = o }
 
-abbrev pub known_of : {T : Type 0} → TableId → ℕ → View T → Known
-known_of table thread v = record { table = table; opened = v.opened; thread = thread; seen = seen_of v }
+abbrev pub pass_view : {T : Type 0} → TableId → ℕ → View T → PassView
+pass_view table thread v = record { table = table; opened = v.opened; thread = thread; seen = seen_of v }
 
 -- what is always so of a pass: it acts for its thread alone, which is in no call, its seat holds no slot, and its queue
 -- was opened for few threads and stamped calls
@@ -45,20 +45,21 @@ abbrev pub IsZeroed : Opening → Type 0
 IsZeroed o = (world : World) → world_after o [] ≡ Some world → (index : ℕ) → word_at world index ≡ 0
 
 -- the pass came from this opening
-abbrev pub IsOf : OpenQueue → Known → Type 0
-IsOf q p = (p.table ≡ q.table) × (p.opened ≡ q.opened)
+abbrev pub IsPassOf : OpenQueue → PassView → Type 0
+IsPassOf q p = (p.table ≡ q.table) × (p.opened ≡ q.opened)
 
 -- the pass is the same, but for what it has seen
-abbrev pub IsSame : Known → Known → Type 0
-IsSame p q = (q.table ≡ p.table) × (q.opened ≡ p.opened) × (q.thread ≡ p.thread)
+abbrev pub IsSamePass : PassView → PassView → Type 0
+IsSamePass p q = (q.table ≡ p.table) × (q.opened ≡ p.opened) × (q.thread ≡ p.thread)
 
 -- the passes of threads first, first + 1, .., which have seen the empty schedule
-abbrev pub new_passes : OpenQueue → ℕ → ℕ → List Known
+abbrev pub new_passes : OpenQueue → ℕ → ℕ → List PassView
 new_passes q first zero = []
-new_passes q first (suc count) = record { table = q.table; opened = q.opened; thread = first; seen = [] } ∷ new_passes q (suc first) count
+new_passes q first (suc count) = record { table = q.table; opened = q.opened; thread = first; seen = [] }
+    ∷ new_passes q (suc first) count
 
 -- the word was this after a schedule that the pass has then seen: others' events follow what it had seen
-pub record Finds (p q : Known) (index word : ℕ) : Type 0 where
+pub record Finds (p q : PassView) (index word : ℕ) : Type 0 where
   pub others : Begins p.thread p.seen q.seen
   pub world : World
   pub reached : world_after p.opened q.seen ≡ Some world
@@ -69,29 +70,30 @@ abbrev pub StartsWith : List Event → List Event → Type 0
 StartsWith all seen = (rest : List Event) × (all ≡ seen ++ rest)
 
 -- each pass has seen a beginning of this schedule, with all its own events
-abbrev pub AllSeen : List Known → List Event → Type 0
+abbrev pub AllSeen : List PassView → List Event → Type 0
 AllSeen [] all = Unit {0}
 AllSeen (p ∷ ps) all = Begins p.thread p.seen all × AllSeen ps all
 
 -- each pass of the opening is there once
-pub record IsComplete (threads : ℕ) (ps : List Known) : Type 0 where
+pub record IsComplete (threads : ℕ) (ps : List PassView) : Type 0 where
   pub count : length ps ≡ threads
   pub each : (thread : ℕ) → thread < threads → list_any (λ p. p.thread == thread) ps ≡ true
 
 -- the view w has the parts of v, and what was seen by these passes: a schedule which all parts begin, they have all
 -- seen
-pub record IsGathered {T : Type 0} (v : View T) (ps : List Known) (w : View T) : Type 0 where
+pub record IsJoined {T : Type 0} (v : View T) (ps : List PassView) (w : View T) : Type 0 where
   pub opened : w.opened ≡ v.opened
   pub all_seen : (all : List Event) → AllBegin w.parts all → AllBegin v.parts all × AllSeen ps all
 
 -- What is left at the end: there is one schedule, a beginning of which each pass has seen with all its own events, and
 -- the items are the ones in the filled slots after it. No item is lost and none comes twice: the items put in that
 -- schedule are the ones undone, the ones taken and the ones left, each as often. And that schedule keeps the promise
-pub record Closes (q : OpenQueue) (ps : List Known) (items : List ℕ) : Type 0 where
+pub record Closes (q : OpenQueue) (ps : List PassView) (items : List ℕ) : Type 0 where
   pub all : List Event
   pub world : World
   pub reached : world_after q.opened all ≡ Some world
   pub begin : AllSeen ps all
   pub items_are : items ≡ items_left q.opened.shape world.words
-  pub balance : (item : ℕ) → puts item q.opened all ≡ undos item q.opened all + (takes item q.opened all + times item items)
+  pub balance : (item : ℕ) → puts item q.opened all
+      ≡ undos item q.opened all + (takes item q.opened all + times item items)
   pub promise : KeepsPromise q.opened all

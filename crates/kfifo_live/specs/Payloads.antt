@@ -1,5 +1,6 @@
 -- A queue of owned payloads and its passes, as callers see them, and what a call with a payload does.
-use Rattle.std.specs.Prelude.{Bool, true, false, ◌<◌, ◌≤◌, ◌≡◌, ◌≢◌, ℕ, zero, suc, ◌+◌, ◌-◌, ◌*◌, List, [], ◌∷◌, ◌++◌, Option, Some, None, get_or, length, map, reverse}
+use Rattle.std.specs.Prelude.{Bool, true, false, ◌<◌, ◌≤◌, ◌≡◌, ◌≢◌, ℕ, zero, suc, ◌+◌, ◌-◌, ◌*◌, List, [], ◌∷◌, ◌++◌}
+use Rattle.std.specs.Prelude.{Option, Some, None, get_or, length, map, reverse}
 use Rattle.atomic_table.specs.Table.{Me}
 use Rattle.atomic_table.specs.Perched.{Roost}
 use Rattle.atomic_table.specs.Seated.{TableId}
@@ -27,25 +28,31 @@ use Rattle.kfifo_live.specs.Hands.{Gifts, InTurn, beside}
 use Rattle.kfifo_live.specs.Balance.{times, puts, undos, takes}
 use Rattle.kfifo_live.specs.Left.{items_left}
 use Rattle.kfifo_live.specs.Promise.{KeepsPromise}
-use Rattle.kfifo_live.specs.Schedule.{GiftsFit, HolderLaw, count_up, seen_of, gifts_of, hand_of, world_after, resting_view}
-use Rattle.kfifo_live.specs.Pass.{Known, OpenQueue, IsPass, known_of}
+use Rattle.kfifo_live.specs.Schedule.{GiftsFit, HolderLaw, count_up, seen_of, gifts_of, hand_of, world_after}
+use Rattle.kfifo_live.specs.Schedule.{resting_view}
+use Rattle.kfifo_live.specs.Pass.{PassView, OpenQueue, IsPass, pass_view}
 use Rattle.kfifo_live.specs.Calls.{Makes, TakesFewSteps, HasCause, IsDisturbed, LeavesNoItem}
 
 -- the opening of a payload queue with so many tokens a pass
 abbrev pub pay_opening : Shape → ℕ → ℕ → Opening
 pay_opening shape threads tokens = record { shape = shape; threads = threads; calls = 0; tokens = tokens }
 
--- A pass: what is known of its schedule, the tokens that it has, that which it uses next first, and the gifts: for each enqueue
--- that began in the schedule, in turn, its token beside its payload
-pub record PayKnown (T : Type 0) : Type 0 where
-  pub pass : Known
+-- A pass: what is known of its schedule, the tokens that it has, that which it uses next first, and the gifts: for each
+-- enqueue that began in the schedule, in turn, its token beside its payload
+pub record PayPassView (T : Type 0) : Type 0 where
+  pub pass : PassView
   pub tokens : List ℕ
   pub gifts : Gifts T
 
-abbrev pub pay_known_of : {T : Type 0} → TableId → ℕ → View T → PayKnown T
-pay_known_of table thread v = record { pass = known_of table thread v; tokens = (hand_of v).at_home; gifts = gifts_of v }
+abbrev pub pay_pass_view : {T : Type 0} → TableId → ℕ → View T → PayPassView T
+pay_pass_view table thread v = record {
+  pass = pass_view table thread v;
+  tokens = (hand_of v).at_home;
+  gifts = gifts_of v;
+}
 
--- what is always so of a payload pass: it has its tokens in a list, the next one last, which has room for all tokens of the queue
+-- what is always so of a payload pass: it has its tokens in a list, the next one last, which has room for all tokens of
+-- the queue
 pub record IsPayPass {T : Type 0} (thread : ℕ) (me : Me (Option T) (View T)) (items : List ℕ) (room : ℕ) : Type 0 where
   pub pass : IsPass thread me
   pub stacked : (hand_of me.0).at_home ≡ reverse items
@@ -54,15 +61,21 @@ pub record IsPayPass {T : Type 0} (thread : ℕ) (me : Me (Option T) (View T)) (
   pub has_room : me.0.opened.threads * me.0.opened.tokens ≤ room
   pub in_turn : GiftsFit me.0.opened (seen_of me.0) (gifts_of me.0)
 
--- the passes of threads first, first + 1, .., which have seen the empty schedule: thread t has the tokens t * tokens + 1 to
--- (t + 1) * tokens
-abbrev pub new_pay_passes : {T : Type 0} → OpenQueue → ℕ → ℕ → List (PayKnown T)
+-- the passes of threads first, first + 1, .., which have seen the empty schedule: thread t has the tokens t * tokens +
+-- 1 to (t + 1) * tokens
+abbrev pub new_pay_passes : {T : Type 0} → OpenQueue → ℕ → ℕ → List (PayPassView T)
 new_pay_passes q first zero = []
 new_pay_passes q first (suc count) =
-    record { pass = record { table = q.table; opened = q.opened; thread = first; seen = [] }; tokens = count_up (first * q.opened.tokens + 1) q.opened.tokens; gifts = [] } ∷ new_pay_passes q (suc first) count
+    record {
+      pass = record { table = q.table; opened = q.opened; thread = first; seen = [] };
+      tokens = count_up (first * q.opened.tokens + 1) q.opened.tokens;
+      gifts = [];
+    }
+    ∷ new_pay_passes q (suc first) count
 
--- A call of a pass is one complete execution of the queue's program with this answer. The laws of all such runs stand beside it
-pub record MakesCall (begin : Begin) (answer : Answer) (old new : Known) : Type 0 where
+-- A call of a pass is one complete execution of the queue's program with this answer. The laws of all such runs stand
+-- beside it
+pub record MakesCall (begin : Begin) (answer : Answer) (old new : PassView) : Type 0 where
   pub run : Makes begin answer old new
   pub few_steps : TakesFewSteps begin old new
   pub cause : HasCause begin answer old new
@@ -82,8 +95,8 @@ pub record TakesAtLast (o : Opening) (thread index word : ℕ) (seen : List Even
   pub stands : word_at here index ≡ word
 
 module _ {T : Type 0} where
-  -- An enqueue put this word of a token at this index, and it began with this payload beside the token: it begins with an
-  -- event of the schedule, its thread begins nothing until the put, and its gift is that of its event
+  -- An enqueue put this word of a token at this index, and it began with this payload beside the token: it begins with
+  -- an event of the schedule, its thread begins nothing until the put, and its gift is that of its event
   pub record WasPutWith (o : Opening) (all : List Event) (gifts : Gifts T) (index word token : ℕ) (payload : Option T)
       : Type 0 where
     pub thread : ℕ
@@ -104,22 +117,23 @@ module _ {T : Type 0} where
     pub before_it : InTurn before earlier
 
   -- what a pass took with the last event that it has seen: a word that was put with this payload
-  pub record TookWhatWasPut (token : ℕ) (payload : T) (p : PayKnown T) : Type 0 where
+  pub record TookWhatWasPut (token : ℕ) (payload : T) (p : PayPassView T) : Type 0 where
     pub index : ℕ
     pub word : ℕ
     pub taken : TakesAtLast p.pass.opened p.pass.thread index word p.pass.seen
     pub put : WasPutWith p.pass.opened p.pass.seen p.gifts index word token (Some payload)
 
   -- the gifts of a longer schedule, of whose enqueues they are in turn, and which keeps the holder law
-  pub record GivesOn (old new : PayKnown T) : Type 0 where
+  pub record GivesOn (old new : PayPassView T) : Type 0 where
     pub in_turn : InTurn new.pass.seen new.gifts
     pub holder_law : HolderLaw new.pass.opened new.pass.seen
     pub later : Gifts T
     pub goes_on : new.gifts ≡ old.gifts ++ later
 
-  -- An enqueue of a token with this payload beside it. Its first event follows others' events, and its gift follows those
-  -- of the enqueues that began before that event
-  pub record EnqueuesWith (token start turns : ℕ) (answer : Answer) (payload : T) (old new : PayKnown T) : Type 0 where
+  -- An enqueue of a token with this payload beside it. Its first event follows others' events, and its gift follows
+  -- those of the enqueues that began before that event
+  pub record EnqueuesWith (token start turns : ℕ) (answer : Answer) (payload : T)
+      (old new : PayPassView T) : Type 0 where
     pub call : MakesCall (B.Enqueue token start turns) answer old.pass new.pass
     pub in_turn : InTurn new.pass.seen new.gifts
     pub holder_law : HolderLaw new.pass.opened new.pass.seen
@@ -134,12 +148,12 @@ module _ {T : Type 0} where
     pub before_it : InTurn (old.pass.seen ++ before) (old.gifts ++ earlier)
 
   -- a dequeue
-  pub record DequeuesWith (start turns : ℕ) (answer : Answer) (old new : PayKnown T) : Type 0 where
+  pub record DequeuesWith (start turns : ℕ) (answer : Answer) (old new : PayPassView T) : Type 0 where
     pub call : MakesCall (B.Dequeue start turns) answer old.pass new.pass
     pub gifts : GivesOn old new
 
   -- a refused enqueue: the payload comes back, and the pass keeps its token
-  pub record Refuses (start turns : ℕ) (answer : Answer) (payload back : T) (old new : PayKnown T) : Type 0 where
+  pub record Refuses (start turns : ℕ) (answer : Answer) (payload back : T) (old new : PayPassView T) : Type 0 where
     pub same : back ≡ payload
     pub token : ℕ
     pub others : List ℕ
@@ -147,8 +161,9 @@ module _ {T : Type 0} where
     pub kept : new.tokens ≡ old.tokens
     pub enqueue : EnqueuesWith token start turns answer payload old new
 
-  -- What `give` did, by what it answers: Done gives up the first token. NoToken comes where the pass has none, and nothing is done
-  abbrev pub Gives : ℕ → ℕ → T → Given T → PayKnown T → PayKnown T → Type 0
+  -- What `give` did, by what it answers: Done gives up the first token. NoToken comes where the pass has none, and
+  -- nothing is done
+  abbrev pub Gives : ℕ → ℕ → T → Given T → PayPassView T → PayPassView T → Type 0
   Gives start turns payload G.Done old new = (token : ℕ) × (old.tokens ≡ token ∷ new.tokens)
       × EnqueuesWith token start turns A.Done payload old new
   Gives start turns payload (G.Full back) old new = Refuses start turns A.Full payload back old new
@@ -156,9 +171,9 @@ module _ {T : Type 0} where
   Gives start turns payload (G.Worn back) old new = Refuses start turns A.Worn payload back old new
   Gives start turns payload (G.NoToken back) old new = (back ≡ payload) × (old.tokens ≡ []) × (new ≡ old)
 
-  -- What `take` did: Got gives the pass the token that was taken, and the last payload that was given with it, which is that
-  -- of the enqueue that put it
-  abbrev pub TakesOut : ℕ → ℕ → Taken T → PayKnown T → PayKnown T → Type 0
+  -- What `take` did: Got gives the pass the token that was taken, and the last payload that was given with it, which is
+  -- that of the enqueue that put it
+  abbrev pub TakesOut : ℕ → ℕ → Taken T → PayPassView T → PayPassView T → Type 0
   TakesOut start turns (K.Got payload) old new = (token : ℕ) × (new.tokens ≡ token ∷ old.tokens)
       × (beside token new.gifts ≡ Some payload) × TookWhatWasPut token payload new
       × DequeuesWith start turns (A.Got token) old new
@@ -169,22 +184,27 @@ module _ {T : Type 0} where
   -- these are words of a pool of this table, each of one token: the first of this one, the next of the next
   abbrev pub IsPool : TableId → Opening → ℕ → List (Roost (View T)) → Type 0
   IsPool table o token [] = Unit {0}
-  IsPool table o token (p ∷ ps) = ((p.table_id ≡ table) × (p.view ≡ resting_view o token)) × IsPool table o (suc token) ps
+  IsPool table o token (p ∷ ps) = ((p.table_id ≡ table) × (p.view ≡ resting_view o token))
+      × IsPool table o (suc token) ps
 
   -- the words of so many tokens, the first of them this one
   abbrev pub pool_for : TableId → Opening → ℕ → ℕ → List (Roost (View T))
   pool_for table o token zero = []
-  pool_for table o token (suc count) = record { table_id = table; view = resting_view o token } ∷ pool_for table o (suc token) count
+  pool_for table o token (suc count) =
+      record { table_id = table; view = resting_view o token } ∷ pool_for table o (suc token) count
 
-  -- What `lay_down` did. True: the pass has one token less, the one that it would have used next. False: nothing changed. Either is no event,
-  -- and nothing more was seen
-  abbrev pub LaysDown : Bool → PayKnown T → PayKnown T → Type 0
-  LaysDown true old new = (token : ℕ) × (old.tokens ≡ token ∷ new.tokens) × (new.pass ≡ old.pass) × (new.gifts ≡ old.gifts)
+  -- What `lay_down` did. True: the pass has one token less, the one that it would have used next. False: nothing
+  -- changed. Either is no event, and nothing more was seen
+  abbrev pub LaysDown : Bool → PayPassView T → PayPassView T → Type 0
+  LaysDown true old new = (token : ℕ) × (old.tokens ≡ token ∷ new.tokens) × (new.pass ≡ old.pass)
+      × (new.gifts ≡ old.gifts)
   LaysDown false old new = new ≡ old
 
-  -- What `pick_up` did. True: the pass has one token more, which it uses next. False: nothing changed. Either is no event, and nothing more was seen
-  abbrev pub PicksUp : Bool → PayKnown T → PayKnown T → Type 0
-  PicksUp true old new = (token : ℕ) × (0 < token) × (new.tokens ≡ token ∷ old.tokens) × (new.pass ≡ old.pass) × (new.gifts ≡ old.gifts)
+  -- What `pick_up` did. True: the pass has one token more, which it uses next. False: nothing changed. Either is no
+  -- event, and nothing more was seen
+  abbrev pub PicksUp : Bool → PayPassView T → PayPassView T → Type 0
+  PicksUp true old new = (token : ℕ) × (0 < token) × (new.tokens ≡ token ∷ old.tokens) × (new.pass ≡ old.pass)
+      × (new.gifts ≡ old.gifts)
   PicksUp false old new = new ≡ old
 
   -- what the slot of a token holds
@@ -195,13 +215,14 @@ module _ {T : Type 0} where
   abbrev pub HavePayloads : List (Option T) → List ℕ → Type 0
   HavePayloads slots [] = Unit {0}
   HavePayloads slots (token ∷ tokens) =
-      ((0 < token) × (token ≤ length slots) × ((payload : T) × (in_slot slots token ≡ Some payload)) × (times token tokens ≡ 0)) × HavePayloads slots tokens
+      ((0 < token) × (token ≤ length slots) × ((payload : T) × (in_slot slots token ≡ Some payload))
+      × (times token tokens ≡ 0)) × HavePayloads slots tokens
 
-  -- What is left at the end: there is one schedule, which begins with what the pass has seen and has no further event of it,
-  -- and the payloads are the last ones given with the tokens in the filled slots after it, which are those of the enqueues
-  -- that put them. Where the pass is the only one, it is what the pass has seen. No token is lost and none comes twice, and
-  -- that schedule keeps the promise
-  pub record PayCloses (q : OpenQueue) (p : PayKnown T) (payloads : List T) : Type 0 where
+  -- What is left at the end: there is one schedule, which begins with what the pass has seen and has no further event
+  -- of it, and the payloads are the last ones given with the tokens in the filled slots after it, which are those of
+  -- the enqueues that put them. Where the pass is the only one, it is what the pass has seen. No token is lost and none
+  -- comes twice, and that schedule keeps the promise
+  pub record PayCloses (q : OpenQueue) (p : PayPassView T) (payloads : List T) : Type 0 where
     pub all : List Event
     pub gifts : Gifts T
     pub world : World
@@ -218,5 +239,6 @@ module _ {T : Type 0} where
         → value_of (word_at world index) ≢ 0
         → WasPutWith q.opened all gifts index (word_at world index) (value_of (word_at world index))
         (beside (value_of (word_at world index)) gifts)
-    pub balance : (token : ℕ) → puts token q.opened all ≡ undos token q.opened all + (takes token q.opened all + times token tokens)
+    pub balance : (token : ℕ) → puts token q.opened all
+        ≡ undos token q.opened all + (takes token q.opened all + times token tokens)
     pub promise : KeepsPromise q.opened all

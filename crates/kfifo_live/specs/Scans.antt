@@ -1,4 +1,5 @@
--- Scans of a segment: where the thread stands after so many slots that it saw in vain, and where what it finds leads it.
+-- Scans of a segment: where the thread stands after so many slots that it saw in vain, and where what it finds leads
+-- it.
 use Rattle.std.specs.Prelude.{◌≡◌, ◌≢◌, ℕ, ◌+◌, ◌<◌, ◌≤◌, ◌^◌, ◌==◌, not, if◌then◌else◌, Bool, true, false, Option}
 use Rattle.atomic_table.specs.declared.shared.Seat.{Seat}
 use Rattle.kfifo_words.specs.declared.shape.Shape.{Shape}
@@ -21,14 +22,17 @@ is_empty word = value_of word == 0
 abbrev pub is_filled : ℕ → Bool
 is_filled word = not (value_of word == 0)
 
--- A scan of `limit` slots of a segment, cyclically from a start: the place at which the thread looks at the next slot after so
--- many, and where what it finds leads
-pub record IsScan (shape : Shape) (stops : ℕ → Bool) (segment start limit : ℕ) (looking : ℕ → Running) (leads : Found → Next) : Type 0 where
+-- A scan of `limit` slots of a segment, cyclically from a start: the place at which the thread looks at the next slot
+-- after so many, and where what it finds leads
+pub record IsScan (shape : Shape) (stops : ℕ → Bool) (segment start limit : ℕ) (looking : ℕ → Running)
+    (leads : Found → Next) : Type 0 where
   pub looks : (seen : ℕ) → access shape (looking seen) ≡ Load (scan_index shape segment start seen)
   pub finds : (seen word : ℕ) → stops word ≡ true
       → advance shape (looking seen) word ≡ leads (Slot (scan_index shape segment start seen) word)
-  pub is_over : (seen word : ℕ) → stops word ≡ false → seen + 1 ≡ limit → advance shape (looking seen) word ≡ leads Nothing
-  pub goes_on : (seen word : ℕ) → stops word ≡ false → seen + 1 ≢ limit → advance shape (looking seen) word ≡ Goes (looking (seen + 1))
+  pub is_over : (seen word : ℕ) → stops word ≡ false → seen + 1 ≡ limit
+      → advance shape (looking seen) word ≡ leads Nothing
+  pub goes_on : (seen word : ℕ) → stops word ≡ false → seen + 1 ≢ limit
+      → advance shape (looking seen) word ≡ Goes (looking (seen + 1))
 
 pub record Scan (shape : Shape) (stops : ℕ → Bool) (segment start limit : ℕ) : Type 0 where
   pub looking : ℕ → Running
@@ -63,12 +67,16 @@ module _ {T : Type 0} where
   abbrev pub EndsScan : Ring T → (ℕ → Bool) → (segment start limit seen : ℕ) → Seat (Option T) (View T) → Found
       → Seat (Option T) (View T) → Type 0
   EndsScan ring stops segment start limit seen old found new =
-      (scan : Scan ring.shape.now stops segment start limit) → Stands ring old (scan.looking seen) → Comes old (scan.leads found) new
+      (scan : Scan ring.shape.now stops segment start limit) → Stands ring old (scan.looking seen)
+      → Comes old (scan.leads found) new
 
   -- the same of a row
   abbrev pub MakesRow : Ring T → (ℕ → Bool) → (first count : ℕ) → Seat (Option T) (View T) → Type 0
-  MakesRow ring stops first count seat = (row : Row ring.shape.now stops first count) × Stands ring seat (row.scan.looking row.offset)
+  MakesRow ring stops first count seat = (row : Row ring.shape.now stops first count)
+      × Stands ring seat (row.scan.looking row.offset)
 
-  abbrev pub EndsRow : Ring T → (ℕ → Bool) → (first count : ℕ) → Seat (Option T) (View T) → Found → Seat (Option T) (View T) → Type 0
+  abbrev pub EndsRow : Ring T → (ℕ → Bool) → (first count : ℕ) → Seat (Option T) (View T) → Found
+      → Seat (Option T) (View T) → Type 0
   EndsRow ring stops first count old found new =
-      (row : Row ring.shape.now stops first count) → Stands ring old (row.scan.looking row.offset) → Comes old (after_row row found) new
+      (row : Row ring.shape.now stops first count) → Stands ring old (row.scan.looking row.offset)
+      → Comes old (after_row row found) new

@@ -1,5 +1,6 @@
 -- The one schedule of a running queue, and what each seat of its table has seen of it.
-use Rattle.std.specs.Prelude.{◌≡◌, ℕ, zero, suc, ◌+◌, ◌-◌, ◌*◌, ◌<◌, ◌≤◌, Bool, true, false, List, [], ◌∷◌, Option, Some, None, take, drop, length, filter, ◌++◌}
+use Rattle.std.specs.Prelude.{◌≡◌, ℕ, zero, suc, ◌+◌, ◌-◌, ◌*◌, ◌<◌, ◌≤◌, Bool, true, false, List, [], ◌∷◌, Option}
+use Rattle.std.specs.Prelude.{Some, None, take, drop, length, filter, ◌++◌}
 use Rattle.std.proofs.Common.{lit<, lit≤}
 use mathlib.Core.Option.{some}
 use lib.ListN.{get_elem?}
@@ -110,7 +111,8 @@ module _ {T : Type 0} where
   AreResting threads [] = Unit {0}
   AreResting threads (p ∷ ps) = IsResting threads p.thread p.hand × AreResting threads ps
 
-  pub record Fits (o : Opening) (all : List Event) (gifts : Gifts T) (owner : ℕ → ℕ × ℕ) (seat : ℕ) (v : View T) : Type 0 where
+  pub record Fits (o : Opening) (all : List Event) (gifts : Gifts T) (owner : ℕ → ℕ × ℕ) (seat : ℕ)
+      (v : View T) : Type 0 where
     pub opened : v.opened ≡ o
     pub begin : AllBegin v.parts all
     pub given : AllGiven v.parts gifts
@@ -214,7 +216,8 @@ module _ {T : Type 0} where
 
   -- the first thread's tokens at home are these
   abbrev pub with_home : View T → List ℕ → View T
-  with_home v tokens = with_seen v (seen_of v) (gifts_of v) (record { at_home = tokens; out = (hand_of v).out; payload = (hand_of v).payload })
+  with_home v tokens = with_seen v (seen_of v) (gifts_of v)
+      (record { at_home = tokens; out = (hand_of v).out; payload = (hand_of v).payload })
 
   -- a view cut in two: the first thread less the token that it uses next, and that token at rest
   abbrev pub less_next : View T → View T

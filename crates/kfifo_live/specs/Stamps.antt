@@ -1,6 +1,7 @@
 -- Stamped calls: a tick of the clock, one complete execution of a call, and a tick again; and what a pass has logged of
 -- them.
-use Rattle.std.specs.Prelude.{◌≡◌, ◌==◌, ◌+◌, filter, map, ℕ, ◌*◌, ◌<◌, ◌≤◌, List, [], ◌∷◌, ◌++◌, length, Some, Ok, IsPermutation}
+use Rattle.std.specs.Prelude.{◌≡◌, ◌==◌, ◌+◌, filter, map, ℕ, ◌*◌, ◌<◌, ◌≤◌, List, [], ◌∷◌, ◌++◌, length, Some, Ok}
+use Rattle.std.specs.Prelude.{IsPermutation}
 use Rattle.kfifo_words.specs.Ring.{clock_at}
 use Rattle.kfifo_model.specs.declared.calls.Answer.{Answer}
 use Rattle.kfifo_model.specs.declared.calls.Answer.TheVariants.{Busy}
@@ -23,15 +24,15 @@ use Rattle.kfifo_machine.specs.Runs.{event, own}
 use Rattle.kfifo_live.specs.declared.view.Opening.{Opening}
 use Rattle.kfifo_live.specs.Schedule.{ticks, world_after}
 use Rattle.kfifo_live.specs.Promise.{calls_of}
-use Rattle.kfifo_live.specs.Pass.{Known, IsSame}
+use Rattle.kfifo_live.specs.Pass.{PassView, IsSamePass}
 use Rattle.kfifo_live.specs.Calls.{Makes, HasCause, IsDisturbed, LeavesNoItem, added}
 
 -- a pass, and the calls that it has logged
 pub record Logged : Type 0 where
-  pub pass : Known
+  pub pass : PassView
   pub log : List Call
 
-abbrev pub logged_by : Known → List Call → Logged
+abbrev pub logged_by : PassView → List Call → Logged
 logged_by pass log = record { pass = pass; log = log }
 
 -- the calls of all logs, one log after the other
@@ -44,30 +45,31 @@ abbrev pub calls_by : ℕ → List Call → List Call
 calls_by thread calls = filter (λ c. c.thread == thread) calls
 
 -- the passes alone
-abbrev pub passes_of : List Logged → List Known
+abbrev pub passes_of : List Logged → List PassView
 passes_of ps = map (λ p. p.pass) ps
 
 -- the pass drew this stamp: after events of others the clock had it, and then the pass ticked
-pub record Draws (stamp : ℕ) (old new : Known) : Type 0 where
+pub record Draws (stamp : ℕ) (old new : PassView) : Type 0 where
   pub between : List Event
   pub here : World
   pub others : own old.thread between ≡ []
   pub reached : world_after old.opened (old.seen ++ between) ≡ Some here
   pub stamp_is : stamp ≡ word_at here (clock_at old.opened.shape.k old.opened.shape.n)
   pub made : step old.opened.shape here (event old.thread (Some Tick)) ≡ Ok (ticked old.opened.shape here, Went)
-  pub same : IsSame old new
+  pub same : IsSamePass old new
   pub new_is : new.seen ≡ (old.seen ++ between) ++ event old.thread (Some Tick) ∷ []
 
 -- a call of this thread, its stamps and its answer
 abbrev pub stamped_call : ℕ → Op → ℕ → ℕ → Answer → Call
-stamped_call thread op first last answer = record { thread = thread; op = op; first = first; end = Some (record { last = last; answer = answer }) }
+stamped_call thread op first last answer =
+    record { thread = thread; op = op; first = first; end = Some (record { last = last; answer = answer }) }
 
 -- A stamped call: a tick, one complete execution of this call with this answer, and a tick; the log has one call more,
 -- whose first and last are what the ticks drew. What is promised of a call is so of its run
 pub record MakesStamped (begin : Begin) (answer : Answer) (old new : Logged) : Type 0 where
   pub room : length old.log < old.pass.opened.calls
-  pub begun : Known
-  pub ended : Known
+  pub begun : PassView
+  pub ended : PassView
   pub first : ℕ
   pub last : ℕ
   pub draws_first : Draws first old.pass begun
@@ -79,7 +81,7 @@ pub record MakesStamped (begin : Begin) (answer : Answer) (old new : Logged) : T
   pub log_is : new.log ≡ old.log ++ stamped_call old.pass.thread (op_asked begin) first last answer ∷ []
 
 -- its own events are at most `turns * (2k + 9)`, and the two ticks
-abbrev pub TakesFewStampedSteps : Begin → Known → Known → Type 0
+abbrev pub TakesFewStampedSteps : Begin → PassView → PassView → Type 0
 TakesFewStampedSteps begin old new = length (own old.thread (added old new)) ≤ most_events old.opened.shape begin + 2
 
 -- A logged call is a call of the schedule under other stamps: its first is what a tick drew that stands before the
@@ -108,9 +110,11 @@ pub record IsStamped (all : List Event) (logged made : Call) : Type 0 where
 
 -- the log has the calls of this thread in the schedule
 pub record HasCalls (o : Opening) (all : List Event) (thread : ℕ) (log : List Call) : Type 0 where
-  pub made : (i : ℕ) → i < length log → (n : ℕ) × (n < length (calls_of o all)) × ((call (calls_of o all) n).thread ≡ thread)
+  pub made : (i : ℕ) → i < length log → (n : ℕ) × (n < length (calls_of o all))
+      × ((call (calls_of o all) n).thread ≡ thread)
       × IsStamped all (call log i) (call (calls_of o all) n)
-  pub logged : (n : ℕ) → n < length (calls_of o all) → (call (calls_of o all) n).thread ≡ thread → (i : ℕ) × (i < length log)
+  pub logged : (n : ℕ) → n < length (calls_of o all) → (call (calls_of o all) n).thread ≡ thread → (i : ℕ)
+      × (i < length log)
       × IsStamped all (call log i) (call (calls_of o all) n)
 
 -- What is always so of a log: it has the calls of the pass in the schedule that it has seen, each between two ticks of
@@ -123,11 +127,11 @@ pub record IsLogIn (o : Opening) (thread : ℕ) (seen : List Event) (log : List 
   pub past : AllByRecursion (λ c. EndsBelow c.end (ticks seen)) log
   pub calls : HasCalls o seen thread log
 
-abbrev pub IsLog : Known → List Call → Type 0
+abbrev pub IsLog : PassView → List Call → Type 0
 IsLog p log = IsLogIn p.opened p.thread p.seen log
 
 -- the passes of an opening, whose logs are empty
-abbrev pub new_logs : List Known → List Logged
+abbrev pub new_logs : List PassView → List Logged
 new_logs ps = map (λ p. logged_by p []) ps
 
 -- What is gathered of a queue: all logged calls by rising first stamps, each thread's in the order of its log. They are

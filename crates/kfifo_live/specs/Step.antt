@@ -1,5 +1,6 @@
 -- What one atomic step adds to what a seat has seen, and where the steps of a call lead its thread.
-use Rattle.std.specs.Prelude.{◌≡◌, ℕ, ◌+◌, ◌-◌, ◌*◌, ◌<◌, ◌≤◌, List, [], ◌∷◌, ◌++◌, length, get_or, Option, Some, None, Ok}
+use Rattle.std.specs.Prelude.{◌≡◌, ℕ, ◌+◌, ◌-◌, ◌*◌, ◌<◌, ◌≤◌, List, [], ◌∷◌, ◌++◌, length, get_or, Option, Some, None}
+use Rattle.std.specs.Prelude.{Ok}
 use Rattle.atomic_table.specs.declared.shared.Seat.{Seat}
 use Rattle.atomic_table.specs.Table.{Me}
 use Rattle.kfifo_words.specs.declared.shape.Shape.{Shape}
@@ -19,9 +20,11 @@ use Rattle.kfifo_machine.specs.Runs.{event, own, going, AllGoOn, BeginsOnce}
 use Rattle.kfifo_machine.specs.Places.{IsPlace, IsFoundBy}
 use Rattle.kfifo_live.specs.declared.ring.Ring.{Ring}
 use Rattle.kfifo_live.specs.declared.view.View.{View}
-use Rattle.kfifo_live.specs.Schedule.{world_after, AllBegin, AllGiven, GiftsFit, thread_of, seen_of, gifts_of, hand_of, with_seen, IsSeated}
+use Rattle.kfifo_live.specs.Schedule.{world_after, AllBegin, AllGiven, GiftsFit, thread_of, seen_of, gifts_of, hand_of}
+use Rattle.kfifo_live.specs.Schedule.{with_seen, IsSeated}
 use Rattle.kfifo_live.specs.declared.view.Hand.{Hand}
-use Rattle.kfifo_live.specs.Hands.{Gifts, InTurn, Takes, beside, gift, move, hand_after, begun_hand, carried, carrying, own_item, out_at, Carries, BeginsWith, Leaves}
+use Rattle.kfifo_live.specs.Hands.{Gifts, InTurn, Takes, beside, gift, move, hand_after, begun_hand, carried, carrying}
+use Rattle.kfifo_live.specs.Hands.{own_item, out_at, Carries, BeginsWith, Leaves}
 
 -- the own events of a call in progress begin nothing; the events of a call from its first step on begin it once
 abbrev pub IsOwnRun : ℕ → Option Begin → List Event → Type 0
@@ -40,7 +43,8 @@ module _ {T : Type 0} where
 
   -- One atomic step of the first part's thread, which begins this call or goes on with its own: events of others, after
   -- which it finds this word, and then its own event
-  pub record Steps (begin : Option Begin) (v : Me (Option T) (View T)) (word : ℕ) (w : Me (Option T) (View T)) : Type 0 where
+  pub record Steps (begin : Option Begin) (v : Me (Option T) (View T)) (word : ℕ)
+      (w : Me (Option T) (View T)) : Type 0 where
     pub between : List Event
     pub given : Gifts T
     pub here : World
@@ -56,8 +60,10 @@ module _ {T : Type 0} where
     pub in_turn : GiftsFit v.0.opened ((seen_of v.0 ++ between) ++ event (thread_of v.0) begin ∷ [])
         ((gifts_of v.0 ++ given) ++ gift begin v.1)
     pub hand : Hand T
-    pub hand_is : hand ≡ hand_after (move from word) ((gifts_of v.0 ++ given) ++ gift begin v.1) (begun_hand begin v.1 (hand_of v.0))
-    pub afterwards : w.0 ≡ with_seen v.0 ((seen_of v.0 ++ between) ++ event (thread_of v.0) begin ∷ []) ((gifts_of v.0 ++ given) ++ gift begin v.1) hand
+    pub hand_is : hand ≡ hand_after (move from word) ((gifts_of v.0 ++ given) ++ gift begin v.1)
+        (begun_hand begin v.1 (hand_of v.0))
+    pub afterwards : w.0 ≡ with_seen v.0 ((seen_of v.0 ++ between) ++ event (thread_of v.0) begin ∷ [])
+        ((gifts_of v.0 ++ given) ++ gift begin v.1) hand
     pub carries : w.1 ≡ carrying v.0.opened.tokens hand.out hand.payload
 
   -- A tick of the first part's thread, which is in no call: events of others, after which it finds this stamp on the
@@ -70,7 +76,8 @@ module _ {T : Type 0} where
     pub reached : world_after v.opened (seen_of v ++ between) ≡ Some here
     pub stamp_is : stamp ≡ word_at here (clock_at v.opened.shape.k v.opened.shape.n)
     pub made : step v.opened.shape here (event (thread_of v) (Some Tick)) ≡ Ok (ticked v.opened.shape here, Went)
-    pub afterwards : w ≡ with_seen v ((seen_of v ++ between) ++ event (thread_of v) (Some Tick) ∷ []) (gifts_of v ++ given) (hand_of v)
+    pub afterwards : w ≡ with_seen v ((seen_of v ++ between) ++ event (thread_of v) (Some Tick) ∷ [])
+        (gifts_of v ++ given) (hand_of v)
 
   -- a look at a word, which is no event: the schedule so far was seen
   pub record Looks (index word : ℕ) (v w : View T) : Type 0 where
@@ -91,13 +98,15 @@ module _ {T : Type 0} where
     pub was : (hand_of v.0).at_home ≡ token ∷ others
     pub some : 0 < token
     pub within : token ≤ slots
-    pub afterwards : w.0 ≡ with_seen v.0 (seen_of v.0) (gifts_of v.0) (record { at_home = others; out = token; payload = None })
+    pub afterwards : w.0 ≡ with_seen v.0 (seen_of v.0) (gifts_of v.0)
+        (record { at_home = others; out = token; payload = None })
     pub holds : w.1 ≡ (token - 1, held) ∷ []
 
   -- It lays the token that is out back to its others. It has then no more of them than there are slots
   pub record LaysBack (slots : ℕ) (v w : Me (Option T) (View T)) : Type 0 where
     pub room : length ((hand_of v.0).out ∷ (hand_of v.0).at_home) ≤ slots
-    pub afterwards : w.0 ≡ with_seen v.0 (seen_of v.0) (gifts_of v.0) (record { at_home = (hand_of v.0).out ∷ (hand_of v.0).at_home; out = 0; payload = None })
+    pub afterwards : w.0 ≡ with_seen v.0 (seen_of v.0) (gifts_of v.0)
+        (record { at_home = (hand_of v.0).out ∷ (hand_of v.0).at_home; out = 0; payload = None })
     pub holds : w.1 ≡ []
 
   -- it counts its tokens: they are no more than there are slots
@@ -109,7 +118,8 @@ module _ {T : Type 0} where
   abbrev pub HasOwn : Option Begin → Me (Option T) (View T) → ℕ → Option T → Type 0
   HasOwn (Some (B.Enqueue item start turns)) v own payload = (own ≡ item) × (payload ≡ carried v.1)
   HasOwn (Some begin) v own payload = own ≡ 0
-  HasOwn None v own payload = (place : Running) × IsAt (Some place) v × (own ≡ own_item place) × (payload ≡ (hand_of v.0).payload)
+  HasOwn None v own payload = (place : Running) × IsAt (Some place) v × (own ≡ own_item place)
+      × (payload ≡ (hand_of v.0).payload)
 
   -- The first own one of these events, which begins this call or goes on with its own: the gifts up to it are of the
   -- enqueues up to it
@@ -127,7 +137,8 @@ module _ {T : Type 0} where
 
   -- Steps of one call, from its first where it begins here: events of others and own ones, the last of them own, after
   -- which the call goes on from the next place or has returned
-  pub record Leads (begin : Option Begin) (v : Me (Option T) (View T)) (next : Next) (w : Me (Option T) (View T)) : Type 0 where
+  pub record Leads (begin : Option Begin) (v : Me (Option T) (View T)) (next : Next)
+      (w : Me (Option T) (View T)) : Type 0 where
     pub between : List Event
     pub last : Event
     pub given : Gifts T
@@ -180,7 +191,8 @@ module _ {T : Type 0} where
     pub next_is : access ring.shape.now place ≡ next
 
   -- steps of a call, from its first where it begins here, led from one moment of the seat to another
-  pub record Runs (begin : Option Begin) (old : Seat (Option T) (View T)) (next : Next) (new : Seat (Option T) (View T)) : Type 0 where
+  pub record Runs (begin : Option Begin) (old : Seat (Option T) (View T)) (next : Next)
+      (new : Seat (Option T) (View T)) : Type 0 where
     pub same_table : new.table_id ≡ old.table_id
     pub leads : Leads begin old.me next new.me
 
@@ -189,11 +201,13 @@ module _ {T : Type 0} where
   Comes old next new = Runs None old next new
 
   -- one step from where the thread stood, which found this word
-  pub record Stepped (ring : Ring T) (old : Seat (Option T) (View T)) (word : ℕ) (new : Seat (Option T) (View T)) : Type 0 where
+  pub record Stepped (ring : Ring T) (old : Seat (Option T) (View T)) (word : ℕ)
+      (new : Seat (Option T) (View T)) : Type 0 where
     pub comes : (place : Running) → Stands ring old place → Comes old (advance ring.shape.now place word) new
     pub sound : (place : Running) → Stands ring old place → IsFoundBy ring.shape.now place word
 
   -- the thread has come to this place, if not at once: whatever it comes to from here it comes to from there
-  pub record Onward (ring : Ring T) (old : Seat (Option T) (View T)) (place : Running) (new : Seat (Option T) (View T)) : Type 0 where
+  pub record Onward (ring : Ring T) (old : Seat (Option T) (View T)) (place : Running)
+      (new : Seat (Option T) (View T)) : Type 0 where
     pub stands : Stands ring new place
     pub so_far : (next : Next) (later : Seat (Option T) (View T)) → Comes new next later → Comes old next later

@@ -1,15 +1,16 @@
 //! Closing a queue.
-ghost use Rattle.std.specs.Prelude.{◌≡◌, ◌<◌, ◌≤◌, ◌+◌, ◌*◌, ◌↔◌, ◌==◌, [], IfOk, length, slice_index, IsErrOf, IsTrue, All};
+ghost use Rattle.std.specs.Prelude.{◌≡◌, ◌<◌, ◌≤◌, ◌+◌, ◌*◌, ◌↔◌, ◌==◌, [], IfOk, length, slice_index, IsErrOf, IsTrue};
+ghost use Rattle.std.specs.Prelude.{All};
 ghost use Rattle.std.specs.List.{list_any};
 ghost use Rattle.core.specs.Mem.Slots.{slots_items, slots_len, IsFull};
 ghost use Rattle.kfifo_words.specs.Words.{head_of};
 ghost use Rattle.kfifo_live.specs.Left.{items_left};
-ghost use Rattle.kfifo_live.specs.Pass.{queue_of, IsOf, IsGathered, Closes, IsComplete};
+ghost use Rattle.kfifo_live.specs.Pass.{queue_of, IsPassOf, IsJoined, Closes, IsComplete};
 ghost use Rattle.kfifo_live.specs.declared.fault.CloseFault.TheVariants.{MissingPass};
 
 use crate::fault::CloseFault;
 use crate::queue::{Pass, Queue};
-use crate::seats::gather;
+use crate::seats::join_seats;
 use crate::view::{ThreadSeat, Words};
 use atomic_table::Closed;
 use kfifo_words::{Ends, Shape, Word};
@@ -44,7 +45,8 @@ pub(crate) fn read_words<T>(
     closed: &Closed<Option<T>, Global>,
     count: usize,
 ) -> Result<Vec<u64>, AllocError>
-    requires { (slots_len closed.now.words ≡ count) × IsFull closed.now.words × (length (slots_items closed.now.words) ≡ count) }
+    requires { (slots_len closed.now.words ≡ count) × IsFull closed.now.words
+        × (length (slots_items closed.now.words) ≡ count) }
     ensures { IfOk result (λ v. v.items ≡ slots_items closed.now.words) }
 {
     let mut words = Vec::with_capacity(alloc, count)?;
@@ -81,26 +83,26 @@ pub(crate) fn read_items(
 }
 
 /// A seat with the parts of all passes.
-fn gather_all(shared: &Words<()>, mut seat: ThreadSeat<()>, mut passes: Vec<Pass>) -> ThreadSeat<()>
+fn join_all(shared: &Words<()>, mut seat: ThreadSeat<()>, mut passes: Vec<Pass>) -> ThreadSeat<()>
     requires table { (seat.table_id ≡ shared.now.table_id) × (0 < shared.now.table_id.words) }
-    requires of { All (IsOf (queue_of seat.table_id seat.me.0.opened)) passes.items }
+    requires of { All (IsPassOf (queue_of seat.table_id seat.me.0.opened)) passes.items }
     ensures table { result.table_id ≡ seat.table_id }
-    ensures all { IsGathered seat.me.0 passes.items result.me.0 }
+    ensures all { IsJoined seat.me.0 passes.items result.me.0 }
 {
     while let Some(pass) = passes.pop() {
         let Pass {
             thread: _,
             seat: other,
         } = pass;
-        gather::<_, Brand>(shared, &mut seat, other);
+        join_seats::<_, Brand>(shared, &mut seat, other);
     }
     seat
 }
 
-/// Closes a queue and returns the items that are left, if each pass of the opening is given back: segment by segment from
-/// the head's round the ring, within a segment by slot number. Each item is among them as often as it was put, less how
-/// often it was undone and taken. The one schedule of all calls of the queue keeps its promise: a legal order of them, in
-/// which no item is overtaken k times where items are distinct.
+/// Closes a queue and returns the items that are left, if each pass of the opening is given back: segment by segment
+/// from the head's round the ring, within a segment by slot number. Each item is among them as often as it was put,
+/// less how often it was undone and taken. The one schedule of all calls of the queue keeps its promise: a legal order
+/// of them, in which no item is overtaken k times where items are distinct.
 ///
 /// ```rust
 /// let left = close(alloc, queue, vec![in alloc; pass]?)?; // the items that are left
@@ -109,7 +111,7 @@ fn gather_all(shared: &Words<()>, mut seat: ThreadSeat<()>, mut passes: Vec<Pass
 /// Refuses: MissingPass where not each pass of the opening is there once, which is tested first; Memory where an
 /// allocation failed. The items are then lost to the caller.
 pub fn close(alloc: Global, queue: Queue, mut passes: Vec<Pass>) -> Result<Vec<u32>, CloseFault>
-    requires { All (IsOf queue) passes.items }
+    requires { All (IsPassOf queue) passes.items }
     ensures ok { IfOk result (λ items. Closes queue passes.items items.items) }
     ensures missing { IsErrOf result MissingPass ↔ ¬ IsComplete queue.opened.threads passes.items }
 {
@@ -126,7 +128,7 @@ pub fn close(alloc: Global, queue: Queue, mut passes: Vec<Pass>) -> Result<Vec<u
         calls: _,
     } = queue;
     let Pass { thread: _, seat } = last;
-    let seat = gather_all(&table.shared, seat, passes);
+    let seat = join_all(&table.shared, seat, passes);
     let closed = table.close_with(seat);
     let words = read_words(alloc, &closed, 2 + shape.n() as usize * shape.k() as usize);
     closed.free();

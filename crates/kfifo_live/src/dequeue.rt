@@ -44,7 +44,7 @@ impl<T> Dequeue<'_, T> {
     {
         // The version rises with each take, so one of two dequeues that read the item loses.
         let emptied = Word::pack(0, filled.version() + 1);
-        if self.ring.exchange(seat, index, filled, emptied) != filled {
+        if self.ring.compare_exchange(seat, index, filled, emptied) != filled {
             return None;
         }
         Some(Answer::Got(filled.value()))

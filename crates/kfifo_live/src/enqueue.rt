@@ -46,7 +46,7 @@ impl<T> Enqueue<'_, T> {
         // The version rises. If it went back to the empty slot's, an enqueue that has read the slot as empty could put
         // its item long after, in a segment that is no longer the tail's (ABA).
         let emptied = Word::pack(0, filled.version() + 1);
-        if self.ring.exchange(seat, index, filled, emptied) != filled {
+        if self.ring.compare_exchange(seat, index, filled, emptied) != filled {
             return Some(Answer::Done);
         }
         if worn { Some(Answer::Worn) } else { None }
@@ -67,7 +67,9 @@ impl<T> Enqueue<'_, T> {
         // A dequeue may have seen this slot empty, before the put, and be about to move the head on. It
         // would pass the item: raising the version makes its compare-and-swap fail.
         let held = Ends::pack(ends.head(), ends.tail(), ends.version() + 1);
-        let found = self.ring.exchange(seat, ENDS, ends.into(), held.into());
+        let found = self
+            .ring
+            .compare_exchange(seat, ENDS, ends.into(), held.into());
         if found == ends.into() {
             return Some(Answer::Done);
         }
@@ -113,7 +115,7 @@ impl<T> Enqueue<'_, T> {
         ensures { Comes seat.old (enqueue_round self.entry result) seat.new }
     {
         let filled = Word::pack(self.item, empty.version() + 1);
-        if self.ring.exchange(seat, index, empty, filled) != empty {
+        if self.ring.compare_exchange(seat, index, empty, filled) != empty {
             return None;
         }
         self.see_put(seat, ends, index, filled)

@@ -3,7 +3,7 @@ ghost use Rattle.std.specs.Prelude.{◌≡◌, ◌<◌, ◌≤◌, ◌+◌, ◌^
 ghost use Rattle.kfifo_machine.specs.declared.event.Begin.TheVariants.{Enqueue, Dequeue};
 ghost use Rattle.kfifo_live.specs.Calls.{IsDisturbed};
 ghost use Rattle.kfifo_live.specs.Promise.{KeepsPromise};
-ghost use Rattle.kfifo_live.specs.Pass.{IsOf, IsSame};
+ghost use Rattle.kfifo_live.specs.Pass.{IsPassOf, IsSamePass};
 ghost use Rattle.kfifo_live.specs.Payloads.{MakesCall};
 ghost use Rattle.kfifo_live.specs.Handles.{Held, enough_turns, first_of, further};
 
@@ -41,18 +41,20 @@ impl Model for Handle {
         × (h.turns ≡ h.pass.opened.shape.n + 2) };
 }
 
-/// The starts of the calls of a pass: where there are no more threads than slots, each thread begins at a slot of its own.
+/// The starts of the calls of a pass: where there are no more threads than slots, each thread begins at a slot of its
+/// own.
 fn starts_of(queue: &Queue, pass: &Pass) -> RoundRobin
-    requires { IsOf queue.now pass.now }
+    requires { IsPassOf queue.now pass.now }
     ensures { result ≡ record { k = pass.now.opened.shape.k; start = first_of pass.now } }
 {
     RoundRobin::spread(pass.thread, queue.threads, queue.shape.k)
 }
 
 impl Handle {
-    /// The handle of a pass. Its first enqueue and its first dequeue begin at slot `thread * k / threads`, rounded down.
+    /// The handle of a pass. Its first enqueue and its first dequeue begin at slot `thread * k / threads`, rounded
+    /// down.
     pub fn new(queue: &Queue, pass: Pass) -> Handle
-        requires { IsOf queue.now pass }
+        requires { IsPassOf queue.now pass }
         ensures { result ≡ record { pass = pass; enqueue_start = first_of pass; dequeue_start = first_of pass } }
     {
         let enqueues = starts_of(queue, &pass);
@@ -85,10 +87,11 @@ impl Handle {
     /// allocates, waits or locks.
     #[inline(always)]
     pub fn enqueue(&mut self, queue: &Queue, item: u32) -> Answer
-        requires of { IsOf queue.now self.old.pass }
+        requires of { IsPassOf queue.now self.old.pass }
         requires item { (1 ≤ item) × (item < 2 ^ 24) }
-        ensures same { IsSame self.old.pass self.new.pass }
-        ensures call { MakesCall (Enqueue item self.old.enqueue_start (enough_turns self.old.pass)) result self.old.pass self.new.pass }
+        ensures same { IsSamePass self.old.pass self.new.pass }
+        ensures call { MakesCall (Enqueue item self.old.enqueue_start (enough_turns self.old.pass)) result self.old.pass
+            self.new.pass }
         ensures busy { result ≡ Answer.Busy → IsDisturbed self.old.pass self.new.pass }
         ensures starts { (self.new.enqueue_start ≡ further self.old.pass self.old.enqueue_start)
             × (self.new.dequeue_start ≡ self.old.dequeue_start) }
@@ -104,9 +107,10 @@ impl Handle {
     /// call. It never allocates, waits or locks.
     #[inline(always)]
     pub fn dequeue(&mut self, queue: &Queue) -> Answer
-        requires of { IsOf queue.now self.old.pass }
-        ensures same { IsSame self.old.pass self.new.pass }
-        ensures call { MakesCall (Dequeue self.old.dequeue_start (enough_turns self.old.pass)) result self.old.pass self.new.pass }
+        requires of { IsPassOf queue.now self.old.pass }
+        ensures same { IsSamePass self.old.pass self.new.pass }
+        ensures call { MakesCall (Dequeue self.old.dequeue_start (enough_turns self.old.pass)) result self.old.pass
+            self.new.pass }
         ensures busy { result ≡ Answer.Busy → IsDisturbed self.old.pass self.new.pass }
         ensures starts { (self.new.dequeue_start ≡ further self.old.pass self.old.dequeue_start)
             × (self.new.enqueue_start ≡ self.old.enqueue_start) }

@@ -33,6 +33,6 @@ pub use pay_handle::PayHandle;
 pub use payload::{Given, PayPass, PayQueue, Taken};
 pub use payload_opening::MAX_TOKENS;
 pub use queue::{Pass, Queue};
-pub use recording::{MAX_CALLS, gather};
+pub use recording::{MAX_STAMPED_CALLS, gather};
 pub use round_robin::RoundRobin;
 pub use stamps::{StampPass, StampQueue};

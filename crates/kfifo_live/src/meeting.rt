@@ -2,11 +2,11 @@
 ghost use Rattle.std.specs.Prelude.{◌≡◌, List};
 ghost use Rattle.kfifo_machine.specs.declared.event.Event.{Event};
 ghost use Rattle.kfifo_machine.specs.Runs.{Begins, own};
-ghost use Rattle.kfifo_live.specs.Pass.{IsOf, IsSame, StartsWith};
+ghost use Rattle.kfifo_live.specs.Pass.{IsPassOf, IsSamePass, StartsWith};
 ghost use Rattle.kfifo_live.specs.Promise.{KeepsPromise};
 
 use crate::queue::{Pass, Queue};
-use crate::seats::{gather, give_all, give_rest, observe};
+use crate::seats::{give_all, give_rest, join_seats, observe};
 use std::marker::Brand;
 
 /// The second pass has then seen all that the first had, by one load of the ends word, which is no
@@ -19,10 +19,10 @@ use std::marker::Brand;
 /// What each of them has seen keeps the promise of the queue: its calls stand in a legal order, in
 /// which no item is overtaken k times where items are distinct.
 pub fn meet(queue: &Queue, first: &mut Pass, second: &mut Pass)
-    requires first { IsOf queue.now first.old }
-    requires second { IsOf queue.now second.old }
+    requires first { IsPassOf queue.now first.old }
+    requires second { IsPassOf queue.now second.old }
     ensures first { first.new ≡ first.old }
-    ensures same { IsSame second.old second.new }
+    ensures same { IsSamePass second.old second.new }
     ensures all_of_first { Begins first.old.thread first.old.seen second.new.seen }
     ensures others { Begins second.old.thread second.old.seen second.new.seen }
     ensures exactly { (before : List Event) → StartsWith second.old.seen before → StartsWith before first.old.seen
@@ -31,8 +31,8 @@ pub fn meet(queue: &Queue, first: &mut Pass, second: &mut Pass)
 {
     let shared = &queue.table.shared;
     let whole = give_all(shared, &mut first.seat);
-    gather::<_, Brand>(shared, &mut second.seat, whole);
+    join_seats::<_, Brand>(shared, &mut second.seat, whole);
     observe(shared, &mut second.seat, 0);
     let rest = give_rest(shared, &mut second.seat);
-    gather::<_, Brand>(shared, &mut first.seat, rest);
+    join_seats::<_, Brand>(shared, &mut first.seat, rest);
 }

@@ -2,8 +2,9 @@
 ghost use Rattle.std.specs.Prelude.{◌≡◌, ◌<◌, ◌≤◌, ◌+◌, ◌⊎◌, ◌↔◌, [], IfOk, IsErrOf, length, All};
 ghost use Rattle.kfifo_linear.specs.Headline.{HasLegalOrder, FewOvertake, FewCertainlyOvertake};
 ghost use Rattle.kfifo_live.specs.Schedule.{IsSmall, opening, stamped_opening, fresh, view_of};
-ghost use Rattle.kfifo_live.specs.Pass.{IsZeroed, queue_of, new_passes, IsOf};
-ghost use Rattle.kfifo_live.specs.declared.fault.OpenFault.TheVariants.{CallsOutOfRange, ThreadsOutOfRange, TokensOutOfRange};
+ghost use Rattle.kfifo_live.specs.Pass.{IsZeroed, queue_of, new_passes, IsPassOf};
+ghost use Rattle.kfifo_live.specs.declared.fault.OpenFault.TheVariants.{CallsOutOfRange, ThreadsOutOfRange};
+ghost use Rattle.kfifo_live.specs.declared.fault.OpenFault.TheVariants.{TokensOutOfRange};
 
 use crate::fault::OpenFault;
 use crate::queue::{Pass, Queue};
@@ -46,7 +47,8 @@ impl Queue {
     ) -> Result<(Queue, Vec<Pass>), AllocError>
         requires threads { (0 < threads) × (threads ≤ 64) }
         requires calls { calls ≤ 1024 }
-        ensures { IfOk result (λ r. (r.0.opened ≡ stamped_opening shape threads calls) × (r.1.items ≡ new_passes r.0 0 threads)) }
+        ensures { IfOk result (λ r. (r.0.opened ≡ stamped_opening shape threads calls)
+            × (r.1.items ≡ new_passes r.0 0 threads)) }
     {
         let words = vec![in alloc; 0; 2 + shape.n() as usize * shape.k() as usize]?;
         let about = Opening {
@@ -81,7 +83,7 @@ impl Queue {
     /// order of its calls; in it, where the items are distinct, none is overtaken k times.
     pub fn open(alloc: Global, shape: Shape, threads: u32) -> Result<(Queue, Vec<Pass>), OpenFault>
         ensures ok { IfOk result (λ r. (r.0.opened ≡ opening shape threads) × (r.1.items ≡ new_passes r.0 0 threads)) }
-        ensures of { IfOk result (λ r. All (IsOf r.0) r.1.items) }
+        ensures of { IfOk result (λ r. All (IsPassOf r.0) r.1.items) }
         ensures threads { IsErrOf result ThreadsOutOfRange ↔ ((threads ≡ 0) ⊎ (64 < threads)) }
         ensures tokens { ¬ IsErrOf result TokensOutOfRange }
         ensures calls { ¬ IsErrOf result CallsOutOfRange }

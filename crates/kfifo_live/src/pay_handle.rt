@@ -2,7 +2,7 @@
 ghost use Rattle.std.specs.Prelude.{◌≡◌, ◌<◌, ◌≤◌, ◌+◌, Bool};
 ghost use Rattle.kfifo_live.specs.Calls.{IsDisturbed};
 ghost use Rattle.kfifo_live.specs.Promise.{KeepsPromise};
-ghost use Rattle.kfifo_live.specs.Pass.{IsOf, IsSame};
+ghost use Rattle.kfifo_live.specs.Pass.{IsPassOf, IsSamePass};
 ghost use Rattle.kfifo_live.specs.Payloads.{LaysDown, PicksUp};
 ghost use Rattle.kfifo_live.specs.Handles.{PayHeld, PicksUpAndGives, TakesAndLaysDown, first_of, further, one_more};
 
@@ -32,7 +32,13 @@ pub struct PayHandle<T: Drop> {
 impl<T: Drop> Model for PayHandle<T> {
     ghost Value = { PayHeld T };
 
-    ghost view = { λ h. record { pass = h.pass; give_start = h.gives.start; take_start = h.takes.start; shortages = h.shortages; surpluses = h.surpluses } };
+    ghost view = { λ h. record {
+      pass = h.pass;
+      give_start = h.gives.start;
+      take_start = h.takes.start;
+      shortages = h.shortages;
+      surpluses = h.surpluses;
+    } };
 
     ghost invariant = { λ h. (h.gives.k ≡ h.pass.pass.opened.shape.k) × (h.takes.k ≡ h.pass.pass.opened.shape.k)
         × (h.turns ≡ h.pass.pass.opened.shape.n + 2) };
@@ -40,7 +46,7 @@ impl<T: Drop> Model for PayHandle<T> {
 
 /// The starts of the calls of a pass, as `Handle` has them.
 fn starts_of<T: Drop>(queue: &PayQueue<T>, pass: &PayPass<T>) -> RoundRobin
-    requires { IsOf queue.now pass.now.pass }
+    requires { IsPassOf queue.now pass.now.pass }
     ensures { result ≡ record { k = pass.now.pass.opened.shape.k; start = first_of pass.now.pass } }
 {
     RoundRobin::spread(pass.thread, queue.threads, queue.shape.k)
@@ -49,8 +55,14 @@ fn starts_of<T: Drop>(queue: &PayQueue<T>, pass: &PayPass<T>) -> RoundRobin
 impl<T: Drop> PayHandle<T> {
     /// The handle of a pass. Its first `give` and its first `take` begin at slot `thread * k / threads`, rounded down.
     pub fn new(queue: &PayQueue<T>, pass: PayPass<T>) -> PayHandle<T>
-        requires { IsOf queue.now pass.pass }
-        ensures { result ≡ record { pass = pass; give_start = first_of pass.pass; take_start = first_of pass.pass; shortages = 0; surpluses = 0 } }
+        requires { IsPassOf queue.now pass.pass }
+        ensures { result ≡ record {
+          pass = pass;
+          give_start = first_of pass.pass;
+          take_start = first_of pass.pass;
+          shortages = 0;
+          surpluses = 0;
+        } }
     {
         let gives = starts_of(queue, &pass);
         let takes = starts_of(queue, &pass);
@@ -98,10 +110,11 @@ impl<T: Drop> PayHandle<T> {
     #[cold]
     #[inline(never)]
     fn pick_up(&mut self, queue: &PayQueue<T>)
-        requires of { IsOf queue.now self.old.pass.pass }
+        requires of { IsPassOf queue.now self.old.pass.pass }
         ensures picks { (picked : Bool) × PicksUp picked self.old.pass self.new.pass }
         ensures starts { (self.new.give_start ≡ self.old.give_start) × (self.new.take_start ≡ self.old.take_start) }
-        ensures counts { (self.new.shortages ≡ one_more self.old.shortages) × (self.new.surpluses ≡ self.old.surpluses) }
+        ensures counts { (self.new.shortages ≡ one_more self.old.shortages)
+            × (self.new.surpluses ≡ self.old.surpluses) }
     {
         self.shortages = self.shortages.wrapping_add(1);
         self.pass.pick_up(queue);
@@ -111,10 +124,11 @@ impl<T: Drop> PayHandle<T> {
     #[cold]
     #[inline(never)]
     fn lay_down(&mut self, queue: &PayQueue<T>)
-        requires of { IsOf queue.now self.old.pass.pass }
+        requires of { IsPassOf queue.now self.old.pass.pass }
         ensures lays { (laid : Bool) × LaysDown laid self.old.pass self.new.pass }
         ensures starts { (self.new.give_start ≡ self.old.give_start) × (self.new.take_start ≡ self.old.take_start) }
-        ensures counts { (self.new.surpluses ≡ one_more self.old.surpluses) × (self.new.shortages ≡ self.old.shortages) }
+        ensures counts { (self.new.surpluses ≡ one_more self.old.surpluses)
+            × (self.new.shortages ≡ self.old.shortages) }
     {
         self.surpluses = self.surpluses.wrapping_add(1);
         self.pass.lay_down(queue);
@@ -128,8 +142,8 @@ impl<T: Drop> PayHandle<T> {
     /// allocates, waits or locks.
     #[inline(always)]
     pub fn give(&mut self, queue: &PayQueue<T>, payload: T) -> Given<T>
-        requires of { IsOf queue.now self.old.pass.pass }
-        ensures same { IsSame self.old.pass.pass self.new.pass.pass }
+        requires of { IsPassOf queue.now self.old.pass.pass }
+        ensures same { IsSamePass self.old.pass.pass self.new.pass.pass }
         ensures gives { PicksUpAndGives payload result self.old self.new }
         ensures busy { (back : T) → result ≡ Given.Busy back → IsDisturbed self.old.pass.pass self.new.pass.pass }
         ensures starts { (self.new.give_start ≡ further self.old.pass.pass self.old.give_start)
@@ -143,15 +157,15 @@ impl<T: Drop> PayHandle<T> {
         self.pass.give(queue, payload, start, self.turns)
     }
 
-    /// Takes one of the k oldest payloads out of the queue, and its token, as `PayPass::take` does. A pass that then has
-    /// more tokens than it was opened with lays one down, as `PayPass::lay_down` does.
+    /// Takes one of the k oldest payloads out of the queue, and its token, as `PayPass::take` does. A pass that then
+    /// has more tokens than it was opened with lays one down, as `PayPass::lay_down` does.
     ///
-    /// Returns Got with the payload, Empty, Worn or Busy. Busy comes only where another thread won an exchange during the
-    /// call. It never allocates, waits or locks.
+    /// Returns Got with the payload, Empty, Worn or Busy. Busy comes only where another thread won an exchange during
+    /// the call. It never allocates, waits or locks.
     #[inline(always)]
     pub fn take(&mut self, queue: &PayQueue<T>) -> Taken<T>
-        requires of { IsOf queue.now self.old.pass.pass }
-        ensures same { IsSame self.old.pass.pass self.new.pass.pass }
+        requires of { IsPassOf queue.now self.old.pass.pass }
+        ensures same { IsSamePass self.old.pass.pass self.new.pass.pass }
         ensures takes { TakesAndLaysDown result self.old self.new }
         ensures busy { result ≡ Taken.Busy → IsDisturbed self.old.pass.pass self.new.pass.pass }
         ensures starts { (self.new.take_start ≡ further self.old.pass.pass self.old.take_start)

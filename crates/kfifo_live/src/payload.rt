@@ -2,12 +2,14 @@
 //!
 //! While the queue has a payload, it lies in a slot of the queue's table. A *token* is an item of the plain queue
 //! that names such a slot, token x the slot x - 1. Who has a token may put its slot's payload into the queue.
-ghost use Rattle.std.specs.Prelude.{◌≡◌, ◌<◌, ◌≤◌, ◌+◌, ◌-◌, ◌*◌, ◌^◌, ◌++◌, ℕ, List, [], ◌∷◌, length, reverse, Some, None, vec_capacity};
+ghost use Rattle.std.specs.Prelude.{◌≡◌, ◌<◌, ◌≤◌, ◌+◌, ◌-◌, ◌*◌, ◌^◌, ◌++◌, ℕ, List, [], ◌∷◌, length, reverse, Some};
+ghost use Rattle.std.specs.Prelude.{None, vec_capacity};
 ghost use Rattle.kfifo_live.specs.Schedule.{hand_of, seen_of, gifts_of, with_seen};
 ghost use Rattle.kfifo_live.specs.Step.{DrawsToken, IsAt};
 ghost use Rattle.kfifo_live.specs.Promise.{KeepsPromise};
-ghost use Rattle.kfifo_live.specs.Pass.{OpenQueue, queue_of, IsOf, IsSame};
-ghost use Rattle.kfifo_live.specs.Payloads.{PayKnown, pay_known_of, pay_opening, IsPool, IsPayPass, Gives, TakesOut};
+ghost use Rattle.kfifo_live.specs.Pass.{OpenQueue, queue_of, IsPassOf, IsSamePass};
+ghost use Rattle.kfifo_live.specs.Payloads.{PayPassView, pay_pass_view, pay_opening, IsPool, IsPayPass, Gives};
+ghost use Rattle.kfifo_live.specs.Payloads.{TakesOut};
 
 use crate::payload_pool::PoolWord;
 use crate::ring::Ring;
@@ -38,15 +40,17 @@ impl<T: Drop> Model for PayQueue<T> {
     ghost view = { λ q. queue_of q.table.shared.table_id (pay_opening q.shape q.threads q.tokens) };
 
     ghost invariant = { λ q. (q.table.shared.key ≡ pay_opening q.shape q.threads q.tokens)
-        × (q.table.shared.table_id.words ≡ 2 + q.shape.n * q.shape.k) × (q.table.shared.table_id.slots ≡ q.threads * q.tokens)
-        × (IsPool q.table.shared.table_id (pay_opening q.shape q.threads q.tokens) 1 q.pool.items × (length q.pool.items < 2 ^ 32)) };
+        × (q.table.shared.table_id.words ≡ 2 + q.shape.n * q.shape.k)
+        × (q.table.shared.table_id.slots ≡ q.threads * q.tokens)
+        × (IsPool q.table.shared.table_id (pay_opening q.shape q.threads q.tokens) 1 q.pool.items
+        × (length q.pool.items < 2 ^ 32)) };
 }
 
 /// What a thread gives and takes payloads with, and the tokens that it has. It may go to another thread between two
 /// calls.
 ///
-/// Clauses see it as the schedule that it has seen, its tokens, and for each enqueue of that schedule, in turn, its token and
-/// its payload.
+/// Clauses see it as the schedule that it has seen, its tokens, and for each enqueue of that schedule, in turn, its
+/// token and its payload.
 #[derive(Drop)]
 pub struct PayPass<T: Drop> {
     pub(crate) thread: u32,
@@ -57,9 +61,9 @@ pub struct PayPass<T: Drop> {
 }
 
 impl<T: Drop> Model for PayPass<T> {
-    ghost Value = { PayKnown T };
+    ghost Value = { PayPassView T };
 
-    ghost view = { λ p. pay_known_of p.seat.table_id p.thread p.seat.me.0 };
+    ghost view = { λ p. pay_pass_view p.seat.table_id p.thread p.seat.me.0 };
 
     ghost invariant = { λ p. IsPayPass p.thread p.seat.me p.at_home.items (vec_capacity p.at_home) };
 }
@@ -130,7 +134,9 @@ fn take_back<T: Drop>(
     requires stacked { (hand_of seat.old.me.0).at_home ≡ reverse at_home.old.items }
     requires room { shared.now.table_id.slots ≤ vec_capacity at_home.old }
     ensures same { (seat.new.table_id ≡ seat.old.table_id) × (vec_capacity at_home.new ≡ vec_capacity at_home.old) }
-    ensures laid { (seat.new.me.0 ≡ with_seen seat.old.me.0 (seen_of seat.old.me.0) (gifts_of seat.old.me.0) (record { at_home = token ∷ (hand_of seat.old.me.0).at_home; out = 0; payload = None })) × (seat.new.me.1 ≡ []) }
+    ensures laid { (seat.new.me.0 ≡ with_seen seat.old.me.0 (seen_of seat.old.me.0) (gifts_of seat.old.me.0)
+        (record { at_home = token ∷ (hand_of seat.old.me.0).at_home; out = 0; payload = None }))
+        × (seat.new.me.1 ≡ []) }
     ensures stacked { at_home.new.items ≡ at_home.old.items ++ token ∷ [] }
     ensures payload { seat.old.me.1 ≡ (token - 1, Some result) ∷ [] }
 {
@@ -159,18 +165,18 @@ impl<T: Drop> PayPass<T> {
     /// Puts a payload into the queue, with a token of the pass.
     ///
     /// Scans begin at slot `start`, below k. Returns Done, and the pass has a token less; NoToken exactly where the
-    /// pass has no token; else, as `Pass::enqueue`, Full where the ring was seen full, Busy where each of `turns` rounds, at
-    /// least 1, was lost, or Worn where a version would pass the greatest one. Each refusal hands the payload back, and
-    /// the pass keeps its tokens. It never allocates, waits or locks.
+    /// pass has no token; else, as `Pass::enqueue`, Full where the ring was seen full, Busy where each of `turns`
+    /// rounds, at least 1, was lost, or Worn where a version would pass the greatest one. Each refusal hands the
+    /// payload back, and the pass keeps its tokens. It never allocates, waits or locks.
     ///
     /// The payload stands among those that the pass has then seen, at the place of this call's own enqueue. What the
     /// pass has then seen keeps the promise of the queue, as with `Pass::enqueue`.
     #[inline(always)]
     pub fn give(&mut self, queue: &PayQueue<T>, payload: T, start: u32, turns: u16) -> Given<T>
-        requires of { IsOf queue.now self.old.pass }
+        requires of { IsPassOf queue.now self.old.pass }
         requires start { start < queue.now.opened.shape.k }
         requires turns { 1 ≤ turns }
-        ensures same { IsSame self.old.pass self.new.pass }
+        ensures same { IsSamePass self.old.pass self.new.pass }
         ensures gives { Gives start turns payload result self.old self.new }
         ensures promise { KeepsPromise self.new.pass.opened self.new.pass.seen }
     {
@@ -198,19 +204,19 @@ impl<T: Drop> PayPass<T> {
 
     /// Takes one of the k oldest payloads out of the queue, and its token.
     ///
-    /// Scans begin at slot `start`, below k. Returns, as `Pass::dequeue`, Got with the payload, Empty where the queue was
-    /// empty, Busy where each of `turns` rounds, at least 1, was lost, or Worn where a version would pass the greatest
-    /// one. The payload is the one that was given with the enqueue that put its token, which is the last enqueue of that
-    /// token in what the pass has then seen. It never allocates, waits or locks.
+    /// Scans begin at slot `start`, below k. Returns, as `Pass::dequeue`, Got with the payload, Empty where the queue
+    /// was empty, Busy where each of `turns` rounds, at least 1, was lost, or Worn where a version would pass the
+    /// greatest one. The payload is the one that was given with the enqueue that put its token, which is the last
+    /// enqueue of that token in what the pass has then seen. It never allocates, waits or locks.
     ///
-    /// What the pass has then seen keeps the promise of the queue, as with `Pass::dequeue`. Each enqueue in it began with
-    /// a token that was in no slot and that no other enqueue in progress held.
+    /// What the pass has then seen keeps the promise of the queue, as with `Pass::dequeue`. Each enqueue in it began
+    /// with a token that was in no slot and that no other enqueue in progress held.
     #[inline(always)]
     pub fn take(&mut self, queue: &PayQueue<T>, start: u32, turns: u16) -> Taken<T>
-        requires of { IsOf queue.now self.old.pass }
+        requires of { IsPassOf queue.now self.old.pass }
         requires start { start < queue.now.opened.shape.k }
         requires turns { 1 ≤ turns }
-        ensures same { IsSame self.old.pass self.new.pass }
+        ensures same { IsSamePass self.old.pass self.new.pass }
         ensures takes { TakesOut start turns result self.old self.new }
         ensures promise { KeepsPromise self.new.pass.opened self.new.pass.seen }
     {

@@ -1,7 +1,7 @@
 //! Closing a queue of payloads.
 ghost use Rattle.std.specs.Prelude.{◌≡◌, ◌≤◌, [], IfOk, IsErrOf, Some, map, vec_capacity};
 ghost use Rattle.core.specs.Mem.Slots.{slots_items, slots_len, IsFull};
-ghost use Rattle.kfifo_live.specs.Pass.{IsOf};
+ghost use Rattle.kfifo_live.specs.Pass.{IsPassOf};
 ghost use Rattle.kfifo_live.specs.Payloads.{HavePayloads, PayCloses, in_slot};
 ghost use Rattle.kfifo_live.specs.declared.fault.CloseFault.TheVariants.{MissingPass};
 
@@ -49,13 +49,13 @@ fn pick_payloads<T: Drop>(
 impl<T: Drop> PayQueue<T> {
     /// The payloads that are left: segment by segment from the head's round the ring, within a segment by slot number.
     /// Each is the one that was given with the enqueue that put its token. The one schedule of all calls of the queue,
-    /// which begins with what the pass has seen and has no further event of it, keeps the promise of the queue. With one
-    /// thread it is what the pass has seen.
+    /// which begins with what the pass has seen and has no further event of it, keeps the promise of the queue. With
+    /// one thread it is what the pass has seen.
     ///
-    /// Memory where an allocation failed, the payloads then being dropped. MissingPass never comes: the other passes may
-    /// still be anywhere, and can do nothing more.
+    /// Memory where an allocation failed, the payloads then being dropped. MissingPass never comes: the other passes
+    /// may still be anywhere, and can do nothing more.
     pub fn close(self, alloc: Global, pass: PayPass<T>) -> Result<Vec<T>, CloseFault>
-        requires { IsOf self pass.pass }
+        requires { IsPassOf self pass.pass }
         ensures ok { IfOk result (λ payloads. PayCloses self pass payloads.items) }
         ensures missing { ¬ IsErrOf result MissingPass }
     {

@@ -1,9 +1,11 @@
 //! Opening a queue of payloads.
-ghost use Rattle.std.specs.Prelude.{◌≡◌, ◌<◌, ◌≤◌, ◌+◌, ◌*◌, ◌⊎◌, ◌↔◌, [], length, IfOk, IsErrOf, reverse, vec_capacity, All};
+ghost use Rattle.std.specs.Prelude.{◌≡◌, ◌<◌, ◌≤◌, ◌+◌, ◌*◌, ◌⊎◌, ◌↔◌, [], length, IfOk, IsErrOf, reverse};
+ghost use Rattle.std.specs.Prelude.{vec_capacity, All};
 ghost use Rattle.kfifo_live.specs.Schedule.{IsSmall, count_up, fresh, view_of};
-ghost use Rattle.kfifo_live.specs.Pass.{IsZeroed, queue_of, IsOf};
+ghost use Rattle.kfifo_live.specs.Pass.{IsZeroed, queue_of, IsPassOf};
 ghost use Rattle.kfifo_live.specs.Payloads.{IsPool, new_pay_passes, pay_opening};
-ghost use Rattle.kfifo_live.specs.declared.fault.OpenFault.TheVariants.{CallsOutOfRange, ThreadsOutOfRange, TokensOutOfRange};
+ghost use Rattle.kfifo_live.specs.declared.fault.OpenFault.TheVariants.{CallsOutOfRange, ThreadsOutOfRange};
+ghost use Rattle.kfifo_live.specs.declared.fault.OpenFault.TheVariants.{TokensOutOfRange};
 
 use crate::fault::OpenFault;
 use crate::payload::{PayPass, PayQueue};
@@ -46,10 +48,12 @@ fn deal_tokens<T: Drop>(
     requires table { (seat.table_id ≡ shared.now.table_id) × (0 < shared.now.table_id.words) }
     requires few { IsSmall seat.me.0.opened × (0 < tokens) × (tokens ≤ 1024) }
     requires pooled { (pooled ≡ 0) ⊎ (pooled ≡ tokens) }
-    requires seat { (seat.me.1 ≡ []) × (seat.me.0 ≡ view_of seat.me.0.opened (fresh seat.me.0.opened.tokens 0 threads)) }
+    requires seat { (seat.me.1 ≡ []) × (seat.me.0
+        ≡ view_of seat.me.0.opened (fresh seat.me.0.opened.tokens 0 threads)) }
     requires opened { (seat.me.0.opened.threads ≡ threads) × (seat.me.0.opened.tokens ≡ tokens) }
     ensures passes { IfOk result (λ r. r.0.items ≡ new_pay_passes (queue_of seat.table_id seat.me.0.opened) 0 threads) }
-    ensures pool { IfOk result (λ r. IsPool seat.table_id seat.me.0.opened 1 r.1.items × (length r.1.items ≡ threads * pooled)) }
+    ensures pool { IfOk result (λ r. IsPool seat.table_id seat.me.0.opened 1 r.1.items
+        × (length r.1.items ≡ threads * pooled)) }
 {
     let mut passes = Vec::with_capacity(alloc, threads as usize)?;
     let mut pool = Vec::with_capacity(alloc, threads as usize * pooled as usize)?;
@@ -83,7 +87,8 @@ impl<T: Drop> PayQueue<T> {
         requires threads { (0 < threads) × (threads ≤ 64) }
         requires tokens { (0 < tokens) × (tokens ≤ 1024) }
         requires pooled { (pooled ≡ 0) ⊎ (pooled ≡ tokens) }
-        ensures { IfOk result (λ r. (r.0.opened ≡ pay_opening shape threads tokens) × (r.1.items ≡ new_pay_passes r.0 0 threads)) }
+        ensures { IfOk result (λ r. (r.0.opened ≡ pay_opening shape threads tokens)
+            × (r.1.items ≡ new_pay_passes r.0 0 threads)) }
     {
         let words = vec![in alloc; 0; 2 + shape.n() as usize * shape.k() as usize]?;
         let about = Opening {
@@ -114,10 +119,12 @@ impl<T: Drop> PayQueue<T> {
         pooled: u32,
     ) -> Result<(PayQueue<T>, Vec<PayPass<T>>), OpenFault>
         requires pooled { (pooled ≡ 0) ⊎ (pooled ≡ tokens) }
-        ensures ok { IfOk result (λ r. (r.0.opened ≡ pay_opening shape threads tokens) × (r.1.items ≡ new_pay_passes r.0 0 threads)) }
-        ensures of { IfOk result (λ r. All (λ p. IsOf r.0 p.pass) r.1.items) }
+        ensures ok { IfOk result (λ r. (r.0.opened ≡ pay_opening shape threads tokens)
+            × (r.1.items ≡ new_pay_passes r.0 0 threads)) }
+        ensures of { IfOk result (λ r. All (λ p. IsPassOf r.0 p.pass) r.1.items) }
         ensures threads { IsErrOf result ThreadsOutOfRange ↔ ((threads ≡ 0) ⊎ (64 < threads)) }
-        ensures tokens { IsErrOf result TokensOutOfRange ↔ ((1 ≤ threads) × (threads ≤ 64) × ((tokens ≡ 0) ⊎ (1024 < tokens))) }
+        ensures tokens { IsErrOf result TokensOutOfRange
+            ↔ ((1 ≤ threads) × (threads ≤ 64) × ((tokens ≡ 0) ⊎ (1024 < tokens))) }
         ensures calls { ¬ IsErrOf result CallsOutOfRange }
         ensures zeroed { IfOk result (λ r. IsZeroed r.0.opened) }
     {
@@ -146,10 +153,12 @@ impl<T: Drop> PayQueue<T> {
         threads: u32,
         tokens: u32,
     ) -> Result<(PayQueue<T>, Vec<PayPass<T>>), OpenFault>
-        ensures ok { IfOk result (λ r. (r.0.opened ≡ pay_opening shape threads tokens) × (r.1.items ≡ new_pay_passes r.0 0 threads)) }
-        ensures of { IfOk result (λ r. All (λ p. IsOf r.0 p.pass) r.1.items) }
+        ensures ok { IfOk result (λ r. (r.0.opened ≡ pay_opening shape threads tokens)
+            × (r.1.items ≡ new_pay_passes r.0 0 threads)) }
+        ensures of { IfOk result (λ r. All (λ p. IsPassOf r.0 p.pass) r.1.items) }
         ensures threads { IsErrOf result ThreadsOutOfRange ↔ ((threads ≡ 0) ⊎ (64 < threads)) }
-        ensures tokens { IsErrOf result TokensOutOfRange ↔ ((1 ≤ threads) × (threads ≤ 64) × ((tokens ≡ 0) ⊎ (1024 < tokens))) }
+        ensures tokens { IsErrOf result TokensOutOfRange
+            ↔ ((1 ≤ threads) × (threads ≤ 64) × ((tokens ≡ 0) ⊎ (1024 < tokens))) }
         ensures calls { ¬ IsErrOf result CallsOutOfRange }
         ensures zeroed { IfOk result (λ r. IsZeroed r.0.opened) }
     {
@@ -164,10 +173,12 @@ impl<T: Drop> PayQueue<T> {
         threads: u32,
         tokens: u32,
     ) -> Result<(PayQueue<T>, Vec<PayPass<T>>), OpenFault>
-        ensures ok { IfOk result (λ r. (r.0.opened ≡ pay_opening shape threads tokens) × (r.1.items ≡ new_pay_passes r.0 0 threads)) }
-        ensures of { IfOk result (λ r. All (λ p. IsOf r.0 p.pass) r.1.items) }
+        ensures ok { IfOk result (λ r. (r.0.opened ≡ pay_opening shape threads tokens)
+            × (r.1.items ≡ new_pay_passes r.0 0 threads)) }
+        ensures of { IfOk result (λ r. All (λ p. IsPassOf r.0 p.pass) r.1.items) }
         ensures threads { IsErrOf result ThreadsOutOfRange ↔ ((threads ≡ 0) ⊎ (64 < threads)) }
-        ensures tokens { IsErrOf result TokensOutOfRange ↔ ((1 ≤ threads) × (threads ≤ 64) × ((tokens ≡ 0) ⊎ (1024 < tokens))) }
+        ensures tokens { IsErrOf result TokensOutOfRange
+            ↔ ((1 ≤ threads) × (threads ≤ 64) × ((tokens ≡ 0) ⊎ (1024 < tokens))) }
         ensures calls { ¬ IsErrOf result CallsOutOfRange }
         ensures zeroed { IfOk result (λ r. IsZeroed r.0.opened) }
     {

@@ -5,7 +5,7 @@
 ghost use Rattle.std.specs.Prelude.{◌≡◌, ◌<◌, ◌+◌, ◌^◌, ◌++◌, ℕ, List, [], length, IfErr, IfOk, IfSome, None};
 ghost use Rattle.kfifo_live.specs.Schedule.{count_up, hand_of, more_in, resting_view};
 ghost use Rattle.kfifo_live.specs.Step.{IsAt};
-ghost use Rattle.kfifo_live.specs.Pass.{IsOf};
+ghost use Rattle.kfifo_live.specs.Pass.{IsPassOf};
 ghost use Rattle.kfifo_live.specs.Payloads.{IsPool, LaysDown, PicksUp, pool_for};
 
 use crate::payload::{PayPass, PayQueue};
@@ -42,7 +42,8 @@ pub(crate) fn extend_pool<T, O: Opened>(
     requires small { token + count < 2 ^ 32 }
     requires picked { O.opened ≡ seat.old.me.0.opened }
     ensures same { IfOk result (λ _. (seat.new.table_id ≡ seat.old.table_id) × (seat.new.me ≡ seat.old.me)) }
-    ensures pool { IfOk result (λ _. pool.new.items ≡ pool.old.items ++ pool_for seat.old.table_id seat.old.me.0.opened token count) }
+    ensures pool { IfOk result (λ _. pool.new.items
+        ≡ pool.old.items ++ pool_for seat.old.table_id seat.old.me.0.opened token count) }
 {
     if count == 0 {
         return Ok(());
@@ -62,7 +63,8 @@ fn rest_token<T>(
     token: u32,
 ) -> Result<(), ThreadSeat<T>>
     requires pool { IsPool shared.now.table_id shared.now.key 1 pool.now }
-    requires resting { (resting.table_id ≡ shared.now.table_id) × (resting.me ≡ (resting_view shared.now.key token, [])) }
+    requires resting { (resting.table_id ≡ shared.now.table_id)
+        × (resting.me ≡ (resting_view shared.now.key token, [])) }
     ensures { IfErr result (λ s. (s.table_id ≡ resting.table_id) × (s.me ≡ resting.me)) }
 {
     if token == 0 || token as usize > pool.len() {
@@ -75,7 +77,8 @@ fn rest_token<T>(
 fn wake_token<T>(shared: &Words<T>, pool: &[PoolWord<T>], index: usize) -> Option<ThreadSeat<T>>
     requires pool { IsPool shared.now.table_id shared.now.key 1 pool.now }
     requires within { index < length pool.now }
-    ensures { IfSome result (λ s. (s.table_id ≡ shared.now.table_id) × (s.me ≡ (resting_view shared.now.key (index + 1), []))) }
+    ensures { IfSome result (λ s. (s.table_id ≡ shared.now.table_id)
+        × (s.me ≡ (resting_view shared.now.key (index + 1), []))) }
 {
     let word = &pool[index];
     // Passes that look at an empty word only read it, and so do not take its line from each other.
@@ -94,7 +97,8 @@ fn find_token<T>(
 ) -> Option<(u32, ThreadSeat<T>)>
     requires pool { IsPool shared.now.table_id shared.now.key 1 pool.now }
     requires few { length pool.now < 2 ^ 32 }
-    ensures { IfSome result (λ r. (0 < r.0) × (r.1.table_id ≡ shared.now.table_id) × (r.1.me ≡ (resting_view shared.now.key r.0, []))) }
+    ensures { IfSome result (λ r. (0 < r.0) × (r.1.table_id ≡ shared.now.table_id)
+        × (r.1.me ≡ (resting_view shared.now.key r.0, []))) }
 {
     for index in first..pool.len() {
         if let Some(resting) = wake_token(shared, pool, index) {
@@ -116,7 +120,7 @@ impl<T: Drop> PayPass<T> {
     /// and of a queue without a pool. It is no event, and the pass has seen no more than before. It never allocates,
     /// waits or locks.
     pub fn lay_down(&mut self, queue: &PayQueue<T>) -> bool
-        requires of { IsOf queue.now self.old.pass }
+        requires of { IsPassOf queue.now self.old.pass }
         ensures lays { LaysDown result self.old self.new }
     {
         let Some(token) = self.at_home.pop() else {
@@ -139,7 +143,7 @@ impl<T: Drop> PayPass<T> {
     /// word where the pass found a token last, at first at that of its own first token. It is no event, and the pass
     /// has seen no more than before. It never allocates, waits or locks.
     pub fn pick_up(&mut self, queue: &PayQueue<T>) -> bool
-        requires of { IsOf queue.now self.old.pass }
+        requires of { IsPassOf queue.now self.old.pass }
         ensures picks { PicksUp result self.old self.new }
     {
         let shared = &queue.table.shared;

@@ -5,7 +5,7 @@ ghost use Rattle.kfifo_machine.specs.declared.event.Begin.TheVariants.{Enqueue, 
 ghost use Rattle.kfifo_live.specs.Schedule.{stamped_opening};
 ghost use Rattle.kfifo_live.specs.Calls.{Makes, TakesFewSteps, HasCause, IsDisturbed, LeavesNoItem};
 ghost use Rattle.kfifo_live.specs.Promise.{KeepsPromise};
-ghost use Rattle.kfifo_live.specs.Pass.{OpenQueue, Known, queue_of, known_of, IsPass, IsOf, IsSame, Finds};
+ghost use Rattle.kfifo_live.specs.Pass.{OpenQueue, PassView, queue_of, pass_view, IsPass, IsPassOf, IsSamePass, Finds};
 
 use crate::ring::Ring;
 use crate::rule::QueueRule;
@@ -34,7 +34,8 @@ impl Model for Queue {
     ghost view = { λ q. queue_of q.table.shared.table_id (stamped_opening q.shape q.threads q.calls) };
 
     ghost invariant = { λ q. (q.table.shared.key ≡ stamped_opening q.shape q.threads q.calls)
-        × (q.table.shared.table_id.words ≡ 2 + q.shape.n * q.shape.k) × (q.table.shared.table_id.slots ≡ 0) × (0 < q.threads)
+        × (q.table.shared.table_id.words ≡ 2 + q.shape.n * q.shape.k) × (q.table.shared.table_id.slots ≡ 0)
+        × (0 < q.threads)
         × (q.threads ≤ 64) × (q.calls ≤ 1024) };
 }
 
@@ -52,9 +53,9 @@ pub struct Pass {
 }
 
 impl Model for Pass {
-    ghost Value = { Known };
+    ghost Value = { PassView };
 
-    ghost view = { λ p. known_of p.seat.table_id p.thread p.seat.me.0 };
+    ghost view = { λ p. pass_view p.seat.table_id p.thread p.seat.me.0 };
 
     ghost invariant = { λ p. IsPass p.thread p.seat.me };
 }
@@ -94,11 +95,11 @@ impl Pass {
     /// is overtaken k times where items are distinct.
     #[inline(always)]
     pub fn enqueue(&mut self, queue: &Queue, item: u32, start: u32, turns: u16) -> Answer
-        requires of { IsOf queue.now self.old }
+        requires of { IsPassOf queue.now self.old }
         requires item { (1 ≤ item) × (item < 2 ^ 24) }
         requires start { start < queue.now.opened.shape.k }
         requires turns { 1 ≤ turns }
-        ensures same { IsSame self.old self.new }
+        ensures same { IsSamePass self.old self.new }
         ensures run { Makes (Enqueue item start turns) result self.old self.new }
         ensures few_steps { TakesFewSteps (Enqueue item start turns) self.old self.new }
         ensures cause { HasCause (Enqueue item start turns) result self.old self.new }
@@ -130,10 +131,10 @@ impl Pass {
     /// is overtaken k times where items are distinct.
     #[inline(always)]
     pub fn dequeue(&mut self, queue: &Queue, start: u32, turns: u16) -> Answer
-        requires of { IsOf queue.now self.old }
+        requires of { IsPassOf queue.now self.old }
         requires start { start < queue.now.opened.shape.k }
         requires turns { 1 ≤ turns }
-        ensures same { IsSame self.old self.new }
+        ensures same { IsSamePass self.old self.new }
         ensures run { Makes (Dequeue start turns) result self.old self.new }
         ensures few_steps { TakesFewSteps (Dequeue start turns) self.old self.new }
         ensures cause { HasCause (Dequeue start turns) result self.old self.new }
@@ -152,9 +153,9 @@ impl Pass {
     /// segment, and last the clock. The load is no event. The pass has then seen a schedule, in which
     /// events of others alone are new to it, that leaves this word, and that keeps the promise.
     pub fn word(&mut self, queue: &Queue, index: usize) -> u64
-        requires of { IsOf queue.now self.old }
+        requires of { IsPassOf queue.now self.old }
         requires index { index < 2 + queue.now.opened.shape.n * queue.now.opened.shape.k }
-        ensures same { IsSame self.old self.new }
+        ensures same { IsSamePass self.old self.new }
         ensures finds { Finds self.old self.new index result }
         ensures promise { KeepsPromise self.new.opened self.new.seen }
     {

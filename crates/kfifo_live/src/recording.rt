@@ -2,9 +2,10 @@
 ghost use Rattle.std.specs.Prelude.{◌≡◌, ◌<◌, ◌≤◌, ◌⊎◌, ◌↔◌, ◌==◌, IfOk, IsErrOf, IsTrue, length, All};
 ghost use Rattle.std.specs.List.{list_any, AllByRecursion};
 ghost use Rattle.kfifo_live.specs.Schedule.{stamped_opening};
-ghost use Rattle.kfifo_live.specs.Pass.{IsComplete, IsOf, IsZeroed, new_passes};
+ghost use Rattle.kfifo_live.specs.Pass.{IsComplete, IsPassOf, IsZeroed, new_passes};
 ghost use Rattle.kfifo_live.specs.Stamps.{Gathers, IsLog, all_logs, new_logs, passes_of};
-ghost use Rattle.kfifo_live.specs.declared.fault.OpenFault.TheVariants.{CallsOutOfRange, ThreadsOutOfRange, TokensOutOfRange};
+ghost use Rattle.kfifo_live.specs.declared.fault.OpenFault.TheVariants.{CallsOutOfRange, ThreadsOutOfRange};
+ghost use Rattle.kfifo_live.specs.declared.fault.OpenFault.TheVariants.{TokensOutOfRange};
 ghost use Rattle.kfifo_live.specs.declared.fault.GatherFault.TheVariants.{MissingPass};
 
 use crate::closing::close;
@@ -17,7 +18,7 @@ use kfifo_words::Shape;
 use std::alloc::{AllocError, Global};
 
 /// The greatest number of stamped calls of a pass.
-pub const MAX_CALLS: u32 = 1024;
+pub const MAX_STAMPED_CALLS: u32 = 1024;
 
 /// Passes with room for so many calls in the log of each.
 fn add_logs(alloc: Global, queue: &Queue, passes: Vec<Pass>) -> Result<Vec<StampPass>, AllocError>
@@ -34,8 +35,8 @@ fn add_logs(alloc: Global, queue: &Queue, passes: Vec<Pass>) -> Result<Vec<Stamp
 }
 
 impl StampQueue {
-    /// Opens a queue, with one pass for each thread, numbered from 0, which may make `calls` stamped calls. The passes have
-    /// seen the empty schedule, after which all words are 0, and their logs are empty.
+    /// Opens a queue, with one pass for each thread, numbered from 0, which may make `calls` stamped calls. The passes
+    /// have seen the empty schedule, after which all words are 0, and their logs are empty.
     ///
     /// ```rust
     /// let (queue, mut passes) = StampQueue::open(alloc, shape, 1, 2)?; // room for two calls in each log
@@ -51,16 +52,17 @@ impl StampQueue {
     ) -> Result<(StampQueue, Vec<StampPass>), OpenFault>
         ensures ok { IfOk result (λ r. (r.0.opened ≡ stamped_opening shape threads calls)
             × (r.1.items ≡ new_logs (new_passes r.0 0 threads))) }
-        ensures of { IfOk result (λ r. All (λ p. IsOf r.0 p.pass) r.1.items) }
+        ensures of { IfOk result (λ r. All (λ p. IsPassOf r.0 p.pass) r.1.items) }
         ensures threads { IsErrOf result ThreadsOutOfRange ↔ ((threads ≡ 0) ⊎ (64 < threads)) }
-        ensures calls { IsErrOf result CallsOutOfRange ↔ ((0 < threads) × (threads ≤ 64) × ((calls ≡ 0) ⊎ (1024 < calls))) }
+        ensures calls { IsErrOf result CallsOutOfRange
+            ↔ ((0 < threads) × (threads ≤ 64) × ((calls ≡ 0) ⊎ (1024 < calls))) }
         ensures tokens { ¬ IsErrOf result TokensOutOfRange }
         ensures zeroed { IfOk result (λ r. IsZeroed r.0.opened) }
     {
         if threads == 0 || threads > MAX_THREADS {
             return Err(OpenFault::ThreadsOutOfRange);
         }
-        if calls == 0 || calls > MAX_CALLS {
+        if calls == 0 || calls > MAX_STAMPED_CALLS {
             return Err(OpenFault::CallsOutOfRange);
         }
         let (queue, passes) = Queue::open_for(alloc, shape, threads, calls)?;
@@ -107,8 +109,8 @@ fn take_logs(alloc: Global, passes: Vec<StampPass>) -> Result<(Vec<Call>, Vec<Pa
     Ok((calls, plain))
 }
 
-/// Returns the record of the run, if each pass of the opening is given back: all logged calls, by rising first stamps. It
-/// has a legal order, in which no item is overtaken k times where items are distinct.
+/// Returns the record of the run, if each pass of the opening is given back: all logged calls, by rising first stamps.
+/// It has a legal order, in which no item is overtaken k times where items are distinct.
 ///
 /// ```rust
 /// let history = gather(alloc, queue, vec![in alloc; pass]?)?; // all logged calls, by rising first stamps
@@ -121,7 +123,7 @@ pub fn gather(
     queue: StampQueue,
     passes: Vec<StampPass>,
 ) -> Result<History, GatherFault>
-    requires { All (λ p. IsOf queue p.pass) passes.items }
+    requires { All (λ p. IsPassOf queue p.pass) passes.items }
     ensures ok { IfOk result (λ history. Gathers queue.opened passes.items history) }
     ensures missing { IsErrOf result MissingPass ↔ ¬ IsComplete queue.opened.threads (passes_of passes.items) }
 {

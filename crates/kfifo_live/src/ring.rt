@@ -45,7 +45,7 @@ impl<T> Ring<'_, T> {
 
     /// Puts `to` in the place of `from`, and returns the word that it found: `from` where it was won.
     #[inline(always)]
-    pub(crate) fn exchange(
+    pub(crate) fn compare_exchange(
         self,
         seat: &mut ThreadSeat<T>,
         index: usize,
@@ -92,7 +92,8 @@ impl<T> Ring<'_, T> {
     {
         let head = self.shape.next(ends.head());
         let moved = Ends::pack(head, ends.tail(), ends.version() + 1);
-        self.exchange(seat, ENDS, ends.into(), moved.into()).into()
+        self.compare_exchange(seat, ENDS, ends.into(), moved.into())
+            .into()
     }
 
     /// Moves the tail on to the next segment, and returns the ends that it found: `ends` where it was won.
@@ -105,6 +106,7 @@ impl<T> Ring<'_, T> {
     {
         let tail = self.shape.next(ends.tail());
         let moved = Ends::pack(ends.head(), tail, ends.version() + 1);
-        self.exchange(seat, ENDS, ends.into(), moved.into()).into()
+        self.compare_exchange(seat, ENDS, ends.into(), moved.into())
+            .into()
     }
 }

@@ -31,8 +31,8 @@ impl RoundRobin {
         RoundRobin { k, start: first }
     }
 
-    /// Begins at slot `thread * k / threads`, rounded down, so that the threads of a queue begin at slots that lie apart. The
-    /// thread is less than `threads`, and k is 1 to 64.
+    /// Begins at slot `thread * k / threads`, rounded down, so that the threads of a queue begin at slots that lie
+    /// apart. The thread is less than `threads`, and k is 1 to 64.
     pub fn spread(thread: u32, threads: u32, k: u32) -> RoundRobin
         requires thread { thread < threads }
         requires k { (1 ≤ k) × (k ≤ 64) }

@@ -3,7 +3,8 @@ ghost use Rattle.std.specs.Prelude.{◌≡◌, Some, None, []};
 ghost use Rattle.kfifo_live.specs.declared.view.Opening.{Opening};
 ghost use Rattle.kfifo_machine.specs.declared.event.Begin.{Begin};
 ghost use Rattle.kfifo_machine.specs.declared.event.Begin.TheVariants.{Tick};
-ghost use Rattle.kfifo_live.specs.Schedule.{OneSchedule, first_view, first_part, other_parts, no_part, both_parts, view_of, small_opening, less_next, resting_of, with_resting};
+ghost use Rattle.kfifo_live.specs.Schedule.{OneSchedule, first_view, first_part, other_parts, no_part, both_parts};
+ghost use Rattle.kfifo_live.specs.Schedule.{view_of, small_opening, less_next, resting_of, with_resting};
 ghost use Rattle.kfifo_live.specs.Step.{Steps, DrawsStamp, DrawsToken, LaysBack, CountsTokens, Looks};
 
 use crate::view::{Opening, View};

@@ -1,6 +1,7 @@
 //! Moves of seats that are no steps of a thread.
 ghost use Rattle.std.specs.Prelude.{◌≡◌, ◌≢◌, ◌<◌, ◌≤◌, ◌-◌, ℕ, List, [], ◌∷◌, length, None};
-ghost use Rattle.kfifo_live.specs.Schedule.{IsSeated, hand_of, more_in, first_part, other_parts, no_part, both_parts, less_next, resting_of, resting_view, with_resting};
+ghost use Rattle.kfifo_live.specs.Schedule.{IsSeated, hand_of, more_in, first_part, other_parts, no_part, both_parts};
+ghost use Rattle.kfifo_live.specs.Schedule.{less_next, resting_of, resting_view, with_resting};
 ghost use Rattle.kfifo_live.specs.Step.{CountsTokens, DrawsToken, IsAt, LaysBack, Looks};
 
 use crate::rule::{
@@ -75,10 +76,14 @@ pub(crate) fn add_token<T, O: Opened>(
 )
     requires table { (seat.old.table_id ≡ shared.now.table_id) × (0 < shared.now.table_id.words) }
     requires idle { IsAt None seat.old.me × (0 < seat.old.me.0.opened.tokens) × (more_in seat.old.me.0.parts ≡ []) }
-    requires resting { (resting.table_id ≡ shared.now.table_id) × (resting.me ≡ (resting_view seat.old.me.0.opened token, [])) }
+    requires resting { (resting.table_id ≡ shared.now.table_id)
+        × (resting.me ≡ (resting_view seat.old.me.0.opened token, [])) }
     requires picked { O.opened ≡ seat.old.me.0.opened }
     ensures same { seat.new.table_id ≡ seat.old.table_id }
-    ensures takes { seat.new.me ≡ (with_resting seat.old.me.0 (resting_view seat.old.me.0.opened token), seat.old.me.1) }
+    ensures takes { seat.new.me ≡ (
+      with_resting seat.old.me.0 (resting_view seat.old.me.0.opened token),
+      seat.old.me.1,
+    ) }
 {
     shared.join_seat::<AddToken<O>>(seat, resting);
 }
@@ -89,7 +94,8 @@ pub(crate) fn give_rest<T>(shared: &Words<T>, seat: &mut ThreadSeat<T>) -> Threa
     requires some { 1 ≤ length seat.old.me.0.parts }
     ensures same { (seat.new.table_id ≡ seat.old.table_id) × (seat.new.me.1 ≡ seat.old.me.1) }
     ensures kept { seat.new.me.0 ≡ first_part seat.old.me.0 }
-    ensures given { (result.table_id ≡ seat.old.table_id) × (result.me.0 ≡ other_parts seat.old.me.0) × (result.me.1 ≡ []) }
+    ensures given { (result.table_id ≡ seat.old.table_id) × (result.me.0 ≡ other_parts seat.old.me.0)
+        × (result.me.1 ≡ []) }
 {
     shared.split_seat::<Rest>(seat)
 }
@@ -105,7 +111,7 @@ pub(crate) fn give_all<T>(shared: &Words<T>, seat: &mut ThreadSeat<T>) -> Thread
 }
 
 /// Takes the parts of another seat, behind its own.
-pub(crate) fn gather<T, O: Opened>(
+pub(crate) fn join_seats<T, O: Opened>(
     shared: &Words<T>,
     seat: &mut ThreadSeat<T>,
     other: ThreadSeat<T>,

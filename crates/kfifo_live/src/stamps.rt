@@ -6,7 +6,7 @@ ghost use Rattle.std.specs.Prelude.{◌≡◌, ◌<◌, ◌≤◌, ◌*◌, ◌+
 ghost use Rattle.kfifo_machine.specs.declared.event.Begin.TheVariants as B;
 ghost use Rattle.kfifo_machine.specs.Runs.{own};
 ghost use Rattle.kfifo_live.specs.Schedule.{IsSmall, ticks};
-ghost use Rattle.kfifo_live.specs.Pass.{OpenQueue, IsOf, IsSame};
+ghost use Rattle.kfifo_live.specs.Pass.{OpenQueue, IsPassOf, IsSamePass};
 ghost use Rattle.kfifo_live.specs.Promise.{KeepsPromise};
 ghost use Rattle.kfifo_live.specs.Stamps.{Draws, IsLog, Logged, MakesStamped, TakesFewStampedSteps, logged_by};
 
@@ -53,7 +53,7 @@ impl Pass {
     /// Draws a stamp, which is one tick of the clock: it returns how often the clock had ticked before.
     #[inline(always)]
     fn draw_stamp(&mut self, queue: &Queue) -> u64
-        requires of { IsOf queue.now self.old }
+        requires of { IsPassOf queue.now self.old }
         requires room { ticks (own self.old.thread self.old.seen) < 2 * self.old.opened.calls }
         ensures draws { Draws result self.old self.new }
         ensures small { IsSmall self.old.opened }
@@ -95,7 +95,7 @@ impl StampPass {
     /// Whether the log has as many calls as it can have.
     #[inline(always)]
     fn is_full(&self, queue: &StampQueue) -> bool
-        requires { IsOf queue.now self.now.pass }
+        requires { IsPassOf queue.now self.now.pass }
         ensures full { result ≡ true → length self.now.log ≡ self.now.pass.opened.calls }
         ensures room { result ≡ false → length self.now.log < self.now.pass.opened.calls }
     {
@@ -113,14 +113,15 @@ impl StampPass {
         start: u32,
         turns: u16,
     ) -> Option<Answer>
-        requires of { IsOf queue.now self.old.pass }
+        requires of { IsPassOf queue.now self.old.pass }
         requires item { (1 ≤ item) × (item < 2 ^ 24) }
         requires start { start < queue.now.opened.shape.k }
         requires turns { 1 ≤ turns }
-        ensures same { IsSame self.old.pass self.new.pass }
+        ensures same { IsSamePass self.old.pass self.new.pass }
         ensures none { IfNone result ((length self.old.log ≡ self.old.pass.opened.calls) × (self.new ≡ self.old)) }
         ensures some { IfSome result (λ answer. MakesStamped (B.Enqueue item start turns) answer self.old self.new) }
-        ensures few_steps { IfSome result (λ answer. TakesFewStampedSteps (B.Enqueue item start turns) self.old.pass self.new.pass) }
+        ensures few_steps { IfSome result (λ answer.
+            TakesFewStampedSteps (B.Enqueue item start turns) self.old.pass self.new.pass) }
         ensures promise { KeepsPromise self.new.pass.opened self.new.pass.seen }
     {
         if self.is_full(queue) {
@@ -145,13 +146,14 @@ impl StampPass {
     /// None where the log is full, with no event.
     #[inline(always)]
     pub fn dequeue(&mut self, queue: &StampQueue, start: u32, turns: u16) -> Option<Answer>
-        requires of { IsOf queue.now self.old.pass }
+        requires of { IsPassOf queue.now self.old.pass }
         requires start { start < queue.now.opened.shape.k }
         requires turns { 1 ≤ turns }
-        ensures same { IsSame self.old.pass self.new.pass }
+        ensures same { IsSamePass self.old.pass self.new.pass }
         ensures none { IfNone result ((length self.old.log ≡ self.old.pass.opened.calls) × (self.new ≡ self.old)) }
         ensures some { IfSome result (λ answer. MakesStamped (B.Dequeue start turns) answer self.old self.new) }
-        ensures few_steps { IfSome result (λ answer. TakesFewStampedSteps (B.Dequeue start turns) self.old.pass self.new.pass) }
+        ensures few_steps { IfSome result (λ answer.
+            TakesFewStampedSteps (B.Dequeue start turns) self.old.pass self.new.pass) }
         ensures promise { KeepsPromise self.new.pass.opened self.new.pass.seen }
     {
         if self.is_full(queue) {

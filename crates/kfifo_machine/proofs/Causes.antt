@@ -1,5 +1,6 @@
 -- Full has its cause: what an enqueue has seen in its round so far.
-use Rattle.std.proofs.Common.{◌≡◌, ◌≢◌, ℕ, ◌+◌, ◌-◌, List, [], ◌∷◌, ◌++◌, length, Some, Bool, true, false, refl, sym, ap, ◌∙◌, subst, arith, cond, eqb-true, length-append}
+use Rattle.std.proofs.Common.{◌≡◌, ◌≢◌, ℕ, ◌+◌, ◌-◌, List, [], ◌∷◌, ◌++◌, length, Some, Bool, true, false, refl, sym, ap, ◌∙◌, subst, arith}
+use Rattle.std.proofs.Common.{cond, eqb-true, length-append}
 use Rattle.std.specs.Prelude.{◌==◌, not, nat_lt, nat_le}
 use Rattle.std.proofs.lemmas.Bool.{eqb-false}
 use Rattle.std.proofs.lemmas.Bool.Decides.{nat_tests}
@@ -30,14 +31,19 @@ pub all_of_round-append : (round : ℕ) (xs ys : List Look) → AllOfRound round
 all_of_round-append round [] ys a b = b
 all_of_round-append round (x ∷ xs) ys a b = (a.0, all_of_round-append round xs ys a.1 b)
 
-all_filled-more : (shape : Shape) (segment start offset : ℕ) (xs : List Look) (x : Look) → AllFilled shape segment start offset xs → Loads shape x (scan_index shape segment start (offset + length xs)) x.word → value_of x.word ≢ 0
+all_filled-more : (shape : Shape) (segment start offset : ℕ) (xs : List Look) (x : Look) → AllFilled shape segment start offset xs
+    → Loads shape x (scan_index shape segment start (offset + length xs)) x.word → value_of x.word ≢ 0
     → AllFilled shape segment start offset (xs ++ x ∷ [])
 all_filled-more shape segment start offset [] x all loads filled =
     let z : offset + 0 ≡ offset = omega arith in
     (subst (λ o. Loads shape x (scan_index shape segment start o) x.word) z loads, filled, tt)
 all_filled-more shape segment start offset (y ∷ ys) x all loads filled =
-    let z : offset + length (y ∷ ys) ≡ (offset + 1) + length ys = omega arith in
-    (all.0, all.1, all_filled-more shape segment start (offset + 1) ys x all.2 (subst (λ o. Loads shape x (scan_index shape segment start o) x.word) z loads) filled)
+    let z : offset + length (y ∷ ys) ≡ (offset + 1) + length ys = omega arith in (
+      all.0,
+      all.1,
+      all_filled-more shape segment start (offset + 1) ys x all.2
+          (subst (λ o. Loads shape x (scan_index shape segment start o) x.word) z loads) filled,
+    )
 
 -- a look at a place
 abbrev look : Running → ℕ → Look
@@ -81,8 +87,10 @@ pub record Filled (shape : Shape) (start left ends : ℕ) (past : List Look) : T
   pub is_filled : value_of filled.word ≢ 0
 
 abbrev pub SoFar : Shape → ℕ → Running → List Look → Type 0
-SoFar shape begun_at (R.Enqueue item start left (E.ScanTail ends offset)) past = (start ≡ begun_at) × Probed shape start left ends offset past
-SoFar shape begun_at (R.Enqueue item start left (E.Recheck ends Nothing)) past = (start ≡ begun_at) × Probed shape start left ends shape.probes past
+SoFar shape begun_at (R.Enqueue item start left (E.ScanTail ends offset)) past = (start ≡ begun_at)
+    × Probed shape start left ends offset past
+SoFar shape begun_at (R.Enqueue item start left (E.Recheck ends Nothing)) past = (start ≡ begun_at)
+    × Probed shape start left ends shape.probes past
 SoFar shape begun_at (R.Enqueue item start left (E.ScanHead ends offset)) past = (start ≡ begun_at) × Scanned shape start left ends past
 SoFar shape begun_at (R.Enqueue item start left (E.ConfirmFull ends)) past = (start ≡ begun_at) × Filled shape start left ends past
 SoFar shape begun_at (R.Enqueue item start left other) past = start ≡ begun_at
@@ -102,11 +110,13 @@ module _ (shape : Shape) (begun_at item start left : ℕ) (same : start ≡ begu
       by_test false = same
 
 -- one more probe
-probed_more : (shape : Shape) (item start left ends offset word : ℕ) (past : List Look) → Probed shape start left ends offset past → value_of word ≢ 0
+probed_more : (shape : Shape) (item start left ends offset word : ℕ) (past : List Look) → Probed shape start left ends offset past
+    → value_of word ≢ 0
     → Probed shape start left ends (offset + 1) (past ++ look (R.Enqueue item start left (E.ScanTail ends offset)) word ∷ [])
 probed_more shape item start left ends offset word past p filled =
     let x : Look = look (R.Enqueue item start left (E.ScanTail ends offset)) word in
-    let at : scan_index shape (tail_of ends) start offset ≡ scan_index shape (tail_of ends) start (0 + length p.probed) = ap (scan_index shape (tail_of ends) start) (let m = p.so_many in omega arith) in
+    let at : scan_index shape (tail_of ends) start offset ≡ scan_index shape (tail_of ends) start (0 + length p.probed) =
+    ap (scan_index shape (tail_of ends) start) (let m = p.so_many in omega arith) in
     record {
       earlier = p.earlier;
       first = p.first;
@@ -115,11 +125,13 @@ probed_more shape item start left ends offset word past p filled =
       one_round = all_of_round-append left (p.first ∷ p.probed) (x ∷ []) p.one_round (refl, tt);
       loads_first = p.loads_first;
       so_many = length-append p.probed (x ∷ []) ∙ ap (λ m. m + 1) p.so_many;
-      each_filled = all_filled-more shape (tail_of ends) start 0 p.probed x p.each_filled (record { load = ap Load at; finds = refl }) filled;
+      each_filled = all_filled-more shape (tail_of ends) start 0 p.probed x p.each_filled (record { load = ap Load at; finds = refl })
+          filled;
     }
 
 -- the ends word is the same, and the ring is full
-scanned_first : (shape : Shape) (item start left ends word : ℕ) (past : List Look) → Probed shape start left ends shape.probes past → word ≡ ends → next_segment shape.n (tail_of ends) ≡ head_of ends
+scanned_first : (shape : Shape) (item start left ends word : ℕ) (past : List Look) → Probed shape start left ends shape.probes past
+    → word ≡ ends → next_segment shape.n (tail_of ends) ≡ head_of ends
     → Scanned shape start left ends (past ++ look (R.Enqueue item start left (E.Recheck ends Nothing)) word ∷ [])
 scanned_first shape item start left ends word past p same full =
     let x : Look = look (R.Enqueue item start left (E.Recheck ends Nothing)) word in
@@ -139,17 +151,22 @@ scanned_first shape item start left ends word past p same full =
     }
 
 -- one more slot of the head's segment
-scanned_more : (shape : Shape) (start left ends : ℕ) (x : Look) (past : List Look) → Scanned shape start left ends past → round_of x.running ≡ left → Scanned shape start left ends (past ++ x ∷ [])
+scanned_more : (shape : Shape) (start left ends : ℕ) (x : Look) (past : List Look) → Scanned shape start left ends past
+    → round_of x.running ≡ left → Scanned shape start left ends (past ++ x ∷ [])
 scanned_more shape start left ends x past p in_round =
-    let shift : (p.first ∷ (p.probed ++ (p.second ∷ p.scanned))) ++ x ∷ [] ≡ p.first ∷ (p.probed ++ (p.second ∷ (p.scanned ++ x ∷ []))) = ap (λ (xs : List Look). p.first ∷ xs) (append_assoc p.probed (p.second ∷ p.scanned) (x ∷ [])) in
+    let shift : (p.first ∷ (p.probed ++ (p.second ∷ p.scanned))) ++ x ∷ [] ≡ p.first ∷ (p.probed ++ (p.second ∷ (p.scanned ++ x ∷ []))) =
+    ap (λ (xs : List Look). p.first ∷ xs) (append_assoc p.probed (p.second ∷ p.scanned) (x ∷ [])) in
     record {
       earlier = p.earlier;
       first = p.first;
       probed = p.probed;
       second = p.second;
       scanned = p.scanned ++ x ∷ [];
-      past_is = ap (λ (xs : List Look). xs ++ x ∷ []) p.past_is ∙ append_assoc p.earlier (p.first ∷ (p.probed ++ (p.second ∷ p.scanned))) (x ∷ []) ∙ ap (λ (xs : List Look). p.earlier ++ xs) shift;
-      one_round = subst (AllOfRound left) shift (all_of_round-append left (p.first ∷ (p.probed ++ (p.second ∷ p.scanned))) (x ∷ []) p.one_round (in_round, tt));
+      past_is = ap (λ (xs : List Look). xs ++ x ∷ []) p.past_is
+          ∙ append_assoc p.earlier (p.first ∷ (p.probed ++ (p.second ∷ p.scanned))) (x ∷ [])
+          ∙ ap (λ (xs : List Look). p.earlier ++ xs) shift;
+      one_round = subst (AllOfRound left) shift
+          (all_of_round-append left (p.first ∷ (p.probed ++ (p.second ∷ p.scanned))) (x ∷ []) p.one_round (in_round, tt));
       loads_first = p.loads_first;
       loads_second = p.loads_second;
       so_many = p.so_many;
@@ -158,13 +175,18 @@ scanned_more shape start left ends x past p in_round =
     }
 
 -- the ends word is the same once more
-full_at_last : (shape : Shape) (start left ends : ℕ) (x : Look) (past : List Look) → Filled shape start left ends past → round_of x.running ≡ left → Loads shape x 0 ends → CauseOfFull shape start (past ++ x ∷ [])
+full_at_last : (shape : Shape) (start left ends : ℕ) (x : Look) (past : List Look) → Filled shape start left ends past
+    → round_of x.running ≡ left → Loads shape x 0 ends → CauseOfFull shape start (past ++ x ∷ [])
 unfolding scanned_more
 full_at_last shape start left ends x past f in_round loads =
     let p = f.scanned in
-    let q : Scanned shape start left ends ((f.old ++ f.filled ∷ []) ++ x ∷ []) = scanned_more shape start left ends x (f.old ++ f.filled ∷ []) (scanned_more shape start left ends f.filled f.old p f.in_round) in_round in
-    let tail_is : (p.scanned ++ f.filled ∷ []) ++ x ∷ [] ≡ p.scanned ++ (f.filled ∷ (x ∷ [])) = append_assoc p.scanned (f.filled ∷ []) (x ∷ []) in
-    let whole : past ++ x ∷ [] ≡ p.earlier ++ (p.first ∷ (p.probed ++ (p.second ∷ ((p.scanned ++ f.filled ∷ []) ++ x ∷ [])))) = ap (λ (xs : List Look). xs ++ x ∷ []) f.past_is ∙ q.past_is in
+    let q : Scanned shape start left ends ((f.old ++ f.filled ∷ []) ++ x ∷ []) =
+    scanned_more shape start left ends x (f.old ++ f.filled ∷ []) (scanned_more shape start left ends f.filled f.old p f.in_round)
+    in_round in
+    let tail_is : (p.scanned ++ f.filled ∷ []) ++ x ∷ [] ≡ p.scanned ++ (f.filled ∷ (x ∷ [])) =
+    append_assoc p.scanned (f.filled ∷ []) (x ∷ []) in
+    let whole : past ++ x ∷ [] ≡ p.earlier ++ (p.first ∷ (p.probed ++ (p.second ∷ ((p.scanned ++ f.filled ∷ []) ++ x ∷ [])))) =
+    ap (λ (xs : List Look). xs ++ x ∷ []) f.past_is ∙ q.past_is in
     let round : AllOfRound left (p.first ∷ (p.probed ++ (p.second ∷ ((p.scanned ++ f.filled ∷ []) ++ x ∷ [])))) = q.one_round in
     let is_left : round_of p.first.running ≡ left = round.0 in
     record {
@@ -194,8 +216,10 @@ value-filled : (word : ℕ) → (value_of word == 0) ≡ false → value_of word
 value-filled word is = eqb-false (value_of word) 0 is
 
 -- What a step of an enqueue adds to what was seen so far
-enqueue_on : (shape : Shape) (begun_at item start left : ℕ) (phase : EnqueuePhase) (word : ℕ) (past : List Look) → SoFar shape begun_at (R.Enqueue item start left phase) past
-    → NextSoFar shape begun_at (advance shape (R.Enqueue item start left phase) word) (past ++ look (R.Enqueue item start left phase) word ∷ [])
+enqueue_on : (shape : Shape) (begun_at item start left : ℕ) (phase : EnqueuePhase) (word : ℕ) (past : List Look)
+    → SoFar shape begun_at (R.Enqueue item start left phase) past
+    → NextSoFar shape begun_at (advance shape (R.Enqueue item start left phase) word)
+    (past ++ look (R.Enqueue item start left phase) word ∷ [])
 enqueue_on shape begun_at item start left E.LoadEnds word past same = (
   same,
   record {
@@ -211,98 +235,146 @@ enqueue_on shape begun_at item start left E.LoadEnds word past same = (
 )
 enqueue_on shape begun_at item start left (E.ScanTail ends offset) word past so = empty (value_of word == 0) refl
   where
-    probes : (b : Bool) → (offset + 1 == shape.probes) ≡ b → Probed shape start left ends (offset + 1) (past ++ look (R.Enqueue item start left (E.ScanTail ends offset)) word ∷ [])
-        → NextSoFar shape begun_at (cond b (Goes (R.Enqueue item start left (E.Recheck ends Nothing))) (Goes (R.Enqueue item start left (E.ScanTail ends (offset + 1))))) (past ++ look (R.Enqueue item start left (E.ScanTail ends offset)) word ∷ [])
-    probes true is more = (so.0, subst (λ m. Probed shape start left ends m (past ++ look (R.Enqueue item start left (E.ScanTail ends offset)) word ∷ [])) (eqb-true (offset + 1) shape.probes is) more)
+    probes : (b : Bool) → (offset + 1 == shape.probes) ≡ b
+        → Probed shape start left ends (offset + 1) (past ++ look (R.Enqueue item start left (E.ScanTail ends offset)) word ∷ [])
+        → NextSoFar shape begun_at (cond b (Goes (R.Enqueue item start left (E.Recheck ends Nothing)))
+        (Goes (R.Enqueue item start left (E.ScanTail ends (offset + 1)))))
+        (past ++ look (R.Enqueue item start left (E.ScanTail ends offset)) word ∷ [])
+    probes true is more = (
+      so.0,
+      subst (λ m. Probed shape start left ends m
+          (past ++ look (R.Enqueue item start left (E.ScanTail ends offset)) word ∷ [])) (eqb-true (offset + 1) shape.probes is) more,
+    )
     probes false is more = (so.0, more)
 
     empty : (b : Bool) → (value_of word == 0) ≡ b
-        → NextSoFar shape begun_at (cond b (Goes (R.Enqueue item start left (E.Recheck ends (Slot (scan_index shape (tail_of ends) start offset) word))))
-        (cond (offset + 1 == shape.probes) (Goes (R.Enqueue item start left (E.Recheck ends Nothing))) (Goes (R.Enqueue item start left (E.ScanTail ends (offset + 1))))))
+        → NextSoFar shape begun_at (cond b (Goes
+        (R.Enqueue item start left (E.Recheck ends (Slot (scan_index shape (tail_of ends) start offset) word))))
+        (cond (offset + 1 == shape.probes) (Goes (R.Enqueue item start left (E.Recheck ends Nothing)))
+        (Goes (R.Enqueue item start left (E.ScanTail ends (offset + 1))))))
         (past ++ look (R.Enqueue item start left (E.ScanTail ends offset)) word ∷ [])
     empty true is = so.0
-    empty false is = probes (offset + 1 == shape.probes) refl (probed_more shape item start left ends offset word past so.1 (value-filled word is))
+    empty false is = probes (offset + 1 == shape.probes) refl
+        (probed_more shape item start left ends offset word past so.1 (value-filled word is))
 enqueue_on shape begun_at item start left (E.Recheck ends (Slot index seen)) word past same = by_ends (word == ends)
   where
-    by_last : (b : Bool) → NextSoFar shape begun_at (cond b (Answers A.Worn) (Goes (R.Enqueue item start left (E.Put ends index seen)))) (past ++ look (R.Enqueue item start left (E.Recheck ends (Slot index seen))) word ∷ [])
+    by_last : (b : Bool) → NextSoFar shape begun_at (cond b (Answers A.Worn) (Goes (R.Enqueue item start left (E.Put ends index seen))))
+        (past ++ look (R.Enqueue item start left (E.Recheck ends (Slot index seen))) word ∷ [])
     by_last true = tt
     by_last false = same
 
-    by_ends : (b : Bool) → NextSoFar shape begun_at (cond (not b) (enqueue_again item start left) (cond (nat_lt shape.last (version_of seen + 2)) (Answers A.Worn) (Goes (R.Enqueue item start left (E.Put ends index seen)))))
+    by_ends : (b : Bool) → NextSoFar shape begun_at
+        (cond (not b) (enqueue_again item start left)
+        (cond (nat_lt shape.last (version_of seen + 2)) (Answers A.Worn) (Goes (R.Enqueue item start left (E.Put ends index seen)))))
         (past ++ look (R.Enqueue item start left (E.Recheck ends (Slot index seen))) word ∷ [])
     by_ends true = by_last (nat_lt shape.last (version_of seen + 2))
-    by_ends false = again_so_far shape begun_at item start left same (past ++ look (R.Enqueue item start left (E.Recheck ends (Slot index seen))) word ∷ [])
+    by_ends false = again_so_far shape begun_at item start left same
+        (past ++ look (R.Enqueue item start left (E.Recheck ends (Slot index seen))) word ∷ [])
 enqueue_on shape begun_at item start left (E.Recheck ends Nothing) word past so = by_ends (word == ends) refl
   where
-    by_last : (b : Bool) → NextSoFar shape begun_at (cond b (Answers A.Worn) (Goes (R.Enqueue item start left (E.MoveTail ends)))) (past ++ look (R.Enqueue item start left (E.Recheck ends Nothing)) word ∷ [])
+    by_last : (b : Bool) → NextSoFar shape begun_at (cond b (Answers A.Worn) (Goes (R.Enqueue item start left (E.MoveTail ends))))
+        (past ++ look (R.Enqueue item start left (E.Recheck ends Nothing)) word ∷ [])
     by_last true = tt
     by_last false = so.0
 
     by_ring : (b : Bool) → word ≡ ends → (next_segment shape.n (tail_of ends) == head_of ends) ≡ b
-        → NextSoFar shape begun_at (cond b (Goes (R.Enqueue item start left (E.ScanHead ends 0))) (cond (version_of ends == shape.last) (Answers A.Worn) (Goes (R.Enqueue item start left (E.MoveTail ends)))))
+        → NextSoFar shape begun_at (cond b (Goes (R.Enqueue item start left (E.ScanHead ends 0)))
+        (cond (version_of ends == shape.last) (Answers A.Worn) (Goes (R.Enqueue item start left (E.MoveTail ends)))))
         (past ++ look (R.Enqueue item start left (E.Recheck ends Nothing)) word ∷ [])
-    by_ring true same is = (so.0, scanned_first shape item start left ends word past so.1 same (eqb-true (next_segment shape.n (tail_of ends)) (head_of ends) is))
+    by_ring true same is = (
+      so.0,
+      scanned_first shape item start left ends word past so.1 same
+          (eqb-true (next_segment shape.n (tail_of ends)) (head_of ends) is),
+    )
     by_ring false same is = by_last (version_of ends == shape.last)
 
     by_ends : (b : Bool) → (word == ends) ≡ b
         → NextSoFar shape begun_at (cond (not b) (enqueue_again item start left)
-        (cond (next_segment shape.n (tail_of ends) == head_of ends) (Goes (R.Enqueue item start left (E.ScanHead ends 0))) (cond (version_of ends == shape.last) (Answers A.Worn) (Goes (R.Enqueue item start left (E.MoveTail ends))))))
+        (cond (next_segment shape.n (tail_of ends) == head_of ends) (Goes (R.Enqueue item start left (E.ScanHead ends 0)))
+        (cond (version_of ends == shape.last) (Answers A.Worn) (Goes (R.Enqueue item start left (E.MoveTail ends))))))
         (past ++ look (R.Enqueue item start left (E.Recheck ends Nothing)) word ∷ [])
     by_ends true is = by_ring (next_segment shape.n (tail_of ends) == head_of ends) (eqb-true word ends is) refl
-    by_ends false is = again_so_far shape begun_at item start left so.0 (past ++ look (R.Enqueue item start left (E.Recheck ends Nothing)) word ∷ [])
+    by_ends false is = again_so_far shape begun_at item start left so.0
+        (past ++ look (R.Enqueue item start left (E.Recheck ends Nothing)) word ∷ [])
 enqueue_on shape begun_at item start left (E.Put ends index empty) word past same = by_test (word == empty)
   where
-    by_test : (b : Bool) → NextSoFar shape begun_at (cond b (Goes (R.Enqueue item start left (E.ReloadSlot ends index (filled_with item empty)))) (enqueue_again item start left)) (past ++ look (R.Enqueue item start left (E.Put ends index empty)) word ∷ [])
+    by_test : (b : Bool) → NextSoFar shape begun_at
+        (cond b (Goes (R.Enqueue item start left (E.ReloadSlot ends index (filled_with item empty)))) (enqueue_again item start left))
+        (past ++ look (R.Enqueue item start left (E.Put ends index empty)) word ∷ [])
     by_test true = same
-    by_test false = again_so_far shape begun_at item start left same (past ++ look (R.Enqueue item start left (E.Put ends index empty)) word ∷ [])
+    by_test false = again_so_far shape begun_at item start left same
+        (past ++ look (R.Enqueue item start left (E.Put ends index empty)) word ∷ [])
 enqueue_on shape begun_at item start left (E.ReloadSlot ends index filled) word past same = by_test (word == filled)
   where
-    by_test : (b : Bool) → NextSoFar shape begun_at (cond b (Goes (R.Enqueue item start left (E.ReloadEnds ends index filled))) (Answers A.Done)) (past ++ look (R.Enqueue item start left (E.ReloadSlot ends index filled)) word ∷ [])
+    by_test : (b : Bool) → NextSoFar shape begun_at
+        (cond b (Goes (R.Enqueue item start left (E.ReloadEnds ends index filled))) (Answers A.Done))
+        (past ++ look (R.Enqueue item start left (E.ReloadSlot ends index filled)) word ∷ [])
     by_test true = same
     by_test false = tt
 enqueue_on shape begun_at item start left (E.ReloadEnds ends index filled) word past same = by_head (tail_of ends == head_of word)
   where
-    by_last : (b : Bool) → NextSoFar shape begun_at (cond b (Goes (R.Enqueue item start left (E.Undo index filled true))) (Goes (R.Enqueue item start left (E.HoldHead index filled word)))) (past ++ look (R.Enqueue item start left (E.ReloadEnds ends index filled)) word ∷ [])
+    by_last : (b : Bool) → NextSoFar shape begun_at
+        (cond b (Goes (R.Enqueue item start left (E.Undo index filled true)))
+        (Goes (R.Enqueue item start left (E.HoldHead index filled word))))
+        (past ++ look (R.Enqueue item start left (E.ReloadEnds ends index filled)) word ∷ [])
     by_last true = same
     by_last false = same
 
-    by_window : (b : Bool) → NextSoFar shape begun_at (cond b (Answers A.Done) (Goes (R.Enqueue item start left (E.Undo index filled false)))) (past ++ look (R.Enqueue item start left (E.ReloadEnds ends index filled)) word ∷ [])
+    by_window : (b : Bool) → NextSoFar shape begun_at
+        (cond b (Answers A.Done) (Goes (R.Enqueue item start left (E.Undo index filled false))))
+        (past ++ look (R.Enqueue item start left (E.ReloadEnds ends index filled)) word ∷ [])
     by_window true = tt
     by_window false = same
 
-    by_head : (b : Bool) → NextSoFar shape begun_at (cond b (cond (version_of word == shape.last) (Goes (R.Enqueue item start left (E.Undo index filled true))) (Goes (R.Enqueue item start left (E.HoldHead index filled word))))
-        (cond (nat_le (distance shape.n (head_of word) (tail_of ends)) (distance shape.n (head_of word) (tail_of word))) (Answers A.Done) (Goes (R.Enqueue item start left (E.Undo index filled false)))))
+    by_head : (b : Bool) → NextSoFar shape begun_at
+        (cond b (cond (version_of word == shape.last) (Goes (R.Enqueue item start left (E.Undo index filled true)))
+        (Goes (R.Enqueue item start left (E.HoldHead index filled word))))
+        (cond (nat_le (distance shape.n (head_of word) (tail_of ends)) (distance shape.n (head_of word) (tail_of word))) (Answers A.Done)
+        (Goes (R.Enqueue item start left (E.Undo index filled false)))))
         (past ++ look (R.Enqueue item start left (E.ReloadEnds ends index filled)) word ∷ [])
     by_head true = by_last (version_of word == shape.last)
     by_head false = by_window (nat_le (distance shape.n (head_of word) (tail_of ends)) (distance shape.n (head_of word) (tail_of word)))
 enqueue_on shape begun_at item start left (E.HoldHead index filled held) word past same = by_test (word == held)
   where
-    by_test : (b : Bool) → NextSoFar shape begun_at (cond b (Answers A.Done) (Goes (R.Enqueue item start left (E.Undo index filled false)))) (past ++ look (R.Enqueue item start left (E.HoldHead index filled held)) word ∷ [])
+    by_test : (b : Bool) → NextSoFar shape begun_at (cond b (Answers A.Done) (Goes (R.Enqueue item start left (E.Undo index filled false))))
+        (past ++ look (R.Enqueue item start left (E.HoldHead index filled held)) word ∷ [])
     by_test true = tt
     by_test false = same
 enqueue_on shape begun_at item start left (E.Undo index filled worn) word past same = by_test (word == filled)
   where
-    by_worn : (b : Bool) → NextSoFar shape begun_at (cond b (Answers A.Worn) (enqueue_again item start left)) (past ++ look (R.Enqueue item start left (E.Undo index filled worn)) word ∷ [])
+    by_worn : (b : Bool) → NextSoFar shape begun_at (cond b (Answers A.Worn) (enqueue_again item start left))
+        (past ++ look (R.Enqueue item start left (E.Undo index filled worn)) word ∷ [])
     by_worn true = tt
-    by_worn false = again_so_far shape begun_at item start left same (past ++ look (R.Enqueue item start left (E.Undo index filled worn)) word ∷ [])
+    by_worn false = again_so_far shape begun_at item start left same
+        (past ++ look (R.Enqueue item start left (E.Undo index filled worn)) word ∷ [])
 
-    by_test : (b : Bool) → NextSoFar shape begun_at (cond (not b) (Answers A.Done) (cond worn (Answers A.Worn) (enqueue_again item start left))) (past ++ look (R.Enqueue item start left (E.Undo index filled worn)) word ∷ [])
+    by_test : (b : Bool) → NextSoFar shape begun_at
+        (cond (not b) (Answers A.Done) (cond worn (Answers A.Worn) (enqueue_again item start left)))
+        (past ++ look (R.Enqueue item start left (E.Undo index filled worn)) word ∷ [])
     by_test true = by_worn worn
     by_test false = tt
 enqueue_on shape begun_at item start left (E.ScanHead ends offset) word past so = by_value (value_of word == 0) refl
   where
-    by_last : (b : Bool) → NextSoFar shape begun_at (cond b (Answers A.Worn) (Goes (R.Enqueue item start left (E.MoveHead ends)))) (past ++ look (R.Enqueue item start left (E.ScanHead ends offset)) word ∷ [])
+    by_last : (b : Bool) → NextSoFar shape begun_at (cond b (Answers A.Worn) (Goes (R.Enqueue item start left (E.MoveHead ends))))
+        (past ++ look (R.Enqueue item start left (E.ScanHead ends offset)) word ∷ [])
     by_last true = tt
     by_last false = so.0
 
-    by_end : (b : Bool) → NextSoFar shape begun_at (cond (not b) (Goes (R.Enqueue item start left (E.ScanHead ends (offset + 1)))) (cond (version_of ends == shape.last) (Answers A.Worn) (Goes (R.Enqueue item start left (E.MoveHead ends)))))
+    by_end : (b : Bool) → NextSoFar shape begun_at
+        (cond (not b) (Goes (R.Enqueue item start left (E.ScanHead ends (offset + 1))))
+        (cond (version_of ends == shape.last) (Answers A.Worn) (Goes (R.Enqueue item start left (E.MoveHead ends)))))
         (past ++ look (R.Enqueue item start left (E.ScanHead ends offset)) word ∷ [])
     by_end true = by_last (version_of ends == shape.last)
-    by_end false = (so.0, scanned_more shape start left ends (look (R.Enqueue item start left (E.ScanHead ends offset)) word) past so.1 refl)
+    by_end false = (
+      so.0,
+      scanned_more shape start left ends (look (R.Enqueue item start left (E.ScanHead ends offset)) word) past so.1
+          refl,
+    )
 
     by_value : (b : Bool) → (value_of word == 0) ≡ b
         → NextSoFar shape begun_at (cond (not b) (Goes (R.Enqueue item start left (E.ConfirmFull ends)))
-        (cond (not (offset + 1 == shape.k)) (Goes (R.Enqueue item start left (E.ScanHead ends (offset + 1)))) (cond (version_of ends == shape.last) (Answers A.Worn) (Goes (R.Enqueue item start left (E.MoveHead ends))))))
+        (cond (not (offset + 1 == shape.k)) (Goes (R.Enqueue item start left (E.ScanHead ends (offset + 1))))
+        (cond (version_of ends == shape.last) (Answers A.Worn) (Goes (R.Enqueue item start left (E.MoveHead ends))))))
         (past ++ look (R.Enqueue item start left (E.ScanHead ends offset)) word ∷ [])
     by_value true is = by_end (offset + 1 == shape.k)
     by_value false is = (
@@ -320,12 +392,18 @@ enqueue_on shape begun_at item start left (E.ScanHead ends offset) word past so 
     )
 enqueue_on shape begun_at item start left (E.ConfirmFull ends) word past so = by_test (word == ends) refl
   where
-    by_test : (b : Bool) → (word == ends) ≡ b → NextSoFar shape begun_at (cond b (Answers A.Full) (enqueue_again item start left)) (past ++ look (R.Enqueue item start left (E.ConfirmFull ends)) word ∷ [])
+    by_test : (b : Bool) → (word == ends) ≡ b
+        → NextSoFar shape begun_at (cond b (Answers A.Full) (enqueue_again item start left))
+        (past ++ look (R.Enqueue item start left (E.ConfirmFull ends)) word ∷ [])
     by_test true is = subst (λ (s : ℕ). CauseOfFull shape s (past ++ look (R.Enqueue item start left (E.ConfirmFull ends)) word ∷ [])) so.0
-        (full_at_last shape start left ends (look (R.Enqueue item start left (E.ConfirmFull ends)) word) past so.1 refl (record { load = refl; finds = eqb-true word ends is }))
-    by_test false is = again_so_far shape begun_at item start left so.0 (past ++ look (R.Enqueue item start left (E.ConfirmFull ends)) word ∷ [])
-enqueue_on shape begun_at item start left (E.MoveHead ends) word past same = again_so_far shape begun_at item start left same (past ++ look (R.Enqueue item start left (E.MoveHead ends)) word ∷ [])
-enqueue_on shape begun_at item start left (E.MoveTail ends) word past same = again_so_far shape begun_at item start left same (past ++ look (R.Enqueue item start left (E.MoveTail ends)) word ∷ [])
+        (full_at_last shape start left ends (look (R.Enqueue item start left (E.ConfirmFull ends)) word) past so.1 refl
+        (record { load = refl; finds = eqb-true word ends is }))
+    by_test false is = again_so_far shape begun_at item start left so.0
+        (past ++ look (R.Enqueue item start left (E.ConfirmFull ends)) word ∷ [])
+enqueue_on shape begun_at item start left (E.MoveHead ends) word past same =
+    again_so_far shape begun_at item start left same (past ++ look (R.Enqueue item start left (E.MoveHead ends)) word ∷ [])
+enqueue_on shape begun_at item start left (E.MoveTail ends) word past same =
+    again_so_far shape begun_at item start left same (past ++ look (R.Enqueue item start left (E.MoveTail ends)) word ∷ [])
 
 -- a dequeue goes on as one, and is never answered Full
 abbrev StaysDequeue : Next → Type 0
@@ -334,7 +412,8 @@ StaysDequeue (Goes (R.Enqueue item start left phase)) = ⊥
 StaysDequeue (Answers A.Full) = ⊥
 StaysDequeue (Answers other) = Unit {0}
 
-stays_dequeue : (shape : Shape) (start left : ℕ) (phase : DequeuePhase) (word : ℕ) → StaysDequeue (advance shape (R.Dequeue start left phase) word)
+stays_dequeue : (shape : Shape) (start left : ℕ) (phase : DequeuePhase) (word : ℕ)
+    → StaysDequeue (advance shape (R.Dequeue start left phase) word)
 stays_dequeue shape start left phase word = grind (arith, nat_tests)
 
 dequeue_so_far : (shape : Shape) (begun_at : ℕ) (next : Next) (past : List Look) → StaysDequeue next → NextSoFar shape begun_at next past
@@ -347,18 +426,23 @@ dequeue_so_far shape begun_at (Answers A.Empty) past stays = tt
 dequeue_so_far shape begun_at (Answers A.Busy) past stays = tt
 dequeue_so_far shape begun_at (Answers A.Worn) past stays = tt
 
-so_far_on : (shape : Shape) (begun_at : ℕ) (running : Running) (word : ℕ) (past : List Look) → SoFar shape begun_at running past → NextSoFar shape begun_at (advance shape running word) (past ++ look running word ∷ [])
+so_far_on : (shape : Shape) (begun_at : ℕ) (running : Running) (word : ℕ) (past : List Look) → SoFar shape begun_at running past
+    → NextSoFar shape begun_at (advance shape running word) (past ++ look running word ∷ [])
 so_far_on shape begun_at (R.Enqueue item start left phase) word past so = enqueue_on shape begun_at item start left phase word past so
-so_far_on shape begun_at (R.Dequeue start left phase) word past so = dequeue_so_far shape begun_at (advance shape (R.Dequeue start left phase) word) _ (stays_dequeue shape start left phase word)
+so_far_on shape begun_at (R.Dequeue start left phase) word past so =
+    dequeue_so_far shape begun_at (advance shape (R.Dequeue start left phase) word) _ (stays_dequeue shape start left phase word)
 
 first_so_far : (shape : Shape) (call : Begin) (running : Running) → begun call ≡ Some running → SoFar shape (start_of call) running []
-first_so_far shape (B.Enqueue item start turns) running is = subst (λ (r : Running). SoFar shape start r []) (Some-injective (R.Enqueue item start turns E.LoadEnds) running is) refl
-first_so_far shape (B.Dequeue start turns) running is = subst (λ (r : Running). SoFar shape start r []) (Some-injective (R.Dequeue start turns D.LoadEnds) running is) tt
+first_so_far shape (B.Enqueue item start turns) running is =
+    subst (λ (r : Running). SoFar shape start r []) (Some-injective (R.Enqueue item start turns E.LoadEnds) running is) refl
+first_so_far shape (B.Dequeue start turns) running is =
+    subst (λ (r : Running). SoFar shape start r []) (Some-injective (R.Dequeue start turns D.LoadEnds) running is) tt
 first_so_far shape B.Tick running is = absurd (cc)
 
 -- Full has its cause
 pub full_has_cause : (shape : Shape) (threads : ℕ) → FullHasCause shape threads
 full_has_cause shape threads = λ thread call old new whole.
     let p = whole_path shape threads thread call A.Full old new whole in
-    along shape (SoFar shape (start_of call)) (NextSoFar shape (start_of call)) (λ running past so. so) (so_far_on shape (start_of call)) p.running [] (looks_of shape threads thread call A.Full old new whole) A.Full p.path
+    along shape (SoFar shape (start_of call)) (NextSoFar shape (start_of call)) (λ running past so. so) (so_far_on shape (start_of call))
+    p.running [] (looks_of shape threads thread call A.Full old new whole) A.Full p.path
     (first_so_far shape call p.running p.begins)

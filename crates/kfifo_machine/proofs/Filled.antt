@@ -38,7 +38,9 @@ filled-append w i zero b =
 filled-append w i (suc a) b =
     let z : suc a + b ≡ suc (a + b) = omega arith in
     let y : (i + 1) + a ≡ i + suc a = omega arith in
-    ap (filled_from w i) z ∙ ap (λ x. holds (w i) + x) (filled-append w (i + 1) a b) ∙ ap (λ x. holds (w i) + (filled_from w (i + 1) a + filled_from w x b)) y ∙ sum (holds (w i)) (filled_from w (i + 1) a) (filled_from w (i + suc a) b)
+    ap (filled_from w i) z ∙ ap (λ x. holds (w i) + x) (filled-append w (i + 1) a b)
+    ∙ ap (λ x. holds (w i) + (filled_from w (i + 1) a + filled_from w x b)) y
+    ∙ sum (holds (w i)) (filled_from w (i + 1) a) (filled_from w (i + suc a) b)
   where
     sum : (x y z : ℕ) → x + (y + z) ≡ x + y + z
     sum x y z = omega arith
@@ -51,38 +53,55 @@ filled-all w i (suc m) all =
     omega arith
 
 -- one word changes
-pub filled-change : (w v : ℕ → ℕ) (p i m : ℕ) → i ≤ p → p < i + m → ((j : ℕ) → j ≢ p → v j ≡ w j) → filled_from v i m + holds (w p) ≡ filled_from w i m + holds (v p)
+pub filled-change : (w v : ℕ → ℕ) (p i m : ℕ) → i ≤ p → p < i + m → ((j : ℕ) → j ≢ p → v j ≡ w j)
+    → filled_from v i m + holds (w p) ≡ filled_from w i m + holds (v p)
 filled-change w v p i zero low high same = absurd (omega arith)
 filled-change w v p i (suc m) low high same =
     elim (cases_eq i p) [
       | inl here ↦
-          let others : filled_from v (i + 1) m ≡ filled_from w (i + 1) m = filled-same w v (i + 1) m (λ j l h. same j (λ e. absurd (omega arith))) in
+          let others : filled_from v (i + 1) m ≡ filled_from w (i + 1) m =
+          filled-same w v (i + 1) m (λ j l h. same j (λ e. absurd (omega arith))) in
           let a : holds (v i) ≡ holds (v p) = ap (λ x. holds (v x)) here in
           let b : holds (w i) ≡ holds (w p) = ap (λ x. holds (w x)) here in
           omega arith
       | inr apart ↦
-          let others : filled_from v (i + 1) m + holds (w p) ≡ filled_from w (i + 1) m + holds (v p) = filled-change w v p (i + 1) m (omega arith) (omega arith) same in
+          let others : filled_from v (i + 1) m + holds (w p) ≡ filled_from w (i + 1) m + holds (v p) =
+          filled-change w v p (i + 1) m (omega arith) (omega arith) same in
           let a : holds (v i) ≡ holds (w i) = ap holds (same i apart) in
           omega arith
     ]
 
 -- so many slots of a segment, cyclically from the start on
-pub filled-cyclic : (w : ℕ → ℕ) (base k start p : ℕ) → start < k → p ≤ k → ((j : ℕ) → j < p → value_of (w (base + (start + j) % k)) ≢ 0) → p ≤ filled_from w base k
+pub filled-cyclic : (w : ℕ → ℕ) (base k start p : ℕ) → start < k → p ≤ k → ((j : ℕ) → j < p → value_of (w (base + (start + j) % k)) ≢ 0)
+    → p ≤ filled_from w base k
 filled-cyclic w base k start p start_in few all =
     elim (cases_lt k (start + p)) [
       | inr fits ↦
-          let parts : filled_from w base (start + (p + (k - start - p))) ≡ filled_from w base start + filled_from w (base + start) (p + (k - start - p)) = filled-append w base start (p + (k - start - p)) in
-          let more : filled_from w (base + start) (p + (k - start - p)) ≡ filled_from w (base + start) p + filled_from w (base + start + p) (k - start - p) = filled-append w (base + start) p (k - start - p) in
-          let seen : filled_from w (base + start) p ≡ p = filled-all w (base + start) p (λ j low high. at j (j - base - start) (omega arith) (omega arith) (omega arith)) in
+          let parts : filled_from w base (start + (p + (k - start - p)))
+          ≡ filled_from w base start + filled_from w (base + start) (p + (k - start - p)) =
+          filled-append w base start (p + (k - start - p)) in
+          let more : filled_from w (base + start) (p + (k - start - p))
+          ≡ filled_from w (base + start) p + filled_from w (base + start + p) (k - start - p) =
+          filled-append w (base + start) p (k - start - p) in
+          let seen : filled_from w (base + start) p ≡ p =
+          filled-all w (base + start) p (λ j low high. at j (j - base - start) (omega arith) (omega arith) (omega arith)) in
           let whole : start + (p + (k - start - p)) ≡ k = omega arith in
           let same : filled_from w base (start + (p + (k - start - p))) ≡ filled_from w base k = ap (filled_from w base) whole in
           omega arith
       | inl wraps ↦
           let b : (start + p - k) + ((k - p) + (k - start)) ≡ k = omega arith in
-          let parts : filled_from w base ((start + p - k) + ((k - p) + (k - start))) ≡ filled_from w base (start + p - k) + filled_from w (base + (start + p - k)) ((k - p) + (k - start)) = filled-append w base (start + p - k) ((k - p) + (k - start)) in
-          let more : filled_from w (base + (start + p - k)) ((k - p) + (k - start)) ≡ filled_from w (base + (start + p - k)) (k - p) + filled_from w (base + (start + p - k) + (k - p)) (k - start) = filled-append w (base + (start + p - k)) (k - p) (k - start) in
-          let first : filled_from w base (start + p - k) ≡ start + p - k = filled-all w base (start + p - k) (λ j low high. round j (j - base + k - start) (omega arith) (omega arith) (omega arith) (omega arith)) in
-          let last : filled_from w (base + (start + p - k) + (k - p)) (k - start) ≡ k - start = filled-all w (base + (start + p - k) + (k - p)) (k - start) (λ j low high. at j (j - base - start) (omega arith) (omega arith) (omega arith)) in
+          let parts : filled_from w base ((start + p - k) + ((k - p) + (k - start)))
+          ≡ filled_from w base (start + p - k) + filled_from w (base + (start + p - k)) ((k - p) + (k - start)) =
+          filled-append w base (start + p - k) ((k - p) + (k - start)) in
+          let more : filled_from w (base + (start + p - k)) ((k - p) + (k - start))
+          ≡ filled_from w (base + (start + p - k)) (k - p) + filled_from w (base + (start + p - k) + (k - p)) (k - start) =
+          filled-append w (base + (start + p - k)) (k - p) (k - start) in
+          let first : filled_from w base (start + p - k) ≡ start + p - k =
+          filled-all w base (start + p - k) (λ j low high.
+          round j (j - base + k - start) (omega arith) (omega arith) (omega arith) (omega arith)) in
+          let last : filled_from w (base + (start + p - k) + (k - p)) (k - start) ≡ k - start =
+          filled-all w (base + (start + p - k) + (k - p)) (k - start)
+          (λ j low high. at j (j - base - start) (omega arith) (omega arith) (omega arith)) in
           let same : filled_from w base ((start + p - k) + ((k - p) + (k - start))) ≡ filled_from w base k = ap (filled_from w base) b in
           omega arith
     ]
@@ -111,7 +130,8 @@ filled-segments w k p (suc m) all =
     omega arith
 
 -- all segments but one have so many items, and that one has an item
-pub filled-but_one : (w : ℕ → ℕ) (k p h m : ℕ) → h < m → ((s : ℕ) → s < m → s ≢ h → p ≤ filled_from w (1 + s * k) k) → 1 ≤ filled_from w (1 + h * k) k → (m - 1) * p + 1 ≤ filled_from w 1 (m * k)
+pub filled-but_one : (w : ℕ → ℕ) (k p h m : ℕ) → h < m → ((s : ℕ) → s < m → s ≢ h → p ≤ filled_from w (1 + s * k) k)
+    → 1 ≤ filled_from w (1 + h * k) k → (m - 1) * p + 1 ≤ filled_from w 1 (m * k)
 filled-but_one w k p h zero less all one = absurd (omega arith)
 filled-but_one w k p h (suc m) less all one =
     let size : suc m * k ≡ m * k + k = omega arith in
@@ -124,7 +144,8 @@ filled-but_one w k p h (suc m) less all one =
           let there : filled_from w (1 + h * k) k ≡ filled_from w (1 + m * k) k = ap (λ x. filled_from w (1 + x * k) k) last in
           omega arith
       | inr earlier ↦
-          let old : (m - 1) * p + 1 ≤ filled_from w 1 (m * k) = filled-but_one w k p h m (omega arith) (λ s low ne. all s (omega arith) ne) one in
+          let old : (m - 1) * p + 1 ≤ filled_from w 1 (m * k) =
+          filled-but_one w k p h m (omega arith) (λ s low ne. all s (omega arith) ne) one in
           let new : p ≤ filled_from w (1 + m * k) k = all m (omega arith) (λ e. earlier (sym e)) in
           let product : m * p ≡ (m - 1) * p + p = (let e : m ≡ (m - 1) + 1 = omega arith in omega (arith, ap (λ x. x * p) e)) in
           omega arith

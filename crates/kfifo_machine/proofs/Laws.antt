@@ -9,13 +9,16 @@ use Rattle.kfifo_machine.proofs.Sound.{sound}
 use Rattle.kfifo_machine.proofs.Versions.{run_rises, version-rises}
 
 -- what came after a schedule was run from where it led
-on_from : (shape : Shape) (threads : ℕ) (events more : List Event) (old new : World) → after shape threads events ≡ Some old → after shape threads (events ++ more) ≡ Some new
+on_from : (shape : Shape) (threads : ℕ) (events more : List Event) (old new : World) → after shape threads events ≡ Some old
+    → after shape threads (events ++ more) ≡ Some new
     → run shape (Some old) more ≡ Some new
 on_from shape threads events more old new was is = sym (run_on shape (Some (opening shape threads)) old events more was) ∙ is
 
-rises_on : (shape : Shape) (threads : ℕ) (events more : List Event) (old new : World) (i : ℕ) → after shape threads events ≡ Some old → after shape threads (events ++ more) ≡ Some new
+rises_on : (shape : Shape) (threads : ℕ) (events more : List Event) (old new : World) (i : ℕ) → after shape threads events ≡ Some old
+    → after shape threads (events ++ more) ≡ Some new
     → word_at old i ≤ word_at new i
-rises_on shape threads events more old new i was is = run_rises shape old new more i (sound shape threads events old was) (on_from shape threads events more old new was is)
+rises_on shape threads events more old new i was is =
+    run_rises shape old new more i (sound shape threads events old was) (on_from shape threads events more old new was is)
 
 pub versions_rise : (shape : Shape) (threads : ℕ) → VersionsRise shape threads
 versions_rise shape threads = λ events more old new was is i.
@@ -29,4 +32,5 @@ none_returns shape threads = λ events some more first middle last i at_first at
     omega arith
 
 pub others_leave : (shape : Shape) (threads : ℕ) → OthersLeave shape threads
-others_leave shape threads = λ thread events more old new was is none. same_place shape old new more thread none (on_from shape threads events more old new was is)
+others_leave shape threads = λ thread events more old new was is none.
+    same_place shape old new more thread none (on_from shape threads events more old new was is)

@@ -1,5 +1,6 @@
 -- A call that is answered Busy has lost each of its rounds.
-use Rattle.std.proofs.Common.{◌≡◌, ◌≢◌, ◌⊎◌, ℕ, zero, suc, ◌+◌, ◌-◌, ◌<◌, List, [], ◌∷◌, ◌++◌, length, get_or, set, Option, Some, None, Ok, Bool, true, false, refl, sym, ap, ◌∙◌, subst, inl, inr, arith, cond, eqb, eqb-true, eq-eqb}
+use Rattle.std.proofs.Common.{◌≡◌, ◌≢◌, ◌⊎◌, ℕ, zero, suc, ◌+◌, ◌-◌, ◌<◌, List, [], ◌∷◌, ◌++◌, length, get_or, set, Option, Some, None, Ok}
+use Rattle.std.proofs.Common.{Bool, true, false, refl, sym, ap, ◌∙◌, subst, inl, inr, arith, cond, eqb, eqb-true, eq-eqb}
 use Rattle.std.specs.Prelude.{◌==◌}
 use Rattle.std.proofs.lemmas.Bool.{cases_eq, cases_Bool}
 use Rattle.std.proofs.lemmas.Grind.{get_or-set_at}
@@ -22,7 +23,8 @@ use Rattle.kfifo_machine.specs.declared.place.Access.TheVariants.{Load, Exchange
 use Rattle.kfifo_machine.specs.declared.place.Next.{Next}
 use Rattle.kfifo_machine.specs.declared.place.Next.TheVariants.{Goes, Answers}
 use Rattle.kfifo_machine.specs.Program.{access, accessed, advance}
-use Rattle.kfifo_machine.specs.Machine.{World, opening, word_at, place_of, place_after, words_after, moved, found, begun, step, world_of, run}
+use Rattle.kfifo_machine.specs.Machine.{World, opening, word_at, place_of, place_after, words_after, moved, found, begun, step, world_of}
+use Rattle.kfifo_machine.specs.Machine.{run}
 use Rattle.kfifo_machine.specs.Runs.{event, own, going, AllGoOn}
 use Rattle.kfifo_machine.specs.Places.{IsPlace}
 use Rattle.kfifo_machine.specs.Laws.{moves_head, moves_tail}
@@ -36,15 +38,18 @@ use Rattle.kfifo_machine.proofs.Budget.{own_place, own_first, tick_leaves}
 use Rattle.kfifo_machine.proofs.Refusals.{own_step}
 use Rattle.kfifo_machine.proofs.Causes.{all_of_round-append}
 use Rattle.kfifo_machine.proofs.Paths.{looks-own, looks-other, none_after, answered, begins_from, never_at_once}
-use Rattle.kfifo_machine.proofs.Quiet.{opens_round, RoundNext, round_next, words_by, Quiet, watched, watched-below, still_quiet, NextQuiet, enqueue_quiet, dequeue_quiet}
+use Rattle.kfifo_machine.proofs.Quiet.{opens_round, RoundNext, round_next, words_by, Quiet, watched, watched-below, still_quiet, NextQuiet}
+use Rattle.kfifo_machine.proofs.Quiet.{enqueue_quiet, dequeue_quiet}
 
 -- the words after a step
 exchanged_by : (words : List ℕ) (index from to i : ℕ) → index < length words
-    → get_or (cond (eqb (get_or words index 0) from) (set words index to) words) i 0 ≡ cond (eqb (get_or words index 0) from) (cond (eqb i index) to (get_or words i 0)) (get_or words i 0)
+    → get_or (cond (eqb (get_or words index 0) from) (set words index to) words) i 0
+    ≡ cond (eqb (get_or words index 0) from) (cond (eqb i index) to (get_or words i 0)) (get_or words i 0)
 exchanged_by words index from to i h =
     elim (cases_Bool (eqb (get_or words index 0) from)) [
       | inl e ↦ elim (cases_eq i index) [
-        | inl same ↦ rw e (get_or-set_at words index i to 0 same h ∙ sym (ap (λ (b : Bool). cond b to (get_or words i 0)) (eq-eqb i index same)))
+        | inl same ↦ rw e (get_or-set_at words index i to 0 same h
+            ∙ sym (ap (λ (b : Bool). cond b to (get_or words i 0)) (eq-eqb i index same)))
         | inr ne ↦ rw e (get_or-set_other words index i to 0 ne ∙ apart (eqb i index) refl ne)
       ]
       | inr e ↦ rw e refl
@@ -54,21 +59,28 @@ exchanged_by words index from to i h =
     apart true is ne = absurd (ne (eqb-true i index is))
     apart false is ne = refl
 
-after_by : (a : Access) (words : List ℕ) (i : ℕ) → accessed a < length words → get_or (words_after a words) i 0 ≡ words_by a (λ j. get_or words j 0) i
+after_by : (a : Access) (words : List ℕ) (i : ℕ) → accessed a < length words
+    → get_or (words_after a words) i 0 ≡ words_by a (λ j. get_or words j 0) i
 after_by (Load index) words i h = refl
 after_by (Exchange index from to) words i h = exchanged_by words index from to i h
 
-pub word-moved : (shape : Shape) (here : World) (thread : ℕ) (running : Running) (i : ℕ) → IsSound shape here → IsPlace shape running → word_at (moved shape here thread running) i ≡ words_by (access shape running) (word_at here) i
+pub word-moved : (shape : Shape) (here : World) (thread : ℕ) (running : Running) (i : ℕ) → IsSound shape here → IsPlace shape running
+    → word_at (moved shape here thread running) i ≡ words_by (access shape running) (word_at here) i
 unfolding moved word_at
 word-moved shape here thread running i sound place =
     let within : accessed (access shape running) < length here.words = omega (arith, in_table shape running place, sound.size) in
     after_by (access shape running) here.words i within
 
-pub quiet_step : (shape : Shape) (here : World) (running : Running) → IsPlace shape running → Quiet (word_at here) running → moves_head running (found shape here running) ≡ false → moves_tail running (found shape here running) ≡ false
+pub quiet_step : (shape : Shape) (here : World) (running : Running) → IsPlace shape running → Quiet (word_at here) running
+    → moves_head running (found shape here running) ≡ false → moves_tail running (found shape here running) ≡ false
     → NextQuiet (words_by (access shape running) (word_at here)) (advance shape running (found shape here running))
 unfolding found
-quiet_step shape here (R.Enqueue item start left phase) place quiet no_head no_tail = enqueue_quiet shape (word_at here) item start left phase (word_at here (accessed (access shape (R.Enqueue item start left phase)))) place quiet refl no_head no_tail
-quiet_step shape here (R.Dequeue start left phase) place quiet no_head no_tail = dequeue_quiet shape (word_at here) start left phase (word_at here (accessed (access shape (R.Dequeue start left phase)))) place quiet refl no_head no_tail
+quiet_step shape here (R.Enqueue item start left phase) place quiet no_head no_tail =
+    enqueue_quiet shape (word_at here) item start left phase (word_at here (accessed (access shape (R.Enqueue item start left phase))))
+    place quiet refl no_head no_tail
+quiet_step shape here (R.Dequeue start left phase) place quiet no_head no_tail =
+    dequeue_quiet shape (word_at here) start left phase (word_at here (accessed (access shape (R.Dequeue start left phase)))) place quiet
+    refl no_head no_tail
 
 quiet_after : (w v : ℕ → ℕ) (next : Next) → ((i : ℕ) → v i ≡ w i) → NextQuiet w next → NextQuiet v next
 quiet_after w v (Goes running) same quiet = (quiet.0, still_quiet w v running (same 0) (same (watched running)) quiet.1)
@@ -80,7 +92,8 @@ quiet_after w v (Answers A.Empty) same quiet = tt
 quiet_after w v (Answers A.Worn) same quiet = tt
 
 -- Disturbances stay
-disturbed_more : (shape : Shape) (thread : ℕ) (start : World) (xs ys : List Event) → Disturbed shape thread start xs → Disturbed shape thread start (xs ++ ys)
+disturbed_more : (shape : Shape) (thread : ℕ) (start : World) (xs ys : List Event) → Disturbed shape thread start xs
+    → Disturbed shape thread start (xs ++ ys)
 disturbed_more shape thread start xs ys d = record {
   before = d.before;
   event = d.event;
@@ -96,21 +109,40 @@ abbrev Standing : Shape → ℕ → World → List Event → World → Running �
 Standing shape thread start past here running = Disturbed shape thread start past ⊎ Quiet (word_at here) running
 
 -- the thread's own step
-own_standing : (shape : Shape) (start here next : World) (past : List Event) (e : Event) (outcome : Outcome) (running : Running) → IsSound shape here → step shape here e ≡ Ok (next, outcome) → e.begin ≡ None
+own_standing : (shape : Shape) (start here next : World) (past : List Event) (e : Event) (outcome : Outcome) (running : Running)
+    → IsSound shape here → step shape here e ≡ Ok (next, outcome) → e.begin ≡ None
     → place_of here e.thread ≡ Some running → run shape (Some start) past ≡ Some here → Standing shape e.thread start past here running
     → Disturbed shape e.thread start (past ++ e ∷ []) ⊎ NextQuiet (word_at next) (advance shape running (found shape here running))
 own_standing shape start here next past e outcome running sound made none at reached standing =
     let place : IsPlace shape running = place_is shape here e.thread running sound at in
-    let goes : going shape (place_of here e.thread) e.begin ≡ Some running = ap (going shape (place_of here e.thread)) none ∙ ap (λ (p : Option Running). going shape p None) at in
+    let goes : going shape (place_of here e.thread) e.begin ≡ Some running =
+    ap (going shape (place_of here e.thread)) none ∙ ap (λ (p : Option Running). going shape p None) at in
     elim (cases_Bool (moves_head running (found shape here running))) [
-      | inl head ↦ inl (record { before = past; event = e; after = []; world = here; split = refl; reached = reached; by = inl (refl, record { running = running; stands = goes; moves = inl head }) })
+      | inl head ↦ inl (record {
+        before = past;
+        event = e;
+        after = [];
+        world = here;
+        split = refl;
+        reached = reached;
+        by = inl (refl, record { running = running; stands = goes; moves = inl head });
+      })
       | inr no_head ↦ elim (cases_Bool (moves_tail running (found shape here running))) [
-        | inl tail ↦ inl (record { before = past; event = e; after = []; world = here; split = refl; reached = reached; by = inl (refl, record { running = running; stands = goes; moves = inr tail }) })
+        | inl tail ↦ inl (record {
+          before = past;
+          event = e;
+          after = [];
+          world = here;
+          split = refl;
+          reached = reached;
+          by = inl (refl, record { running = running; stands = goes; moves = inr tail });
+        })
         | inr no_tail ↦ elim standing [
           | inl disturbed ↦ inl (disturbed_more shape e.thread start past (e ∷ []) disturbed)
           | inr quiet ↦
               let is_moved : next ≡ moved shape here e.thread running = (own_step shape here e next outcome running made at).0 in
-              inr (quiet_after (words_by (access shape running) (word_at here)) (word_at next) (advance shape running (found shape here running))
+              inr (quiet_after (words_by (access shape running) (word_at here)) (word_at next)
+              (advance shape running (found shape here running))
               (λ i. ap (λ (w : World). word_at w i) is_moved ∙ word-moved shape here e.thread running i sound place)
               (quiet_step shape here running place quiet no_head no_tail))
         ]
@@ -118,7 +150,8 @@ own_standing shape start here next past e outcome running sound made none at rea
     ]
 
 -- a word below the clock that an event changes was won
-won_or_same : (shape : Shape) (here next : World) (e : Event) (outcome : Outcome) (i : ℕ) → IsSound shape here → step shape here e ≡ Ok (next, outcome) → i < clock_at shape.k shape.n
+won_or_same : (shape : Shape) (here next : World) (e : Event) (outcome : Outcome) (i : ℕ) → IsSound shape here
+    → step shape here e ≡ Ok (next, outcome) → i < clock_at shape.k shape.n
     → (word_at next i ≡ word_at here i) ⊎ WinsSome shape here e
 won_or_same shape here next e outcome i sound made below =
     let one = one_word shape here e next outcome sound made in
@@ -131,13 +164,24 @@ won_or_same shape here next e outcome i sound made below =
     ]
 
 -- an event of another thread
-other_standing : (shape : Shape) (thread : ℕ) (start here next : World) (past : List Event) (e : Event) (outcome : Outcome) (running : Running) → IsSound shape here → step shape here e ≡ Ok (next, outcome)
-    → thread ≢ e.thread → place_of here thread ≡ Some running → run shape (Some start) past ≡ Some here → Standing shape thread start past here running
+other_standing : (shape : Shape) (thread : ℕ) (start here next : World) (past : List Event) (e : Event) (outcome : Outcome)
+    (running : Running) → IsSound shape here → step shape here e ≡ Ok (next, outcome)
+    → thread ≢ e.thread → place_of here thread ≡ Some running → run shape (Some start) past ≡ Some here
+    → Standing shape thread start past here running
     → Standing shape thread start (past ++ e ∷ []) next running
-other_standing shape thread start here next past e outcome running sound made apart at reached (inl disturbed) = inl (disturbed_more shape thread start past (e ∷ []) disturbed)
+other_standing shape thread start here next past e outcome running sound made apart at reached (inl disturbed) =
+    inl (disturbed_more shape thread start past (e ∷ []) disturbed)
 other_standing shape thread start here next past e outcome running sound made apart at reached (inr quiet) =
     let wins : WinsSome shape here e → Standing shape thread start (past ++ e ∷ []) next running =
-    λ w. inl (record { before = past; event = e; after = []; world = here; split = refl; reached = reached; by = inr ((λ same. apart (sym same)), w) }) in
+    λ w. inl (record {
+      before = past;
+      event = e;
+      after = [];
+      world = here;
+      split = refl;
+      reached = reached;
+      by = inr ((λ same. apart (sym same)), w);
+    }) in
     let place : IsPlace shape running = place_is shape here thread running sound at in
     elim (won_or_same shape here next e outcome 0 sound made (omega arith)) [
       | inr w ↦ wins w
@@ -168,14 +212,16 @@ pub record RoundSoFar (shape : Shape) (thread round : ℕ) (start : World) (past
   pub first_own : first.thread ≡ thread
   pub one_round : AllOfRound round (looks shape thread (Some start) past)
 
-so_far_more : (shape : Shape) (thread round : ℕ) (start here : World) (past : List Event) (e : Event) → run shape (Some start) past ≡ Some here → RoundSoFar shape thread round start past
+so_far_more : (shape : Shape) (thread round : ℕ) (start here : World) (past : List Event) (e : Event)
+    → run shape (Some start) past ≡ Some here → RoundSoFar shape thread round start past
     → AllOfRound round (looks shape thread (Some here) (e ∷ [])) → RoundSoFar shape thread round start (past ++ e ∷ [])
 so_far_more shape thread round start here past e reached r all = record {
   first = r.first;
   later = r.later ++ e ∷ [];
   begins = ap (λ (xs : List Event). xs ++ e ∷ []) r.begins;
   first_own = r.first_own;
-  one_round = subst (AllOfRound round) (sym (looks-append shape thread start here past (e ∷ []) reached)) (all_of_round-append round _ _ r.one_round all);
+  one_round = subst (AllOfRound round) (sym (looks-append shape thread start here past (e ∷ []) reached))
+      (all_of_round-append round _ _ r.one_round all);
 }
 
 -- what remains of a call in the middle of a round that is lost: the rest of this round, and then the other rounds
@@ -188,7 +234,8 @@ pub record Remains (shape : Shape) (thread round : ℕ) (start : World) (past ev
   pub round_lost : LostRound shape thread round start (past ++ more)
   pub others : LosesAll shape thread (round - 1) end rest
 
-remains_more : (shape : Shape) (thread round : ℕ) (start : World) (past events : List Event) (e : Event) → Remains shape thread round start (past ++ e ∷ []) events → Remains shape thread round start past (e ∷ events)
+remains_more : (shape : Shape) (thread round : ℕ) (start : World) (past events : List Event) (e : Event)
+    → Remains shape thread round start (past ++ e ∷ []) events → Remains shape thread round start past (e ∷ events)
 remains_more shape thread round start past events e r =
     let shift : (past ++ e ∷ []) ++ r.more ≡ past ++ (e ∷ r.more) = append_assoc past (e ∷ []) r.more in
     record {
@@ -201,7 +248,8 @@ remains_more shape thread round start past events e r =
       others = r.others;
     }
 
-lost_round : (shape : Shape) (thread round : ℕ) (start : World) (past : List Event) (e : Event) → RoundSoFar shape thread round start (past ++ e ∷ []) → e.thread ≡ thread → Disturbed shape thread start (past ++ e ∷ [])
+lost_round : (shape : Shape) (thread round : ℕ) (start : World) (past : List Event) (e : Event)
+    → RoundSoFar shape thread round start (past ++ e ∷ []) → e.thread ≡ thread → Disturbed shape thread start (past ++ e ∷ [])
     → LostRound shape thread round start (past ++ e ∷ [])
 lost_round shape thread round start past e r mine disturbed = record {
   first = r.first;
@@ -217,7 +265,8 @@ lost_round shape thread round start past e r mine disturbed = record {
 }
 
 -- others' events before a round
-loses_later : (shape : Shape) (thread round : ℕ) (here next : World) (outcome : Outcome) (e : Event) (events : List Event) → 0 < round → thread ≢ e.thread → step shape here e ≡ Ok (next, outcome)
+loses_later : (shape : Shape) (thread round : ℕ) (here next : World) (outcome : Outcome) (e : Event) (events : List Event) → 0 < round
+    → thread ≢ e.thread → step shape here e ≡ Ok (next, outcome)
     → LosesAll shape thread round next events → LosesAll shape thread round here (e ∷ events)
 loses_later shape thread zero here next outcome e events some apart made loses = absurd (omega arith)
 loses_later shape thread (suc round) here next outcome e events some apart made l = record {
@@ -239,7 +288,8 @@ loses_later shape thread (suc round) here next outcome e events some apart made 
     none_own false is = refl
 
 -- a round that begins here
-loses_now : (shape : Shape) (thread round : ℕ) (here : World) (events : List Event) → 0 < round → Remains shape thread round here [] events → LosesAll shape thread round here events
+loses_now : (shape : Shape) (thread round : ℕ) (here : World) (events : List Event) → 0 < round → Remains shape thread round here [] events
+    → LosesAll shape thread round here events
 loses_now shape thread zero here events some r = absurd (omega arith)
 loses_now shape thread (suc round) here events some r =
     let less : (suc round) - 1 ≡ round = omega arith in
@@ -260,51 +310,69 @@ loses_now shape thread (suc round) here events some r =
 open_quiet : (w : ℕ → ℕ) (running : Running) → opens_round running ≡ true → Quiet w running
 open_quiet w running opens = grind arith
 
-open_goes : (shape : Shape) (running : Running) (word : ℕ) → opens_round running ≡ true → (next : Next) → advance shape running word ≡ next → (place : Running) × (next ≡ Goes place)
+open_goes : (shape : Shape) (running : Running) (word : ℕ) → opens_round running ≡ true → (next : Next) → advance shape running word ≡ next
+    → (place : Running) × (next ≡ Goes place)
 open_goes shape running word opens (Goes place) is = (place, refl)
 open_goes shape running word opens (Answers answer) is = absurd (never shape running word answer opens is)
   where
-    never : (shape : Shape) (running : Running) (word : ℕ) (answer : Answer) → opens_round running ≡ true → advance shape running word ≡ Answers answer → ⊥
+    never : (shape : Shape) (running : Running) (word : ℕ) (answer : Answer) → opens_round running ≡ true
+        → advance shape running word ≡ Answers answer → ⊥
     never shape running word answer opens is = grind arith
 
 -- the step that opens a round stays in it
-open_next : (shape : Shape) (running place : Running) (word : ℕ) → opens_round running ≡ true → advance shape running word ≡ Goes place → (opens_round place ≡ false) × (round_of place ≡ round_of running)
+open_next : (shape : Shape) (running place : Running) (word : ℕ) → opens_round running ≡ true → advance shape running word ≡ Goes place
+    → (opens_round place ≡ false) × (round_of place ≡ round_of running)
 open_next shape running place word opens is = grind arith
 
 round-some : (shape : Shape) (running : Running) → IsPlace shape running → 0 < round_of running
 round-some shape running place = grind arith
 
 -- The call goes on to its last event, which answers Busy
-module _ (shape : Shape) (thread : ℕ) (last : Event) (before there : World) (mine : last.thread ≡ thread) (ends : step shape before last ≡ Ok (there, Ended A.Busy)) where
+module _ (shape : Shape) (thread : ℕ) (last : Event) (before there : World) (mine : last.thread ≡ thread)
+    (ends : step shape before last ≡ Ok (there, Ended A.Busy)) where
   abbrev Between : List Event → Type 0
-  Between events = (here : World) (running : Running) → IsSound shape here → place_of here thread ≡ Some running → opens_round running ≡ true → AllGoOn (own thread (events ++ last ∷ []))
+  Between events = (here : World) (running : Running) → IsSound shape here → place_of here thread ≡ Some running
+      → opens_round running ≡ true → AllGoOn (own thread (events ++ last ∷ []))
       → run shape (Some here) events ≡ Some before → LosesAll shape thread (round_of running) here (events ++ last ∷ [])
 
   abbrev Within : List Event → Type 0
-  Within events = (start here : World) (past : List Event) (running : Running) → IsSound shape here → run shape (Some start) past ≡ Some here → place_of here thread ≡ Some running
-      → RoundSoFar shape thread (round_of running) start past → Standing shape thread start past here running → AllGoOn (own thread (events ++ last ∷ [])) → run shape (Some here) events ≡ Some before
+  Within events = (start here : World) (past : List Event) (running : Running) → IsSound shape here
+      → run shape (Some start) past ≡ Some here → place_of here thread ≡ Some running
+      → RoundSoFar shape thread (round_of running) start past → Standing shape thread start past here running
+      → AllGoOn (own thread (events ++ last ∷ [])) → run shape (Some here) events ≡ Some before
       → Remains shape thread (round_of running) start past (events ++ last ∷ [])
 
-  runs_to : (here : World) (events : List Event) → run shape (Some here) events ≡ Some before → run shape (Some here) (events ++ last ∷ []) ≡ Some there
-  runs_to here events is = run-append shape (Some here) events (last ∷ []) ∙ ap (λ (w : Option World). run shape w (last ∷ [])) is ∙ ap world_of ends
+  runs_to : (here : World) (events : List Event) → run shape (Some here) events ≡ Some before
+      → run shape (Some here) (events ++ last ∷ []) ≡ Some there
+  runs_to here events is = run-append shape (Some here) events (last ∷ []) ∙ ap (λ (w : Option World). run shape w (last ∷ [])) is
+      ∙ ap world_of ends
 
-  own_single : (here next : World) (outcome : Outcome) (e : Event) (running : Running) → e.thread ≡ thread → step shape here e ≡ Ok (next, outcome) → going shape (place_of here e.thread) e.begin ≡ Some running
+  own_single : (here next : World) (outcome : Outcome) (e : Event) (running : Running) → e.thread ≡ thread
+      → step shape here e ≡ Ok (next, outcome) → going shape (place_of here e.thread) e.begin ≡ Some running
       → AllOfRound (round_of running) (looks shape thread (Some here) (e ∷ []))
-  own_single here next outcome e running own_is made goes = subst (AllOfRound (round_of running)) (sym (looks-own shape thread here next outcome e [] running own_is made goes)) (refl, tt)
+  own_single here next outcome e running own_is made goes =
+      subst (AllOfRound (round_of running)) (sym (looks-own shape thread here next outcome e [] running own_is made goes)) (refl, tt)
 
-  other_single : (here next : World) (outcome : Outcome) (e : Event) (round : ℕ) → thread ≢ e.thread → step shape here e ≡ Ok (next, outcome) → AllOfRound round (looks shape thread (Some here) (e ∷ []))
-  other_single here next outcome e round apart made = subst (AllOfRound round) (sym (looks-other shape thread here next outcome e [] apart made)) tt
+  other_single : (here next : World) (outcome : Outcome) (e : Event) (round : ℕ) → thread ≢ e.thread
+      → step shape here e ≡ Ok (next, outcome) → AllOfRound round (looks shape thread (Some here) (e ∷ []))
+  other_single here next outcome e round apart made =
+      subst (AllOfRound round) (sym (looks-other shape thread here next outcome e [] apart made)) tt
 
   -- an own step in a round that has begun, with the round so far after it, and what remains
-  after_own : (es : List Event) → Between es → Within es → (start here next_world : World) (past : List Event) (e : Event) (running : Running) → IsSound shape next_world → IsPlace shape running
-      → run shape (Some start) (past ++ e ∷ []) ≡ Some next_world → e.thread ≡ thread → RoundSoFar shape thread (round_of running) start (past ++ e ∷ [])
+  after_own : (es : List Event) → Between es → Within es
+      → (start here next_world : World) (past : List Event) (e : Event) (running : Running) → IsSound shape next_world
+      → IsPlace shape running
+      → run shape (Some start) (past ++ e ∷ []) ≡ Some next_world → e.thread ≡ thread
+      → RoundSoFar shape thread (round_of running) start (past ++ e ∷ [])
       → (next : Next) → advance shape running (found shape here running) ≡ next → place_of next_world thread ≡ place_after next
       → Disturbed shape thread start (past ++ e ∷ []) ⊎ NextQuiet (word_at next_world) next
       → AllGoOn (own thread (es ++ last ∷ [])) → run shape (Some next_world) es ≡ Some before
       → Remains shape thread (round_of running) start past (e ∷ (es ++ last ∷ []))
-  after_own es between within start here next_world past e running safe place reached own_is so_far (Answers answer) goes at standing on runs =
+  after_own es between within start here next_world past e running safe place reached own_is so_far (Answers answer) goes at standing on
+      runs =
       absurd (none_after shape next_world there thread es last safe at mine on (runs_to next_world es runs))
-  after_own es between within start here next_world past e running safe place reached own_is so_far (Goes running_next) goes at standing on runs =
+  after_own es between within start here next_world past e running safe place reached own_is so_far (Goes running_next) goes at standing on
+      runs =
       by_open (opens_round running_next) refl
     where
       rounds : RoundNext (round_of running) (Goes running_next)
@@ -312,9 +380,11 @@ module _ (shape : Shape) (thread : ℕ) (last : Event) (before there : World) (m
 
       by_open : (b : Bool) → opens_round running_next ≡ b → Remains shape thread (round_of running) start past (e ∷ (es ++ last ∷ []))
       by_open true opens =
-          let less : round_of running_next + 1 ≡ round_of running = subst (λ (b : Bool). cond b (round_of running_next + 1) (round_of running_next) ≡ round_of running) opens rounds in
+          let less : round_of running_next + 1 ≡ round_of running =
+          subst (λ (b : Bool). cond b (round_of running_next + 1) (round_of running_next) ≡ round_of running) opens rounds in
           let less_one : round_of running_next ≡ round_of running - 1 = omega arith in
-          let disturbed : Disturbed shape thread start (past ++ e ∷ []) = elim standing [ inl d ↦ d | inr q ↦ absurd (let h : true ≡ false = sym opens ∙ q.0 in cc) ] in
+          let disturbed : Disturbed shape thread start (past ++ e ∷ []) =
+          elim standing [ inl d ↦ d | inr q ↦ absurd (let h : true ≡ false = sym opens ∙ q.0 in cc) ] in
           record {
             more = e ∷ [];
             rest = es ++ last ∷ [];
@@ -322,14 +392,18 @@ module _ (shape : Shape) (thread : ℕ) (last : Event) (before there : World) (m
             split = refl;
             reached = reached;
             round_lost = lost_round shape thread (round_of running) start past e so_far own_is disturbed;
-            others = subst (λ (m : ℕ). LosesAll shape thread m next_world (es ++ last ∷ [])) less_one (between next_world running_next safe at opens on runs);
+            others = subst (λ (m : ℕ). LosesAll shape thread m next_world (es ++ last ∷ [])) less_one
+                (between next_world running_next safe at opens on runs);
           }
       by_open false opens =
-          let same : round_of running_next ≡ round_of running = subst (λ (b : Bool). cond b (round_of running_next + 1) (round_of running_next) ≡ round_of running) opens rounds in
-          let stands : Standing shape thread start (past ++ e ∷ []) next_world running_next = elim standing [ inl d ↦ inl d | inr q ↦ inr q.1 ] in
+          let same : round_of running_next ≡ round_of running =
+          subst (λ (b : Bool). cond b (round_of running_next + 1) (round_of running_next) ≡ round_of running) opens rounds in
+          let stands : Standing shape thread start (past ++ e ∷ []) next_world running_next =
+          elim standing [ inl d ↦ inl d | inr q ↦ inr q.1 ] in
           remains_more shape thread (round_of running) start past (es ++ last ∷ []) e
           (subst (λ (m : ℕ). Remains shape thread m start (past ++ e ∷ []) (es ++ last ∷ [])) same
-          (within start next_world (past ++ e ∷ []) running_next safe reached at (subst (λ (m : ℕ). RoundSoFar shape thread m start (past ++ e ∷ [])) (sym same) so_far) stands on runs))
+          (within start next_world (past ++ e ∷ []) running_next safe reached at
+          (subst (λ (m : ℕ). RoundSoFar shape thread m start (past ++ e ∷ [])) (sym same) so_far) stands on runs))
 
   -- the last event, in a round that has begun
   at_last : Within []
@@ -339,16 +413,24 @@ module _ (shape : Shape) (thread : ℕ) (last : Event) (before there : World) (m
       let one : own thread (last ∷ []) ≡ last ∷ [] = ap (λ (b : Bool). cond b (last ∷ []) []) (eq-eqb last.thread thread mine) in
       let none : last.begin ≡ None = (let h : AllGoOn (last ∷ []) = subst AllGoOn one on in h.0) in
       let place_at : place_of here last.thread ≡ Some running = ap (place_of here) mine ∙ at in
-      let goes : going shape (place_of here last.thread) last.begin ≡ Some running = ap (going shape (place_of here last.thread)) none ∙ ap (λ (p : Option Running). going shape p None) place_at in
+      let goes : going shape (place_of here last.thread) last.begin ≡ Some running =
+      ap (going shape (place_of here last.thread)) none ∙ ap (λ (p : Option Running). going shape p None) place_at in
       let place : IsPlace shape running = place_is shape here thread running sound at in
-      let answers : advance shape running (found shape here running) ≡ Answers A.Busy = answered (advance shape running (found shape here running)) A.Busy (own_step shape here last there (Ended A.Busy) running made place_at).1 in
-      let one_left : round_of running ≡ 1 = subst (RoundNext (round_of running)) answers (round_next shape running (found shape here running) place) in
+      let answers : advance shape running (found shape here running) ≡ Answers A.Busy =
+      answered (advance shape running (found shape here running)) A.Busy
+      (own_step shape here last there (Ended A.Busy) running made place_at).1 in
+      let one_left : round_of running ≡ 1 = subst (RoundNext (round_of running)) answers
+      (round_next shape running (found shape here running) place) in
       let none_left : zero ≡ round_of running - 1 = omega arith in
-      let stands : Disturbed shape last.thread start (past ++ last ∷ []) ⊎ NextQuiet (word_at there) (advance shape running (found shape here running)) =
-      own_standing shape start here there past last (Ended A.Busy) running sound made none place_at reached (subst (λ (t : ℕ). Standing shape t start past here running) (sym mine) standing) in
+      let stands : Disturbed shape last.thread start (past ++ last ∷ [])
+      ⊎ NextQuiet (word_at there) (advance shape running (found shape here running)) =
+      own_standing shape start here there past last (Ended A.Busy) running sound made none place_at reached
+      (subst (λ (t : ℕ). Standing shape t start past here running) (sym mine) standing) in
       let disturbed : Disturbed shape thread start (past ++ last ∷ []) = subst (λ (t : ℕ). Disturbed shape t start (past ++ last ∷ [])) mine
       (elim stands [ inl d ↦ d | inr q ↦ absurd (subst (NextQuiet (word_at there)) answers q) ]) in
-      let r : RoundSoFar shape thread (round_of running) start (past ++ last ∷ []) = so_far_more shape thread (round_of running) start here past last reached so_far (own_single here there (Ended A.Busy) last running mine made goes) in
+      let r : RoundSoFar shape thread (round_of running) start (past ++ last ∷ []) =
+      so_far_more shape thread (round_of running) start here past last reached so_far
+      (own_single here there (Ended A.Busy) last running mine made goes) in
       record {
         more = last ∷ [];
         rest = [];
@@ -364,32 +446,45 @@ module _ (shape : Shape) (thread : ℕ) (last : Event) (before there : World) (m
   within_more e es between within start here past running sound reached at so_far standing on is =
       let m = first_made shape here e before es is in
       let later : IsSound shape m.0 = step_sound shape here e m.0 m.1.0 sound m.1.1.0 in
-      let reached_next : run shape (Some start) (past ++ e ∷ []) ≡ Some m.0 = run_on shape (Some start) here past (e ∷ []) reached ∙ ap world_of m.1.1.0 in
+      let reached_next : run shape (Some start) (past ++ e ∷ []) ≡ Some m.0 =
+      run_on shape (Some start) here past (e ∷ []) reached ∙ ap world_of m.1.1.0 in
       elim (own_first thread e (es ++ last ∷ [])) [
         | inl own_is ↦
             let both : (e.begin ≡ None) × AllGoOn (own thread (es ++ last ∷ [])) = subst AllGoOn own_is.1 on in
             let place_at : place_of here e.thread ≡ Some running = ap (place_of here) own_is.0 ∙ at in
-            let goes : going shape (place_of here e.thread) e.begin ≡ Some running = ap (going shape (place_of here e.thread)) both.0 ∙ ap (λ (p : Option Running). going shape p None) place_at in
-            let stands = own_standing shape start here m.0 past e m.1.0 running sound m.1.1.0 both.0 place_at reached (subst (λ (t : ℕ). Standing shape t start past here running) (sym own_is.0) standing) in
-            let stands_so : Disturbed shape thread start (past ++ e ∷ []) ⊎ NextQuiet (word_at m.0) (advance shape running (found shape here running)) =
-            subst (λ (t : ℕ). Disturbed shape t start (past ++ e ∷ []) ⊎ NextQuiet (word_at m.0) (advance shape running (found shape here running))) own_is.0 stands in
+            let goes : going shape (place_of here e.thread) e.begin ≡ Some running =
+            ap (going shape (place_of here e.thread)) both.0 ∙ ap (λ (p : Option Running). going shape p None) place_at in
+            let stands = own_standing shape start here m.0 past e m.1.0 running sound m.1.1.0 both.0 place_at reached
+            (subst (λ (t : ℕ). Standing shape t start past here running) (sym own_is.0) standing) in
+            let stands_so : Disturbed shape thread start (past ++ e ∷ [])
+            ⊎ NextQuiet (word_at m.0) (advance shape running (found shape here running)) =
+            subst (λ (t : ℕ). Disturbed shape t start (past ++ e ∷ [])
+            ⊎ NextQuiet (word_at m.0) (advance shape running (found shape here running))) own_is.0 stands in
             let at_next : place_of m.0 thread ≡ place_after (advance shape running (found shape here running)) =
-            ap (place_of m.0) (sym own_is.0) ∙ ap (λ (w : World). place_of w e.thread) (own_step shape here e m.0 m.1.0 running m.1.1.0 place_at).0 ∙ own_place shape here e.thread running (made_within shape here e m.0 m.1.0 m.1.1.0) in
-            after_own es between within start here m.0 past e running later (place_is shape here thread running sound at) reached_next own_is.0
-            (so_far_more shape thread (round_of running) start here past e reached so_far (own_single here m.0 m.1.0 e running own_is.0 m.1.1.0 goes))
+            ap (place_of m.0) (sym own_is.0) ∙ ap (λ (w : World). place_of w e.thread)
+            (own_step shape here e m.0 m.1.0 running m.1.1.0 place_at).0
+            ∙ own_place shape here e.thread running (made_within shape here e m.0 m.1.0 m.1.1.0) in
+            after_own es between within start here m.0 past e running later (place_is shape here thread running sound at) reached_next
+            own_is.0
+            (so_far_more shape thread (round_of running) start here past e reached so_far
+            (own_single here m.0 m.1.0 e running own_is.0 m.1.1.0 goes))
             (advance shape running (found shape here running)) refl at_next stands_so both.1 m.1.1.1
         | inr other ↦
             remains_more shape thread (round_of running) start past (es ++ last ∷ []) e
             (within start m.0 (past ++ e ∷ []) running later reached_next (other_place shape here e m.0 m.1.0 thread other.0 m.1.1.0 ∙ at)
-            (so_far_more shape thread (round_of running) start here past e reached so_far (other_single here m.0 m.1.0 e (round_of running) other.0 m.1.1.0))
+            (so_far_more shape thread (round_of running) start here past e reached so_far
+            (other_single here m.0 m.1.0 e (round_of running) other.0 m.1.1.0))
             (other_standing shape thread start here m.0 past e m.1.0 running sound m.1.1.0 other.0 at reached standing)
             (subst AllGoOn other.1 on) m.1.1.1)
       ]
 
   -- a round that begins with an own step from here
-  opens_now : (e : Event) (es : List Event) → Between es → Within es → (here next_world : World) (outcome : Outcome) (running : Running) → IsSound shape next_world → IsPlace shape running → step shape here e ≡ Ok (next_world, outcome)
-      → e.thread ≡ thread → going shape (place_of here e.thread) e.begin ≡ Some running → next_world ≡ moved shape here e.thread running → opens_round running ≡ true → AllGoOn (own thread (es ++ last ∷ []))
-      → run shape (Some next_world) es ≡ Some before → IsSound shape here → LosesAll shape thread (round_of running) here (e ∷ (es ++ last ∷ []))
+  opens_now : (e : Event) (es : List Event) → Between es → Within es → (here next_world : World) (outcome : Outcome) (running : Running)
+      → IsSound shape next_world → IsPlace shape running → step shape here e ≡ Ok (next_world, outcome)
+      → e.thread ≡ thread → going shape (place_of here e.thread) e.begin ≡ Some running → next_world ≡ moved shape here e.thread running
+      → opens_round running ≡ true → AllGoOn (own thread (es ++ last ∷ []))
+      → run shape (Some next_world) es ≡ Some before → IsSound shape here
+      → LosesAll shape thread (round_of running) here (e ∷ (es ++ last ∷ []))
   opens_now e es between within here next_world outcome running safe place made own_is goes is_moved opens on runs sound =
       let k = open_goes shape running (found shape here running) opens (advance shape running (found shape here running)) refl in
       let n = open_next shape running k.0 (found shape here running) opens k.1 in
@@ -399,12 +494,22 @@ module _ (shape : Shape) (thread : ℕ) (last : Event) (before there : World) (m
       (λ i. ap (λ (w : World). word_at w i) is_moved ∙ word-moved shape here e.thread running i sound place)
       (quiet_step shape here running place (open_quiet (word_at here) running opens) no_moves.0 no_moves.1) in
       let at_next : place_of next_world thread ≡ place_after (advance shape running (found shape here running)) =
-      ap (place_of next_world) (sym own_is) ∙ ap (λ (w : World). place_of w e.thread) is_moved ∙ own_place shape here e.thread running (made_within shape here e next_world outcome made) in
-      let r : RoundSoFar shape thread (round_of running) here (e ∷ []) = record { first = e; later = []; begins = refl; first_own = own_is; one_round = own_single here next_world outcome e running own_is made goes } in
+      ap (place_of next_world) (sym own_is) ∙ ap (λ (w : World). place_of w e.thread) is_moved
+      ∙ own_place shape here e.thread running (made_within shape here e next_world outcome made) in
+      let r : RoundSoFar shape thread (round_of running) here (e ∷ []) =
+      record {
+        first = e;
+        later = [];
+        begins = refl;
+        first_own = own_is;
+        one_round = own_single here next_world outcome e running own_is made goes;
+      } in
       loses_now shape thread (round_of running) here (e ∷ (es ++ last ∷ [])) (round-some shape running place)
-      (after_own es between within here here next_world [] e running safe place (ap world_of made) own_is r (advance shape running (found shape here running)) refl at_next (inr quiet) on runs)
+      (after_own es between within here here next_world [] e running safe place (ap world_of made) own_is r
+      (advance shape running (found shape here running)) refl at_next (inr quiet) on runs)
     where
-      open_moves : (running : Running) (word : ℕ) → opens_round running ≡ true → (moves_head running word ≡ false) × (moves_tail running word ≡ false)
+      open_moves : (running : Running) (word : ℕ) → opens_round running ≡ true → (moves_head running word ≡ false)
+          × (moves_tail running word ≡ false)
       open_moves running word opens = grind arith
 
   between_more : (e : Event) (es : List Event) → Between es → Within es → Between (e ∷ es)
@@ -416,11 +521,14 @@ module _ (shape : Shape) (thread : ℕ) (last : Event) (before there : World) (m
         | inl own_is ↦
             let both : (e.begin ≡ None) × AllGoOn (own thread (es ++ last ∷ [])) = subst AllGoOn own_is.1 on in
             let place_at : place_of here e.thread ≡ Some running = ap (place_of here) own_is.0 ∙ at in
-            let goes : going shape (place_of here e.thread) e.begin ≡ Some running = ap (going shape (place_of here e.thread)) both.0 ∙ ap (λ (p : Option Running). going shape p None) place_at in
-            opens_now e es between within here m.0 m.1.0 running later place m.1.1.0 own_is.0 goes (own_step shape here e m.0 m.1.0 running m.1.1.0 place_at).0 opens both.1 m.1.1.1 sound
+            let goes : going shape (place_of here e.thread) e.begin ≡ Some running =
+            ap (going shape (place_of here e.thread)) both.0 ∙ ap (λ (p : Option Running). going shape p None) place_at in
+            opens_now e es between within here m.0 m.1.0 running later place m.1.1.0 own_is.0 goes
+            (own_step shape here e m.0 m.1.0 running m.1.1.0 place_at).0 opens both.1 m.1.1.1 sound
         | inr other ↦
             loses_later shape thread (round_of running) here m.0 m.1.0 e (es ++ last ∷ []) (round-some shape running place) other.0 m.1.1.0
-            (between m.0 running later (other_place shape here e m.0 m.1.0 thread other.0 m.1.1.0 ∙ at) opens (subst AllGoOn other.1 on) m.1.1.1)
+            (between m.0 running later (other_place shape here e m.0 m.1.0 thread other.0 m.1.1.0 ∙ at) opens (subst AllGoOn other.1 on)
+            m.1.1.1)
       ]
 
   -- the last event does not open a round
@@ -429,7 +537,9 @@ module _ (shape : Shape) (thread : ℕ) (last : Event) (before there : World) (m
       let same : here ≡ before = Some-injective here before is in
       let made : step shape here last ≡ Ok (there, Ended A.Busy) = ap (λ (w : World). step shape w last) same ∙ ends in
       let place_at : place_of here last.thread ≡ Some running = ap (place_of here) mine ∙ at in
-      let answers : advance shape running (found shape here running) ≡ Answers A.Busy = answered (advance shape running (found shape here running)) A.Busy (own_step shape here last there (Ended A.Busy) running made place_at).1 in
+      let answers : advance shape running (found shape here running) ≡ Answers A.Busy =
+      answered (advance shape running (found shape here running)) A.Busy
+      (own_step shape here last there (Ended A.Busy) running made place_at).1 in
       let k = open_goes shape running (found shape here running) opens (advance shape running (found shape here running)) refl in
       absurd (let h : Goes k.0 ≡ Answers A.Busy = sym k.1 ∙ answers in cc)
 
@@ -438,7 +548,8 @@ module _ (shape : Shape) (thread : ℕ) (last : Event) (before there : World) (m
   claims (e ∷ es) = let ih = claims es in (between_more e es ih.0 ih.1, within_more e es ih.0 ih.1)
 
 -- a call that begins opens its first round
-pub begun_open : (call : Begin) (running : Running) → begun call ≡ Some running → (opens_round running ≡ true) × (round_of running ≡ turns_of call)
+pub begun_open : (call : Begin) (running : Running) → begun call ≡ Some running → (opens_round running ≡ true)
+    × (round_of running ≡ turns_of call)
 begun_open (B.Enqueue item start turns) running is =
     let same : R.Enqueue item start turns E.LoadEnds ≡ running = Some-injective _ running is in
     (ap opens_round (sym same), ap round_of (sym same))
@@ -448,29 +559,39 @@ begun_open (B.Dequeue start turns) running is =
 begun_open B.Tick running is = absurd (cc)
 
 -- the first event of the call
-first_own_step : (shape : Shape) (thread : ℕ) (call : Begin) (last : Event) (before there : World) → last.thread ≡ thread → step shape before last ≡ Ok (there, Ended A.Busy)
-    → (e : Event) (es : List Event) (here next : World) (outcome : Outcome) → IsSound shape here → IsSound shape next → e.thread ≡ thread → e.begin ≡ Some call → step shape here e ≡ Ok (next, outcome)
-    → AllGoOn (own thread (es ++ last ∷ [])) → run shape (Some next) es ≡ Some before → (0 < turns_of call) × LosesAll shape thread (turns_of call) here (e ∷ (es ++ last ∷ []))
+first_own_step : (shape : Shape) (thread : ℕ) (call : Begin) (last : Event) (before there : World) → last.thread ≡ thread
+    → step shape before last ≡ Ok (there, Ended A.Busy)
+    → (e : Event) (es : List Event) (here next : World) (outcome : Outcome) → IsSound shape here → IsSound shape next → e.thread ≡ thread
+    → e.begin ≡ Some call → step shape here e ≡ Ok (next, outcome)
+    → AllGoOn (own thread (es ++ last ∷ [])) → run shape (Some next) es ≡ Some before → (0 < turns_of call)
+    × LosesAll shape thread (turns_of call) here (e ∷ (es ++ last ∷ []))
 first_own_step shape thread call last before there mine ends e es here next outcome sound safe own_is begins made on runs =
     elim (stepped shape here e next outcome made) [
       | inl s ↦
-          let is_begun : begun call ≡ Some s.running = begins_from shape (place_of here e.thread) call s.running (ap (going shape (place_of here e.thread)) (sym begins) ∙ s.goes) in
+          let is_begun : begun call ≡ Some s.running =
+          begins_from shape (place_of here e.thread) call s.running (ap (going shape (place_of here e.thread)) (sym begins) ∙ s.goes) in
           let opens = begun_open call s.running is_begun in
-          let place : IsPlace shape s.running = going_place shape (place_of here e.thread) e.begin s.running (λ r at. place_is shape here e.thread r sound at) s.goes in
+          let place : IsPlace shape s.running = going_place shape (place_of here e.thread) e.begin s.running
+          (λ r at. place_is shape here e.thread r sound at) s.goes in
           let some : 0 < round_of s.running = round-some shape s.running place in
           let both = claims shape thread last before there mine ends es in (
             let same = opens.1 in omega arith,
             subst (λ (m : ℕ). LosesAll shape thread m here (e ∷ (es ++ last ∷ []))) opens.1
-                (opens_now shape thread last before there mine ends e es both.0 both.1 here next outcome s.running safe place made own_is s.goes s.there_is opens.0 on runs sound),
+                (opens_now shape thread last before there mine ends e es both.0 both.1 here next outcome s.running safe place made own_is
+                s.goes s.there_is opens.0 on runs sound),
           )
       | inr t ↦
-          let idle : place_of next thread ≡ None = ap (place_of next) (sym own_is) ∙ ap (λ (w : World). place_of w e.thread) t.there_is ∙ tick_leaves shape here e.thread ∙ t.idle in
+          let idle : place_of next thread ≡ None =
+          ap (place_of next) (sym own_is) ∙ ap (λ (w : World). place_of w e.thread) t.there_is ∙ tick_leaves shape here e.thread
+          ∙ t.idle in
           absurd (none_after shape next there thread es last safe idle mine on
           (run-append shape (Some next) es (last ∷ []) ∙ ap (λ (w : Option World). run shape w (last ∷ [])) runs ∙ ap world_of ends))
     ]
 
-loses_from : (shape : Shape) (here before there : World) (thread : ℕ) (call : Begin) (between others : List Event) (last : Event) → IsSound shape here → last.thread ≡ thread
-    → step shape before last ≡ Ok (there, Ended A.Busy) → own thread (between ++ last ∷ []) ≡ event thread (Some call) ∷ others → AllGoOn others → run shape (Some here) between ≡ Some before
+loses_from : (shape : Shape) (here before there : World) (thread : ℕ) (call : Begin) (between others : List Event) (last : Event)
+    → IsSound shape here → last.thread ≡ thread
+    → step shape before last ≡ Ok (there, Ended A.Busy) → own thread (between ++ last ∷ []) ≡ event thread (Some call) ∷ others
+    → AllGoOn others → run shape (Some here) between ≡ Some before
     → (0 < turns_of call) × LosesAll shape thread (turns_of call) here (between ++ last ∷ [])
 loses_from shape here before there thread call [] others last sound mine ends first on is =
     let same : here ≡ before = Some-injective here before is in
@@ -487,7 +608,8 @@ loses_from shape here before there thread call (e ∷ es) others last sound mine
           let both : e ∷ own thread (es ++ last ∷ []) ≡ event thread (Some call) ∷ others = sym own_is.1 ∙ first in
           let begins : e.begin ≡ Some call = (let h : e ≡ event thread (Some call) = cc in ap (λ (x : Event). x.begin) h) in
           let rest : own thread (es ++ last ∷ []) ≡ others = cc in
-          first_own_step shape thread call last before there mine ends e es here m.0 m.1.0 sound later own_is.0 begins m.1.1.0 (subst AllGoOn (sym rest) on) m.1.1.1
+          first_own_step shape thread call last before there mine ends e es here m.0 m.1.0 sound later own_is.0 begins m.1.1.0
+          (subst AllGoOn (sym rest) on) m.1.1.1
       | inr other ↦
           let next = loses_from shape m.0 before there thread call es others last later mine ends (sym other.1 ∙ first) on m.1.1.1 in
           (next.0, loses_later shape thread (turns_of call) here m.0 m.1.0 e (es ++ last ∷ []) next.0 other.0 m.1.1.0 next.1)
@@ -496,5 +618,7 @@ loses_from shape here before there thread call (e ∷ es) others last sound mine
 -- Busy has its cause
 pub busy_has_cause : (shape : Shape) (threads : ℕ) → BusyHasCause shape threads
 busy_has_cause shape threads = λ thread call old new whole here is.
-    let runs : run shape (Some here) whole.between ≡ Some whole.before = sym (run_on shape (Some (opening shape threads)) here old whole.between is) ∙ whole.reached in
-    (loses_from shape here whole.before whole.world thread call whole.between whole.one_call.others whole.last (sound shape threads old here is) whole.last_own whole.ends whole.one_call.first whole.one_call.go_on runs).1
+    let runs : run shape (Some here) whole.between ≡ Some whole.before =
+    sym (run_on shape (Some (opening shape threads)) here old whole.between is) ∙ whole.reached in
+    (loses_from shape here whole.before whole.world thread call whole.between whole.one_call.others whole.last
+    (sound shape threads old here is) whole.last_own whole.ends whole.one_call.first whole.one_call.go_on runs).1

@@ -1,5 +1,6 @@
 -- A step leads from a place to a place, and brings the call nearer to its end.
-use Rattle.std.proofs.Common.{zero, suc, replicate, map, ◌≡◌, ◌≢◌, ℕ, ◌+◌, ◌-◌, ◌*◌, ◌%◌, ◌<◌, ◌≤◌, ◌⊎◌, inl, inr, refl, sym, ap, ◌∙◌, arith, Option, Some, None, List, length, get_or, set, eqb}
+use Rattle.std.proofs.Common.{zero, suc, replicate, map, ◌≡◌, ◌≢◌, ℕ, ◌+◌, ◌-◌, ◌*◌, ◌%◌, ◌<◌, ◌≤◌, ◌⊎◌, inl, inr, refl, sym, ap, ◌∙◌}
+use Rattle.std.proofs.Common.{arith, Option, Some, None, List, length, get_or, set, eqb}
 use Rattle.std.proofs.Math.Nat.{mod-lt, mul-le-mul_right}
 use Rattle.std.proofs.lemmas.Bool.{cases_Bool, cases_eq, cond_both, eqb-true}
 use Rattle.std.proofs.lemmas.List.{length-set, length-replicate, get_or-set_other}
@@ -33,7 +34,9 @@ version-filled_with : (item empty : ℕ) → item < 16777216 → version_of (fil
 unfolding version_of slot_word
 version-filled_with item empty h = omega arith
 
-pub scan_index-is_slot : (shape : Shape) (segment start offset : ℕ) → 0 < shape.k → segment < shape.n → (scan_index shape segment start offset ≡ scan_index shape segment start offset) × IsSlotIndex shape (scan_index shape segment start offset)
+pub scan_index-is_slot : (shape : Shape) (segment start offset : ℕ) → 0 < shape.k → segment < shape.n
+    → (scan_index shape segment start offset ≡ scan_index shape segment start offset)
+    × IsSlotIndex shape (scan_index shape segment start offset)
 unfolding scan_index
 scan_index-is_slot shape segment start offset k h =
     let j : (start + offset) % shape.k < shape.k = mod-lt (start + offset) k in
@@ -43,7 +46,9 @@ scan_index-is_slot shape segment start offset k h =
 pub in_table : (shape : Shape) → (running : Running) → IsPlace shape running → accessed (access shape running) < 1 + shape.n * shape.k
 in_table shape running s = grind (arith, nat_tests, scan_index-is_slot)
 
-pub stays_place : (shape : Shape) → (running : Running) (word : ℕ) → IsPlace shape running → (accessed (access shape running) ≡ 0 → IsEnds shape word) → (0 < accessed (access shape running) → IsSlotWord shape word) → NextIsPlace shape (advance shape running word)
+pub stays_place : (shape : Shape) → (running : Running) (word : ℕ) → IsPlace shape running
+    → (accessed (access shape running) ≡ 0 → IsEnds shape word) → (0 < accessed (access shape running) → IsSlotWord shape word)
+    → NextIsPlace shape (advance shape running word)
 stays_place shape running word s ends slot = grind (arith, nat_tests, version-filled_with, scan_index-is_slot)
 
 -- how many steps a place may still have in its round, and in its call
@@ -81,27 +86,46 @@ round-less : (left c : ℕ) → 0 < left → left ≢ 1 → (left - 1 - 1) * c +
 round-less left c h n = let e : left - 1 ≡ (left - 1 - 1) + 1 = omega arith in omega (arith, ap (λ x. x * c) e)
 
 -- each step brings a call nearer to its end; it begins with at most turns * (2k + 9) steps before it
-pub budget_falls : (shape : Shape) → (running : Running) (word : ℕ) → IsPlace shape running → NextBelow shape.k (budget shape.k running) (advance shape running word)
+pub budget_falls : (shape : Shape) → (running : Running) (word : ℕ) → IsPlace shape running
+    → NextBelow shape.k (budget shape.k running) (advance shape running word)
 budget_falls shape running word s = grind (arith, nat_tests, round-less)
 
 pub budget-begin : (k item start turns : ℕ) → 0 < turns → budget k (R.Enqueue item start turns E.LoadEnds) ≡ turns * (2 * k + 9)
 budget-begin k item start turns h = let e : turns ≡ (turns - 1) + 1 = omega arith in omega (arith, ap (λ x. x * (2 * k + 9)) e)
 
 -- what a step finds in a sound state
-pub found_by : (shape : Shape) (words : List ℕ) (places : List (Option Running)) (running : Running) → IsState shape words places → IsFoundBy shape running (get_or words (accessed (access shape running)) 0)
+pub found_by : (shape : Shape) (words : List ℕ) (places : List (Option Running)) (running : Running) → IsState shape words places
+    → IsFoundBy shape running (get_or words (accessed (access shape running)) 0)
 found_by shape words places running h = let e = h.ends in grind arith
 
 length-after : (a : Access) (words : List ℕ) → length (words_after a words) ≡ length words
 length-after (Load index) words = refl
-length-after (Exchange index from to) words = cond_both (eqb (get_or words index 0) from) (set words index to) words (λ ws. length ws ≡ length words) (λ _. length-set words index to) (λ _. refl)
+length-after (Exchange index from to) words =
+    cond_both (eqb (get_or words index 0) from) (set words index to) words (λ ws. length ws ≡ length words) (λ _. length-set words index to)
+    (λ _. refl)
 
 -- a word after an access
-pub get_or-after : (a : Access) (words : List ℕ) (i : ℕ) → accessed a < length words → (get_or (words_after a words) i 0 ≡ get_or words i 0) ⊎ ((i ≡ accessed a) × ((from : ℕ) × ((to : ℕ) × ((a ≡ Exchange (accessed a) from to) × (get_or words i 0 ≡ from) × (get_or (words_after a words) i 0 ≡ to)))))
+pub get_or-after : (a : Access) (words : List ℕ) (i : ℕ) → accessed a < length words → (get_or (words_after a words) i 0 ≡ get_or words i 0)
+    ⊎ ((i ≡ accessed a) × ((from : ℕ) × ((to : ℕ)
+    × ((a ≡ Exchange (accessed a) from to) × (get_or words i 0 ≡ from) × (get_or (words_after a words) i 0 ≡ to)))))
 get_or-after (Load index) words i h = inl refl
 get_or-after (Exchange index from to) words i h =
     elim (cases_Bool (eqb (get_or words index 0) from)) [
       | inl e ↦ elim (cases_eq i index) [
-        | inl same ↦ inr (same, (from, (to, (refl, ap (λ j. get_or words j 0) same ∙ eqb-true (get_or words index 0) from e, rw e (get_or-set_at words index i to 0 same h)))))
+        | inl same ↦ inr (
+          same,
+          (
+            from,
+            (
+              to,
+              (
+                refl,
+                ap (λ j. get_or words j 0) same ∙ eqb-true (get_or words index 0) from e,
+                rw e (get_or-set_at words index i to 0 same h),
+              ),
+            ),
+          ),
+        )
         | inr ne ↦ inl (rw e (get_or-set_other words index i to 0 ne))
       ]
       | inr e ↦ inl (rw e refl)
@@ -128,18 +152,23 @@ unfolding value_of slot_word
 value-emptied filled = omega arith
 
 -- the words that an exchange writes are sound
-writes_ends : (shape : Shape) → (running : Running) (from to : ℕ) → IsPlace shape running → access shape running ≡ Exchange 0 from to → IsEnds shape to
-writes_ends shape running from to s e = grind (arith, nat_tests, head-ends_word, tail-ends_word, version-ends_word, next_segment-below, scan_index-is_slot)
+writes_ends : (shape : Shape) → (running : Running) (from to : ℕ) → IsPlace shape running → access shape running ≡ Exchange 0 from to
+    → IsEnds shape to
+writes_ends shape running from to s e = grind
+    (arith, nat_tests, head-ends_word, tail-ends_word, version-ends_word, next_segment-below, scan_index-is_slot)
 
-writes_slot : (shape : Shape) → (running : Running) (index from to : ℕ) → IsPlace shape running → 0 < index → access shape running ≡ Exchange index from to → IsSlotWord shape to
+writes_slot : (shape : Shape) → (running : Running) (index from to : ℕ) → IsPlace shape running → 0 < index
+    → access shape running ≡ Exchange index from to → IsSlotWord shape to
 writes_slot shape running index from to s pos e = grind (arith, nat_tests, version-filled_with, value-emptied, scan_index-is_slot)
 
 next_place : (shape : Shape) (next : Next) (r : Running) → NextIsPlace shape next → place_after next ≡ Some r → IsPlace shape r
 next_place shape next r h e = grind arith
 
 -- a sound state stays sound
-pub state_stays : (shape : Shape) → (words : List ℕ) (places : List (Option Running)) (thread : ℕ) (running : Running) → IsState shape words places → IsPlace shape running → thread < length places
-    → IsState shape (words_after (access shape running) words) (set places thread (place_after (advance shape running (get_or words (accessed (access shape running)) 0))))
+pub state_stays : (shape : Shape) → (words : List ℕ) (places : List (Option Running)) (thread : ℕ) (running : Running)
+    → IsState shape words places → IsPlace shape running → thread < length places
+    → IsState shape (words_after (access shape running) words)
+    (set places thread (place_after (advance shape running (get_or words (accessed (access shape running)) 0))))
 state_stays shape words places thread running h s t =
     let within : accessed (access shape running) < length words = omega (arith, in_table shape running s, h.size) in
     let next : NextIsPlace shape (advance shape running (get_or words (accessed (access shape running)) 0)) =
@@ -154,26 +183,36 @@ state_stays shape words places thread running h s t =
       ];
       each_slot = λ i pos below. elim (get_or-after (access shape running) words i within) [
         | inl e ↦ rw e (h.each_slot i pos below)
-        | inr k ↦ rw k.1.1.1.2 (writes_slot shape running (accessed (access shape running)) k.1.0 k.1.1.0 s (omega (arith, pos, k.0)) k.1.1.1.0)
+        | inr k ↦ rw k.1.1.1.2 (writes_slot shape running (accessed (access shape running)) k.1.0 k.1.1.0 s (omega (arith, pos, k.0))
+            k.1.1.1.0)
       ];
       each_place = λ u r f. elim (cases_eq u thread) [
-        | inl same ↦ next_place shape (advance shape running (get_or words (accessed (access shape running)) 0)) r next (sym (get_or-set_at places thread u (place_after (advance shape running (get_or words (accessed (access shape running)) 0))) None same t) ∙ f)
-        | inr ne ↦ h.each_place u r (sym (get_or-set_other places thread u (place_after (advance shape running (get_or words (accessed (access shape running)) 0))) None ne) ∙ f)
+        | inl same ↦ next_place shape (advance shape running (get_or words (accessed (access shape running)) 0)) r next
+            (sym (get_or-set_at places thread u (place_after (advance shape running (get_or words (accessed (access shape running)) 0)))
+            None same t) ∙ f)
+        | inr ne ↦ h.each_place u r (sym (get_or-set_other places thread u
+            (place_after (advance shape running (get_or words (accessed (access shape running)) 0))) None ne) ∙ f)
       ];
     }
 
 -- the state after a step, as the machine says
-pub moved_is : (shape : Shape) (words : List ℕ) (places : List (Option Running)) (thread : ℕ) (running : Running) (a : Access) (word : ℕ) (next : Next) (new_words : List ℕ) (new_places : List (Option Running))
-    → a ≡ access shape running → word ≡ get_or words (accessed a) 0 → next ≡ advance shape running word → new_words ≡ words_after a words → new_places ≡ set places thread (place_after next)
-    → ◌≡◌ {A = World} (record { words = new_words; places = new_places }) (moved shape (record { words = words; places = places }) thread running)
+pub moved_is : (shape : Shape) (words : List ℕ) (places : List (Option Running)) (thread : ℕ) (running : Running) (a : Access) (word : ℕ)
+    (next : Next) (new_words : List ℕ) (new_places : List (Option Running))
+    → a ≡ access shape running → word ≡ get_or words (accessed a) 0 → next ≡ advance shape running word → new_words ≡ words_after a words
+    → new_places ≡ set places thread (place_after next)
+    → ◌≡◌ {A = World} (record { words = new_words; places = new_places })
+    (moved shape (record { words = words; places = places }) thread running)
 unfolding moved found word_at
 moved_is shape words places thread running a word next new_words new_places ea ew en e1 e2 = rw (e2, e1, en, ew, ea) refl
 
-pub sound_is : (shape : Shape) → (words : List ℕ) (places : List (Option Running)) (thread : ℕ) (running : Running) (a : Access) (word : ℕ) (next : Next) (new_words : List ℕ) (new_places : List (Option Running))
+pub sound_is : (shape : Shape) → (words : List ℕ) (places : List (Option Running)) (thread : ℕ) (running : Running) (a : Access) (word : ℕ)
+    (next : Next) (new_words : List ℕ) (new_places : List (Option Running))
     → IsState shape words places → IsPlace shape running → thread < length places
-    → a ≡ access shape running → word ≡ get_or words (accessed a) 0 → next ≡ advance shape running word → new_words ≡ words_after a words → new_places ≡ set places thread (place_after next)
+    → a ≡ access shape running → word ≡ get_or words (accessed a) 0 → next ≡ advance shape running word → new_words ≡ words_after a words
+    → new_places ≡ set places thread (place_after next)
     → IsState shape new_words new_places
-sound_is shape words places thread running a word next new_words new_places h s t ea ew en e1 e2 = rw (e2, e1, en, ew, ea) (state_stays shape words places thread running h s t)
+sound_is shape words places thread running a word next new_words new_places h s t ea ew en e1 e2 =
+    rw (e2, e1, en, ew, ea) (state_stays shape words places thread running h s t)
 
 -- what the step comes to, as the machine says
 pub outcome_is : (shape : Shape) (world : World) (running : Running) (a : Access) (word : ℕ) (next : Next)
@@ -210,12 +249,14 @@ opens shape size threads is = record {
 }
 
 -- a tick leaves the state sound
-pub tick_stays : (shape : Shape) (words : List ℕ) (places : List (Option Running)) (time : ℕ) → IsState shape words places → IsState shape (set words (clock_at shape.k shape.n) time) places
+pub tick_stays : (shape : Shape) (words : List ℕ) (places : List (Option Running)) (time : ℕ) → IsState shape words places
+    → IsState shape (set words (clock_at shape.k shape.n) time) places
 tick_stays shape words places time h =
     record {
       size = length-set words (clock_at shape.k shape.n) time ∙ h.size;
       ends = rw (get_or-set_other words (clock_at shape.k shape.n) 0 time 0 (λ e. absurd (omega arith))) h.ends;
-      each_slot = λ i above below. rw (get_or-set_other words (clock_at shape.k shape.n) i time 0 (λ e. absurd (omega arith))) (h.each_slot i above below);
+      each_slot = λ i above below. rw (get_or-set_other words (clock_at shape.k shape.n) i time 0 (λ e. absurd (omega arith)))
+          (h.each_slot i above below);
       each_place = h.each_place;
     }
 
@@ -226,6 +267,7 @@ pub all_none : (threads : ℕ) → map (λ (_ : ℕ). no_place) (range_with_len 
 all_none threads = sym (splat_is_map (range_with_len 0 threads) threads no_place (length-range_with_len 0 threads))
 
 pub opening_is : (shape : Shape) (threads : ℕ) (words : List ℕ) (places : List (Option Running))
-    → words ≡ replicate (2 + shape.n * shape.k) 0 → places ≡ replicate threads None → ◌≡◌ {A = World} (record { words = words; places = places }) (opening shape threads)
+    → words ≡ replicate (2 + shape.n * shape.k) 0 → places ≡ replicate threads None
+    → ◌≡◌ {A = World} (record { words = words; places = places }) (opening shape threads)
 unfolding opening
 opening_is shape threads words places w p = rw (w, p) refl

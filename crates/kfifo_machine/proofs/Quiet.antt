@@ -33,7 +33,8 @@ RoundNext round (Goes running) = cond (opens_round running) (round_of running + 
 RoundNext round (Answers A.Busy) = round ≡ 1
 RoundNext round (Answers other) = Unit {0}
 
-pub round_next : (shape : Shape) (running : Running) (word : ℕ) → IsPlace shape running → RoundNext (round_of running) (advance shape running word)
+pub round_next : (shape : Shape) (running : Running) (word : ℕ) → IsPlace shape running
+    → RoundNext (round_of running) (advance shape running word)
 round_next shape running word place = grind (arith, nat_tests)
 
 -- the words after an access, by their indexes
@@ -91,7 +92,8 @@ watched (R.Dequeue start left phase) = watched_by_dequeue phase
 pub watched-below : (shape : Shape) (running : Running) → IsPlace shape running → watched running < clock_at shape.k shape.n
 watched-below shape running place = grind (arith, nat_tests)
 
-pub still_quiet : (w v : ℕ → ℕ) (running : Running) → v 0 ≡ w 0 → v (watched running) ≡ w (watched running) → Quiet w running → Quiet v running
+pub still_quiet : (w v : ℕ → ℕ) (running : Running) → v 0 ≡ w 0 → v (watched running) ≡ w (watched running) → Quiet w running
+    → Quiet v running
 still_quiet w v running ends slot quiet = grind arith
 
 -- a quiet step that moves neither head nor tail stays in its round, and is not Busy
@@ -100,12 +102,16 @@ NextQuiet w (Goes running) = (opens_round running ≡ false) × Quiet w running
 NextQuiet w (Answers A.Busy) = ⊥
 NextQuiet w (Answers other) = Unit {0}
 
-pub enqueue_quiet : (shape : Shape) (w : ℕ → ℕ) (item start left : ℕ) (phase : EnqueuePhase) (word : ℕ) → IsPlace shape (R.Enqueue item start left phase) → EnqueueQuiet w phase
-    → word ≡ w (accessed (access shape (R.Enqueue item start left phase))) → moves_head (R.Enqueue item start left phase) word ≡ false → moves_tail (R.Enqueue item start left phase) word ≡ false
+pub enqueue_quiet : (shape : Shape) (w : ℕ → ℕ) (item start left : ℕ) (phase : EnqueuePhase) (word : ℕ)
+    → IsPlace shape (R.Enqueue item start left phase) → EnqueueQuiet w phase
+    → word ≡ w (accessed (access shape (R.Enqueue item start left phase))) → moves_head (R.Enqueue item start left phase) word ≡ false
+    → moves_tail (R.Enqueue item start left phase) word ≡ false
     → NextQuiet (words_by (access shape (R.Enqueue item start left phase)) w) (advance shape (R.Enqueue item start left phase) word)
 enqueue_quiet shape w item start left phase word place quiet is no_head no_tail = grind (arith, nat_tests, scan_index-is_slot)
 
-pub dequeue_quiet : (shape : Shape) (w : ℕ → ℕ) (start left : ℕ) (phase : DequeuePhase) (word : ℕ) → IsPlace shape (R.Dequeue start left phase) → DequeueQuiet w phase
-    → word ≡ w (accessed (access shape (R.Dequeue start left phase))) → moves_head (R.Dequeue start left phase) word ≡ false → moves_tail (R.Dequeue start left phase) word ≡ false
+pub dequeue_quiet : (shape : Shape) (w : ℕ → ℕ) (start left : ℕ) (phase : DequeuePhase) (word : ℕ)
+    → IsPlace shape (R.Dequeue start left phase) → DequeueQuiet w phase
+    → word ≡ w (accessed (access shape (R.Dequeue start left phase))) → moves_head (R.Dequeue start left phase) word ≡ false
+    → moves_tail (R.Dequeue start left phase) word ≡ false
     → NextQuiet (words_by (access shape (R.Dequeue start left phase)) w) (advance shape (R.Dequeue start left phase) word)
 dequeue_quiet shape w start left phase word place quiet is no_head no_tail = grind (arith, nat_tests, scan_index-is_slot)

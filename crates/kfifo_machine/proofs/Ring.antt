@@ -19,14 +19,16 @@ ring_add n a d h =
     ]
 
 -- the same of any number v of the window that begins at a
-pub ring_window : (n a v : ℕ) → a ≤ v → v < a + n → ((a % n + (v - a) < n) × (v % n ≡ a % n + (v - a))) ⊎ ((n ≤ a % n + (v - a)) × (v % n + n ≡ a % n + (v - a)))
+pub ring_window : (n a v : ℕ) → a ≤ v → v < a + n → ((a % n + (v - a) < n) × (v % n ≡ a % n + (v - a)))
+    ⊎ ((n ≤ a % n + (v - a)) × (v % n + n ≡ a % n + (v - a)))
 ring_window n a v l h = let e : a + (v - a) ≡ v = omega arith in rw e at (ring_add n a (v - a) (omega arith))
 
 pub next-mod : (n a : ℕ) → 2 ≤ n → next_segment n (a % n) ≡ (a + 1) % n
 unfolding next_segment
 next-mod n a h =
     let below : a % n < n = mod-lt a (omega arith) in
-    let r : ((a % n + 1 < n) × ((a + 1) % n ≡ a % n + 1)) ⊎ ((n ≤ a % n + 1) × ((a + 1) % n + n ≡ a % n + 1)) = ring_add n a 1 (omega arith) in
+    let r : ((a % n + 1 < n) × ((a + 1) % n ≡ a % n + 1)) ⊎ ((n ≤ a % n + 1) × ((a + 1) % n + n ≡ a % n + 1)) =
+    ring_add n a 1 (omega arith) in
     grind (arith, nat_tests)
 
 -- two numbers of one place, less than a round apart, are one
@@ -39,7 +41,10 @@ same_place n a v l h e =
 pub next_place : (n a b : ℕ) → 2 ≤ n → a ≤ b → b < a + n → (next_segment n (b % n) ≡ a % n) → b + 1 ≡ a + n
 next_place n a b h l u e =
     let s : (b + 1) % n ≡ a % n = sym (next-mod n b h) ∙ e in
-    elim (cases_lt (b + 1) (a + n)) [ inl lt ↦ let z : b + 1 ≡ a = same_place n a (b + 1) (omega arith) lt s in absurd (omega arith) | inr ge ↦ omega arith ]
+    elim (cases_lt (b + 1) (a + n)) [
+      | inl lt ↦ let z : b + 1 ≡ a = same_place n a (b + 1) (omega arith) lt s in absurd (omega arith)
+      | inr ge ↦ omega arith
+    ]
 
 pub not_next_place : (n a b : ℕ) → 2 ≤ n → a ≤ b → b < a + n → (next_segment n (b % n) ≡ a % n → ⊥) → b + 1 < a + n
 not_next_place n a b h l u ne =

@@ -1,5 +1,6 @@
 -- What one event and a schedule leave of the machine.
-use Rattle.std.proofs.Common.{◌≡◌, ◌≢◌, ◌⊎◌, ℕ, zero, suc, ◌+◌, ◌<◌, List, [], ◌∷◌, ◌++◌, length, get_or, Option, Some, None, Result, Ok, Err, Bool, true, false, refl, sym, ap, ◌∙◌, subst, inl, inr, arith, cond, eq-eqb, nat_lt, take, add-one}
+use Rattle.std.proofs.Common.{◌≡◌, ◌≢◌, ◌⊎◌, ℕ, zero, suc, ◌+◌, ◌<◌, List, [], ◌∷◌, ◌++◌, length, get_or, Option, Some, None, Result, Ok}
+use Rattle.std.proofs.Common.{Err, Bool, true, false, refl, sym, ap, ◌∙◌, subst, inl, inr, arith, cond, eq-eqb, nat_lt, take, add-one}
 use Rattle.std.specs.Prelude.{◌==◌, slice_get}
 use Rattle.std.proofs.lemmas.List.{get_or-set_other, length-set}
 use Rattle.std.proofs.lemmas.List.Elements.{filter-append}
@@ -19,7 +20,8 @@ use Rattle.kfifo_words.specs.Ring.{clock_at}
 use Rattle.kfifo_machine.specs.declared.event.NotEnabled.{NotEnabled}
 use Rattle.kfifo_machine.specs.declared.place.Running.{Running}
 use Rattle.kfifo_machine.specs.Program.{advance}
-use Rattle.kfifo_machine.specs.Machine.{World, word_at, opening, moved, ticked, found, place_of, place_after, outcome_of, begun, may_begin, step_from, step, world_of, run, after, IsFirstRefused}
+use Rattle.kfifo_machine.specs.Machine.{World, word_at, opening, moved, ticked, found, place_of, place_after, outcome_of, begun, may_begin}
+use Rattle.kfifo_machine.specs.Machine.{step_from, step, world_of, run, after, IsFirstRefused}
 use Rattle.kfifo_machine.specs.Runs.{own, going}
 
 pub Some-injective : {A : Type 0} (x y : A) → Some x ≡ Some y → x ≡ y
@@ -29,12 +31,14 @@ pub run_none : (shape : Shape) (events : List Event) → run shape None events �
 run_none shape [] = refl
 run_none shape (e ∷ es) = refl
 
-pub run-append : (shape : Shape) (world : Option World) (xs ys : List Event) → run shape world (xs ++ ys) ≡ run shape (run shape world xs) ys
+pub run-append : (shape : Shape) (world : Option World) (xs ys : List Event)
+    → run shape world (xs ++ ys) ≡ run shape (run shape world xs) ys
 run-append shape world [] ys = refl
 run-append shape None (e ∷ xs) ys = sym (run_none shape ys)
 run-append shape (Some world) (e ∷ xs) ys = run-append shape (world_of (step shape world e)) xs ys
 
-pub run_on : (shape : Shape) (world : Option World) (here : World) (xs ys : List Event) → run shape world xs ≡ Some here → run shape world (xs ++ ys) ≡ run shape (Some here) ys
+pub run_on : (shape : Shape) (world : Option World) (here : World) (xs ys : List Event) → run shape world xs ≡ Some here
+    → run shape world (xs ++ ys) ≡ run shape (Some here) ys
 run_on shape world here xs ys is = run-append shape world xs ys ∙ ap (λ (o : Option World). run shape o ys) is
 
 -- a schedule with one event more
@@ -42,7 +46,8 @@ pub after-snoc : (shape : Shape) (threads : ℕ) (events : List Event) (here : W
     → after shape threads (events ++ e ∷ []) ≡ world_of (step shape here e)
 after-snoc shape threads events here e is = run_on shape (Some (opening shape threads)) here events (e ∷ []) is
 
-is_some_world : (o : Option World) (shape : Shape) (there : World) (ys : List Event) → run shape o ys ≡ Some there → (here : World) × (o ≡ Some here)
+is_some_world : (o : Option World) (shape : Shape) (there : World) (ys : List Event) → run shape o ys ≡ Some there → (here : World)
+    × (o ≡ Some here)
 is_some_world None shape there ys is = absurd (let e : None ≡ Some there = sym (run_none shape ys) ∙ is in cc)
 is_some_world (Some here) shape there ys is = (here, refl)
 
@@ -57,15 +62,18 @@ run_before shape world there xs ys is =
 pub own-append : (thread : ℕ) (xs ys : List Event) → own thread (xs ++ ys) ≡ own thread xs ++ own thread ys
 own-append thread xs ys = filter-append (λ (e : Event). e.thread == thread) xs ys
 
-pub take-next : (events : List Event) (place : ℕ) (d : Event) → place < length events → take (place + 1) events ≡ take place events ++ get_or events place d ∷ []
+pub take-next : (events : List Event) (place : ℕ) (d : Event) → place < length events
+    → take (place + 1) events ≡ take place events ++ get_or events place d ∷ []
 take-next events place d within = rw add-one (take-suc events place d within)
 
 -- where the events up to a place are a schedule, and the next one is made, those up to the next place are one
-pub goes_on : (shape : Shape) (threads : ℕ) (events : List Event) (place : ℕ) (d : Event) (s : Shape) (here there : World) (outcome : Outcome)
+pub goes_on : (shape : Shape) (threads : ℕ) (events : List Event) (place : ℕ) (d : Event) (s : Shape) (here there : World)
+    (outcome : Outcome)
     → place < length events → s ≡ shape → after shape threads (take place events) ≡ Some here
     → step s here (get_or events place d) ≡ Ok (there, outcome) → after shape threads (take (place + 1) events) ≡ Some there
 goes_on shape threads events place d s here there outcome within same is made =
-    ap (after shape threads) (take-next events place d within) ∙ after-snoc shape threads (take place events) here (get_or events place d) is
+    ap (after shape threads) (take-next events place d within)
+    ∙ after-snoc shape threads (take place events) here (get_or events place d) is
     ∙ ap world_of (ap (λ (x : Shape). step x here (get_or events place d)) (sym same) ∙ made)
 
 slice_get-is : (events : List Event) (place : ℕ) (d : Event) → place < length events → slice_get events place ≡ Some (get_or events place d)
@@ -87,13 +95,15 @@ stops shape threads events place d s here fault within same is refused = record 
 }
 
 -- how an event was made: a thread's step from a place, or a tick
-pub record StepsFrom (shape : Shape) (here : World) (thread : ℕ) (place : Option Running) (begin : Option Begin) (there : World) (outcome : Outcome) : Type 0 where
+pub record StepsFrom (shape : Shape) (here : World) (thread : ℕ) (place : Option Running) (begin : Option Begin) (there : World)
+    (outcome : Outcome) : Type 0 where
   pub running : Running
   pub goes : going shape place begin ≡ Some running
   pub there_is : there ≡ moved shape here thread running
   pub outcome_is : outcome ≡ outcome_of (advance shape running (found shape here running))
 
-pub record Ticks (shape : Shape) (here : World) (place : Option Running) (begin : Option Begin) (there : World) (outcome : Outcome) : Type 0 where
+pub record Ticks (shape : Shape) (here : World) (place : Option Running) (begin : Option Begin) (there : World)
+    (outcome : Outcome) : Type 0 where
   pub idle : place ≡ None
   pub begins : begin ≡ Some B.Tick
   pub there_is : there ≡ ticked shape here
@@ -106,18 +116,22 @@ abbrev made : World → Outcome → Made
 made world outcome = Ok (world, outcome)
 
 parts_of : (x y : World) (o p : Outcome) → ◌≡◌ {A = Made} (Ok (x, o)) (Ok (y, p)) → (y ≡ x) × (p ≡ o)
-parts_of x y o p e = let pair : ◌≡◌ {A = World × Outcome} (x, o) (y, p) = cc in (ap (λ (z : World × Outcome). z.0) (sym pair), ap (λ (z : World × Outcome). z.1) (sym pair))
+parts_of x y o p e = let pair : ◌≡◌ {A = World × Outcome} (x, o) (y, p) = cc in
+    (ap (λ (z : World × Outcome). z.0) (sym pair), ap (λ (z : World × Outcome). z.1) (sym pair))
 
-may_have_begun : (m : Bool) (x y : World) (o p : Outcome) → ◌≡◌ {A = Made} (cond m (Ok (x, o)) (Err BadCall)) (Ok (y, p)) → (m ≡ true) × (y ≡ x) × (p ≡ o)
+may_have_begun : (m : Bool) (x y : World) (o p : Outcome) → ◌≡◌ {A = Made} (cond m (Ok (x, o)) (Err BadCall)) (Ok (y, p)) → (m ≡ true)
+    × (y ≡ x) × (p ≡ o)
 may_have_begun true x y o p e = let k = parts_of x y o p e in (refl, k.0, k.1)
 may_have_begun false x y o p e = absurd (cc)
 
-may_have_ticked : (m : Bool) (x y : World) (o p : Outcome) → ◌≡◌ {A = Made} (cond m (Err ClockSpent) (Ok (x, o))) (Ok (y, p)) → (y ≡ x) × (p ≡ o)
+may_have_ticked : (m : Bool) (x y : World) (o p : Outcome) → ◌≡◌ {A = Made} (cond m (Err ClockSpent) (Ok (x, o))) (Ok (y, p)) → (y ≡ x)
+    × (p ≡ o)
 may_have_ticked false x y o p e = parts_of x y o p e
 may_have_ticked true x y o p e = absurd (cc)
 
 by_place : (shape : Shape) (here : World) (thread : ℕ) (place : Option Running) (begin : Option Begin) (there : World) (outcome : Outcome)
-    → step_from shape here thread place begin ≡ Ok (there, outcome) → StepsFrom shape here thread place begin there outcome ⊎ Ticks shape here place begin there outcome
+    → step_from shape here thread place begin ≡ Ok (there, outcome) → StepsFrom shape here thread place begin there outcome
+    ⊎ Ticks shape here place begin there outcome
 by_place shape here thread None None there outcome is = absurd (cc)
 by_place shape here thread None (Some (B.Enqueue item start turns)) there outcome is =
     let k = may_have_begun (may_begin shape (B.Enqueue item start turns)) _ there _ outcome is in
@@ -143,53 +157,67 @@ by_place shape here thread (Some running) None there outcome is =
     inl record { running = running; goes = refl; there_is = k.0; outcome_is = k.1 }
 by_place shape here thread (Some running) (Some begin) there outcome is = absurd (cc)
 
-in_range : (shape : Shape) (here : World) (e : Event) (there : World) (outcome : Outcome) (b : Bool) → nat_lt e.thread (length here.places) ≡ b
+in_range : (shape : Shape) (here : World) (e : Event) (there : World) (outcome : Outcome) (b : Bool)
+    → nat_lt e.thread (length here.places) ≡ b
     → cond b (step_from shape here e.thread (place_of here e.thread) e.begin) (Err NoSuchThread) ≡ Ok (there, outcome)
     → (e.thread < length here.places) × (step_from shape here e.thread (place_of here e.thread) e.begin ≡ Ok (there, outcome))
 in_range shape here e there outcome true t is = (ltb-true e.thread (length here.places) t, is)
 in_range shape here e there outcome false t is = absurd (cc)
 
 -- an event that was made is of a thread that is there
-pub made_within : (shape : Shape) (here : World) (e : Event) (there : World) (outcome : Outcome) → step shape here e ≡ Ok (there, outcome) → e.thread < length here.places
+pub made_within : (shape : Shape) (here : World) (e : Event) (there : World) (outcome : Outcome) → step shape here e ≡ Ok (there, outcome)
+    → e.thread < length here.places
 unfolding step
 made_within shape here e there outcome is = (in_range shape here e there outcome (nat_lt e.thread (length here.places)) refl is).0
 
 -- and is a step from a place, or a tick
 pub stepped : (shape : Shape) (here : World) (e : Event) (there : World) (outcome : Outcome) → step shape here e ≡ Ok (there, outcome)
-    → StepsFrom shape here e.thread (place_of here e.thread) e.begin there outcome ⊎ Ticks shape here (place_of here e.thread) e.begin there outcome
+    → StepsFrom shape here e.thread (place_of here e.thread) e.begin there outcome
+    ⊎ Ticks shape here (place_of here e.thread) e.begin there outcome
 unfolding step
 stepped shape here e there outcome is =
-    by_place shape here e.thread (place_of here e.thread) e.begin there outcome (in_range shape here e there outcome (nat_lt e.thread (length here.places)) refl is).1
+    by_place shape here e.thread (place_of here e.thread) e.begin there outcome
+    (in_range shape here e there outcome (nat_lt e.thread (length here.places)) refl is).1
 
-first_steps : (shape : Shape) (here : World) (thread : ℕ) (place : Option Running) (begin : Option Begin) (running : Running) → going shape place begin ≡ Some running
-    → step_from shape here thread place begin ≡ made (moved shape here thread running) (outcome_of (advance shape running (found shape here running)))
+first_steps : (shape : Shape) (here : World) (thread : ℕ) (place : Option Running) (begin : Option Begin) (running : Running)
+    → going shape place begin ≡ Some running
+    → step_from shape here thread place begin
+    ≡ made (moved shape here thread running) (outcome_of (advance shape running (found shape here running)))
 first_steps shape here thread None None running is = absurd (cc)
 first_steps shape here thread None (Some B.Tick) running is = absurd (cc)
 first_steps shape here thread None (Some (B.Enqueue item start turns)) running is = begins (may_begin shape (B.Enqueue item start turns)) is
   where
     begins : (m : Bool) → cond m (Some (R.Enqueue item start turns E.LoadEnds)) None ≡ Some running
-        → cond m (made (moved shape here thread (R.Enqueue item start turns E.LoadEnds)) Went) (Err BadCall) ≡ made (moved shape here thread running) (outcome_of (advance shape running (found shape here running)))
-    begins true e = subst (λ (r : Running). ◌≡◌ {A = Made} (Ok (moved shape here thread (R.Enqueue item start turns E.LoadEnds), Went)) (Ok (moved shape here thread r, outcome_of (advance shape r (found shape here r))))) (Some-injective _ _ e) refl
+        → cond m (made (moved shape here thread (R.Enqueue item start turns E.LoadEnds)) Went) (Err BadCall)
+        ≡ made (moved shape here thread running) (outcome_of (advance shape running (found shape here running)))
+    begins true e = subst (λ (r : Running). ◌≡◌ {A = Made} (Ok (moved shape here thread (R.Enqueue item start turns E.LoadEnds), Went))
+        (Ok (moved shape here thread r, outcome_of (advance shape r (found shape here r))))) (Some-injective _ _ e) refl
     begins false e = absurd (cc)
 first_steps shape here thread None (Some (B.Dequeue start turns)) running is = begins (may_begin shape (B.Dequeue start turns)) is
   where
     begins : (m : Bool) → cond m (Some (R.Dequeue start turns D.LoadEnds)) None ≡ Some running
-        → cond m (made (moved shape here thread (R.Dequeue start turns D.LoadEnds)) Went) (Err BadCall) ≡ made (moved shape here thread running) (outcome_of (advance shape running (found shape here running)))
-    begins true e = subst (λ (r : Running). ◌≡◌ {A = Made} (Ok (moved shape here thread (R.Dequeue start turns D.LoadEnds), Went)) (Ok (moved shape here thread r, outcome_of (advance shape r (found shape here r))))) (Some-injective _ _ e) refl
+        → cond m (made (moved shape here thread (R.Dequeue start turns D.LoadEnds)) Went) (Err BadCall)
+        ≡ made (moved shape here thread running) (outcome_of (advance shape running (found shape here running)))
+    begins true e = subst (λ (r : Running). ◌≡◌ {A = Made} (Ok (moved shape here thread (R.Dequeue start turns D.LoadEnds), Went))
+        (Ok (moved shape here thread r, outcome_of (advance shape r (found shape here r))))) (Some-injective _ _ e) refl
     begins false e = absurd (cc)
-first_steps shape here thread (Some old) None running is = ap (λ (r : Running). Ok (moved shape here thread r, outcome_of (advance shape r (found shape here r)))) (Some-injective _ _ is)
+first_steps shape here thread (Some old) None running is =
+    ap (λ (r : Running). Ok (moved shape here thread r, outcome_of (advance shape r (found shape here r)))) (Some-injective _ _ is)
 first_steps shape here thread (Some old) (Some begin) running is = absurd (cc)
 
 -- an event of a thread that goes on from a place is made
-pub steps_on : (shape : Shape) (here : World) (e : Event) (running : Running) → e.thread < length here.places → going shape (place_of here e.thread) e.begin ≡ Some running
+pub steps_on : (shape : Shape) (here : World) (e : Event) (running : Running) → e.thread < length here.places
+    → going shape (place_of here e.thread) e.begin ≡ Some running
     → step shape here e ≡ Ok (moved shape here e.thread running, outcome_of (advance shape running (found shape here running)))
 unfolding step
 steps_on shape here e running within goes =
-    ap (λ b. cond b (step_from shape here e.thread (place_of here e.thread) e.begin) (Err NoSuchThread)) (lt-ltb e.thread (length here.places) within)
+    ap (λ b. cond b (step_from shape here e.thread (place_of here e.thread) e.begin) (Err NoSuchThread))
+    (lt-ltb e.thread (length here.places) within)
     ∙ first_steps shape here e.thread (place_of here e.thread) e.begin running goes
 
 -- Locality: an event leaves each other thread where it was
-pub other_place : (shape : Shape) (here : World) (e : Event) (there : World) (outcome : Outcome) (thread : ℕ) → thread ≢ e.thread → step shape here e ≡ Ok (there, outcome)
+pub other_place : (shape : Shape) (here : World) (e : Event) (there : World) (outcome : Outcome) (thread : ℕ) → thread ≢ e.thread
+    → step shape here e ≡ Ok (there, outcome)
     → place_of there thread ≡ place_of here thread
 unfolding moved ticked place_of
 other_place shape here e there outcome thread apart is =
@@ -200,11 +228,13 @@ other_place shape here e there outcome thread apart is =
     ]
 
 -- the number of threads stays
-pub same_threads : (shape : Shape) (here : World) (e : Event) (there : World) (outcome : Outcome) → step shape here e ≡ Ok (there, outcome) → length there.places ≡ length here.places
+pub same_threads : (shape : Shape) (here : World) (e : Event) (there : World) (outcome : Outcome) → step shape here e ≡ Ok (there, outcome)
+    → length there.places ≡ length here.places
 unfolding moved ticked
 same_threads shape here e there outcome is =
     elim (stepped shape here e there outcome is) [
-      | inl s ↦ ap (λ (w : World). length w.places) s.there_is ∙ length-set here.places e.thread (place_after (advance shape s.running (found shape here s.running)))
+      | inl s ↦ ap (λ (w : World). length w.places) s.there_is
+          ∙ length-set here.places e.thread (place_after (advance shape s.running (found shape here s.running)))
       | inr t ↦ ap (λ (w : World). length w.places) t.there_is
     ]
 
@@ -222,12 +252,14 @@ first_made shape here e there es is = by_result (step shape here e) refl is
 pub own_none : (thread : ℕ) (e : Event) (es : List Event) → own thread (e ∷ es) ≡ [] → (thread ≢ e.thread) × (own thread es ≡ [])
 own_none thread e es empty = cases (e.thread == thread) refl empty
   where
-    cases : (b : Bool) → (e.thread == thread) ≡ b → cond b (e ∷ own thread es) (own thread es) ≡ [] → (thread ≢ e.thread) × (own thread es ≡ [])
+    cases : (b : Bool) → (e.thread == thread) ≡ b → cond b (e ∷ own thread es) (own thread es) ≡ [] → (thread ≢ e.thread)
+        × (own thread es ≡ [])
     cases true is gone = absurd (cc)
     cases false is gone = ((λ same. absurd (let h : (e.thread == thread) ≡ true = eq-eqb e.thread thread (sym same) in (cc))), gone)
 
 -- Locality: a schedule with no event of a thread leaves it where it was
-pub same_place : (shape : Shape) (here there : World) (events : List Event) (thread : ℕ) → own thread events ≡ [] → run shape (Some here) events ≡ Some there
+pub same_place : (shape : Shape) (here there : World) (events : List Event) (thread : ℕ) → own thread events ≡ []
+    → run shape (Some here) events ≡ Some there
     → place_of there thread ≡ place_of here thread
 same_place shape here there [] thread empty is = ap (λ (w : World). place_of w thread) (sym (Some-injective _ _ is))
 same_place shape here there (e ∷ es) thread empty is =
@@ -235,7 +267,8 @@ same_place shape here there (e ∷ es) thread empty is =
     let m = first_made shape here e there es is in
     same_place shape m.0 there es thread n.1 m.1.1.1 ∙ other_place shape here e m.0 m.1.0 thread n.0 m.1.1.0
 
-pub still_threads : (shape : Shape) (here there : World) (events : List Event) → run shape (Some here) events ≡ Some there → length there.places ≡ length here.places
+pub still_threads : (shape : Shape) (here there : World) (events : List Event) → run shape (Some here) events ≡ Some there
+    → length there.places ≡ length here.places
 still_threads shape here there [] is = ap (λ (w : World). length w.places) (sym (Some-injective _ _ is))
 still_threads shape here there (e ∷ es) is =
     let m = first_made shape here e there es is in

@@ -1,5 +1,6 @@
 -- No item stands in two slots where each enqueue begins with a free one.
-use Rattle.std.proofs.Common.{◌≡◌, ◌≢◌, ◌⊎◌, ℕ, zero, suc, ◌+◌, ◌*◌, ◌<◌, List, [], ◌∷◌, get_or, replicate, Option, Some, None, Ok, Bool, true, false, refl, sym, ap, ◌∙◌, subst, inl, inr, arith, cond, eq-eqb, ne_eqb}
+use Rattle.std.proofs.Common.{◌≡◌, ◌≢◌, ◌⊎◌, ℕ, zero, suc, ◌+◌, ◌*◌, ◌<◌, List, [], ◌∷◌, get_or, replicate, Option, Some, None, Ok, Bool}
+use Rattle.std.proofs.Common.{true, false, refl, sym, ap, ◌∙◌, subst, inl, inr, arith, cond, eq-eqb, ne_eqb}
 use Rattle.std.specs.Prelude.{◌==◌}
 use Rattle.std.proofs.lemmas.Bool.{cases_eq}
 use Rattle.std.proofs.lemmas.Bool.Decides.{nat_tests}
@@ -22,7 +23,8 @@ use Rattle.kfifo_machine.specs.declared.place.Next.{Next}
 use Rattle.kfifo_machine.specs.declared.place.Next.TheVariants.{Goes, Answers}
 use Rattle.kfifo_machine.specs.declared.place.Access.TheVariants.{Exchange}
 use Rattle.kfifo_machine.specs.Program.{access, accessed, advance, emptied, enqueue_advance, filled_with}
-use Rattle.kfifo_machine.specs.Machine.{World, opening, ticked, word_at, place_of, place_after, begun, may_begin, found, step, run, world_of}
+use Rattle.kfifo_machine.specs.Machine.{World, opening, ticked, word_at, place_of, place_after, begun, may_begin, found, step, run}
+use Rattle.kfifo_machine.specs.Machine.{world_of}
 use Rattle.kfifo_machine.specs.Runs.{going}
 use Rattle.kfifo_machine.specs.Places.{IsPlace}
 use Rattle.kfifo_machine.specs.Tokens.{AllBeginFree, BeginsFree, ItemsAreTokens, held_at, held_in}
@@ -72,17 +74,21 @@ is_undo (E.Undo index filled worn) = true
 is_undo phase = false
 
 -- a step other than an undo lets go of an item, or holds what was held
-held_before : (shape : Shape) (item start left : ℕ) (phase : EnqueuePhase) (word x : ℕ) → is_undo phase ≡ false → NextHolds (enqueue_advance shape item start left phase word) x → held_in item phase ≡ Some x
+held_before : (shape : Shape) (item start left : ℕ) (phase : EnqueuePhase) (word x : ℕ) → is_undo phase ≡ false
+    → NextHolds (enqueue_advance shape item start left phase word) x → held_in item phase ≡ Some x
 held_before shape item start left phase word x none holds = grind (arith, nat_tests)
 
-none_held : (shape : Shape) (start left : ℕ) (phase : DequeuePhase) (word x : ℕ) → NextHolds (advance shape (R.Dequeue start left phase) word) x → ⊥
+none_held : (shape : Shape) (start left : ℕ) (phase : DequeuePhase) (word x : ℕ)
+    → NextHolds (advance shape (R.Dequeue start left phase) word) x → ⊥
 none_held shape start left phase word x holds = grind (arith, nat_tests)
 
 -- what a step does to the slots
 data Touch (c : ℕ) (w v : ℕ → ℕ) (running : Running) (next : Next) : Type 0 where
   Leaves : ((i : ℕ) → 0 < i → i < c → v i ≡ w i) → ((x : ℕ) → NextHolds next x → held_at running ≡ Some x) → Touch c w v running next
-  Fills : (item index : ℕ) → held_at running ≡ Some item → value_of (v index) ≡ item → ((i : ℕ) → i ≢ index → v i ≡ w i) → ((x : ℕ) → NextHolds next x → ⊥) → Touch c w v running next
-  Empties : (index : ℕ) → 0 < index → index < c → value_of (v index) ≡ 0 → ((i : ℕ) → i ≢ index → v i ≡ w i) → ((x : ℕ) → NextHolds next x → (x ≡ value_of (w index)) × (0 < x)) → Touch c w v running next
+  Fills : (item index : ℕ) → held_at running ≡ Some item → value_of (v index) ≡ item → ((i : ℕ) → i ≢ index → v i ≡ w i)
+      → ((x : ℕ) → NextHolds next x → ⊥) → Touch c w v running next
+  Empties : (index : ℕ) → 0 < index → index < c → value_of (v index) ≡ 0 → ((i : ℕ) → i ≢ index → v i ≡ w i)
+      → ((x : ℕ) → NextHolds next x → (x ≡ value_of (w index)) × (0 < x)) → Touch c w v running next
 
 other_word : (w : ℕ → ℕ) (index from to i : ℕ) → i ≢ index → words_by (Exchange index from to) w i ≡ w i
 other_word w index from to i ne = grind (arith, nat_tests)
@@ -93,56 +99,86 @@ this_word w index from to won = grind (arith, nat_tests)
 lost_word : (w : ℕ → ℕ) (index from to i : ℕ) → w index ≢ from → words_by (Exchange index from to) w i ≡ w i
 lost_word w index from to i lost = grind (arith, nat_tests)
 
-put_lets_go : (shape : Shape) (item start left ends index empty word x : ℕ) → word ≡ empty → NextHolds (enqueue_advance shape item start left (E.Put ends index empty) word) x → ⊥
+put_lets_go : (shape : Shape) (item start left ends index empty word x : ℕ) → word ≡ empty
+    → NextHolds (enqueue_advance shape item start left (E.Put ends index empty) word) x → ⊥
 put_lets_go shape item start left ends index empty word x won holds = grind (arith, nat_tests)
 
-undo_holds : (shape : Shape) (item start left index filled word x : ℕ) (worn : Bool) → NextHolds (enqueue_advance shape item start left (E.Undo index filled worn) word) x → x ≡ item
+undo_holds : (shape : Shape) (item start left index filled word x : ℕ) (worn : Bool)
+    → NextHolds (enqueue_advance shape item start left (E.Undo index filled worn) word) x → x ≡ item
 undo_holds shape item start left index filled word x worn holds = grind (arith, nat_tests)
 
-undo_lost : (shape : Shape) (item start left index filled word x : ℕ) (worn : Bool) → word ≢ filled → NextHolds (enqueue_advance shape item start left (E.Undo index filled worn) word) x → ⊥
+undo_lost : (shape : Shape) (item start left index filled word x : ℕ) (worn : Bool) → word ≢ filled
+    → NextHolds (enqueue_advance shape item start left (E.Undo index filled worn) word) x → ⊥
 undo_lost shape item start left index filled word x worn lost holds = grind (arith, nat_tests)
 
 module _ (shape : Shape) (w : ℕ → ℕ) where
   touches_enqueue : (item start left : ℕ) (phase : EnqueuePhase) → IsPlace shape (R.Enqueue item start left phase) → EnqueueKnows item phase
-      → Touch (clock_at shape.k shape.n) w (words_by (access shape (R.Enqueue item start left phase)) w) (R.Enqueue item start left phase) (advance shape (R.Enqueue item start left phase) (w (accessed (access shape (R.Enqueue item start left phase)))))
-  touches_enqueue item start left E.LoadEnds place knows = Leaves (λ i a b. refl) (λ x h. held_before shape item start left E.LoadEnds (w 0) x refl h)
-  touches_enqueue item start left (E.ScanTail ends offset) place knows = Leaves (λ i a b. refl) (λ x h. held_before shape item start left (E.ScanTail ends offset) _ x refl h)
-  touches_enqueue item start left (E.Recheck ends seen) place knows = Leaves (λ i a b. refl) (λ x h. held_before shape item start left (E.Recheck ends seen) _ x refl h)
+      → Touch (clock_at shape.k shape.n) w (words_by (access shape (R.Enqueue item start left phase)) w) (R.Enqueue item start left phase)
+      (advance shape (R.Enqueue item start left phase) (w (accessed (access shape (R.Enqueue item start left phase)))))
+  touches_enqueue item start left E.LoadEnds place knows =
+      Leaves (λ i a b. refl) (λ x h. held_before shape item start left E.LoadEnds (w 0) x refl h)
+  touches_enqueue item start left (E.ScanTail ends offset) place knows =
+      Leaves (λ i a b. refl) (λ x h. held_before shape item start left (E.ScanTail ends offset) _ x refl h)
+  touches_enqueue item start left (E.Recheck ends seen) place knows =
+      Leaves (λ i a b. refl) (λ x h. held_before shape item start left (E.Recheck ends seen) _ x refl h)
   touches_enqueue item start left (E.Put ends index empty) place knows =
       elim (cases_eq (w index) empty) [
-        | inl won ↦ Fills item index refl (ap value_of (this_word w index empty (filled_with item empty) won) ∙ value-filled_with item empty place.1) (λ i ne. other_word w index empty (filled_with item empty) i ne)
+        | inl won ↦ Fills item index refl (ap value_of (this_word w index empty (filled_with item empty) won)
+            ∙ value-filled_with item empty place.1) (λ i ne. other_word w index empty (filled_with item empty) i ne)
             (λ x h. put_lets_go shape item start left ends index empty (w index) x won h)
-        | inr lost ↦ Leaves (λ i a b. lost_word w index empty (filled_with item empty) i lost) (λ x h. held_before shape item start left (E.Put ends index empty) (w index) x refl h)
+        | inr lost ↦ Leaves (λ i a b. lost_word w index empty (filled_with item empty) i lost)
+            (λ x h. held_before shape item start left (E.Put ends index empty) (w index) x refl h)
       ]
-  touches_enqueue item start left (E.ReloadSlot ends index filled) place knows = Leaves (λ i a b. refl) (λ x h. held_before shape item start left (E.ReloadSlot ends index filled) _ x refl h)
-  touches_enqueue item start left (E.ReloadEnds ends index filled) place knows = Leaves (λ i a b. refl) (λ x h. held_before shape item start left (E.ReloadEnds ends index filled) _ x refl h)
-  touches_enqueue item start left (E.HoldHead index filled held) place knows = Leaves (λ i a b. slots_stay w held _ i a) (λ x h. held_before shape item start left (E.HoldHead index filled held) _ x refl h)
+  touches_enqueue item start left (E.ReloadSlot ends index filled) place knows =
+      Leaves (λ i a b. refl) (λ x h. held_before shape item start left (E.ReloadSlot ends index filled) _ x refl h)
+  touches_enqueue item start left (E.ReloadEnds ends index filled) place knows =
+      Leaves (λ i a b. refl) (λ x h. held_before shape item start left (E.ReloadEnds ends index filled) _ x refl h)
+  touches_enqueue item start left (E.HoldHead index filled held) place knows =
+      Leaves (λ i a b. slots_stay w held _ i a) (λ x h. held_before shape item start left (E.HoldHead index filled held) _ x refl h)
   touches_enqueue item start left (E.Undo index filled worn) place knows =
       elim (cases_eq (w index) filled) [
-        | inl won ↦ Empties index place.4.1.above place.4.1.below (ap value_of (this_word w index filled (emptied filled) won) ∙ value-emptied filled) (λ i ne. other_word w index filled (emptied filled) i ne)
-            (λ x h. let is = undo_holds shape item start left index filled (w index) x worn h in (is ∙ sym knows ∙ ap value_of (sym won), (let some = place.0 in omega arith)))
-        | inr lost ↦ Leaves (λ i a b. lost_word w index filled (emptied filled) i lost) (λ x h. absurd (undo_lost shape item start left index filled (w index) x worn lost h))
+        | inl won ↦ Empties index place.4.1.above place.4.1.below
+            (ap value_of (this_word w index filled (emptied filled) won) ∙ value-emptied filled)
+            (λ i ne. other_word w index filled (emptied filled) i ne)
+            (λ x h. let is = undo_holds shape item start left index filled (w index) x worn h in
+            (is ∙ sym knows ∙ ap value_of (sym won), (let some = place.0 in omega arith)))
+        | inr lost ↦ Leaves (λ i a b. lost_word w index filled (emptied filled) i lost)
+            (λ x h. absurd (undo_lost shape item start left index filled (w index) x worn lost h))
       ]
-  touches_enqueue item start left (E.ScanHead ends offset) place knows = Leaves (λ i a b. refl) (λ x h. held_before shape item start left (E.ScanHead ends offset) _ x refl h)
-  touches_enqueue item start left (E.ConfirmFull ends) place knows = Leaves (λ i a b. refl) (λ x h. held_before shape item start left (E.ConfirmFull ends) _ x refl h)
-  touches_enqueue item start left (E.MoveHead ends) place knows = Leaves (λ i a b. slots_stay w ends _ i a) (λ x h. held_before shape item start left (E.MoveHead ends) (w 0) x refl h)
-  touches_enqueue item start left (E.MoveTail ends) place knows = Leaves (λ i a b. slots_stay w ends _ i a) (λ x h. held_before shape item start left (E.MoveTail ends) (w 0) x refl h)
+  touches_enqueue item start left (E.ScanHead ends offset) place knows =
+      Leaves (λ i a b. refl) (λ x h. held_before shape item start left (E.ScanHead ends offset) _ x refl h)
+  touches_enqueue item start left (E.ConfirmFull ends) place knows =
+      Leaves (λ i a b. refl) (λ x h. held_before shape item start left (E.ConfirmFull ends) _ x refl h)
+  touches_enqueue item start left (E.MoveHead ends) place knows =
+      Leaves (λ i a b. slots_stay w ends _ i a) (λ x h. held_before shape item start left (E.MoveHead ends) (w 0) x refl h)
+  touches_enqueue item start left (E.MoveTail ends) place knows =
+      Leaves (λ i a b. slots_stay w ends _ i a) (λ x h. held_before shape item start left (E.MoveTail ends) (w 0) x refl h)
 
   touches_dequeue : (start left : ℕ) (phase : DequeuePhase) → IsPlace shape (R.Dequeue start left phase)
-      → Touch (clock_at shape.k shape.n) w (words_by (access shape (R.Dequeue start left phase)) w) (R.Dequeue start left phase) (advance shape (R.Dequeue start left phase) (w (accessed (access shape (R.Dequeue start left phase)))))
+      → Touch (clock_at shape.k shape.n) w (words_by (access shape (R.Dequeue start left phase)) w) (R.Dequeue start left phase)
+      (advance shape (R.Dequeue start left phase) (w (accessed (access shape (R.Dequeue start left phase)))))
   touches_dequeue start left D.LoadEnds place = Leaves (λ i a b. refl) (λ x h. absurd (none_held shape start left D.LoadEnds (w 0) x h))
-  touches_dequeue start left (D.ScanHead ends offset) place = Leaves (λ i a b. refl) (λ x h. absurd (none_held shape start left (D.ScanHead ends offset) _ x h))
-  touches_dequeue start left (D.Recheck ends seen) place = Leaves (λ i a b. refl) (λ x h. absurd (none_held shape start left (D.Recheck ends seen) _ x h))
-  touches_dequeue start left (D.MoveTail ends index filled) place = Leaves (λ i a b. slots_stay w ends _ i a) (λ x h. absurd (none_held shape start left (D.MoveTail ends index filled) _ x h))
+  touches_dequeue start left (D.ScanHead ends offset) place =
+      Leaves (λ i a b. refl) (λ x h. absurd (none_held shape start left (D.ScanHead ends offset) _ x h))
+  touches_dequeue start left (D.Recheck ends seen) place =
+      Leaves (λ i a b. refl) (λ x h. absurd (none_held shape start left (D.Recheck ends seen) _ x h))
+  touches_dequeue start left (D.MoveTail ends index filled) place =
+      Leaves (λ i a b. slots_stay w ends _ i a) (λ x h. absurd (none_held shape start left (D.MoveTail ends index filled) _ x h))
   touches_dequeue start left (D.Take ends index filled) place =
       elim (cases_eq (w index) filled) [
-        | inl won ↦ Empties index place.2.1.above place.2.1.below (ap value_of (this_word w index filled (emptied filled) won) ∙ value-emptied filled) (λ i ne. other_word w index filled (emptied filled) i ne)
+        | inl won ↦ Empties index place.2.1.above place.2.1.below
+            (ap value_of (this_word w index filled (emptied filled) won) ∙ value-emptied filled)
+            (λ i ne. other_word w index filled (emptied filled) i ne)
             (λ x h. absurd (none_held shape start left (D.Take ends index filled) (w index) x h))
-        | inr lost ↦ Leaves (λ i a b. lost_word w index filled (emptied filled) i lost) (λ x h. absurd (none_held shape start left (D.Take ends index filled) (w index) x h))
+        | inr lost ↦ Leaves (λ i a b. lost_word w index filled (emptied filled) i lost)
+            (λ x h. absurd (none_held shape start left (D.Take ends index filled) (w index) x h))
       ]
-  touches_dequeue start left (D.MoveHead ends) place = Leaves (λ i a b. slots_stay w ends _ i a) (λ x h. absurd (none_held shape start left (D.MoveHead ends) (w 0) x h))
+  touches_dequeue start left (D.MoveHead ends) place =
+      Leaves (λ i a b. slots_stay w ends _ i a) (λ x h. absurd (none_held shape start left (D.MoveHead ends) (w 0) x h))
 
-  touches : (running : Running) → IsPlace shape running → EnqueueAt running → Touch (clock_at shape.k shape.n) w (words_by (access shape running) w) running (advance shape running (w (accessed (access shape running))))
+  touches : (running : Running) → IsPlace shape running → EnqueueAt running
+      → Touch (clock_at shape.k shape.n) w (words_by (access shape running) w) running
+      (advance shape running (w (accessed (access shape running))))
   touches (R.Enqueue item start left phase) place knows = touches_enqueue item start left phase place knows
   touches (R.Dequeue start left phase) place knows = touches_dequeue start left phase place
 
@@ -164,7 +200,8 @@ knows_next (Goes running) r at knows = subst EnqueueAt (Some-injective running r
 knows_next (Answers answer) r at knows = absurd (cc)
 
 -- a thread's step keeps it
-module _ (c : ℕ) (w v : ℕ → ℕ) (place later : ℕ → Option Running) (t : ℕ) (r : Running) (next : Next) (free : IsFree c w place) (at : place t ≡ Some r) (then_at : later t ≡ place_after next)
+module _ (c : ℕ) (w v : ℕ → ℕ) (place later : ℕ → Option Running) (t : ℕ) (r : Running) (next : Next) (free : IsFree c w place)
+    (at : place t ≡ Some r) (then_at : later t ≡ place_after next)
     (others : (u : ℕ) → u ≢ t → later u ≡ place u) (told : NextAt next) where
   -- who stands where afterwards: the thread itself, or one that stood there
   stood : (u : ℕ) (s : Running) → later u ≡ Some s → ((u ≡ t) × (place_after next ≡ Some s)) ⊎ ((u ≢ t) × (place u ≡ Some s))
@@ -179,15 +216,20 @@ module _ (c : ℕ) (w v : ℕ → ℕ) (place later : ℕ → Option Running) (t
   free_after : Touch c w v r next → IsFree c v later
   free_after (Leaves same held) =
       -- what is held was held
-      let was : (u : ℕ) (s : Running) (x : ℕ) → later u ≡ Some s → held_at s ≡ Some x → (q : Running) × (place u ≡ Some q) × (held_at q ≡ Some x) =
+      let was : (u : ℕ) (s : Running) (x : ℕ) → later u ≡ Some s → held_at s ≡ Some x → (q : Running) × (place u ≡ Some q)
+      × (held_at q ≡ Some x) =
       λ u s x is holds. elim (stood u s is) [
         | inl mine ↦ (r, ap place mine.0 ∙ at, held x (held_next next s x mine.1 holds))
         | inr theirs ↦ (s, theirs.1, holds)
       ] in
       record {
-        once = λ i j a b d e ne some same_value. free.once i j a b d e ne (λ none. some (ap value_of (same i a b) ∙ none)) (ap value_of (sym (same i a b)) ∙ same_value ∙ ap value_of (same j d e));
-        apart = λ u s x is holds i a b same_value. let q = was u s x is holds in free.apart u q.0 x q.1 q.2 i a b (ap value_of (sym (same i a b)) ∙ same_value);
-        alone = λ u o s q x is holds is_too holds_too. let a = was u s x is holds in let b = was o q x is_too holds_too in free.alone u o a.0 b.0 x a.1 a.2 b.1 b.2;
+        once = λ i j a b d e ne some same_value.
+            free.once i j a b d e ne (λ none. some (ap value_of (same i a b) ∙ none))
+            (ap value_of (sym (same i a b)) ∙ same_value ∙ ap value_of (same j d e));
+        apart = λ u s x is holds i a b same_value. let q = was u s x is holds in
+            free.apart u q.0 x q.1 q.2 i a b (ap value_of (sym (same i a b)) ∙ same_value);
+        alone = λ u o s q x is holds is_too holds_too. let a = was u s x is holds in let b = was o q x is_too holds_too in
+            free.alone u o a.0 b.0 x a.1 a.2 b.1 b.2;
         some = λ u s x is holds. let q = was u s x is holds in free.some u q.0 x q.1 q.2;
         knows = knows_later;
       }
@@ -205,7 +247,8 @@ module _ (c : ℕ) (w v : ℕ → ℕ) (place later : ℕ → Option Running) (t
             | inl at_j ↦
                 let mine : value_of (v j) ≡ item = ap (λ n. value_of (v n)) at_j ∙ filled in
                 free.apart t r item at holding i a b (ap value_of (sym (same i not_i)) ∙ same_value ∙ mine)
-            | inr not_j ↦ free.once i j a b d e ne (λ none. some (ap value_of (same i not_i) ∙ none)) (ap value_of (sym (same i not_i)) ∙ same_value ∙ ap value_of (same j not_j))
+            | inr not_j ↦ free.once i j a b d e ne (λ none. some (ap value_of (same i not_i) ∙ none))
+                (ap value_of (sym (same i not_i)) ∙ same_value ∙ ap value_of (same j not_j))
           ]
         ];
         apart = λ u s x is holds i a b same_value. let q = was u s x is holds in elim (cases_eq i index) [
@@ -214,7 +257,8 @@ module _ (c : ℕ) (w v : ℕ → ℕ) (place later : ℕ → Option Running) (t
               q.0 (free.alone u t s r item q.1 (holds ∙ ap Some (sym item_is)) at holding)
           | inr not_i ↦ free.apart u s x q.1 holds i a b (ap value_of (sym (same i not_i)) ∙ same_value)
         ];
-        alone = λ u o s q x is holds is_too holds_too. free.alone u o s q x (was u s x is holds).1 holds (was o q x is_too holds_too).1 holds_too;
+        alone = λ u o s q x is holds is_too holds_too.
+            free.alone u o s q x (was u s x is holds).1 holds (was o q x is_too holds_too).1 holds_too;
         some = λ u s x is holds. free.some u s x (was u s x is holds).1 holds;
         knows = knows_later;
       }
@@ -224,7 +268,8 @@ module _ (c : ℕ) (w v : ℕ → ℕ) (place later : ℕ → Option Running) (t
         once = λ i j a b d e ne some same_value.
             let not_i : i ≢ index = λ is. some (zero_at i is) in
             let not_j : j ≢ index = λ is. some (same_value ∙ zero_at j is) in
-            free.once i j a b d e ne (λ none. some (ap value_of (same i not_i) ∙ none)) (ap value_of (sym (same i not_i)) ∙ same_value ∙ ap value_of (same j not_j));
+            free.once i j a b d e ne (λ none. some (ap value_of (same i not_i) ∙ none))
+            (ap value_of (sym (same i not_i)) ∙ same_value ∙ ap value_of (same j not_j));
         apart = λ u s x is holds i a b same_value. elim (stood u s is) [
           | inl mine ↦
               let n = again x (held_next next s x mine.1 holds) in
@@ -242,14 +287,16 @@ module _ (c : ℕ) (w v : ℕ → ℕ) (place later : ℕ → Option Running) (t
         alone = λ u o s q x is holds is_too holds_too. elim (stood u s is) [
           | inl mine ↦ elim (stood o q is_too) [
             | inl too ↦ mine.0 ∙ sym too.0
-            | inr theirs ↦ absurd (free.apart o q x theirs.1 holds_too index above below (sym (again x (held_next next s x mine.1 holds)).0))
+            | inr theirs ↦ absurd (free.apart o q x theirs.1 holds_too index above below
+                (sym (again x (held_next next s x mine.1 holds)).0))
           ]
           | inr theirs ↦ elim (stood o q is_too) [
             | inl too ↦ absurd (free.apart u s x theirs.1 holds index above below (sym (again x (held_next next q x too.1 holds_too)).0))
             | inr others ↦ free.alone u o s q x theirs.1 holds others.1 holds_too
           ]
         ];
-        some = λ u s x is holds. elim (stood u s is) [ inl mine ↦ (again x (held_next next s x mine.1 holds)).1 | inr theirs ↦ free.some u s x theirs.1 holds ];
+        some = λ u s x is holds. elim (stood u s is)
+            [ inl mine ↦ (again x (held_next next s x mine.1 holds)).1 | inr theirs ↦ free.some u s x theirs.1 holds ];
         knows = knows_later;
       }
 
@@ -264,7 +311,8 @@ put_other : (place : ℕ → Option Running) (t : ℕ) (r : Running) (u : ℕ) �
 put_other place t r u ne = ap (λ b. cond b (Some r) (place u)) (ne_eqb u t ne)
 
 free_with : (c : ℕ) (w : ℕ → ℕ) (place : ℕ → Option Running) (t : ℕ) (r : Running) → IsFree c w place → EnqueueAt r
-    → ((x : ℕ) → held_at r ≡ Some x → (0 < x) × ((i : ℕ) → 0 < i → i < c → value_of (w i) ≢ x) × ((u : ℕ) (s : Running) → u ≢ t → place u ≡ Some s → held_at s ≢ Some x))
+    → ((x : ℕ) → held_at r ≡ Some x → (0 < x) × ((i : ℕ) → 0 < i → i < c → value_of (w i) ≢ x)
+    × ((u : ℕ) (s : Running) → u ≢ t → place u ≡ Some s → held_at s ≢ Some x))
     → IsFree c w (put_in place t r)
 free_with c w place t r free knows new =
     let stood : (u : ℕ) (s : Running) → put_in place t r u ≡ Some s → ((u ≡ t) × (r ≡ s)) ⊎ ((u ≢ t) × (place u ≡ Some s)) =
@@ -274,7 +322,8 @@ free_with c w place t r free knows new =
     ] in
     record {
       once = free.once;
-      apart = λ u s x is holds. elim (stood u s is) [ inl mine ↦ (new x (ap held_at mine.1 ∙ holds)).1 | inr theirs ↦ free.apart u s x theirs.1 holds ];
+      apart = λ u s x is holds. elim (stood u s is)
+          [ inl mine ↦ (new x (ap held_at mine.1 ∙ holds)).1 | inr theirs ↦ free.apart u s x theirs.1 holds ];
       alone = λ u o s q x is holds is_too holds_too. elim (stood u s is) [
         | inl mine ↦ elim (stood o q is_too) [
           | inl too ↦ mine.0 ∙ sym too.0
@@ -285,20 +334,28 @@ free_with c w place t r free knows new =
           | inr others ↦ free.alone u o s q x theirs.1 holds others.1 holds_too
         ]
       ];
-      some = λ u s x is holds. elim (stood u s is) [ inl mine ↦ (new x (ap held_at mine.1 ∙ holds)).0 | inr theirs ↦ free.some u s x theirs.1 holds ];
+      some = λ u s x is holds. elim (stood u s is)
+          [ inl mine ↦ (new x (ap held_at mine.1 ∙ holds)).0 | inr theirs ↦ free.some u s x theirs.1 holds ];
       knows = λ u s is. elim (stood u s is) [ inl mine ↦ subst EnqueueAt mine.1 knows | inr theirs ↦ free.knows u s theirs.1 ];
     }
 
 -- what the step of a thread begins with: its call's own item, or that of a call that begins with a free one
-holds_free : (shape : Shape) (here : World) (t : ℕ) (place : Option Running) (begin : Option Begin) (r : Running) → IsFree (clock_at shape.k shape.n) (word_at here) (place_of here) → place_of here t ≡ place → going shape place begin ≡ Some r
+holds_free : (shape : Shape) (here : World) (t : ℕ) (place : Option Running) (begin : Option Begin) (r : Running)
+    → IsFree (clock_at shape.k shape.n) (word_at here) (place_of here) → place_of here t ≡ place → going shape place begin ≡ Some r
     → IsPlace shape r → BeginsFree shape here begin
-    → EnqueueAt r × ((x : ℕ) → held_at r ≡ Some x → (0 < x) × ((i : ℕ) → 0 < i → i < clock_at shape.k shape.n → value_of (word_at here i) ≢ x) × ((u : ℕ) (s : Running) → u ≢ t → place_of here u ≡ Some s → held_at s ≢ Some x))
+    → EnqueueAt r × ((x : ℕ) → held_at r ≡ Some x → (0 < x)
+    × ((i : ℕ) → 0 < i → i < clock_at shape.k shape.n → value_of (word_at here i) ≢ x)
+    × ((u : ℕ) (s : Running) → u ≢ t → place_of here u ≡ Some s → held_at s ≢ Some x))
 holds_free shape here t None None r free at goes fits begins = absurd (cc)
 holds_free shape here t (Some q) (Some begin) r free at goes fits begins = absurd (cc)
 holds_free shape here t (Some q) None r free at goes fits begins =
     let there : place_of here t ≡ Some r = at ∙ goes in (
       free.knows t r there,
-      λ x holds. (free.some t r x there holds, free.apart t r x there holds, λ u s ne is holds_too. ne (free.alone u t s r x is holds_too there holds)),
+      λ x holds. (
+        free.some t r x there holds,
+        free.apart t r x there holds,
+        λ u s ne is holds_too. ne (free.alone u t s r x is holds_too there holds),
+      ),
     )
 holds_free shape here t None (Some (B.Dequeue start turns)) r free at goes fits begins =
     let is : r ≡ R.Dequeue start turns D.LoadEnds = begun_dequeue (may_begin shape (B.Dequeue start turns)) goes in
@@ -325,10 +382,13 @@ holds_free shape here t None (Some (B.Enqueue item start turns)) r free at goes 
 holds_free shape here t None (Some B.Tick) r free at goes fits begins = absurd (cc)
 
 -- the same words and places
-free_same : (c : ℕ) (w v : ℕ → ℕ) (place later : ℕ → Option Running) → IsFree c w place → ((i : ℕ) → 0 < i → i < c → v i ≡ w i) → ((u : ℕ) → later u ≡ place u) → IsFree c v later
+free_same : (c : ℕ) (w v : ℕ → ℕ) (place later : ℕ → Option Running) → IsFree c w place → ((i : ℕ) → 0 < i → i < c → v i ≡ w i)
+    → ((u : ℕ) → later u ≡ place u) → IsFree c v later
 free_same c w v place later free same still = record {
-  once = λ i j a b d e ne some same_value. free.once i j a b d e ne (λ none. some (ap value_of (same i a b) ∙ none)) (ap value_of (sym (same i a b)) ∙ same_value ∙ ap value_of (same j d e));
-  apart = λ u s x is holds i a b same_value. free.apart u s x (sym (still u) ∙ is) holds i a b (ap value_of (sym (same i a b)) ∙ same_value);
+  once = λ i j a b d e ne some same_value. free.once i j a b d e ne (λ none. some (ap value_of (same i a b) ∙ none))
+      (ap value_of (sym (same i a b)) ∙ same_value ∙ ap value_of (same j d e));
+  apart = λ u s x is holds i a b same_value.
+      free.apart u s x (sym (still u) ∙ is) holds i a b (ap value_of (sym (same i a b)) ∙ same_value);
   alone = λ u o s q x is holds is_too holds_too. free.alone u o s q x (sym (still u) ∙ is) holds (sym (still o) ∙ is_too) holds_too;
   some = λ u s x is holds. free.some u s x (sym (still u) ∙ is) holds;
   knows = λ u s is. free.knows u s (sym (still u) ∙ is);
@@ -336,10 +396,12 @@ free_same c w v place later free same still = record {
 
 word-ticked : (shape : Shape) (here : World) (i : ℕ) → i < clock_at shape.k shape.n → word_at (ticked shape here) i ≡ word_at here i
 unfolding word_at ticked
-word-ticked shape here i below = get_or-set_other here.words (clock_at shape.k shape.n) i (get_or here.words (clock_at shape.k shape.n) 0 + 1) 0 (λ same. absurd (omega arith))
+word-ticked shape here i below = get_or-set_other here.words (clock_at shape.k shape.n) i
+    (get_or here.words (clock_at shape.k shape.n) 0 + 1) 0 (λ same. absurd (omega arith))
 
 -- an event keeps it
-free_event : (shape : Shape) (here there : World) (e : Event) (outcome : Outcome) → IsSound shape here → step shape here e ≡ Ok (there, outcome) → BeginsFree shape here e.begin
+free_event : (shape : Shape) (here there : World) (e : Event) (outcome : Outcome) → IsSound shape here
+    → step shape here e ≡ Ok (there, outcome) → BeginsFree shape here e.begin
     → IsFree (clock_at shape.k shape.n) (word_at here) (place_of here) → IsFree (clock_at shape.k shape.n) (word_at there) (place_of there)
 unfolding found word_at
 free_event shape here there e outcome is_sound made begins free =
@@ -347,16 +409,19 @@ free_event shape here there e outcome is_sound made begins free =
       | inl s ↦
           let c = clock_at shape.k shape.n in
           let r = s.running in
-          let fits : IsPlace shape r = going_place shape (place_of here e.thread) e.begin r (λ q at. place_is shape here e.thread q is_sound at) s.goes in
+          let fits : IsPlace shape r = going_place shape (place_of here e.thread) e.begin r
+          (λ q at. place_is shape here e.thread q is_sound at) s.goes in
           let new = holds_free shape here e.thread (place_of here e.thread) e.begin r free refl s.goes fits begins in
           let before = free_with c (word_at here) (place_of here) e.thread r free new.0 new.1 in
           let next = advance shape r (word_at here (accessed (access shape r))) in
           let same_next : advance shape r (found shape here r) ≡ next = ap (advance shape r) (found-word shape here r) in
           let at : place_of there e.thread ≡ place_after next =
-          ap (λ (x : World). place_of x e.thread) s.there_is ∙ own_place shape here e.thread r (made_within shape here e there outcome made) ∙ ap place_after same_next in
+          ap (λ (x : World). place_of x e.thread) s.there_is ∙ own_place shape here e.thread r (made_within shape here e there outcome made)
+          ∙ ap place_after same_next in
           let others : (u : ℕ) → u ≢ e.thread → place_of there u ≡ put_in (place_of here) e.thread r u =
           λ u ne. other_place shape here e there outcome u ne made ∙ sym (put_other (place_of here) e.thread r u ne) in
-          let after = free_after c (word_at here) (words_by (access shape r) (word_at here)) (put_in (place_of here) e.thread r) (place_of there) e.thread r next before (put_here (place_of here) e.thread r) at others
+          let after = free_after c (word_at here) (words_by (access shape r) (word_at here)) (put_in (place_of here) e.thread r)
+          (place_of there) e.thread r next before (put_here (place_of here) e.thread r) at others
           (knows_on shape r (word_at here (accessed (access shape r))) fits new.0) (touches shape (word_at here) r fits new.0) in
           free_same c (words_by (access shape r) (word_at here)) (word_at there) (place_of there) (place_of there) after
           (λ i above below. ap (λ (x : World). word_at x i) s.there_is ∙ word-moved shape here e.thread r i is_sound fits) (λ u. refl)
@@ -370,15 +435,19 @@ free_event shape here there e outcome is_sound made begins free =
     found-word shape here r = refl
 
 -- so does a schedule
-free_along : (shape : Shape) (here there : World) (events : List Event) → IsSound shape here → AllBeginFree shape (Some here) events → run shape (Some here) events ≡ Some there
+free_along : (shape : Shape) (here there : World) (events : List Event) → IsSound shape here → AllBeginFree shape (Some here) events
+    → run shape (Some here) events ≡ Some there
     → IsFree (clock_at shape.k shape.n) (word_at here) (place_of here) → IsFree (clock_at shape.k shape.n) (word_at there) (place_of there)
-free_along shape here there [] is_sound begins is free = subst (λ (x : World). IsFree (clock_at shape.k shape.n) (word_at x) (place_of x)) (Some-injective here there is) free
+free_along shape here there [] is_sound begins is free =
+    subst (λ (x : World). IsFree (clock_at shape.k shape.n) (word_at x) (place_of x)) (Some-injective here there is) free
 free_along shape here there (e ∷ es) is_sound begins is free =
     let m = first_made shape here e there es is in
     let rest : AllBeginFree shape (Some m.0) es = subst (λ (o : Option World). AllBeginFree shape o es) (ap world_of m.1.1.0) begins.1 in
-    free_along shape m.0 there es (step_sound shape here e m.0 m.1.0 is_sound m.1.1.0) rest m.1.1.1 (free_event shape here m.0 e m.1.0 is_sound m.1.1.0 begins.0 free)
+    free_along shape m.0 there es (step_sound shape here e m.0 m.1.0 is_sound m.1.1.0) rest m.1.1.1
+    (free_event shape here m.0 e m.1.0 is_sound m.1.1.0 begins.0 free)
 
-opening_free : (shape : Shape) (threads : ℕ) → IsFree (clock_at shape.k shape.n) (word_at (opening shape threads)) (place_of (opening shape threads))
+opening_free : (shape : Shape) (threads : ℕ)
+    → IsFree (clock_at shape.k shape.n) (word_at (opening shape threads)) (place_of (opening shape threads))
 unfolding opening word_at place_of value_of
 opening_free shape threads =
     let none : (t : ℕ) (r : Running) → get_or (replicate threads None) t None ≡ Some r → ⊥ = λ t r at. idle threads t r at in
@@ -403,4 +472,5 @@ opening_free shape threads =
 -- The law
 pub items_are_tokens : (shape : Shape) (threads : ℕ) → ItemsAreTokens shape threads
 items_are_tokens shape threads events here is begins =
-    (free_along shape (opening shape threads) here events (sound shape threads [] (opening shape threads) refl) begins is (opening_free shape threads)).once
+    (free_along shape (opening shape threads) here events (sound shape threads [] (opening shape threads) refl) begins is
+    (opening_free shape threads)).once

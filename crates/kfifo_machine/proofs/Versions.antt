@@ -1,5 +1,6 @@
 -- What an event changes: one word at most, which rises.
-use Rattle.std.proofs.Common.{◌≡◌, ◌≢◌, ◌⊎◌, ℕ, ◌+◌, ◌<◌, ◌≤◌, List, [], ◌∷◌, length, get_or, Option, Some, None, Ok, refl, sym, ap, ◌∙◌, subst, inl, inr, arith, eq-eqb}
+use Rattle.std.proofs.Common.{◌≡◌, ◌≢◌, ◌⊎◌, ℕ, ◌+◌, ◌<◌, ◌≤◌, List, [], ◌∷◌, length, get_or, Option, Some, None, Ok, refl, sym, ap, ◌∙◌}
+use Rattle.std.proofs.Common.{subst, inl, inr, arith, eq-eqb}
 use Rattle.std.proofs.lemmas.Bool.{cases_eq}
 use Rattle.std.proofs.lemmas.Bool.Decides.{nat_tests}
 use Rattle.std.proofs.lemmas.Grind.{get_or-set_at}
@@ -49,24 +50,29 @@ unfolding version_of
 version-rises a b h = omega arith
 
 -- an exchange asks for a word above the one that it finds, of the next version
-pub rises : (shape : Shape) (running : Running) (index from to : ℕ) → IsPlace shape running → access shape running ≡ Exchange index from to → from < to
+pub rises : (shape : Shape) (running : Running) (index from to : ℕ) → IsPlace shape running → access shape running ≡ Exchange index from to
+    → from < to
 rises shape running index from to s e = grind (arith, nat_tests, slot_word-above, ends_word-above, next_segment-below)
 
-raises : (shape : Shape) (running : Running) (index from to : ℕ) → IsPlace shape running → access shape running ≡ Exchange index from to → version_of to ≡ version_of from + 1
+raises : (shape : Shape) (running : Running) (index from to : ℕ) → IsPlace shape running → access shape running ≡ Exchange index from to
+    → version_of to ≡ version_of from + 1
 raises shape running index from to s e = grind (arith, nat_tests, version-slot_word, version-ends_word, next_segment-below)
 
 -- a word that a step changes is one that it exchanged
 changed : (shape : Shape) (here : World) (thread : ℕ) (running : Running) (i : ℕ) → IsSound shape here → IsPlace shape running
-    → (word_at (moved shape here thread running) i ≡ word_at here i) ⊎ (access shape running ≡ Exchange i (word_at here i) (word_at (moved shape here thread running) i))
+    → (word_at (moved shape here thread running) i ≡ word_at here i)
+    ⊎ (access shape running ≡ Exchange i (word_at here i) (word_at (moved shape here thread running) i))
 unfolding moved word_at
 changed shape here thread running i sound place =
     let within : accessed (access shape running) < length here.words = omega (arith, in_table shape running place, sound.size) in
     elim (get_or-after (access shape running) here.words i within) [
       | inl e ↦ inl e
-      | inr k ↦ inr (k.1.1.1.0 ∙ ap (λ (a : ℕ). Exchange a k.1.0 k.1.1.0) (sym k.0) ∙ ap (λ (a : ℕ). Exchange i a k.1.1.0) (sym k.1.1.1.1) ∙ ap (λ (a : ℕ). Exchange i (get_or here.words i 0) a) (sym k.1.1.1.2))
+      | inr k ↦ inr (k.1.1.1.0 ∙ ap (λ (a : ℕ). Exchange a k.1.0 k.1.1.0) (sym k.0) ∙ ap (λ (a : ℕ). Exchange i a k.1.1.0) (sym k.1.1.1.1)
+          ∙ ap (λ (a : ℕ). Exchange i (get_or here.words i 0) a) (sym k.1.1.1.2))
     ]
 
-exchanged : (words : List ℕ) (index to : ℕ) → index < length words → get_or (words_after (Exchange index (get_or words index 0) to) words) index 0 ≡ to
+exchanged : (words : List ℕ) (index to : ℕ) → index < length words
+    → get_or (words_after (Exchange index (get_or words index 0) to) words) index 0 ≡ to
 exchanged words index to h = rw (eq-eqb (get_or words index 0) (get_or words index 0) refl) (get_or-set_at words index index to 0 refl h)
 
 pub won_word : (shape : Shape) (here : World) (thread : ℕ) (running : Running) (i to : ℕ) → IsSound shape here → IsPlace shape running
@@ -80,28 +86,37 @@ won_word shape here thread running i to sound place is =
 exchange-index : (i j a b c d : ℕ) → Exchange i a b ≡ Exchange j c d → i ≡ j
 exchange-index i j a b c d e = cc
 
-pub no_going_tick : (shape : Shape) (place : Option Running) (begin : Option Begin) (running : Running) → begin ≡ Some B.Tick → going shape place begin ≡ Some running → ⊥
-no_going_tick shape None begin running b is = let e : going shape None (Some B.Tick) ≡ Some running = ap (going shape None) (sym b) ∙ is in cc
-no_going_tick shape (Some r) begin running b is = let e : going shape (Some r) (Some B.Tick) ≡ Some running = ap (going shape (Some r)) (sym b) ∙ is in cc
+pub no_going_tick : (shape : Shape) (place : Option Running) (begin : Option Begin) (running : Running) → begin ≡ Some B.Tick
+    → going shape place begin ≡ Some running → ⊥
+no_going_tick shape None begin running b is = let e : going shape None (Some B.Tick) ≡ Some running = ap (going shape None) (sym b) ∙ is in
+    cc
+no_going_tick shape (Some r) begin running b is = let e : going shape (Some r) (Some B.Tick) ≡ Some running =
+    ap (going shape (Some r)) (sym b) ∙ is in cc
 
 -- the clock
-ticked-clock : (shape : Shape) (here : World) → IsSound shape here → word_at (ticked shape here) (clock_at shape.k shape.n) ≡ word_at here (clock_at shape.k shape.n) + 1
+ticked-clock : (shape : Shape) (here : World) → IsSound shape here
+    → word_at (ticked shape here) (clock_at shape.k shape.n) ≡ word_at here (clock_at shape.k shape.n) + 1
 unfolding ticked word_at
 ticked-clock shape here sound =
     let within : clock_at shape.k shape.n < length here.words = omega (arith, sound.size) in
-    get_or-set_at here.words (clock_at shape.k shape.n) (clock_at shape.k shape.n) (get_or here.words (clock_at shape.k shape.n) 0 + 1) 0 refl within
+    get_or-set_at here.words (clock_at shape.k shape.n) (clock_at shape.k shape.n) (get_or here.words (clock_at shape.k shape.n) 0 + 1) 0
+    refl within
 
 pub ticked-other : (shape : Shape) (here : World) (i : ℕ) → i ≢ clock_at shape.k shape.n → word_at (ticked shape here) i ≡ word_at here i
 unfolding ticked word_at
-ticked-other shape here i ne = get_or-set_other here.words (clock_at shape.k shape.n) i (get_or here.words (clock_at shape.k shape.n) 0 + 1) 0 ne
+ticked-other shape here i ne = get_or-set_other here.words (clock_at shape.k shape.n) i
+    (get_or here.words (clock_at shape.k shape.n) 0 + 1) 0 ne
 
 ticked-only : (shape : Shape) (here : World) (i : ℕ) → word_at (ticked shape here) i ≢ word_at here i → i ≡ clock_at shape.k shape.n
-ticked-only shape here i ne = elim (cases_eq i (clock_at shape.k shape.n)) [ inl e ↦ e | inr apart ↦ absurd (ne (ticked-other shape here i apart)) ]
+ticked-only shape here i ne = elim (cases_eq i (clock_at shape.k shape.n))
+    [ inl e ↦ e | inr apart ↦ absurd (ne (ticked-other shape here i apart)) ]
 
-one_word_moved : (shape : Shape) (here : World) (e : Event) (running : Running) → IsSound shape here → IsPlace shape running → going shape (place_of here e.thread) e.begin ≡ Some running
+one_word_moved : (shape : Shape) (here : World) (e : Event) (running : Running) → IsSound shape here → IsPlace shape running
+    → going shape (place_of here e.thread) e.begin ≡ Some running
     → OneWord shape here (moved shape here e.thread running) e
 one_word_moved shape here e running sound place goes =
-    let told : (i : ℕ) → word_at (moved shape here e.thread running) i ≢ word_at here i → access shape running ≡ Exchange i (word_at here i) (word_at (moved shape here e.thread running) i) =
+    let told : (i : ℕ) → word_at (moved shape here e.thread running) i ≢ word_at here i
+    → access shape running ≡ Exchange i (word_at here i) (word_at (moved shape here e.thread running) i) =
     λ i ne. elim (changed shape here e.thread running i sound place) [ inl same ↦ absurd (ne same) | inr x ↦ x ] in
     record {
       at_most_one = λ i j ni nj. exchange-index i j _ _ _ _ (sym (told i ni) ∙ told j nj);
@@ -113,7 +128,8 @@ one_word_moved shape here e running sound place goes =
       ticked = λ i t. absurd (no_going_tick shape (place_of here e.thread) e.begin running t.begins goes);
     }
 
-one_word_ticked : (shape : Shape) (here : World) (e : Event) → IsSound shape here → e.begin ≡ Some B.Tick → OneWord shape here (ticked shape here) e
+one_word_ticked : (shape : Shape) (here : World) (e : Event) → IsSound shape here → e.begin ≡ Some B.Tick
+    → OneWord shape here (ticked shape here) e
 one_word_ticked shape here e sound begins = record {
   at_most_one = λ i j ni nj. ticked-only shape here i ni ∙ sym (ticked-only shape here j nj);
   only_so = λ i ne. inr record { begins = begins; clock = ticked-only shape here i ne };
@@ -122,7 +138,8 @@ one_word_ticked shape here e sound begins = record {
 }
 
 -- An event changes one word at most, by a won exchange or a tick
-pub one_word : (shape : Shape) (here : World) (e : Event) (there : World) (outcome : Outcome) → IsSound shape here → step shape here e ≡ Ok (there, outcome) → OneWord shape here there e
+pub one_word : (shape : Shape) (here : World) (e : Event) (there : World) (outcome : Outcome) → IsSound shape here
+    → step shape here e ≡ Ok (there, outcome) → OneWord shape here there e
 one_word shape here e there outcome sound is =
     elim (stepped shape here e there outcome is) [
       | inl s ↦ subst (λ (w : World). OneWord shape here w e) (sym s.there_is)
@@ -132,29 +149,38 @@ one_word shape here e there outcome sound is =
     ]
 
 -- No word falls
-pub word_rises : (shape : Shape) (here : World) (e : Event) (there : World) (outcome : Outcome) (i : ℕ) → IsSound shape here → step shape here e ≡ Ok (there, outcome) → word_at here i ≤ word_at there i
+pub word_rises : (shape : Shape) (here : World) (e : Event) (there : World) (outcome : Outcome) (i : ℕ) → IsSound shape here
+    → step shape here e ≡ Ok (there, outcome) → word_at here i ≤ word_at there i
 word_rises shape here e there outcome i sound is =
     let one = one_word shape here e there outcome sound is in
     elim (cases_eq (word_at there i) (word_at here i)) [
       | inl same ↦ omega arith
       | inr ne ↦ elim (one.only_so i ne) [
         | inl w ↦
-            let place : IsPlace shape w.running = going_place shape (place_of here e.thread) e.begin w.running (λ r at. place_is shape here e.thread r sound at) w.stands in
+            let place : IsPlace shape w.running = going_place shape (place_of here e.thread) e.begin w.running
+            (λ r at. place_is shape here e.thread r sound at) w.stands in
             omega (arith, rises shape w.running i (word_at here i) (word_at there i) place w.exchange)
         | inr t ↦ omega (arith, one.ticked i t)
       ]
     ]
 
-pub step_rises : (shape : Shape) (here : World) (e : Event) (there : World) (outcome : Outcome) → IsSound shape here → step shape here e ≡ Ok (there, outcome) → NoneFalls here there
+pub step_rises : (shape : Shape) (here : World) (e : Event) (there : World) (outcome : Outcome) → IsSound shape here
+    → step shape here e ≡ Ok (there, outcome) → NoneFalls here there
 step_rises shape here e there outcome sound is =
-    λ i. (word_rises shape here e there outcome i sound is, version-rises (word_at here i) (word_at there i) (word_rises shape here e there outcome i sound is))
+    λ i. (
+      word_rises shape here e there outcome i sound is,
+      version-rises (word_at here i) (word_at there i) (word_rises shape here e there outcome i sound is),
+    )
 
-pub run_rises : (shape : Shape) (here there : World) (events : List Event) (i : ℕ) → IsSound shape here → run shape (Some here) events ≡ Some there → word_at here i ≤ word_at there i
-run_rises shape here there [] i sound is = let e : word_at here i ≡ word_at there i = ap (λ (w : World). word_at w i) (Some-injective here there is) in omega arith
+pub run_rises : (shape : Shape) (here there : World) (events : List Event) (i : ℕ) → IsSound shape here
+    → run shape (Some here) events ≡ Some there → word_at here i ≤ word_at there i
+run_rises shape here there [] i sound is = let e : word_at here i ≡ word_at there i =
+    ap (λ (w : World). word_at w i) (Some-injective here there is) in omega arith
 run_rises shape here there (e ∷ es) i sound is =
     let m = first_made shape here e there es is in
     let first : word_at here i ≤ word_at m.0 i = word_rises shape here e m.0 m.1.0 i sound m.1.1.0 in
-    let others : word_at m.0 i ≤ word_at there i = run_rises shape m.0 there es i (step_sound shape here e m.0 m.1.0 sound m.1.1.0) m.1.1.1 in
+    let others : word_at m.0 i ≤ word_at there i =
+    run_rises shape m.0 there es i (step_sound shape here e m.0 m.1.0 sound m.1.1.0) m.1.1.1 in
     omega arith
 
 pub none_falls : (old new : World) → new ≡ old → NoneFalls old new

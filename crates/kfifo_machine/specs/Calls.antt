@@ -1,5 +1,6 @@
 -- The calls of a schedule: what each thread asked for and what came back, with the places of its first and last events.
-use Rattle.std.specs.Prelude.{ℕ, ◌+◌, List, [], ◌∷◌, ◌++◌, length, get_or, set, replicate, Option, Some, None, Result, Ok, Err}
+use Rattle.std.specs.Prelude.{ℕ, ◌+◌, List, [], ◌∷◌, ◌++◌, length, get_or, set, replicate, Option, Some, None, Result}
+use Rattle.std.specs.Prelude.{Ok, Err}
 use Rattle.kfifo_words.specs.declared.shape.Shape.{Shape}
 use Rattle.kfifo_model.specs.declared.calls.Answer.{Answer}
 use Rattle.kfifo_model.specs.declared.calls.Op.{Op}
@@ -35,13 +36,19 @@ op_asked B.Tick = O.Dequeue
 
 -- a call with this end
 abbrev pub ended : Call → ℕ → Answer → Call
-ended c place answer = record { thread = c.thread; op = c.op; first = c.first; end = Some (record { last = place; answer = answer }) }
+ended c place answer = record {
+  thread = c.thread;
+  op = c.op;
+  first = c.first;
+  end = Some (record { last = place; answer = answer });
+}
 
 -- a thread's call ends at this place
 abbrev pub ends : ℕ → ℕ → Answer → Log → Log
 ends place thread answer log =
     record {
-      calls = set log.calls (get_or log.latest thread 0) (ended (call log.calls (get_or log.latest thread 0)) place answer);
+      calls = set log.calls (get_or log.latest thread 0)
+          (ended (call log.calls (get_or log.latest thread 0)) place answer);
       latest = log.latest;
     }
 
@@ -62,7 +69,8 @@ abbrev pub log_from : Shape → Option World → ℕ → List Event → Log → 
 log_from shape world place [] log = log
 log_from shape None place (event ∷ events) log = log
 log_from shape (Some world) place (event ∷ events) log =
-    log_from shape (world_of (step shape world event)) (place + 1) events (logged_by place event (step shape world event) log)
+    log_from shape (world_of (step shape world event)) (place + 1) events
+    (logged_by place event (step shape world event) log)
 
 abbrev pub blank : ℕ → Log
 blank threads = record { calls = []; latest = replicate threads 0 }

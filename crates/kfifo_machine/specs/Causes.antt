@@ -1,5 +1,6 @@
 -- Why a call was refused: what it saw in the table, step by step.
-use Rattle.std.specs.Prelude.{◌≡◌, ◌≢◌, ℕ, ◌+◌, ◌<◌, ◌⊎◌, ◌==◌, List, [], ◌∷◌, ◌++◌, length, Option, Some, None, if◌then◌else◌}
+use Rattle.std.specs.Prelude.{◌≡◌, ◌≢◌, ℕ, ◌+◌, ◌<◌, ◌⊎◌, ◌==◌, List, [], ◌∷◌, ◌++◌, length, Option, Some, None}
+use Rattle.std.specs.Prelude.{if◌then◌else◌}
 use Rattle.kfifo_words.specs.declared.shape.Shape.{Shape}
 use Rattle.kfifo_words.specs.Words.{value_of, version_of, head_of, tail_of}
 use Rattle.kfifo_words.specs.Ring.{next_segment}
@@ -30,7 +31,8 @@ abbrev pub looks : Shape → ℕ → Option World → List Event → List Look
 looks shape thread world [] = []
 looks shape thread None (event ∷ events) = []
 looks shape thread (Some world) (event ∷ events) =
-    (if event.thread == thread then looks_from shape world (going shape (place_of world event.thread) event.begin) else [])
+    (if event.thread == thread then looks_from shape world (going shape (place_of world event.thread) event.begin) else
+    [])
     ++ looks shape thread (world_of (step shape world event)) events
 
 -- the round of a look, told by the rounds that were left, this one among them
@@ -106,13 +108,16 @@ start_of B.Tick = 0
 -- the looks of a complete execution
 abbrev pub looks_of : (shape : Shape) (threads thread : ℕ) (call : Begin) (answer : Answer) (old new : List Event)
     → CompleteExecution shape threads thread call answer old new → List Look
-looks_of shape threads thread call answer old new whole = looks shape thread (after shape threads old) (whole.between ++ whole.last ∷ [])
+looks_of shape threads thread call answer old new whole =
+    looks shape thread (after shape threads old) (whole.between ++ whole.last ∷ [])
 
 -- a call returns Full and Worn only with their causes, in every schedule
 abbrev pub FullHasCause : Shape → ℕ → Type 0
-FullHasCause shape threads = (thread : ℕ) (call : Begin) (old new : List Event) (whole : CompleteExecution shape threads thread call Full old new)
+FullHasCause shape threads = (thread : ℕ) (call : Begin) (old new : List Event)
+    (whole : CompleteExecution shape threads thread call Full old new)
     → CauseOfFull shape (start_of call) (looks_of shape threads thread call Full old new whole)
 
 abbrev pub WornHasCause : Shape → ℕ → Type 0
-WornHasCause shape threads = (thread : ℕ) (call : Begin) (old new : List Event) (whole : CompleteExecution shape threads thread call Worn old new)
+WornHasCause shape threads = (thread : ℕ) (call : Begin) (old new : List Event)
+    (whole : CompleteExecution shape threads thread call Worn old new)
     → CauseOfWorn shape (looks_of shape threads thread call Worn old new whole)

@@ -34,7 +34,8 @@ counts one (Err fault) = 0
 abbrev pub answers : Shape → (Outcome → ℕ) → Option World → List Event → ℕ
 answers shape one world [] = 0
 answers shape one None (event ∷ events) = 0
-answers shape one (Some world) (event ∷ events) = counts one (step shape world event) + answers shape one (world_of (step shape world event)) events
+answers shape one (Some world) (event ∷ events) =
+    counts one (step shape world event) + answers shape one (world_of (step shape world event)) events
 
 -- The floor: where no two calls overlap, an enqueue returns Full only where Done came over (n - 1) * probes times more
 -- often than Got
@@ -42,4 +43,5 @@ abbrev pub Floor : Shape → ℕ → Type 0
 Floor shape threads = (events : List Event) (last : Event) (here world : World) → after shape threads events ≡ Some here
     → NoOverlap shape (Some (opening shape threads)) (events ++ last ∷ [])
     → step shape here last ≡ Ok (world, Ended Full)
-    → answers shape got_with (Some (opening shape threads)) events + (shape.n - 1) * shape.probes < answers shape done_with (Some (opening shape threads)) events
+    → answers shape got_with (Some (opening shape threads)) events + (shape.n - 1) * shape.probes
+    < answers shape done_with (Some (opening shape threads)) events

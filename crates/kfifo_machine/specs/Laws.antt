@@ -1,5 +1,6 @@
 -- Laws of one event, and of every schedule of a shape and a number of threads.
-use Rattle.std.specs.Prelude.{◌≡◌, ◌≢◌, ℕ, ◌+◌, ◌*◌, ◌<◌, ◌≤◌, ◌⊎◌, ◌==◌, if◌then◌else◌, Bool, false, List, [], ◌∷◌, ◌++◌, length, Option, Some, None}
+use Rattle.std.specs.Prelude.{◌≡◌, ◌≢◌, ℕ, ◌+◌, ◌*◌, ◌<◌, ◌≤◌, ◌⊎◌, ◌==◌, if◌then◌else◌, Bool, false, List, [], ◌∷◌}
+use Rattle.std.specs.Prelude.{◌++◌, length, Option, Some, None}
 use Rattle.kfifo_words.specs.declared.shape.Shape.{Shape}
 use Rattle.kfifo_words.specs.Words.{version_of}
 use Rattle.kfifo_words.specs.Ring.{clock_at}
@@ -23,7 +24,8 @@ OthersStay thread old new = (other : ℕ) → other ≢ thread → place_of new 
 
 -- no word falls, and so no version does
 abbrev pub NoneFalls : World → World → Type 0
-NoneFalls old new = (i : ℕ) → (word_at old i ≤ word_at new i) × (version_of (word_at old i) ≤ version_of (word_at new i))
+NoneFalls old new = (i : ℕ) → (word_at old i ≤ word_at new i)
+    × (version_of (word_at old i) ≤ version_of (word_at new i))
 
 -- the event is an exchange of the word with this index that is won, and that makes it this word
 pub record Wins (shape : Shape) (old : World) (event : Event) (index to : ℕ) : Type 0 where
@@ -36,11 +38,13 @@ pub record IsTick (shape : Shape) (event : Event) (index : ℕ) : Type 0 where
   pub begins : event.begin ≡ Some B.Tick
   pub clock : index ≡ clock_at shape.k shape.n
 
--- An event changes one word at most: by a won exchange, which raises its version by 1, or by a tick, which adds 1 to the clock
+-- An event changes one word at most: by a won exchange, which raises its version by 1, or by a tick, which adds 1 to
+-- the clock
 pub record OneWord (shape : Shape) (old new : World) (event : Event) : Type 0 where
   pub at_most_one : (i j : ℕ) → word_at new i ≢ word_at old i → word_at new j ≢ word_at old j → i ≡ j
   pub only_so : (i : ℕ) → word_at new i ≢ word_at old i → Wins shape old event i (word_at new i) ⊎ IsTick shape event i
-  pub won : (i to : ℕ) → Wins shape old event i to → (word_at new i ≡ to) × (version_of to ≡ version_of (word_at old i) + 1)
+  pub won : (i to : ℕ) → Wins shape old event i to → (word_at new i ≡ to)
+      × (version_of to ≡ version_of (word_at old i) + 1)
   pub ticked : (i : ℕ) → IsTick shape event i → word_at new i ≡ word_at old i + 1
 
 -- a step from this place that finds this word moves the head on, or the tail
@@ -64,7 +68,8 @@ abbrev pub count : Shape → (Running → ℕ → Bool) → Option World → Lis
 count shape moves world [] = 0
 count shape moves None (event ∷ events) = 0
 count shape moves (Some world) (event ∷ events) =
-    counted shape moves world (going shape (place_of world event.thread) event.begin) + count shape moves (world_of (step shape world event)) events
+    counted shape moves world (going shape (place_of world event.thread) event.begin)
+    + count shape moves (world_of (step shape world event)) events
 
 -- the won head-ons and the won tail-ons of a schedule
 abbrev pub head_ons : Shape → ℕ → List Event → ℕ
@@ -109,8 +114,8 @@ pub record PutsNext (shape : Shape) (threads : ℕ) (events : List Event) (threa
   pub place : place_of here thread ≡ Some (R.Enqueue item start left (E.Put ends index (word_at here index)))
   pub puts : word ≡ filled_with item (word_at here index)
 
--- A call that ended with Full, Busy or Worn leaves no item of its own: a word that it put is not at its index when the call
--- has ended, nor ever after
+-- A call that ended with Full, Busy or Worn leaves no item of its own: a word that it put is not at its index when the
+-- call has ended, nor ever after
 abbrev pub LeavesNone : Shape → ℕ → Type 0
 LeavesNone shape threads = (thread : ℕ) (call : Begin) (answer : Answer) (old new : List Event)
     → CompleteExecution shape threads thread call answer old new → IsRefusal answer
@@ -133,6 +138,7 @@ NoneReturns shape threads = (events some more : List Event) (first middle last :
 
 -- a thread is where its own events led it: the events of others leave it there
 abbrev pub OthersLeave : Shape → ℕ → Type 0
-OthersLeave shape threads = (thread : ℕ) (events more : List Event) (old new : World) → after shape threads events ≡ Some old
+OthersLeave shape threads = (thread : ℕ) (events more : List Event) (old new : World)
+    → after shape threads events ≡ Some old
     → after shape threads (events ++ more) ≡ Some new
     → own thread more ≡ [] → place_of new thread ≡ place_of old thread

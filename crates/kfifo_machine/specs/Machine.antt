@@ -1,6 +1,8 @@
 -- The machine: the words of the table with each thread's place in its call, one atomic step of one thread, and whole
 -- schedules of them.
-use Rattle.std.specs.Prelude.{◌≡◌, ℕ, ◌+◌, ◌*◌, ◌==◌, ◌&&◌, nat_lt, if◌then◌else◌, Bool, true, List, [], ◌∷◌, length, get_or, set, replicate, Option, Some, None, Result, Ok, Err, IsTrue, is_some, take, slice_get}
+use Rattle.std.specs.Prelude.{◌≡◌, ℕ, ◌+◌, ◌*◌, ◌==◌, ◌&&◌, nat_lt, if◌then◌else◌, Bool, true, List, [], ◌∷◌, length}
+use Rattle.std.specs.Prelude.{get_or, set, replicate, Option, Some, None, Result, Ok, Err, IsTrue, is_some, take}
+use Rattle.std.specs.Prelude.{slice_get}
 use Rattle.kfifo_words.specs.declared.shape.Shape.{Shape}
 use Rattle.kfifo_words.specs.Ring.{clock_at}
 use Rattle.kfifo_machine.specs.declared.place.EnqueuePhase.TheVariants as E
@@ -66,7 +68,10 @@ moved shape world thread running =
 -- the clock's word after a tick
 unfoldable pub ticked : Shape → World → World
 ticked shape world =
-    record { words = set world.words (clock_at shape.k shape.n) (word_at world (clock_at shape.k shape.n) + 1); places = world.places }
+    record {
+      words = set world.words (clock_at shape.k shape.n) (word_at world (clock_at shape.k shape.n) + 1);
+      places = world.places;
+    }
 
 -- what begins, where it is a call that may begin
 abbrev pub begun : Begin → Option Running
@@ -76,7 +81,8 @@ begun B.Tick = None
 
 -- a call has its start below k, at least one round, and an item in range
 abbrev pub may_begin : Shape → Begin → Bool
-may_begin shape (B.Enqueue item start turns) = nat_lt start shape.k && nat_lt 0 turns && nat_lt 0 item && nat_lt item 16777216
+may_begin shape (B.Enqueue item start turns) =
+    nat_lt start shape.k && nat_lt 0 turns && nat_lt 0 item && nat_lt item 16777216
 may_begin shape (B.Dequeue start turns) = nat_lt start shape.k && nat_lt 0 turns
 may_begin shape B.Tick = true
 

@@ -27,9 +27,12 @@ IsEnqueuePhase shape E.LoadEnds = Unit {0}
 IsEnqueuePhase shape (E.ScanTail ends offset) = IsEnds shape ends × (offset < shape.probes)
 IsEnqueuePhase shape (E.Recheck ends Nothing) = IsEnds shape ends
 IsEnqueuePhase shape (E.Recheck ends (Slot index seen)) = IsEnds shape ends × IsSlotIndex shape index
-IsEnqueuePhase shape (E.Put ends index empty) = IsEnds shape ends × (version_of empty + 2 ≤ shape.last) × IsSlotIndex shape index
-IsEnqueuePhase shape (E.ReloadSlot ends index filled) = IsEnds shape ends × (version_of filled < shape.last) × IsSlotIndex shape index
-IsEnqueuePhase shape (E.ReloadEnds ends index filled) = IsEnds shape ends × (version_of filled < shape.last) × IsSlotIndex shape index
+IsEnqueuePhase shape (E.Put ends index empty) = IsEnds shape ends × (version_of empty + 2 ≤ shape.last)
+    × IsSlotIndex shape index
+IsEnqueuePhase shape (E.ReloadSlot ends index filled) = IsEnds shape ends × (version_of filled < shape.last)
+    × IsSlotIndex shape index
+IsEnqueuePhase shape (E.ReloadEnds ends index filled) = IsEnds shape ends × (version_of filled < shape.last)
+    × IsSlotIndex shape index
 IsEnqueuePhase shape (E.HoldHead index filled held) = IsEnds shape held × (version_of held < shape.last)
     × (version_of filled < shape.last) × IsSlotIndex shape index
 IsEnqueuePhase shape (E.Undo index filled worn) = version_of filled < shape.last × IsSlotIndex shape index
@@ -43,7 +46,8 @@ abbrev pub IsDequeuePhase : Shape → DequeuePhase → Type 0
 IsDequeuePhase shape D.LoadEnds = Unit {0}
 IsDequeuePhase shape (D.ScanHead ends offset) = IsEnds shape ends × (offset < shape.k)
 IsDequeuePhase shape (D.Recheck ends Nothing) = IsEnds shape ends
-IsDequeuePhase shape (D.Recheck ends (Slot index seen)) = IsEnds shape ends × (version_of seen < shape.last) × IsSlotIndex shape index
+IsDequeuePhase shape (D.Recheck ends (Slot index seen)) = IsEnds shape ends × (version_of seen < shape.last)
+    × IsSlotIndex shape index
 IsDequeuePhase shape (D.MoveTail ends index filled) = IsEnds shape ends × (version_of ends < shape.last)
     × (version_of filled < shape.last) × IsSlotIndex shape index
 IsDequeuePhase shape (D.Take ends index filled) = version_of filled < shape.last × IsSlotIndex shape index
@@ -51,7 +55,8 @@ IsDequeuePhase shape (D.MoveHead ends) = IsEnds shape ends × (version_of ends <
 
 -- a place in a call, with an item in range, a start below k, and a round that is not over
 abbrev pub IsPlace : Shape → Running → Type 0
-IsPlace shape (R.Enqueue item start left phase) = (0 < item) × (item < 2 ^ 24) × (start < shape.k) × (0 < left) × IsEnqueuePhase shape phase
+IsPlace shape (R.Enqueue item start left phase) = (0 < item) × (item < 2 ^ 24) × (start < shape.k) × (0 < left)
+    × IsEnqueuePhase shape phase
 IsPlace shape (R.Dequeue start left phase) = (start < shape.k) × (0 < left) × IsDequeuePhase shape phase
 
 -- a filled slot's word may be emptied

@@ -15,7 +15,8 @@ use Rattle.kfifo_machine.specs.Causes.{AllOfRound, looks}
 pub record MovesOn (shape : Shape) (here : World) (event : Event) : Type 0 where
   pub running : Running
   pub stands : going shape (place_of here event.thread) event.begin ≡ Some running
-  pub moves : (moves_head running (found shape here running) ≡ true) ⊎ (moves_tail running (found shape here running) ≡ true)
+  pub moves : (moves_head running (found shape here running) ≡ true)
+      ⊎ (moves_tail running (found shape here running) ≡ true)
 
 -- the event is an exchange that is won
 pub record WinsSome (shape : Shape) (here : World) (event : Event) : Type 0 where
@@ -31,7 +32,8 @@ pub record Disturbed (shape : Shape) (thread : ℕ) (here : World) (events : Lis
   pub world : World
   pub split : events ≡ before ++ event ∷ after
   pub reached : run shape (Some here) before ≡ Some world
-  pub by : ((event.thread ≡ thread) × MovesOn shape world event) ⊎ ((event.thread ≢ thread) × WinsSome shape world event)
+  pub by : ((event.thread ≡ thread) × MovesOn shape world event)
+      ⊎ ((event.thread ≢ thread) × WinsSome shape world event)
 
 -- a lost round: its first and last events are the thread's, its own steps are of this round, and it is disturbed
 pub record LostRound (shape : Shape) (thread round : ℕ) (here : World) (events : List Event) : Type 0 where
@@ -47,7 +49,8 @@ pub record LostRound (shape : Shape) (thread round : ℕ) (here : World) (events
   pub disturbed : Disturbed shape thread here events
 
 -- events of others, then a lost round, and then what is said of the rest
-pub record LosesThen (shape : Shape) (thread round : ℕ) (here : World) (events : List Event) (Rest : World → List Event → Type 0) : Type 0 where
+pub record LosesThen (shape : Shape) (thread round : ℕ) (here : World) (events : List Event)
+    (Rest : World → List Event → Type 0) : Type 0 where
   pub others : List Event
   pub lost : List Event
   pub rest : List Event
@@ -63,7 +66,8 @@ pub record LosesThen (shape : Shape) (thread round : ℕ) (here : World) (events
 -- so many lost rounds, one after the other, and nothing after them
 abbrev pub LosesAll : Shape → ℕ → ℕ → World → List Event → Type 0
 LosesAll shape thread zero here events = events ≡ []
-LosesAll shape thread (suc rounds) here events = LosesThen shape thread (suc rounds) here events (LosesAll shape thread rounds)
+LosesAll shape thread (suc rounds) here events =
+    LosesThen shape thread (suc rounds) here events (LosesAll shape thread rounds)
 
 -- the rounds of a call
 abbrev pub turns_of : Begin → ℕ
@@ -73,8 +77,10 @@ turns_of B.Tick = 0
 
 -- Busy: the call has all its rounds behind it, and lost each of them
 abbrev pub BusyHasCause : Shape → ℕ → Type 0
-BusyHasCause shape threads = (thread : ℕ) (call : Begin) (old new : List Event) (whole : CompleteExecution shape threads thread call Busy old new) (here : World)
-    → after shape threads old ≡ Some here → LosesAll shape thread (turns_of call) here (whole.between ++ whole.last ∷ [])
+BusyHasCause shape threads = (thread : ℕ) (call : Begin) (old new : List Event)
+    (whole : CompleteExecution shape threads thread call Busy old new) (here : World)
+    → after shape threads old ≡ Some here
+    → LosesAll shape thread (turns_of call) here (whole.between ++ whole.last ∷ [])
 
 -- after the thread's first event here and before its last, another thread wins an exchange
 pub record OtherWins (shape : Shape) (thread : ℕ) (here : World) (events : List Event) : Type 0 where
@@ -92,5 +98,7 @@ pub record OtherWins (shape : Shape) (thread : ℕ) (here : World) (events : Lis
 -- A call of n + 2 rounds or more returns Busy only where another thread won an exchange between its first and its last
 -- event
 abbrev pub BusyIsDisturbed : Shape → ℕ → Type 0
-BusyIsDisturbed shape threads = (thread : ℕ) (call : Begin) (old new : List Event) (whole : CompleteExecution shape threads thread call Busy old new) (here : World)
-    → after shape threads old ≡ Some here → shape.n + 2 ≤ turns_of call → OtherWins shape thread here (whole.between ++ whole.last ∷ [])
+BusyIsDisturbed shape threads = (thread : ℕ) (call : Begin) (old new : List Event)
+    (whole : CompleteExecution shape threads thread call Busy old new) (here : World)
+    → after shape threads old ≡ Some here → shape.n + 2 ≤ turns_of call
+    → OtherWins shape thread here (whole.between ++ whole.last ∷ [])

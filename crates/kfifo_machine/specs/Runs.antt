@@ -42,7 +42,8 @@ pub record BeginsOnce (thread : ℕ) (call : Begin) (events : List Event) : Type
 -- A complete execution of a call: what is new in the schedule are events of other threads, and own ones. The first of
 -- the own events begins the call, no other begins one, and the last event of all is own and ends the call with this
 -- answer
-pub record CompleteExecution (shape : Shape) (threads thread : ℕ) (call : Begin) (answer : Answer) (old new : List Event) : Type 0 where
+pub record CompleteExecution (shape : Shape) (threads thread : ℕ) (call : Begin) (answer : Answer)
+    (old new : List Event) : Type 0 where
   pub between : List Event
   pub last : Event
   pub before : World

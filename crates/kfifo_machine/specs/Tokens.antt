@@ -1,5 +1,5 @@
--- Items as tokens: where each enqueue begins with an item that is in no slot and that no other enqueue in progress holds, no item
--- ever stands in two slots. So an item may name something that one thread at a time owns.
+-- Items as tokens: where each enqueue begins with an item that is in no slot and that no other enqueue in progress
+-- holds, no item ever stands in two slots. So an item may name something that one thread at a time owns.
 use Rattle.std.specs.Prelude.{ℕ, ◌≡◌, ◌≢◌, ◌<◌, List, [], ◌∷◌, Option, Some, None}
 use Rattle.kfifo_words.specs.declared.shape.Shape.{Shape}
 use Rattle.kfifo_words.specs.Words.{value_of}
@@ -48,11 +48,13 @@ BeginsFree shape world begin = Unit {0}
 abbrev pub AllBeginFree : Shape → Option World → List Event → Type 0
 AllBeginFree shape world [] = Unit {0}
 AllBeginFree shape None (e ∷ es) = Unit {0}
-AllBeginFree shape (Some world) (e ∷ es) = BeginsFree shape world e.begin × AllBeginFree shape (world_of (step shape world e)) es
+AllBeginFree shape (Some world) (e ∷ es) = BeginsFree shape world e.begin
+    × AllBeginFree shape (world_of (step shape world e)) es
 
 -- no two slots have one item
 abbrev pub NoItemTwice : Shape → World → Type 0
-NoItemTwice shape world = (i j : ℕ) → 0 < i → i < clock_at shape.k shape.n → 0 < j → j < clock_at shape.k shape.n → i ≢ j
+NoItemTwice shape world = (i j : ℕ) → 0 < i → i < clock_at shape.k shape.n → 0 < j → j < clock_at shape.k shape.n
+    → i ≢ j
     → value_of (word_at world i) ≢ 0
     → value_of (word_at world i) ≢ value_of (word_at world j)
 

@@ -103,9 +103,11 @@ fn log_events(
     threads: u32,
     events: &[Event],
 ) -> Result<History, RunFault>
-    ensures history { IfOk result (λ h. IsSchedule shape threads events.now × (h ≡ history_of shape threads events.now)) }
+    ensures history { IfOk result (λ h. IsSchedule shape threads events.now
+        × (h ≡ history_of shape threads events.now)) }
     ensures threads { (result ≡ Err RunFault.ThreadsOutOfRange) ↔ ((threads ≡ 0) ⊎ (64 < threads)) }
-    ensures refused { (place : ℕ) → result ≡ Err (RunFault.NotASchedule place) → IsFirstRefused shape threads events.now place }
+    ensures refused { (place : ℕ) → result ≡ Err (RunFault.NotASchedule place)
+        → IsFirstRefused shape threads events.now place }
 {
     let mut state = start(alloc, shape, threads)?;
     let mut log = Log::new(alloc, threads)?;
@@ -137,9 +139,11 @@ pub fn history(
     threads: u32,
     events: &[Event],
 ) -> Result<History, RunFault>
-    ensures history { IfOk result (λ h. IsSchedule shape threads events.now × (h ≡ history_of shape threads events.now)) }
+    ensures history { IfOk result (λ h. IsSchedule shape threads events.now
+        × (h ≡ history_of shape threads events.now)) }
     ensures threads { (result ≡ Err RunFault.ThreadsOutOfRange) ↔ ((threads ≡ 0) ⊎ (64 < threads)) }
-    ensures refused { (place : ℕ) → result ≡ Err (RunFault.NotASchedule place) → IsFirstRefused shape threads events.now place }
+    ensures refused { (place : ℕ) → result ≡ Err (RunFault.NotASchedule place)
+        → IsFirstRefused shape threads events.now place }
     ensures floor { Floor shape threads }
 {
     log_events(alloc, shape, threads, events)

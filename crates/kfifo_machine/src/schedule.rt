@@ -20,7 +20,8 @@ fn run_events(
 ) -> Result<State, RunFault>
     ensures state { IfOk result (λ s. (s.shape ≡ shape) × (after shape threads events.now ≡ Some s.world)) }
     ensures threads { (result ≡ Err RunFault.ThreadsOutOfRange) ↔ ((threads ≡ 0) ⊎ (64 < threads)) }
-    ensures refused { (place : ℕ) → result ≡ Err (RunFault.NotASchedule place) → IsFirstRefused shape threads events.now place }
+    ensures refused { (place : ℕ) → result ≡ Err (RunFault.NotASchedule place)
+        → IsFirstRefused shape threads events.now place }
 {
     let mut state = start(alloc, shape, threads)?;
     for (place, event) in events.iter().enumerate() {
@@ -46,7 +47,8 @@ fn run_events(
 pub fn run(alloc: Global, shape: Shape, threads: u32, events: &[Event]) -> Result<State, RunFault>
     ensures state { IfOk result (λ s. (s.shape ≡ shape) × (after shape threads events.now ≡ Some s.world)) }
     ensures threads { (result ≡ Err RunFault.ThreadsOutOfRange) ↔ ((threads ≡ 0) ⊎ (64 < threads)) }
-    ensures refused { (place : ℕ) → result ≡ Err (RunFault.NotASchedule place) → IsFirstRefused shape threads events.now place }
+    ensures refused { (place : ℕ) → result ≡ Err (RunFault.NotASchedule place)
+        → IsFirstRefused shape threads events.now place }
     ensures no_wrap { NoWrap shape threads }
     ensures few_events { FewEvents shape threads }
     ensures leaves_none { LeavesNone shape threads }

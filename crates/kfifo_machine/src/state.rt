@@ -1,8 +1,10 @@
 //! The whole state of a machine, and one event.
-ghost use Rattle.std.specs.Prelude.{◌≡◌, ℕ, ◌+◌, ◌*◌, ◌^◌, ◌<◌, ◌≤◌, ◌⊎◌, ◌↔◌, length, get_or, set, Some, None, IfSome, IfOk, IfErr, OnErr, Ok, Err, IsErrOf};
+ghost use Rattle.std.specs.Prelude.{◌≡◌, ℕ, ◌+◌, ◌*◌, ◌^◌, ◌<◌, ◌≤◌, ◌⊎◌, ◌↔◌, length, get_or, set, Some, None, IfSome};
+ghost use Rattle.std.specs.Prelude.{IfOk, IfErr, OnErr, Ok, Err, IsErrOf};
 ghost use Rattle.kfifo_words.specs.Ring.{clock_at};
 ghost use Rattle.kfifo_machine.specs.Program.{access, accessed, advance};
-ghost use Rattle.kfifo_machine.specs.Machine.{opening, place_of, word_at, words_after, moved, found, outcome_of, step_from};
+ghost use Rattle.kfifo_machine.specs.Machine.{opening, place_of, word_at, words_after, moved, found, outcome_of};
+ghost use Rattle.kfifo_machine.specs.Machine.{step_from};
 ghost use Rattle.kfifo_machine.specs.Runs.{going};
 ghost use Rattle.kfifo_machine.specs.Places.{IsPlace, IsState};
 ghost use Rattle.kfifo_machine.specs.Laws.{OthersStay, NoneFalls, OneWord};
@@ -114,7 +116,8 @@ fn make_step(state: &mut State, thread: usize, running: Running) -> Outcome
     requires place { IsPlace state.old.shape running }
     ensures shape { state.new.shape ≡ state.old.shape }
     ensures world { state.new.world ≡ moved state.old.shape state.old.world thread running }
-    ensures outcome { result ≡ outcome_of (advance state.old.shape running (found state.old.shape state.old.world running)) }
+    ensures outcome { result ≡ outcome_of
+        (advance state.old.shape running (found state.old.shape state.old.world running)) }
 {
     let access = running.access(&state.shape);
     let word = touch(&mut state.words, access);
@@ -163,8 +166,10 @@ fn first_place(shape: &Shape, begin: Begin) -> Option<Running>
 #[tactic(auto, unfolding(crate::specs::Machine::word_at, crate::specs::Machine::ticked))]
 fn tick(state: &mut State) -> Result<Outcome, NotEnabled>
     ensures shape { state.new.shape ≡ state.old.shape }
-    ensures made { IfOk result (λ outcome. step_from state.old.shape state.old.world 0 None (Some Begin.Tick) ≡ Ok (state.new.world, outcome)) }
-    ensures refused { IfErr result (λ fault. step_from state.old.shape state.old.world 0 None (Some Begin.Tick) ≡ Err fault) }
+    ensures made { IfOk result (λ outcome. step_from state.old.shape state.old.world 0 None (Some Begin.Tick)
+        ≡ Ok (state.new.world, outcome)) }
+    ensures refused { IfErr result (λ fault. step_from state.old.shape state.old.world 0 None (Some Begin.Tick)
+        ≡ Err fault) }
     ensures unchanged { OnErr result (state.new ≡ state.old) }
 {
     let clock = state.shape.clock_index();
@@ -181,8 +186,10 @@ fn tick(state: &mut State) -> Result<Outcome, NotEnabled>
 fn make_event(state: &mut State, event: Event) -> Result<Outcome, NotEnabled>
     ensures sound { IsState state.old.shape state.old.world.words state.old.world.places }
     ensures shape { state.new.shape ≡ state.old.shape }
-    ensures made { IfOk result (λ outcome. Rattle.kfifo_machine.specs.Machine.step state.old.shape state.old.world event ≡ Ok (state.new.world, outcome)) }
-    ensures refused { IfErr result (λ fault. Rattle.kfifo_machine.specs.Machine.step state.old.shape state.old.world event ≡ Err fault) }
+    ensures made { IfOk result (λ outcome. Rattle.kfifo_machine.specs.Machine.step state.old.shape state.old.world event
+        ≡ Ok (state.new.world, outcome)) }
+    ensures refused { IfErr result (λ fault.
+        Rattle.kfifo_machine.specs.Machine.step state.old.shape state.old.world event ≡ Err fault) }
     ensures unchanged { OnErr result (state.new ≡ state.old) }
 {
     let thread = event.thread as usize;
@@ -211,8 +218,10 @@ fn make_event(state: &mut State, event: Event) -> Result<Outcome, NotEnabled>
 /// no word and no version falls.
 pub fn step(state: &mut State, event: Event) -> Result<Outcome, NotEnabled>
     ensures shape { state.new.shape ≡ state.old.shape }
-    ensures made { IfOk result (λ outcome. Rattle.kfifo_machine.specs.Machine.step state.old.shape state.old.world event ≡ Ok (state.new.world, outcome)) }
-    ensures refused { IfErr result (λ fault. Rattle.kfifo_machine.specs.Machine.step state.old.shape state.old.world event ≡ Err fault) }
+    ensures made { IfOk result (λ outcome. Rattle.kfifo_machine.specs.Machine.step state.old.shape state.old.world event
+        ≡ Ok (state.new.world, outcome)) }
+    ensures refused { IfErr result (λ fault.
+        Rattle.kfifo_machine.specs.Machine.step state.old.shape state.old.world event ≡ Err fault) }
     ensures unchanged { OnErr result (state.new ≡ state.old) }
     ensures others_stay { OthersStay event.thread state.old.world state.new.world }
     ensures none_falls { NoneFalls state.old.world state.new.world }

@@ -2,7 +2,8 @@
 
 ghost use Rattle.std.specs.Prelude.{◌≡◌, ◌≢◌, ℕ, ◌+◌, ◌*◌, ◌^◌, ◌<◌, ◌≤◌};
 ghost use Rattle.kfifo_words.specs.Words.{value_of, version_of, head_of, tail_of};
-ghost use Rattle.kfifo_machine.specs.Program.{scan_index, access, advance, enqueue_access, dequeue_access, enqueue_advance, dequeue_advance, enqueue_again, dequeue_again};
+ghost use Rattle.kfifo_machine.specs.Program.{scan_index, access, advance, enqueue_access, dequeue_access};
+ghost use Rattle.kfifo_machine.specs.Program.{enqueue_advance, dequeue_advance, enqueue_again, dequeue_again};
 ghost use Rattle.kfifo_machine.specs.Places.{IsEnds, IsPlace, IsEnqueuePhase, IsDequeuePhase, IsFound, IsFoundBy};
 
 use crate::{Access, DequeuePhase, EnqueuePhase, Found, Next, Running};
@@ -162,7 +163,8 @@ impl EnqueueRound {
         requires start { self.start < shape.now.k }
         requires ends { IsEnds shape.now ends }
         requires offset { offset < shape.now.probes }
-        ensures { result ≡ enqueue_advance shape.now self.item self.start self.left (EnqueuePhase.ScanTail ends offset) word }
+        ensures { result ≡ enqueue_advance shape.now self.item self.start self.left (EnqueuePhase.ScanTail ends offset)
+            word }
     {
         if word.value() == 0 {
             let index = scan(shape, ends.tail(), self.start, offset);
@@ -187,13 +189,17 @@ impl EnqueueRound {
     fn rechecked(self, shape: &Shape, ends: Ends, found: Found, now: Ends) -> Next
         requires left { 0 < self.left }
         requires ends { IsEnds shape.now ends }
-        ensures { result ≡ enqueue_advance shape.now self.item self.start self.left (EnqueuePhase.Recheck ends found) now }
+        ensures { result ≡ enqueue_advance shape.now self.item self.start self.left (EnqueuePhase.Recheck ends found)
+            now }
     {
+        // The segment may no longer be the tail's. An item put there would stand behind items that came later, and be
+        // overtaken by them.
         if now != ends {
             return self.again();
         }
         match found {
             Found::Slot { index, word } => {
+                // A put needs a version, and the undo that may follow it another.
                 if shape.last() < word.version() + 2 {
                     Next::Answers(Answer::Worn)
                 } else {
@@ -220,8 +226,11 @@ impl EnqueueRound {
     fn placed(self, shape: &Shape, ends: Ends, index: usize, filled: Word, now: Ends) -> Next
         requires ends { IsEnds shape.now ends }
         requires now { IsEnds shape.now now }
-        ensures { result ≡ enqueue_advance shape.now self.item self.start self.left (EnqueuePhase.ReloadEnds ends index filled) now }
+        ensures { result ≡ enqueue_advance shape.now self.item self.start self.left
+            (EnqueuePhase.ReloadEnds ends index filled) now }
     {
+        // Since the ends were first loaded, others may have filled and emptied the segment, and the head have moved
+        // past it. Done would then leave the item behind the head, where no dequeue finds it.
         let segment = ends.tail();
         let head = now.head();
         if segment == head && now.version() == shape.last() {
@@ -231,6 +240,8 @@ impl EnqueueRound {
                 worn: true,
             })
         } else if segment == head {
+            // A dequeue may have seen this slot empty and be about to move the head past the item. The greater version
+            // makes its compare-and-swap fail.
             self.goes(EnqueuePhase::HoldHead {
                 index,
                 filled,
@@ -251,7 +262,8 @@ impl EnqueueRound {
     fn head_scanned(self, shape: &Shape, ends: Ends, offset: u32, word: Word) -> Next
         requires ends { IsEnds shape.now ends }
         requires offset { offset < shape.now.k }
-        ensures { result ≡ enqueue_advance shape.now self.item self.start self.left (EnqueuePhase.ScanHead ends offset) word }
+        ensures { result ≡ enqueue_advance shape.now self.item self.start self.left (EnqueuePhase.ScanHead ends offset)
+            word }
     {
         if word.value() != 0 {
             self.goes(EnqueuePhase::ConfirmFull { ends })
@@ -270,8 +282,10 @@ impl EnqueueRound {
     /// After an undo.
     fn undone(self, filled: Word, worn: bool, index: usize, word: Word, shape: &Shape) -> Next
         requires left { 0 < self.left }
-        ensures { result ≡ enqueue_advance shape.now self.item self.start self.left (EnqueuePhase.Undo index filled worn) word }
+        ensures { result ≡ enqueue_advance shape.now self.item self.start self.left
+            (EnqueuePhase.Undo index filled worn) word }
     {
+        // Another word than the item's own: a dequeue has taken the item, so the enqueue has taken place.
         if word != filled {
             Next::Answers(Answer::Done)
         } else if worn {
@@ -286,9 +300,12 @@ impl EnqueueRound {
         requires item { self.item < 2 ^ 24 }
         requires left { 0 < self.left }
         requires version { version_of empty + 2 ≤ shape.now.last }
-        ensures { result ≡ enqueue_advance shape.now self.item self.start self.left (EnqueuePhase.Put ends index empty) word }
+        ensures { result ≡ enqueue_advance shape.now self.item self.start self.left (EnqueuePhase.Put ends index empty)
+            word }
     {
         if word == empty {
+            // The version never falls. With the empty slot's old version an enqueue that read it long ago could still
+            // put its item, in a segment that is no longer the tail's (ABA).
             let filled = Word::pack(self.item, empty.version() + 1);
             self.goes(EnqueuePhase::ReloadSlot {
                 ends,
@@ -309,7 +326,8 @@ impl EnqueueRound {
         filled: Word,
         word: Word,
     ) -> Next
-        ensures { result ≡ enqueue_advance shape.now self.item self.start self.left (EnqueuePhase.ReloadSlot ends index filled) word }
+        ensures { result ≡ enqueue_advance shape.now self.item self.start self.left
+            (EnqueuePhase.ReloadSlot ends index filled) word }
     {
         if word == filled {
             self.goes(EnqueuePhase::ReloadEnds {
@@ -324,7 +342,8 @@ impl EnqueueRound {
 
     /// What follows an exchange that raises the version of the ends word.
     fn head_held(self, shape: &Shape, index: usize, filled: Word, held: Ends, now: Ends) -> Next
-        ensures { result ≡ enqueue_advance shape.now self.item self.start self.left (EnqueuePhase.HoldHead index filled held) now }
+        ensures { result ≡ enqueue_advance shape.now self.item self.start self.left
+            (EnqueuePhase.HoldHead index filled held) now }
     {
         if now == held {
             Next::Answers(Answer::Done)
@@ -340,8 +359,11 @@ impl EnqueueRound {
     /// What follows the load of the ends word after a filled slot of the head's segment.
     fn full_confirmed(self, shape: &Shape, ends: Ends, now: Ends) -> Next
         requires left { 0 < self.left }
-        ensures { result ≡ enqueue_advance shape.now self.item self.start self.left (EnqueuePhase.ConfirmFull ends) now }
+        ensures { result ≡ enqueue_advance shape.now self.item self.start self.left (EnqueuePhase.ConfirmFull ends)
+            now }
     {
+        // The slots were loaded one after the other. They were the tail's and the head's segment, full and not empty,
+        // in one round only if neither end has moved.
         if now == ends {
             Next::Answers(Answer::Full)
         } else {
@@ -390,6 +412,8 @@ impl EnqueueRound {
             } => self.undone(filled, worn, index, word, shape),
             Phase::ScanHead { ends, offset } => self.head_scanned(shape, ends, offset, word),
             Phase::ConfirmFull { ends } => self.full_confirmed(shape, ends, now),
+            // Won or lost, the round ends. Moving the tail too, after a lost move of the head, would let the tail meet
+            // the head: a full ring would look empty.
             Phase::MoveHead { .. } | Phase::MoveTail { .. } => self.again(),
         }
     }
@@ -458,6 +482,8 @@ impl DequeueRound {
         requires left { 0 < self.left }
         ensures { result ≡ dequeue_advance shape.now self.start self.left (DequeuePhase.Recheck ends found) now }
     {
+        // The segment may no longer be the head's: the item would not be one of the k oldest, and an item may have come
+        // into a slot after it was seen empty.
         if now != ends {
             return self.again();
         }
@@ -474,6 +500,8 @@ impl DequeueRound {
                 } else if worn {
                     Next::Answers(Answer::Worn)
                 } else {
+                    // While enqueues still fill the head's segment, more than k items could go through it and overtake
+                    // one that stays. So the tail leaves it before an item is taken.
                     self.goes(DequeuePhase::MoveTail {
                         ends,
                         index,

@@ -1,5 +1,6 @@
 -- Lists of beginnings that grow.
-use Rattle.std.proofs.Common.{ℕ, zero, suc, false, ◌≡◌, ◌+◌, ◌<◌, ◌≤◌, ◌⊎◌, ◌↔◌, List, [], ◌∷◌, ◌++◌, length, get_or, sym, ◌∙◌, ap, subst, inl, inr, arith, append_assoc, length-append}
+use Rattle.std.proofs.Common.{ℕ, zero, suc, false, ◌≡◌, ◌+◌, ◌<◌, ◌≤◌, ◌⊎◌, ◌↔◌, List, [], ◌∷◌, ◌++◌, length, get_or, sym, ◌∙◌, ap, subst}
+use Rattle.std.proofs.Common.{inl, inr, arith, append_assoc, length-append}
 use Rattle.std.specs.List.{All, Any, Contains}
 use Rattle.std.proofs.lemmas.List.Sums.{count_by-le-length}
 use Rattle.std.specs.Result.{OnOk}
@@ -7,7 +8,8 @@ use Rattle.std.specs.declared.result.Result.{Result}
 use Rattle.std.specs.declared.result.Result.TheVariants.{Ok, Err}
 use Rattle.std.proofs.lemmas.Bool.{cases_lt}
 use Rattle.std.proofs.lemmas.List.{get_or_append_left, get_or-append-add, get_or_default, append-nil, length-replicate}
-use Rattle.std.proofs.lemmas.List.Elements.{All-nil, All-cons, All-append, Contains-append_left, Contains-append_right, Contains-append_cases}
+use Rattle.std.proofs.lemmas.List.Elements.{All-nil, All-cons, All-append, Contains-append_left, Contains-append_right}
+use Rattle.std.proofs.lemmas.List.Elements.{Contains-append_cases}
 use Rattle.std.proofs.lemmas.List.Sorted.{Contains-permutation, IsPermutation-sym}
 use Rattle.std.specs.List.Sorted.{IsPermutation}
 use Rattle.kfifo_model.specs.declared.calls.Call.{Call}
@@ -37,19 +39,29 @@ added_none k h r before Said s = record {
   complete = λ a. s;
 }
 
-pub added_as : (k : ℕ) (h : List Call) (r : Reach) (before after : List Reach) (P Q : Type 0) → (P → Q) → IsAdded k h r before after P → IsAdded k h r before after Q
-added_as k h r before after P Q f a = record { added = a.added; is = a.is; further = a.further; sound = a.sound; complete = λ c. f (a.complete c) }
+pub added_as : (k : ℕ) (h : List Call) (r : Reach) (before after : List Reach) (P Q : Type 0) → (P → Q) → IsAdded k h r before after P
+    → IsAdded k h r before after Q
+added_as k h r before after P Q f a = record {
+  added = a.added;
+  is = a.is;
+  further = a.further;
+  sound = a.sound;
+  complete = λ c. f (a.complete c);
+}
 
-pub added_both : (k : ℕ) (h : List Call) (r : Reach) (before now after : List Reach) (A B C : Type 0) → (A → B → C) → IsAdded k h r before now A → IsAdded k h r now after B → IsAdded k h r before after C
+pub added_both : (k : ℕ) (h : List Call) (r : Reach) (before now after : List Reach) (A B C : Type 0) → (A → B → C)
+    → IsAdded k h r before now A → IsAdded k h r now after B → IsAdded k h r before after C
 added_both k h r before now after A B C f a b = record {
   added = a.added ++ b.added;
   is = b.is ∙ (ap (λ t. t ++ b.added) a.is ∙ append_assoc before a.added b.added);
   further = All-append (IsFurther r) a.added b.added a.further b.further;
   sound = All-append (λ t. Extends k h t → Extends k h r) a.added b.added a.sound b.sound;
-  complete = λ c. f (a.complete (all_left (λ t. Extends k h t → ⊥) a.added b.added c)) (b.complete (all_right (λ t. Extends k h t → ⊥) a.added b.added c));
+  complete = λ c. f (a.complete (all_left (λ t. Extends k h t → ⊥) a.added b.added c))
+      (b.complete (all_right (λ t. Extends k h t → ⊥) a.added b.added c));
 }
 
-pub no_next_more : (k : ℕ) (h : List Call) (r : Reach) (n : ℕ) → ((j : ℕ) → j < n → IsNoNext k h r j) → IsNoNext k h r n → (j : ℕ) → j < n + 1 → IsNoNext k h r j
+pub no_next_more : (k : ℕ) (h : List Call) (r : Reach) (n : ℕ) → ((j : ℕ) → j < n → IsNoNext k h r j) → IsNoNext k h r n → (j : ℕ)
+    → j < n + 1 → IsNoNext k h r j
 no_next_more k h r n f g j lt =
     elim (cases_lt j n) [
       | inl below ↦ f j below
@@ -73,14 +85,16 @@ led_none k h level next e =
       complete = λ a j d lt. absurd (omega arith);
     })
 
-further_level : (h : List Call) (count : ℕ) (r : Reach) (added : List Reach) → length r.done ≡ length h → done_count r.done ≡ count → All (IsFurther r) added → IsLevel h (count + 1) added
+further_level : (h : List Call) (count : ℕ) (r : Reach) (added : List Reach) → length r.done ≡ length h → done_count r.done ≡ count
+    → All (IsFurther r) added → IsLevel h (count + 1) added
 further_level h count r added sized counted a = λ k d lt.
     let f = a k d lt in
     let p : length (get_or added k d).done ≡ length r.done = f.0 in
     let q : done_count (get_or added k d).done ≡ done_count r.done + 1 = f.1 in
     (p ∙ sized, omega arith)
 
-pub led_more : (k : ℕ) (h : List Call) (level next after : List Reach) (i : ℕ) (r : Reach) → i < length level → r ≡ get_or level i r → IsLed k h level next i → IsAdded k h r next after (Extends k h r → ⊥) → IsLed k h level after (i + 1)
+pub led_more : (k : ℕ) (h : List Call) (level next after : List Reach) (i : ℕ) (r : Reach) → i < length level → r ≡ get_or level i r
+    → IsLed k h level next i → IsAdded k h r next after (Extends k h r → ⊥) → IsLed k h level after (i + 1)
 led_more k h level next after i r lt is led a =
     let P : List Reach → Type 0 = λ t. IsLed k h level t (i + 1) in
     subst P (sym a.is) (record {
@@ -88,7 +102,8 @@ led_more k h level next after i r lt is led a =
           let here = l i r lt in
           let Q : Reach → Type 0 = λ s. (length s.done ≡ length h) × (done_count s.done ≡ count) in
           let at = subst Q (sym is) here in
-          All-append (λ s. (length s.done ≡ length h) × (done_count s.done ≡ count + 1)) next a.added (led.further count l) (further_level h count r a.added at.0 at.1 a.further);
+          All-append (λ s. (length s.done ≡ length h) × (done_count s.done ≡ count + 1)) next a.added (led.further count l)
+          (further_level h count r a.added at.0 at.1 a.further);
       sound = λ s.
           let Q : Reach → Type 0 = λ t. Extends k h t → HasOrder k h in
           let at = subst Q (sym is) (s i r lt) in
@@ -106,7 +121,8 @@ led_more k h level next after i r lt is led a =
           ];
     })
 
-pub led_all : (k : ℕ) (h : List Call) (level next : List Reach) (i : ℕ) → length level ≤ i → IsLed k h level next i → IsNextLevel k h level next
+pub led_all : (k : ℕ) (h : List Call) (level next : List Reach) (i : ℕ) → length level ≤ i → IsLed k h level next i
+    → IsNextLevel k h level next
 led_all k h level next i le led = record {
   further = led.further;
   sound = led.sound;
@@ -136,10 +152,14 @@ pub members_init : (full left kept : List Reach) → IsPermutation full left →
 members_init full left kept p e r =
     let P : List Reach → Type 0 = λ t. Contains t r in (
       λ c. inl (Contains-permutation full left r p c),
-      λ c. elim c [ inl a ↦ Contains-permutation left full r (IsPermutation-sym full left p) a | inr b ↦ absurd (not_in_nil r (subst P e b)) ],
+      λ c. elim c [
+        | inl a ↦ Contains-permutation left full r (IsPermutation-sym full left p) a
+        | inr b ↦ absurd (not_in_nil r (subst P e b))
+      ],
     )
 
-pub members_pushed : (full left rest kept more : List Reach) (x : Reach) → AreMembers full left kept → left ≡ rest ++ x ∷ [] → more ≡ kept ++ x ∷ [] → AreMembers full rest more
+pub members_pushed : (full left rest kept more : List Reach) (x : Reach) → AreMembers full left kept → left ≡ rest ++ x ∷ []
+    → more ≡ kept ++ x ∷ [] → AreMembers full rest more
 members_pushed full left rest kept more x m e f r =
     let P : List Reach → Type 0 = λ t. Contains t r in (
       λ c. elim ((m r).0 c) [
@@ -148,11 +168,13 @@ members_pushed full left rest kept more x m e f r =
       ],
       λ c. elim c [
         | inl a ↦ (m r).1 (inl (subst P (sym e) (Contains-append_left rest (x ∷ []) r a)))
-        | inr a ↦ elim (last_or kept x r (subst P f a)) [ inl b ↦ (m r).1 (inr b) | inr q ↦ (m r).1 (inl (subst P (sym e) (has_last rest x r q))) ]
+        | inr a ↦ elim (last_or kept x r (subst P f a))
+            [ inl b ↦ (m r).1 (inr b) | inr q ↦ (m r).1 (inl (subst P (sym e) (has_last rest x r q))) ]
       ],
     )
 
-pub members_same : (full left rest kept : List Reach) (x : Reach) → AreMembers full left kept → left ≡ rest ++ x ∷ [] → Contains kept x → AreMembers full rest kept
+pub members_same : (full left rest kept : List Reach) (x : Reach) → AreMembers full left kept → left ≡ rest ++ x ∷ [] → Contains kept x
+    → AreMembers full rest kept
 members_same full left rest kept x m e here r =
     let P : List Reach → Type 0 = λ t. Contains t r in
     let Q : Reach → Type 0 = λ t. Contains kept t in (
@@ -166,7 +188,8 @@ members_same full left rest kept x m e here r =
       ],
     )
 
-pub members_end : (full left kept : List Reach) → AreMembers full left kept → length left ≡ 0 → (r : Reach) → Contains full r ↔ Contains kept r
+pub members_end : (full left kept : List Reach) → AreMembers full left kept → length left ≡ 0 → (r : Reach)
+    → Contains full r ↔ Contains kept r
 members_end full left kept m e r =
     (λ c. elim ((m r).0 c) [ inl a ↦ absurd (let lt : a.0 < length left = a.1 in omega arith) | inr b ↦ b ], λ c. (m r).1 (inr c))
 
@@ -184,18 +207,22 @@ pub record IsAt (k : ℕ) (h : List Call) (count : ℕ) (level : List Reach) : T
   pub sound : All (λ r. Extends k h r → HasOrder k h) level
   pub complete : All (λ r. Extends k h r → ⊥) level → HasOrder k h → ⊥
 
-pub at_start : (k : ℕ) (h : List Call) (level before : List Reach) (r : Reach) → r ≡ opening h → before ≡ [] → level ≡ before ++ r ∷ [] → IsAt k h 0 level
+pub at_start : (k : ℕ) (h : List Call) (level before : List Reach) (r : Reach) → r ≡ opening h → before ≡ [] → level ≡ before ++ r ∷ []
+    → IsAt k h 0 level
 at_start k h level before r e none is =
     let P : List Reach → Type 0 = λ t. IsAt k h 0 t in
     subst P (sym (is ∙ (ap (λ t. t ++ r ∷ []) none ∙ ap (λ t. t ∷ []) e))) (record {
-      sized = all_one (λ s. (length s.done ≡ length h) × (done_count s.done ≡ 0)) (opening h) (length-replicate (length h) false, none_counted (length h));
+      sized = all_one (λ s. (length s.done ≡ length h) × (done_count s.done ≡ 0)) (opening h)
+          (length-replicate (length h) false, none_counted (length h));
       sound = all_one (λ s. Extends k h s → HasOrder k h) (opening h) (opening_sound k h);
       complete = λ a o. a 0 (opening h) (omega arith) (opening_complete k h o);
     })
 
-pub at_next : (k : ℕ) (h : List Call) (count : ℕ) (level next kept : List Reach) → IsAt k h count level → IsNextLevel k h level next → ((r : Reach) → Contains next r ↔ Contains kept r) → IsAt k h (count + 1) kept
+pub at_next : (k : ℕ) (h : List Call) (count : ℕ) (level next kept : List Reach) → IsAt k h count level → IsNextLevel k h level next
+    → ((r : Reach) → Contains next r ↔ Contains kept r) → IsAt k h (count + 1) kept
 at_next k h count level next kept at n m = record {
-  sized = all_members (λ s. (length s.done ≡ length h) × (done_count s.done ≡ count + 1)) next kept (λ r. (m r).1) (n.further count at.sized);
+  sized = all_members (λ s. (length s.done ≡ length h) × (done_count s.done ≡ count + 1)) next kept (λ r. (m r).1)
+      (n.further count at.sized);
   sound = all_members (λ s. Extends k h s → HasOrder k h) next kept (λ r. (m r).1) (n.sound at.sound);
   complete = λ a o. at.complete (n.complete (all_members (λ s. Extends k h s → ⊥) kept next (λ r. (m r).0) a)) o;
 }
@@ -207,12 +234,14 @@ at_end k h count level at lt o =
     let q : done_count (get_or level j d).done ≡ count = s.1 in
     absurd (omega (arith, count_by-le-length (λ b. b) (get_or level j d).done))) o
 
-pub found_at : (k : ℕ) (h : List Call) (count : ℕ) (level others : List Reach) → others ≡ level → IsAt k h count level → Any (Extends k h) others → HasOrder k h
+pub found_at : (k : ℕ) (h : List Call) (count : ℕ) (level others : List Reach) → others ≡ level → IsAt k h count level
+    → Any (Extends k h) others → HasOrder k h
 found_at k h count level others e at a =
     let P : List Reach → Type 0 = λ t. Any (Extends k h) t in
     let b = subst P e a in
     let Q : Reach → Type 0 = λ t. Extends k h t in
     at.sound b.0 b.1 b.2 (subst Q (sym b.3) b.4)
 
-pub level_along : (k : ℕ) (h : List Call) (level others next : List Reach) → others ≡ level → IsNextLevel k h others next → IsNextLevel k h level next
+pub level_along : (k : ℕ) (h : List Call) (level others next : List Reach) → others ≡ level → IsNextLevel k h others next
+    → IsNextLevel k h level next
 level_along k h level others next e n = let P : List Reach → Type 0 = λ t. IsNextLevel k h t next in subst P e n

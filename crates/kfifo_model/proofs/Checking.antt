@@ -1,5 +1,6 @@
 -- What the checker's loops read, and the facts that they end with.
-use Rattle.std.proofs.Common.{ℕ, ◌≡◌, ◌≢◌, ◌+◌, ◌<◌, ◌≤◌, ◌↔◌, ◌&&◌, ltb, List, [], ◌∷◌, ◌++◌, length, map, take, get_or, refl, sym, ◌∙◌, ap, subst, inl, inr, arith, Option, Some, None, append_assoc}
+use Rattle.std.proofs.Common.{ℕ, ◌≡◌, ◌≢◌, ◌+◌, ◌<◌, ◌≤◌, ◌↔◌, ◌&&◌, ltb, List, [], ◌∷◌, ◌++◌, length, map, take, get_or, refl, sym, ◌∙◌}
+use Rattle.std.proofs.Common.{ap, subst, inl, inr, arith, Option, Some, None, append_assoc}
 use Rattle.std.specs.List.{remove}
 use Rattle.std.proofs.lemmas.Bool.{cases_lt, cond-false, and_parts, ltb-true, false_from_ne_true}
 use Rattle.std.proofs.lemmas.Option.{get_or_from_slice_get}
@@ -33,32 +34,42 @@ read h n d lt = get_or_default h n d no_call lt
 abbrev pub RunsAs : ℕ → List Call → List ℕ → ℕ → List ℕ → Type 0
 RunsAs k h order p items = (es : List Effect) → IsRun k [] (map (does h) (take p order) ++ es) ↔ IsRun k items es
 
-one_more : (h : List Call) (order : List ℕ) (p : ℕ) (es : List Effect) → p < length order → map (does h) (take (p + 1) order) ++ es ≡ map (does h) (take p order) ++ does h (get_or order p 0) ∷ es
-one_more h order p es lt = ap (λ t. t ++ es) (map_more (does h) order p 0 lt) ∙ append_assoc (map (does h) (take p order)) (does h (get_or order p 0) ∷ []) es
+one_more : (h : List Call) (order : List ℕ) (p : ℕ) (es : List Effect) → p < length order
+    → map (does h) (take (p + 1) order) ++ es ≡ map (does h) (take p order) ++ does h (get_or order p 0) ∷ es
+one_more h order p es lt = ap (λ t. t ++ es) (map_more (does h) order p 0 lt)
+    ∙ append_assoc (map (does h) (take p order)) (does h (get_or order p 0) ∷ []) es
 
-pub goes_on : (k : ℕ) (h : List Call) (order : List ℕ) (p : ℕ) (items after : List ℕ) → p < length order → RunsAs k h order p items → next k items (does h (get_or order p 0)) ≡ Some after → RunsAs k h order (p + 1) after
+pub goes_on : (k : ℕ) (h : List Call) (order : List ℕ) (p : ℕ) (items after : List ℕ) → p < length order → RunsAs k h order p items
+    → next k items (does h (get_or order p 0)) ≡ Some after → RunsAs k h order (p + 1) after
 goes_on k h order p items after lt r e es =
     let P : List Effect → Type 0 = λ t. IsRun k [] t ↔ IsRun k after es in
     let s = r (does h (get_or order p 0) ∷ es) in
-    subst P (sym (one_more h order p es lt))
-    (λ a. run_on k items after (does h (get_or order p 0)) es e (s.0 a), λ b. s.1 (run_back k items after (does h (get_or order p 0)) es e b))
+    subst P (sym (one_more h order p es lt)) (
+      λ a. run_on k items after (does h (get_or order p 0)) es e (s.0 a),
+      λ b. s.1 (run_back k items after (does h (get_or order p 0)) es e b),
+    )
 
-pub breaks_at : (k : ℕ) (h : List Call) (order : List ℕ) (p : ℕ) (items : List ℕ) → p < length order → RunsAs k h order p items → next k items (does h (get_or order p 0)) ≡ None → (p < length order) × IsRun k [] (map (does h) (take p order)) × (IsRun k [] (map (does h) (take (p + 1) order)) → ⊥)
+pub breaks_at : (k : ℕ) (h : List Call) (order : List ℕ) (p : ℕ) (items : List ℕ) → p < length order → RunsAs k h order p items
+    → next k items (does h (get_or order p 0)) ≡ None → (p < length order) × IsRun k [] (map (does h) (take p order))
+    × (IsRun k [] (map (does h) (take (p + 1) order)) → ⊥)
 breaks_at k h order p items lt r e =
     let P : List Effect → Type 0 = λ t. IsRun k [] t in (
       lt,
       subst P (append-nil (map (does h) (take p order))) ((r []).1 tt),
       λ a. no_run k items (does h (get_or order p 0)) [] e
-          ((r (does h (get_or order p 0) ∷ [])).0 (subst P (sym (append-nil (map (does h) (take (p + 1) order))) ∙ one_more h order p [] lt) a)),
+          ((r (does h (get_or order p 0) ∷ [])).0
+          (subst P (sym (append-nil (map (does h) (take (p + 1) order))) ∙ one_more h order p [] lt) a)),
     )
 
-pub runs_whole : (k : ℕ) (h : List Call) (order : List ℕ) (p : ℕ) (items : List ℕ) → take p order ≡ order → RunsAs k h order p items → IsRun k [] (map (does h) order)
+pub runs_whole : (k : ℕ) (h : List Call) (order : List ℕ) (p : ℕ) (items : List ℕ) → take p order ≡ order → RunsAs k h order p items
+    → IsRun k [] (map (does h) order)
 runs_whole k h order p items e r =
     let P : List Effect → Type 0 = λ t. IsRun k [] t in
     subst P (append-nil (map (does h) (take p order)) ∙ ap (map (does h)) e) ((r []).1 tt)
 
 -- a call that ends below the first step of one before it
-pub breaks_before : (h : List Call) (order : List ℕ) (i j : ℕ) (end : End) → i < j → j < length order → (call h (get_or order j 0)).end ≡ Some end → end.last < (call h (get_or order i 0)).first → KeepsBefore h order → ⊥
+pub breaks_before : (h : List Call) (order : List ℕ) (i j : ℕ) (end : End) → i < j → j < length order
+    → (call h (get_or order j 0)).end ≡ Some end → end.last < (call h (get_or order i 0)).first → KeepsBefore h order → ⊥
 breaks_before h order i j end lt lj e l keeps =
     let P : Option End → Type 0 = λ o. EndsBelow o (call h (get_or order i 0)).first in
     pairs_place (λ c d. Precedes h d c → ⊥) order i j keeps lt lj (subst P (sym e) l)
@@ -70,7 +81,11 @@ pub no_end : (o : Option End) (s : ℕ) → o ≡ None → EndsBelow o s → ⊥
 no_end o s e b = let P : Option End → Type 0 = λ o. EndsBelow o s in subst P e b
 
 -- one more call, which does not end below the first step of any before it
-pub keeps_more : (h : List Call) (order : List ℕ) (n latest : ℕ) → ((i j : ℕ) → i < j → j < n → Precedes h (get_or order j 0) (get_or order i 0) → ⊥) → ((j : ℕ) → j < n → (call h (get_or order j 0)).first ≤ latest) → ((s : ℕ) → s ≤ latest → EndsBelow (call h (get_or order n 0)).end s → ⊥) → (i j : ℕ) → i < j → j < n + 1 → Precedes h (get_or order j 0) (get_or order i 0) → ⊥
+pub keeps_more : (h : List Call) (order : List ℕ) (n latest : ℕ)
+    → ((i j : ℕ) → i < j → j < n → Precedes h (get_or order j 0) (get_or order i 0) → ⊥)
+    → ((j : ℕ) → j < n → (call h (get_or order j 0)).first ≤ latest)
+    → ((s : ℕ) → s ≤ latest → EndsBelow (call h (get_or order n 0)).end s → ⊥) → (i j : ℕ) → i < j → j < n + 1
+    → Precedes h (get_or order j 0) (get_or order i 0) → ⊥
 keeps_more h order n latest kept most safe i j lt lj b =
     elim (cases_lt j n) [
       | inl below ↦ kept i j lt below b
@@ -78,7 +93,8 @@ keeps_more h order n latest kept most safe i j lt lj b =
           safe (call h (get_or order i 0)).first (most i (omega arith)) (subst P e b))
     ]
 
-pub most_more : (h : List Call) (order : List ℕ) (n latest now : ℕ) → ((j : ℕ) → j < n → (call h (get_or order j 0)).first ≤ latest) → latest ≤ now → (call h (get_or order n 0)).first ≤ now → (j : ℕ) → j < n + 1 → (call h (get_or order j 0)).first ≤ now
+pub most_more : (h : List Call) (order : List ℕ) (n latest now : ℕ) → ((j : ℕ) → j < n → (call h (get_or order j 0)).first ≤ latest)
+    → latest ≤ now → (call h (get_or order n 0)).first ≤ now → (j : ℕ) → j < n + 1 → (call h (get_or order j 0)).first ≤ now
 most_more h order n latest now most up last j lj =
     elim (cases_lt j n) [
       | inl below ↦ (let m = most j below in omega arith)
@@ -89,7 +105,8 @@ pub safe_some : (o : Option End) (end : End) (latest s : ℕ) → o ≡ Some end
 safe_some o end latest s e le sl b = let lt = ends_at o end s e b in omega arith
 
 -- no such item among the first k
-pub not_below : (k : ℕ) (items : List ℕ) (x : ℕ) → ((j : ℕ) → j < k → j < length items → get_or items j 0 ≡ x → ⊥) → next k items (Takes x) ≡ None
+pub not_below : (k : ℕ) (items : List ℕ) (x : ℕ) → ((j : ℕ) → j < k → j < length items → get_or items j 0 ≡ x → ⊥)
+    → next k items (Takes x) ≡ None
 not_below k items x f =
     cond-false (ltb (place items x) k && ltb (place items x) (length items)) (Some (remove items (place items x))) None
     (false_from_ne_true _ (λ e. let p = and_parts (ltb (place items x) k) (ltb (place items x) (length items)) e in
@@ -97,7 +114,8 @@ not_below k items x f =
     f (place items x) (ltb-true (place items x) k p.0) lt (get_or_from_slice_get items (place items x) x 0 (place_in items x lt))))
 
 -- a call that was tried and is not illegal went
-pub tried_went : (k : ℕ) (before after : List ℕ) (e : Effect) (t : Tried) → IsTried k before after e t → t ≢ NotLegal → next k before e ≡ Some after
+pub tried_went : (k : ℕ) (before after : List ℕ) (e : Effect) (t : Tried) → IsTried k before after e t → t ≢ NotLegal
+    → next k before e ≡ Some after
 tried_went k before after e NotLegal i ne = absurd (ne refl)
 tried_went k before after e Went i ne = i.0
 tried_went k before after e (Took p) i ne = i.0

@@ -1,8 +1,9 @@
 -- Runs from lists that differ in items that nothing takes, runs without idle calls, and what a run can take.
-use Rattle.std.proofs.Common.{ℕ, zero, suc, ◌≡◌, ◌<◌, ◌⊎◌, List, [], ◌∷◌, ◌++◌, length, get_or, refl, sym, ◌∙◌, ap, subst, inl, inr, arith, Some, slice_get}
+use Rattle.std.proofs.Common.{ℕ, zero, suc, ◌≡◌, ◌<◌, ◌⊎◌, List, [], ◌∷◌, ◌++◌, length, get_or, refl, sym, ◌∙◌, ap, subst, inl, inr, arith}
+use Rattle.std.proofs.Common.{Some, slice_get}
 use Rattle.std.specs.List.{remove}
 use Rattle.kfifo_model.specs.Lists.{IsIn}
-use Rattle.kfifo_model.specs.Relaxed.{Effect, Adds, Takes, Finds_none, Refused, Wrong, Leaves, IsRun}
+use Rattle.kfifo_model.specs.Relaxed.{Effect, Adds, Takes, FindsNone, Refused, Wrong, Leaves, IsRun}
 use Rattle.kfifo_model.specs.Searching.{IsIdle}
 
 -- the effect is among the effects
@@ -21,7 +22,8 @@ Both W [] (y ∷ m) = ⊥
 Both W (x ∷ l) [] = ⊥
 Both W (x ∷ l) (y ∷ m) = Good W x y × Both W l m
 
-pub both_from_places : (W : ℕ → Type 0) (l m : List ℕ) → length m ≡ length l → ((i : ℕ) → i < length l → Good W (get_or l i 0) (get_or m i 0)) → Both W l m
+pub both_from_places : (W : ℕ → Type 0) (l m : List ℕ) → length m ≡ length l
+    → ((i : ℕ) → i < length l → Good W (get_or l i 0) (get_or m i 0)) → Both W l m
 both_from_places W [] [] e f = tt
 both_from_places W [] (y ∷ m) e f = absurd (omega arith)
 both_from_places W (x ∷ l) [] e f = absurd (omega arith)
@@ -74,16 +76,20 @@ both_get W (z ∷ l) (y ∷ m) zero x w b e =
 both_get W (z ∷ l) (y ∷ m) (suc i) x w b e = both_get W l m i x w b.1 e
 
 -- what runs from one list runs from one as good, where what is taken has worth
-pub as_good_runs : (k : ℕ) (W : ℕ → Type 0) (es : List Effect) (l m : List ℕ) → ((x : ℕ) → Has (Takes x) es → W x) → Both W l m → IsRun k l es → IsRun k m es
+pub as_good_runs : (k : ℕ) (W : ℕ → Type 0) (es : List Effect) (l m : List ℕ) → ((x : ℕ) → Has (Takes x) es → W x) → Both W l m
+    → IsRun k l es → IsRun k m es
 as_good_runs k W [] l m f b r = tt
 as_good_runs k W (Adds x ∷ es) l m f b r =
     let P : List ℕ → Type 0 = λ t. IsRun k t es in
     (m ++ x ∷ [], refl, as_good_runs k W es (l ++ x ∷ []) (m ++ x ∷ []) (λ y h. f y (inr h)) (both_push W l m x b) (subst P r.1 r.2))
 as_good_runs k W (Takes x ∷ es) l m f b r =
     let P : List ℕ → Type 0 = λ t. IsRun k t es in
-    let s = r.1 in
-    (remove m s.0, (s.0, s.1, both_get W l m s.0 x (f x (inl refl)) b s.2, refl), as_good_runs k W es (remove l s.0) (remove m s.0) (λ y h. f y (inr h)) (both_remove W l m s.0 b) (subst P s.3 r.2))
-as_good_runs k W (Finds_none ∷ es) l m f b r =
+    let s = r.1 in (
+      remove m s.0,
+      (s.0, s.1, both_get W l m s.0 x (f x (inl refl)) b s.2, refl),
+      as_good_runs k W es (remove l s.0) (remove m s.0) (λ y h. f y (inr h)) (both_remove W l m s.0 b) (subst P s.3 r.2),
+    )
+as_good_runs k W (FindsNone ∷ es) l m f b r =
     let P : List ℕ → Type 0 = λ t. IsRun k t es in
     let B : List ℕ → Type 0 = λ t. Both W t m in
     let s = r.1 in
@@ -97,12 +103,13 @@ as_good_runs k W (Wrong ∷ es) l m f b r = absurd r.1
 idle_same : (k : ℕ) (items after others : List ℕ) (e : Effect) → IsIdle others e → Leaves k items e after → after ≡ items
 idle_same k items after others (Adds x) i s = absurd i
 idle_same k items after others (Takes x) i s = absurd i
-idle_same k items after others Finds_none i s = s.1 ∙ sym s.0
+idle_same k items after others FindsNone i s = s.1 ∙ sym s.0
 idle_same k items after others Refused i s = s
 idle_same k items after others Wrong i s = absurd s
 
 -- an idle call in a run may be left out
-pub without_idle : (k : ℕ) (items others : List ℕ) (e : Effect) (es fs : List Effect) → IsIdle others e → IsRun k items (es ++ e ∷ fs) → IsRun k items (es ++ fs)
+pub without_idle : (k : ℕ) (items others : List ℕ) (e : Effect) (es fs : List Effect) → IsIdle others e → IsRun k items (es ++ e ∷ fs)
+    → IsRun k items (es ++ fs)
 without_idle k items others e [] fs i r = let P : List ℕ → Type 0 = λ t. IsRun k t fs in subst P (idle_same k items r.0 others e i r.1) r.2
 without_idle k items others e (d ∷ es) fs i r = (r.0, r.1, without_idle k r.0 others e es fs i r.2)
 
@@ -110,8 +117,8 @@ without_idle k items others e (d ∷ es) fs i r = (r.0, r.1, without_idle k r.0 
 pub idle_first : (k : ℕ) (items : List ℕ) (e : Effect) (es : List Effect) → IsIdle items e → IsRun k items es → IsRun k items (e ∷ es)
 idle_first k items (Adds x) es i r = absurd i
 idle_first k items (Takes x) es i r = absurd i
-idle_first k [] Finds_none es i r = ([], (refl, refl), r)
-idle_first k (x ∷ items) Finds_none es i r = absurd i
+idle_first k [] FindsNone es i r = ([], (refl, refl), r)
+idle_first k (x ∷ items) FindsNone es i r = absurd i
 idle_first k items Refused es i r = (items, refl, r)
 idle_first k items Wrong es i r = absurd i
 
@@ -141,7 +148,8 @@ pushed_later : (x y : ℕ) (es : List Effect) (l : List ℕ) → IsIn x (l ++ y 
 pushed_later x y es l (inl i) = elim (in_pushed x y l i) [ inl j ↦ inl j | inr e ↦ inr (inl (ap (λ t. Adds t) e)) ]
 pushed_later x y es l (inr h) = inr (inr h)
 
-removed_later : (x : ℕ) (e : Effect) (es : List Effect) (l : List ℕ) (i : ℕ) → IsIn x (remove l i) ⊎ Has (Adds x) es → IsIn x l ⊎ Has (Adds x) (e ∷ es)
+removed_later : (x : ℕ) (e : Effect) (es : List Effect) (l : List ℕ) (i : ℕ) → IsIn x (remove l i) ⊎ Has (Adds x) es → IsIn x l
+    ⊎ Has (Adds x) (e ∷ es)
 removed_later x e es l i (inl h) = inl (in_removed x l i h)
 removed_later x e es l i (inr h) = inr (inr h)
 
@@ -149,14 +157,17 @@ removed_later x e es l i (inr h) = inr (inr h)
 pub taken_from : (k : ℕ) (x : ℕ) (es : List Effect) (l : List ℕ) → Has (Takes x) es → IsRun k l es → IsIn x l ⊎ Has (Adds x) es
 taken_from k x [] l h r = absurd h
 taken_from k x (Adds y ∷ es) l (inl e) r = absurd (cc)
-taken_from k x (Adds y ∷ es) l (inr h) r = let P : List ℕ → Type 0 = λ t. IsRun k t es in pushed_later x y es l (taken_from k x es (l ++ y ∷ []) h (subst P r.1 r.2))
+taken_from k x (Adds y ∷ es) l (inr h) r = let P : List ℕ → Type 0 = λ t. IsRun k t es in
+    pushed_later x y es l (taken_from k x es (l ++ y ∷ []) h (subst P r.1 r.2))
 taken_from k x (Takes y ∷ es) l (inl e) r = inl (let s = r.1 in let q : x ≡ y = cc in in_get l s.0 x (s.2 ∙ ap (λ t. Some t) (sym q)))
 taken_from k x (Takes y ∷ es) l (inr h) r =
     let P : List ℕ → Type 0 = λ t. IsRun k t es in
     let s = r.1 in
     removed_later x (Takes y) es l s.0 (taken_from k x es (remove l s.0) h (subst P s.3 r.2))
-taken_from k x (Finds_none ∷ es) l (inl e) r = absurd (cc)
-taken_from k x (Finds_none ∷ es) l (inr h) r = let P : List ℕ → Type 0 = λ t. IsRun k t es in let s = r.1 in later x Finds_none es l (taken_from k x es l h (subst P (s.1 ∙ sym s.0) r.2))
+taken_from k x (FindsNone ∷ es) l (inl e) r = absurd (cc)
+taken_from k x (FindsNone ∷ es) l (inr h) r = let P : List ℕ → Type 0 = λ t. IsRun k t es in let s = r.1 in
+    later x FindsNone es l (taken_from k x es l h (subst P (s.1 ∙ sym s.0) r.2))
 taken_from k x (Refused ∷ es) l (inl e) r = absurd (cc)
-taken_from k x (Refused ∷ es) l (inr h) r = let P : List ℕ → Type 0 = λ t. IsRun k t es in later x Refused es l (taken_from k x es l h (subst P r.1 r.2))
+taken_from k x (Refused ∷ es) l (inr h) r = let P : List ℕ → Type 0 = λ t. IsRun k t es in
+    later x Refused es l (taken_from k x es l h (subst P r.1 r.2))
 taken_from k x (Wrong ∷ es) l h r = absurd r.1

@@ -1,10 +1,12 @@
 -- Where equal items may go, taking the first of them is as good as any choice.
-use Rattle.std.proofs.Common.{ℕ, zero, suc, ◌≡◌, ◌+◌, ◌<◌, ◌≤◌, ◌⊎◌, Bool, true, false, cond, ◌&&◌, eqb, ltb, List, [], ◌∷◌, ◌++◌, length, refl, sym, ◌∙◌, ap, subst, inl, inr, arith, add-one, Option, Some, None, slice_get}
+use Rattle.std.proofs.Common.{ℕ, zero, suc, ◌≡◌, ◌+◌, ◌<◌, ◌≤◌, ◌⊎◌, Bool, true, false, cond, ◌&&◌, eqb, ltb, List, [], ◌∷◌, ◌++◌, length}
+use Rattle.std.proofs.Common.{refl, sym, ◌∙◌, ap, subst, inl, inr, arith, add-one, Option, Some, None, slice_get}
 use Rattle.std.specs.List.{remove}
-use Rattle.std.proofs.lemmas.Bool.{cases_eq, cases_lt, cases_order, cond-true, cond-false, eq-eqb, ne_eqb, and_parts, and_from, ltb-true, lt-ltb}
+use Rattle.std.proofs.lemmas.Bool.{cases_eq, cases_lt, cases_order, cond-true, cond-false, eq-eqb, ne_eqb, and_parts, and_from, ltb-true}
+use Rattle.std.proofs.lemmas.Bool.{lt-ltb}
 use Rattle.std.proofs.lemmas.List.Edits.{remove-append_left}
 use Rattle.kfifo_model.specs.Lists.{place}
-use Rattle.kfifo_model.specs.Relaxed.{Effect, Adds, Takes, Finds_none, Refused, Wrong, Leaves, IsRun, next}
+use Rattle.kfifo_model.specs.Relaxed.{Effect, Adds, Takes, FindsNone, Refused, Wrong, Leaves, IsRun, next}
 
 remove_nil : (i : ℕ) → remove {X = ℕ} [] i ≡ []
 remove_nil zero = refl
@@ -43,7 +45,9 @@ same_some : (o : Option ℕ) (x y : ℕ) → o ≡ Some x → o ≡ Some y → x
 same_some o x y p q = cc
 
 -- x at i and v at a later place suc j: taken in either order, each is within k
-later_first : (k : ℕ) (l d e : List ℕ) (x v i j : ℕ) → i ≤ j → suc j < k → slice_get l i ≡ Some x → slice_get l (suc j) ≡ Some v → d ≡ remove l i → e ≡ remove l (suc j) → (c : List ℕ) × (j' : ℕ) × (suc j' < k) × (slice_get d j' ≡ Some v) × (c ≡ remove d j') × Out k e x c
+later_first : (k : ℕ) (l d e : List ℕ) (x v i j : ℕ) → i ≤ j → suc j < k → slice_get l i ≡ Some x → slice_get l (suc j) ≡ Some v
+    → d ≡ remove l i → e ≡ remove l (suc j) → (c : List ℕ) × (j' : ℕ) × (suc j' < k) × (slice_get d j' ≡ Some v) × (c ≡ remove d j')
+    × Out k e x c
 later_first k l d e x v i j le lt gx gv dd ee = (
   remove d j,
   j,
@@ -59,7 +63,9 @@ later_first k l d e x v i j le lt gx gv dd ee = (
 )
 
 -- x at suc i and v at an earlier place j
-earlier_first : (k : ℕ) (l d e : List ℕ) (x v i j : ℕ) → j ≤ i → suc i < k → slice_get l (suc i) ≡ Some x → slice_get l j ≡ Some v → d ≡ remove l (suc i) → e ≡ remove l j → (c : List ℕ) × (j' : ℕ) × (suc j' < k) × (slice_get d j' ≡ Some v) × (c ≡ remove d j') × Out k e x c
+earlier_first : (k : ℕ) (l d e : List ℕ) (x v i j : ℕ) → j ≤ i → suc i < k → slice_get l (suc i) ≡ Some x → slice_get l j ≡ Some v
+    → d ≡ remove l (suc i) → e ≡ remove l j → (c : List ℕ) × (j' : ℕ) × (suc j' < k) × (slice_get d j' ≡ Some v) × (c ≡ remove d j')
+    × Out k e x c
 earlier_first k l d e x v i j le lt gx gv dd ee = (
   remove d j,
   j,
@@ -74,7 +80,8 @@ earlier_first k l d e x v i j le lt gx gv dd ee = (
   ),
 )
 
-swapped_below : (k : ℕ) (g d c : List ℕ) (x v j i : ℕ) → j < i → i < k → slice_get g i ≡ Some x → d ≡ remove g i → suc j < k → slice_get d j ≡ Some v → c ≡ remove d j → (f : List ℕ) × Out k g v f × Out k f x c
+swapped_below : (k : ℕ) (g d c : List ℕ) (x v j i : ℕ) → j < i → i < k → slice_get g i ≡ Some x → d ≡ remove g i → suc j < k
+    → slice_get d j ≡ Some v → c ≡ remove d j → (f : List ℕ) × Out k g v f × Out k f x c
 swapped_below k g d c x v j zero h ik gx dd lt gv e = absurd (omega arith)
 swapped_below k g d c x v j (suc i) h ik gx dd lt gv e = (
   remove g j,
@@ -83,7 +90,8 @@ swapped_below k g d c x v j (suc i) h ik gx dd lt gv e = (
 )
 
 -- v at j of d, which took x out of g: g takes v out as well, and then x
-swapped : (k : ℕ) (g d c : List ℕ) (x v j : ℕ) → Out k g x d → suc j < k → slice_get d j ≡ Some v → c ≡ remove d j → (f : List ℕ) × Out k g v f × Out k f x c
+swapped : (k : ℕ) (g d c : List ℕ) (x v j : ℕ) → Out k g x d → suc j < k → slice_get d j ≡ Some v → c ≡ remove d j → (f : List ℕ)
+    × Out k g v f × Out k f x c
 swapped k g d c x v j o lt gv ce =
     elim (cases_lt j o.0) [
       | inl below ↦ swapped_below k g d c x v j o.0 below o.1 o.2 o.3 lt gv ce
@@ -129,12 +137,14 @@ pub record Like (k : ℕ) (g : List ℕ) (e : Effect) (after : List ℕ) : Type 
   pub alike : Alike k to after
 
 -- x at i and v at j of o
-like_apart : (k : ℕ) (g o d after : List ℕ) (x v : ℕ) → Out k g x d → (c : List ℕ) × (j : ℕ) × (suc j < k) × (slice_get d j ≡ Some v) × (c ≡ remove d j) × Out k after x c → Like k g (Takes v) after
+like_apart : (k : ℕ) (g o d after : List ℕ) (x v : ℕ) → Out k g x d → (c : List ℕ) × (j : ℕ) × (suc j < k) × (slice_get d j ≡ Some v)
+    × (c ≡ remove d j) × Out k after x c → Like k g (Takes v) after
 like_apart k g o d after x v og p =
     let s = swapped k g d p.0 x v p.1 og p.2 p.3 p.4 in
     record { to = s.0; step = s.1; alike = inr (x, p.0, s.2, p.5) }
 
-like_taken : (k : ℕ) (g o d after : List ℕ) (x v i j : ℕ) → Out k g x d → i < k → slice_get o i ≡ Some x → d ≡ remove o i → j < k → slice_get o j ≡ Some v → after ≡ remove o j → (i ≡ j) ⊎ ((i < j) ⊎ (j < i)) → Like k g (Takes v) after
+like_taken : (k : ℕ) (g o d after : List ℕ) (x v i j : ℕ) → Out k g x d → i < k → slice_get o i ≡ Some x → d ≡ remove o i → j < k
+    → slice_get o j ≡ Some v → after ≡ remove o j → (i ≡ j) ⊎ ((i < j) ⊎ (j < i)) → Like k g (Takes v) after
 like_taken k g o d after x v i j og ik gx dd jk gv e (inl q) =
     let same : x ≡ v = same_some (slice_get o j) x v (ap (slice_get o) (sym q) ∙ gx) gv in
     let there : d ≡ after = dd ∙ ap (remove o) q ∙ sym e in
@@ -151,12 +161,17 @@ like k g o after (Adds y) m l =
     record {
       to = g ++ y ∷ [];
       step = refl;
-      alike = inr (m.0, m.1 ++ y ∷ [], out_append k g m.1 m.0 y m.2, (let P : List ℕ → Type 0 = λ t. Out k t m.0 (m.1 ++ y ∷ []) in subst P (sym l) (out_append k o m.1 m.0 y m.3)));
+      alike = inr (
+        m.0,
+        m.1 ++ y ∷ [],
+        out_append k g m.1 m.0 y m.2,
+        (let P : List ℕ → Type 0 = λ t. Out k t m.0 (m.1 ++ y ∷ []) in subst P (sym l) (out_append k o m.1 m.0 y m.3)),
+      );
     }
 like k g o after (Takes v) m l =
     let om : Out k o m.0 m.1 = m.3 in
     like_taken k g o m.1 after m.0 v om.0 l.0 m.2 om.1 om.2 om.3 l.1 l.2 l.3 (cases_order om.0 l.0)
-like k g o after Finds_none m l = absurd (out_none k o m.1 m.0 m.3 l.0)
+like k g o after FindsNone m l = absurd (out_none k o m.1 m.0 m.3 l.0)
 like k g o after Refused m l =
     record { to = g; step = refl; alike = inr (m.0, m.1, m.2, (let P : List ℕ → Type 0 = λ t. Out k t m.0 m.1 in subst P (sym l) m.3)) }
 like k g o after Wrong m l = absurd l
@@ -181,25 +196,30 @@ place_least (y ∷ l) x zero h =
     (omega arith, ap (slice_get (y ∷ l)) z ∙ h)
 place_least (y ∷ l) x (suc j) h =
     elim (cases_eq y x) [
-      | inl e ↦ (let z = cond-true (eqb y x) 0 (place l x + 1) (eq-eqb y x e) in (omega arith, ap (slice_get (y ∷ l)) z ∙ ap (λ t. Some t) e))
-      | inr ne ↦ (let z = cond-false (eqb y x) 0 (place l x + 1) (ne_eqb y x ne) in let r = place_least l x j h in (omega arith, ap (slice_get (y ∷ l)) z ∙ get_suc y l x (place l x) r.1))
+      | inl e ↦ (let z = cond-true (eqb y x) 0 (place l x + 1) (eq-eqb y x e) in
+          (omega arith, ap (slice_get (y ∷ l)) z ∙ ap (λ t. Some t) e))
+      | inr ne ↦ (let z = cond-false (eqb y x) 0 (place l x + 1) (ne_eqb y x ne) in let r = place_least l x j h in
+          (omega arith, ap (slice_get (y ∷ l)) z ∙ get_suc y l x (place l x) r.1))
     ]
 
 next_takes : (k : ℕ) (l : List ℕ) (x : ℕ) → place l x < k → place l x < length l → next k l (Takes x) ≡ Some (remove l (place l x))
-next_takes k l x p q = cond-true (ltb (place l x) k && ltb (place l x) (length l)) (Some (remove l (place l x))) None (and_from (ltb (place l x) k) (ltb (place l x) (length l)) (lt-ltb (place l x) k p) (lt-ltb (place l x) (length l) q))
+next_takes k l x p q = cond-true (ltb (place l x) k && ltb (place l x) (length l)) (Some (remove l (place l x))) None
+    (and_from (ltb (place l x) k) (ltb (place l x) (length l)) (lt-ltb (place l x) k p) (lt-ltb (place l x) (length l) q))
 
 pub place_in : (l : List ℕ) (x : ℕ) → place l x < length l → slice_get l (place l x) ≡ Some x
 place_in [] x h = absurd (omega arith)
 place_in (y ∷ l) x h =
     elim (cases_eq y x) [
       | inl e ↦ (let z = cond-true (eqb y x) 0 (place l x + 1) (eq-eqb y x e) in ap (slice_get (y ∷ l)) z ∙ ap (λ t. Some t) e)
-      | inr ne ↦ (let z = cond-false (eqb y x) 0 (place l x + 1) (ne_eqb y x ne) in ap (slice_get (y ∷ l)) z ∙ get_suc y l x (place l x) (place_in l x (omega arith)))
+      | inr ne ↦ (let z = cond-false (eqb y x) 0 (place l x + 1) (ne_eqb y x ne) in ap (slice_get (y ∷ l)) z
+          ∙ get_suc y l x (place l x) (place_in l x (omega arith)))
     ]
 
 same_list : (o : Option (List ℕ)) (x y : List ℕ) → o ≡ Some x → o ≡ Some y → x ≡ y
 same_list o x y p q = cc
 
-takes_test : (k : ℕ) (l after : List ℕ) (x : ℕ) (b : Bool) → b ≡ (ltb (place l x) k && ltb (place l x) (length l)) → cond b (Some (remove l (place l x))) None ≡ Some after → (place l x < k) × (place l x < length l) × (after ≡ remove l (place l x))
+takes_test : (k : ℕ) (l after : List ℕ) (x : ℕ) (b : Bool) → b ≡ (ltb (place l x) k && ltb (place l x) (length l))
+    → cond b (Some (remove l (place l x))) None ≡ Some after → (place l x < k) × (place l x < length l) × (after ≡ remove l (place l x))
 takes_test k l after x true q h =
     let p = and_parts (ltb (place l x) k) (ltb (place l x) (length l)) (sym q) in
     (ltb-true (place l x) k p.0, ltb-true (place l x) (length l) p.1, cc)
@@ -210,21 +230,24 @@ next_leaves k l after (Adds x) h = cc
 next_leaves k l after (Takes x) h =
     let t = takes_test k l after x (ltb (place l x) k && ltb (place l x) (length l)) refl h in
     (place l x, t.0, place_in l x t.1, t.2)
-next_leaves k [] after Finds_none h = (refl, cc)
-next_leaves k (y ∷ l) after Finds_none h = absurd (cc)
+next_leaves k [] after FindsNone h = (refl, cc)
+next_leaves k (y ∷ l) after FindsNone h = absurd (cc)
 next_leaves k l after Refused h = cc
 next_leaves k l after Wrong h = absurd (cc)
 
-take_alike : (k : ℕ) (l o : List ℕ) (x i j : ℕ) → i ≤ j → j < k → slice_get l i ≡ Some x → slice_get l j ≡ Some x → o ≡ remove l j → Alike k (remove l i) o
+take_alike : (k : ℕ) (l o : List ℕ) (x i j : ℕ) → i ≤ j → j < k → slice_get l i ≡ Some x → slice_get l j ≡ Some x → o ≡ remove l j
+    → Alike k (remove l i) o
 take_alike k l o x i zero le jk gi gj e = let z : i ≡ 0 = omega arith in inl (ap (remove l) z ∙ sym e)
 take_alike k l o x i (suc j) le jk gi gj e =
     elim (cases_lt j i) [
       | inl lt ↦ (let z : i ≡ suc j = omega arith in inl (ap (remove l) z ∙ sym e))
-      | inr ge ↦ (let p = later_first k l (remove l i) o x x i j ge jk gi gj refl e in let jp : suc p.1 < k = p.2 in inr (x, p.0, (p.1, omega arith, p.3, p.4), p.5))
+      | inr ge ↦ (let p = later_first k l (remove l i) o x x i j ge jk gi gj refl e in let jp : suc p.1
+          < k = p.2 in inr (x, p.0, (p.1, omega arith, p.3, p.4), p.5))
     ]
 
 -- the first item is as good as any
-takes_first : (k : ℕ) (l o : List ℕ) (x : ℕ) → Leaves k l (Takes x) o → (next k l (Takes x) ≡ Some (remove l (place l x))) × Alike k (remove l (place l x)) o
+takes_first : (k : ℕ) (l o : List ℕ) (x : ℕ) → Leaves k l (Takes x) o → (next k l (Takes x) ≡ Some (remove l (place l x)))
+    × Alike k (remove l (place l x)) o
 takes_first k l o x s =
     let p = place_least l x s.0 s.2 in
     let jk : s.0 < k = s.1 in
@@ -236,8 +259,8 @@ takes_first k l o x s =
 leaves_next : (k : ℕ) (l o : List ℕ) (e : Effect) → Leaves k l e o → (g : List ℕ) × (next k l e ≡ Some g) × Alike k g o
 leaves_next k l o (Adds x) s = (l ++ x ∷ [], refl, inl (sym s))
 leaves_next k l o (Takes x) s = let p = takes_first k l o x s in (remove l (place l x), p.0, p.1)
-leaves_next k [] o Finds_none s = ([], refl, inl (sym s.1))
-leaves_next k (y ∷ l) o Finds_none s = let bad : ⊥ = (let h = s.0 in cc) in absurd bad
+leaves_next k [] o FindsNone s = ([], refl, inl (sym s.1))
+leaves_next k (y ∷ l) o FindsNone s = let bad : ⊥ = (let h = s.0 in cc) in absurd bad
 leaves_next k l o Refused s = (l, refl, inl (sym s))
 leaves_next k l o Wrong s = absurd s
 

@@ -1,8 +1,10 @@
 -- Two histories of the same calls, g and h: an order that is legal in h is legal in g, and h has what g has of distinct
 -- items, finished enqueues and certain overtakings.
-use Rattle.std.proofs.Common.{ℕ, ◌≡◌, ◌<◌, ◌≤◌, ◌⊎◌, ◌&&◌, Bool, true, not, List, [], ◌∷◌, ◌++◌, length, map, refl, sym, ◌∙◌, ap, subst, inl, inr, arith, Option, Some, None, length-append}
+use Rattle.std.proofs.Common.{ℕ, ◌≡◌, ◌<◌, ◌≤◌, ◌⊎◌, ◌&&◌, Bool, true, not, List, [], ◌∷◌, ◌++◌, length, map, refl, sym, ◌∙◌, ap, subst}
+use Rattle.std.proofs.Common.{inl, inr, arith, Option, Some, None, length-append}
 use Rattle.std.specs.List.{filter}
-use Rattle.std.proofs.lemmas.Bool.{cases_lt, and_parts, and_from, not-true, not_from_false, false_from_ne_true, false≢true, ltb-true, lt-ltb}
+use Rattle.std.proofs.lemmas.Bool.{cases_lt, and_parts, and_from, not-true, not_from_false, false_from_ne_true, false≢true, ltb-true}
+use Rattle.std.proofs.lemmas.Bool.{lt-ltb}
 use Rattle.std.proofs.lemmas.List.{length-map}
 use Rattle.kfifo_model.specs.declared.calls.Op.{Op}
 use Rattle.kfifo_model.specs.declared.calls.Op.TheVariants.{Enqueue, Dequeue}
@@ -10,7 +12,8 @@ use Rattle.kfifo_model.specs.declared.calls.End.{End}
 use Rattle.kfifo_model.specs.declared.calls.Call.{Call}
 use Rattle.kfifo_model.specs.Lists.{IsIn, EachPair}
 use Rattle.kfifo_model.specs.Relaxed.{Effect, Adds, Takes, effect, IsRun}
-use Rattle.kfifo_model.specs.Histories.{call, does, effect_at, CanStand, HasEnd, IsFinished, EndsBelow, Precedes, HasOnlyCalls, IsOrder, IsLegal}
+use Rattle.kfifo_model.specs.Histories.{call, does, effect_at, CanStand, HasEnd, IsFinished, EndsBelow, Precedes, HasOnlyCalls, IsOrder}
+use Rattle.kfifo_model.specs.Histories.{IsLegal}
 use Rattle.kfifo_model.specs.Overtaking.{some, adds, takes, overtakes_at, overtakes, ends_below, precedes, numbers_of, certainly_overtaken}
 use Rattle.kfifo_model.specs.Measures.{EndsDone, IsDoneEnqueue, HasDistinctItems}
 use Rattle.kfifo_model.specs.Matching.{Bijects, Matches}
@@ -244,7 +247,8 @@ was_taken g h m d x lt q =
     let p = and_parts (takes x (does h s.0)) (not (precedes h (t.to d) s.0)) s.2 in
     let taken : takes x (does g n) ≡ true = ap (takes x) (does_back g h m s.0 ls) ∙ p.0 in
     let not_before : precedes g d n ≡ true → ⊥ = λ w.
-    false≢true (sym (not-true (precedes h (t.to d) s.0) p.1) ∙ (ap (precedes h (t.to d)) (sym (t.back s.0 ls)) ∙ still_precedes g h m d n lt ln w)) in
+    false≢true (sym (not-true (precedes h (t.to d) s.0) p.1)
+    ∙ (ap (precedes h (t.to d)) (sym (t.back s.0 ls)) ∙ still_precedes g h m d n lt ln w)) in
     some_from (takes_by (does g) (precedes g) d x) n (numbers_of g) (listed g n ln)
     (and_from (takes x (does g n)) (not (precedes g d n)) taken
     (not_from_false (precedes g d n) (false_from_ne_true (precedes g d n) not_before)))

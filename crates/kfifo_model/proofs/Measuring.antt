@@ -1,5 +1,6 @@
 -- The facts that the measures' loops end with.
-use Rattle.std.proofs.Common.{ℕ, suc, ◌≡◌, ◌≢◌, ◌+◌, ◌<◌, Bool, true, false, List, [], ◌∷◌, ◌++◌, length, map, take, drop, get_or, refl, sym, ◌∙◌, ap, subst, inl, inr, arith, Option, Some, None, append_assoc, length-append, cond, count_by}
+use Rattle.std.proofs.Common.{ℕ, suc, ◌≡◌, ◌≢◌, ◌+◌, ◌<◌, Bool, true, false, List, [], ◌∷◌, ◌++◌, length, map, take, drop, get_or, refl}
+use Rattle.std.proofs.Common.{sym, ◌∙◌, ap, subst, inl, inr, arith, Option, Some, None, append_assoc, length-append, cond, count_by}
 use Rattle.std.specs.List.{filter, range_with_len}
 use Rattle.std.proofs.lemmas.Bool.{cases_lt, cases_order, cond-true, cond-false}
 use Rattle.std.proofs.lemmas.List.{drop_more, map-append, take-append-drop}
@@ -12,7 +13,7 @@ use Rattle.kfifo_model.specs.declared.calls.Op.TheVariants.{Enqueue, Dequeue}
 use Rattle.kfifo_model.specs.declared.orders.Verdict.{Verdict}
 use Rattle.kfifo_model.specs.declared.orders.Verdict.TheVariants.{Legal, Repeats, NotACall, LeavesOut, BreaksBefore, NotARun}
 use Rattle.kfifo_model.specs.Lists.{IsIn}
-use Rattle.kfifo_model.specs.Relaxed.{Effect, Adds, Takes, Finds_none, Refused, Wrong, IsRun, next, effect}
+use Rattle.kfifo_model.specs.Relaxed.{Effect, Adds, Takes, FindsNone, Refused, Wrong, IsRun, next, effect}
 use Rattle.kfifo_model.specs.Histories.{does, effect_at, IsLegal}
 use Rattle.kfifo_model.specs.Overtaking.{numbers_of}
 use Rattle.kfifo_model.specs.Verdicts.{IsVerdict, IsTried}
@@ -29,13 +30,18 @@ pub record Ranked (k : ℕ) (h : List Call) (order found items : List ℕ) (i : 
   pub told : found ++ ranks_at k (Some items) (map (does h) (drop i order)) ≡ total
   pub runs : IsRun k items (map (does h) (drop i order))
 
-rest_is : (h : List Call) (order : List ℕ) (i : ℕ) → i < length order → map (does h) (drop i order) ≡ does h (get_or order i 0) ∷ map (does h) (drop (i + 1) order)
+rest_is : (h : List Call) (order : List ℕ) (i : ℕ) → i < length order
+    → map (does h) (drop i order) ≡ does h (get_or order i 0) ∷ map (does h) (drop (i + 1) order)
 rest_is h order i lt = ap (map (does h)) (drop_more order i 0 lt)
 
-pub runs_at : (k : ℕ) (h : List Call) (order items : List ℕ) (i : ℕ) → i < length order → IsRun k items (map (does h) (drop i order)) → IsRun k items (does h (get_or order i 0) ∷ map (does h) (drop (i + 1) order))
+pub runs_at : (k : ℕ) (h : List Call) (order items : List ℕ) (i : ℕ) → i < length order → IsRun k items (map (does h) (drop i order))
+    → IsRun k items (does h (get_or order i 0) ∷ map (does h) (drop (i + 1) order))
 runs_at k h order items i lt r = let P : List Effect → Type 0 = λ t. IsRun k items t in subst P (rest_is h order i lt) r
 
-pub ranks_next : (k : ℕ) (h : List Call) (order found more items after : List ℕ) (i : ℕ) (total : List ℕ) → i < length order → found ++ ranks_at k (Some items) (map (does h) (drop i order)) ≡ total → IsRun k items (map (does h) (drop i order)) → next k items (does h (get_or order i 0)) ≡ Some after → more ≡ found ++ rank items (does h (get_or order i 0)) → Ranked k h order more after (i + 1) total
+pub ranks_next : (k : ℕ) (h : List Call) (order found more items after : List ℕ) (i : ℕ) (total : List ℕ) → i < length order
+    → found ++ ranks_at k (Some items) (map (does h) (drop i order)) ≡ total → IsRun k items (map (does h) (drop i order))
+    → next k items (does h (get_or order i 0)) ≡ Some after → more ≡ found ++ rank items (does h (get_or order i 0))
+    → Ranked k h order more after (i + 1) total
 ranks_next k h order found more items after i total lt told run n e =
     record {
       told = ap (λ t. t ++ ranks_at k (Some after) (map (does h) (drop (i + 1) order))) e
@@ -49,11 +55,12 @@ ranks_next k h order found more items after i total lt told run n e =
 one_rank : (items : List ℕ) (e : Effect) → length (rank items e) ≡ cond (is_got e) 1 0
 one_rank items (Takes x) = refl
 one_rank items (Adds x) = refl
-one_rank items Finds_none = refl
+one_rank items FindsNone = refl
 one_rank items Refused = refl
 one_rank items Wrong = refl
 
-ranks_more : (k : ℕ) (items : List ℕ) (e : Effect) (es : List Effect) (count : ℕ) → IsRun k items (e ∷ es) → ((after : List ℕ) → IsRun k after es → length (ranks_at k (Some after) es) ≡ count)
+ranks_more : (k : ℕ) (items : List ℕ) (e : Effect) (es : List Effect) (count : ℕ) → IsRun k items (e ∷ es)
+    → ((after : List ℕ) → IsRun k after es → length (ranks_at k (Some after) es) ≡ count)
     → (left : Option (List ℕ)) → next k items e ≡ left → length (rank items e ++ ranks_at k left es) ≡ cond (is_got e) 1 0 + count
 ranks_more k items e es count run rest None gone = absurd (no_run k items e es gone run)
 ranks_more k items e es count run rest (Some after) gone =
@@ -62,10 +69,12 @@ ranks_more k items e es count run rest (Some after) gone =
     length-append (rank items e) (ranks_at k (Some after) es) ∙ omega (arith, one, others)
 
 -- a run has one rank for each call that got an item
-pub length-ranks_at : (k : ℕ) (h : List Call) (order items : List ℕ) → IsRun k items (map (does h) order) → length (ranks_at k (Some items) (map (does h) order)) ≡ count_by (λ c. is_got (does h c)) order
+pub length-ranks_at : (k : ℕ) (h : List Call) (order items : List ℕ) → IsRun k items (map (does h) order)
+    → length (ranks_at k (Some items) (map (does h) order)) ≡ count_by (λ c. is_got (does h c)) order
 length-ranks_at k h [] items run = refl
 length-ranks_at k h (c ∷ order) items run =
-    ranks_more k items (does h c) (map (does h) order) (count_by (λ d. is_got (does h d)) order) run (λ after rest. length-ranks_at k h order after rest) (next k items (does h c)) refl
+    ranks_more k items (does h c) (map (does h) order) (count_by (λ d. is_got (does h d)) order) run
+    (λ after rest. length-ranks_at k h order after rest) (next k items (does h c)) refl
     ∙ sym (sum_by-cons (λ d. cond (is_got (does h d)) 1 0) c order)
 
 -- a beginning of a run is a run
@@ -104,7 +113,8 @@ not_distinct h n lt r d =
       | inr a ↦ (let e = d.1 a.0 n r.0 (listed h n lt) (listed h r.0 lj) a.1 a.2 in omega arith)
     ]
 
-one_each : (h : List Call) (c d : ℕ) → ((n : ℕ) → n < length h → RepeatsEarlier h n → ⊥) → c < length h → d < length h → SharesItem (does h c) (does h d) → SharesItem (does h d) (does h c) → c ≡ d
+one_each : (h : List Call) (c d : ℕ) → ((n : ℕ) → n < length h → RepeatsEarlier h n → ⊥) → c < length h → d < length h
+    → SharesItem (does h c) (does h d) → SharesItem (does h d) (does h c) → c ≡ d
 one_each h c d f lc ld s t =
     elim (cases_order c d) [
       | inl e ↦ e
@@ -118,18 +128,24 @@ are_distinct h f = (
 )
 
 range_at : (n : ℕ) → range_with_len 0 (n + 1) ≡ range_with_len 0 n ++ n ∷ []
-range_at n = ap (range_with_len 0) (let e : n + 1 ≡ suc n = omega arith in e) ∙ range_push 0 n ∙ ap (λ x. range_with_len 0 n ++ x ∷ []) (let e : 0 + n ≡ n = omega arith in e)
+range_at n = ap (range_with_len 0) (let e : n + 1 ≡ suc n = omega arith in e) ∙ range_push 0 n
+    ∙ ap (λ x. range_with_len 0 n ++ x ∷ []) (let e : 0 + n ≡ n = omega arith in e)
 
 -- a count over one more number
-pub count_more : (t : ℕ → Bool) (n : ℕ) → t n ≡ true → length (filter t (range_with_len 0 (n + 1))) ≡ length (filter t (range_with_len 0 n)) + 1
+pub count_more : (t : ℕ → Bool) (n : ℕ) → t n ≡ true
+    → length (filter t (range_with_len 0 (n + 1))) ≡ length (filter t (range_with_len 0 n)) + 1
 count_more t n e =
-    ap (λ l. length (filter t l)) (range_at n) ∙ ap length (filter-append t (range_with_len 0 n) (n ∷ [])) ∙ length-append (filter t (range_with_len 0 n)) (filter t (n ∷ []))
+    ap (λ l. length (filter t l)) (range_at n) ∙ ap length (filter-append t (range_with_len 0 n) (n ∷ []))
+    ∙ length-append (filter t (range_with_len 0 n)) (filter t (n ∷ []))
     ∙ ap (λ l. length (filter t (range_with_len 0 n)) + length l) (cond-true (t n) (n ∷ []) [] e)
 
-pub count_same : (t : ℕ → Bool) (n : ℕ) → t n ≡ false → length (filter t (range_with_len 0 (n + 1))) ≡ length (filter t (range_with_len 0 n))
+pub count_same : (t : ℕ → Bool) (n : ℕ) → t n ≡ false
+    → length (filter t (range_with_len 0 (n + 1))) ≡ length (filter t (range_with_len 0 n))
 count_same t n e =
-    ap (λ l. length (filter t l)) (range_at n) ∙ ap length (filter-append t (range_with_len 0 n) (n ∷ [])) ∙ length-append (filter t (range_with_len 0 n)) (filter t (n ∷ []))
-    ∙ ap (λ l. length (filter t (range_with_len 0 n)) + length l) (cond-false (t n) (n ∷ []) [] e) ∙ (let q : length (filter t (range_with_len 0 n)) + 0 ≡ length (filter t (range_with_len 0 n)) = omega arith in q)
+    ap (λ l. length (filter t l)) (range_at n) ∙ ap length (filter-append t (range_with_len 0 n) (n ∷ []))
+    ∙ length-append (filter t (range_with_len 0 n)) (filter t (n ∷ []))
+    ∙ ap (λ l. length (filter t (range_with_len 0 n)) + length l) (cond-false (t n) (n ∷ []) [] e)
+    ∙ (let q : length (filter t (range_with_len 0 n)) + 0 ≡ length (filter t (range_with_len 0 n)) = omega arith in q)
 
 pub ends_done_adds : (op : Op) (o : Option End) → EndsDone op o → (x : ℕ) × (effect_at op o ≡ Adds x)
 ends_done_adds (Enqueue x) (Some end) e = (x, ap (effect (Enqueue x)) e)
@@ -137,15 +153,18 @@ ends_done_adds (Enqueue x) None e = absurd e
 ends_done_adds Dequeue o e = absurd e
 
 -- a call that stands in a run, and was tried, went
-pub went_on : (k : ℕ) (before after : List ℕ) (e : Effect) (t : Tried) → IsTried k before after e t → (es : List Effect) → IsRun k before (e ∷ es) → next k before e ≡ Some after
+pub went_on : (k : ℕ) (before after : List ℕ) (e : Effect) (t : Tried) → IsTried k before after e t → (es : List Effect)
+    → IsRun k before (e ∷ es) → next k before e ≡ Some after
 went_on k before after e Tries.NotLegal i es r = absurd (no_run k before e es i r)
 went_on k before after e Went i es r = i.0
 went_on k before after e (Took p) i es r = i.0
 
-pub took_rank : (k : ℕ) (before after : List ℕ) (e : Effect) (t : Tried) (p : ℕ) → IsTried k before after e t → t ≡ Took p → rank before e ≡ p ∷ []
+pub took_rank : (k : ℕ) (before after : List ℕ) (e : Effect) (t : Tried) (p : ℕ) → IsTried k before after e t → t ≡ Took p
+    → rank before e ≡ p ∷ []
 took_rank k before after e t p i q = let P : Tried → Type 0 = λ w. IsTried k before after e w in (subst P q i).1
 
-pub no_rank : (k : ℕ) (before after : List ℕ) (e : Effect) (t : Tried) → IsTried k before after e t → next k before e ≡ Some after → ((p : ℕ) → t ≡ Took p → ⊥) → rank before e ≡ []
+pub no_rank : (k : ℕ) (before after : List ℕ) (e : Effect) (t : Tried) → IsTried k before after e t → next k before e ≡ Some after
+    → ((p : ℕ) → t ≡ Took p → ⊥) → rank before e ≡ []
 no_rank k before after e Tries.NotLegal i n f = cc
 no_rank k before after e Went i n f = i.1
 no_rank k before after e (Took p) i n f = absurd (f p refl)

@@ -1,5 +1,6 @@
 -- What is read of a record's objects.
-use Rattle.std.proofs.Common.{ℕ, ◌≡◌, ◌≢◌, ◌<◌, ◌≤◌, ◌^◌, ◌&&◌, Bool, true, false, cond, ltb, List, [], ◌∷◌, ◌++◌, length, map, get_or, refl, sym, ◌∙◌, ap, subst, inl, inr, arith, Option, Some, None, String, string_bytes}
+use Rattle.std.proofs.Common.{ℕ, ◌≡◌, ◌≢◌, ◌<◌, ◌≤◌, ◌^◌, ◌&&◌, Bool, true, false, cond, ltb, List, [], ◌∷◌, ◌++◌, length, map, get_or}
+use Rattle.std.proofs.Common.{refl, sym, ◌∙◌, ap, subst, inl, inr, arith, Option, Some, None, String, string_bytes}
 use Rattle.std.specs.Result.{IfOk}
 use Rattle.std.specs.declared.result.Result.{Result}
 use Rattle.std.specs.declared.result.Result.TheVariants.{Ok, Err}
@@ -31,9 +32,11 @@ use Rattle.kfifo_model.specs.declared.history.RecordFault.TheVariants as faults
 use Rattle.kfifo_model.proofs.Watching.{before_last, the_last}
 use Rattle.kfifo_model.specs.Relaxed.{Wrong, effect}
 use Rattle.kfifo_model.specs.Validity.{IsHistory, IsItem, IsInRange, OpInRange, AnswerInRange, Answers}
-use Rattle.kfifo_model.specs.Records.{IsReadFault, IsMemberFault, is_key, are_keys, has_known_keys, members, at, AreRead, IsRead, IsReadTo, item_fits, is_item_number, is_in_range, answer_of, op_of, ending_of, with_ending, call_of, list_of}
+use Rattle.kfifo_model.specs.Records.{IsReadFault, IsMemberFault, is_key, are_keys, has_known_keys, members, at, AreRead, IsRead, IsReadTo}
+use Rattle.kfifo_model.specs.Records.{item_fits, is_item_number, is_in_range, answer_of, op_of, ending_of, with_ending, call_of, list_of}
 
-pub keys_known : (es : List (String Global × Value)) → list_all (λ k. is_key (string_bytes k)) (map (λ e. e.0) es) ≡ are_keys (members_of (map (λ m. (m.0, view m.1)) es))
+pub keys_known : (es : List (String Global × Value))
+    → list_all (λ k. is_key (string_bytes k)) (map (λ e. e.0) es) ≡ are_keys (members_of (map (λ m. (m.0, view m.1)) es))
 keys_known [] = refl
 keys_known (e ∷ es) = ap (λ b. is_key (string_bytes e.0) && b) (keys_known es)
 
@@ -75,29 +78,40 @@ answer_in Deq Worn o a e q = let P : Answer → Type 0 = λ t. AnswerInRange t i
 answer_in Deq Other o a e q = absurd (cc)
 
 -- the answer is one of the operation's
-answer_fits : (w : OpWord) (v : AnswerWord) (o : Option ℕ) (a : Answer) (last : ℕ) → item_fits w (Some (record { last = last; answer = v })) o ≡ true → answer_of w v o ≡ Some a → effect (op_of w o) a ≢ Wrong
-answer_fits Enq Done (Some x) a last f q = let P : Answer → Type 0 = λ t. effect (ops.Enqueue x) t ≢ Wrong in subst P (some_is answers.Done a q) (λ n. cc)
-answer_fits Enq Full (Some x) a last f q = let P : Answer → Type 0 = λ t. effect (ops.Enqueue x) t ≢ Wrong in subst P (some_is answers.Full a q) (λ n. cc)
+answer_fits : (w : OpWord) (v : AnswerWord) (o : Option ℕ) (a : Answer) (last : ℕ)
+    → item_fits w (Some (record { last = last; answer = v })) o ≡ true → answer_of w v o ≡ Some a → effect (op_of w o) a ≢ Wrong
+answer_fits Enq Done (Some x) a last f q = let P : Answer → Type 0 = λ t. effect (ops.Enqueue x) t ≢ Wrong in
+    subst P (some_is answers.Done a q) (λ n. cc)
+answer_fits Enq Full (Some x) a last f q = let P : Answer → Type 0 = λ t. effect (ops.Enqueue x) t ≢ Wrong in
+    subst P (some_is answers.Full a q) (λ n. cc)
 answer_fits Enq Got o a last f q = absurd (cc)
 answer_fits Enq Empty o a last f q = absurd (cc)
-answer_fits Enq Busy (Some x) a last f q = let P : Answer → Type 0 = λ t. effect (ops.Enqueue x) t ≢ Wrong in subst P (some_is answers.Busy a q) (λ n. cc)
-answer_fits Enq Worn (Some x) a last f q = let P : Answer → Type 0 = λ t. effect (ops.Enqueue x) t ≢ Wrong in subst P (some_is answers.Worn a q) (λ n. cc)
+answer_fits Enq Busy (Some x) a last f q = let P : Answer → Type 0 = λ t. effect (ops.Enqueue x) t ≢ Wrong in
+    subst P (some_is answers.Busy a q) (λ n. cc)
+answer_fits Enq Worn (Some x) a last f q = let P : Answer → Type 0 = λ t. effect (ops.Enqueue x) t ≢ Wrong in
+    subst P (some_is answers.Worn a q) (λ n. cc)
 answer_fits Enq Other o a last f q = absurd (cc)
 answer_fits Enq v None a last f q = absurd (false≢true f)
 answer_fits Deq Done o a last f q = absurd (cc)
 answer_fits Deq Full o a last f q = absurd (cc)
-answer_fits Deq Got (Some y) a last f q = let P : Answer → Type 0 = λ t. effect ops.Dequeue t ≢ Wrong in subst P (some_is (answers.Got y) a q) (λ n. cc)
+answer_fits Deq Got (Some y) a last f q = let P : Answer → Type 0 = λ t. effect ops.Dequeue t ≢ Wrong in
+    subst P (some_is (answers.Got y) a q) (λ n. cc)
 answer_fits Deq Got None a last f q = absurd (cc)
-answer_fits Deq Empty o a last f q = let P : Answer → Type 0 = λ t. effect ops.Dequeue t ≢ Wrong in subst P (some_is answers.Empty a q) (λ n. cc)
-answer_fits Deq Busy o a last f q = let P : Answer → Type 0 = λ t. effect ops.Dequeue t ≢ Wrong in subst P (some_is answers.Busy a q) (λ n. cc)
-answer_fits Deq Worn o a last f q = let P : Answer → Type 0 = λ t. effect ops.Dequeue t ≢ Wrong in subst P (some_is answers.Worn a q) (λ n. cc)
+answer_fits Deq Empty o a last f q = let P : Answer → Type 0 = λ t. effect ops.Dequeue t ≢ Wrong in
+    subst P (some_is answers.Empty a q) (λ n. cc)
+answer_fits Deq Busy o a last f q = let P : Answer → Type 0 = λ t. effect ops.Dequeue t ≢ Wrong in
+    subst P (some_is answers.Busy a q) (λ n. cc)
+answer_fits Deq Worn o a last f q = let P : Answer → Type 0 = λ t. effect ops.Dequeue t ≢ Wrong in
+    subst P (some_is answers.Worn a q) (λ n. cc)
 answer_fits Deq Other o a last f q = absurd (cc)
 
 -- what a call is by itself
 abbrev IsValid : Call → Type 0
 IsValid c = IsInRange c × Answers c.op c.end
 
-valid_with : (e : Entry) (a : Option Answer) (x : Ending) (c : Call) → is_in_range e ≡ true → a ≡ answer_of e.op x.answer e.item → e.ending ≡ Some x → item_fits e.op (Some x) e.item ≡ true → with_ending e (option_map (λ b. Some (record { last = x.last; answer = b })) a) ≡ Ok c → IsValid c
+valid_with : (e : Entry) (a : Option Answer) (x : Ending) (c : Call) → is_in_range e ≡ true → a ≡ answer_of e.op x.answer e.item
+    → e.ending ≡ Some x → item_fits e.op (Some x) e.item ≡ true
+    → with_ending e (option_map (λ b. Some (record { last = x.last; answer = b })) a) ≡ Ok c → IsValid c
 valid_with e None x c r i is f q = absurd (cc)
 valid_with e (Some a) x c r i is f q =
     let p = and_parts (ltb e.thread 64) (is_item_number e.item) r in
@@ -106,20 +120,23 @@ valid_with e (Some a) x c r i is f q =
       answer_fits e.op x.answer e.item a x.last f (sym i),
     )
 
-valid_end : (e : Entry) (o : Option Ending) (c : Call) → is_in_range e ≡ true → e.ending ≡ o → item_fits e.op o e.item ≡ true → with_ending e (ending_of e.op o e.item) ≡ Ok c → IsValid c
+valid_end : (e : Entry) (o : Option Ending) (c : Call) → is_in_range e ≡ true → e.ending ≡ o → item_fits e.op o e.item ≡ true
+    → with_ending e (ending_of e.op o e.item) ≡ Ok c → IsValid c
 valid_end e None c r is f q =
     let p = and_parts (ltb e.thread 64) (is_item_number e.item) r in
     subst IsValid (ok_is _ c q) ((ltb-true e.thread 64 p.0, op_in e.op e.item p.1, tt), tt)
 valid_end e (Some x) c r is f q = valid_with e (answer_of e.op x.answer e.item) x c r refl is f q
 
-valid_if : (e : Entry) (b : Bool) (c : Call) → b ≡ is_in_range e → item_fits e.op e.ending e.item ≡ true → cond b (with_ending e (ending_of e.op e.ending e.item)) (Err flaws.NumberOutOfRange) ≡ Ok c → IsValid c
+valid_if : (e : Entry) (b : Bool) (c : Call) → b ≡ is_in_range e → item_fits e.op e.ending e.item ≡ true
+    → cond b (with_ending e (ending_of e.op e.ending e.item)) (Err flaws.NumberOutOfRange) ≡ Ok c → IsValid c
 valid_if e true c r f q = valid_end e e.ending c (sym r) refl f q
 valid_if e false c r f q = absurd (cc)
 
 pub valid_call : (e : Entry) (c : Call) → item_fits e.op e.ending e.item ≡ true → call_of e ≡ Ok c → IsInRange c × Answers c.op c.end
 valid_call e c f q = valid_if e (is_in_range e) c refl f q
 
-pub valid_result : (e : Entry) (r : Result Call Flaw) → item_fits e.op e.ending e.item ≡ true → r ≡ call_of e → IfOk r (λ c. IsInRange c × Answers c.op c.end)
+pub valid_result : (e : Entry) (r : Result Call Flaw) → item_fits e.op e.ending e.item ≡ true → r ≡ call_of e
+    → IfOk r (λ c. IsInRange c × Answers c.op c.end)
 valid_result e (Ok c) f q = valid_call e c f (sym q)
 valid_result e (Err x) f q = tt
 
@@ -137,7 +154,8 @@ pub members_array : (d : Data) (ds : List Data) → Some (items_of ds) ≡ as_ar
 members_array d ds q = ap (option_map list_of) (sym q) ∙ ap (λ t. Some t) (list_of-items_of ds)
 
 -- one more call
-pub read_more : (ds : List Data) (h : List Call) (c : Call) (n : ℕ) → length h ≡ n → AreRead ds h → IsRead (at ds n) (Ok c) → AreRead ds (h ++ c ∷ [])
+pub read_more : (ds : List Data) (h : List Call) (c : Call) (n : ℕ) → length h ≡ n → AreRead ds h → IsRead (at ds n) (Ok c)
+    → AreRead ds (h ++ c ∷ [])
 read_more ds h c n len r i j lt =
     let P : Call → Type 0 = λ w. IsRead (at ds j) (Ok w) in
     elim (cases_lt j n) [
@@ -152,12 +170,14 @@ read_more ds h c n len r i j lt =
     ]
 
 -- a member, as the data that it is
-pub read_at : (vs : List Value) (v : Value) (n : ℕ) (r : Result Call Flaw) → n < length vs → v ≡ get_or vs n v → IsRead (view v) r → IsRead (at (map view vs) n) r
+pub read_at : (vs : List Value) (v : Value) (n : ℕ) (r : Result Call Flaw) → n < length vs → v ≡ get_or vs n v → IsRead (view v) r
+    → IsRead (at (map view vs) n) r
 read_at vs v n r lt e i =
     let P : Data → Type 0 = λ d. IsRead d r in
     subst P (sym (get_or-map view vs n v null lt ∙ ap view (sym e))) i
 
-pub read_to : (vs : List Value) (h : List Call) (n : ℕ) → n < length vs → length h ≡ n → AreRead (map view vs) h → IsHistory h → IsReadTo (map view vs) n h
+pub read_to : (vs : List Value) (h : List Call) (n : ℕ) → n < length vs → length h ≡ n → AreRead (map view vs) h → IsHistory h
+    → IsReadTo (map view vs) n h
 read_to vs h n lt len r v = record { inside = rw length-map lt; sized = len; read = r; valid = v }
 
 pub is_array : (d : Data) (vs ws : List Value) → ws ≡ vs → Some (items_view vs) ≡ as_array d → members d ≡ Some (map view ws)
@@ -166,7 +186,8 @@ is_array d vs ws e q = members_array d (map view vs) q ∙ ap (λ t. Some (map v
 pub too_many : (d : Data) (vs : List Value) → Some (items_view vs) ≡ as_array d → 65536 < length vs → IsReadFault d faults.TooMany
 too_many d vs q lt = (map view vs, members_array d (map view vs) q, rw length-map lt)
 
-pub member_fault : (d : Data) (ds : List Data) (f : RecordFault) → members d ≡ Some ds → length ds ≤ 65536 → IsMemberFault ds f → IsReadFault d f
+pub member_fault : (d : Data) (ds : List Data) (f : RecordFault) → members d ≡ Some ds → length ds ≤ 65536 → IsMemberFault ds f
+    → IsReadFault d f
 member_fault d ds faults.NotAList e le i = absurd i
 member_fault d ds faults.TooMany e le i = absurd i
 member_fault d ds (faults.NotACall n) e le i = (ds, e, le, i)

@@ -1,5 +1,6 @@
 -- Beginnings of orders, by what is done, and what goes on from them.
-use Rattle.std.proofs.Common.{ℕ, zero, suc, ◌≡◌, ◌+◌, ◌<◌, ◌⊎◌, Bool, true, false, cond, List, [], ◌∷◌, ◌++◌, length, map, get_or, set, replicate, refl, sym, ◌∙◌, ap, subst, inl, inr, arith, Option, Some, None}
+use Rattle.std.proofs.Common.{ℕ, zero, suc, ◌≡◌, ◌+◌, ◌<◌, ◌⊎◌, Bool, true, false, cond, List, [], ◌∷◌, ◌++◌, length, map, get_or, set}
+use Rattle.std.proofs.Common.{replicate, refl, sym, ◌∙◌, ap, subst, inl, inr, arith, Option, Some, None}
 use Rattle.std.proofs.lemmas.Bool.{cases_lt, false≢true}
 use Rattle.std.proofs.lemmas.List.{map-append, get_or_past, get_or_append_left}
 use Rattle.std.proofs.Math.Seq.{get_or-append_seam}
@@ -17,8 +18,10 @@ use Rattle.kfifo_model.specs.Relaxed.{Effect, Adds, Takes, Wrong, IsRun, next, e
 use Rattle.kfifo_model.specs.Histories.{call, no_call, does, effect_of, effect_at, CanStand, HasEnd, EndsBelow, Precedes}
 use Rattle.kfifo_model.specs.Validity.{IsHistory, EndsFrom, AnswerInRange, EndInRange}
 use Rattle.kfifo_model.specs.Reach.{Reach, reach}
-use Rattle.kfifo_model.specs.Searching.{HasOrder, IsDone, IsComplete, IsFree, IsRest, GoesOn, Extends, IsNoNext, IsWanted, IsComing, IsIdle, IsAsGood, AreAsGood, done_count, LeadsTo}
-use Rattle.kfifo_model.proofs.Lists.{in_append, in_right, each_at, each_from, pairs_back, pairs_across, pairs_less, in_less, in_more, parted, Differ}
+use Rattle.kfifo_model.specs.Searching.{HasOrder, IsDone, IsComplete, IsFree, IsRest, GoesOn, Extends, IsNoNext, IsWanted, IsComing, IsIdle}
+use Rattle.kfifo_model.specs.Searching.{IsAsGood, AreAsGood, done_count, LeadsTo}
+use Rattle.kfifo_model.proofs.Lists.{in_append, in_right, each_at, each_from, pairs_back, pairs_across, pairs_less, in_less, in_more}
+use Rattle.kfifo_model.proofs.Lists.{parted, Differ}
 use Rattle.kfifo_model.proofs.Greedy.{run_on, run_back, no_run}
 use Rattle.kfifo_model.proofs.Checking.{in_bounds}
 use Rattle.kfifo_model.proofs.Forgetting.{Has, Both, both_from_places, both_flip, as_good_runs, without_idle, idle_first, taken_from}
@@ -77,7 +80,8 @@ not_below_itself (Some end) s e b = omega arith
 never_itself : (h : List Call) (n : ℕ) → IsHistory h → n < length h → Precedes h n n → ⊥
 never_itself h n v lt p = not_below_itself (call h n).end (call h n).first (v n lt).ends p
 
-stands_inside : (h : List Call) (n : ℕ) (rest : List ℕ) → AllByRecursion (λ c. CanStand (call h c).end (call h c).op) (n ∷ rest) → n < length h
+stands_inside : (h : List Call) (n : ℕ) (rest : List ℕ) → AllByRecursion (λ c. CanStand (call h c).end (call h c).op) (n ∷ rest)
+    → n < length h
 stands_inside h n rest c = in_bounds h n c.0
 
 -- the first of a rest may come next
@@ -98,7 +102,8 @@ rest_free h done n rest v r =
     }
 
 -- what is left when it is done
-pub rest_tail : (h : List Call) (done : List Bool) (n : ℕ) (rest : List ℕ) → n < length done → IsRest h done (n ∷ rest) → IsRest h (set done n true) rest
+pub rest_tail : (h : List Call) (done : List Bool) (n : ℕ) (rest : List ℕ) → n < length done → IsRest h done (n ∷ rest)
+    → IsRest h (set done n true) rest
 rest_tail h done n rest lt r = record {
   distinct = r.distinct.1;
   calls = r.calls.1;
@@ -116,9 +121,14 @@ rest_tail h done n rest lt r = record {
   before = r.before.1;
 }
 
-pub rest_cons : (h : List Call) (done : List Bool) (n : ℕ) (rest : List ℕ) → n < length done → IsFree h done n → IsRest h (set done n true) rest → IsRest h done (n ∷ rest)
+pub rest_cons : (h : List Call) (done : List Bool) (n : ℕ) (rest : List ℕ) → n < length done → IsFree h done n
+    → IsRest h (set done n true) rest → IsRest h done (n ∷ rest)
 rest_cons h done n rest lt free r = record {
-  distinct = (each_from (Differ n) rest (λ c i e. r.fresh c i (let P : ℕ → Type 0 = λ w. IsDone (set done n true) w in subst P e (done_here done n lt))), r.distinct);
+  distinct = (
+    each_from (Differ n) rest (λ c i e.
+        r.fresh c i (let P : ℕ → Type 0 = λ w. IsDone (set done n true) w in subst P e (done_here done n lt))),
+    r.distinct,
+  );
   calls = (free.stands, r.calls);
   fresh = λ c i d. elim i [
     | inl e ↦ free.fresh (let P : ℕ → Type 0 = λ w. IsDone done w in subst P e d)
@@ -133,12 +143,14 @@ rest_cons h done n rest lt free r = record {
 
 -- ---- what a call leads to
 
-takes_wanted : (h : List Call) (done : List Bool) (x : ℕ) (rest : List ℕ) → ((c : ℕ) → IsIn c rest → IsDone done c → ⊥) → Has (Takes x) (map (does h) rest) → IsWanted h done x
+takes_wanted : (h : List Call) (done : List Bool) (x : ℕ) (rest : List ℕ) → ((c : ℕ) → IsIn c rest → IsDone done c → ⊥)
+    → Has (Takes x) (map (does h) rest) → IsWanted h done x
 takes_wanted h done x [] f i = absurd i
 takes_wanted h done x (c ∷ rest) f (inl e) = (c, f c (inl refl), sym e)
 takes_wanted h done x (c ∷ rest) f (inr i) = takes_wanted h done x rest (λ d j. f d (inr j)) i
 
-adds_coming : (h : List Call) (done : List Bool) (x : ℕ) (rest : List ℕ) → ((c : ℕ) → IsIn c rest → IsDone done c → ⊥) → Has (Adds x) (map (does h) rest) → IsComing h done x
+adds_coming : (h : List Call) (done : List Bool) (x : ℕ) (rest : List ℕ) → ((c : ℕ) → IsIn c rest → IsDone done c → ⊥)
+    → Has (Adds x) (map (does h) rest) → IsComing h done x
 adds_coming h done x [] f i = absurd i
 adds_coming h done x (c ∷ rest) f (inl e) = (c, f c (inl refl), sym e)
 adds_coming h done x (c ∷ rest) f (inr i) = adds_coming h done x rest (λ d j. f d (inr j)) i
@@ -147,7 +159,9 @@ both : (h : List Call) (done : List Bool) (items others : List ℕ) → AreAsGoo
 both h done items others g = both_from_places (IsWanted h done) items others g.0 g.1
 
 -- n goes to the list after, and others are as good
-pub leads_to : (k : ℕ) (h : List Call) (done : List Bool) (items after others : List ℕ) (n : ℕ) → length done ≡ length h → IsFree h done n → next k items (does h n) ≡ Some after → AreAsGood h (set done n true) after others → LeadsTo k h (reach done items) n (reach (set done n true) others)
+pub leads_to : (k : ℕ) (h : List Call) (done : List Bool) (items after others : List ℕ) (n : ℕ) → length done ≡ length h → IsFree h done n
+    → next k items (does h n) ≡ Some after → AreAsGood h (set done n true) after others
+    → LeadsTo k h (reach done items) n (reach (set done n true) others)
 leads_to k h done items after others n sized free e good =
     let inside : n < length h = free.inside in
     let lt : n < length done = omega arith in
@@ -159,7 +173,9 @@ leads_to k h done items after others n sized free e good =
         record {
           is_rest = rest_cons h done n g.0 lt free g.1.is_rest;
           is_run = run_back k items after (does h n) (map (does h) g.0) e
-              (as_good_runs k (IsWanted h (set done n true)) (map (does h) g.0) others after (λ x i. takes_wanted h (set done n true) x g.0 g.1.is_rest.fresh i) (both_flip (IsWanted h (set done n true)) after others pair) g.1.is_run);
+              (as_good_runs k (IsWanted h (set done n true)) (map (does h) g.0) others after
+              (λ x i. takes_wanted h (set done n true) x g.0 g.1.is_rest.fresh i)
+              (both_flip (IsWanted h (set done n true)) after others pair) g.1.is_run);
         },
       );
       complete = λ rest g.
@@ -167,7 +183,8 @@ leads_to k h done items after others n sized free e good =
             rest,
             record {
               is_rest = tail;
-              is_run = as_good_runs k (IsWanted h (set done n true)) (map (does h) rest) after others (λ x i. takes_wanted h (set done n true) x rest tail.fresh i) pair
+              is_run = as_good_runs k (IsWanted h (set done n true)) (map (does h) rest) after others
+                  (λ x i. takes_wanted h (set done n true) x rest tail.fresh i) pair
                   (run_on k items after (does h n) (map (does h) rest) e g.is_run);
             },
           );
@@ -190,7 +207,8 @@ moved_in x n a b (inr i) = in_less x n a b i
 moved_out : (x n : ℕ) (a b : List ℕ) → IsIn x (a ++ n ∷ b) → IsIn x (n ∷ (a ++ b))
 moved_out x n a b i = elim (in_more x n a b i) [ inl e ↦ inl e | inr j ↦ inr j ]
 
-moved_rest : (h : List Call) (done : List Bool) (n : ℕ) (a b : List ℕ) → IsFree h done n → IsRest h done (a ++ n ∷ b) → IsRest h done (n ∷ (a ++ b))
+moved_rest : (h : List Call) (done : List Bool) (n : ℕ) (a b : List ℕ) → IsFree h done n → IsRest h done (a ++ n ∷ b)
+    → IsRest h done (n ∷ (a ++ b))
 moved_rest h done n a b free r =
     let S : ℕ → Type 0 = λ c. CanStand (call h c).end (call h c).op in
     let R : ℕ → ℕ → Type 0 = λ c d. Precedes h d c → ⊥ in
@@ -208,13 +226,16 @@ moved_rest h done n a b free r =
       before = (each_from (R n) (a ++ b) (λ x i p. r.fresh x (in_less x n a b i) (free.ready x p)), pairs_less R n a b r.before);
     }
 
-moved_run : (k : ℕ) (h : List Call) (items : List ℕ) (n : ℕ) (a b : List ℕ) → IsIdle items (does h n) → IsRun k items (map (does h) (a ++ n ∷ b)) → IsRun k items (map (does h) (n ∷ (a ++ b)))
+moved_run : (k : ℕ) (h : List Call) (items : List ℕ) (n : ℕ) (a b : List ℕ) → IsIdle items (does h n)
+    → IsRun k items (map (does h) (a ++ n ∷ b)) → IsRun k items (map (does h) (n ∷ (a ++ b)))
 moved_run k h items n a b idle r =
     let P : List Effect → Type 0 = λ t. IsRun k items t in
     idle_first k items (does h n) (map (does h) (a ++ b)) idle
-    (subst P (sym (map-append (does h) a b)) (without_idle k items items (does h n) (map (does h) a) (map (does h) b) idle (subst P (map-append (does h) a (n ∷ b)) r)))
+    (subst P (sym (map-append (does h) a b)) (without_idle k items items (does h n) (map (does h) a) (map (does h) b) idle
+    (subst P (map-append (does h) a (n ∷ b)) r)))
 
-pub idle_goes : (k : ℕ) (h : List Call) (r : Reach) (n : ℕ) → IsFree h r.done n → IsIdle r.items (does h n) → IsNoNext k h r n → Extends k h r → ⊥
+pub idle_goes : (k : ℕ) (h : List Call) (r : Reach) (n : ℕ) → IsFree h r.done n → IsIdle r.items (does h n) → IsNoNext k h r n
+    → Extends k h r → ⊥
 idle_goes k h r n free idle never g =
     elim (g.1.is_rest.complete n (idle_end r.items (call h n).op (call h n).end idle)) [
       | inl d ↦ free.fresh d
@@ -241,7 +262,8 @@ has_effect h e n [] q i = absurd i
 has_effect h e n (c ∷ rest) q (inl s) = inl (sym q ∙ ap (does h) s)
 has_effect h e n (c ∷ rest) q (inr i) = inr (has_effect h e n rest q i)
 
-pub cannot_finish : (k : ℕ) (h : List Call) (r : Reach) (x : ℕ) → IsWanted h r.done x → (IsIn x r.items → ⊥) → (IsComing h r.done x → ⊥) → Extends k h r → ⊥
+pub cannot_finish : (k : ℕ) (h : List Call) (r : Reach) (x : ℕ) → IsWanted h r.done x → (IsIn x r.items → ⊥) → (IsComing h r.done x → ⊥)
+    → Extends k h r → ⊥
 cannot_finish k h r x w gone never g =
     elim (g.1.is_rest.complete w.0 (takes_end (call h w.0).op (call h w.0).end x w.2)) [
       | inl d ↦ w.1 d
@@ -253,12 +275,14 @@ cannot_finish k h r x w gone never g =
 
 -- ---- ends
 
-none_by : (k : ℕ) (h : List Call) (r : Reach) (rest : List ℕ) → IsHistory h → (IsComplete h r.done → ⊥) → ((n : ℕ) → n < length h → IsNoNext k h r n) → GoesOn k h r rest → ⊥
+none_by : (k : ℕ) (h : List Call) (r : Reach) (rest : List ℕ) → IsHistory h → (IsComplete h r.done → ⊥)
+    → ((n : ℕ) → n < length h → IsNoNext k h r n) → GoesOn k h r rest → ⊥
 none_by k h r [] v open_ f g = open_ (λ n e. elim (g.is_rest.complete n e) [ inl d ↦ d | inr i ↦ absurd i ])
 none_by k h r (n ∷ rest) v open_ f g = f n (rest_free h r.done n rest v g.is_rest).inside rest g
 
 -- where nothing may come next and a finished call is not done, no order goes on
-pub none_goes : (k : ℕ) (h : List Call) (r : Reach) → IsHistory h → (IsComplete h r.done → ⊥) → ((n : ℕ) → n < length h → IsNoNext k h r n) → Extends k h r → ⊥
+pub none_goes : (k : ℕ) (h : List Call) (r : Reach) → IsHistory h → (IsComplete h r.done → ⊥) → ((n : ℕ) → n < length h → IsNoNext k h r n)
+    → Extends k h r → ⊥
 none_goes k h r v open_ f g = none_by k h r g.0 v open_ f g.1
 
 pub not_free : (k : ℕ) (h : List Call) (r : Reach) (n : ℕ) → IsHistory h → (IsFree h r.done n → ⊥) → IsNoNext k h r n
@@ -274,7 +298,12 @@ opening_sound k h g =
     let r = g.1.is_rest in (
       g.0,
       record {
-        is_order = record { distinct = r.distinct; calls = r.calls; complete = λ n f. elim (r.complete n f) [ inl d ↦ absurd (none_done (length h) n d) | inr i ↦ i ]; before = r.before };
+        is_order = record {
+          distinct = r.distinct;
+          calls = r.calls;
+          complete = λ n f. elim (r.complete n f) [ inl d ↦ absurd (none_done (length h) n d) | inr i ↦ i ];
+          before = r.before;
+        };
         is_run = g.1.is_run;
       },
     )
@@ -284,7 +313,13 @@ opening_complete k h o =
     let r = o.1.is_order in (
       o.0,
       record {
-        is_rest = record { distinct = r.distinct; calls = r.calls; fresh = λ n i d. none_done (length h) n d; complete = λ n f. inr (r.complete n f); before = r.before };
+        is_rest = record {
+          distinct = r.distinct;
+          calls = r.calls;
+          fresh = λ n i d. none_done (length h) n d;
+          complete = λ n f. inr (r.complete n f);
+          before = r.before;
+        };
         is_run = o.1.is_run;
       },
     )
@@ -314,7 +349,8 @@ takes_inside : (h : List Call) (n x : ℕ) → does h n ≡ Takes x → n < leng
 takes_inside h n x e =
     elim (cases_lt n (length h)) [
       | inl lt ↦ lt
-      | inr le ↦ absurd (let P : Call → Type 0 = λ w. effect_of w ≡ Takes x in let q : Wrong ≡ Takes x = subst P (get_or_past h n no_call le) e in cc)
+      | inr le ↦ absurd (let P : Call → Type 0 = λ w. effect_of w ≡ Takes x in let q : Wrong
+          ≡ Takes x = subst P (get_or_past h n no_call le) e in cc)
     ]
 
 pub zero_unwanted : (h : List Call) (done : List Bool) → IsHistory h → IsWanted h done 0 → ⊥
@@ -324,7 +360,9 @@ zero_unwanted h done v w =
     absurd (omega arith)
 
 -- one more item, as good as that at its place
-pub as_good_more : (h : List Call) (done : List Bool) (items kept : List ℕ) (i y : ℕ) → length kept ≡ i → ((j : ℕ) → j < i → IsAsGood h done (get_or items j 0) (get_or kept j 0)) → IsAsGood h done (get_or items i 0) y → (j : ℕ) → j < i + 1 → IsAsGood h done (get_or items j 0) (get_or (kept ++ y ∷ []) j 0)
+pub as_good_more : (h : List Call) (done : List Bool) (items kept : List ℕ) (i y : ℕ) → length kept ≡ i
+    → ((j : ℕ) → j < i → IsAsGood h done (get_or items j 0) (get_or kept j 0)) → IsAsGood h done (get_or items i 0) y → (j : ℕ) → j < i + 1
+    → IsAsGood h done (get_or items j 0) (get_or (kept ++ y ∷ []) j 0)
 as_good_more h done items kept i y len good here j lt =
     elim (cases_lt j i) [
       | inl below ↦ (

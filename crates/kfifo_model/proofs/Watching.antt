@@ -1,5 +1,6 @@
 -- The calls so far, as the progress of a record keeps them.
-use Rattle.std.proofs.Common.{ℕ, ◌≡◌, ◌≢◌, ◌+◌, ◌<◌, ◌≤◌, ◌↔◌, List, [], ◌∷◌, ◌++◌, length, get_or, set, sym, ◌∙◌, ap, subst, inl, inr, arith, refl, Option, Some, None, get_or-set_other, get_or-set_same, length-append}
+use Rattle.std.proofs.Common.{ℕ, ◌≡◌, ◌≢◌, ◌+◌, ◌<◌, ◌≤◌, ◌↔◌, List, [], ◌∷◌, ◌++◌, length, get_or, set, sym, ◌∙◌, ap, subst, inl, inr}
+use Rattle.std.proofs.Common.{arith, refl, Option, Some, None, get_or-set_other, get_or-set_same, length-append}
 use Rattle.std.proofs.lemmas.Bool.{cases_lt, cases_eq}
 use Rattle.std.proofs.lemmas.List.{get_or_default, get_or_append_left}
 use Rattle.std.proofs.Math.ListN.{length-set}
@@ -18,13 +19,19 @@ use Rattle.kfifo_model.specs.Progress.{LetsBegin, RisesFrom, state_after}
 pub record IsProgress (h : List Call) (n : ℕ) (p : Progress) : Type 0 where
   pub sized : length p.threads ≡ 64
   pub latest : (s : ℕ) → RisesFrom p.latest s ↔ ((j : ℕ) → j + 1 ≡ n → (call h j).first < s)
-  pub threads : (t s : ℕ) (d : ThreadState) → t < 64 → LetsBegin (get_or p.threads t d) s ↔ ((j : ℕ) → j < n → (call h j).thread ≡ t → EndsBelow (call h j).end s)
+  pub threads : (t s : ℕ) (d : ThreadState) → t < 64
+      → LetsBegin (get_or p.threads t d) s ↔ ((j : ℕ) → j < n → (call h j).thread ≡ t → EndsBelow (call h j).end s)
 
-pub no_progress : (h : List Call) (p : Progress) → length p.threads ≡ 64 → p.latest ≡ None → ((t : ℕ) (d : ThreadState) → t < 64 → get_or p.threads t d ≡ Fresh) → IsProgress h 0 p
+pub no_progress : (h : List Call) (p : Progress) → length p.threads ≡ 64 → p.latest ≡ None
+    → ((t : ℕ) (d : ThreadState) → t < 64 → get_or p.threads t d ≡ Fresh) → IsProgress h 0 p
 no_progress h p sized none fresh = record {
   sized = sized;
   latest = λ s. (λ r j e. absurd (omega arith), λ f. let P : Option ℕ → Type 0 = λ o. RisesFrom o s in subst P (sym none) tt);
-  threads = λ t s d lt. (λ r j l. absurd (omega arith), λ f. let P : ThreadState → Type 0 = λ w. LetsBegin w s in subst P (sym (fresh t d lt)) tt);
+  threads = λ t s d lt. (
+    λ r j l. absurd (omega arith),
+    λ f. let P : ThreadState
+        → Type 0 = λ w. LetsBegin w s in subst P (sym (fresh t d lt)) tt,
+  );
 }
 
 lets_after : (o : Option End) (s : ℕ) → LetsBegin (state_after o) s ↔ EndsBelow o s
@@ -42,7 +49,8 @@ ends_through o None first s b e l = absurd l
 last_is : (j n : ℕ) → j < n + 1 → (j < n → ⊥) → j ≡ n
 last_is j n lt f = elim (cases_lt j n) [ inl below ↦ absurd (f below) | inr le ↦ omega arith ]
 
-pub more_progress : (h : List Call) (n : ℕ) (p q : Progress) → IsProgress h n p → IsGood h n → q.latest ≡ Some (call h n).first → q.threads ≡ set p.threads (call h n).thread (state_after (call h n).end) → IsProgress h (n + 1) q
+pub more_progress : (h : List Call) (n : ℕ) (p q : Progress) → IsProgress h n p → IsGood h n → q.latest ≡ Some (call h n).first
+    → q.threads ≡ set p.threads (call h n).thread (state_after (call h n).end) → IsProgress h (n + 1) q
 more_progress h n p q was good latest threads =
     let c = call h n in
     let small : c.thread < 64 = good.ranged.0 in
@@ -50,21 +58,25 @@ more_progress h n p q was good latest threads =
       sized = ap length threads ∙ length-set p.threads c.thread (state_after c.end) ∙ was.sized;
       latest = λ s.
           let P : Option ℕ → Type 0 = λ o. RisesFrom o s in (
-            λ r j e. (let same : j ≡ n = omega arith in let R : ℕ → Type 0 = λ w. (call h w).first < s in subst R (sym same) (subst P latest r)),
+            λ r j e. (let same : j ≡ n = omega arith in let R : ℕ
+                → Type 0 = λ w. (call h w).first < s in subst R (sym same) (subst P latest r)),
             λ f. subst P (sym latest) (f n (omega arith)),
           );
       threads = λ t s d lt.
           let P : ThreadState → Type 0 = λ w. LetsBegin w s in
-          let at : get_or q.threads t d ≡ get_or (set p.threads c.thread (state_after c.end)) t d = ap (λ (l : List ThreadState). get_or l t d) threads in
+          let at : get_or q.threads t d ≡ get_or (set p.threads c.thread (state_after c.end)) t d =
+          ap (λ (l : List ThreadState). get_or l t d) threads in
           elim (cases_eq t c.thread) [
             | inl e ↦ (
                 let here : c.thread < length p.threads = (let z = was.sized in omega arith) in
-                let now : get_or q.threads t d ≡ state_after c.end = at ∙ (ap (λ w. get_or (set p.threads c.thread (state_after c.end)) w d) e ∙ rw get_or-set_same refl) in (
+                let now : get_or q.threads t d ≡ state_after c.end =
+                at ∙ (ap (λ w. get_or (set p.threads c.thread (state_after c.end)) w d) e ∙ rw get_or-set_same refl) in (
                   λ l j lj th. (
                       let ends = (lets_after c.end s).0 (subst P now l) in
                       elim (cases_lt j n) [
                         | inl below ↦ ends_through (call h j).end c.end c.first s (good.apart j below (th ∙ e)) good.ends ends
-                        | inr le ↦ (let same : j ≡ n = omega arith in let R : ℕ → Type 0 = λ w. EndsBelow (call h w).end s in subst R (sym same) ends)
+                        | inr le ↦ (let same : j ≡ n = omega arith in let R : ℕ
+                            → Type 0 = λ w. EndsBelow (call h w).end s in subst R (sym same) ends)
                       ]
                       ),
                   λ f. subst P (sym now) ((lets_after c.end s).1 (f n (omega arith) (sym e))),
@@ -104,7 +116,8 @@ good_call h n p was t =
 pub good_at : (h : List Call) (n : ℕ) (p : Progress) (d : Call) → n < length h → IsProgress h n p → Tests p (get_or h n d) → IsGood h n
 good_at h n p d lt was t = let P : Call → Type 0 = λ w. Tests p w in good_call h n p was (subst P (get_or_default h n d no_call lt) t)
 
-pub not_apart : (h : List Call) (n : ℕ) (p : Progress) (d : Call) → n < length h → IsProgress h n p → (get_or h n d).thread < 64 → ((e : ThreadState) → LetsBegin (get_or p.threads (get_or h n d).thread e) (get_or h n d).first → ⊥) → IsApart h n → ⊥
+pub not_apart : (h : List Call) (n : ℕ) (p : Progress) (d : Call) → n < length h → IsProgress h n p → (get_or h n d).thread < 64
+    → ((e : ThreadState) → LetsBegin (get_or p.threads (get_or h n d).thread e) (get_or h n d).first → ⊥) → IsApart h n → ⊥
 not_apart h n p d lt was small f apart =
     let e = get_or_default h n d no_call lt in
     let P : Call → Type 0 = λ w. (w.thread < 64) × ((e : ThreadState) → LetsBegin (get_or p.threads w.thread e) w.first → ⊥) in
@@ -112,7 +125,9 @@ not_apart h n p d lt was small f apart =
     q.1 Fresh ((was.threads (call h n).thread (call h n).first Fresh q.0).1 apart)
 
 -- one more good call
-pub more_calls : (h : List Call) (n : ℕ) (p q : Progress) (d : Call) → n < length h → IsProgress h n p → IsGood h n → q.latest ≡ Some (get_or h n d).first → q.threads ≡ set p.threads (get_or h n d).thread (state_after (get_or h n d).end) → IsProgress h (n + 1) q
+pub more_calls : (h : List Call) (n : ℕ) (p q : Progress) (d : Call) → n < length h → IsProgress h n p → IsGood h n
+    → q.latest ≡ Some (get_or h n d).first → q.threads ≡ set p.threads (get_or h n d).thread (state_after (get_or h n d).end)
+    → IsProgress h (n + 1) q
 more_calls h n p q d lt was good a b =
     let P : Call → Type 0 = λ w. (q.latest ≡ Some w.first) × (q.threads ≡ set p.threads w.thread (state_after w.end)) in
     let r = subst P (get_or_default h n d no_call lt) (a, b) in
@@ -129,13 +144,16 @@ good_more h n f g j lt =
 pub ranged_at : (h : List Call) (n : ℕ) (d : Call) → n < length h → IsInRange (get_or h n d) → IsInRange (call h n)
 ranged_at h n d lt t = let P : Call → Type 0 = λ w. IsInRange w in subst P (get_or_default h n d no_call lt) t
 
-pub answers_at : (h : List Call) (n : ℕ) (d : Call) → n < length h → Answers (get_or h n d).op (get_or h n d).end → Answers (call h n).op (call h n).end
+pub answers_at : (h : List Call) (n : ℕ) (d : Call) → n < length h → Answers (get_or h n d).op (get_or h n d).end
+    → Answers (call h n).op (call h n).end
 answers_at h n d lt t = let P : Call → Type 0 = λ w. Answers w.op w.end in subst P (get_or_default h n d no_call lt) t
 
-pub ends_at : (h : List Call) (n : ℕ) (d : Call) → n < length h → EndsFrom (get_or h n d).first (get_or h n d).end → EndsFrom (call h n).first (call h n).end
+pub ends_at : (h : List Call) (n : ℕ) (d : Call) → n < length h → EndsFrom (get_or h n d).first (get_or h n d).end
+    → EndsFrom (call h n).first (call h n).end
 ends_at h n d lt t = let P : Call → Type 0 = λ w. EndsFrom w.first w.end in subst P (get_or_default h n d no_call lt) t
 
-pub rises_at : (h : List Call) (n : ℕ) (p : Progress) (d : Call) → n < length h → IsProgress h n p → RisesFrom p.latest (get_or h n d).first → Rises h n
+pub rises_at : (h : List Call) (n : ℕ) (p : Progress) (d : Call) → n < length h → IsProgress h n p → RisesFrom p.latest (get_or h n d).first
+    → Rises h n
 rises_at h n p d lt was t =
     let P : Call → Type 0 = λ w. RisesFrom p.latest w.first in
     (was.latest (call h n).first).0 (subst P (get_or_default h n d no_call lt) t)
@@ -177,11 +195,14 @@ progress_with h c n p len was =
       sized = was.sized;
       latest = λ s. (
         λ r j q. (let lj : j < n = omega arith in let P : Call → Type 0 = λ w. w.first < s in subst P (e j lj) ((was.latest s).0 r j q)),
-        λ f. (was.latest s).1 (λ j q. let lj : j < n = omega arith in let P : Call → Type 0 = λ w. w.first < s in subst P (sym (e j lj)) (f j q)),
+        λ f. (was.latest s).1 (λ j q. let lj : j < n = omega arith in let P : Call
+            → Type 0 = λ w. w.first < s in subst P (sym (e j lj)) (f j q)),
       );
       threads = λ t s d lt. (
-        λ l j lj th. (let P : Call → Type 0 = λ w. EndsBelow w.end s in subst P (e j lj) ((was.threads t s d lt).0 l j lj (ap (λ w. w.thread) (e j lj) ∙ th))),
-        λ f. (was.threads t s d lt).1 (λ j lj th. let P : Call → Type 0 = λ w. EndsBelow w.end s in subst P (sym (e j lj)) (f j lj (ap (λ w. w.thread) (sym (e j lj)) ∙ th))),
+        λ l j lj th. (let P : Call → Type 0 = λ w. EndsBelow w.end s in
+            subst P (e j lj) ((was.threads t s d lt).0 l j lj (ap (λ w. w.thread) (e j lj) ∙ th))),
+        λ f. (was.threads t s d lt).1 (λ j lj th. let P : Call
+            → Type 0 = λ w. EndsBelow w.end s in subst P (sym (e j lj)) (f j lj (ap (λ w. w.thread) (sym (e j lj)) ∙ th))),
       );
     }
 
@@ -193,7 +214,8 @@ good_below h c n len v =
 of_last : (h : List Call) (c : Call) (n : ℕ) (P : Call → Type 0) → length h ≡ n → P c → P (call (h ++ c ∷ []) n)
 of_last h c n P len p = subst P (sym (the_last h c n len)) p
 
-pub fault_ends : (h : List Call) (c : Call) (n : ℕ) → length h ≡ n → IsHistory h → IsInRange c → Answers c.op c.end → (EndsFrom c.first c.end → ⊥) → IsFault (h ++ c ∷ []) (EndsEarly n)
+pub fault_ends : (h : List Call) (c : Call) (n : ℕ) → length h ≡ n → IsHistory h → IsInRange c → Answers c.op c.end
+    → (EndsFrom c.first c.end → ⊥) → IsFault (h ++ c ∷ []) (EndsEarly n)
 fault_ends h c n len v r a f = (
   good_below h c n len v,
   of_last h c n (λ w. IsInRange w) len r,
@@ -201,16 +223,20 @@ fault_ends h c n len v r a f = (
   of_last h c n (λ w. EndsFrom w.first w.end → ⊥) len f,
 )
 
-pub fault_rises : (h : List Call) (c : Call) (n : ℕ) (p : Progress) → length h ≡ n → IsHistory h → IsProgress h n p → IsInRange c → Answers c.op c.end → EndsFrom c.first c.end → (RisesFrom p.latest c.first → ⊥) → IsFault (h ++ c ∷ []) (OutOfOrder n)
+pub fault_rises : (h : List Call) (c : Call) (n : ℕ) (p : Progress) → length h ≡ n → IsHistory h → IsProgress h n p → IsInRange c
+    → Answers c.op c.end → EndsFrom c.first c.end → (RisesFrom p.latest c.first → ⊥) → IsFault (h ++ c ∷ []) (OutOfOrder n)
 fault_rises h c n p len v was r a e f = (
   good_below h c n len v,
   of_last h c n (λ w. IsInRange w) len r,
   of_last h c n (λ w. Answers w.op w.end) len a,
   of_last h c n (λ w. EndsFrom w.first w.end) len e,
-  λ s. of_last h c n (λ w. RisesFrom p.latest w.first → ⊥) len f (((progress_with h c n p len was).latest (call (h ++ c ∷ []) n).first).1 s),
+  λ s. of_last h c n (λ w. RisesFrom p.latest w.first → ⊥) len f
+      (((progress_with h c n p len was).latest (call (h ++ c ∷ []) n).first).1 s),
 )
 
-pub fault_lets : (h : List Call) (c : Call) (n : ℕ) (p : Progress) → length h ≡ n → IsHistory h → IsProgress h n p → IsInRange c → Answers c.op c.end → EndsFrom c.first c.end → RisesFrom p.latest c.first → ((d : ThreadState) → LetsBegin (get_or p.threads c.thread d) c.first → ⊥) → IsFault (h ++ c ∷ []) (Overlap n)
+pub fault_lets : (h : List Call) (c : Call) (n : ℕ) (p : Progress) → length h ≡ n → IsHistory h → IsProgress h n p → IsInRange c
+    → Answers c.op c.end → EndsFrom c.first c.end → RisesFrom p.latest c.first
+    → ((d : ThreadState) → LetsBegin (get_or p.threads c.thread d) c.first → ⊥) → IsFault (h ++ c ∷ []) (Overlap n)
 fault_lets h c n p len v was r a e s f = (
   good_below h c n len v,
   of_last h c n (λ w. IsInRange w) len r,
@@ -218,18 +244,21 @@ fault_lets h c n p len v was r a e s f = (
   of_last h c n (λ w. EndsFrom w.first w.end) len e,
   ((progress_with h c n p len was).latest (call (h ++ c ∷ []) n).first).0 (of_last h c n (λ w. RisesFrom p.latest w.first) len s),
   λ apart. of_last h c n (λ w. LetsBegin (get_or p.threads w.thread Fresh) w.first → ⊥) len (f Fresh)
-      (((progress_with h c n p len was).threads (call (h ++ c ∷ []) n).thread (call (h ++ c ∷ []) n).first Fresh (of_last h c n (λ w. w.thread < 64) len r.0)).1 apart),
+      (((progress_with h c n p len was).threads (call (h ++ c ∷ []) n).thread (call (h ++ c ∷ []) n).first Fresh
+      (of_last h c n (λ w. w.thread < 64) len r.0)).1 apart),
 )
 
 good_last : (h : List Call) (c : Call) (n : ℕ) (p : Progress) → length h ≡ n → IsProgress h n p → Tests p c → IsGood (h ++ c ∷ []) n
 good_last h c n p len was t = good_call (h ++ c ∷ []) n p (progress_with h c n p len was) (of_last h c n (λ w. Tests p w) len t)
 
-pub more_valid : (h : List Call) (c : Call) (n : ℕ) (p : Progress) → length h ≡ n → IsHistory h → IsProgress h n p → Tests p c → IsHistory (h ++ c ∷ [])
+pub more_valid : (h : List Call) (c : Call) (n : ℕ) (p : Progress) → length h ≡ n → IsHistory h → IsProgress h n p → Tests p c
+    → IsHistory (h ++ c ∷ [])
 more_valid h c n p len v was t j lt =
     let lj : j < n + 1 = (let e = length-append h (c ∷ []) in omega arith) in
     good_more (h ++ c ∷ []) n (good_below h c n len v).1 (good_last h c n p len was t) j lj
 
-pub more_noted : (h : List Call) (c : Call) (n : ℕ) (p q : Progress) → length h ≡ n → IsProgress h n p → Tests p c → q.latest ≡ Some c.first → q.threads ≡ set p.threads c.thread (state_after c.end) → IsProgress (h ++ c ∷ []) (n + 1) q
+pub more_noted : (h : List Call) (c : Call) (n : ℕ) (p q : Progress) → length h ≡ n → IsProgress h n p → Tests p c → q.latest ≡ Some c.first
+    → q.threads ≡ set p.threads c.thread (state_after c.end) → IsProgress (h ++ c ∷ []) (n + 1) q
 more_noted h c n p q len was t a b =
     let m = of_last h c n (λ w. (q.latest ≡ Some w.first) × (q.threads ≡ set p.threads w.thread (state_after w.end))) len (a, b) in
     more_progress (h ++ c ∷ []) n p q (progress_with h c n p len was) (good_last h c n p len was t) m.0 m.1

@@ -1,7 +1,9 @@
 -- The numbers of the faults of records.
 use Rattle.std.specs.Prelude.{ℕ, Option, Some, None}
 use Rattle.kfifo_model.specs.declared.history.RecordFault.{RecordFault}
-use Rattle.kfifo_model.specs.declared.history.RecordFault.TheVariants.{NotAList, TooMany, NotACall, NumberOutOfRange, WrongAnswer, EndsEarly, OutOfOrder, Overlap, Memory}
+use Rattle.kfifo_model.specs.declared.history.RecordFault.TheVariants.{NotAList, TooMany, NotACall, NumberOutOfRange}
+use Rattle.kfifo_model.specs.declared.history.RecordFault.TheVariants.{WrongAnswer, EndsEarly, OutOfOrder, Overlap}
+use Rattle.kfifo_model.specs.declared.history.RecordFault.TheVariants.{Memory}
 
 abbrev pub fault_number : RecordFault → ℕ
 fault_number NotAList = 1

@@ -1,5 +1,6 @@
 -- Items by the calls that put and got them, and the overtakings of all items.
-use Rattle.std.specs.Prelude.{ℕ, zero, suc, ◌≡◌, ◌<◌, ◌&&◌, Bool, true, ltb, List, [], ◌∷◌, ◌++◌, Option, Some, None, length}
+use Rattle.std.specs.Prelude.{ℕ, zero, suc, ◌≡◌, ◌<◌, ◌&&◌, Bool, true, ltb, List, [], ◌∷◌, ◌++◌, Option, Some, None}
+use Rattle.std.specs.Prelude.{length}
 use Rattle.std.specs.Option.{option_map, option_to_list, MatchOption}
 use Rattle.kfifo_model.specs.declared.calls.Op.{Op}
 use Rattle.kfifo_model.specs.declared.calls.Op.TheVariants.{Enqueue, Dequeue}
@@ -13,7 +14,7 @@ use Rattle.kfifo_model.specs.declared.index.Overtaken.{Overtaken}
 use Rattle.kfifo_model.specs.declared.index.Rival.{Rival}
 use Rattle.kfifo_model.specs.declared.index.MeasureFault.{MeasureFault}
 use Rattle.kfifo_model.specs.declared.index.MeasureFault.TheVariants.{RepeatedItem, Memory}
-use Rattle.kfifo_model.specs.Relaxed.{Effect, Adds, Takes, Finds_none, Refused, Wrong}
+use Rattle.kfifo_model.specs.Relaxed.{Effect, Adds, Takes, FindsNone, Refused, Wrong}
 use Rattle.kfifo_model.specs.Histories.{call, does}
 use Rattle.kfifo_model.specs.Overtaking.{certainly_overtaken}
 use Rattle.kfifo_model.specs.Measures.{IsDoneEnqueue, HasDistinctItems}
@@ -24,11 +25,13 @@ kind_effect Gots x = Takes x
 
 -- two calls of the kind have one item
 abbrev pub HasTwo : List Call → Kind → Type 0
-HasTwo h kind = (x : ℕ) × (i : ℕ) × (j : ℕ) × (i < j) × (j < length h) × (does h i ≡ kind_effect kind x) × (does h j ≡ kind_effect kind x)
+HasTwo h kind = (x : ℕ) × (i : ℕ) × (j : ℕ) × (i < j) × (j < length h) × (does h i ≡ kind_effect kind x)
+    × (does h j ≡ kind_effect kind x)
 
 -- The first step of each item's call of the kind, of the first n calls, which have each item once.
 pub record IsIndex (h : List Call) (kind : Kind) (n : ℕ) (first_of : ℕ → Option ℕ) : Type 0 where
-  pub finds : (x : ℕ) → MatchOption (first_of x) ((j : ℕ) → j < n → does h j ≡ kind_effect kind x → ⊥) (λ f. (j : ℕ) × (j < n) × (does h j ≡ kind_effect kind x) × ((call h j).first ≡ f))
+  pub finds : (x : ℕ) → MatchOption (first_of x) ((j : ℕ) → j < n → does h j ≡ kind_effect kind x → ⊥)
+      (λ f. (j : ℕ) × (j < n) × (does h j ≡ kind_effect kind x) × ((call h j).first ≡ f))
   pub once : (x i j : ℕ) → i < n → j < n → does h i ≡ kind_effect kind x → does h j ≡ kind_effect kind x → i ≡ j
 
 abbrev pub last_of : Option End → ℕ
@@ -39,7 +42,7 @@ last_of None = 0
 abbrev pub rival_of : (ℕ → Option ℕ) → Effect → ℕ → Option Rival
 rival_of put_of (Takes y) last = option_map (λ f. record { put_first = f; got_last = last }) (put_of y)
 rival_of put_of (Adds y) last = None
-rival_of put_of Finds_none last = None
+rival_of put_of FindsNone last = None
 rival_of put_of Refused last = None
 rival_of put_of Wrong last = None
 

@@ -10,6 +10,7 @@ pub mod FaultNumbers
 pub mod Measures
 pub mod Reach
 pub mod Searching
+pub mod Words
 pub mod Records
 pub mod Index
 pub mod Matching

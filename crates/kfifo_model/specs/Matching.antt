@@ -21,5 +21,6 @@ pub record Matches (g h : List Call) : Type 0 where
   pub same_op : (n : ℕ) → n < length g → (call g n).op ≡ (call h (numbers.to n)).op
   -- both are finished, with one answer
   pub answers : (n : ℕ) → n < length g
-      → (e : End) × (f : End) × ((call g n).end ≡ Some e) × ((call h (numbers.to n)).end ≡ Some f) × (e.answer ≡ f.answer)
+      → (e : End) × (f : End) × ((call g n).end ≡ Some e) × ((call h (numbers.to n)).end ≡ Some f)
+      × (e.answer ≡ f.answer)
   pub keeps : (c d : ℕ) → c < length g → d < length g → Precedes g c d → Precedes h (numbers.to c) (numbers.to d)

@@ -1,5 +1,6 @@
--- How often an item is overtaken: by each dequeue that gets an item enqueued after it, before it is dequeued itself. In a
--- plain queue never; it is how far a queue out of order departs from that (the lateness of Henzinger and others, 2013).
+-- How often an item is overtaken: by each dequeue that gets an item enqueued after it, before it is dequeued itself. In
+-- a plain queue never; it is how far a queue out of order departs from that (the lateness of Henzinger and others,
+-- 2013).
 use Rattle.std.specs.Prelude.{ℕ, ◌≡◌, Bool, false, not, ◌&&◌, ◌||◌, eqb, ltb, List, [], ◌∷◌, Option, Some, None, length}
 use Rattle.std.specs.List.{filter, range_with_len}
 use Rattle.kfifo_model.specs.declared.calls.End.{End}

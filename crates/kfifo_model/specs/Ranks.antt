@@ -2,14 +2,14 @@
 use Rattle.std.specs.Prelude.{ℕ, Bool, true, false, List, [], ◌∷◌, ◌++◌, Option, Some, None, map, count_by}
 use Rattle.kfifo_model.specs.declared.calls.Call.{Call}
 use Rattle.kfifo_model.specs.Lists.{place}
-use Rattle.kfifo_model.specs.Relaxed.{Effect, Adds, Takes, Finds_none, Refused, Wrong, next}
+use Rattle.kfifo_model.specs.Relaxed.{Effect, Adds, Takes, FindsNone, Refused, Wrong, next}
 use Rattle.kfifo_model.specs.Histories.{does}
 
 -- a Got's rank: the least place of its item
 abbrev pub rank : List ℕ → Effect → List ℕ
 rank items (Takes x) = place items x ∷ []
 rank items (Adds x) = []
-rank items Finds_none = []
+rank items FindsNone = []
 rank items Refused = []
 rank items Wrong = []
 
@@ -26,7 +26,7 @@ ranks_of k h order = ranks_at k (Some []) (map (does h) order)
 abbrev pub is_got : Effect → Bool
 is_got (Takes x) = true
 is_got (Adds x) = false
-is_got Finds_none = false
+is_got FindsNone = false
 is_got Refused = false
 is_got Wrong = false
 

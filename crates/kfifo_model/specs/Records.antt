@@ -1,8 +1,11 @@
 -- Records of histories: JSON arrays whose members are objects, one for each call.
-use Rattle.std.specs.Prelude.{ℕ, ◌≡◌, ◌≢◌, ◌^◌, ◌<◌, ◌≤◌, ◌&&◌, ◌||◌, Bool, true, false, not, if◌then◌else◌, nat_lt, List, [], ◌∷◌, ◌++◌, Option, Some, None, Result, Ok, Err, length, codes, slice_index_or, option_and_then}
+use Rattle.std.specs.Prelude.{ℕ, ◌≡◌, ◌≢◌, ◌^◌, ◌<◌, ◌≤◌, ◌&&◌, ◌||◌, Bool, true, false, not, if◌then◌else◌, nat_lt}
+use Rattle.std.specs.Prelude.{List, [], ◌∷◌, ◌++◌, Option, Some, None, Result, Ok, Err, length, codes, slice_index_or}
+use Rattle.std.specs.Prelude.{option_and_then}
 use Rattle.std.specs.Option.{option_map}
 use Rattle.std.specs.Str.{bytes_eq}
-use Rattle.serde_json.specs.Data.{Data, null, boolean, number, string, array, object, Items, no_items, item, Members, no_members, member}
+use Rattle.serde_json.specs.Data.{Data, null, boolean, number, string, array, object, Items, no_items, item, Members}
+use Rattle.serde_json.specs.Data.{no_members, member}
 use Rattle.serde_json.specs.Find.{get, as_number, as_u64, as_str, as_array}
 use Rattle.kfifo_model.specs.declared.calls.Op.{Op}
 use Rattle.kfifo_model.specs.declared.calls.Op.TheVariants as ops
@@ -22,12 +25,15 @@ use Rattle.kfifo_model.specs.declared.reading.Flaw.{Flaw}
 use Rattle.kfifo_model.specs.declared.reading.Flaw.TheVariants as flaws
 use Rattle.kfifo_model.specs.Histories.{call}
 use Rattle.kfifo_model.specs.Validity.{IsHistory, IsFault}
+use Rattle.kfifo_model.specs.Words.{answer_word, op_word}
 
 -- ---- one object
 
 abbrev pub is_key : List ℕ → Bool
 is_key k =
-    bytes_eq k (codes "thread") || (bytes_eq k (codes "op") || (bytes_eq k (codes "item") || (bytes_eq k (codes "first") || (bytes_eq k (codes "last") || bytes_eq k (codes "answer")))))
+    bytes_eq k (codes "thread") || (bytes_eq k (codes "op")
+    || (bytes_eq k (codes "item") || (bytes_eq k (codes "first")
+    || (bytes_eq k (codes "last") || bytes_eq k (codes "answer")))))
 
 abbrev pub are_keys : Members → Bool
 are_keys no_members = true
@@ -55,21 +61,24 @@ HasNumber key d None = get key d ≡ None
 HasNumber key d (Some n) = number_at key d ≡ Some n
 
 abbrev pub op_text : OpWord → List ℕ
-op_text Enq = codes "enq"
-op_text Deq = codes "deq"
+op_text Enq = op_word (ops.Enqueue 0)
+op_text Deq = op_word ops.Dequeue
 
 abbrev pub HasOp : Data → OpWord → Type 0
 HasOp d w = text_at (codes "op") d ≡ Some (op_text w)
 
 abbrev pub IsAnswerWord : List ℕ → AnswerWord → Type 0
-IsAnswerWord t Done = t ≡ codes "done"
-IsAnswerWord t Full = t ≡ codes "full"
-IsAnswerWord t Got = t ≡ codes "got"
-IsAnswerWord t Empty = t ≡ codes "empty"
-IsAnswerWord t Busy = t ≡ codes "busy"
-IsAnswerWord t Worn = t ≡ codes "worn"
-IsAnswerWord t Other = (t ≢ codes "done") × (t ≢ codes "full") × (t ≢ codes "got") × (t ≢ codes "empty") × (t ≢ codes "busy")
-    × (t ≢ codes "worn")
+IsAnswerWord t Done = t ≡ answer_word answers.Done
+IsAnswerWord t Full = t ≡ answer_word answers.Full
+IsAnswerWord t Got = t ≡ answer_word (answers.Got 0)
+IsAnswerWord t Empty = t ≡ answer_word answers.Empty
+IsAnswerWord t Busy = t ≡ answer_word answers.Busy
+IsAnswerWord t Worn = t ≡ answer_word answers.Worn
+IsAnswerWord t Other = (t ≢ answer_word answers.Done) × (t ≢ answer_word answers.Full)
+    × (t ≢ answer_word (answers.Got 0))
+    × (t ≢ answer_word answers.Empty)
+    × (t ≢ answer_word answers.Busy)
+    × (t ≢ answer_word answers.Worn)
 
 -- `last` and `answer` stand both or neither
 abbrev pub HasEnding : Data → Option Ending → Type 0

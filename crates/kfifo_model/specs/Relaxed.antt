@@ -13,7 +13,7 @@ use Rattle.kfifo_model.specs.declared.calls.Answer.TheVariants.{Done, Full, Got,
 pub data Effect : Type 0 where
   Adds : ℕ → Effect
   Takes : ℕ → Effect
-  Finds_none : Effect
+  FindsNone : Effect
   Refused : Effect
   Wrong : Effect
 
@@ -26,7 +26,7 @@ effect (Enqueue x) Worn = Refused
 effect (Enqueue x) (Got y) = Wrong
 effect (Enqueue x) Empty = Wrong
 effect Dequeue (Got x) = Takes x
-effect Dequeue Empty = Finds_none
+effect Dequeue Empty = FindsNone
 effect Dequeue Busy = Refused
 effect Dequeue Worn = Refused
 effect Dequeue Done = Wrong
@@ -36,7 +36,7 @@ effect Dequeue Full = Wrong
 abbrev pub Leaves : ℕ → List ℕ → Effect → List ℕ → Type 0
 Leaves k items (Adds x) after = after ≡ items ++ x ∷ []
 Leaves k items (Takes x) after = (i : ℕ) × (i < k) × (slice_get items i ≡ Some x) × (after ≡ remove items i)
-Leaves k items Finds_none after = (items ≡ []) × (after ≡ [])
+Leaves k items FindsNone after = (items ≡ []) × (after ≡ [])
 Leaves k items Refused after = after ≡ items
 Leaves k items Wrong after = ⊥
 
@@ -48,8 +48,9 @@ IsRun k items (e ∷ es) = (after : List ℕ) × Leaves k items e after × IsRun
 -- the list that a legal effect leaves where the first of equal items goes
 abbrev pub next : ℕ → List ℕ → Effect → Option (List ℕ)
 next k items (Adds x) = Some (items ++ x ∷ [])
-next k items (Takes x) = cond (ltb (place items x) k && ltb (place items x) (length items)) (Some (remove items (place items x))) None
-next k [] Finds_none = Some []
-next k (x ∷ items) Finds_none = None
+next k items (Takes x) = cond (ltb (place items x) k && ltb (place items x) (length items))
+    (Some (remove items (place items x))) None
+next k [] FindsNone = Some []
+next k (x ∷ items) FindsNone = None
 next k items Refused = Some items
 next k items Wrong = None

@@ -1,11 +1,13 @@
 -- The search for a legal order: beginnings of orders, by the calls that are done and the items that they left.
-use Rattle.std.specs.Prelude.{ℕ, ◌≡◌, ◌+◌, ◌<◌, ◌≤◌, ◌⊎◌, Bool, true, false, List, [], ◌∷◌, ◌++◌, map, length, count_by, slice_index_or, All}
+use Rattle.std.specs.Prelude.{ℕ, ◌≡◌, ◌+◌, ◌<◌, ◌≤◌, ◌⊎◌, Bool, true, false, List, [], ◌∷◌, ◌++◌, map, length, count_by}
+use Rattle.std.specs.Prelude.{slice_index_or, All}
 use Rattle.kfifo_model.specs.declared.calls.Call.{Call}
 use Rattle.kfifo_model.specs.declared.search.SearchFault.{SearchFault}
 use Rattle.kfifo_model.specs.declared.search.SearchFault.TheVariants.{TooLong, Memory}
 use Rattle.kfifo_model.specs.Lists.{IsIn}
-use Rattle.kfifo_model.specs.Relaxed.{Effect, Adds, Takes, Finds_none, Refused, Wrong, IsRun}
-use Rattle.kfifo_model.specs.Histories.{call, does, CanStand, IsFinished, Precedes, HasNoRepeats, HasOnlyCalls, KeepsBefore, IsLegal}
+use Rattle.kfifo_model.specs.Relaxed.{Effect, Adds, Takes, FindsNone, Refused, Wrong, IsRun}
+use Rattle.kfifo_model.specs.Histories.{call, does, CanStand, IsFinished, Precedes, HasNoRepeats, HasOnlyCalls}
+use Rattle.kfifo_model.specs.Histories.{KeepsBefore, IsLegal}
 use Rattle.kfifo_model.specs.Reach.{Reach}
 
 -- some order of the history is legal
@@ -74,8 +76,8 @@ IsComing h done x = IsLeft h done (Adds x)
 abbrev pub IsIdle : List ℕ → Effect → Type 0
 IsIdle items (Adds x) = ⊥
 IsIdle items (Takes x) = ⊥
-IsIdle [] Finds_none = Unit {0}
-IsIdle (x ∷ items) Finds_none = ⊥
+IsIdle [] FindsNone = Unit {0}
+IsIdle (x ∷ items) FindsNone = ⊥
 IsIdle items Refused = Unit {0}
 IsIdle items Wrong = ⊥
 
@@ -85,7 +87,8 @@ IsAsGood h done x y = (x ≡ y) ⊎ ((IsWanted h done x → ⊥) × (IsWanted h 
 
 abbrev pub AreAsGood : List Call → List Bool → List ℕ → List ℕ → Type 0
 AreAsGood h done items others =
-    (length others ≡ length items) × ((i : ℕ) → i < length items → IsAsGood h done (slice_index_or items i 0) (slice_index_or others i 0))
+    (length others ≡ length items) × ((i : ℕ) → i < length items
+    → IsAsGood h done (slice_index_or items i 0) (slice_index_or others i 0))
 
 -- how many calls are done
 abbrev pub done_count : List Bool → ℕ
@@ -101,7 +104,8 @@ pub record LeadsTo (k : ℕ) (h : List Call) (r : Reach) (n : ℕ) (t : Reach) :
   pub sound : Extends k h t → Extends k h r
   pub complete : (rest : List ℕ) → GoesOn k h r (n ∷ rest) → Extends k h t
 
--- What was added to a list for a beginning: nothing that goes on where the beginning does not, and so far what makes Done hold.
+-- What was added to a list for a beginning: nothing that goes on where the beginning does not, and so far what makes
+-- Done hold.
 pub record IsAdded (k : ℕ) (h : List Call) (r : Reach) (before after : List Reach) (Said : Type 0) : Type 0 where
   pub added : List Reach
   pub is : after ≡ before ++ added

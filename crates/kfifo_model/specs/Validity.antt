@@ -7,7 +7,9 @@ use Rattle.kfifo_model.specs.declared.calls.Answer.TheVariants.{Got}
 use Rattle.kfifo_model.specs.declared.calls.End.{End}
 use Rattle.kfifo_model.specs.declared.calls.Call.{Call}
 use Rattle.kfifo_model.specs.declared.history.RecordFault.{RecordFault}
-use Rattle.kfifo_model.specs.declared.history.RecordFault.TheVariants.{NotAList, TooMany, NotACall, NumberOutOfRange, WrongAnswer, EndsEarly, OutOfOrder, Overlap, Memory}
+use Rattle.kfifo_model.specs.declared.history.RecordFault.TheVariants.{NotAList, TooMany, NotACall, NumberOutOfRange}
+use Rattle.kfifo_model.specs.declared.history.RecordFault.TheVariants.{WrongAnswer, EndsEarly, OutOfOrder, Overlap}
+use Rattle.kfifo_model.specs.declared.history.RecordFault.TheVariants.{Memory}
 use Rattle.kfifo_model.specs.Relaxed.{Wrong, effect}
 use Rattle.kfifo_model.specs.Histories.{call, EndsBelow}
 
@@ -73,7 +75,8 @@ IsFault h (OutOfOrder n) =
     IsGoodBelow h n × IsInRange (call h n) × Answers (call h n).op (call h n).end
     × EndsFrom (call h n).first (call h n).end × (Rises h n → ⊥)
 IsFault h (Overlap n) =
-    IsGoodBelow h n × IsInRange (call h n) × Answers (call h n).op (call h n).end × EndsFrom (call h n).first (call h n).end
+    IsGoodBelow h n × IsInRange (call h n) × Answers (call h n).op (call h n).end
+    × EndsFrom (call h n).first (call h n).end
     × Rises h n × (IsApart h n → ⊥)
 IsFault h NotAList = ⊥
 IsFault h TooMany = ⊥

@@ -2,12 +2,14 @@
 use Rattle.std.specs.Prelude.{ℕ, ◌≡◌, ◌+◌, ◌<◌, List, [], ◌∷◌, Option, Some, None, map, take, length}
 use Rattle.kfifo_model.specs.declared.calls.Call.{Call}
 use Rattle.kfifo_model.specs.declared.orders.Verdict.{Verdict}
-use Rattle.kfifo_model.specs.declared.orders.Verdict.TheVariants.{Legal, Repeats, NotACall, LeavesOut, BreaksBefore, NotARun}
+use Rattle.kfifo_model.specs.declared.orders.Verdict.TheVariants.{Legal, Repeats, NotACall, LeavesOut, BreaksBefore}
+use Rattle.kfifo_model.specs.declared.orders.Verdict.TheVariants.{NotARun}
 use Rattle.kfifo_model.specs.declared.orders.Tried.{Tried}
 use Rattle.kfifo_model.specs.declared.orders.Tried.TheVariants.{NotLegal, Went, Took}
 use Rattle.kfifo_model.specs.Relaxed.{Effect, IsRun, next}
 use Rattle.kfifo_model.specs.Ranks.{rank}
-use Rattle.kfifo_model.specs.Histories.{does, HasNoRepeats, HasOnlyCalls, HasEachFinished, KeepsBefore, IsOrder, IsLegal}
+use Rattle.kfifo_model.specs.Histories.{does, HasNoRepeats, HasOnlyCalls, HasEachFinished, KeepsBefore, IsOrder}
+use Rattle.kfifo_model.specs.Histories.{IsLegal}
 
 -- the verdict is Legal for a legal order, else the first fault
 abbrev pub IsVerdict : ℕ → List Call → List ℕ → Verdict → Type 0
@@ -15,7 +17,8 @@ IsVerdict k h order Legal = IsLegal k h order
 IsVerdict k h order Repeats = HasNoRepeats order → ⊥
 IsVerdict k h order NotACall = HasNoRepeats order × (HasOnlyCalls h order → ⊥)
 IsVerdict k h order LeavesOut = HasNoRepeats order × HasOnlyCalls h order × (HasEachFinished h order → ⊥)
-IsVerdict k h order BreaksBefore = HasNoRepeats order × HasOnlyCalls h order × HasEachFinished h order × (KeepsBefore h order → ⊥)
+IsVerdict k h order BreaksBefore = HasNoRepeats order × HasOnlyCalls h order × HasEachFinished h order
+    × (KeepsBefore h order → ⊥)
 IsVerdict k h order (NotARun p) = IsOrder h order × (p < length order) × IsRun k [] (map (does h) (take p order))
     × (IsRun k [] (map (does h) (take (p + 1) order)) → ⊥)
 

@@ -11,6 +11,8 @@ use std::alloc::{AllocError, Global};
 use std::marker::Model;
 
 /// How many rivals a block has at most.
+// About the square root of the most calls, times two: an item asks one block rival by rival and each other block, 128
+// at most, by one binary search. Smaller blocks would be more searches, larger ones longer looks.
 const BLOCK: usize = 512;
 
 /// Rivals, with the first and the last of the steps at which their items were put.

@@ -1,4 +1,6 @@
 //! A call of a queue, and what it returned.
+ghost use Rattle.std.specs.Prelude.{◌≡◌};
+ghost use Rattle.kfifo_model.specs.Words.{answer_word, op_word};
 
 /// The greatest item; the least is 1.
 pub const MAX_ITEM: u32 = 16_777_215;
@@ -10,6 +12,18 @@ pub enum Op {
     Enqueue(u32),
     /// Take one of the k oldest items.
     Dequeue,
+}
+
+impl Op {
+    /// The word that records and logs have for it, whatever its item: `enq` or `deq`.
+    pub fn word(self) -> &'static str
+        ensures { result.now ≡ op_word self }
+    {
+        match self {
+            Op::Enqueue(_) => "enq",
+            Op::Dequeue => "deq",
+        }
+    }
 }
 
 /// What a call returned.
@@ -27,6 +41,23 @@ pub enum Answer {
     Busy,
     /// The next step would need a version above the greatest one.
     Worn,
+}
+
+impl Answer {
+    /// The word that records, logs, reports and pictures have for it, whatever its item: `done`, `full`, `got`,
+    /// `empty`, `busy` or `worn`.
+    pub fn word(self) -> &'static str
+        ensures { result.now ≡ answer_word self }
+    {
+        match self {
+            Answer::Done => "done",
+            Answer::Full => "full",
+            Answer::Got(_) => "got",
+            Answer::Empty => "empty",
+            Answer::Busy => "busy",
+            Answer::Worn => "worn",
+        }
+    }
 }
 
 /// The end of a finished call: its last step and its answer.

@@ -1,5 +1,6 @@
 //! All certain overtakings of a history, by an index of its items.
-ghost use Rattle.std.specs.Prelude.{ℕ, ◌≡◌, ◌<◌, ◌+◌, ◌↔◌, Bool, true, false, Option, Some, None, List, [], ◌∷◌, length, IsTrue};
+ghost use Rattle.std.specs.Prelude.{ℕ, ◌≡◌, ◌<◌, ◌+◌, ◌↔◌, Bool, true, false, Option, Some, None, List, [], ◌∷◌};
+ghost use Rattle.std.specs.Prelude.{length, IsTrue};
 ghost use Rattle.std.specs.Prelude.{IsSome, IfOk, MatchOption, MatchResult, MatchBool, count_by};
 ghost use Rattle.std.specs.List.{filter_map, flat_map, range_with_len};
 ghost use Rattle.std.specs.Ordering.{nat_cmp};
@@ -8,7 +9,8 @@ ghost use Rattle.kfifo_model.specs.Histories.{call, does, effect_of};
 ghost use Rattle.kfifo_model.specs.Relaxed.{Adds, Takes};
 ghost use Rattle.kfifo_model.specs.Overtaking.{certainly_overtaken, numbers_of};
 ghost use Rattle.kfifo_model.specs.Measures.{IsDoneEnqueue, HasDistinctItems};
-ghost use Rattle.kfifo_model.specs.Index.{kind_effect, IsIndex, HasTwo, rival_of, rivals_below, last_of, is_beaten, done_item};
+ghost use Rattle.kfifo_model.specs.Index.{kind_effect, IsIndex, HasTwo, rival_of, rivals_below, last_of, is_beaten};
+ghost use Rattle.kfifo_model.specs.Index.{done_item};
 ghost use Rattle.kfifo_model.specs.Index.{measured, IsMeasureFault, measure_fault_number};
 
 use crate::blocks::{Block, blocks_of, count_in};
@@ -83,7 +85,8 @@ pub enum Kind {
 
 /// The item of a call of this kind.
 pub(crate) fn item_of(kind: Kind, call: &Call) -> Option<u32>
-    ensures { MatchOption result ((x : ℕ) → effect_of call.now ≡ kind_effect kind x → ⊥) (λ x. effect_of call.now ≡ kind_effect kind x) }
+    ensures { MatchOption result ((x : ℕ) → effect_of call.now ≡ kind_effect kind x → ⊥)
+        (λ x. effect_of call.now ≡ kind_effect kind x) }
 {
     match kind {
         Kind::Puts => added(call),
@@ -97,7 +100,8 @@ fn index_of(
     calls: &[Call],
     kind: Kind,
 ) -> Result<Option<BTreeMap<u32, u64>>, AllocError>
-    ensures { IfOk result (λ o. MatchOption o (HasTwo calls.now kind) (λ m. IsIndex calls.now kind (length calls.now) (λ x. get nat_cmp m x))) }
+    ensures { IfOk result (λ o. MatchOption o (HasTwo calls.now kind)
+        (λ m. IsIndex calls.now kind (length calls.now) (λ x. get nat_cmp m x))) }
 {
     let mut firsts = BTreeMap::new(alloc);
     for call in calls {
@@ -170,7 +174,8 @@ fn measure_call(
     requires { length (flat_map (λ b. b) blocks.now) < 9223372036854775808 }
     ensures { MatchOption result (done_item call.now.op call.now.end ≡ None)
         (λ o. (o.call ≡ n) × (done_item call.now.op call.now.end ≡ Some o.item)
-        × (o.count ≡ count_by (λ r. is_beaten (last_of call.now.end) (get nat_cmp gots.now o.item) r) (flat_map (λ b. b) blocks.now))) }
+        × (o.count ≡ count_by (λ r. is_beaten (last_of call.now.end) (get nat_cmp gots.now o.item) r)
+        (flat_map (λ b. b) blocks.now))) }
 {
     let Some(item) = item_done(call) else {
         return None;
@@ -240,7 +245,8 @@ fn has_done(calls: &[Call]) -> bool
 /// two dequeues got one; Memory where an allocation failed.
 pub fn measure(alloc: Global, history: &History) -> Result<Vec<Overtaken>, MeasureFault>
     ensures { MatchResult result
-        (λ v. (v.items ≡ measured history.now (length history.now)) × ((n : ℕ) → IsDoneEnqueue history.now n → HasDistinctItems history.now))
+        (λ v. (v.items ≡ measured history.now (length history.now))
+        × ((n : ℕ) → IsDoneEnqueue history.now n → HasDistinctItems history.now))
         (IsMeasureFault history.now) }
 {
     measure_among(alloc, history.calls())
@@ -249,7 +255,8 @@ pub fn measure(alloc: Global, history: &History) -> Result<Vec<Overtaken>, Measu
 /// The same for the calls of a history.
 fn measure_among(alloc: Global, calls: &[Call]) -> Result<Vec<Overtaken>, MeasureFault>
     ensures { MatchResult result
-        (λ v. (v.items ≡ measured calls.now (length calls.now)) × ((n : ℕ) → IsDoneEnqueue calls.now n → HasDistinctItems calls.now))
+        (λ v. (v.items ≡ measured calls.now (length calls.now))
+        × ((n : ℕ) → IsDoneEnqueue calls.now n → HasDistinctItems calls.now))
         (IsMeasureFault calls.now) }
 {
     if !has_done(calls) {

@@ -17,5 +17,5 @@ pub use history::{History, RecordFault};
 pub use index::{MeasureFault, Overtaken, measure};
 pub use measures::{OvertakenFault, RankFault, overtaken, ranks};
 pub use orders::{Verdict, check_order};
-pub use reading::{MOST_CALLS, read_history};
-pub use search::{MOST_SEARCHED, SearchFault, has_order};
+pub use reading::{MAX_CALLS, read_history};
+pub use search::{MAX_SEARCHED, SearchFault, has_order};

@@ -1,11 +1,14 @@
 //! Ranks, and how often an item was overtaken.
-ghost use Rattle.std.specs.Prelude.{ℕ, ◌≡◌, ◌≤◌, ◌<◌, ◌+◌, ◌&&◌, ◌↔◌, not, List, [], ◌∷◌, map, length, IsTrue, IfOk, MatchOption};
+ghost use Rattle.std.specs.Prelude.{ℕ, ◌≡◌, ◌≤◌, ◌<◌, ◌+◌, ◌&&◌, ◌↔◌, not, List, [], ◌∷◌, map, length, IsTrue, IfOk};
+ghost use Rattle.std.specs.Prelude.{MatchOption};
 ghost use Rattle.std.specs.Prelude.{MatchResult};
 ghost use Rattle.kfifo_model.specs.Relaxed.{Adds, Takes, IsRun};
 ghost use Rattle.kfifo_model.specs.Histories.{effect_of, does, HasOnlyCalls, IsLegal};
-ghost use Rattle.kfifo_model.specs.Overtaking.{adds, takes, some, precedes, ends_below, overtakes, numbers_of, certainly_overtaken};
+ghost use Rattle.kfifo_model.specs.Overtaking.{adds, takes, some, precedes, ends_below, overtakes, numbers_of};
+ghost use Rattle.kfifo_model.specs.Overtaking.{certainly_overtaken};
 ghost use Rattle.kfifo_model.specs.Ranks.{ranks_of, gots_in};
-ghost use Rattle.kfifo_model.specs.Measures.{IsRankFault, IsDoneEnqueue, HasDistinctItems, EndsDone, SharesItem, RepeatsEarlier};
+ghost use Rattle.kfifo_model.specs.Measures.{IsRankFault, IsDoneEnqueue, HasDistinctItems, EndsDone, SharesItem};
+ghost use Rattle.kfifo_model.specs.Measures.{RepeatsEarlier};
 ghost use Rattle.kfifo_model.specs.Measures.{IsOvertakenFault, rank_fault_number, overtaken_fault_number};
 
 use crate::calls::{Answer, Call, End, Op};
@@ -265,7 +268,8 @@ fn added_after(calls: &[Call], c: usize, item: u32) -> bool
 /// Whether some call that takes the item does not come after d.
 fn taken_sooner(calls: &[Call], d: usize, item: u32) -> bool
     requires { d < length calls.now }
-    ensures { result ≡ some (λ t. takes item (does calls.now t) && not (precedes calls.now d t)) (numbers_of calls.now) }
+    ensures { result ≡ some (λ t. takes item (does calls.now t) && not (precedes calls.now d t))
+        (numbers_of calls.now) }
 {
     for t in 0..calls.len() {
         if takes_sooner(calls, d, item, t) {
@@ -324,7 +328,8 @@ fn overtaken_among(calls: &[Call], call: usize) -> Result<usize, OvertakenFault>
 /// an item was put or taken twice.
 pub fn overtaken(history: &History, call: usize) -> Result<usize, OvertakenFault>
     ensures { MatchResult result
-        (λ n. IsDoneEnqueue history.now call × HasDistinctItems history.now × (n ≡ certainly_overtaken history.now call))
+        (λ n. IsDoneEnqueue history.now call × HasDistinctItems history.now
+        × (n ≡ certainly_overtaken history.now call))
         (IsOvertakenFault history.now call) }
 {
     overtaken_among(history.calls(), call)

@@ -1,10 +1,12 @@
 //! The checker of orders.
-ghost use Rattle.std.specs.Prelude.{ℕ, ◌≡◌, ◌+◌, ◌<◌, ◌≤◌, ◌↔◌, List, [], map, take, length, IsTrue, IfOk, MatchOption, Some, None};
+ghost use Rattle.std.specs.Prelude.{ℕ, ◌≡◌, ◌+◌, ◌<◌, ◌≤◌, ◌↔◌, List, [], map, take, length, IsTrue, IfOk, MatchOption};
+ghost use Rattle.std.specs.Prelude.{Some, None};
 ghost use Rattle.std.specs.BTreeSet.{contains};
 ghost use Rattle.std.specs.Ordering.{nat_cmp};
 ghost use Rattle.kfifo_model.specs.Lists.{IsIn, place};
 ghost use Rattle.kfifo_model.specs.Relaxed.{IsRun, next, Takes};
-ghost use Rattle.kfifo_model.specs.Histories.{does, effect_of, HasNoRepeats, HasOnlyCalls, HasEachFinished, KeepsBefore};
+ghost use Rattle.kfifo_model.specs.Histories.{does, effect_of, HasNoRepeats, HasOnlyCalls, HasEachFinished};
+ghost use Rattle.kfifo_model.specs.Histories.{KeepsBefore};
 ghost use Rattle.kfifo_model.specs.Verdicts.{IsVerdict, IsTried, verdict_number};
 
 use crate::calls::{Answer, Call, Op};

@@ -1,5 +1,6 @@
 //! What the calls of a record so far leave open to the next one.
-ghost use Rattle.std.specs.Prelude.{ℕ, ◌≡◌, ◌<◌, ◌↔◌, Option, Some, None, List, IsTrue, length, slice_set, slice_index_or};
+ghost use Rattle.std.specs.Prelude.{ℕ, ◌≡◌, ◌<◌, ◌↔◌, Option, Some, None, List, IsTrue, length, slice_set};
+ghost use Rattle.std.specs.Prelude.{slice_index_or};
 ghost use Rattle.kfifo_model.specs.Progress.{LetsBegin, RisesFrom, state_after};
 
 use crate::calls::{Call, End};
@@ -71,7 +72,8 @@ impl Progress {
     /// Whether the call's thread may begin it.
     pub fn lets(&self, call: &Call) -> bool
         requires { call.now.thread < 64 }
-        ensures { (d : ThreadState) → IsTrue result ↔ LetsBegin (slice_index_or self.now.threads call.now.thread d) call.now.first }
+        ensures { (d : ThreadState) → IsTrue result
+            ↔ LetsBegin (slice_index_or self.now.threads call.now.thread d) call.now.first }
     {
         lets_begin(self.threads[call.thread as usize], call.first)
     }

@@ -1,5 +1,6 @@
 //! Records of histories, as JSON values.
-ghost use Rattle.std.specs.Prelude.{ℕ, ◌≡◌, ◌+◌, ◌<◌, ◌≤◌, ◌↔◌, Bool, List, Option, length, map, string_bytes, IsTrue, IfOk};
+ghost use Rattle.std.specs.Prelude.{ℕ, ◌≡◌, ◌+◌, ◌<◌, ◌≤◌, ◌↔◌, Bool, List, Option, length, map, string_bytes, IsTrue};
+ghost use Rattle.std.specs.Prelude.{IfOk};
 ghost use Rattle.std.specs.Prelude.{MatchOption, MatchResult};
 ghost use Rattle.std.specs.List.{list_all};
 ghost use Rattle.std.specs.BTreeMap.{keys};
@@ -11,7 +12,8 @@ ghost use Rattle.kfifo_model.specs.declared.reading.Entry.{Entry as EntryData};
 ghost use Rattle.kfifo_model.specs.Histories.{call};
 ghost use Rattle.kfifo_model.specs.Validity.{IsInRange, Answers, IsHistory};
 ghost use Rattle.kfifo_model.specs.Records.{is_key, has_known_keys, number_at, text_at, HasNumber, HasOp, IsAnswerWord};
-ghost use Rattle.kfifo_model.specs.Records.{HasEnding, item_fits, IsEntry, is_in_range, answer_of, ending_of, op_of, call_of};
+ghost use Rattle.kfifo_model.specs.Records.{HasEnding, item_fits, IsEntry, is_in_range, answer_of, ending_of, op_of};
+ghost use Rattle.kfifo_model.specs.Records.{call_of};
 ghost use Rattle.kfifo_model.specs.Records.{IsRead, AreRead, IsMemberFault, IsRecordOf, IsReadFault};
 
 use crate::calls::{Answer, Call, End, MAX_ITEM, Op};
@@ -21,7 +23,7 @@ use serde_json::{Map, Value};
 use std::alloc::Global;
 
 /// The most calls of a record.
-pub const MOST_CALLS: usize = 65_536;
+pub const MAX_CALLS: usize = 65_536;
 
 /// The operation that a record names.
 #[derive(Clone, Copy)]
@@ -124,7 +126,8 @@ fn number(value: &Value, key: &str) -> Option<u64>
 
 /// The number at a key, if the key is there; none where something else is there.
 fn optional_number(value: &Value, key: &str) -> Option<Option<u64>>
-    ensures { MatchOption result ((o : Option ℕ) → HasNumber key.now (view value.now) o → ⊥) (HasNumber key.now (view value.now)) }
+    ensures { MatchOption result ((o : Option ℕ) → HasNumber key.now (view value.now) o → ⊥)
+        (HasNumber key.now (view value.now)) }
 {
     match value.get(key) {
         None => Some(None),
@@ -141,9 +144,9 @@ fn op_word(value: &Value) -> Option<OpWord>
 {
     match value.get("op").and_then(Value::as_str) {
         Some(text) => {
-            if text == "enq" {
+            if text == Op::Enqueue(0).word() {
                 Some(OpWord::Enq)
-            } else if text == "deq" {
+            } else if text == Op::Dequeue.word() {
                 Some(OpWord::Deq)
             } else {
                 None
@@ -157,17 +160,17 @@ fn op_word(value: &Value) -> Option<OpWord>
 fn answer_word(text: &str) -> AnswerWord
     ensures { IsAnswerWord text.now result }
 {
-    if text == "done" {
+    if text == Answer::Done.word() {
         AnswerWord::Done
-    } else if text == "full" {
+    } else if text == Answer::Full.word() {
         AnswerWord::Full
-    } else if text == "got" {
+    } else if text == Answer::Got(0).word() {
         AnswerWord::Got
-    } else if text == "empty" {
+    } else if text == Answer::Empty.word() {
         AnswerWord::Empty
-    } else if text == "busy" {
+    } else if text == Answer::Busy.word() {
         AnswerWord::Busy
-    } else if text == "worn" {
+    } else if text == Answer::Worn.word() {
         AnswerWord::Worn
     } else {
         AnswerWord::Other
@@ -176,7 +179,8 @@ fn answer_word(text: &str) -> AnswerWord
 
 /// What `last` and `answer` say; none where only one is there, or something else.
 fn read_ending(value: &Value) -> Option<Option<Ending>>
-    ensures { MatchOption result ((o : Option EndingData) → HasEnding (view value.now) o → ⊥) (HasEnding (view value.now)) }
+    ensures { MatchOption result ((o : Option EndingData) → HasEnding (view value.now) o → ⊥)
+        (HasEnding (view value.now)) }
 {
     if value.get("last").is_none() && value.get("answer").is_none() {
         return Some(None);
@@ -332,7 +336,8 @@ fn read_call(value: &Value) -> Result<Call, Flaw>
 /// The calls of a record's members, or the first fault.
 fn read_members(alloc: Global, members: &[Value]) -> Result<Vec<Call>, RecordFault>
     ensures { let ds = map view members.now in
-        MatchResult result (λ v. (length v.items ≡ length ds) × AreRead ds v.items × IsHistory v.items) (IsMemberFault ds) }
+        MatchResult result (λ v. (length v.items ≡ length ds) × AreRead ds v.items × IsHistory v.items)
+        (IsMemberFault ds) }
 {
     let mut progress = Progress::new();
     let mut calls = Vec::new(alloc);
@@ -377,7 +382,7 @@ pub fn read_history(alloc: Global, json: &Value) -> Result<History, RecordFault>
     let Some(members) = json.as_array() else {
         return Err(RecordFault::NotAList);
     };
-    if members.len() > MOST_CALLS {
+    if members.len() > MAX_CALLS {
         return Err(RecordFault::TooMany);
     }
     match read_members(alloc, members) {

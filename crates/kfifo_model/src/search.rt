@@ -4,8 +4,10 @@
 //! the items left count, so equal ones are kept once. An item that no call takes any more is as good as any other such
 //! item. A call that is legal and changes nothing goes at once. A beginning from which some dequeue can no longer get
 //! its item is dropped.
-ghost use Rattle.std.specs.Prelude.{ℕ, ◌≡◌, ◌≤◌, ◌<◌, ◌+◌, ◌↔◌, ◌⊎◌, Bool, true, false, slice_set, replicate, List, [], ◌∷◌};
-ghost use Rattle.std.specs.Prelude.{length, All, Contains, Any, IsTrue, IsSome, IfSome, IfOk, OnOk, MatchOption, MatchResult};
+ghost use Rattle.std.specs.Prelude.{ℕ, ◌≡◌, ◌≤◌, ◌<◌, ◌+◌, ◌↔◌, ◌⊎◌, Bool, true, false, slice_set, replicate, List, []};
+ghost use Rattle.std.specs.Prelude.{◌∷◌};
+ghost use Rattle.std.specs.Prelude.{length, All, Contains, Any, IsTrue, IsSome, IfSome, IfOk, OnOk, MatchOption};
+ghost use Rattle.std.specs.Prelude.{MatchResult};
 ghost use Rattle.kfifo_model.specs.Lists.{IsIn};
 ghost use Rattle.kfifo_model.specs.Relaxed.{Adds, Takes, next};
 ghost use Rattle.std.specs.Option.{option_map};
@@ -13,8 +15,10 @@ ghost use Rattle.kfifo_model.specs.Histories.{effect_of, does, CanStand, EndsBel
 ghost use Rattle.kfifo_model.specs.Validity.{IsHistory};
 ghost use Rattle.kfifo_model.specs.Reach.{Reach, reach};
 ghost use Rattle.kfifo_model.specs.Index.{kind_effect};
-ghost use Rattle.kfifo_model.specs.Searching.{HasOrder, IsSearchFault, search_fault_number, IsDone, IsComplete, IsReady, IsFree};
-ghost use Rattle.kfifo_model.specs.Searching.{Extends, IsNoNext, IsLeft, IsWanted, IsComing, IsIdle, IsAsGood, AreAsGood};
+ghost use Rattle.kfifo_model.specs.Searching.{HasOrder, IsSearchFault, search_fault_number, IsDone, IsComplete};
+ghost use Rattle.kfifo_model.specs.Searching.{IsReady, IsFree};
+ghost use Rattle.kfifo_model.specs.Searching.{Extends, IsNoNext, IsLeft, IsWanted, IsComing, IsIdle, IsAsGood};
+ghost use Rattle.kfifo_model.specs.Searching.{AreAsGood};
 ghost use Rattle.kfifo_model.specs.Searching.{done_count, IsFurther, LeadsTo, IsAdded, IsNextLevel};
 
 use crate::calls::{Answer, Call, Op};
@@ -29,7 +33,7 @@ use std::marker::Model;
 use thiserror::Error;
 
 /// The most calls of a history that is searched.
-pub const MOST_SEARCHED: usize = 12;
+pub const MAX_SEARCHED: usize = 12;
 
 /// Why no search was made.
 #[derive(Clone, Copy, Debug, PartialEq, Eq, Error)]
@@ -195,7 +199,8 @@ fn has(items: &[u32], item: u32) -> bool
 
 /// Whether each item that a call takes is there or is still to come.
 fn can_finish(calls: &[Call], done: &[bool], items: &[u32]) -> bool
-    ensures { result ≡ false → (x : ℕ) × IsWanted calls.now done.now x × (IsIn x items.now → ⊥) × (IsComing calls.now done.now x → ⊥) }
+    ensures { result ≡ false → (x : ℕ) × IsWanted calls.now done.now x × (IsIn x items.now → ⊥)
+        × (IsComing calls.now done.now x → ⊥) }
 {
     for (n, call) in calls.iter().enumerate() {
         if let Some(x) = taken(call) {
@@ -380,7 +385,8 @@ impl Reached {
         requires history { IsHistory calls.now }
         requires sized { length self.now.done ≡ length calls.now }
         requires open { IsComplete calls.now self.now.done → ⊥ }
-        ensures { OnOk result (IsAdded k calls.now self.now next.old.items next.new.items (Extends k calls.now self.now → ⊥)) }
+        ensures { OnOk result (IsAdded k calls.now self.now next.old.items next.new.items
+            (Extends k calls.now self.now → ⊥)) }
     {
         expand(alloc, calls, k, &self.done, &self.items, next)
     }
@@ -409,7 +415,8 @@ fn next_level(
 ) -> Result<Option<Vec<Reached>>, AllocError>
     requires history { IsHistory calls.now }
     requires sized { All (λ r. length r.done ≡ length calls.now) level.now }
-    ensures { IfOk result (λ o. MatchOption o (Any (Extends k calls.now) level.now) (λ v. IsNextLevel k calls.now level.now v.items)) }
+    ensures { IfOk result (λ o. MatchOption o (Any (Extends k calls.now) level.now)
+        (λ v. IsNextLevel k calls.now level.now v.items)) }
 {
     let mut next = Vec::new(alloc);
     for reached in level {
@@ -480,7 +487,7 @@ pub fn has_order(alloc: Global, history: &History, k: u32) -> Result<bool, Searc
         (IsSearchFault history.now) }
 {
     let calls = history.calls();
-    if calls.len() > MOST_SEARCHED {
+    if calls.len() > MAX_SEARCHED {
         return Err(SearchFault::TooLong);
     }
     Ok(search(alloc, calls, k as usize)?)

@@ -1,26 +1,30 @@
 -- Calls that a pass makes in turn, and what its log then has.
-use Rattle.std.proofs.Common.{◌≡◌, ◌<◌, ◌+◌, ℕ, suc, take, get_or, length-append, arith, List, [], ◌∷◌, ◌++◌, length, map, refl, sym, ap, ◌∙◌, append_assoc, append-nil, subst}
+use Rattle.std.proofs.Common.{◌≡◌, ◌<◌, ◌+◌, ℕ, suc, take, get_or, length-append, arith, List, [], ◌∷◌, ◌++◌, length, map, refl, sym, ap}
+use Rattle.std.proofs.Common.{◌∙◌, append_assoc, append-nil, subst}
 use Rattle.std.specs.Prelude.{IsSome}
 use Rattle.std.proofs.Math.Seq.{take-suc}
 use Rattle.kfifo_model.specs.declared.calls.Call.{Call}
 use Rattle.std.specs.List.{AllByRecursion}
 use Rattle.kfifo_machine.specs.declared.event.Begin.{Begin}
 use Rattle.kfifo_machine.specs.Calls.{op_asked}
-use Rattle.kfifo_live.specs.Pass.{IsSame, Known}
+use Rattle.kfifo_live.specs.Pass.{IsSamePass, PassView}
 use Rattle.kfifo_live.specs.Stamps.{Logged, stamped_call}
 use Rattle.kfifo_record.specs.Scripts.{MakesInTurn, MakesOne}
 
 -- one more call
-pub makes_more : (script : List Begin) (begin : Begin) (old middle new : Logged) → MakesInTurn script old middle → MakesOne begin middle new → MakesInTurn (script ++ begin ∷ []) old new
+pub makes_more : (script : List Begin) (begin : Begin) (old middle new : Logged) → MakesInTurn script old middle → MakesOne begin middle new
+    → MakesInTurn (script ++ begin ∷ []) old new
 makes_more [] begin old middle new none one = (new, subst (λ (p : Logged). MakesOne begin p new) none one, refl)
 makes_more (first ∷ script) begin old middle new made one = (made.0, made.1, makes_more script begin made.0 middle new made.2 one)
 
 -- so the calls of a script up to a place, and the one at it
-pub turn : (script : List Begin) (i : ℕ) (d : Begin) (old middle new : Logged) → i < length script → MakesInTurn (take i script) old middle → MakesOne (get_or script i d) middle new
+pub turn : (script : List Begin) (i : ℕ) (d : Begin) (old middle new : Logged) → i < length script → MakesInTurn (take i script) old middle
+    → MakesOne (get_or script i d) middle new
     → MakesInTurn (take (i + 1) script) old new
 turn script i d old middle new less made one =
     let e : i + 1 ≡ suc i = omega arith in
-    subst (λ (s : List Begin). MakesInTurn s old new) (sym (ap (λ (n : ℕ). take n script) e ∙ take-suc script i d less)) (makes_more (take i script) (get_or script i d) old middle new made one)
+    subst (λ (s : List Begin). MakesInTurn s old new) (sym (ap (λ (n : ℕ). take n script) e ∙ take-suc script i d less))
+    (makes_more (take i script) (get_or script i d) old middle new made one)
 
 -- and the log has one more
 pub longer : (begin : Begin) (middle new : Logged) (n : ℕ) → MakesOne begin middle new → length middle.log ≡ n → length new.log ≡ n + 1
@@ -34,9 +38,9 @@ pub record Grown (script : List Begin) (old new : Logged) : Type 0 where
   pub ops : map (λ (c : Call). c.op) calls ≡ map op_asked script
   pub mine : AllByRecursion (λ c. c.thread ≡ old.pass.thread) calls
   pub ended : AllByRecursion (λ c. IsSome c.end) calls
-  pub same : IsSame old.pass new.pass
+  pub same : IsSamePass old.pass new.pass
 
-pub then_same : (p q r : Known) → IsSame p q → IsSame q r → IsSame p r
+pub then_same : (p q r : PassView) → IsSamePass p q → IsSamePass q r → IsSamePass p r
 then_same p q r a b = (b.0 ∙ a.0, b.1 ∙ a.1, b.2 ∙ a.2)
 
 pub grown : (script : List Begin) (old new : Logged) → MakesInTurn script old new → Grown script old new

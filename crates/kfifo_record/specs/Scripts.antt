@@ -8,7 +8,7 @@ use Rattle.kfifo_machine.specs.declared.event.Begin.{Begin}
 use Rattle.kfifo_machine.specs.declared.event.Begin.TheVariants as B
 use Rattle.kfifo_machine.specs.Calls.{op_asked}
 use Rattle.kfifo_live.specs.Schedule.{stamped_opening}
-use Rattle.kfifo_live.specs.Pass.{IsOf, IsSame, OpenQueue, new_passes}
+use Rattle.kfifo_live.specs.Pass.{IsPassOf, IsSamePass, OpenQueue, new_passes}
 use Rattle.kfifo_live.specs.Stamps.{Gathers, Logged, MakesStamped, calls_by, new_logs}
 
 -- a call with its start below k, at least one round, and an item from 1 to 2^24 - 1. A tick is none
@@ -39,7 +39,7 @@ room_for scripts = max 1 (longest scripts)
 
 -- a pass makes this stamped call, with some answer
 abbrev pub MakesOne : Begin → Logged → Logged → Type 0
-MakesOne begin old new = IsSame old.pass new.pass × ((answer : Answer) × MakesStamped begin answer old new)
+MakesOne begin old new = IsSamePass old.pass new.pass × ((answer : Answer) × MakesStamped begin answer old new)
 
 -- a pass makes the calls of a script in turn
 abbrev pub MakesInTurn : List Begin → Logged → Logged → Type 0
@@ -54,13 +54,14 @@ EachMakes scripts olds news = ⊥
 
 -- these are the passes of a queue of this shape, opened with one for each script and room for its calls, before any
 -- call
-pub record IsOpenFor (shape : Shape) (scripts : List (List Begin)) (queue : OpenQueue) (passes : List Logged) : Type 0 where
+pub record IsOpenFor (shape : Shape) (scripts : List (List Begin)) (queue : OpenQueue)
+    (passes : List Logged) : Type 0 where
   pub opened : queue.opened ≡ stamped_opening shape (length scripts) (room_for scripts)
   pub passes_are : passes ≡ new_logs (new_passes queue 0 (length scripts))
 
 -- a pass may run the script of its thread
 pub record MayRun (queue : OpenQueue) (scripts : List (List Begin)) (pass : Logged) : Type 0 where
-  pub of : IsOf queue pass.pass
+  pub of : IsPassOf queue pass.pass
   pub fresh : pass.log ≡ []
   pub has_script : pass.pass.thread < length scripts
   pub calls : All (IsCall queue.opened.shape) (script_of scripts pass.pass.thread)

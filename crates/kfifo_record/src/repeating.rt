@@ -3,7 +3,8 @@ ghost use Rattle.std.specs.Prelude.{◌≡◌, ◌+◌, ◌-◌, ◌*◌, ◌^�
 ghost use Rattle.std.specs.List.{fold};
 ghost use Rattle.kfifo_record.specs.Scripts.{scripts_in};
 ghost use Rattle.kfifo_record.specs.Repeats as words;
-ghost use Rattle.kfifo_record.specs.Repeats.{AllFit, FitsTo, IsFirstOver, all_repeated, greatest_item, last_shift, repeated, shifted};
+ghost use Rattle.kfifo_record.specs.Repeats.{AllFit, FitsTo, IsFirstOver, all_repeated, greatest_item, last_shift};
+ghost use Rattle.kfifo_record.specs.Repeats.{repeated, shifted};
 
 use kfifo_machine::Begin;
 use kfifo_model::MAX_ITEM;
@@ -13,7 +14,8 @@ use std::alloc::{AllocError, Global};
 /// over; none where each fits. It takes no memory.
 pub fn first_over(scripts: &[Vec<Begin>], count: u32) -> Option<usize>
     requires { 1 ≤ count }
-    ensures { let own = scripts_in scripts.now in MatchOption result (AllFit (last_shift count own) own) (IsFirstOver (last_shift count own) own) }
+    ensures { let own = scripts_in scripts.now in
+        MatchOption result (AllFit (last_shift count own) own) (IsFirstOver (last_shift count own) own) }
 {
     let by = u64::from(greatest_item(scripts)) * u64::from(count - 1);
     for (place, script) in scripts.iter().enumerate() {

@@ -1,10 +1,12 @@
 //! Running scripts, each on a thread of its own, and gathering the record of the run.
 ghost use Rattle.std.specs.Prelude.{◌≡◌, ◌<◌, ◌≤◌, ◌⊎◌, ◌↔◌, ◌^◌, ◌-◌, [], min, All, IfOk, IsErrOf, length};
-ghost use Rattle.kfifo_live.specs.declared.fault.OpenFault.TheVariants.{CallsOutOfRange, ThreadsOutOfRange, TokensOutOfRange};
-ghost use Rattle.kfifo_live.specs.Pass.{IsOf};
-ghost use Rattle.kfifo_record.specs.Scripts.{AreScripts, EachMakes, IsCall, IsOpenFor, IsRecord, MakesInTurn, MakesOne, MayRun, longest, script_of, scripts_in};
+ghost use Rattle.kfifo_live.specs.declared.fault.OpenFault.TheVariants.{CallsOutOfRange, ThreadsOutOfRange};
+ghost use Rattle.kfifo_live.specs.declared.fault.OpenFault.TheVariants.{TokensOutOfRange};
+ghost use Rattle.kfifo_live.specs.Pass.{IsPassOf};
+ghost use Rattle.kfifo_record.specs.Scripts.{AreScripts, EachMakes, IsCall, IsOpenFor, IsRecord, MakesInTurn, MakesOne};
+ghost use Rattle.kfifo_record.specs.Scripts.{MayRun, longest, script_of, scripts_in};
 
-use crate::gate::Gate;
+use kfifo_dispatch::Gate;
 use kfifo_live::{GatherFault, OpenFault, StampPass, StampQueue, gather};
 use kfifo_machine::Begin;
 use kfifo_model::History;
@@ -119,7 +121,7 @@ fn run_own<G: Gate>(
 
 /// Makes the calls of a script in turn, each behind the gate.
 fn run_script<G: Gate>(queue: &StampQueue, pass: &mut StampPass, script: &[Begin], gate: &G)
-    requires of { IsOf queue.now pass.old.pass }
+    requires of { IsPassOf queue.now pass.old.pass }
     requires fresh { pass.old.log ≡ [] }
     requires calls { All (IsCall queue.now.opened.shape) script.now }
     requires room { length script.now ≤ queue.now.opened.calls }
@@ -135,7 +137,7 @@ fn run_script<G: Gate>(queue: &StampQueue, pass: &mut StampPass, script: &[Begin
 
 /// Makes a call, whatever its answer.
 fn make(queue: &StampQueue, pass: &mut StampPass, begin: Begin)
-    requires of { IsOf queue.now pass.old.pass }
+    requires of { IsPassOf queue.now pass.old.pass }
     requires call { IsCall queue.now.opened.shape begin }
     requires room { length pass.old.log < pass.old.pass.opened.calls }
     ensures { MakesOne begin pass.old pass.new }

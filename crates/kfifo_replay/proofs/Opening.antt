@@ -15,16 +15,21 @@ use Rattle.kfifo_replay.specs.Player.{Player, StandsFor}
 -- the scripts hold 4,096 calls at most
 pub few_calls : (shape : Shape) (scripts : List (List Begin)) → AreScripts shape scripts → calls_in scripts ≤ 4096
 few_calls shape scripts are =
-    let all : calls_in scripts ≤ length scripts * 64 = sum_by-le (λ (s : List Begin). length s) 64 scripts (λ k d within. (are.each k d within).short) in
+    let all : calls_in scripts ≤ length scripts * 64 =
+    sum_by-le (λ (s : List Begin). length s) 64 scripts (λ k d within. (are.each k d within).short) in
     omega (arith, all, are.few)
 
 -- their calls, counted script by script
-pub calls_in-map : (scripts : List (Vec Begin Global)) → calls_in (map (λ (script : Vec Begin Global). script.items) scripts) ≡ sum_by (λ (script : Vec Begin Global). length script.items) scripts
+pub calls_in-map : (scripts : List (Vec Begin Global))
+    → calls_in (map (λ (script : Vec Begin Global). script.items) scripts)
+    ≡ sum_by (λ (script : Vec Begin Global). length script.items) scripts
 calls_in-map scripts = fold-map (λ a (s : List Begin). a + length s) (λ (script : Vec Begin Global). script.items) 0 scripts
 
 -- what a new replay holds stands for no pick
-pub stands_none : (shape : Shape) (scripts : List (List Begin)) (p : Player) → AreScripts shape scripts → p.shape ≡ shape → p.scripts ≡ scripts → p.follower.shape ≡ shape
-    → Follows (length scripts) (calls_in scripts) [] p.follower → p.begun ≡ replicate (length scripts) 0 → p.book.log ≡ blank (length scripts) → calls_in scripts ≤ p.book.room → p.rollbacks ≡ 0
+pub stands_none : (shape : Shape) (scripts : List (List Begin)) (p : Player) → AreScripts shape scripts → p.shape ≡ shape
+    → p.scripts ≡ scripts → p.follower.shape ≡ shape
+    → Follows (length scripts) (calls_in scripts) [] p.follower → p.begun ≡ replicate (length scripts) 0
+    → p.book.log ≡ blank (length scripts) → calls_in scripts ≤ p.book.room → p.rollbacks ≡ 0
     → StandsFor shape scripts [] p
 stands_none shape scripts p are shape_is scripts_are follower_shape follows begun log room rollbacks =
     record {

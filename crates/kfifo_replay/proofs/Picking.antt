@@ -1,5 +1,6 @@
 -- One pick of a replay: it makes an event, and the replay then stands for one pick more.
-use Rattle.std.proofs.Common.{◌≡◌, ◌⊎◌, ℕ, ◌+◌, ◌^◌, ◌<◌, ◌≤◌, List, [], ◌∷◌, ◌++◌, length, get_or, set, Option, Some, None, Result, Ok, Err, true, cond, sym, ◌∙◌, ap, subst, inl, inr, arith}
+use Rattle.std.proofs.Common.{◌≡◌, ◌⊎◌, ℕ, ◌+◌, ◌^◌, ◌<◌, ◌≤◌, List, [], ◌∷◌, ◌++◌, length, get_or, set, Option, Some, None, Result, Ok}
+use Rattle.std.proofs.Common.{Err, true, cond, sym, ◌∙◌, ap, subst, inl, inr, arith}
 use Rattle.std.specs.Prelude.{slice_get, is_some}
 use Rattle.std.proofs.lemmas.Bool.{cases_eq}
 use Rattle.std.proofs.lemmas.Grind.{get_or-set_at}
@@ -42,7 +43,8 @@ module _ (shape : Shape) (scripts : List (List Begin)) (picks : List ℕ) (p : P
       subst (IsWithin shape scripts s.events) (Some-injective r.world p.follower.world (sym r.within.reached ∙ reached_by)) r.within
 
   pub few_steps : p.follower.notes.step < 2 ^ 40
-  few_steps = let n : p.follower.notes.step ≡ length s.events = s.follows.steps in let few : length s.events < 2 ^ 40 = few_events shape scripts s.events p.follower.world s.are_scripts within_replay in omega (arith, n, few)
+  few_steps = let n : p.follower.notes.step ≡ length s.events = s.follows.steps in let few : length s.events < 2 ^ 40 =
+      few_events shape scripts s.events p.follower.world s.are_scripts within_replay in omega (arith, n, few)
 
   pub few_rollbacks : p.rollbacks < 2 ^ 40
   few_rollbacks =
@@ -52,7 +54,8 @@ module _ (shape : Shape) (scripts : List (List Begin)) (picks : List ℕ) (p : P
 
   pub sees_is : (thread : ℕ) → sees p thread ≡ event_at thread (place_of p.follower.world thread) (next_call scripts thread s.events)
   sees_is thread =
-      ap (λ (x : List (List Begin)). event_at thread (place_of p.follower.world thread) (slice_get (script_of x thread) (get_or p.begun thread 0))) s.scripts_are
+      ap (λ (x : List (List Begin)). event_at thread (place_of p.follower.world thread)
+      (slice_get (script_of x thread) (get_or p.begun thread 0))) s.scripts_are
       ∙ ap (λ n. event_at thread (place_of p.follower.world thread) (slice_get (script_of scripts thread) n)) (s.begun thread)
 
   -- what the picks with one more make
@@ -80,7 +83,8 @@ module _ (shape : Shape) (scripts : List (List Begin)) (picks : List ℕ) (p : P
 
     pub never_refused : (fault : NotEnabled) → step p.follower.shape p.follower.world e ≡ Err fault → ⊥
     never_refused fault is =
-        let h : ◌≡◌ {A = Result (World × Outcome) NotEnabled} (Ok (makes_event.there, makes_event.outcome)) (Err fault) = sym makes_event.made ∙ ap (λ (x : Shape). step x p.follower.world e) (sym s.follower_shape) ∙ is in
+        let h : ◌≡◌ {A = Result (World × Outcome) NotEnabled} (Ok (makes_event.there, makes_event.outcome)) (Err fault) =
+        sym makes_event.made ∙ ap (λ (x : Shape). step x p.follower.world e) (sym s.follower_shape) ∙ is in
         absurd (cc)
 
     pub room_for_call : begins_call e.begin ≡ true → p.follower.notes.begun < length p.follower.notes.calls
@@ -88,16 +92,19 @@ module _ (shape : Shape) (scripts : List (List Begin)) (picks : List ℕ) (p : P
 
     pub room_in_book : begins_call e.begin ≡ true → length p.book.log.calls < p.book.room
     room_in_book begins =
-        let same : length p.book.log.calls ≡ length (log_of shape (length scripts) s.events).calls = ap (λ (l : Log). length l.calls) s.log in
+        let same : length p.book.log.calls ≡ length (log_of shape (length scripts) s.events).calls =
+        ap (λ (l : Log). length l.calls) s.log in
         omega (arith, same, makes_event.room begins, within_replay.known, s.room)
 
     pub thread_in_book : e.thread < length p.book.log.latest
     thread_in_book =
-        log_thread shape shape (length scripts) s.events p.follower.world e makes_event.there makes_event.outcome p.book.log s.are_scripts.few reached_by s.log makes_event.made
+        log_thread shape shape (length scripts) s.events p.follower.world e makes_event.there makes_event.outcome p.book.log
+        s.are_scripts.few reached_by s.log makes_event.made
 
     pub call_in_book : e.begin ≡ None → get_or p.book.log.latest e.thread 0 < length p.book.log.calls
     call_in_book none =
-        log_call shape shape (length scripts) s.events p.follower.world e makes_event.there makes_event.outcome p.book.log s.are_scripts.few reached_by s.log makes_event.made none
+        log_call shape shape (length scripts) s.events p.follower.world e makes_event.there makes_event.outcome p.book.log s.are_scripts.few
+        reached_by s.log makes_event.made none
 
     pub few_begun : get_or p.begun thread 0 ≤ 64
     few_begun =
@@ -107,31 +114,40 @@ module _ (shape : Shape) (scripts : List (List Begin)) (picks : List ℕ) (p : P
         omega (arith, low, short, s.begun thread)
 
     -- how many calls each thread has begun then
-    begun_then : (other : ℕ) → get_or (set p.begun thread (get_or p.begun thread 0 + cond (is_some e.begin) 1 0)) other 0 ≡ begun_by other (s.events ++ e ∷ [])
+    begun_then : (other : ℕ) → get_or (set p.begun thread (get_or p.begun thread 0 + cond (is_some e.begin) 1 0)) other 0
+        ≡ begun_by other (s.events ++ e ∷ [])
     begun_then other =
         elim (how_made thread (place_of p.follower.world thread) (next_call scripts thread s.events) e (sym (sees_is thread) ∙ picks_e)) [
-          | inl on ↦ subst (λ (x : Event). get_or (set p.begun thread (get_or p.begun thread 0 + cond (is_some x.begin) 1 0)) other 0 ≡ begun_by other (s.events ++ x ∷ [])) (sym on.is) (stays other)
-          | inr begins ↦ subst (λ (x : Event). get_or (set p.begun thread (get_or p.begun thread 0 + cond (is_some x.begin) 1 0)) other 0 ≡ begun_by other (s.events ++ x ∷ [])) (sym begins.is) (grows begins.call other)
+          | inl on ↦ subst (λ (x : Event). get_or (set p.begun thread (get_or p.begun thread 0 + cond (is_some x.begin) 1 0)) other 0
+              ≡ begun_by other (s.events ++ x ∷ [])) (sym on.is) (stays other)
+          | inr begins ↦ subst (λ (x : Event). get_or (set p.begun thread (get_or p.begun thread 0 + cond (is_some x.begin) 1 0)) other 0
+              ≡ begun_by other (s.events ++ x ∷ [])) (sym begins.is) (grows begins.call other)
         ]
       where
-        stays : (other : ℕ) → get_or (set p.begun thread (get_or p.begun thread 0 + 0)) other 0 ≡ begun_by other (s.events ++ event thread None ∷ [])
+        stays : (other : ℕ) → get_or (set p.begun thread (get_or p.begun thread 0 + 0)) other 0
+            ≡ begun_by other (s.events ++ event thread None ∷ [])
         stays other =
             elim (cases_eq other thread) [
               | inl own ↦
                   let z : get_or p.begun thread 0 + 0 ≡ get_or p.begun thread 0 = omega arith in
-                  get_or-set_at p.begun thread other (get_or p.begun thread 0 + 0) 0 own thread_within ∙ z ∙ s.begun thread ∙ ap (λ t. begun_by t s.events) (sym own) ∙ sym (begun_by-goes_on other thread s.events)
+                  get_or-set_at p.begun thread other (get_or p.begun thread 0 + 0) 0 own thread_within ∙ z ∙ s.begun thread
+                  ∙ ap (λ t. begun_by t s.events) (sym own) ∙ sym (begun_by-goes_on other thread s.events)
               | inr apart ↦
-                  get_or-set_other p.begun thread other (get_or p.begun thread 0 + 0) 0 apart ∙ s.begun other ∙ sym (begun_by-goes_on other thread s.events)
+                  get_or-set_other p.begun thread other (get_or p.begun thread 0 + 0) 0 apart ∙ s.begun other
+                  ∙ sym (begun_by-goes_on other thread s.events)
             ]
 
-        grows : (call : Begin) (other : ℕ) → get_or (set p.begun thread (get_or p.begun thread 0 + 1)) other 0 ≡ begun_by other (s.events ++ event thread (Some call) ∷ [])
+        grows : (call : Begin) (other : ℕ) → get_or (set p.begun thread (get_or p.begun thread 0 + 1)) other 0
+            ≡ begun_by other (s.events ++ event thread (Some call) ∷ [])
         grows call other =
             elim (cases_eq other thread) [
               | inl own ↦
-                  get_or-set_at p.begun thread other (get_or p.begun thread 0 + 1) 0 own thread_within ∙ ap (λ n. n + 1) (s.begun thread) ∙ sym (begun_by-own thread s.events call)
+                  get_or-set_at p.begun thread other (get_or p.begun thread 0 + 1) 0 own thread_within ∙ ap (λ n. n + 1) (s.begun thread)
+                  ∙ sym (begun_by-own thread s.events call)
                   ∙ ap (λ t. begun_by t (s.events ++ event thread (Some call) ∷ [])) (sym own)
               | inr apart ↦
-                  get_or-set_other p.begun thread other (get_or p.begun thread 0 + 1) 0 apart ∙ s.begun other ∙ sym (begun_by-other other thread s.events call apart)
+                  get_or-set_other p.begun thread other (get_or p.begun thread 0 + 1) 0 apart ∙ s.begun other
+                  ∙ sym (begun_by-other other thread s.events call apart)
             ]
 
     module _ (there : World) (outcome : Outcome) (made : step p.follower.shape p.follower.world e ≡ Ok (there, outcome)) where
@@ -139,39 +155,51 @@ module _ (shape : Shape) (scripts : List (List Begin)) (picks : List ℕ) (p : P
       made_so = ap (λ (x : Shape). step x p.follower.world e) (sym s.follower_shape) ∙ made
 
       came_to : (r : Running) → going shape (place_of p.follower.world e.thread) e.begin ≡ Some r
-          → StepsFrom shape p.follower.world e.thread (place_of p.follower.world e.thread) e.begin there outcome ⊎ Ticks shape p.follower.world (place_of p.follower.world e.thread) e.begin there outcome
+          → StepsFrom shape p.follower.world e.thread (place_of p.follower.world e.thread) e.begin there outcome
+          ⊎ Ticks shape p.follower.world (place_of p.follower.world e.thread) e.begin there outcome
           → outcome ≡ outcome_of (advance shape r (found shape p.follower.world r))
-      came_to r goes (inl t) = subst (λ (q : Running). outcome ≡ outcome_of (advance shape q (found shape p.follower.world q))) (Some-injective t.running r (sym t.goes ∙ goes)) t.outcome_is
+      came_to r goes (inl t) = subst (λ (q : Running). outcome ≡ outcome_of (advance shape q (found shape p.follower.world q)))
+          (Some-injective t.running r (sym t.goes ∙ goes)) t.outcome_is
       came_to r goes (inr t) = absurd (no_tick (place_of p.follower.world e.thread) t.idle t.begins goes)
         where
           no_tick : (place : Option Running) → place ≡ None → e.begin ≡ Some B.Tick → going shape place e.begin ≡ Some r → ⊥
           no_tick place idle begins at =
-              let h : going shape None (Some B.Tick) ≡ Some r = ap (λ (b : Option Begin). going shape None b) (sym begins) ∙ ap (λ (q : Option Running). going shape q e.begin) (sym idle) ∙ at in cc
+              let h : going shape None (Some B.Tick) ≡ Some r =
+              ap (λ (b : Option Begin). going shape None b) (sym begins) ∙ ap (λ (q : Option Running). going shape q e.begin) (sym idle)
+              ∙ at in cc
 
       -- it is a won undo where its thread's place says so
-      rollbacks_then : p.rollbacks + cond (takes_back (is_undoing (place_of p.follower.world thread)) outcome) 1 0 ≡ undos shape (length scripts) (s.events ++ e ∷ [])
+      rollbacks_then : p.rollbacks + cond (takes_back (is_undoing (place_of p.follower.world thread)) outcome) 1 0
+          ≡ undos shape (length scripts) (s.events ++ e ∷ [])
       rollbacks_then =
           ap (λ n. n + cond (takes_back (is_undoing (place_of p.follower.world thread)) outcome) 1 0) s.rollbacks
           ∙ ap (λ n. undos shape (length scripts) s.events + n) told
           ∙ sym (undos-snoc shape (length scripts) p.follower.world s.events e reached_by)
         where
           goes_told : (running : Running) → place_of p.follower.world thread ≡ Some running → e ≡ event thread None
-              → cond {A = ℕ} (takes_back (is_undoing (place_of p.follower.world thread)) outcome) 1 0 ≡ counted shape undoes p.follower.world (going shape (place_of p.follower.world e.thread) e.begin)
+              → cond {A = ℕ} (takes_back (is_undoing (place_of p.follower.world thread)) outcome) 1 0
+              ≡ counted shape undoes p.follower.world (going shape (place_of p.follower.world e.thread) e.begin)
           goes_told r at is =
-              let goes : going shape (place_of p.follower.world e.thread) e.begin ≡ Some r = ap (λ (x : Event). going shape (place_of p.follower.world x.thread) x.begin) is ∙ ap (λ (q : Option Running). going shape q None) at in
-              let came : outcome ≡ outcome_of (advance shape r (found shape p.follower.world r)) = came_to r goes (stepped shape p.follower.world e there outcome made_so) in
+              let goes : going shape (place_of p.follower.world e.thread) e.begin ≡ Some r =
+              ap (λ (x : Event). going shape (place_of p.follower.world x.thread) x.begin) is
+              ∙ ap (λ (q : Option Running). going shape q None) at in
+              let came : outcome ≡ outcome_of (advance shape r (found shape p.follower.world r)) =
+              came_to r goes (stepped shape p.follower.world e there outcome made_so) in
               ap (λ (q : Option Running). cond {A = ℕ} (takes_back (is_undoing q) outcome) 1 0) at
               ∙ ap (λ (o : Outcome). cond {A = ℕ} (takes_back (is_undoing (Some r)) o) 1 0) came
               ∙ ap (λ b. cond {A = ℕ} b 1 0) (sym (undo_told shape r (found shape p.follower.world r)))
               ∙ ap (counted shape undoes p.follower.world) (sym goes)
 
-          told : cond {A = ℕ} (takes_back (is_undoing (place_of p.follower.world thread)) outcome) 1 0 ≡ counted shape undoes p.follower.world (going shape (place_of p.follower.world e.thread) e.begin)
+          told : cond {A = ℕ} (takes_back (is_undoing (place_of p.follower.world thread)) outcome) 1 0
+              ≡ counted shape undoes p.follower.world (going shape (place_of p.follower.world e.thread) e.begin)
           told =
-              elim (how_made thread (place_of p.follower.world thread) (next_call scripts thread s.events) e (sym (sees_is thread) ∙ picks_e)) [
+              elim (how_made thread (place_of p.follower.world thread) (next_call scripts thread s.events) e
+              (sym (sees_is thread) ∙ picks_e)) [
                 | inl on ↦ goes_told on.running on.there on.is
                 | inr begins ↦
                     let first : going shape (place_of p.follower.world e.thread) e.begin ≡ going shape None (Some begins.call) =
-                    ap (λ (x : Event). going shape (place_of p.follower.world x.thread) x.begin) begins.is ∙ ap (λ (q : Option Running). going shape q (Some begins.call)) begins.idle in
+                    ap (λ (x : Event). going shape (place_of p.follower.world x.thread) x.begin) begins.is
+                    ∙ ap (λ (q : Option Running). going shape q (Some begins.call)) begins.idle in
                     ap (λ (q : Option Running). cond {A = ℕ} (takes_back (is_undoing q) outcome) 1 0) begins.idle
                     ∙ ap (λ b. cond {A = ℕ} b 1 0) (takes_back-false outcome)
                     ∙ sym (first_no_undo shape p.follower.world begins.call)
@@ -179,10 +207,13 @@ module _ (shape : Shape) (scripts : List (List Begin)) (picks : List ℕ) (p : P
               ]
 
       -- The replay then stands for one pick more
-      pub stands_on : (f : Follower) (book : Book) (begun : List ℕ) (rollbacks : ℕ) → f.shape ≡ p.follower.shape → Follows (length scripts) (calls_in scripts) (s.events ++ e ∷ []) f
-          → book.log ≡ logged p.follower.notes.step e.thread e.begin outcome p.book.log → p.book.room ≤ book.room → begun ≡ set p.begun thread (get_or p.begun thread 0 + cond (is_some e.begin) 1 0)
+      pub stands_on : (f : Follower) (book : Book) (begun : List ℕ) (rollbacks : ℕ) → f.shape ≡ p.follower.shape
+          → Follows (length scripts) (calls_in scripts) (s.events ++ e ∷ []) f
+          → book.log ≡ logged p.follower.notes.step e.thread e.begin outcome p.book.log → p.book.room ≤ book.room
+          → begun ≡ set p.begun thread (get_or p.begun thread 0 + cond (is_some e.begin) 1 0)
           → rollbacks ≡ p.rollbacks + cond (takes_back (is_undoing (place_of p.follower.world thread)) outcome) 1 0
-          → StandsFor shape scripts (picks ++ thread ∷ []) (record { shape = p.shape; scripts = p.scripts; follower = f; begun = begun; book = book; rollbacks = rollbacks })
+          → StandsFor shape scripts (picks ++ thread ∷ [])
+          (record { shape = p.shape; scripts = p.scripts; follower = f; begun = begun; book = book; rollbacks = rollbacks })
       stands_on f book begun rollbacks same follows log room begun_is rollbacks_is =
           record {
             events = s.events ++ e ∷ [];

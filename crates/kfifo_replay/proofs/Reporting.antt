@@ -25,14 +25,17 @@ number_within : (h : List Call) (order : List ℕ) (n : ℕ) → HasOnlyCalls h 
 number_within h order n only is =
     elim (cases_lt n (length h)) [
       | inl within ↦ within
-      | inr past ↦ absurd (subst (λ (c : Call). CanStand c.end c.op) (get_or_past h n no_call past) (each_at (λ c. CanStand (call h c).end (call h c).op) n order only is))
+      | inr past ↦ absurd (subst (λ (c : Call). CanStand c.end c.op) (get_or_past h n no_call past)
+          (each_at (λ c. CanStand (call h c).end (call h c).op) n order only is))
     ]
 
 module _ (shape : Shape) (scripts : List (List Begin)) (picks : List ℕ) (p : Player) (s : StandsFor shape scripts picks p) where
   -- the order that the linearizer names
-  pub order_is : (order : List ℕ) → ((threads room : ℕ) (events : List Event) → Follows threads room events p.follower → threads ≤ 64 → order ≡ order_of p.follower.shape threads events)
+  pub order_is : (order : List ℕ) → ((threads room : ℕ) (events : List Event) → Follows threads room events p.follower → threads ≤ 64
+      → order ≡ order_of p.follower.shape threads events)
       → order ≡ order_of shape (length scripts) s.events
-  order_is order says = says (length scripts) (calls_in scripts) s.events s.follows s.are_scripts.few ∙ ap (λ (x : Shape). order_of x (length scripts) s.events) s.follower_shape
+  order_is order says = says (length scripts) (calls_in scripts) s.events s.follows s.are_scripts.few
+      ∙ ap (λ (x : Shape). order_of x (length scripts) s.events) s.follower_shape
 
   -- it is legal
   pub is_legal : IsLegal shape.k (history_of shape (length scripts) s.events) (order_of shape (length scripts) s.events)
@@ -44,7 +47,8 @@ module _ (shape : Shape) (scripts : List (List Begin)) (picks : List ℕ) (p : P
       let w = within_replay shape scripts picks p s in
       let all : length (order_of shape (length scripts) s.events) ≤ length (history_of shape (length scripts) s.events) =
       at_most (length (history_of shape (length scripts) s.events)) (order_of shape (length scripts) s.events) is_legal.is_order.distinct
-      (λ n is. number_within (history_of shape (length scripts) s.events) (order_of shape (length scripts) s.events) n is_legal.is_order.calls is) in
+      (λ n is. number_within (history_of shape (length scripts) s.events) (order_of shape (length scripts) s.events) n
+      is_legal.is_order.calls is) in
       omega (arith, all, w.known, w.calls, few_calls shape scripts s.are_scripts)
 
   -- the calls of the schedule that the picks make

@@ -1,5 +1,6 @@
 -- The steps of a schedule with one event more.
-use Rattle.std.proofs.Common.{◌≡◌, ℕ, suc, ◌<◌, ◌≤◌, List, [], ◌∷◌, ◌++◌, length, take, Option, Some, None, Ok, refl, sym, ◌∙◌, ap, subst, inl, inr, arith, length-append}
+use Rattle.std.proofs.Common.{◌≡◌, ℕ, suc, ◌<◌, ◌≤◌, List, [], ◌∷◌, ◌++◌, length, take, Option, Some, None, Ok, refl, sym, ◌∙◌, ap, subst}
+use Rattle.std.proofs.Common.{inl, inr, arith, length-append}
 use Rattle.std.proofs.lemmas.Bool.{cases_lt}
 use Rattle.std.proofs.lemmas.List.{length-take-le, take_all, take-append-le}
 use Rattle.kfifo_words.specs.declared.shape.Shape.{Shape}
@@ -15,16 +16,19 @@ use Rattle.kfifo_replay.specs.Steps.{AreSteps, IsStep}
 use Rattle.kfifo_replay.specs.Traces.{max_steps}
 
 -- as many steps as events
-pub length_of : (shape : Shape) (here : World) (events : List Event) (steps : List Step) → AreSteps shape here events steps → length steps ≡ length events
+pub length_of : (shape : Shape) (here : World) (events : List Event) (steps : List Step) → AreSteps shape here events steps
+    → length steps ≡ length events
 length_of shape here [] [] are = refl
 length_of shape here [] (s ∷ steps) are = absurd are
 length_of shape here (e ∷ events) [] are = absurd are
 length_of shape here (e ∷ events) (s ∷ steps) are = ap (λ n. suc n) (length_of shape are.0 events steps are.2)
 
 -- what one event more does stands behind the steps before it
-pub one_more : (shape : Shape) (here there next : World) (events : List Event) (steps : List Step) (e : Event) (s : Step) → AreSteps shape here events steps
+pub one_more : (shape : Shape) (here there next : World) (events : List Event) (steps : List Step) (e : Event) (s : Step)
+    → AreSteps shape here events steps
     → run shape (Some here) events ≡ Some there → IsStep shape there e next s → AreSteps shape here (events ++ e ∷ []) (steps ++ s ∷ [])
-one_more shape here there next [] [] e s are reached is = (next, subst (λ (w : World). IsStep shape w e next s) (sym (Some-injective here there reached)) is, tt)
+one_more shape here there next [] [] e s are reached is =
+    (next, subst (λ (w : World). IsStep shape w e next s) (sym (Some-injective here there reached)) is, tt)
 one_more shape here there next [] (y ∷ ys) e s are reached is = absurd are
 one_more shape here there next (x ∷ xs) [] e s are reached is = absurd are
 one_more shape here there next (x ∷ xs) (y ∷ ys) e s are reached is =
@@ -32,33 +36,40 @@ one_more shape here there next (x ∷ xs) (y ∷ ys) e s are reached is =
     (are.0, are.1, one_more shape are.0 there next xs ys e s are.2 (sym on ∙ reached) is)
 
 -- so it is where only the first steps are kept
-pub kept_more : (shape : Shape) (here there next : World) (events : List Event) (steps : List Step) (e : Event) (s : Step) → AreSteps shape here (take max_steps events) steps
-    → run shape (Some here) events ≡ Some there → IsStep shape there e next s → AreSteps shape here (take max_steps (events ++ e ∷ [])) (take max_steps (steps ++ s ∷ []))
+pub kept_more : (shape : Shape) (here there next : World) (events : List Event) (steps : List Step) (e : Event) (s : Step)
+    → AreSteps shape here (take max_steps events) steps
+    → run shape (Some here) events ≡ Some there → IsStep shape there e next s
+    → AreSteps shape here (take max_steps (events ++ e ∷ [])) (take max_steps (steps ++ s ∷ []))
 kept_more shape here there next events steps e s are reached is =
     let same : length steps ≡ length (take max_steps events) = length_of shape here (take max_steps events) steps are in
     elim (cases_lt (length events) max_steps) [
       | inl few ↦
           let all : take max_steps events ≡ events = take_all max_steps events (omega (arith, few)) in
           let size : length steps ≡ length events = same ∙ ap (λ (xs : List Event). length xs) all in
-          let events_all : take max_steps (events ++ e ∷ []) ≡ events ++ e ∷ [] = take_all max_steps (events ++ e ∷ []) (let n = length-append events (e ∷ []) in omega (arith, n, few)) in
-          let steps_all : take max_steps (steps ++ s ∷ []) ≡ steps ++ s ∷ [] = take_all max_steps (steps ++ s ∷ []) (let n = length-append steps (s ∷ []) in omega (arith, n, few, size)) in
+          let events_all : take max_steps (events ++ e ∷ []) ≡ events ++ e ∷ [] =
+          take_all max_steps (events ++ e ∷ []) (let n = length-append events (e ∷ []) in omega (arith, n, few)) in
+          let steps_all : take max_steps (steps ++ s ∷ []) ≡ steps ++ s ∷ [] =
+          take_all max_steps (steps ++ s ∷ []) (let n = length-append steps (s ∷ []) in omega (arith, n, few, size)) in
           subst (λ (xs : List Event). AreSteps shape here xs (take max_steps (steps ++ s ∷ []))) (sym events_all)
           (subst (λ (ys : List Step). AreSteps shape here (events ++ e ∷ []) ys) (sym steps_all)
           (one_more shape here there next events steps e s (subst (λ (xs : List Event). AreSteps shape here xs steps) all are) reached is))
       | inr many ↦
           let size : length steps ≡ max_steps = same ∙ length-take-le max_steps events many in
           let events_same : take max_steps (events ++ e ∷ []) ≡ take max_steps events = take-append-le max_steps events (e ∷ []) many in
-          let steps_same : take max_steps (steps ++ s ∷ []) ≡ steps = take-append-le max_steps steps (s ∷ []) (omega (arith, size)) ∙ take_all max_steps steps (omega (arith, size)) in
+          let steps_same : take max_steps (steps ++ s ∷ []) ≡ steps =
+          take-append-le max_steps steps (s ∷ []) (omega (arith, size)) ∙ take_all max_steps steps (omega (arith, size)) in
           subst (λ (xs : List Event). AreSteps shape here xs (take max_steps (steps ++ s ∷ []))) (sym events_same)
           (subst (λ (ys : List Step). AreSteps shape here (take max_steps events) ys) (sym steps_same) are)
     ]
 
 -- the place of a thread in its call is the one from which it makes its step, and else the first place of the call that it begins
-pub stays_at : (shape : Shape) (place : Option Running) (begin : Option Begin) (running : Running) → going shape place begin ≡ Some running → (r : Running) → place ≡ Some r → place ≡ going shape place begin
+pub stays_at : (shape : Shape) (place : Option Running) (begin : Option Begin) (running : Running) → going shape place begin ≡ Some running
+    → (r : Running) → place ≡ Some r → place ≡ going shape place begin
 stays_at shape (Some p) None running goes r is = refl
 stays_at shape (Some p) (Some call) running goes r is = absurd (cc)
 stays_at shape None begin running goes r is = absurd (cc)
 
-pub begins_at : (shape : Shape) (place : Option Running) (begin : Option Begin) (call : Begin) (running : Running) → going shape place begin ≡ Some running → begin ≡ Some call → begun call ≡ going shape place begin
+pub begins_at : (shape : Shape) (place : Option Running) (begin : Option Begin) (call : Begin) (running : Running)
+    → going shape place begin ≡ Some running → begin ≡ Some call → begun call ≡ going shape place begin
 begins_at shape place begin call running goes is =
     begins_from shape place call running (ap (going shape place) (sym is) ∙ goes) ∙ sym goes

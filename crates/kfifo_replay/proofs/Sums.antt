@@ -1,5 +1,6 @@
 -- Sums over the numbers below one.
-use Rattle.std.proofs.Common.{◌≡◌, ◌≢◌, ℕ, zero, suc, ◌+◌, ◌*◌, ◌<◌, ◌≤◌, List, length, get_or, take, refl, sym, ◌∙◌, ap, subst, inl, inr, arith}
+use Rattle.std.proofs.Common.{◌≡◌, ◌≢◌, ℕ, zero, suc, ◌+◌, ◌*◌, ◌<◌, ◌≤◌, List, length, get_or, take, refl, sym, ◌∙◌, ap, subst, inl, inr}
+use Rattle.std.proofs.Common.{arith}
 use Rattle.std.specs.Prelude.{sum_by}
 use Rattle.std.proofs.lemmas.Bool.{cases_lt}
 use Rattle.std.proofs.lemmas.List.Sums.{sum_by_more}
@@ -17,7 +18,8 @@ same_below f g (suc n) same =
     omega arith
 
 -- a sum of which one term falls by so much, and no other changes
-pub falls_below : (d : ℕ) (f g : ℕ → ℕ) (t n : ℕ) → ((i : ℕ) → i ≢ t → g i ≡ f i) → t < n → g t + d ≤ f t → sum_below g n + d ≤ sum_below f n
+pub falls_below : (d : ℕ) (f g : ℕ → ℕ) (t n : ℕ) → ((i : ℕ) → i ≢ t → g i ≡ f i) → t < n → g t + d ≤ f t
+    → sum_below g n + d ≤ sum_below f n
 falls_below d f g t zero others within less = absurd (omega (arith, within))
 falls_below d f g t (suc n) others within less =
     elim (cases_lt t n) [
@@ -27,7 +29,8 @@ falls_below d f g t (suc n) others within less =
           omega arith
       | inr above ↦
           let at : t ≡ n = omega (arith, above, within) in
-          let rest : sum_below g n ≡ sum_below f n = same_below f g n (λ i below. others i (λ same. absurd (omega (arith, below, same, at)))) in
+          let rest : sum_below g n ≡ sum_below f n =
+          same_below f g n (λ i below. others i (λ same. absurd (omega (arith, below, same, at)))) in
           let last : g n + d ≤ f n = subst (λ i. g i + d ≤ f i) at less in
           omega arith
     ]
@@ -54,7 +57,8 @@ few_below f most (suc n) each =
     omega arith
 
 -- a sum over the elements of a list is one over their places
-pub sum_below-get_or : {X : Type 0} (f : X → ℕ) (xs : List X) (d : X) (n : ℕ) → n ≤ length xs → sum_below (λ i. f (get_or xs i d)) n ≡ sum_by f (take n xs)
+pub sum_below-get_or : {X : Type 0} (f : X → ℕ) (xs : List X) (d : X) (n : ℕ) → n ≤ length xs
+    → sum_below (λ i. f (get_or xs i d)) n ≡ sum_by f (take n xs)
 sum_below-get_or f xs d zero within = refl
 sum_below-get_or f xs d (suc n) within =
     let rest : sum_below (λ i. f (get_or xs i d)) n ≡ sum_by f (take n xs) = sum_below-get_or f xs d n (omega (arith, within)) in

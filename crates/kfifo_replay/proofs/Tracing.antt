@@ -1,5 +1,6 @@
 -- One pick of a tracer: its machine makes the event that the replay makes.
-use Rattle.std.proofs.Common.{◌≡◌, ◌≢◌, ℕ, ◌≤◌, List, [], ◌∷◌, ◌++◌, length, take, Option, Some, None, Ok, min, refl, sym, ◌∙◌, ap, subst, inl, inr, arith}
+use Rattle.std.proofs.Common.{◌≡◌, ◌≢◌, ℕ, ◌≤◌, List, [], ◌∷◌, ◌++◌, length, take, Option, Some, None, Ok, min, refl, sym, ◌∙◌, ap, subst}
+use Rattle.std.proofs.Common.{inl, inr, arith}
 use Rattle.std.proofs.lemmas.List.{length-take, take_all}
 use Rattle.std.proofs.Math.Nat.{min-le_left}
 use Rattle.kfifo_words.specs.declared.shape.Shape.{Shape}
@@ -27,8 +28,10 @@ abbrev Kept : Shape → ℕ → List Event → List Step → Type 0
 Kept shape threads events steps = AreSteps shape (opening shape threads) (take max_steps events) steps
 
 -- what a new tracer holds traces no pick
-pub traces_none : (shape : Shape) (scripts : List (List Begin)) (q : Player) (m : Machine) (steps : List Step) (room threads : ℕ) → StandsFor shape scripts [] q → m.shape ≡ shape → m.world ≡ opening shape threads
-    → threads ≡ length q.scripts → steps ≡ [] → max_steps ≤ room → Traces shape scripts [] (record { player = q; machine = m; steps = steps; room = room })
+pub traces_none : (shape : Shape) (scripts : List (List Begin)) (q : Player) (m : Machine) (steps : List Step) (room threads : ℕ)
+    → StandsFor shape scripts [] q → m.shape ≡ shape → m.world ≡ opening shape threads
+    → threads ≡ length q.scripts → steps ≡ [] → max_steps ≤ room
+    → Traces shape scripts [] (record { player = q; machine = m; steps = steps; room = room })
 traces_none shape scripts q m steps room threads stands shaped opened counted none roomy =
     record {
       stands = stands;
@@ -47,25 +50,33 @@ traces_none shape scripts q m steps room threads stands shaped opened counted no
     world_is = opened ∙ ap (opening shape) (counted ∙ ap (λ (xs : List (List Begin)). length xs) stands.scripts_are)
 
 -- it keeps so many steps at most
-pub few_kept : (shape : Shape) (scripts : List (List Begin)) (picks : List ℕ) (t : Tracing) → Traces shape scripts picks t → length t.steps ≤ max_steps
+pub few_kept : (shape : Shape) (scripts : List (List Begin)) (picks : List ℕ) (t : Tracing) → Traces shape scripts picks t
+    → length t.steps ≤ max_steps
 few_kept shape scripts picks t s =
-    let same : length t.steps ≡ length (take max_steps s.stands.events) = length_of shape (opening shape (length scripts)) (take max_steps s.stands.events) t.steps s.are in
+    let same : length t.steps ≡ length (take max_steps s.stands.events) =
+    length_of shape (opening shape (length scripts)) (take max_steps s.stands.events) t.steps s.are in
     let size : length (take max_steps s.stands.events) ≡ min max_steps (length s.stands.events) = length-take max_steps s.stands.events in
     omega (arith, same, size, min-le_left max_steps (length s.stands.events))
 
-module _ (shape : Shape) (scripts : List (List Begin)) (picks : List ℕ) (t : Tracing) (s : Traces shape scripts picks t) (thread : ℕ) (e : Event) (picks_e : sees t.player thread ≡ Some e) where
+module _ (shape : Shape) (scripts : List (List Begin)) (picks : List ℕ) (t : Tracing) (s : Traces shape scripts picks t) (thread : ℕ)
+    (e : Event) (picks_e : sees t.player thread ≡ Some e) where
   -- its machine is in the world of the replay
   same_world : t.player.follower.world ≡ t.machine.world
   same_world = Some-injective t.player.follower.world t.machine.world (sym (reached_by shape scripts picks t.player s.stands) ∙ s.reached)
 
   pub enabled : (there : World) × (outcome : Outcome) × (step t.machine.shape t.machine.world e ≡ Ok (there, outcome))
   enabled =
-      let m = makes_event shape scripts picks t.player s.stands thread e picks_e in
-      (m.there, m.outcome, ap (λ (x : Shape). step x t.machine.world e) s.shape_is ∙ (ap (λ (w : World). step shape w e) (sym same_world) ∙ m.made))
+      let m = makes_event shape scripts picks t.player s.stands thread e picks_e in (
+        m.there,
+        m.outcome,
+        ap (λ (x : Shape). step x t.machine.world e) s.shape_is
+            ∙ (ap (λ (w : World). step shape w e) (sym same_world) ∙ m.made),
+      )
 
   never_ticks : e.begin ≡ Some B.Tick → ⊥
   never_ticks ticks =
-      elim (how_made thread (place_of t.player.follower.world thread) (next_call scripts thread s.stands.events) e (sym (sees_is shape scripts picks t.player s.stands thread) ∙ picks_e)) [
+      elim (how_made thread (place_of t.player.follower.world thread) (next_call scripts thread s.stands.events) e
+      (sym (sees_is shape scripts picks t.player s.stands thread) ∙ picks_e)) [
         | inl on ↦
             let none : e.begin ≡ None = ap (λ (x : Event). x.begin) on.is in
             let h : None ≡ Some B.Tick = sym none ∙ ticks in
@@ -84,16 +95,20 @@ module _ (shape : Shape) (scripts : List (List Begin)) (picks : List ℕ) (t : T
       ]
 
   -- The tracer then traces one pick more
-  pub traces_on : (q : Player) (m : Machine) (steps : List Step) (room : ℕ) (done : Step) → StandsFor shape scripts (picks ++ thread ∷ []) q → m.shape ≡ t.machine.shape
+  pub traces_on : (q : Player) (m : Machine) (steps : List Step) (room : ℕ) (done : Step) → StandsFor shape scripts (picks ++ thread ∷ []) q
+      → m.shape ≡ t.machine.shape
       → IsStep t.machine.shape t.machine.world e m.world done → steps ≡ take max_steps (t.steps ++ done ∷ []) → max_steps ≤ room
       → Traces shape scripts (picks ++ thread ∷ []) (record { player = q; machine = m; steps = steps; room = room })
   traces_on q m steps room done stands same is steps_are roomy =
       record {
         stands = stands;
         shape_is = same ∙ s.shape_is;
-        reached = ap (after shape (length scripts)) events_are ∙ (after-snoc shape (length scripts) s.stands.events t.machine.world e s.reached ∙ ap world_of made);
-        are = subst (λ (xs : List Event). Kept shape (length scripts) xs steps) (sym events_are) (subst (λ (ys : List Step). Kept shape (length scripts) (s.stands.events ++ e ∷ []) ys) (sym steps_are)
-            (kept_more shape (opening shape (length scripts)) t.machine.world m.world s.stands.events t.steps e done s.are s.reached step_is));
+        reached = ap (after shape (length scripts)) events_are
+            ∙ (after-snoc shape (length scripts) s.stands.events t.machine.world e s.reached ∙ ap world_of made);
+        are = subst (λ (xs : List Event). Kept shape (length scripts) xs steps) (sym events_are)
+            (subst (λ (ys : List Step). Kept shape (length scripts) (s.stands.events ++ e ∷ []) ys) (sym steps_are)
+            (kept_more shape (opening shape (length scripts)) t.machine.world m.world s.stands.events t.steps e done s.are s.reached
+            step_is));
         room = roomy;
       }
     where

@@ -4,7 +4,8 @@ use Rattle.kfifo_words.specs.declared.shape.Shape.{Shape}
 use Rattle.kfifo_machine.specs.declared.event.Begin.{Begin}
 use Rattle.kfifo_replay.specs.Player.{Player, StandsFor, IsRefused}
 
--- after earlier picks a thread makes all events that its script still has: so many picks of it, after which one more is refused
+-- after earlier picks a thread makes all events that its script still has: so many picks of it, after which one more is
+-- refused
 pub record GoesToEnd (shape : Shape) (scripts : List (List Begin)) (thread : ℕ) (earlier own : List ℕ) : Type 0 where
   pub count : ℕ
   pub picks : own ≡ replicate count thread

@@ -1,6 +1,7 @@
--- The events that picks make. Each pick names the thread that makes the next event: an idle thread begins the next call of its
--- script, and a thread inside a call goes on.
-use Rattle.std.specs.Prelude.{ℕ, ◌==◌, ◌&&◌, List, [], ◌∷◌, ◌++◌, length, count_by, get_or, slice_get, Option, Some, None, is_some}
+-- The events that picks make. Each pick names the thread that makes the next event: an idle thread begins the next call
+-- of its script, and a thread inside a call goes on.
+use Rattle.std.specs.Prelude.{ℕ, ◌==◌, ◌&&◌, List, [], ◌∷◌, ◌++◌, length, count_by, get_or, slice_get, Option, Some}
+use Rattle.std.specs.Prelude.{None, is_some}
 use Rattle.kfifo_words.specs.declared.shape.Shape.{Shape}
 use Rattle.kfifo_machine.specs.declared.event.Begin.{Begin}
 use Rattle.kfifo_machine.specs.declared.event.Event.{Event}
@@ -20,7 +21,8 @@ script_of scripts thread = get_or scripts thread []
 abbrev pub next_call : List (List Begin) → ℕ → List Event → Option Begin
 next_call scripts thread events = slice_get (script_of scripts thread) (begun_by thread events)
 
--- the event of a thread at this place in its call, where it is in one; else it begins this, where there is something to begin
+-- the event of a thread at this place in its call, where it is in one; else it begins this, where there is something to
+-- begin
 abbrev pub event_at : ℕ → Option Running → Option Begin → Option Event
 event_at thread (Some running) next = Some (event thread None)
 event_at thread None (Some call) = Some (event thread (Some call))
@@ -43,7 +45,8 @@ and_then events (Some event) = Some (events ++ event ∷ [])
 abbrev pub events_from : Shape → List (List Begin) → Option (List Event) → List ℕ → Option (List Event)
 events_from shape scripts events [] = events
 events_from shape scripts None (thread ∷ picks) = None
-events_from shape scripts (Some events) (thread ∷ picks) = events_from shape scripts (and_then events (picked shape scripts events thread)) picks
+events_from shape scripts (Some events) (thread ∷ picks) =
+    events_from shape scripts (and_then events (picked shape scripts events thread)) picks
 
 -- The events of picks, from the opening
 abbrev pub events_of : Shape → List (List Begin) → List ℕ → Option (List Event)

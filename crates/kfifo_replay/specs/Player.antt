@@ -1,5 +1,6 @@
 -- What a replay keeps, and which picks it stands for.
-use Rattle.std.specs.Prelude.{◌≡◌, ℕ, ◌<◌, ◌≤◌, ◌++◌, ◌∷◌, [], ◌==◌, List, length, take, get_or, Bool, true, false, Option, Some, None, is_some, IsTrue}
+use Rattle.std.specs.Prelude.{◌≡◌, ℕ, ◌<◌, ◌≤◌, ◌++◌, ◌∷◌, [], ◌==◌, List, length, take, get_or, Bool, true, false}
+use Rattle.std.specs.Prelude.{Option, Some, None, is_some, IsTrue}
 use Rattle.kfifo_words.specs.declared.shape.Shape.{Shape}
 use Rattle.kfifo_machine.specs.declared.event.Begin.{Begin}
 use Rattle.kfifo_machine.specs.declared.event.Event.{Event}
@@ -75,7 +76,8 @@ pub record IsReplay (p : Player) : Type 0 where
 
 -- this is so of the picks that it stands for
 abbrev pub OfItsPicks : Player → (Shape → List (List Begin) → List ℕ → Type 0) → Type 0
-OfItsPicks p P = (shape : Shape) (scripts : List (List Begin)) (picks : List ℕ) → StandsFor shape scripts picks p → P shape scripts picks
+OfItsPicks p P = (shape : Shape) (scripts : List (List Begin)) (picks : List ℕ) → StandsFor shape scripts picks p
+    → P shape scripts picks
 
 -- this pick is refused after those
 abbrev pub IsRefused : Shape → List (List Begin) → List ℕ → ℕ → Type 0
@@ -89,11 +91,13 @@ pub record IsFirstRefused (shape : Shape) (scripts : List (List Begin)) (picks :
 
 -- Of these picks, after earlier ones, the first that is refused is at this place: those before it were made, and no
 -- other
-pub record StopsAt (shape : Shape) (scripts : List (List Begin)) (earlier picks : List ℕ) (place : ℕ) (p : Player) : Type 0 where
+pub record StopsAt (shape : Shape) (scripts : List (List Begin)) (earlier picks : List ℕ) (place : ℕ)
+    (p : Player) : Type 0 where
   pub within : place < length picks
   pub refused : IsRefused shape scripts (earlier ++ take place picks) (get_or picks place 0)
   pub stands : StandsFor shape scripts (earlier ++ take place picks) p
 
 -- the picks are refused, with the place of the first that is
 abbrev pub Stops : Shape → List (List Begin) → List ℕ → List ℕ → ReplayFault → Player → Type 0
-Stops shape scripts earlier picks fault p = (place : ℕ) × (fault ≡ BadPick place) × StopsAt shape scripts earlier picks place p
+Stops shape scripts earlier picks fault p = (place : ℕ) × (fault ≡ BadPick place)
+    × StopsAt shape scripts earlier picks place p

@@ -25,7 +25,8 @@ unfinished_in history order = count_by (λ n. is_none (call history n).end) orde
 pub record Reports (shape : Shape) (threads : ℕ) (events : List Event) (r : Report) : Type 0 where
   pub steps : r.steps ≡ length events
   pub order : r.order.items ≡ order_of shape threads events
-  pub worst_rank : r.worst_rank ≡ greatest (ranks_of shape.k (history_of shape threads events) (order_of shape threads events))
+  pub worst_rank : r.worst_rank ≡ greatest
+      (ranks_of shape.k (history_of shape threads events) (order_of shape threads events))
   pub rollbacks : r.rollbacks ≡ undos shape threads events
   pub completed : r.completed ≡ unfinished_in (history_of shape threads events) (order_of shape threads events)
 
@@ -39,10 +40,12 @@ pub record IsReport (shape : Shape) (scripts : List (List Begin)) (picks : List 
 pub record ArePoints (shape : Shape) (scripts : List (List Begin)) (picks points : List ℕ) : Type 0 where
   pub events : List Event
   pub made : events_of shape scripts picks ≡ Some events
-  pub are : points ≡ map (point (ledger_after_all shape (length scripts) events)) (order_of shape (length scripts) events)
+  pub are : points ≡ map (point (ledger_after_all shape (length scripts) events))
+      (order_of shape (length scripts) events)
 
 -- the calls of that schedule
-pub record IsHistoryOf (shape : Shape) (scripts : List (List Begin)) (picks : List ℕ) (history : List Call) : Type 0 where
+pub record IsHistoryOf (shape : Shape) (scripts : List (List Begin)) (picks : List ℕ)
+    (history : List Call) : Type 0 where
   pub events : List Event
   pub made : events_of shape scripts picks ≡ Some events
   pub is : history ≡ history_of shape (length scripts) events

@@ -6,7 +6,8 @@ use Rattle.kfifo_machine.specs.declared.event.Begin.TheVariants as B
 
 -- a call with its start below k, 1 to 65,535 rounds, and an item from 1 to 2^24 - 1. A tick is none
 abbrev pub IsCall : Shape → Begin → Type 0
-IsCall shape (B.Enqueue item start turns) = (start < shape.k) × (0 < turns) × (turns < 2 ^ 16) × (0 < item) × (item < 2 ^ 24)
+IsCall shape (B.Enqueue item start turns) = (start < shape.k) × (0 < turns) × (turns < 2 ^ 16) × (0 < item)
+    × (item < 2 ^ 24)
 IsCall shape (B.Dequeue start turns) = (start < shape.k) × (0 < turns) × (turns < 2 ^ 16)
 IsCall shape B.Tick = ⊥
 

@@ -7,8 +7,8 @@ use Rattle.kfifo_machine.specs.Machine.{World, place_of, step, word_at}
 use Rattle.kfifo_machine.specs.Runs.{going}
 use Rattle.kfifo_replay.specs.declared.steps.Step.{Step}
 
--- The event leads the machine from here to there, and this is what it did: the place from which its thread made it, the access
--- that this place makes, the accessed word here and there, and what the event came to
+-- The event leads the machine from here to there, and this is what it did: the place from which its thread made it, the
+-- access that this place makes, the accessed word here and there, and what the event came to
 pub record IsStep (shape : Shape) (here : World) (event : Event) (there : World) (s : Step) : Type 0 where
   pub thread : s.thread ≡ event.thread
   pub place : going shape (place_of here event.thread) event.begin ≡ Some s.place
@@ -22,4 +22,5 @@ abbrev pub AreSteps : Shape → World → List Event → List Step → Type 0
 AreSteps shape here [] [] = Unit {0}
 AreSteps shape here [] (s ∷ steps) = ⊥
 AreSteps shape here (event ∷ events) [] = ⊥
-AreSteps shape here (event ∷ events) (s ∷ steps) = (there : World) × IsStep shape here event there s × AreSteps shape there events steps
+AreSteps shape here (event ∷ events) (s ∷ steps) = (there : World) × IsStep shape here event there s
+    × AreSteps shape there events steps

@@ -44,7 +44,8 @@ pub record IsTracing (t : Tracing) : Type 0 where
 
 -- this is so of the picks that it traces
 abbrev pub OfTracedPicks : Tracing → (Shape → List (List Begin) → List ℕ → Type 0) → Type 0
-OfTracedPicks t P = (shape : Shape) (scripts : List (List Begin)) (picks : List ℕ) → Traces shape scripts picks t → P shape scripts picks
+OfTracedPicks t P = (shape : Shape) (scripts : List (List Begin)) (picks : List ℕ) → Traces shape scripts picks t
+    → P shape scripts picks
 
 -- picks with which a thread, or each thread below a number, goes to the end of its script were made
 abbrev pub EndTraced : Shape → List (List Begin) → ℕ → List ℕ → Tracing → Type 0
@@ -52,5 +53,6 @@ EndTraced shape scripts thread earlier t = (own : List ℕ) × GoesToEnd shape s
     × Traces shape scripts (earlier ++ own) t
 
 abbrev pub FinishTraced : ℕ → Shape → List (List Begin) → ℕ → List ℕ → Tracing → Type 0
-FinishTraced stopped shape scripts threads earlier t = (more : List ℕ) × Finishes stopped shape scripts threads earlier more
+FinishTraced stopped shape scripts threads earlier t = (more : List ℕ)
+    × Finishes stopped shape scripts threads earlier more
     × Traces shape scripts (earlier ++ more) t

@@ -23,7 +23,10 @@ impl Model for Book {
 
     ghost Value = { Book };
 
-    ghost view = { λ b. record { log = record { calls = b.calls.items; latest = b.latest.items }; room = vec_capacity b.calls } };
+    ghost view = { λ b. record {
+      log = record { calls = b.calls.items; latest = b.latest.items };
+      room = vec_capacity b.calls;
+    } };
 }
 
 impl Book {

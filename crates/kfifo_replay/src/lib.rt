@@ -9,7 +9,7 @@ mod steps;
 mod tracer;
 
 pub use fault::ReplayFault;
-pub use player::{MAX_CALLS, Replay};
+pub use player::{MAX_SCRIPT_CALLS, Replay};
 pub use report::{Report, replay};
 pub use steps::Step;
 pub use tracer::{MAX_STEPS, Tracer};

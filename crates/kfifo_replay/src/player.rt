@@ -1,5 +1,6 @@
 //! Replays, pick by pick.
-ghost use Rattle.std.specs.Prelude.{◌≡◌, ℕ, ◌+◌, ◌^◌, ◌<◌, ◌≤◌, ◌↔◌, List, [], ◌∷◌, ◌++◌, length, map, replicate, get_or, slice_get, All, sum_by, true, false, IsTrue, IfOk, IfErr, OnOk, OnErr, Err};
+ghost use Rattle.std.specs.Prelude.{◌≡◌, ℕ, ◌+◌, ◌^◌, ◌<◌, ◌≤◌, ◌↔◌, List, [], ◌∷◌, ◌++◌, length, map, replicate};
+ghost use Rattle.std.specs.Prelude.{get_or, slice_get, All, sum_by, true, false, IsTrue, IfOk, IfErr, OnOk, OnErr, Err};
 ghost use Rattle.kfifo_words.specs.declared.shape.Shape.{Shape};
 ghost use Rattle.kfifo_machine.specs.declared.event.Begin.{Begin};
 ghost use Rattle.kfifo_machine.specs.Machine.{place_of};
@@ -21,7 +22,7 @@ use std::alloc::{AllocError, Global};
 use std::marker::Model;
 
 /// The most calls of a script.
-pub const MAX_CALLS: usize = 64;
+pub const MAX_SCRIPT_CALLS: usize = 64;
 
 /// A replay of scripts, one for each thread, that has made the events of the picks that it was fed.
 ///
@@ -88,7 +89,7 @@ fn is_call(shape: &Shape, call: Begin) -> bool
 fn is_script(shape: &Shape, script: &[Begin]) -> bool
     ensures { IsTrue result ↔ IsScript shape.now script.now }
 {
-    script.len() <= MAX_CALLS && script.iter().all(|call| is_call(shape, *call))
+    script.len() <= MAX_SCRIPT_CALLS && script.iter().all(|call| is_call(shape, *call))
 }
 
 /// Whether each of these is a script that a thread may have.
@@ -117,7 +118,8 @@ fn count_calls(scripts: &[Vec<Begin>]) -> usize
 
 /// Scripts of one's own, of the same calls.
 fn copy_scripts(alloc: Global, scripts: &[Vec<Begin>]) -> Result<Vec<Vec<Begin>>, AllocError>
-    ensures { IfOk result (λ copies. map (λ script. script.items) copies.items ≡ map (λ script. script.items) scripts.now) }
+    ensures { IfOk result (λ copies. map (λ script. script.items) copies.items
+        ≡ map (λ script. script.items) scripts.now) }
 {
     let mut copies = Vec::with_capacity(alloc, scripts.len())?;
     for script in scripts {
@@ -163,7 +165,8 @@ impl Replay {
     /// over 64, or one has over 64 calls, a tick, or a call out of range; then Memory where an allocation failed.
     pub fn open(alloc: Global, shape: Shape, scripts: &[Vec<Begin>]) -> Result<Replay, ReplayFault>
         ensures opened { IfOk result (λ r. StandsFor shape (map (λ script. script.items) scripts.now) [] r) }
-        ensures refused { (result ≡ Err ReplayFault.BadScript) ↔ (AreScripts shape (map (λ script. script.items) scripts.now) → ⊥) }
+        ensures refused { (result ≡ Err ReplayFault.BadScript)
+            ↔ (AreScripts shape (map (λ script. script.items) scripts.now) → ⊥) }
         ensures no_pick { (place : ℕ) → result ≡ Err (ReplayFault.BadPick place) → ⊥ }
     {
         if !are_scripts(&shape, scripts) {
@@ -197,7 +200,8 @@ impl Replay {
     /// The event that a pick of this thread makes; none where the pick is refused.
     fn event(&self, thread: u32, place: &Option<Running>) -> Option<Event>
         requires { length self.now.begun ≡ length self.now.scripts }
-        ensures { result ≡ event_at thread place.now (slice_get (script_of self.now.scripts thread) (get_or self.now.begun thread 0)) }
+        ensures { result ≡ event_at thread place.now
+            (slice_get (script_of self.now.scripts thread) (get_or self.now.begun thread 0)) }
     {
         let begin = match place {
             Some(_running) => None,
@@ -222,15 +226,18 @@ impl Replay {
 
     /// The event that a pick of this thread makes next; none where the pick is refused.
     pub(crate) fn next_event(&self, thread: u32) -> Option<Event>
-        ensures { result ≡ event_at thread (place_of self.now.follower.world thread) (slice_get (script_of self.now.scripts thread) (get_or self.now.begun thread 0)) }
+        ensures { result ≡ event_at thread (place_of self.now.follower.world thread)
+            (slice_get (script_of self.now.scripts thread) (get_or self.now.begun thread 0)) }
     {
         self.event(thread, &self.linearizer.place(thread))
     }
 
     /// Makes the event of this pick, or returns false where it is refused, and stays as it was.
     pub(crate) fn pick(&mut self, thread: u32) -> bool
-        ensures made { result ≡ true → OfItsPicks self.old (λ shape scripts earlier. StandsFor shape scripts (earlier ++ thread ∷ []) self.new) }
-        ensures refused { result ≡ false → OfItsPicks self.old (λ shape scripts earlier. IsRefused shape scripts earlier thread) }
+        ensures made { result ≡ true → OfItsPicks self.old
+            (λ shape scripts earlier. StandsFor shape scripts (earlier ++ thread ∷ []) self.new) }
+        ensures refused { result ≡ false → OfItsPicks self.old
+            (λ shape scripts earlier. IsRefused shape scripts earlier thread) }
         ensures unchanged { result ≡ false → self.new ≡ self.old }
         ensures steps { result ≡ true → self.new.follower.notes.step ≡ self.old.follower.notes.step + 1 }
         ensures few { self.new.follower.notes.step < 2 ^ 64 }
@@ -257,8 +264,10 @@ impl Replay {
     /// Refuses: BadPick with the place among these picks, from 0, of the first one that names no script or a thread
     /// whose script has ended: the picks before it are made, it and the later ones are not. It takes no memory.
     pub fn feed(&mut self, picks: &[u32]) -> Result<(), ReplayFault>
-        ensures made { OnOk result (OfItsPicks self.old (λ shape scripts earlier. StandsFor shape scripts (earlier ++ picks.now) self.new)) }
-        ensures refused { IfErr result (λ fault. OfItsPicks self.old (λ shape scripts earlier. Stops shape scripts earlier picks.now fault self.new)) }
+        ensures made { OnOk result (OfItsPicks self.old
+            (λ shape scripts earlier. StandsFor shape scripts (earlier ++ picks.now) self.new)) }
+        ensures refused { IfErr result (λ fault.
+            OfItsPicks self.old (λ shape scripts earlier. Stops shape scripts earlier picks.now fault self.new)) }
     {
         for (place, thread) in picks.iter().enumerate() {
             if !self.pick(*thread) {
@@ -270,8 +279,11 @@ impl Replay {
 
     /// Makes the events of this pick so many times, and refuses as `feed` does with such a list.
     pub fn feed_many(&mut self, pick: u32, count: u32) -> Result<(), ReplayFault>
-        ensures made { OnOk result (OfItsPicks self.old (λ shape scripts earlier. StandsFor shape scripts (earlier ++ replicate count pick) self.new)) }
-        ensures refused { IfErr result (λ fault. OfItsPicks self.old (λ shape scripts earlier. Stops shape scripts earlier (replicate count pick) fault self.new)) }
+        ensures made { OnOk result (OfItsPicks self.old
+            (λ shape scripts earlier. StandsFor shape scripts (earlier ++ replicate count pick) self.new)) }
+        ensures refused { IfErr result (λ fault.
+            OfItsPicks self.old (λ shape scripts earlier.
+            Stops shape scripts earlier (replicate count pick) fault self.new)) }
     {
         for place in 0..count {
             if !self.pick(pick) {
@@ -293,9 +305,11 @@ impl Replay {
     /// Refuses: BadScript where no script has the number of the stopped thread; then nothing changes. It takes no
     /// memory.
     pub fn finish(&mut self, stopped: u32) -> Result<(), ReplayFault>
-        ensures finished { OnOk result (OfItsPicks self.old (λ shape scripts earlier. Finished stopped shape scripts (length scripts) earlier self.new)) }
+        ensures finished { OnOk result (OfItsPicks self.old
+            (λ shape scripts earlier. Finished stopped shape scripts (length scripts) earlier self.new)) }
         ensures stopped { OnOk result (stopped < length self.old.scripts) }
-        ensures refused { IfErr result (λ fault. (fault ≡ ReplayFault.BadScript) × (length self.old.scripts ≤ stopped)) }
+        ensures refused { IfErr result (λ fault. (fault ≡ ReplayFault.BadScript)
+            × (length self.old.scripts ≤ stopped)) }
         ensures unchanged { OnErr result (self.new ≡ self.old) }
     {
         let threads = self.scripts.len() as u32;
@@ -313,7 +327,8 @@ impl Replay {
     /// The points of the calls in the linearization order, in turn: each is a step of the schedule, between
     /// the first and the last of its call. Memory where an allocation failed.
     pub fn points(&self, alloc: Global) -> Result<Vec<u64>, ReplayFault>
-        ensures points { IfOk result (λ points. OfItsPicks self.now (λ shape scripts picks. ArePoints shape scripts picks points.items)) }
+        ensures points { IfOk result (λ points.
+            OfItsPicks self.now (λ shape scripts picks. ArePoints shape scripts picks points.items)) }
         ensures memory { IfErr result (λ fault. fault ≡ ReplayFault.Memory) }
     {
         Ok(self.linearizer.points(alloc)?)
@@ -322,7 +337,8 @@ impl Replay {
     /// The calls so far, by their first events; a call's first and last step are the places of its
     /// events. Memory where an allocation failed.
     pub fn history(&self, alloc: Global) -> Result<History, ReplayFault>
-        ensures history { IfOk result (λ history. OfItsPicks self.now (λ shape scripts picks. IsHistoryOf shape scripts picks history)) }
+        ensures history { IfOk result (λ history.
+            OfItsPicks self.now (λ shape scripts picks. IsHistoryOf shape scripts picks history)) }
         ensures memory { IfErr result (λ fault. fault ≡ ReplayFault.Memory) }
     {
         match History::new(Vec::from_slice(alloc, self.book.calls())?) {
@@ -336,7 +352,8 @@ impl Replay {
     ///
     /// Memory where an allocation failed.
     pub fn report(&self, alloc: Global) -> Result<Report, ReplayFault>
-        ensures report { IfOk result (λ report. OfItsPicks self.now (λ shape scripts picks. IsReport shape scripts picks report)) }
+        ensures report { IfOk result (λ report.
+            OfItsPicks self.now (λ shape scripts picks. IsReport shape scripts picks report)) }
         ensures memory { IfErr result (λ fault. fault ≡ ReplayFault.Memory) }
     {
         let order = self.linearizer.order(alloc)?;

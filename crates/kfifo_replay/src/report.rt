@@ -57,8 +57,10 @@ pub fn replay(
     scripts: &[Vec<Begin>],
     picks: &[u32],
 ) -> Result<Report, ReplayFault>
-    ensures report { IfOk result (λ report. IsReport shape (map (λ script. script.items) scripts.now) picks.now report) }
-    ensures bad_script { (result ≡ Err ReplayFault.BadScript) ↔ (AreScripts shape (map (λ script. script.items) scripts.now) → ⊥) }
+    ensures report { IfOk result (λ report.
+        IsReport shape (map (λ script. script.items) scripts.now) picks.now report) }
+    ensures bad_script { (result ≡ Err ReplayFault.BadScript)
+        ↔ (AreScripts shape (map (λ script. script.items) scripts.now) → ⊥) }
     ensures bad_pick { (place : ℕ) → result ≡ Err (ReplayFault.BadPick place)
         → IsFirstRefused shape (map (λ script. script.items) scripts.now) picks.now place }
 {

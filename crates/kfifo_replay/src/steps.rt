@@ -53,7 +53,8 @@ fn first_place(begin: Begin) -> Option<Running>
 
 /// The place from which the thread of an event makes its step.
 fn place_before(state: &State, event: Event) -> Option<Running>
-    requires { (running : RunningData) × (going state.now.shape (place_of state.now.world event.thread) event.begin ≡ Some running) }
+    requires { (running : RunningData) × (going state.now.shape (place_of state.now.world event.thread) event.begin
+        ≡ Some running) }
     ensures place { result ≡ going state.now.shape (place_of state.now.world event.thread) event.begin }
     ensures sound { IfSome result (IsPlace state.now.shape) }
 {
@@ -65,8 +66,10 @@ fn place_before(state: &State, event: Event) -> Option<Running>
 
 /// Makes an event that is enabled and no tick, and says what it did.
 pub(crate) fn follow(state: &mut State, event: Event) -> Step
-    requires enabled { (there : World) × (outcome : OutcomeData) × (Machine.step state.old.shape state.old.world event ≡ Ok (there, outcome)) }
-    requires goes { (running : RunningData) × (going state.old.shape (place_of state.old.world event.thread) event.begin ≡ Some running) }
+    requires enabled { (there : World) × (outcome : OutcomeData)
+        × (Machine.step state.old.shape state.old.world event ≡ Ok (there, outcome)) }
+    requires goes { (running : RunningData)
+        × (going state.old.shape (place_of state.old.world event.thread) event.begin ≡ Some running) }
     ensures shape { state.new.shape ≡ state.old.shape }
     ensures step { IsStep state.old.shape state.old.world event state.new.world result }
 {

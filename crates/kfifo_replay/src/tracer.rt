@@ -1,5 +1,6 @@
 //! Replays that keep what each of their events did.
-ghost use Rattle.std.specs.Prelude.{◌≡◌, ℕ, ◌+◌, ◌^◌, ◌<◌, ◌≤◌, ◌↔◌, List, [], ◌∷◌, ◌++◌, length, map, take, true, false, vec_capacity, IfOk, IfErr, OnOk, OnErr, Some, Err};
+ghost use Rattle.std.specs.Prelude.{◌≡◌, ℕ, ◌+◌, ◌^◌, ◌<◌, ◌≤◌, ◌↔◌, List, [], ◌∷◌, ◌++◌, length, map, take, true};
+ghost use Rattle.std.specs.Prelude.{false, vec_capacity, IfOk, IfErr, OnOk, OnErr, Some, Err};
 ghost use Rattle.kfifo_machine.specs.declared.event.Event.{Event};
 ghost use Rattle.kfifo_replay.specs.Picks.{events_of};
 ghost use Rattle.kfifo_replay.specs.Scripts.{AreScripts};
@@ -25,7 +26,7 @@ pub const MAX_STEPS: usize = 65_536;
 /// push_trace(&mut text, shape.k(), tracer.steps())?;
 /// ```
 ///
-/// Here `push_trace` of `kfifo_texts` writes a line for each step.
+/// Here `push_trace` of `kfifo_cli_texts` writes a line for each step.
 ///
 /// Beside the replay it keeps a second machine that makes the same events, and so has the words that they
 /// find. `open` makes all the room, some 10 MB for the steps, so no pick takes memory.
@@ -42,7 +43,12 @@ impl Model for Tracer {
 
     ghost Value = { Tracing };
 
-    ghost view = { λ t. record { player = t.replay; machine = t.state; steps = t.steps.items; room = vec_capacity t.steps } };
+    ghost view = { λ t. record {
+      player = t.replay;
+      machine = t.state;
+      steps = t.steps.items;
+      room = vec_capacity t.steps;
+    } };
 
     ghost invariant = { λ t. IsTracing (record {
       player = t.replay;
@@ -68,7 +74,8 @@ impl Tracer {
     /// Returns the tracer of these scripts, with no pick. It refuses what `Replay::open` refuses.
     pub fn open(alloc: Global, shape: Shape, scripts: &[Vec<Begin>]) -> Result<Tracer, ReplayFault>
         ensures opened { IfOk result (λ t. Traces shape (map (λ script. script.items) scripts.now) [] t) }
-        ensures refused { (result ≡ Err ReplayFault.BadScript) ↔ (AreScripts shape (map (λ script. script.items) scripts.now) → ⊥) }
+        ensures refused { (result ≡ Err ReplayFault.BadScript)
+            ↔ (AreScripts shape (map (λ script. script.items) scripts.now) → ⊥) }
         ensures no_pick { (place : ℕ) → result ≡ Err (ReplayFault.BadPick place) → ⊥ }
     {
         let replay = Replay::open(alloc, shape, scripts)?;
@@ -85,8 +92,10 @@ impl Tracer {
 
     /// Makes the event of this pick, or returns false where it is refused, and stays as it was.
     fn pick(&mut self, thread: u32) -> bool
-        ensures made { result ≡ true → OfTracedPicks self.old (λ shape scripts earlier. Traces shape scripts (earlier ++ thread ∷ []) self.new) }
-        ensures refused { result ≡ false → OfTracedPicks self.old (λ shape scripts earlier. IsRefused shape scripts earlier thread) }
+        ensures made { result ≡ true → OfTracedPicks self.old
+            (λ shape scripts earlier. Traces shape scripts (earlier ++ thread ∷ []) self.new) }
+        ensures refused { result ≡ false → OfTracedPicks self.old
+            (λ shape scripts earlier. IsRefused shape scripts earlier thread) }
         ensures unchanged { result ≡ false → self.new ≡ self.old }
         ensures steps { result ≡ true → self.new.player.follower.notes.step ≡ self.old.player.follower.notes.step + 1 }
         ensures few { self.new.player.follower.notes.step < 2 ^ 64 }
@@ -104,8 +113,11 @@ impl Tracer {
 
     /// Makes the events of these picks, and refuses one, as `Replay::feed`.
     pub fn feed(&mut self, picks: &[u32]) -> Result<(), ReplayFault>
-        ensures made { OnOk result (OfTracedPicks self.old (λ shape scripts earlier. Traces shape scripts (earlier ++ picks.now) self.new)) }
-        ensures refused { IfErr result (λ fault. OfTracedPicks self.old (λ shape scripts earlier. Stops shape scripts earlier picks.now fault self.new.player)) }
+        ensures made { OnOk result (OfTracedPicks self.old
+            (λ shape scripts earlier. Traces shape scripts (earlier ++ picks.now) self.new)) }
+        ensures refused { IfErr result (λ fault.
+            OfTracedPicks self.old (λ shape scripts earlier.
+            Stops shape scripts earlier picks.now fault self.new.player)) }
     {
         for (place, thread) in picks.iter().enumerate() {
             if !self.pick(*thread) {
@@ -125,9 +137,11 @@ impl Tracer {
     /// By rising number, each thread but the stopped one makes all events that its script still has, as
     /// `Replay::finish`.
     pub fn finish(&mut self, stopped: u32) -> Result<(), ReplayFault>
-        ensures finished { OnOk result (OfTracedPicks self.old (λ shape scripts earlier. FinishTraced stopped shape scripts (length scripts) earlier self.new)) }
+        ensures finished { OnOk result (OfTracedPicks self.old
+            (λ shape scripts earlier. FinishTraced stopped shape scripts (length scripts) earlier self.new)) }
         ensures stopped { OnOk result (stopped < length self.old.player.scripts) }
-        ensures refused { IfErr result (λ fault. (fault ≡ ReplayFault.BadScript) × (length self.old.player.scripts ≤ stopped)) }
+        ensures refused { IfErr result (λ fault. (fault ≡ ReplayFault.BadScript)
+            × (length self.old.player.scripts ≤ stopped)) }
         ensures unchanged { OnErr result (self.new ≡ self.old) }
     {
         let threads = self.replay.threads();
@@ -151,7 +165,8 @@ impl Tracer {
 
     /// The number of events that were made.
     pub fn count(&self) -> u64
-        ensures { OfTracedPicks self.now (λ shape scripts picks. (events : List Event) → events_of shape scripts picks ≡ Some events → result ≡ length events) }
+        ensures { OfTracedPicks self.now (λ shape scripts picks. (events : List Event)
+            → events_of shape scripts picks ≡ Some events → result ≡ length events) }
     {
         self.replay.count()
     }

@@ -1,5 +1,6 @@
 -- What evidence says of orders, and the lower bound of k.
-use Rattle.std.proofs.Common.{ℕ, ◌≡◌, ◌+◌, ◌-◌, ◌<◌, ◌≤◌, ◌⊎◌, List, length, sym, subst, inl, inr, arith, Option, Some, None, Result, Ok, Err}
+use Rattle.std.proofs.Common.{ℕ, ◌≡◌, ◌+◌, ◌-◌, ◌<◌, ◌≤◌, ◌⊎◌, List, length, sym, subst, inl, inr, arith, Option, Some, None, Result, Ok}
+use Rattle.std.proofs.Common.{Err}
 use Rattle.std.specs.Result.{IfOk}
 use Rattle.std.specs.Option.{MatchOption, OnSome}
 use Rattle.std.proofs.lemmas.Bool.{cases_lt}
@@ -18,11 +19,13 @@ first_refutes k h (TakenTwice get) v f = taken_twice_refutes k h get f.1
 first_refutes k h (NotEmpty empty puts) v f = not_empty_refutes k h empty puts.items v f.2
 first_refutes k h (TooYoung get puts) v f = too_young_refutes k k h get puts.items v (omega arith) f.3
 
-option_refutes : (k : ℕ) (h : List Call) (o : Option Evidence) → IsHistory h → MatchOption o (HasNoEvidence k h) (IsFirstEvidence k h) → OnSome o (HasOrder k h → ⊥)
+option_refutes : (k : ℕ) (h : List Call) (o : Option Evidence) → IsHistory h → MatchOption o (HasNoEvidence k h) (IsFirstEvidence k h)
+    → OnSome o (HasOrder k h → ⊥)
 option_refutes k h None v m = tt
 option_refutes k h (Some found) v m = first_refutes k h found v m
 
-pub found_refutes : {E : Type 0} (k : ℕ) (h : List Call) (r : Result (Option Evidence) E) → IsHistory h → IfOk r (λ found. MatchOption found (HasNoEvidence k h) (IsFirstEvidence k h)) → IfOk r (λ found. OnSome found (HasOrder k h → ⊥))
+pub found_refutes : {E : Type 0} (k : ℕ) (h : List Call) (r : Result (Option Evidence) E) → IsHistory h
+    → IfOk r (λ found. MatchOption found (HasNoEvidence k h) (IsFirstEvidence k h)) → IfOk r (λ found. OnSome found (HasOrder k h → ⊥))
 found_refutes k h (Ok o) v m = option_refutes k h o v m
 found_refutes k h (Err e) v m = tt
 
@@ -44,27 +47,41 @@ most_skip h n most i none = record {
   few = i.few;
 }
 
-pub most_more : (h : List Call) (n most older next : ℕ) → IsMost h n most → GotTooYoung older h n × ((m : ℕ) → GotTooYoung m h n → m ≤ older) × (older < length h) → ((next ≡ older) × (most < older)) ⊎ ((next ≡ most) × (older ≤ most)) → IsMost h (n + 1) next
+pub most_more : (h : List Call) (n most older next : ℕ) → IsMost h n most → GotTooYoung older h n
+    × ((m : ℕ) → GotTooYoung m h n → m ≤ older) × (older < length h) → ((next ≡ older) × (most < older)) ⊎ ((next ≡ most) × (older ≤ most))
+    → IsMost h (n + 1) next
 most_more h n most older next i here choice =
-    let up : most ≤ next = elim choice [ inl a ↦ (let e = a.0 in let lt = a.1 in omega (arith, e, lt)) | inr b ↦ (let e = b.0 in omega (arith, e)) ] in
-    let covers : older ≤ next = elim choice [ inl a ↦ (let e = a.0 in omega (arith, e)) | inr b ↦ (let e = b.0 in let le = b.1 in omega (arith, e, le)) ] in
+    let up : most ≤ next = elim choice [
+      | inl a ↦ (let e = a.0 in let lt = a.1 in omega (arith, e, lt))
+      | inr b ↦ (let e = b.0 in omega (arith, e))
+    ] in
+    let covers : older ≤ next = elim choice [
+      | inl a ↦ (let e = a.0 in omega (arith, e))
+      | inr b ↦ (let e = b.0 in let le = b.1 in omega (arith, e, le))
+    ] in
     record {
       above = λ m c lt y. elim (cases_lt c n) [
         | inl below ↦ (let le = i.above m c below y in omega (arith, le, up))
-        | inr le ↦ (let same : c ≡ n = omega (arith, le, lt) in let P : ℕ → Type 0 = λ w. GotTooYoung m h w in let most_here = here.1 m (subst P same y) in omega (arith, most_here, covers))
+        | inr le ↦ (let same : c ≡ n = omega (arith, le, lt) in let P : ℕ
+            → Type 0 = λ w. GotTooYoung m h w in let most_here = here.1 m (subst P same y) in omega (arith, most_here, covers))
       ];
       attained = λ positive. elim choice [
         | inl a ↦ (let P : ℕ → Type 0 = λ w. GotTooYoung w h n in (n, subst P (sym a.0) here.0))
-        | inr b ↦ (let e = b.0 in let p : 0 < most = omega (arith, e, positive) in let Q : ℕ → Type 0 = λ w. (c : ℕ) × GotTooYoung w h c in subst Q (sym b.0) (i.attained p))
+        | inr b ↦ (let e = b.0 in let p : 0 < most = omega (arith, e, positive) in let Q : ℕ → Type 0 = λ w. (c : ℕ)
+            × GotTooYoung w h c in subst Q (sym b.0) (i.attained p))
       ];
-      few = elim choice [ inl a ↦ (let e = a.0 in let lt = here.2 in omega (arith, e, lt)) | inr b ↦ (let e = b.0 in let le = i.few in omega (arith, e, le)) ];
+      few = elim choice [
+        | inl a ↦ (let e = a.0 in let lt = here.2 in omega (arith, e, lt))
+        | inr b ↦ (let e = b.0 in let le = i.few in omega (arith, e, le))
+      ];
     }
 
 pub most_bound : (h : List Call) (n most : ℕ) → length h ≤ n → IsMost h n most → IsLowerBound h (most + 1)
 most_bound h n most all i = record {
   positive = omega arith;
   above = λ m c y. let lt = got_inside h y.1.item c y.1.gets in let le = i.above m c (omega (arith, lt, all)) y in omega (arith, le);
-  attained = λ more. let P : ℕ → Type 0 = λ w. (c : ℕ) × GotTooYoung w h c in let e : most ≡ most + 1 - 1 = omega arith in subst P e (i.attained (omega (arith, more)));
+  attained = λ more. let P : ℕ → Type 0 = λ w. (c : ℕ) × GotTooYoung w h c in let e : most ≡ most + 1 - 1 = omega arith in
+      subst P e (i.attained (omega (arith, more)));
 }
 
 -- no k below the bound has a legal order

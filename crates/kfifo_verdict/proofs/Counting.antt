@@ -1,10 +1,12 @@
 -- How many numbers of a list, or below a bound, pass a test.
-use Rattle.std.proofs.Common.{ℕ, zero, suc, ◌≡◌, ◌≢◌, ◌+◌, ◌<◌, ◌≤◌, Bool, true, cond, count_by, List, [], ◌∷◌, ◌++◌, length, refl, sym, ◌∙◌, ap, subst, inl, inr, arith, length-append}
+use Rattle.std.proofs.Common.{ℕ, zero, suc, ◌≡◌, ◌≢◌, ◌+◌, ◌<◌, ◌≤◌, Bool, true, cond, count_by, List, [], ◌∷◌, ◌++◌, length, refl, sym}
+use Rattle.std.proofs.Common.{◌∙◌, ap, subst, inl, inr, arith, length-append}
 use Rattle.std.proofs.lemmas.Bool.{cases_Bool}
 use Rattle.std.proofs.lemmas.List.Sums.{sum_by-cons}
 use Rattle.std.specs.List.{AllByRecursion}
 use Rattle.kfifo_model.specs.Lists.{IsIn, EachPair}
-use Rattle.kfifo_model.proofs.Lists.{in_append, in_less, in_more, parted, each_at, each_from, pairs_less, pairs_across, pairs_back, Differ, cases_in}
+use Rattle.kfifo_model.proofs.Lists.{in_append, in_less, in_more, parted, each_at, each_from, pairs_less, pairs_across, pairs_back, Differ}
+use Rattle.kfifo_model.proofs.Lists.{cases_in}
 use Rattle.kfifo_verdict.specs.Evidence.{count_below}
 
 pub count_cons : (t : ℕ → Bool) (x : ℕ) (l : List ℕ) → count_by t (x ∷ l) ≡ cond (t x) 1 0 + count_by t l
@@ -26,7 +28,8 @@ count_into t (suc n) l f =
       | inl passes ↦ (
           let p = parted n l (f n (omega arith) passes) in
           let on = count_into t n (p.front ++ p.back) (λ c lt e.
-          elim (in_more c n p.front p.back (let P : List ℕ → Type 0 = λ w. IsIn c w in subst P p.is (f c (omega arith) e))) [ inl same ↦ absurd (omega arith) | inr i ↦ i ]) in
+          elim (in_more c n p.front p.back (let P : List ℕ → Type 0 = λ w. IsIn c w in subst P p.is (f c (omega arith) e)))
+          [ inl same ↦ absurd (omega arith) | inr i ↦ i ]) in
           let all = ap (count_by t) p.is ∙ count_parted t p.front n p.back in
           let one : ◌≡◌ {A = ℕ} (cond (t n) 1 0) 1 = ap (λ b. cond b 1 0) passes in
           omega (arith, on, all, one)
@@ -47,13 +50,15 @@ below_parted n a b d c lt i =
     omega arith
 
 -- each number of the list, in which none stands twice, is below n where it passes
-pub count_within : (t : ℕ → Bool) (n : ℕ) (l : List ℕ) → EachPair Differ l → ((c : ℕ) → IsIn c l → t c ≡ true → c < n) → count_by t l ≤ count_below t n
+pub count_within : (t : ℕ → Bool) (n : ℕ) (l : List ℕ) → EachPair Differ l → ((c : ℕ) → IsIn c l → t c ≡ true → c < n)
+    → count_by t l ≤ count_below t n
 count_within t zero [] d f = omega arith
 count_within t zero (x ∷ l) d f =
     let on = count_within t zero l d.1 (λ c i e. f c (inr i) e) in
     elim (cases_Bool (t x)) [
       | inl passes ↦ (let lt : x < 0 = f x (inl refl) passes in absurd (omega arith))
-      | inr never ↦ (let none : ◌≡◌ {A = ℕ} (cond (t x) 1 0) 0 = ap (λ b. cond b 1 0) never in let p = count_cons t x l in omega (arith, on, none, p))
+      | inr never ↦ (let none : ◌≡◌ {A = ℕ} (cond (t x) 1 0) 0 = ap (λ b. cond b 1 0) never in let p = count_cons t x l in
+          omega (arith, on, none, p))
     ]
 count_within t (suc n) l d f =
     elim (cases_in n l) [
@@ -62,23 +67,27 @@ count_within t (suc n) l d f =
           let D : List ℕ → Type 0 = λ w. EachPair Differ w in
           let whole = subst D p.is d in
           let on = count_within t n (p.front ++ p.back) (pairs_less Differ n p.front p.back whole) (λ c j e.
-          below_parted n p.front p.back whole c (f c (let P : List ℕ → Type 0 = λ w. IsIn c w in subst P (sym p.is) (in_less c n p.front p.back j)) e) j) in
+          below_parted n p.front p.back whole c (f c
+          (let P : List ℕ → Type 0 = λ w. IsIn c w in subst P (sym p.is) (in_less c n p.front p.back j)) e) j) in
           let all = ap (count_by t) p.is ∙ count_parted t p.front n p.back in
           omega (arith, on, all)
           )
       | inr out ↦ (
-          let on = count_within t n l d (λ c j e. let lt = f c j e in let ne : c ≢ n = (λ q. out (let P : ℕ → Type 0 = λ w. IsIn w l in subst P q j)) in omega arith) in
+          let on = count_within t n l d (λ c j e. let lt = f c j e in let ne : c
+          ≢ n = (λ q. out (let P : ℕ → Type 0 = λ w. IsIn w l in subst P q j)) in omega arith) in
           omega (arith, on)
           )
     ]
 
 -- distinct numbers, each with an item of its own in another list, are no more than that list has
-pub as_many : (Has : ℕ → ℕ → Type 0) → ((x p q : ℕ) → Has p x → Has q x → p ≡ q) → (l items : List ℕ) → EachPair Differ l → AllByRecursion (λ p. (x : ℕ) × IsIn x items × Has p x) l → length l ≤ length items
+pub as_many : (Has : ℕ → ℕ → Type 0) → ((x p q : ℕ) → Has p x → Has q x → p ≡ q) → (l items : List ℕ) → EachPair Differ l
+    → AllByRecursion (λ p. (x : ℕ) × IsIn x items × Has p x) l → length l ≤ length items
 as_many Has once [] items d f = omega arith
 as_many Has once (p ∷ l) items d f =
     let x = f.0.0 in
     let parts = parted x items f.0.1 in
-    let on = as_many Has once l (parts.front ++ parts.back) d.1 (each_from (λ q. (y : ℕ) × IsIn y (parts.front ++ parts.back) × Has q y) l (λ q i.
+    let on = as_many Has once l (parts.front ++ parts.back) d.1
+    (each_from (λ q. (y : ℕ) × IsIn y (parts.front ++ parts.back) × Has q y) l (λ q i.
     let has = each_at (λ q. (y : ℕ) × IsIn y items × Has q y) q l f.1 i in (
       has.0,
       elim (in_more has.0 x parts.front parts.back (let P : List ℕ → Type 0 = λ w. IsIn has.0 w in subst P parts.is has.1)) [

@@ -1,5 +1,6 @@
 -- The first steps of a history's calls rise with their numbers.
-use Rattle.std.proofs.Common.{ℕ, zero, suc, ◌≡◌, ◌+◌, ◌<◌, ◌≤◌, true, false, leb, List, length, sym, ap, subst, inl, inr, arith, Option, Some, None}
+use Rattle.std.proofs.Common.{ℕ, zero, suc, ◌≡◌, ◌+◌, ◌<◌, ◌≤◌, true, false, leb, List, length, sym, ap, subst, inl, inr, arith, Option}
+use Rattle.std.proofs.Common.{Some, None}
 use Rattle.std.specs.List.Sorted.{IsNonDecreasingBy, IsPartitionPoint}
 use Rattle.std.proofs.lemmas.Bool.{cases_lt, leb-true, leb-false}
 use Rattle.std.proofs.lemmas.List.{get_or_default}
@@ -54,7 +55,8 @@ by_first h v i j d le inside =
     let r = not_falling h i j v le inside in
     omega (arith, a, b, r)
 
-pub start_found : (h : List Call) (end : End) (i : ℕ) → i ≤ length h → IsPartitionPoint (λ c. leb c.first end.last ≡ true) (λ c. leb c.first end.last ≡ false) h i → IsStart h (Some end) i
+pub start_found : (h : List Call) (end : End) (i : ℕ) → i ≤ length h
+    → IsPartitionPoint (λ c. leb c.first end.last ≡ true) (λ c. leb c.first end.last ≡ false) h i → IsStart h (Some end) i
 start_found h end i le p = record {
   bound = le;
   starts = λ d inside. (

@@ -1,5 +1,6 @@
 -- Triples of numbers in order, and calls by their turns.
-use Rattle.std.proofs.Common.{◌≡◌, ◌≢◌, ℕ, zero, suc, ◌+◌, ◌-◌, ◌<◌, ◌≤◌, ◌⊎◌, inl, inr, false, eqb, refl, sym, ◌∙◌, ap, subst, arith, List, length, get_or, map, Ordering, Less, Equal, Greater}
+use Rattle.std.proofs.Common.{◌≡◌, ◌≢◌, ℕ, zero, suc, ◌+◌, ◌-◌, ◌<◌, ◌≤◌, ◌⊎◌, inl, inr, false, eqb, refl, sym, ◌∙◌, ap, subst, arith, List}
+use Rattle.std.proofs.Common.{length, get_or, map, Ordering, Less, Equal, Greater}
 use Rattle.std.proofs.lemmas.Bool.{cases_eq, cases_lt, eq-eqb, ne_eqb, false≢true}
 use Rattle.std.proofs.lemmas.List.{get_or-map, get_or_default, length-map}
 use Rattle.std.proofs.lemmas.List.Sorted.{All-permutation, Contains-permutation, IsPermutation-map}
@@ -48,7 +49,8 @@ then_then Greater b c = refl
 
 not_lower : (a b : ℕ × ℕ × ℕ) → lower b a ≡ false → Lex a b
 not_lower a b e =
-    elim (first_tells a.0 b.0 (ordering_then (nat_cmp b.1 a.1) (nat_cmp b.2 a.2)) (sym (ap is_lt (then_then (nat_cmp b.0 a.0) (nat_cmp b.1 a.1) (nat_cmp b.2 a.2))) ∙ e)) [
+    elim (first_tells a.0 b.0 (ordering_then (nat_cmp b.1 a.1) (nat_cmp b.2 a.2))
+    (sym (ap is_lt (then_then (nat_cmp b.0 a.0) (nat_cmp b.1 a.1) (nat_cmp b.2 a.2))) ∙ e)) [
       | inl lt ↦ inl lt
       | inr p ↦ inr (
         p.0,
@@ -68,17 +70,20 @@ lex_trans a b c (inl p) (inr q) = let e = q.0 in inl (omega (arith, p, e))
 lex_trans a b c (inr p) (inl q) = let e = p.0 in inl (omega (arith, e, q))
 lex_trans a b c (inr p) (inr q) = inr (p.0 ∙ q.0, second p.1 q.1)
   where
-    second : (a.1 < b.1) ⊎ ((a.1 ≡ b.1) × (a.2 ≤ b.2)) → (b.1 < c.1) ⊎ ((b.1 ≡ c.1) × (b.2 ≤ c.2)) → (a.1 < c.1) ⊎ ((a.1 ≡ c.1) × (a.2 ≤ c.2))
+    second : (a.1 < b.1) ⊎ ((a.1 ≡ b.1) × (a.2 ≤ b.2)) → (b.1 < c.1) ⊎ ((b.1 ≡ c.1) × (b.2 ≤ c.2)) → (a.1 < c.1)
+        ⊎ ((a.1 ≡ c.1) × (a.2 ≤ c.2))
     second (inl x) (inl y) = inl (omega (arith, x, y))
     second (inl x) (inr y) = let e = y.0 in inl (omega (arith, x, e))
     second (inr x) (inl y) = let e = x.0 in inl (omega (arith, e, y))
     second (inr x) (inr y) = let le = x.1 in let up = y.1 in inr (x.0 ∙ y.0, omega (arith, le, up))
 
 rises_by : (line : List (ℕ × ℕ × ℕ)) → IsSortedBy lower line → (i m : ℕ) → i + m < length line → Lex (place line i) (place line (i + m))
-rises_by line up i zero less = let z : i + 0 ≡ i = omega arith in let P : ℕ → Type 0 = λ w. Lex (place line i) (place line w) in subst P (sym z) (lex_self (place line i))
+rises_by line up i zero less = let z : i + 0 ≡ i = omega arith in let P : ℕ → Type 0 = λ w. Lex (place line i) (place line w) in
+    subst P (sym z) (lex_self (place line i))
 rises_by line up i (suc m) less =
     let before : Lex (place line i) (place line (i + m)) = rises_by line up i m (omega arith) in
-    let next : Lex (place line (i + m)) (place line ((i + m) + 1)) = not_lower (place line (i + m)) (place line ((i + m) + 1)) (up (i + m) (0, 0, 0) (omega arith) (omega arith)) in
+    let next : Lex (place line (i + m)) (place line ((i + m) + 1)) =
+    not_lower (place line (i + m)) (place line ((i + m) + 1)) (up (i + m) (0, 0, 0) (omega arith) (omega arith)) in
     let z : (i + m) + 1 ≡ i + suc m = omega arith in
     let P : ℕ → Type 0 = λ w. Lex (place line i) (place line w) in
     subst P z (lex_trans (place line i) (place line (i + m)) (place line ((i + m) + 1)) before next)
@@ -108,7 +113,8 @@ IsOwn ts e = (e.2 < length ts) × (e ≡ ((turn ts e.2).moment, (turn ts e.2).ra
 contains_in : (l : List ℕ) (x : ℕ) → Contains l x → IsIn x l
 contains_in l x c = subst (λ y. IsIn y l) c.2 (subst (λ y. IsIn y l) (get_or_default l c.0 0 x c.1) (in_from_place l c.0 c.1))
 
-module _ (ts : List Turn) (first sorted : List (ℕ × ℕ × ℕ)) (n : AreNumbered ts (length ts) first) (moved : IsPermutation first sorted) (up : IsSortedBy lower sorted) where
+module _ (ts : List Turn) (first sorted : List (ℕ × ℕ × ℕ)) (n : AreNumbered ts (length ts) first) (moved : IsPermutation first sorted)
+    (up : IsSortedBy lower sorted) where
   number_first : (i : ℕ) → i < length ts → (place first i).2 ≡ i
   number_first i lt = ap (λ (t : ℕ × ℕ × ℕ). t.2) (n.at i lt)
 
@@ -133,7 +139,8 @@ module _ (ts : List Turn) (first sorted : List (ℕ × ℕ × ℕ)) (n : AreNumb
   long l = length-map l (λ (t : ℕ × ℕ × ℕ). t.2)
 
   differ : IsDistinct eqb (numbers sorted)
-  differ = IsDistinct-IsPermutation eqb eqb-flips (numbers first) (numbers sorted) moved_numbers (IsDistinct-from_apart eqb (numbers first) (λ i j d lt less.
+  differ = IsDistinct-IsPermutation eqb eqb-flips (numbers first) (numbers sorted) moved_numbers
+      (IsDistinct-from_apart eqb (numbers first) (λ i j d lt less.
       let size = n.sized in
       let all = long first in
       let in_j : j < length first = omega (arith, less, all) in
@@ -143,7 +150,8 @@ module _ (ts : List Turn) (first sorted : List (ℕ × ℕ × ℕ)) (n : AreNumb
       ne_eqb (get_or (numbers first) i d) (get_or (numbers first) j d) (λ e. absurd (omega (arith, a, b, e, lt)))))
 
   apart : (i j : ℕ) → i < j → j < length (numbers sorted) → get_or (numbers sorted) i 0 ≡ get_or (numbers sorted) j 0 → ⊥
-  apart i j lt less e = false≢true (sym (apart_from_distinct eqb (numbers sorted) i j 0 differ lt less) ∙ eq-eqb (get_or (numbers sorted) i 0) (get_or (numbers sorted) j 0) e)
+  apart i j lt less e = false≢true (sym (apart_from_distinct eqb (numbers sorted) i j 0 differ lt less)
+      ∙ eq-eqb (get_or (numbers sorted) i 0) (get_or (numbers sorted) j 0) e)
 
   earlier : (i j : ℕ) → i < j → j < length (numbers sorted) → IsBefore ts (get_or (numbers sorted) i 0) (get_or (numbers sorted) j 0)
   earlier i j lt less =
@@ -189,5 +197,6 @@ module _ (ts : List Turn) (first sorted : List (ℕ × ℕ × ℕ)) (n : AreNumb
         let size = n.sized in
         let all = long first in
         let in_c : c < length first = omega (arith, lt, size) in
-        contains_in (numbers sorted) c (Contains-permutation (numbers first) (numbers sorted) c moved_numbers (c, omega (arith, in_c, all), number_at first c c in_c ∙ number_first c lt));
+        contains_in (numbers sorted) c (Contains-permutation (numbers first) (numbers sorted) c moved_numbers
+        (c, omega (arith, in_c, all), number_at first c c in_c ∙ number_first c lt));
   }

@@ -1,5 +1,6 @@
 -- Each kind of evidence refutes every order.
-use Rattle.std.proofs.Common.{ℕ, ◌≡◌, ◌≢◌, ◌<◌, ◌≤◌, ◌⊎◌, Bool, true, count_by, List, [], ◌∷◌, ◌++◌, length, map, refl, sym, ◌∙◌, ap, subst, inl, inr, arith, Option, Some, None, slice_get}
+use Rattle.std.proofs.Common.{ℕ, ◌≡◌, ◌≢◌, ◌<◌, ◌≤◌, ◌⊎◌, Bool, true, count_by, List, [], ◌∷◌, ◌++◌, length, map, refl, sym, ◌∙◌, ap, subst}
+use Rattle.std.proofs.Common.{inl, inr, arith, Option, Some, None, slice_get}
 use Rattle.std.proofs.lemmas.Bool.{cases_lt, eqb-true}
 use Rattle.std.proofs.lemmas.List.{map-append}
 use Rattle.kfifo_model.specs.declared.calls.Call.{Call}
@@ -7,17 +8,19 @@ use Rattle.kfifo_model.specs.declared.calls.End.{End}
 use Rattle.kfifo_model.specs.declared.calls.Op.{Op}
 use Rattle.kfifo_model.specs.declared.calls.Op.TheVariants.{Enqueue, Dequeue}
 use Rattle.kfifo_model.specs.Lists.{IsIn, EachPair}
-use Rattle.kfifo_model.specs.Relaxed.{Effect, Adds, Takes, Finds_none, Refused, Wrong, Leaves, IsRun}
+use Rattle.kfifo_model.specs.Relaxed.{Effect, Adds, Takes, FindsNone, Refused, Wrong, Leaves, IsRun}
 use Rattle.kfifo_model.specs.Histories.{HasNoRepeats, call, does, effect_at, HasEnd, CanStand, IsFinished, EndsBelow, Precedes, IsLegal}
 use Rattle.kfifo_model.specs.Overtaking.{adds, takes}
 use Rattle.kfifo_model.specs.Validity.{IsHistory, EndsFrom}
 use Rattle.kfifo_model.specs.Searching.{HasOrder}
-use Rattle.kfifo_model.proofs.Lists.{in_append, in_left, in_right, parted, each_at, each_from, pairs_back, pairs_front, pairs_across, pairs_weaker, Differ}
+use Rattle.kfifo_model.proofs.Lists.{in_append, in_left, in_right, parted, each_at, each_from, pairs_back, pairs_front, pairs_across}
+use Rattle.kfifo_model.proofs.Lists.{pairs_weaker, Differ}
 use Rattle.kfifo_model.proofs.Forgetting.{Has}
 use Rattle.kfifo_model.proofs.Checking.{in_bounds}
 use Rattle.kfifo_verdict.specs.Evidence.{Puts, Gets, IsSingle, IsNeverPut, IsTakenTwice, IsNotEmpty, IsOlder, IsTooYoung, Rise}
 use Rattle.kfifo_verdict.proofs.Counting.{count_cons, count_into, count_within, as_many}
-use Rattle.kfifo_verdict.proofs.Runs.{RunsTo, run_split, runs_split, has_map, into_map, in_get, put_along, came_along, IsBehind, behind_along, place_behind, times, taken_as_often}
+use Rattle.kfifo_verdict.proofs.Runs.{RunsTo, run_split, runs_split, has_map, into_map, in_get, put_along, came_along, IsBehind}
+use Rattle.kfifo_verdict.proofs.Runs.{behind_along, place_behind, times, taken_as_often}
 
 -- ---- what an effect says of its call
 
@@ -26,7 +29,7 @@ takes_end op (Some end) x e = tt
 takes_end (Enqueue y) None x e = absurd (cc)
 takes_end Dequeue None x e = absurd (cc)
 
-finds_end : (op : Op) (o : Option End) → effect_at op o ≡ Finds_none → HasEnd o
+finds_end : (op : Op) (o : Option End) → effect_at op o ≡ FindsNone → HasEnd o
 finds_end op (Some end) e = tt
 finds_end (Enqueue y) None e = absurd (cc)
 finds_end Dequeue None e = absurd (cc)
@@ -47,7 +50,7 @@ below_end None s b = absurd b
 pub got_ended : (h : List Call) (x g : ℕ) → Gets h x g → IsFinished h g
 got_ended h x g e = takes_end (call h g).op (call h g).end x e
 
-pub found_ended : (h : List Call) (g : ℕ) → does h g ≡ Finds_none → IsFinished h g
+pub found_ended : (h : List Call) (g : ℕ) → does h g ≡ FindsNone → IsFinished h g
 found_ended h g e = finds_end (call h g).op (call h g).end e
 
 pub put_inside : (h : List Call) (x p : ℕ) → Puts h x p → p < length h
@@ -76,7 +79,8 @@ around k h order c l i =
     let D : List ℕ → Type 0 = λ w. EachPair Differ w in
     let B : List ℕ → Type 0 = λ w. EachPair (λ d e. Precedes h e d → ⊥) w in
     let R : List Effect → Type 0 = λ w. IsRun k [] w in
-    let r = run_split k [] (map (does h) p.front) (does h c ∷ map (does h) p.back) (subst R (ap (map (does h)) p.is ∙ map-append (does h) p.front (c ∷ p.back)) l.is_run) in
+    let r = run_split k [] (map (does h) p.front) (does h c ∷ map (does h) p.back)
+    (subst R (ap (map (does h)) p.is ∙ map-append (does h) p.front (c ∷ p.back)) l.is_run) in
     record {
       front = p.front;
       back = p.back;
@@ -90,7 +94,8 @@ around k h order c l i =
     }
 
 -- a call that precedes one of the front or this one stands in the front
-pub in_front : (k : ℕ) (h : List Call) (order : List ℕ) (c d e : ℕ) (l : IsLegal k h order) (a : IsAround k h order c) → Precedes h d e → (e ≡ c) ⊎ IsIn e a.front → d ≢ c → IsIn d a.front
+pub in_front : (k : ℕ) (h : List Call) (order : List ℕ) (c d e : ℕ) (l : IsLegal k h order) (a : IsAround k h order c) → Precedes h d e
+    → (e ≡ c) ⊎ IsIn e a.front → d ≢ c → IsIn d a.front
 in_front k h order c d e l a pre where_e ne =
     let P : List ℕ → Type 0 = λ w. IsIn d w in
     let stands = l.is_order.complete d (below_end (call h d).end (call h e).first pre) in
@@ -99,7 +104,9 @@ in_front k h order c d e l a pre where_e ne =
       | inr i ↦ elim i [
         | inl q ↦ absurd (ne q)
         | inr j ↦ elim where_e [
-          | inl q ↦ absurd (each_at (λ w. Precedes h w c → ⊥) d a.back (pairs_back (λ u v. Precedes h v u → ⊥) a.front (c ∷ a.back) a.before).0 j (let Q : ℕ → Type 0 = λ w. Precedes h d w in subst Q q pre))
+          | inl q ↦ absurd (each_at (λ w. Precedes h w c → ⊥) d a.back
+              (pairs_back (λ u v. Precedes h v u → ⊥) a.front (c ∷ a.back) a.before).0 j
+              (let Q : ℕ → Type 0 = λ w. Precedes h d w in subst Q q pre))
           | inr i ↦ absurd (pairs_across (λ u v. Precedes h v u → ⊥) a.front (c ∷ a.back) a.before e d i (inr j) pre)
         ]
       ]
@@ -134,14 +141,14 @@ times_map h t (c ∷ l) = let on = times_map h t l in let p = count_cons (λ c. 
 pub takes_is : (x : ℕ) (e : Effect) → takes x e ≡ true → e ≡ Takes x
 takes_is x (Takes y) t = ap (λ w. Takes w) (sym (eqb-true x y t))
 takes_is x (Adds y) t = absurd (cc)
-takes_is x Finds_none t = absurd (cc)
+takes_is x FindsNone t = absurd (cc)
 takes_is x Refused t = absurd (cc)
 takes_is x Wrong t = absurd (cc)
 
 pub adds_is : (x : ℕ) (e : Effect) → adds x e ≡ true → e ≡ Adds x
 adds_is x (Adds y) t = ap (λ w. Adds w) (sym (eqb-true x y t))
 adds_is x (Takes y) t = absurd (cc)
-adds_is x Finds_none t = absurd (cc)
+adds_is x FindsNone t = absurd (cc)
 adds_is x Refused t = absurd (cc)
 adds_is x Wrong t = absurd (cc)
 
@@ -149,8 +156,10 @@ pub taken_twice_refutes : (k : ℕ) (h : List Call) (g : ℕ) → IsTakenTwice h
 taken_twice_refutes k h g n o =
     let x = n.0 in
     let order = o.0 in
-    let gets = count_into (λ c. takes x (does h c)) (length h) order (λ c lt t. o.1.is_order.complete c (got_ended h x c (takes_is x (does h c) t))) in
-    let puts = count_within (λ c. adds x (does h c)) (length h) order o.1.is_order.distinct (λ c i t. put_inside h x c (adds_is x (does h c) t)) in
+    let gets = count_into (λ c. takes x (does h c)) (length h) order
+    (λ c lt t. o.1.is_order.complete c (got_ended h x c (takes_is x (does h c) t))) in
+    let puts = count_within (λ c. adds x (does h c)) (length h) order o.1.is_order.distinct
+    (λ c i t. put_inside h x c (adds_is x (does h c) t)) in
     let runs = taken_as_often k x [] (map (does h) order) o.1.is_run in
     let a = times_map h (takes x) order in
     let b = times_map h (adds x) order in
@@ -165,8 +174,18 @@ greatest f x [] = (x, inl refl, omega arith, λ y i. absurd i)
 greatest f x (z ∷ l) =
     let on = greatest f x l in
     elim (cases_lt (f on.0) (f z)) [
-      | inl lt ↦ (z, inr (inl refl), (let a = on.2 in omega (arith, a)), λ y i. elim i [ inl e ↦ (let q = ap f e in omega (arith, q)) | inr j ↦ (let b = on.3 y j in omega (arith, b)) ])
-      | inr le ↦ (on.0, elim on.1 [ inl e ↦ inl e | inr i ↦ inr (inr i) ], on.2, λ y i. elim i [ inl e ↦ (let q = ap f e in omega (arith, q)) | inr j ↦ on.3 y j ])
+      | inl lt ↦ (
+        z,
+        inr (inl refl),
+        (let a = on.2 in omega (arith, a)),
+        λ y i. elim i [ inl e ↦ (let q = ap f e in omega (arith, q)) | inr j ↦ (let b = on.3 y j in omega (arith, b)) ],
+      )
+      | inr le ↦ (
+        on.0,
+        elim on.1 [ inl e ↦ inl e | inr i ↦ inr (inr i) ],
+        on.2,
+        λ y i. elim i [ inl e ↦ (let q = ap f e in omega (arith, q)) | inr j ↦ on.3 y j ],
+      )
     ]
 
 pub not_ended : (o : Option End) (s : ℕ) → (EndsBelow o s → ⊥) → EndsFrom s o
@@ -190,7 +209,8 @@ not_empty_refutes k h e puts v n o =
     let L : Effect → Type 0 = λ w. Leaves k a.mid w a.after in
     let none = subst L n.empty a.legal in
     let x = put_along k t.item [] a.mid (map (does h) a.front) a.runs (into_map h (Adds t.item) a.front p i t.single.puts)
-    (λ j. let d = has_map h (Takes t.item) a.front j in let lt = t.kept d.0 d.2 in let le = g.3 d.0 d.1 in absurd (omega (arith, lt, le))) in
+    (λ j. let d = has_map h (Takes t.item) a.front j in let lt = t.kept d.0 d.2 in let le = g.3 d.0 d.1 in
+    absurd (omega (arith, lt, le))) in
     let Q : List ℕ → Type 0 = λ w. IsIn t.item w in
     subst Q none.0 x
 
@@ -202,7 +222,8 @@ not_itself None s f b = b
 
 -- what stands behind the put of y, up to the call that gets it
 behind_put : (k y q : ℕ) (h : List Call) (order : List ℕ) (g : ℕ) (a : IsAround k h order g) → IsSingle h y q → Gets h y g → IsIn q a.front
-    → (front : List ℕ) × (back : List ℕ) × (a.front ≡ front ++ q ∷ back) × (items : List ℕ) × RunsTo k [] (map (does h) front) items × (IsIn y items → ⊥) × IsBehind y items a.mid (λ x. Has (Takes x) (map (does h) a.front))
+    → (front : List ℕ) × (back : List ℕ) × (a.front ≡ front ++ q ∷ back) × (items : List ℕ) × RunsTo k [] (map (does h) front) items
+    × (IsIn y items → ⊥) × IsBehind y items a.mid (λ x. Has (Takes x) (map (does h) a.front))
 behind_put k y q h order g a single gets i =
     let p = parted q a.front i in
     let R : List Effect → Type 0 = λ w. RunsTo k [] w a.mid in
@@ -227,7 +248,8 @@ behind_put k y q h order g a single gets i =
       r.1,
       λ j. elim (came_along k y [] r.0 (map (does h) p.front) r.1 j) [
         | inl never ↦ never
-        | inr m ↦ (let d = has_map h (Adds y) p.front m in pairs_across Differ p.front (q ∷ p.back) differs d.0 q d.1 (inl refl) (single.alone d.0 d.2))
+        | inr m ↦ (let d = has_map h (Adds y) p.front m in
+            pairs_across Differ p.front (q ∷ p.back) differs d.0 q d.1 (inl refl) (single.alone d.0 d.2))
       ],
       record {
         before = b.before;
@@ -240,11 +262,13 @@ behind_put k y q h order g a single gets i =
     )
 
 -- an older item stands before y
-older_before : (k y q : ℕ) (h : List Call) (order : List ℕ) (g p : ℕ) (v : IsHistory h) (l : IsLegal k h order) (a : IsAround k h order g) (single : IsSingle h y q) (gets : Gets h y g) (i : IsIn q a.front) (older : IsOlder h g q p)
+older_before : (k y q : ℕ) (h : List Call) (order : List ℕ) (g p : ℕ) (v : IsHistory h) (l : IsLegal k h order) (a : IsAround k h order g)
+    (single : IsSingle h y q) (gets : Gets h y g) (i : IsIn q a.front) (older : IsOlder h g q p)
     → IsIn older.item (behind_put k y q h order g a single gets i).6.before
 older_before k y q h order g p v l a single gets i older =
     let b = behind_put k y q h order g a single gets i in
-    let not_q : p ≢ q = λ e. not_itself (call h q).end (call h q).first (v q (put_inside h y q single.puts)).ends (let P : ℕ → Type 0 = λ w. Precedes h w q in subst P e older.before) in
+    let not_q : p ≢ q = λ e. not_itself (call h q).end (call h q).first (v q (put_inside h y q single.puts)).ends
+    (let P : ℕ → Type 0 = λ w. Precedes h w q in subst P e older.before) in
     let not_g : p ≢ g = λ e. let u = sym older.single.puts ∙ ap (does h) e in let w = u ∙ gets in absurd (cc) in
     let here = in_front k h order g p q l a older.before (inr i) not_g in
     let F : List ℕ → Type 0 = λ w. IsIn p w in
@@ -254,7 +278,8 @@ older_before k y q h order g p v l a single gets i older =
       | inl j ↦ j
       | inr j ↦ elim j [
         | inl e ↦ absurd (not_q e)
-        | inr m ↦ absurd (each_at (λ w. Precedes h w q → ⊥) p b.1 (pairs_back (λ d e. Precedes h e d → ⊥) b.0 (q ∷ b.1) keeps).0 m older.before)
+        | inr m ↦ absurd (each_at (λ w. Precedes h w q → ⊥) p b.1 (pairs_back (λ d e. Precedes h e d → ⊥) b.0 (q ∷ b.1) keeps).0 m
+            older.before)
       ]
     ] in
     let untaken : Has (Takes older.item) (map (does h) a.front) → ⊥ = λ j.
@@ -263,7 +288,8 @@ older_before k y q h order g p v l a single gets i older =
     let d = has_map h (Takes older.item) b.0 j in
     let G : List ℕ → Type 0 = λ w. IsIn d.0 w in
     untaken (into_map h (Takes older.item) a.front d.0 (subst G (sym b.2) (in_left d.0 b.0 (q ∷ b.1) d.1)) d.2) in
-    b.6.kept older.item (put_along k older.item [] b.3 (map (does h) b.0) b.4 (into_map h (Adds older.item) b.0 p first older.single.puts) untaken_first) untaken
+    b.6.kept older.item (put_along k older.item [] b.3 (map (does h) b.0) b.4 (into_map h (Adds older.item) b.0 p first older.single.puts)
+    untaken_first) untaken
 
 -- rising numbers have no repeats
 pub rising_distinct : (l : List ℕ) → Rise l → HasNoRepeats l
@@ -285,7 +311,9 @@ too_young_refutes k n h g puts v le t o =
     let far = place_behind y b.6.before b.6.behind s.0 (λ j. b.5 (b.6.was y j)) (subst G b.6.is s.2) in
     let R : ℕ → ℕ → Type 0 = λ p x. IsSingle h x p in
     let many = as_many R (λ x p r sp sr. sym (sp.alone r sr.puts)) puts b.6.before (rising_distinct puts t.rising)
-    (each_from (λ p. (x : ℕ) × IsIn x b.6.before × R p x) puts (λ p j. let older = each_at (IsOlder h g q) p puts t.older j in (older.item, older_before k y q h o.0 g p v o.1 a t.single t.gets i older, older.single))) in
+    (each_from (λ p. (x : ℕ) × IsIn x b.6.before × R p x) puts
+    (λ p j. let older = each_at (IsOlder h g q) p puts t.older j in
+    (older.item, older_before k y q h o.0 g p v o.1 a t.single t.gets i older, older.single))) in
     let size = t.count in
     let near = s.1 in
     absurd (omega (arith, far, many, size, near, le))

@@ -41,6 +41,8 @@ gone_fails ps n put after p later gone =
     and_right (leb s.start put) (leb after s.gone) (lt-leb after s.gone (omega (arith, later, gone)))
 
 -- nothing is counted on the way to the next call
-pub count_skip_to : (ps : List Presence) (n put after p j : ℕ) (skips : List ℕ) → AreSkips ps n skips → n < after → p < length ps + 1 → p ≤ j → j ≤ get_or skips p 0 → count_below (lasts_at ps put after) j ≡ count_below (lasts_at ps put after) p
+pub count_skip_to : (ps : List Presence) (n put after p j : ℕ) (skips : List ℕ) → AreSkips ps n skips → n < after → p < length ps + 1
+    → p ≤ j → j ≤ get_or skips p 0 → count_below (lasts_at ps put after) j ≡ count_below (lasts_at ps put after) p
 count_skip_to ps n put after p j skips s later inside le most =
-    count_flat (lasts_at ps put after) p j le (λ t from to. gone_fails ps n put after t later (s.gone p t inside from (omega (arith, to, most))))
+    count_flat (lasts_at ps put after) p j le
+    (λ t from to. gone_fails ps n put after t later (s.gone p t inside from (omega (arith, to, most))))

@@ -1,8 +1,9 @@
 -- What tallies tell of items.
-use Rattle.std.proofs.Common.{ℕ, ◌≡◌, ◌≢◌, ◌+◌, ◌<◌, ◌≤◌, Bool, true, false, cond, eqb, List, length, add-one, refl, sym, ◌∙◌, ap, subst, inl, inr, arith}
+use Rattle.std.proofs.Common.{ℕ, ◌≡◌, ◌≢◌, ◌+◌, ◌<◌, ◌≤◌, Bool, true, false, cond, eqb, List, length, add-one, refl, sym, ◌∙◌, ap, subst}
+use Rattle.std.proofs.Common.{inl, inr, arith}
 use Rattle.std.proofs.lemmas.Bool.{cases_lt, cases_eq, eq-eqb, ne_eqb, false≢true, false_from_ne_true}
 use Rattle.kfifo_model.specs.declared.calls.Call.{Call}
-use Rattle.kfifo_model.specs.Relaxed.{Effect, Adds, Takes, Finds_none}
+use Rattle.kfifo_model.specs.Relaxed.{Effect, Adds, Takes, FindsNone}
 use Rattle.kfifo_model.specs.Overtaking.{adds, takes}
 use Rattle.kfifo_model.specs.Histories.{does}
 use Rattle.kfifo_verdict.specs.declared.deeds.Deed.{Deed}
@@ -27,14 +28,19 @@ got_inside h x g e = ended_inside h g (got_ended h x g e)
 
 below_last : (test : ℕ → Bool) (n c : ℕ) → test n ≡ false → c < n + 1 → test c ≡ true → c < n
 below_last test n c fails lt t =
-    elim (cases_lt c n) [ inl below ↦ below | inr le ↦ (let same : c ≡ n = omega arith in absurd (false≢true (sym fails ∙ (ap test (sym same) ∙ t)))) ]
+    elim (cases_lt c n) [
+      | inl below ↦ below
+      | inr le ↦
+          (let same : c ≡ n = omega arith in absurd (false≢true (sym fails ∙ (ap test (sym same) ∙ t))))
+    ]
 
 count_skip : (test : ℕ → Bool) (n : ℕ) → test n ≡ false → count_below test (n + 1) ≡ count_below test n
 count_skip test n fails =
     let none : ◌≡◌ {A = ℕ} (cond (test n) 1 0) 0 = ap (λ b. cond b 1 0) fails in
     ap (count_below test) (add-one n) ∙ omega (arith, none)
 
-pub tally_skip : (test : ℕ → Bool) (first : ℕ → ℕ) (n : ℕ) (t : Tally) → IsTally test first n t → test n ≡ false → IsTally test first (n + 1) t
+pub tally_skip : (test : ℕ → Bool) (first : ℕ → ℕ) (n : ℕ) (t : Tally) → IsTally test first n t → test n ≡ false
+    → IsTally test first (n + 1) t
 tally_skip test first n t was fails = record {
   few = (let f = was.few in omega (arith, f));
   count = was.count ∙ sym (count_skip test n fails);
@@ -56,17 +62,21 @@ side_is : (side : Side) (h : List Call) (x c : ℕ) → has_item side h x c ≡ 
 side_is In h x c t = adds_is x (does h c) t
 side_is Out h x c t = takes_is x (does h c) t
 
-pub tallied_skip : (h : List Call) (side : Side) (n : ℕ) (look : ℕ → Tally) → IsTallied h side n look → ((x : ℕ) → does h n ≡ side_effect side x → ⊥) → IsTallied h side (n + 1) look
+pub tallied_skip : (h : List Call) (side : Side) (n : ℕ) (look : ℕ → Tally) → IsTallied h side n look
+    → ((x : ℕ) → does h n ≡ side_effect side x → ⊥) → IsTallied h side (n + 1) look
 tallied_skip h side n look was none x =
-    tally_skip (has_item side h x) (first_of h) n (look x) (was x) (false_from_ne_true (has_item side h x n) (λ t. none x (side_is side h x n t)))
+    tally_skip (has_item side h x) (first_of h) n (look x) (was x)
+    (false_from_ne_true (has_item side h x n) (λ t. none x (side_is side h x n t)))
 
-pub tallied_more : (h : List Call) (side : Side) (n x : ℕ) (look more : ℕ → Tally) → IsTallied h side n look → does h n ≡ side_effect side x → IsTally (has_item side h x) (first_of h) (n + 1) (more x) → ((q : ℕ) → q ≢ x → more q ≡ look q) → IsTallied h side (n + 1) more
+pub tallied_more : (h : List Call) (side : Side) (n x : ℕ) (look more : ℕ → Tally) → IsTallied h side n look → does h n ≡ side_effect side x
+    → IsTally (has_item side h x) (first_of h) (n + 1) (more x) → ((q : ℕ) → q ≢ x → more q ≡ look q) → IsTallied h side (n + 1) more
 tallied_more h side n x look more was is here other q =
     elim (cases_eq q x) [
       | inl e ↦ (let P : ℕ → Type 0 = λ w. IsTally (has_item side h w) (first_of h) (n + 1) (more w) in subst P (sym e) here)
       | inr ne ↦ (
           let P : Tally → Type 0 = λ w. IsTally (has_item side h q) (first_of h) (n + 1) w in
-          subst P (sym (other q ne)) (tally_skip (has_item side h q) (first_of h) n (look q) (was q) (side_passes side h x n is q ∙ ne_eqb q x ne))
+          subst P (sym (other q ne)) (tally_skip (has_item side h q) (first_of h) n (look q) (was q)
+          (side_passes side h x n is q ∙ ne_eqb q x ne))
           )
     ]
 
@@ -75,7 +85,8 @@ side_here side h x c e = side_passes side h x c e x ∙ eq-eqb x x refl
 
 -- ---- single items
 
-pub single_from : (h : List Call) (x p : ℕ) (put got : Tally) → IsTally (has_item In h x) (first_of h) (length h) put → IsTally (has_item Out h x) (first_of h) (length h) got → Puts h x p → put.count ≡ 1 → got.count ≤ 1 → IsSingle h x p
+pub single_from : (h : List Call) (x p : ℕ) (put got : Tally) → IsTally (has_item In h x) (first_of h) (length h) put
+    → IsTally (has_item Out h x) (first_of h) (length h) got → Puts h x p → put.count ≡ 1 → got.count ≤ 1 → IsSingle h x p
 single_from h x p put got ps gs is one most = record {
   puts = is;
   alone = λ c e. ps.only one c (put_inside h x c e) (puts_pass h x c e) ∙ sym (ps.only one p (put_inside h x p is) (puts_pass h x p is));
@@ -86,7 +97,8 @@ single_from h x p put got ps gs is one most = record {
       gs.only single c (got_inside h x c e) (gets_pass h x c e) ∙ sym (gs.only single d (got_inside h x d f) (gets_pass h x d f));
 }
 
-pub single_put_once : (h : List Call) (x p : ℕ) (put : Tally) → IsTally (has_item In h x) (first_of h) (length h) put → IsSingle h x p → put.count ≡ 1
+pub single_put_once : (h : List Call) (x p : ℕ) (put : Tally) → IsTally (has_item In h x) (first_of h) (length h) put → IsSingle h x p
+    → put.count ≡ 1
 single_put_once h x p put ps single =
     let some = (ps.last p (put_inside h x p single.puts) (puts_pass h x p single.puts)).1 in
     elim (cases_lt 1 put.count) [
@@ -101,7 +113,8 @@ single_put_once h x p put ps single =
       | inr le ↦ omega (arith, le, some)
     ]
 
-pub single_got_once : (h : List Call) (x p : ℕ) (got : Tally) → IsTally (has_item Out h x) (first_of h) (length h) got → IsSingle h x p → got.count ≤ 1
+pub single_got_once : (h : List Call) (x p : ℕ) (got : Tally) → IsTally (has_item Out h x) (first_of h) (length h) got → IsSingle h x p
+    → got.count ≤ 1
 single_got_once h x p got gs single =
     elim (cases_lt 1 got.count) [
       | inl more ↦ (
@@ -116,18 +129,22 @@ single_got_once h x p got gs single =
     ]
 
 -- the last call that gets an item, where one does
-pub got_last : (h : List Call) (x : ℕ) (got : Tally) → IsTally (has_item Out h x) (first_of h) (length h) got → (got.count ≡ 0 → ⊥) → Gets h x got.last
+pub got_last : (h : List Call) (x : ℕ) (got : Tally) → IsTally (has_item Out h x) (first_of h) (length h) got → (got.count ≡ 0 → ⊥)
+    → Gets h x got.last
 got_last h x got gs ne = let some : 0 < got.count = omega arith in takes_is x (does h got.last) (gs.passes some).1
 
-pub got_none : (h : List Call) (x : ℕ) (got : Tally) → IsTally (has_item Out h x) (first_of h) (length h) got → got.count ≡ 0 → (g : ℕ) → Gets h x g → ⊥
+pub got_none : (h : List Call) (x : ℕ) (got : Tally) → IsTally (has_item Out h x) (first_of h) (length h) got → got.count ≡ 0 → (g : ℕ)
+    → Gets h x g → ⊥
 got_none h x got gs e g is = let some = (gs.last g (got_inside h x g is) (gets_pass h x g is)).1 in absurd (omega (arith, some, e))
 
 -- a call that gets an item which is got once
-pub got_once : (h : List Call) (x g : ℕ) (got : Tally) → IsTally (has_item Out h x) (first_of h) (length h) got → Gets h x g → got.count ≤ 1 → got.count ≡ 1
+pub got_once : (h : List Call) (x g : ℕ) (got : Tally) → IsTally (has_item Out h x) (first_of h) (length h) got → Gets h x g → got.count ≤ 1
+    → got.count ≡ 1
 got_once h x g got gs is le = let some = (gs.last g (got_inside h x g is) (gets_pass h x g is)).1 in omega (arith, some, le)
 
 -- the put of an item that is put once
-pub put_last : (h : List Call) (x : ℕ) (put : Tally) → IsTally (has_item In h x) (first_of h) (length h) put → put.count ≡ 1 → Puts h x put.last
+pub put_last : (h : List Call) (x : ℕ) (put : Tally) → IsTally (has_item In h x) (first_of h) (length h) put → put.count ≡ 1
+    → Puts h x put.last
 put_last h x put ps e = let some : 0 < put.count = omega (arith, e) in adds_is x (does h put.last) (ps.passes some).1
 
 -- ---- never put, and taken twice
@@ -135,7 +152,8 @@ put_last h x put ps e = let some : 0 < put.count = omega (arith, e) in adds_is x
 pub same_item : (h : List Call) (x y g : ℕ) → Gets h x g → Gets h y g → x ≡ y
 same_item h x y g e f = let q : Takes x ≡ Takes y = sym e ∙ f in cc
 
-pub twice_from : (h : List Call) (x g : ℕ) (put got : Tally) → IsTally (has_item In h x) (first_of h) (length h) put → IsTally (has_item Out h x) (first_of h) (length h) got → Gets h x g → got.last ≡ g → put.count < got.count → IsTakenTwice h g
+pub twice_from : (h : List Call) (x g : ℕ) (put got : Tally) → IsTally (has_item In h x) (first_of h) (length h) put
+    → IsTally (has_item Out h x) (first_of h) (length h) got → Gets h x g → got.last ≡ g → put.count < got.count → IsTakenTwice h g
 twice_from h x g put got ps gs is last lt =
     let a = ps.count in
     let b = gs.count in (
@@ -145,7 +163,8 @@ twice_from h x g put got ps gs is last lt =
       omega (arith, a, b, lt),
     )
 
-pub twice_tells : (h : List Call) (x g : ℕ) (put got : Tally) → IsTally (has_item In h x) (first_of h) (length h) put → IsTally (has_item Out h x) (first_of h) (length h) got → Gets h x g → IsTakenTwice h g → (got.last ≡ g) × (put.count < got.count)
+pub twice_tells : (h : List Call) (x g : ℕ) (put got : Tally) → IsTally (has_item In h x) (first_of h) (length h) put
+    → IsTally (has_item Out h x) (first_of h) (length h) got → Gets h x g → IsTakenTwice h g → (got.last ≡ g) × (put.count < got.count)
 twice_tells h x g put got ps gs is t =
     let e = same_item h t.0 x g t.1 is in
     let P : ℕ → Type 0 = λ w. ((c : ℕ) → Gets h w c → c ≤ g) × (puts_of h w < gets_of h w) in
@@ -159,8 +178,8 @@ twice_tells h x g put got ps gs is t =
     (omega (arith, upper, lower), omega (arith, a, b, more))
 
 -- what finds no item is told so
-pub found_deed : (e : Effect) (d : Deed) → IsDeed e d → e ≡ Finds_none → d ≡ FoundNone
-found_deed e (PutIn x) i q = let r : Adds x ≡ Finds_none = sym i ∙ q in absurd (cc)
-found_deed e (TookOut x) i q = let r : Takes x ≡ Finds_none = sym i ∙ q in absurd (cc)
+pub found_deed : (e : Effect) (d : Deed) → IsDeed e d → e ≡ FindsNone → d ≡ FoundNone
+found_deed e (PutIn x) i q = let r : Adds x ≡ FindsNone = sym i ∙ q in absurd (cc)
+found_deed e (TookOut x) i q = let r : Takes x ≡ FindsNone = sym i ∙ q in absurd (cc)
 found_deed e FoundNone i q = refl
 found_deed e Nothing i q = absurd (i.2 q)

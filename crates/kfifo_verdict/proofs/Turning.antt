@@ -1,12 +1,13 @@
 -- The turns of a plain history's calls stand in a legal order where there is no evidence.
-use Rattle.std.proofs.Common.{ℕ, zero, suc, ◌≡◌, ◌≢◌, ◌+◌, ◌<◌, ◌≤◌, ◌⊎◌, true, List, [], ◌∷◌, length, refl, sym, ◌∙◌, ap, subst, inl, inr, arith, Option, Some, None}
+use Rattle.std.proofs.Common.{ℕ, zero, suc, ◌≡◌, ◌≢◌, ◌+◌, ◌<◌, ◌≤◌, ◌⊎◌, true, List, [], ◌∷◌, length, refl, sym, ◌∙◌, ap, subst, inl, inr}
+use Rattle.std.proofs.Common.{arith, Option, Some, None}
 use Rattle.std.proofs.lemmas.Bool.{cases_lt, cases_Bool, false≢true}
 use Rattle.std.proofs.lemmas.List.{get_or_default}
 use Rattle.kfifo_model.specs.declared.calls.Call.{Call}
 use Rattle.kfifo_model.specs.declared.calls.End.{End}
 use Rattle.kfifo_model.specs.declared.calls.Op.{Op}
 use Rattle.kfifo_model.specs.Overtaking.{adds}
-use Rattle.kfifo_model.specs.Relaxed.{Effect, Adds, Takes, Finds_none, Refused, Wrong}
+use Rattle.kfifo_model.specs.Relaxed.{Effect, Adds, Takes, FindsNone, Refused, Wrong}
 use Rattle.kfifo_model.specs.Histories.{call, does, effect_at, HasEnd, Precedes, IsLegal}
 use Rattle.kfifo_model.specs.Validity.{IsHistory, Answers}
 use Rattle.kfifo_verdict.specs.declared.presences.Presence.{Presence}
@@ -14,7 +15,8 @@ use Rattle.kfifo_verdict.specs.declared.turns.Turn.{Turn}
 use Rattle.kfifo_verdict.specs.Evidence.{Puts, Gets}
 use Rattle.kfifo_verdict.specs.Finding.{first_of, IsStart, ArePresences, IsKnown}
 use Rattle.kfifo_verdict.specs.Judging.{HasNoEvidence, IsPlain}
-use Rattle.kfifo_verdict.specs.Plain.{presence, IsLate, place, IsPlace, IsLine, turn, IsGap, IsIdleTurn, IsLatest, IsItemTurn, AreTurns, IsBefore, IsByTurns}
+use Rattle.kfifo_verdict.specs.Plain.{presence, IsLate, place, IsPlace, IsLine, turn, IsGap, IsIdleTurn, IsLatest, IsItemTurn, AreTurns}
+use Rattle.kfifo_verdict.specs.Plain.{IsBefore, IsByTurns}
 use Rattle.kfifo_verdict.proofs.Refuting.{put_inside, found_ended, ended_inside, adds_is}
 use Rattle.kfifo_verdict.proofs.Telling.{got_inside, puts_pass}
 use Rattle.kfifo_verdict.proofs.Moments.{reached, not_falling, ends_later}
@@ -74,7 +76,8 @@ put_late h ps x p late s a l =
     ]
 
 -- no item that is older and there is passed over
-not_younger : (h : List Call) (ps : List Presence) (x p late y q : ℕ) → IsScene h ps → Puts h x p → IsLate h (presence ps p).gone late → Puts h y q → (presence ps q).start ≤ p → late ≤ (presence ps q).gone → ⊥
+not_younger : (h : List Call) (ps : List Presence) (x p late y q : ℕ) → IsScene h ps → Puts h x p → IsLate h (presence ps p).gone late
+    → Puts h y q → (presence ps q).start ≤ p → late ≤ (presence ps q).gone → ⊥
 not_younger h ps x p late y q s a l b older kept =
     let inside = put_inside h x p a in
     let bound = gone_bound h ps y q s b in
@@ -84,7 +87,18 @@ not_younger h ps x p late y q s a l b older kept =
           let g = (presence ps p).gone in
           let start = l.got (got_inside h x g got) in
           let is = ((s.are.1 q (put_inside h y q b)).older g p late inside start).1 (older, kept) in
-          s.clear.3 g (q ∷ [], record { item = x; put = p; gets = got; single = s.plain.0 x p a; older = (is, tt); rising = (tt, tt); count = refl })
+          s.clear.3 g (
+            q ∷ [],
+            record {
+              item = x;
+              put = p;
+              gets = got;
+              single = s.plain.0 x p a;
+              older = (is, tt);
+              rising = (tt, tt);
+              count = refl;
+            },
+          )
           )
     ]
 
@@ -92,7 +106,8 @@ put_due : (h : List Call) (ps : List Presence) (e : ℕ × ℕ × ℕ) → IsSce
 put_due h ps e s p =
     let inside = put_inside h p.item e.2 p.puts in
     elim p.due.attained [
-      | inl put ↦ (let lt = start_past h e.2 (presence ps e.2).start s.history inside (known h ps p.item e.2 s p.puts).start in omega (arith, put, lt))
+      | inl put ↦ (let lt = start_past h e.2 (presence ps e.2).start s.history inside (known h ps p.item e.2 s p.puts).start in
+          omega (arith, put, lt))
       | inr more ↦ elim more [
         | inl got ↦ (let lt = put_late h ps p.item e.2 e.1 s p.puts p.late in omega (arith, got, lt))
         | inr next ↦ (
@@ -103,7 +118,8 @@ put_due h ps e s p =
               | inl lt ↦ lt
               | inr le ↦ (
                   let late = put_late h ps p.item e.2 e.1 s p.puts p.late in
-                  let real = (s.are.1 q (let lt = next.1 in let size = s.are.0 in omega (arith, lt, size))).real (omega (arith, late, kept)) in
+                  let real = (s.are.1 q (let lt = next.1 in let size = s.are.0 in omega (arith, lt, size))).real
+                  (omega (arith, late, kept)) in
                   absurd (not_younger h ps p.item e.2 e.1 real.0 q s p.puts p.late real.1 (omega (arith, start, le)) kept)
                   )
             ]
@@ -112,7 +128,8 @@ put_due h ps e s p =
     ]
 
 -- an item that is got before another one's get begins does not stand behind it in the line
-in_turn : (h : List Call) (ps : List Presence) (a b : ℕ × ℕ × ℕ) → IsScene h ps → IsPlace h ps a → IsPlace h ps b → a.1 ≤ (presence ps b.2).gone → Lex b a → ⊥
+in_turn : (h : List Call) (ps : List Presence) (a b : ℕ × ℕ × ℕ) → IsScene h ps → IsPlace h ps a → IsPlace h ps b
+    → a.1 ≤ (presence ps b.2).gone → Lex b a → ⊥
 in_turn h ps a b s p q before lex =
     let size = s.are.0 in
     let inside_b = put_inside h q.item b.2 q.puts in
@@ -139,7 +156,8 @@ in_turn h ps a b s p q before lex =
     ]
 
 -- an item that has gone in where none is certainly there is got
-gone_in_gap : (h : List Call) (ps : List Presence) (e : ℕ × ℕ × ℕ) (m : ℕ) → IsScene h ps → IsPlace h ps e → IsGap ps m → e.0 ≤ m → (presence ps e.2).gone ≤ m
+gone_in_gap : (h : List Call) (ps : List Presence) (e : ℕ × ℕ × ℕ) (m : ℕ) → IsScene h ps → IsPlace h ps e → IsGap ps m → e.0 ≤ m
+    → (presence ps e.2).gone ≤ m
 gone_in_gap h ps e m s p gap le =
     let size = s.are.0 in
     let inside = put_inside h p.item e.2 p.puts in
@@ -193,7 +211,8 @@ got_by h ps x p g s a b =
       | inr got ↦ k.single.once (presence ps p).gone g got b
     ]
 
-got_where : (h : List Call) (ps : List Presence) (x p : ℕ) → IsScene h ps → Puts h x p → (presence ps p).gone < length h → Gets h x (presence ps p).gone
+got_where : (h : List Call) (ps : List Presence) (x p : ℕ) → IsScene h ps → Puts h x p → (presence ps p).gone < length h
+    → Gets h x (presence ps p).gone
 got_where h ps x p s a inside =
     elim (known h ps x p s a).gone [
       | inl never ↦ (let e = never.0 in absurd (omega (arith, e, inside)))
@@ -210,15 +229,21 @@ Role h c = ((x : ℕ) × Puts h x c) ⊎ (((x : ℕ) × Gets h x c) ⊎ IsIdle h
 role_by : (h : List Call) (c : ℕ) (e : Effect) → does h c ≡ e → Role h c
 role_by h c (Adds x) q = inl (x, q)
 role_by h c (Takes x) q = inr (inl (x, q))
-role_by h c Finds_none q = inr (inr (λ x a. (let e : Adds x ≡ Finds_none = sym a ∙ q in cc), λ x a. (let e : Takes x ≡ Finds_none = sym a ∙ q in cc)))
-role_by h c Refused q = inr (inr (λ x a. (let e : Adds x ≡ Refused = sym a ∙ q in cc), λ x a. (let e : Takes x ≡ Refused = sym a ∙ q in cc)))
+role_by h c FindsNone q = inr (inr (
+  λ x a. (let e : Adds x ≡ FindsNone = sym a ∙ q in cc),
+  λ x a. (let e : Takes x ≡ FindsNone = sym a ∙ q in cc),
+))
+role_by h c Refused q = inr (inr (
+  λ x a. (let e : Adds x ≡ Refused = sym a ∙ q in cc),
+  λ x a. (let e : Takes x ≡ Refused = sym a ∙ q in cc),
+))
 role_by h c Wrong q = inr (inr (λ x a. (let e : Adds x ≡ Wrong = sym a ∙ q in cc), λ x a. (let e : Takes x ≡ Wrong = sym a ∙ q in cc)))
 
 role : (h : List Call) (c : ℕ) → Role h c
 role h c = role_by h c (does h c) refl
 
-finds_none_idle : (h : List Call) (c : ℕ) → does h c ≡ Finds_none → IsIdle h c
-finds_none_idle h c q = (λ x a. (let e : Adds x ≡ Finds_none = sym a ∙ q in cc), λ x a. (let e : Takes x ≡ Finds_none = sym a ∙ q in cc))
+finds_none_idle : (h : List Call) (c : ℕ) → does h c ≡ FindsNone → IsIdle h c
+finds_none_idle h c q = (λ x a. (let e : Adds x ≡ FindsNone = sym a ∙ q in cc), λ x a. (let e : Takes x ≡ FindsNone = sym a ∙ q in cc))
 
 sound_of : (op : Op) (o : Option End) → HasEnd o → Answers op o → effect_at op o ≢ Wrong
 sound_of op (Some end) e a = a
@@ -248,7 +273,8 @@ before_apart ts c d (inr p) (inr q) =
 
 -- ---- turns
 
-module _ (h : List Call) (ps : List Presence) (line : List (ℕ × ℕ × ℕ)) (ts : List Turn) (s : IsScene h ps) (l : IsLine h ps line) (t : AreTurns h ps line (length line) ts) where
+module _ (h : List Call) (ps : List Presence) (line : List (ℕ × ℕ × ℕ)) (ts : List Turn) (s : IsScene h ps) (l : IsLine h ps line)
+    (t : AreTurns h ps line (length line) ts) where
   is_place : (i : ℕ) → i < length line → IsPlace h ps (place line i)
   is_place i lt = l.places.real i (0, 0, 0) lt
 
@@ -301,7 +327,8 @@ module _ (h : List Call) (ps : List Presence) (line : List (ℕ × ℕ × ℕ)) 
       ]
 
   -- the turn of the call that gets an item
-  get_turn : (x p g i : ℕ) → Puts h x p → Gets h x g → IsItemTurn h ps line ts p i → (latest : ℕ) × IsLatest ps line i latest × ((turn ts g).moment ≡ latest) × ((turn ts g).rank ≡ length line + i)
+  get_turn : (x p g i : ℕ) → Puts h x p → Gets h x g → IsItemTurn h ps line ts p i → (latest : ℕ) × IsLatest ps line i latest
+      × ((turn ts g).moment ≡ latest) × ((turn ts g).rank ≡ length line + i)
   get_turn x p g i a b u =
       let same = got_by h ps x p g s a b in
       let lt = got_inside h x g b in
@@ -384,7 +411,7 @@ module _ (h : List Call) (ps : List Presence) (line : List (ℕ × ℕ × ℕ)) 
   idle_turn : (c : ℕ) → c < length h → IsIdle h c → IsIdleTurn h ps (length line + length line) c (turn ts c)
   idle_turn c lt n = t.idle c lt n.0 n.1
 
-  gone_before : (x p e : ℕ) → Puts h x p → e < length h → does h e ≡ Finds_none → IsBefore ts p e → (f : ℕ) × Gets h x f × IsBefore ts f e
+  gone_before : (x p e : ℕ) → Puts h x p → e < length h → does h e ≡ FindsNone → IsBefore ts p e → (f : ℕ) × Gets h x f × IsBefore ts f e
   gone_before x p e a lt q r =
       let u = item_turn x p a in
       let i = u.0 in
@@ -457,7 +484,8 @@ module _ (h : List Call) (ps : List Presence) (line : List (ℕ × ℕ × ℕ)) 
       let start = ((known h ps x c s a).start.starts d inside).0 before in
       omega (arith, m, due, same, start)
 
-  get_within : (x p c i d : ℕ) → Puts h x p → Gets h x c → IsItemTurn h ps line ts p i → d < length h → Precedes h c d → (turn ts c).moment ≤ d
+  get_within : (x p c i d : ℕ) → Puts h x p → Gets h x c → IsItemTurn h ps line ts p i → d < length h → Precedes h c d
+      → (turn ts c).moment ≤ d
   get_within x p c i d a b u inside before =
       let w = get_turn x p c i a b u in
       let m = w.2 in
@@ -470,7 +498,8 @@ module _ (h : List Call) (ps : List Presence) (line : List (ℕ × ℕ × ℕ)) 
       let o = (idle_turn c in_c n).inside in
       elim (cases_lt (turn ts c).moment d) [
         | inl lt ↦ lt
-        | inr le ↦ absurd (o.2 (ends_later (call h c).end (first_of h d) (first_of h (turn ts c).moment) (not_falling h d (turn ts c).moment s.history le o.1) before))
+        | inr le ↦ absurd (o.2 (ends_later (call h c).end (first_of h d) (first_of h (turn ts c).moment)
+            (not_falling h d (turn ts c).moment s.history le o.1) before))
       ]
 
   within : (c d : ℕ) → c < length h → d < length h → Precedes h c d → (turn ts c).moment ≤ d
@@ -483,7 +512,8 @@ module _ (h : List Call) (ps : List Presence) (line : List (ℕ × ℕ × ℕ)) 
   ]
 
   -- of two calls at one moment of which one precedes the other, that one has the lower rank
-  rank_below : (c d : ℕ) → c < length h → d < length h → Precedes h c d → d ≤ (turn ts c).moment → (turn ts d).moment ≤ (turn ts c).moment → (turn ts c).rank < (turn ts d).rank
+  rank_below : (c d : ℕ) → c < length h → d < length h → Precedes h c d → d ≤ (turn ts c).moment → (turn ts d).moment ≤ (turn ts c).moment
+      → (turn ts c).rank < (turn ts d).rank
   rank_below c d in_c inside before at tie = elim (role h d) [
     | inl a ↦ (
         let u = item_turn a.0 d a.1 in
@@ -500,7 +530,8 @@ module _ (h : List Call) (ps : List Presence) (line : List (ℕ × ℕ × ℕ)) 
           let w = get_turn b.0 q.0 d v.0 q.1 b.1 v.1 in
           let rd = w.3 in
           elim (role h c) [
-            | inl a ↦ (let u = item_turn a.0 c a.1 in let r = ap (λ (r : Turn). r.rank) u.1.put in let lt = u.1.inside in omega (arith, rd, r, lt))
+            | inl a ↦ (let u = item_turn a.0 c a.1 in let r = ap (λ (r : Turn). r.rank) u.1.put in let lt = u.1.inside in
+                omega (arith, rd, r, lt))
             | inr other ↦ elim other [
               | inl e ↦ (
                   let p = source h ps e.0 c s e.1 in
@@ -518,7 +549,8 @@ module _ (h : List Call) (ps : List Presence) (line : List (ℕ × ℕ × ℕ)) 
       | inr n ↦ (
           let rd = (idle_turn d inside n).ranked in
           elim (role h c) [
-            | inl a ↦ (let u = item_turn a.0 c a.1 in let r = ap (λ (r : Turn). r.rank) u.1.put in let lt = u.1.inside in omega (arith, rd, r, lt))
+            | inl a ↦ (let u = item_turn a.0 c a.1 in let r = ap (λ (r : Turn). r.rank) u.1.put in let lt = u.1.inside in
+                omega (arith, rd, r, lt))
             | inr other ↦ elim other [
               | inl e ↦ (
                   let p = source h ps e.0 c s e.1 in
@@ -559,4 +591,5 @@ module _ (h : List Call) (ps : List Presence) (line : List (ℕ × ℕ × ℕ)) 
   pub legal_by_turns : (order : List ℕ) → IsByTurns ts order → IsLegal 1 h order
   legal_by_turns order b =
       let size = t.sized in
-      legal_by h (IsBefore ts) order fits s.plain.1 b.sorted (λ c i. let lt = b.inside c i in omega (arith, lt, size)) (λ c lt. b.all c (omega (arith, lt, size)))
+      legal_by h (IsBefore ts) order fits s.plain.1 b.sorted (λ c i. let lt = b.inside c i in omega (arith, lt, size))
+      (λ c lt. b.all c (omega (arith, lt, size)))

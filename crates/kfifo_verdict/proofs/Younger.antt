@@ -1,5 +1,6 @@
 -- Items that are certainly older and there where a single item is got.
-use Rattle.std.proofs.Common.{ℕ, zero, suc, ◌≡◌, ◌≢◌, ◌+◌, ◌<◌, ◌≤◌, ◌↔◌, Bool, true, false, cond, count_by, leb, List, [], ◌∷◌, ◌++◌, length, get_or, add-one, refl, sym, ◌∙◌, ap, subst, inl, inr, arith, length-append}
+use Rattle.std.proofs.Common.{ℕ, zero, suc, ◌≡◌, ◌≢◌, ◌+◌, ◌<◌, ◌≤◌, ◌↔◌, Bool, true, false, cond, count_by, leb, List, [], ◌∷◌, ◌++◌}
+use Rattle.std.proofs.Common.{length, get_or, add-one, refl, sym, ◌∙◌, ap, subst, inl, inr, arith, length-append}
 use Rattle.std.proofs.lemmas.Bool.{cases_lt, cases_Bool, and_parts, and_from, leb-true, le-leb}
 use Rattle.kfifo_model.specs.declared.calls.Call.{Call}
 use Rattle.std.specs.List.{AllByRecursion}
@@ -52,7 +53,8 @@ first_none test k found e =
     let size = ap length e in
     record { count = omega (arith, size); pass = subst P (sym e) tt; rising = subst D (sym e) tt }
 
-each_on : (test : ℕ → Bool) (n : ℕ) (found : List ℕ) → AllByRecursion (λ p. (p < n) × (test p ≡ true)) found → AllByRecursion (λ p. (p < n + 1) × (test p ≡ true)) found
+each_on : (test : ℕ → Bool) (n : ℕ) (found : List ℕ) → AllByRecursion (λ p. (p < n) × (test p ≡ true)) found
+    → AllByRecursion (λ p. (p < n + 1) × (test p ≡ true)) found
 each_on test n found a = each_from (λ p. (p < n + 1) × (test p ≡ true)) found (λ p i.
     let b = each_at (λ p. (p < n) × (test p ≡ true)) p found a i in let lt = b.0 in (omega (arith, lt), b.1))
 
@@ -74,7 +76,8 @@ first_full test k n found a full =
       rising = a.rising;
     }
 
-pub first_more : (test : ℕ → Bool) (k n : ℕ) (found more : List ℕ) → AreFirst test k n found → length found < k → test n ≡ true → more ≡ found ++ n ∷ [] → AreFirst test k (n + 1) more
+pub first_more : (test : ℕ → Bool) (k n : ℕ) (found more : List ℕ) → AreFirst test k n found → length found < k → test n ≡ true
+    → more ≡ found ++ n ∷ [] → AreFirst test k (n + 1) more
 first_more test k n found more a room passes e =
     let size = a.count in
     let up = count_yes test n passes in
@@ -90,7 +93,8 @@ first_more test k n found more a room passes e =
           | inr none ↦ absurd none
         ]
       ]));
-      rising = subst D (sym e) (pairs_push (λ p q. p < q) found n a.rising (λ p i. (each_at (λ p. (p < n) × (test p ≡ true)) p found a.pass i).0));
+      rising = subst D (sym e) (pairs_push (λ p q. p < q) found n a.rising
+          (λ p i. (each_at (λ p. (p < n) × (test p ≡ true)) p found a.pass i).0));
     }
 
 -- all that pass
@@ -109,7 +113,8 @@ all_first test k (suc n) =
 
 -- ---- what they tell of a call that gets a single item
 
-passes_older : (h : List Call) (ps : List Presence) (g put after p : ℕ) → ArePresences h (length h) ps → IsStart h (call h g).end after → put < length h → p < put → IsOlder h g put p ↔ (lasts_at ps put after p ≡ true)
+passes_older : (h : List Call) (ps : List Presence) (g put after p : ℕ) → ArePresences h (length h) ps → IsStart h (call h g).end after
+    → put < length h → p < put → IsOlder h g put p ↔ (lasts_at ps put after p ≡ true)
 passes_older h ps g put after p are start inside lt =
     let in_p : p < length h = omega (arith, inside, lt) in
     let r = (are.1 p in_p).older g put after inside start in
@@ -119,7 +124,8 @@ passes_older h ps g put after p are start inside lt =
     )
 
 -- no more than these are certainly older
-pub no_more_older : (h : List Call) (ps : List Presence) (x g put after m : ℕ) → IsHistory h → ArePresences h (length h) ps → IsStart h (call h g).end after → IsSingle h x put → Gets h x g → GotTooYoung m h g → m ≤ count_below (lasts_at ps put after) put
+pub no_more_older : (h : List Call) (ps : List Presence) (x g put after m : ℕ) → IsHistory h → ArePresences h (length h) ps
+    → IsStart h (call h g).end after → IsSingle h x put → Gets h x g → GotTooYoung m h g → m ≤ count_below (lasts_at ps put after) put
 no_more_older h ps x g put after m v are start single gets young =
     let t = young.1 in
     let puts = young.0 in
@@ -129,15 +135,19 @@ no_more_older h ps x g put after m v are start single gets young =
     let same = single.alone t.put (subst P same_x t.single).puts in
     let Q : ℕ → Type 0 = λ w. AllByRecursion (IsOlder h g w) puts in
     let older = subst Q same t.older in
-    let below : (p : ℕ) → IsIn p puts → p < put = λ p i. let o = each_at (IsOlder h g put) p puts older i in precedes_below h p put v (put_inside h o.item p o.single.puts) o.before in
-    let pass : (p : ℕ) → IsIn p puts → lasts_at ps put after p ≡ true = λ p i. (passes_older h ps g put after p are start inside (below p i)).0 (each_at (IsOlder h g put) p puts older i) in
+    let below : (p : ℕ) → IsIn p puts → p < put = λ p i. let o = each_at (IsOlder h g put) p puts older i in
+    precedes_below h p put v (put_inside h o.item p o.single.puts) o.before in
+    let pass : (p : ℕ) → IsIn p puts → lasts_at ps put after p ≡ true =
+    λ p i. (passes_older h ps g put after p are start inside (below p i)).0 (each_at (IsOlder h g put) p puts older i) in
     let all = count_all (lasts_at ps put after) puts (each_from (λ p. lasts_at ps put after p ≡ true) puts pass) in
     let within = count_within (lasts_at ps put after) put puts (rising_distinct puts t.rising) (λ p i e. below p i) in
     let size = t.count in
     omega (arith, all, within, size)
 
 -- the first of them show it
-pub older_found : (h : List Call) (ps : List Presence) (x g put after k : ℕ) (found : List ℕ) → ArePresences h (length h) ps → IsStart h (call h g).end after → IsSingle h x put → Gets h x g → k ≤ count_below (lasts_at ps put after) put → AreFirst (lasts_at ps put after) k put found → IsTooYoung k h g found
+pub older_found : (h : List Call) (ps : List Presence) (x g put after k : ℕ) (found : List ℕ) → ArePresences h (length h) ps
+    → IsStart h (call h g).end after → IsSingle h x put → Gets h x g → k ≤ count_below (lasts_at ps put after) put
+    → AreFirst (lasts_at ps put after) k put found → IsTooYoung k h g found
 older_found h ps x g put after k found are start single gets enough first =
     let inside = put_inside h x put single.puts in
     let size = first.count in
@@ -146,12 +156,15 @@ older_found h ps x g put after k found are start single gets enough first =
       put = put;
       gets = gets;
       single = single;
-      older = each_from (IsOlder h g put) found (λ p i. let b = each_at (λ p. (p < put) × (lasts_at ps put after p ≡ true)) p found first.pass i in (passes_older h ps g put after p are start inside b.0).1 b.1);
+      older = each_from (IsOlder h g put) found
+          (λ p i. let b = each_at (λ p. (p < put) × (lasts_at ps put after p ≡ true)) p found first.pass i in
+          (passes_older h ps g put after p are start inside b.0).1 b.1);
       rising = first.rising;
       count = omega (arith, size, enough);
     }
 
-pub older_counted : (h : List Call) (ps : List Presence) (x g put after : ℕ) → ArePresences h (length h) ps → IsStart h (call h g).end after → IsSingle h x put → Gets h x g → GotTooYoung (count_below (lasts_at ps put after) put) h g
+pub older_counted : (h : List Call) (ps : List Presence) (x g put after : ℕ) → ArePresences h (length h) ps → IsStart h (call h g).end after
+    → IsSingle h x put → Gets h x g → GotTooYoung (count_below (lasts_at ps put after) put) h g
 older_counted h ps x g put after are start single gets =
     let count = count_below (lasts_at ps put after) put in
     let f = all_first (lasts_at ps put after) count put in
@@ -159,24 +172,31 @@ older_counted h ps x g put after are start single gets =
 
 -- ---- the same, as the code counts
 
-pub young_none : (h : List Call) (ps : List Presence) (g put after k count : ℕ) → IsHistory h → ArePresences h (length h) ps → IsStart h (call h g).end after → (x : ℕ) × IsSingle h x put × Gets h x g × (put < length h)
+pub young_none : (h : List Call) (ps : List Presence) (g put after k count : ℕ) → IsHistory h → ArePresences h (length h) ps
+    → IsStart h (call h g).end after → (x : ℕ) × IsSingle h x put × Gets h x g × (put < length h)
     → IsCountedTo k (count_below (lasts_at ps put after) put) count → count < k → GotTooYoung k h g → ⊥
 young_none h ps g put after k count v are start s counted few young =
     let most = no_more_older h ps s.0 g put after k v are start s.1 s.2 young in
     elim counted [ inl e ↦ omega (arith, e, most, few) | inr b ↦ (let le = b.0 in omega (arith, le, few)) ]
 
-pub young_found : (h : List Call) (ps : List Presence) (g put after k count : ℕ) (found : List ℕ) → ArePresences h (length h) ps → IsStart h (call h g).end after → (x : ℕ) × IsSingle h x put × Gets h x g × (put < length h)
-    → IsCountedTo k (count_below (lasts_at ps put after) put) count → k ≤ count → AreFirst (lasts_at ps put after) k put found → IsTooYoung k h g found
+pub young_found : (h : List Call) (ps : List Presence) (g put after k count : ℕ) (found : List ℕ) → ArePresences h (length h) ps
+    → IsStart h (call h g).end after → (x : ℕ) × IsSingle h x put × Gets h x g × (put < length h)
+    → IsCountedTo k (count_below (lasts_at ps put after) put) count → k ≤ count → AreFirst (lasts_at ps put after) k put found
+    → IsTooYoung k h g found
 young_found h ps g put after k count found are start s counted enough first =
-    let all : k ≤ count_below (lasts_at ps put after) put = elim counted [ inl e ↦ omega (arith, e, enough) | inr b ↦ (let le = b.1 in omega (arith, le, enough)) ] in
+    let all : k ≤ count_below (lasts_at ps put after) put =
+    elim counted [ inl e ↦ omega (arith, e, enough) | inr b ↦ (let le = b.1 in omega (arith, le, enough)) ] in
     older_found h ps s.0 g put after k found are start s.1 s.2 all first
 
-pub young_count : (h : List Call) (ps : List Presence) (g put after count : ℕ) → IsHistory h → ArePresences h (length h) ps → IsStart h (call h g).end after → (x : ℕ) × IsSingle h x put × Gets h x g × (put < length h)
-    → IsCountedTo (length h) (count_below (lasts_at ps put after) put) count → GotTooYoung count h g × ((m : ℕ) → GotTooYoung m h g → m ≤ count) × (count < length h)
+pub young_count : (h : List Call) (ps : List Presence) (g put after count : ℕ) → IsHistory h → ArePresences h (length h) ps
+    → IsStart h (call h g).end after → (x : ℕ) × IsSingle h x put × Gets h x g × (put < length h)
+    → IsCountedTo (length h) (count_below (lasts_at ps put after) put) count → GotTooYoung count h g
+    × ((m : ℕ) → GotTooYoung m h g → m ≤ count) × (count < length h)
 young_count h ps g put after count v are start s counted =
     let few = count_few (lasts_at ps put after) put in
     let inside = s.3 in
-    let e : count ≡ count_below (lasts_at ps put after) put = elim counted [ inl e ↦ e | inr b ↦ (let ge = b.0 in let le = b.1 in absurd (omega (arith, ge, le, few, inside))) ] in
+    let e : count ≡ count_below (lasts_at ps put after) put =
+    elim counted [ inl e ↦ e | inr b ↦ (let ge = b.0 in let le = b.1 in absurd (omega (arith, ge, le, few, inside))) ] in
     let P : ℕ → Type 0 = λ w. GotTooYoung w h g in (
       subst P (sym e) (older_counted h ps s.0 g put after are start s.1 s.2),
       λ m young. (let most = no_more_older h ps s.0 g put after m v are start s.1 s.2 young in omega (arith, most, e)),

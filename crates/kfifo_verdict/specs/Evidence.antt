@@ -5,7 +5,7 @@ use Rattle.std.specs.Prelude.{ℕ, zero, suc, ◌≡◌, ◌+◌, ◌<◌, ◌�
 use Rattle.kfifo_model.specs.declared.calls.Call.{Call}
 use Rattle.std.specs.List.{AllByRecursion}
 use Rattle.kfifo_model.specs.Lists.{EachPair, IsIn}
-use Rattle.kfifo_model.specs.Relaxed.{Adds, Takes, Finds_none}
+use Rattle.kfifo_model.specs.Relaxed.{Adds, Takes, FindsNone}
 use Rattle.kfifo_model.specs.Overtaking.{adds, takes}
 use Rattle.kfifo_model.specs.Histories.{call, does, EndsBelow, Precedes, HasNoRepeats}
 use Rattle.kfifo_model.specs.Validity.{EndsFrom}
@@ -58,7 +58,7 @@ IsTakenTwice h get = (x : ℕ) × Gets h x get × ((g : ℕ) → Gets h x g → 
 -- 3: A call returned Empty, and at each of its moments the item of one of these puts was certainly there. The item of
 -- each of these puts was there at some moment of the call; a moment may have several.
 pub record IsNotEmpty (h : List Call) (c : ℕ) (puts : List ℕ) : Type 0 where
-  pub empty : does h c ≡ Finds_none
+  pub empty : does h c ≡ FindsNone
   pub covered : (moment : ℕ) → IsMomentOf h c moment → (p : ℕ) × IsIn p puts × IsCertainlyThere h p moment
   pub met : AllByRecursion (λ p. (moment : ℕ) × IsMomentOf h c moment × IsCertainlyThere h p moment) puts
   pub distinct : HasNoRepeats puts

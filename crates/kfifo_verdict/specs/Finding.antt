@@ -1,10 +1,11 @@
 -- What the search for evidence knows of a history: what its calls do, tallies of their items, and when items are there.
-use Rattle.std.specs.Prelude.{ℕ, ◌≡◌, ◌+◌, ◌<◌, ◌≤◌, ◌↔◌, ◌⊎◌, ◌&&◌, leb, min, Bool, true, List, Option, length, slice_index_or, unwrap_or}
+use Rattle.std.specs.Prelude.{ℕ, ◌≡◌, ◌+◌, ◌<◌, ◌≤◌, ◌↔◌, ◌⊎◌, ◌&&◌, leb, min, Bool, true, List, Option, length}
+use Rattle.std.specs.Prelude.{slice_index_or, unwrap_or}
 use Rattle.std.specs.Ordering.{nat_cmp}
 use Rattle.std.specs.BTreeMap.{BTreeMap, get}
 use Rattle.kfifo_model.specs.declared.calls.Call.{Call}
 use Rattle.kfifo_model.specs.declared.calls.End.{End}
-use Rattle.kfifo_model.specs.Relaxed.{Effect, Adds, Takes, Finds_none}
+use Rattle.kfifo_model.specs.Relaxed.{Effect, Adds, Takes, FindsNone}
 use Rattle.kfifo_model.specs.Overtaking.{adds, takes}
 use Rattle.std.specs.List.{AllByRecursion}
 use Rattle.kfifo_model.specs.Histories.{call, does, EndsBelow}
@@ -24,8 +25,8 @@ use Rattle.kfifo_verdict.specs.Judging.{FoundNotEmpty}
 abbrev pub IsDeed : Effect → Deed → Type 0
 IsDeed e (PutIn x) = e ≡ Adds x
 IsDeed e (TookOut x) = e ≡ Takes x
-IsDeed e FoundNone = e ≡ Finds_none
-IsDeed e Nothing = ((x : ℕ) → e ≡ Adds x → ⊥) × ((x : ℕ) → e ≡ Takes x → ⊥) × (e ≡ Finds_none → ⊥)
+IsDeed e FoundNone = e ≡ FindsNone
+IsDeed e Nothing = ((x : ℕ) → e ≡ Adds x → ⊥) × ((x : ℕ) → e ≡ Takes x → ⊥) × (e ≡ FindsNone → ⊥)
 
 abbrev pub side_effect : Side → ℕ → Effect
 side_effect In x = Adds x
@@ -85,7 +86,8 @@ pub record IsPresence (h : List Call) (p : ℕ) (s : Presence) : Type 0 where
       → (s.gone < length h → moment < first_of h s.gone) → IsCertainlyThere h p moment
   pub until : (moment : ℕ) → IsCertainlyThere h p moment → s.gone < length h → moment < first_of h s.gone
   pub from : (c : ℕ) → c < length h → IsCertainlyThere h p (first_of h c) → (s.start ≤ c) × (c < s.gone)
-  pub older : (g put after : ℕ) → put < length h → IsStart h (call h g).end after → IsOlder h g put p ↔ ((s.start ≤ put) × (after ≤ s.gone))
+  pub older : (g put after : ℕ) → put < length h → IsStart h (call h g).end after
+      → IsOlder h g put p ↔ ((s.start ≤ put) × (after ≤ s.gone))
   pub known : (x : ℕ) → IsSingle h x p → IsKnown h x p s
   pub real : 0 < s.gone → (x : ℕ) × Puts h x p
 
@@ -100,7 +102,8 @@ ArePresences h n ps = (length ps ≡ n) × ((p : ℕ) → p < n → IsPresence h
 pub record IsStay (h : List Call) (c : ℕ) (s : Stay) : Type 0 where
   pub there : c < s.gone → (moment : ℕ) → first_of h c ≤ moment → (s.gone < length h → moment < first_of h s.gone)
       → IsCertainlyThere h s.put moment
-  pub until : c < s.gone → (moment : ℕ) → IsCertainlyThere h s.put moment → s.gone < length h → moment < first_of h s.gone
+  pub until : c < s.gone → (moment : ℕ) → IsCertainlyThere h s.put moment → s.gone < length h
+      → moment < first_of h s.gone
 
 abbrev pub no_stay : Stay
 no_stay = record { put = 0; gone = 0 }
@@ -132,8 +135,8 @@ pub record IsIndexed (h : List Call) (items : Items) : Type 0 where
   pub gets : AreGets h items.gets
   pub presences : ArePresences h (length h) items.presences.items
 
--- Of the items of the puts below n that are certainly there from call c on, and from no earlier one, none is there longer
--- than the one at place c.
+-- Of the items of the puts below n that are certainly there from call c on, and from no earlier one, none is there
+-- longer than the one at place c.
 pub record IsBucketed (h : List Call) (ps : List Presence) (n : ℕ) (stays : List Stay) : Type 0 where
   pub sized : length stays ≡ length h
   pub real : (c : ℕ) → c < length h → IsStay h c (slice_index_or stays c no_stay)
@@ -159,7 +162,8 @@ IsCountedTo limit count result = (result ≡ count) ⊎ ((limit ≤ result) × (
 pub record AreSkips (ps : List Presence) (n : ℕ) (skips : List ℕ) : Type 0 where
   pub sized : length skips ≡ length ps + 1
   pub ahead : (i : ℕ) → i < length ps + 1 → (i ≤ slice_index_or skips i 0) × (slice_index_or skips i 0 ≤ length ps)
-  pub gone : (i p : ℕ) → i < length ps + 1 → i ≤ p → p < slice_index_or skips i 0 → (slice_index_or ps p no_presence).gone ≤ n
+  pub gone : (i p : ℕ) → i < length ps + 1 → i ≤ p → p < slice_index_or skips i 0
+      → (slice_index_or ps p no_presence).gone ≤ n
 
 -- The first k numbers below n that pass the test, or all where they are fewer, by rising number.
 pub record AreFirst (test : ℕ → Bool) (k n : ℕ) (found : List ℕ) : Type 0 where

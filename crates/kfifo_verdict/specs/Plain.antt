@@ -5,7 +5,7 @@ use Rattle.std.specs.List.{All, Contains}
 use Rattle.std.specs.List.Sorted.{IsSortedBy}
 use Rattle.std.specs.Ordering.{is_lt, nat_cmp, ordering_then}
 use Rattle.kfifo_model.specs.declared.calls.Call.{Call}
-use Rattle.kfifo_model.specs.Relaxed.{Finds_none}
+use Rattle.kfifo_model.specs.Relaxed.{FindsNone}
 use Rattle.kfifo_model.specs.Lists.{IsIn, EachPair}
 use Rattle.kfifo_model.specs.Histories.{call, does, EndsBelow, IsFinished}
 use Rattle.kfifo_verdict.specs.declared.presences.Presence.{Presence}
@@ -72,7 +72,7 @@ IsGap ps m = (p : ℕ) → p < length ps → (presence ps p).start ≤ m → (pr
 pub record IsIdleTurn (h : List Call) (ps : List Presence) (rank c : ℕ) (t : Turn) : Type 0 where
   pub ranked : t.rank ≡ rank
   pub inside : IsInCall h c t.moment
-  pub gap : does h c ≡ Finds_none → IsGap ps t.moment
+  pub gap : does h c ≡ FindsNone → IsGap ps t.moment
 
 -- the first n calls, as if all were such
 pub record AreIdle (h : List Call) (ps : List Presence) (rank n : ℕ) (ts : List Turn) : Type 0 where
@@ -85,7 +85,8 @@ pub record IsLatest (ps : List Presence) (line : List (ℕ × ℕ × ℕ)) (i la
   pub attained : (j : ℕ) × (j ≤ i) × ((latest ≡ (place line j).0) ⊎ (latest ≡ (presence ps (place line j).2).gone))
 
 -- The turns of the put and the get of the item at place i of the line, of put p.
-pub record IsItemTurn (h : List Call) (ps : List Presence) (line : List (ℕ × ℕ × ℕ)) (ts : List Turn) (p i : ℕ) : Type 0 where
+pub record IsItemTurn (h : List Call) (ps : List Presence) (line : List (ℕ × ℕ × ℕ)) (ts : List Turn)
+    (p i : ℕ) : Type 0 where
   pub inside : i < length line
   pub is : (place line i).2 ≡ p
   pub put : turn ts p ≡ record { moment = (place line i).0; rank = i }
@@ -93,7 +94,8 @@ pub record IsItemTurn (h : List Call) (ps : List Presence) (line : List (ℕ × 
       × (turn ts (presence ps p).gone ≡ record { moment = latest; rank = length line + i })
 
 -- the turns of all calls, among them the turns of the items at the first n places of the line
-pub record AreTurns (h : List Call) (ps : List Presence) (line : List (ℕ × ℕ × ℕ)) (n : ℕ) (ts : List Turn) : Type 0 where
+pub record AreTurns (h : List Call) (ps : List Presence) (line : List (ℕ × ℕ × ℕ)) (n : ℕ)
+    (ts : List Turn) : Type 0 where
   pub sized : length ts ≡ length h
   pub items : (j : ℕ) → j < n → (i : ℕ) × (i < n) × IsItemTurn h ps line ts (place line j).2 i
   pub idle : (c : ℕ) → c < length h → ((x : ℕ) → Puts h x c → ⊥) → ((x : ℕ) → Gets h x c → ⊥)

@@ -51,7 +51,8 @@ pub(crate) fn deed_of(call: &Call) -> Deed
 
 /// The item that a call of this side puts or gets.
 pub(crate) fn item_of(side: Side, call: &Call) -> Option<u32>
-    ensures { MatchOption result ((x : ℕ) → effect_of call.now ≡ side_effect side x → ⊥) (λ x. effect_of call.now ≡ side_effect side x) }
+    ensures { MatchOption result ((x : ℕ) → effect_of call.now ≡ side_effect side x → ⊥)
+        (λ x. effect_of call.now ≡ side_effect side x) }
 {
     match (side, deed_of(call)) {
         (Side::In, Deed::PutIn(item)) => Some(item),

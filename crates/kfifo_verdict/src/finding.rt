@@ -1,13 +1,17 @@
 //! The search for evidence.
-ghost use Rattle.std.specs.Prelude.{ℕ, ◌≡◌, ◌+◌, ◌^◌, ◌<◌, ◌≤◌, ◌↔◌, ◌⊎◌, IsTrue, List, length, slice_index_or, IfOk, OnSome, MatchOption};
+ghost use Rattle.std.specs.Prelude.{ℕ, ◌≡◌, ◌+◌, ◌^◌, ◌<◌, ◌≤◌, ◌↔◌, ◌⊎◌, IsTrue, List, length, slice_index_or, IfOk};
+ghost use Rattle.std.specs.Prelude.{OnSome, MatchOption};
 ghost use Rattle.kfifo_model.specs.Histories.{call, effect_of, does, EndsBelow};
-ghost use Rattle.kfifo_model.specs.Relaxed.{Takes, Finds_none};
+ghost use Rattle.kfifo_model.specs.Relaxed.{Takes, FindsNone};
 ghost use Rattle.kfifo_model.specs.Validity.{IsHistory};
 ghost use Rattle.kfifo_model.specs.Searching.{HasOrder};
-ghost use Rattle.kfifo_verdict.specs.Evidence.{IsNeverPut, IsTakenTwice, IsNotEmpty, IsTooYoung, IsSingle, Gets, count_below};
-ghost use Rattle.kfifo_verdict.specs.Finding.{ArePuts, AreGets, ArePresences, IsIndexed, AreStays, AreLongest, IsBucketed, IsCovered, outlast, lasts_at};
+ghost use Rattle.kfifo_verdict.specs.Evidence.{IsNeverPut, IsTakenTwice, IsNotEmpty, IsTooYoung, IsSingle, Gets};
+ghost use Rattle.kfifo_verdict.specs.Evidence.{count_below};
+ghost use Rattle.kfifo_verdict.specs.Finding.{ArePuts, AreGets, ArePresences, IsIndexed, AreStays, AreLongest};
+ghost use Rattle.kfifo_verdict.specs.Finding.{IsBucketed, IsCovered, outlast, lasts_at};
 ghost use Rattle.kfifo_verdict.specs.Finding.{AreSkips, IsCountedTo, AreFirst, first_of};
-ghost use Rattle.kfifo_verdict.specs.Judging.{FoundNotEmpty, GotTooYoung, Never, NeverBefore, HasNoEvidence, IsFirstEvidence};
+ghost use Rattle.kfifo_verdict.specs.Judging.{FoundNotEmpty, GotTooYoung, Never, NeverBefore, HasNoEvidence};
+ghost use Rattle.kfifo_verdict.specs.Judging.{IsFirstEvidence};
 
 use crate::deeds::{Deed, deed_of, ends_before, first_after};
 use crate::presences::{Items, Presence};
@@ -52,7 +56,8 @@ fn is_never_put(calls: &[Call], n: usize, puts: &Tallies) -> bool
 /// The first call that got an item before each call that puts it.
 fn never_put(calls: &[Call], puts: &Tallies) -> Option<usize>
     requires { ArePuts calls.now puts.now }
-    ensures { MatchOption result (Never (IsNeverPut calls.now)) (λ n. IsNeverPut calls.now n × NeverBefore (IsNeverPut calls.now) n) }
+    ensures { MatchOption result (Never (IsNeverPut calls.now))
+        (λ n. IsNeverPut calls.now n × NeverBefore (IsNeverPut calls.now) n) }
 {
     for n in 0..calls.len() {
         if is_never_put(calls, n, puts) {
@@ -80,7 +85,8 @@ fn is_taken_twice(calls: &[Call], n: usize, puts: &Tallies, gets: &Tallies) -> b
 fn taken_twice(calls: &[Call], puts: &Tallies, gets: &Tallies) -> Option<usize>
     requires puts { ArePuts calls.now puts.now }
     requires gets { AreGets calls.now gets.now }
-    ensures { MatchOption result (Never (IsTakenTwice calls.now)) (λ n. IsTakenTwice calls.now n × NeverBefore (IsTakenTwice calls.now) n) }
+    ensures { MatchOption result (Never (IsTakenTwice calls.now))
+        (λ n. IsTakenTwice calls.now n × NeverBefore (IsTakenTwice calls.now) n) }
 {
     for n in 0..calls.len() {
         if is_taken_twice(calls, n, puts, gets) {
@@ -139,7 +145,8 @@ pub(crate) fn longest_stays(
 /// Whether call n is there and begins before a call ends.
 fn reaches(calls: &[Call], from: usize, n: usize) -> bool
     requires { from < length calls.now }
-    ensures { IsTrue result ↔ ((n < length calls.now) × (EndsBelow (call calls.now from).end (first_of calls.now n) → ⊥)) }
+    ensures { IsTrue result ↔ ((n < length calls.now)
+        × (EndsBelow (call calls.now from).end (first_of calls.now n) → ⊥)) }
 {
     n < calls.len() && !ends_before(&calls[from], calls[n].first)
 }
@@ -163,7 +170,7 @@ pub(crate) fn cover(
     requires history { IsHistory calls.now }
     requires stays { AreStays calls.now stays.now }
     requires inside { empty < length calls.now }
-    requires found { does calls.now empty ≡ Finds_none }
+    requires found { does calls.now empty ≡ FindsNone }
     ensures { IfOk result (IsCovered calls.now stays.now empty) }
 {
     let mut puts = Vec::new(alloc);
@@ -210,7 +217,8 @@ fn outlasts(presence: &Presence, put: usize, after: usize) -> bool
 /// For each call the call itself: no later one is known from which on all items are gone.
 pub(crate) fn no_skips(alloc: Global, count: usize) -> Result<Vec<usize>, AllocError>
     requires { count < 2 ^ 63 }
-    ensures { IfOk result (λ v. (length v.items ≡ count + 1) × ((i : ℕ) → i < count + 1 → slice_index_or v.items i 0 ≡ i)) }
+    ensures { IfOk result (λ v. (length v.items ≡ count + 1)
+        × ((i : ℕ) → i < count + 1 → slice_index_or v.items i 0 ≡ i)) }
 {
     let mut skips = Vec::new(alloc);
     for n in 0..count + 1 {
@@ -306,7 +314,8 @@ pub(crate) fn older_at(
     requires items { IsIndexed calls.now items.now }
     requires skips { AreSkips items.now.presences.items n skips.old.items }
     ensures older { MatchOption result ((m : ℕ) → GotTooYoung m calls.now n → ⊥)
-        (λ older. GotTooYoung older calls.now n × ((m : ℕ) → GotTooYoung m calls.now n → m ≤ older) × (older < length calls.now)) }
+        (λ older. GotTooYoung older calls.now n × ((m : ℕ) → GotTooYoung m calls.now n → m ≤ older)
+        × (older < length calls.now)) }
     ensures skips { AreSkips items.now.presences.items n skips.new.items }
 {
     let Some(put) = single_put(calls, items, n) else {
@@ -330,7 +339,8 @@ fn too_young_at(
     requires inside { n < length calls.now }
     requires items { IsIndexed calls.now items.now }
     requires skips { AreSkips items.now.presences.items n skips.old.items }
-    ensures young { IfOk result (λ found. MatchOption found (GotTooYoung k calls.now n → ⊥) (λ puts. IsTooYoung k calls.now n puts.items)) }
+    ensures young { IfOk result (λ found.
+        MatchOption found (GotTooYoung k calls.now n → ⊥) (λ puts. IsTooYoung k calls.now n puts.items)) }
     ensures skips { AreSkips items.now.presences.items n skips.new.items }
 {
     let Some(put) = single_put(calls, items, n) else {
@@ -391,7 +401,8 @@ fn evidence_among(alloc: Global, calls: &[Call], k: usize) -> Result<Option<Evid
 /// four.
 pub fn evidence(alloc: Global, history: &History, k: u32) -> Result<Option<Evidence>, AllocError>
     requires { (1 ≤ k) × (k ≤ 64) }
-    ensures first { IfOk result (λ found. MatchOption found (HasNoEvidence k history.now) (IsFirstEvidence k history.now)) }
+    ensures first { IfOk result (λ found.
+        MatchOption found (HasNoEvidence k history.now) (IsFirstEvidence k history.now)) }
     ensures refutes { IfOk result (λ found. OnSome found (HasOrder k history.now → ⊥)) }
 {
     evidence_among(alloc, history.calls(), k as usize)

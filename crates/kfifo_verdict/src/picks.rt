@@ -1,9 +1,9 @@
 //! The ways in which a get can take an item, by number.
 
 /// How many of the choices of an item that leaves the front are changed: of the further ones always the first.
-const MOST_CHANGED: u32 = 4;
+const MAX_CHANGED: u32 = 4;
 
-/// How many ways there are for each put whose item is taken: 2 to the power of `MOST_CHANGED`.
+/// How many ways there are for each put whose item is taken: 2 to the power of `MAX_CHANGED`.
 const WAYS: usize = 16;
 
 /// A way in which a get takes an item.
@@ -13,10 +13,10 @@ pub(crate) struct Picks {
     pub candidate: usize,
     /// The way, of those for this put.
     way: usize,
-    /// Which of the choices of an item that leaves the front are to come: a binary digit for each, 1 where the other item
-    /// leaves.
+    /// Which of the choices of an item that leaves the front are to come: a binary digit for each, 1 where the other
+    /// item leaves.
     rest: usize,
-    /// How many of these choices there were, up to `MOST_CHANGED`.
+    /// How many of these choices there were, up to `MAX_CHANGED`.
     passed: u32,
 }
 
@@ -40,7 +40,7 @@ impl Picks {
     /// There was a choice.
     pub(crate) fn pass(&mut self) {
         self.rest = self.rest / 2;
-        if self.passed < MOST_CHANGED {
+        if self.passed < MAX_CHANGED {
             self.passed += 1;
         }
     }

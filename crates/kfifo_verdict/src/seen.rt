@@ -3,13 +3,13 @@
 use std::alloc::{AllocError, Global};
 
 /// The most states that are kept: 8 MB.
-const MOST_KEPT: usize = 1_048_576;
+const MAX_KEPT: usize = 1_048_576;
 
 /// How many states are kept for each call.
 const KEPT_PER_CALL: usize = 16;
 
-/// States that the search has been in, by numbers that tell them apart. A state may be forgotten where another one has its
-/// slot: then it is searched once more.
+/// States that the search has been in, by numbers that tell them apart. A state may be forgotten where another one has
+/// its slot: then it is searched once more.
 #[derive(Drop)]
 pub(crate) struct Seen {
     /// The number of a state in each slot, or 0.
@@ -27,7 +27,7 @@ pub(crate) fn scattered(number: u64) -> u64 {
 impl Seen {
     /// None yet.
     pub(crate) fn new(alloc: Global, calls: usize) -> Result<Seen, AllocError> {
-        let count = calls.saturating_mul(KEPT_PER_CALL).min(MOST_KEPT);
+        let count = calls.saturating_mul(KEPT_PER_CALL).min(MAX_KEPT);
         Ok(Seen {
             slots: vec![in alloc; 0; count]?,
         })

@@ -321,8 +321,8 @@ impl State {
     }
 }
 
-/// The first of the other calls from number `from` on that does not stand before the put: it went at the put's moment or
-/// later, and no Empty that the put stands behind comes after it.
+/// The first of the other calls from number `from` on that does not stand before the put: it went at the put's moment
+/// or later, and no Empty that the put stands behind comes after it.
 fn first_behind(others: &[Other], from: usize, moment: u64, placed: Placed) -> usize {
     for i in from..others.len() {
         if moment <= others[i].step && placed.behind <= i {

@@ -4,12 +4,14 @@
 //! put of an item whose get begins after that get. The items stand in line by these moments, and each goes out as soon
 //! as its get has begun and those before it are out. So the list is empty as each call begins at which no item is
 //! certainly there.
-ghost use Rattle.std.specs.Prelude.{ℕ, ◌≡◌, ◌+◌, ◌<◌, ◌≤◌, ◌↔◌, ◌^◌, IsTrue, List, length, map, slice_index_or, IfOk, IfSome, IsSome};
+ghost use Rattle.std.specs.Prelude.{ℕ, ◌≡◌, ◌+◌, ◌<◌, ◌≤◌, ◌↔◌, ◌^◌, IsTrue, List, length, map, slice_index_or, IfOk};
+ghost use Rattle.std.specs.Prelude.{IfSome, IsSome};
 ghost use Rattle.kfifo_model.specs.Histories.{IsLegal};
 ghost use Rattle.kfifo_model.specs.Validity.{IsHistory};
 ghost use Rattle.kfifo_verdict.specs.Finding.{ArePresences, AreStays, AreLongest, IsIndexed};
 ghost use Rattle.kfifo_verdict.specs.Judging.{HasNoEvidence, IsPlain};
-ghost use Rattle.kfifo_verdict.specs.Plain.{presence, IsLate, IsDue, ArePlaces, IsLine, AreIdle, AreTurns, AreNumbered, IsByTurns};
+ghost use Rattle.kfifo_verdict.specs.Plain.{presence, IsLate, IsDue, ArePlaces, IsLine, AreIdle, AreTurns, AreNumbered};
+ghost use Rattle.kfifo_verdict.specs.Plain.{IsByTurns};
 
 use crate::deeds::{Deed, deed_of, first_after};
 use crate::finding::{Covered, Stay, cover, longest_stays};

@@ -1,7 +1,8 @@
 -- Which sizes a shape may have, and which fault is reported where it may not.
 use Rattle.std.specs.Prelude.{ℕ, ◌&&◌, nat_le, if◌then◌else◌, Bool, not, Option, Some, None}
 use Rattle.kfifo_words.specs.declared.fault.ShapeFault.{ShapeFault}
-use Rattle.kfifo_words.specs.declared.fault.ShapeFault.TheVariants.{KOutOfRange, SegmentsOutOfRange, LastOutOfRange, ProbesOutOfRange}
+use Rattle.kfifo_words.specs.declared.fault.ShapeFault.TheVariants.{KOutOfRange, SegmentsOutOfRange, LastOutOfRange}
+use Rattle.kfifo_words.specs.declared.fault.ShapeFault.TheVariants.{ProbesOutOfRange}
 
 -- a lies within these bounds, both among them
 abbrev pub within : ℕ → ℕ → ℕ → Bool

@@ -51,7 +51,8 @@ impl Shape {
     /// Refuses the first size that is out of range: KOutOfRange where k is not 1 to 64, SegmentsOutOfRange where n is
     /// not 2 to 1,024, LastOutOfRange where `last` is not 2 to 2^40 - 1.
     pub fn new(k: u32, n: u32, last: u64) -> Result<Shape, ShapeFault>
-        ensures { MatchResult result (λ s. (s.k ≡ k) × (s.n ≡ n) × (s.last ≡ last) × (s.probes ≡ k)) (λ f. fault_of k n last k ≡ Some f) }
+        ensures { MatchResult result (λ s. (s.k ≡ k) × (s.n ≡ n) × (s.last ≡ last) × (s.probes ≡ k))
+            (λ f. fault_of k n last k ≡ Some f) }
     {
         Shape::with_probes(k, n, last, k)
     }
@@ -151,7 +152,8 @@ impl Shape {
         ensures value { result ≡ slot_at self.now.k segment slot }
         ensures not_ends { 0 < result }
         ensures below_clock { result < clock_at self.now.k self.now.n }
-        ensures distinct { (s i : ℕ) → s < self.now.n → i < self.now.k → slot_at self.now.k s i ≡ result → (s ≡ segment) × (i ≡ slot) }
+        ensures distinct { (s i : ℕ) → s < self.now.n → i < self.now.k → slot_at self.now.k s i ≡ result → (s ≡ segment)
+            × (i ≡ slot) }
     {
         1 + segment as usize * self.k as usize + slot as usize
     }

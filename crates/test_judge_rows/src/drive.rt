@@ -23,9 +23,9 @@
 //! order where it is missing), and `show`, for `judge` to show its order. Where there is a `with`, only the lines that
 //! have this text are kept; `count` prints the number of lines in place of them.
 //!
-//! A picture may also have `calls` (of a list of two calls from the first to the last), or `near` (a list of calls: these are
-//! marked, for the `reason`, a string) and with it `around` (a number: they are drawn with what is near them; all calls where it is
-//! missing).
+//! A picture may also have `calls` (of a list of two calls from the first to the last), or `near` (a list of calls:
+//! these are marked, for the `reason`, a string) and with it `around` (a number: they are drawn with what is near them;
+//! all calls where it is missing).
 
 use crate::input::input_of;
 use crate::pictures::{add_picture, form_line};

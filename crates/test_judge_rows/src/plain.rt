@@ -3,9 +3,8 @@
 
 use crate::streams::{Input, Output};
 use kfifo_draw::{DrawFault, Drawing, Marking, Part, Style};
-use kfifo_explain::Outcome;
 use kfifo_import::ImportFault;
-use kfifo_judge::StreamFault;
+use kfifo_judge::{Outcome, StreamFault};
 use kfifo_model::History;
 use serde_json::Value;
 use std::alloc::{AllocError, Global};
@@ -87,13 +86,13 @@ pub(crate) fn judge(
         return Ok(no_such_k(alloc, k)?);
     }
     let history = kfifo_judge::read_record(alloc, bytes)?;
-    let (text, said) = kfifo_explain::judge_text(alloc, &history, &[], k, tries, show)?;
+    let (text, said) = kfifo_judge::judge_text(alloc, &history, &[], k, tries, show)?;
     Ok(add_outcome(alloc, text, said)?)
 }
 
 pub(crate) fn least(alloc: Global, bytes: &[u8], tries: u64) -> Result<String, StreamFault> {
     let history = kfifo_judge::read_record(alloc, bytes)?;
-    let (text, said) = kfifo_explain::least_text(alloc, &history, &[], tries)?;
+    let (text, said) = kfifo_judge::least_text(alloc, &history, &[], tries)?;
     Ok(add_outcome(alloc, text, said)?)
 }
 

@@ -1,6 +1,6 @@
 //! Rows of drawn calls, made on a queue and on the machine.
 ghost use Rattle.std.specs.Prelude.{◌<◌};
-ghost use Rattle.kfifo_live.specs.Pass.{IsOf, IsSame};
+ghost use Rattle.kfifo_live.specs.Pass.{IsPassOf, IsSamePass};
 
 use crate::items::{drive, words_that_differ};
 use crate::plain;
@@ -41,8 +41,8 @@ fn draw_call(seed: &mut u32, k: u32, item: u32) -> Begin {
 
 /// Whether the queue makes a call as the machine does, with the same words after.
 fn is_same(queue: &Queue, pass: &mut Pass, state: &mut State, begin: Begin) -> bool
-    requires { IsOf queue.now pass.old }
-    ensures { IsSame pass.old pass.new }
+    requires { IsPassOf queue.now pass.old }
+    ensures { IsSamePass pass.old pass.new }
 {
     let answer = plain::call(queue, pass, begin);
     let machine = drive(state, 0, begin);
@@ -51,7 +51,7 @@ fn is_same(queue: &Queue, pass: &mut Pass, state: &mut State, begin: Begin) -> b
 
 /// Makes drawn calls, with the items 1 to 199.
 fn make_calls(queue: &Queue, pass: &mut Pass, state: &mut State, seed: &mut u32, tally: &mut Tally)
-    requires { IsOf queue.now pass.old }
+    requires { IsPassOf queue.now pass.old }
 {
     let k = queue.shape().k();
     for item in 1..200u32 {

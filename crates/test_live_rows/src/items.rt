@@ -1,6 +1,6 @@
 //! Rows of a queue of items, each call made beside the same call of the machine.
 ghost use Rattle.std.specs.Prelude.{IfOk, All, IfSome};
-ghost use Rattle.kfifo_live.specs.Pass.{IsOf, IsSame};
+ghost use Rattle.kfifo_live.specs.Pass.{IsPassOf, IsSamePass};
 
 use crate::begin::{call_of, has, place_of, shape_text, size, word_of};
 use crate::faults::{close_text, open_text};
@@ -32,8 +32,8 @@ pub fn drive(state: &mut State, thread: u32, begin: Begin) -> Option<Answer> {
 
 /// How many words of the queue are not the machine's.
 pub fn words_that_differ(queue: &Queue, pass: &mut Pass, state: &State) -> u32
-    requires { IsOf queue.now pass.old }
-    ensures { IsSame pass.old pass.new }
+    requires { IsPassOf queue.now pass.old }
+    ensures { IsSamePass pass.old pass.new }
 {
     let shape = queue.shape();
     let mut differ: u32 = 0;
@@ -53,8 +53,8 @@ fn call_both(
     state: &mut State,
     begin: Begin,
 ) -> Result<String, AllocError>
-    requires { IsOf queue.now pass.old }
-    ensures { IsSame pass.old pass.new }
+    requires { IsPassOf queue.now pass.old }
+    ensures { IsSamePass pass.old pass.new }
 {
     let answer = plain::call(queue, pass, begin);
     let machine = drive(state, pass.thread(), begin);
@@ -79,8 +79,8 @@ fn answer_text(
 
 /// The words of the queue: the ends and each slot with its version, and the clock.
 fn words_text(alloc: Global, queue: &Queue, pass: &mut Pass) -> Result<String, AllocError>
-    requires { IsOf queue.now pass.old }
-    ensures { IsSame pass.old pass.new }
+    requires { IsPassOf queue.now pass.old }
+    ensures { IsSamePass pass.old pass.new }
 {
     let clock = queue.shape().clock_index();
     let ends = Ends::of_bits(plain::word(queue, pass, 0).unwrap_or(0));
@@ -114,8 +114,8 @@ fn line_by(
     state: &mut State,
     step: &Value,
 ) -> Result<String, AllocError>
-    requires { IsOf queue.now pass.old }
-    ensures { IsSame pass.old pass.new }
+    requires { IsPassOf queue.now pass.old }
+    ensures { IsSamePass pass.old pass.new }
 {
     if word_of(step) == "words" {
         words_text(alloc, queue, pass)
@@ -127,9 +127,9 @@ fn line_by(
 
 /// Takes the last pass out of the list.
 fn take_last(queue: &Queue, passes: &mut Vec<Pass>) -> Option<Pass>
-    requires { All (IsOf queue.now) passes.old.items }
-    ensures rest { All (IsOf queue.now) passes.new.items }
-    ensures last { IfSome result (IsOf queue.now) }
+    requires { All (IsPassOf queue.now) passes.old.items }
+    ensures rest { All (IsPassOf queue.now) passes.new.items }
+    ensures last { IfSome result (IsPassOf queue.now) }
 {
     let _of = queue;
     passes.pop()
@@ -137,9 +137,9 @@ fn take_last(queue: &Queue, passes: &mut Vec<Pass>) -> Option<Pass>
 
 /// Puts a pass behind the others of the list.
 fn put_back(queue: &Queue, passes: &mut Vec<Pass>, pass: Pass) -> Result<(), AllocError>
-    requires others { All (IsOf queue.now) passes.old.items }
-    requires pass { IsOf queue.now pass }
-    ensures { IfOk result (λ _. All (IsOf queue.now) passes.new.items) }
+    requires others { All (IsPassOf queue.now) passes.old.items }
+    requires pass { IsPassOf queue.now pass }
+    ensures { IfOk result (λ _. All (IsPassOf queue.now) passes.new.items) }
 {
     let _of = queue;
     passes.push(pass)?;
@@ -148,8 +148,8 @@ fn put_back(queue: &Queue, passes: &mut Vec<Pass>, pass: Pass) -> Result<(), All
 
 /// The first two passes learn what the other one saw: the second from the first, or the other way round.
 fn meet_two(queue: &Queue, passes: &mut Vec<Pass>, is_second_first: bool) -> Result<(), AllocError>
-    requires { All (IsOf queue.now) passes.old.items }
-    ensures { IfOk result (λ _. All (IsOf queue.now) passes.new.items) }
+    requires { All (IsPassOf queue.now) passes.old.items }
+    ensures { IfOk result (λ _. All (IsPassOf queue.now) passes.new.items) }
 {
     let (Some(mut second), Some(mut first)) = (take_last(queue, passes), take_last(queue, passes))
     else {
@@ -172,8 +172,8 @@ fn line_of_call(
     state: &mut State,
     step: &Value,
 ) -> Result<String, AllocError>
-    requires { All (IsOf queue.now) passes.old.items }
-    ensures { IfOk result (λ _. All (IsOf queue.now) passes.new.items) }
+    requires { All (IsPassOf queue.now) passes.old.items }
+    ensures { IfOk result (λ _. All (IsPassOf queue.now) passes.new.items) }
 {
     let place = place_of(step, 1);
     if place >= passes.len() {
@@ -190,8 +190,8 @@ fn line_of(
     state: &mut State,
     step: &Value,
 ) -> Result<String, AllocError>
-    requires { All (IsOf queue.now) passes.old.items }
-    ensures { IfOk result (λ _. All (IsOf queue.now) passes.new.items) }
+    requires { All (IsPassOf queue.now) passes.old.items }
+    ensures { IfOk result (λ _. All (IsPassOf queue.now) passes.new.items) }
 {
     let word = word_of(step);
     if word == "shape" {
@@ -215,8 +215,8 @@ fn add_steps(
     steps: &[Value],
     lines: &mut Vec<String>,
 ) -> Result<(), AllocError>
-    requires { All (IsOf queue.now) passes.old.items }
-    ensures { IfOk result (λ _. All (IsOf queue.now) passes.new.items) }
+    requires { All (IsPassOf queue.now) passes.old.items }
+    ensures { IfOk result (λ _. All (IsPassOf queue.now) passes.new.items) }
 {
     for step in steps {
         lines.push(line_of(alloc, queue, passes, state, step)?)?;
@@ -231,8 +231,8 @@ fn pick(
     mut passes: Vec<Pass>,
     threads: &Value,
 ) -> Result<Vec<Pass>, AllocError>
-    requires { All (IsOf queue.now) passes.items }
-    ensures { IfOk result (λ picked. All (IsOf queue.now) picked.items) }
+    requires { All (IsPassOf queue.now) passes.items }
+    ensures { IfOk result (λ picked. All (IsPassOf queue.now) picked.items) }
 {
     let _shape = queue.shape();
     if threads.as_bool().unwrap_or(false) {
@@ -249,7 +249,7 @@ fn pick(
 
 /// The items that are left at a close, or its fault.
 fn closed(alloc: Global, queue: Queue, passes: Vec<Pass>) -> Result<String, AllocError>
-    requires { All (IsOf queue) passes.items }
+    requires { All (IsPassOf queue) passes.items }
 {
     match plain::close(alloc, queue, passes) {
         Ok(left) => {
@@ -268,7 +268,7 @@ fn end(
     row: &Value,
     lines: &mut Vec<String>,
 ) -> Result<(), AllocError>
-    requires { All (IsOf queue) passes.items }
+    requires { All (IsPassOf queue) passes.items }
 {
     if let Some(threads) = row.get("close") {
         let picked = pick(alloc, &queue, passes, threads)?;
@@ -286,7 +286,7 @@ fn run(
     row: &Value,
     lines: &mut Vec<String>,
 ) -> Result<(), AllocError>
-    requires { All (IsOf queue) passes.items }
+    requires { All (IsPassOf queue) passes.items }
 {
     add_steps(
         alloc,

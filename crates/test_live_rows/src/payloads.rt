@@ -1,6 +1,6 @@
 //! Rows of a queue of payloads, which count their drops.
 ghost use Rattle.std.specs.Prelude.{IfOk, All, IfSome};
-ghost use Rattle.kfifo_live.specs.Pass.{IsOf, IsSame};
+ghost use Rattle.kfifo_live.specs.Pass.{IsPassOf, IsSamePass};
 
 use crate::begin::{call_of, place_of, shape_text, size, word_of};
 use crate::faults::{close_text, open_text};
@@ -63,8 +63,8 @@ fn call_text(
     drops: &Arc<AtomicU64>,
     begin: Begin,
 ) -> Result<String, AllocError>
-    requires { IsOf queue.now pass.old.pass }
-    ensures { IsSame pass.old.pass pass.new.pass }
+    requires { IsPassOf queue.now pass.old.pass }
+    ensures { IsSamePass pass.old.pass pass.new.pass }
 {
     match begin {
         Begin::Enqueue { item, start, turns } => {
@@ -90,8 +90,8 @@ fn line_by(
     drops: &Arc<AtomicU64>,
     step: &Value,
 ) -> Result<String, AllocError>
-    requires { IsOf queue.now pass.old.pass }
-    ensures { IsSame pass.old.pass pass.new.pass }
+    requires { IsPassOf queue.now pass.old.pass }
+    ensures { IsSamePass pass.old.pass pass.new.pass }
 {
     if word_of(step) == "pass" {
         let (thread, tokens) = (pass.thread(), pass.tokens());
@@ -112,8 +112,8 @@ fn line_of_call(
     drops: &Arc<AtomicU64>,
     step: &Value,
 ) -> Result<String, AllocError>
-    requires { All (λ p. IsOf queue.now p.pass) passes.old.items }
-    ensures { IfOk result (λ _. All (λ p. IsOf queue.now p.pass) passes.new.items) }
+    requires { All (λ p. IsPassOf queue.now p.pass) passes.old.items }
+    ensures { IfOk result (λ _. All (λ p. IsPassOf queue.now p.pass) passes.new.items) }
 {
     let place = place_of(step, 1);
     if place >= passes.len() {
@@ -129,9 +129,9 @@ fn met(
     second: PayPass<Counted>,
     is_second_first: bool,
 ) -> (PayPass<Counted>, PayPass<Counted>)
-    requires first { IsOf queue.now first.pass }
-    requires second { IsOf queue.now second.pass }
-    ensures { IsOf queue.now result.0.pass × IsOf queue.now result.1.pass }
+    requires first { IsPassOf queue.now first.pass }
+    requires second { IsPassOf queue.now second.pass }
+    ensures { IsPassOf queue.now result.0.pass × IsPassOf queue.now result.1.pass }
 {
     let (mut first, mut second) = (first, second);
     if is_second_first {
@@ -147,9 +147,9 @@ fn take_last(
     queue: &PayQueue<Counted>,
     passes: &mut Vec<PayPass<Counted>>,
 ) -> Option<PayPass<Counted>>
-    requires { All (λ p. IsOf queue.now p.pass) passes.old.items }
-    ensures rest { All (λ p. IsOf queue.now p.pass) passes.new.items }
-    ensures last { IfSome result (λ p. IsOf queue.now p.pass) }
+    requires { All (λ p. IsPassOf queue.now p.pass) passes.old.items }
+    ensures rest { All (λ p. IsPassOf queue.now p.pass) passes.new.items }
+    ensures last { IfSome result (λ p. IsPassOf queue.now p.pass) }
 {
     let _of = queue;
     passes.pop()
@@ -161,9 +161,9 @@ fn put_back(
     passes: &mut Vec<PayPass<Counted>>,
     pass: PayPass<Counted>,
 ) -> Result<(), AllocError>
-    requires others { All (λ p. IsOf queue.now p.pass) passes.old.items }
-    requires pass { IsOf queue.now pass.pass }
-    ensures { IfOk result (λ _. All (λ p. IsOf queue.now p.pass) passes.new.items) }
+    requires others { All (λ p. IsPassOf queue.now p.pass) passes.old.items }
+    requires pass { IsPassOf queue.now pass.pass }
+    ensures { IfOk result (λ _. All (λ p. IsPassOf queue.now p.pass) passes.new.items) }
 {
     let _of = queue;
     passes.push(pass)?;
@@ -176,8 +176,8 @@ fn meet_two(
     passes: &mut Vec<PayPass<Counted>>,
     is_second_first: bool,
 ) -> Result<(), AllocError>
-    requires { All (λ p. IsOf queue.now p.pass) passes.old.items }
-    ensures { IfOk result (λ _. All (λ p. IsOf queue.now p.pass) passes.new.items) }
+    requires { All (λ p. IsPassOf queue.now p.pass) passes.old.items }
+    ensures { IfOk result (λ _. All (λ p. IsPassOf queue.now p.pass) passes.new.items) }
 {
     let (Some(second), Some(first)) = (take_last(queue, passes), take_last(queue, passes)) else {
         return Ok(());
@@ -201,8 +201,8 @@ fn line_of(
     drops: &Arc<AtomicU64>,
     step: &Value,
 ) -> Result<String, AllocError>
-    requires { All (λ p. IsOf queue.now p.pass) passes.old.items }
-    ensures { IfOk result (λ _. All (λ p. IsOf queue.now p.pass) passes.new.items) }
+    requires { All (λ p. IsPassOf queue.now p.pass) passes.old.items }
+    ensures { IfOk result (λ _. All (λ p. IsPassOf queue.now p.pass) passes.new.items) }
 {
     let word = word_of(step);
     if word == "shape" {
@@ -226,8 +226,8 @@ fn add_steps(
     steps: &[Value],
     lines: &mut Vec<String>,
 ) -> Result<(), AllocError>
-    requires { All (λ p. IsOf queue.now p.pass) passes.old.items }
-    ensures { IfOk result (λ _. All (λ p. IsOf queue.now p.pass) passes.new.items) }
+    requires { All (λ p. IsPassOf queue.now p.pass) passes.old.items }
+    ensures { IfOk result (λ _. All (λ p. IsPassOf queue.now p.pass) passes.new.items) }
 {
     for step in steps {
         lines.push(line_of(alloc, queue, passes, drops, step)?)?;
@@ -258,7 +258,7 @@ fn closed(
     pass: PayPass<Counted>,
     drops: &Arc<AtomicU64>,
 ) -> Result<String, AllocError>
-    requires { IsOf queue pass.pass }
+    requires { IsPassOf queue pass.pass }
 {
     match plain::close_payloads(alloc, queue, pass) {
         Ok(left) => left_text(alloc, left.as_slice(), drops),
@@ -274,7 +274,7 @@ fn end_by(
     place: usize,
     drops: &Arc<AtomicU64>,
 ) -> Result<String, AllocError>
-    requires { All (λ p. IsOf queue p.pass) passes.items }
+    requires { All (λ p. IsPassOf queue p.pass) passes.items }
 {
     if place >= passes.len() {
         return "no such pass".to_string(alloc);
@@ -305,7 +305,7 @@ fn run(
     drops: &Arc<AtomicU64>,
     lines: &mut Vec<String>,
 ) -> Result<(), AllocError>
-    requires { All (λ p. IsOf queue p.pass) passes.items }
+    requires { All (λ p. IsPassOf queue p.pass) passes.items }
 {
     add_steps(alloc, &queue, &mut passes, drops, list(row, "steps"), lines)?;
     match row.get("close") {

@@ -1,7 +1,7 @@
-//! The calls that the drivers make, with no more said of each than the next call asks for. What a call asks of its numbers is
-//! tested here.
+//! The calls that the drivers make, with no more said of each than the next call asks for. What a call asks of its
+//! numbers is tested here.
 ghost use Rattle.std.specs.Prelude.{IfOk, All};
-ghost use Rattle.kfifo_live.specs.Pass.{IsOf, IsSame};
+ghost use Rattle.kfifo_live.specs.Pass.{IsPassOf, IsSamePass};
 
 use kfifo_live::{
     CloseFault, GatherFault, Given, OpenFault, Pass, PayPass, PayQueue, Queue, StampPass,
@@ -14,15 +14,15 @@ use std::alloc::Global;
 
 /// A queue with passes of its own.
 pub fn open(alloc: Global, shape: Shape, threads: u32) -> Result<(Queue, Vec<Pass>), OpenFault>
-    ensures { IfOk result (λ r. All (IsOf r.0) r.1.items) }
+    ensures { IfOk result (λ r. All (IsPassOf r.0) r.1.items) }
 {
     Queue::open(alloc, shape, threads)
 }
 
 /// Makes a call, if it is one that may be made.
 pub fn call(queue: &Queue, pass: &mut Pass, begin: Begin) -> Option<Answer>
-    requires { IsOf queue.now pass.old }
-    ensures { IsSame pass.old pass.new }
+    requires { IsPassOf queue.now pass.old }
+    ensures { IsSamePass pass.old pass.new }
 {
     let k = queue.shape().k();
     match begin {
@@ -46,8 +46,8 @@ pub fn call(queue: &Queue, pass: &mut Pass, begin: Begin) -> Option<Answer>
 
 /// A word of the queue, the clock as the last one; none where there is no word at this index.
 pub fn word(queue: &Queue, pass: &mut Pass, index: usize) -> Option<u64>
-    requires { IsOf queue.now pass.old }
-    ensures { IsSame pass.old pass.new }
+    requires { IsPassOf queue.now pass.old }
+    ensures { IsSamePass pass.old pass.new }
 {
     let shape = queue.shape();
     if index < 2 + shape.n() as usize * shape.k() as usize {
@@ -58,15 +58,15 @@ pub fn word(queue: &Queue, pass: &mut Pass, index: usize) -> Option<u64>
 }
 
 pub fn meet(queue: &Queue, first: &mut Pass, second: &mut Pass)
-    requires first { IsOf queue.now first.old }
-    requires second { IsOf queue.now second.old }
-    ensures { IsSame first.old first.new × IsSame second.old second.new }
+    requires first { IsPassOf queue.now first.old }
+    requires second { IsPassOf queue.now second.old }
+    ensures { IsSamePass first.old first.new × IsSamePass second.old second.new }
 {
     kfifo_live::meet(queue, first, second)
 }
 
 pub fn close(alloc: Global, queue: Queue, passes: Vec<Pass>) -> Result<Vec<u32>, CloseFault>
-    requires { All (IsOf queue) passes.items }
+    requires { All (IsPassOf queue) passes.items }
 {
     kfifo_live::close(alloc, queue, passes)
 }
@@ -78,15 +78,15 @@ pub fn open_stamped(
     threads: u32,
     calls: u32,
 ) -> Result<(StampQueue, Vec<StampPass>), OpenFault>
-    ensures { IfOk result (λ r. All (λ p. IsOf r.0 p.pass) r.1.items) }
+    ensures { IfOk result (λ r. All (λ p. IsPassOf r.0 p.pass) r.1.items) }
 {
     StampQueue::open(alloc, shape, threads, calls)
 }
 
 /// Makes a stamped call; none, without a call, also where it is one that may not be made.
 pub fn call_stamped(queue: &StampQueue, pass: &mut StampPass, begin: Begin) -> Option<Answer>
-    requires { IsOf queue.now pass.old.pass }
-    ensures { IsSame pass.old.pass pass.new.pass }
+    requires { IsPassOf queue.now pass.old.pass }
+    ensures { IsSamePass pass.old.pass pass.new.pass }
 {
     let k = queue.shape().k();
     match begin {
@@ -113,7 +113,7 @@ pub fn gather(
     queue: StampQueue,
     passes: Vec<StampPass>,
 ) -> Result<History, GatherFault>
-    requires { All (λ p. IsOf queue p.pass) passes.items }
+    requires { All (λ p. IsPassOf queue p.pass) passes.items }
 {
     kfifo_live::gather(alloc, queue, passes)
 }
@@ -125,7 +125,7 @@ pub fn open_payloads<T: Drop>(
     threads: u32,
     tokens: u32,
 ) -> Result<(PayQueue<T>, Vec<PayPass<T>>), OpenFault>
-    ensures { IfOk result (λ r. All (λ p. IsOf r.0 p.pass) r.1.items) }
+    ensures { IfOk result (λ r. All (λ p. IsPassOf r.0 p.pass) r.1.items) }
 {
     PayQueue::open(alloc, shape, threads, tokens)
 }
@@ -138,8 +138,8 @@ pub fn give<T: Drop>(
     start: u32,
     turns: u16,
 ) -> Option<Given<T>>
-    requires { IsOf queue.now pass.old.pass }
-    ensures { IsSame pass.old.pass pass.new.pass }
+    requires { IsPassOf queue.now pass.old.pass }
+    ensures { IsSamePass pass.old.pass pass.new.pass }
 {
     if start < queue.shape().k() && 0 < turns {
         Some(pass.give(queue, payload, start, turns))
@@ -155,8 +155,8 @@ pub fn take<T: Drop>(
     start: u32,
     turns: u16,
 ) -> Option<Taken<T>>
-    requires { IsOf queue.now pass.old.pass }
-    ensures { IsSame pass.old.pass pass.new.pass }
+    requires { IsPassOf queue.now pass.old.pass }
+    ensures { IsSamePass pass.old.pass pass.new.pass }
 {
     if start < queue.shape().k() && 0 < turns {
         Some(pass.take(queue, start, turns))
@@ -166,9 +166,9 @@ pub fn take<T: Drop>(
 }
 
 pub fn meet_payloads<T: Drop>(queue: &PayQueue<T>, first: &mut PayPass<T>, second: &mut PayPass<T>)
-    requires first { IsOf queue.now first.old.pass }
-    requires second { IsOf queue.now second.old.pass }
-    ensures { IsSame first.old.pass first.new.pass × IsSame second.old.pass second.new.pass }
+    requires first { IsPassOf queue.now first.old.pass }
+    requires second { IsPassOf queue.now second.old.pass }
+    ensures { IsSamePass first.old.pass first.new.pass × IsSamePass second.old.pass second.new.pass }
 {
     queue.meet(first, second)
 }
@@ -178,7 +178,7 @@ pub fn close_payloads<T: Drop>(
     queue: PayQueue<T>,
     pass: PayPass<T>,
 ) -> Result<Vec<T>, CloseFault>
-    requires { IsOf queue pass.pass }
+    requires { IsPassOf queue pass.pass }
 {
     queue.close(alloc, pass)
 }

@@ -1,6 +1,6 @@
 //! Rows of a stamped queue.
 ghost use Rattle.std.specs.Prelude.{IfOk, All};
-ghost use Rattle.kfifo_live.specs.Pass.{IsOf, IsSame};
+ghost use Rattle.kfifo_live.specs.Pass.{IsPassOf, IsSamePass};
 
 use crate::begin::{call_of, has, place_of, size, word_of};
 use crate::faults::{gather_text, open_text};
@@ -36,8 +36,8 @@ fn line_by(
     pass: &mut StampPass,
     step: &Value,
 ) -> Result<String, AllocError>
-    requires { IsOf queue.now pass.old.pass }
-    ensures { IsSame pass.old.pass pass.new.pass }
+    requires { IsPassOf queue.now pass.old.pass }
+    ensures { IsSamePass pass.old.pass pass.new.pass }
 {
     if word_of(step) == "log" {
         return calls_text(alloc, pass.log());
@@ -54,8 +54,8 @@ fn line_of(
     passes: &mut Vec<StampPass>,
     step: &Value,
 ) -> Result<String, AllocError>
-    requires { All (λ p. IsOf queue.now p.pass) passes.old.items }
-    ensures { IfOk result (λ _. All (λ p. IsOf queue.now p.pass) passes.new.items) }
+    requires { All (λ p. IsPassOf queue.now p.pass) passes.old.items }
+    ensures { IfOk result (λ _. All (λ p. IsPassOf queue.now p.pass) passes.new.items) }
 {
     if word_of(step) == "passes" {
         let count = passes.len();
@@ -76,8 +76,8 @@ fn add_steps(
     steps: &[Value],
     lines: &mut Vec<String>,
 ) -> Result<(), AllocError>
-    requires { All (λ p. IsOf queue.now p.pass) passes.old.items }
-    ensures { IfOk result (λ _. All (λ p. IsOf queue.now p.pass) passes.new.items) }
+    requires { All (λ p. IsPassOf queue.now p.pass) passes.old.items }
+    ensures { IfOk result (λ _. All (λ p. IsPassOf queue.now p.pass) passes.new.items) }
 {
     for step in steps {
         lines.push(line_of(alloc, queue, passes, step)?)?;
@@ -92,8 +92,8 @@ fn pick(
     mut passes: Vec<StampPass>,
     threads: &Value,
 ) -> Result<Vec<StampPass>, AllocError>
-    requires { All (λ p. IsOf queue.now p.pass) passes.items }
-    ensures { IfOk result (λ picked. All (λ p. IsOf queue.now p.pass) picked.items) }
+    requires { All (λ p. IsPassOf queue.now p.pass) passes.items }
+    ensures { IfOk result (λ picked. All (λ p. IsPassOf queue.now p.pass) picked.items) }
 {
     let _shape = queue.shape();
     if threads.as_bool().unwrap_or(false) {
@@ -110,7 +110,7 @@ fn pick(
 
 /// The calls of all logs, or the fault.
 fn gathered(alloc: Global, queue: StampQueue, passes: Vec<StampPass>) -> Result<String, AllocError>
-    requires { All (λ p. IsOf queue p.pass) passes.items }
+    requires { All (λ p. IsPassOf queue p.pass) passes.items }
 {
     match plain::gather(alloc, queue, passes) {
         Ok(history) => calls_text(alloc, history.calls()),
@@ -126,7 +126,7 @@ fn end(
     row: &Value,
     lines: &mut Vec<String>,
 ) -> Result<(), AllocError>
-    requires { All (λ p. IsOf queue p.pass) passes.items }
+    requires { All (λ p. IsPassOf queue p.pass) passes.items }
 {
     if let Some(threads) = row.get("gather") {
         let picked = pick(alloc, &queue, passes, threads)?;
@@ -143,7 +143,7 @@ fn run(
     row: &Value,
     lines: &mut Vec<String>,
 ) -> Result<(), AllocError>
-    requires { All (λ p. IsOf queue p.pass) passes.items }
+    requires { All (λ p. IsPassOf queue p.pass) passes.items }
 {
     add_steps(alloc, &queue, &mut passes, list(row, "steps"), lines)?;
     end(alloc, queue, passes, row, lines)

@@ -30,7 +30,8 @@ pub extern "C" fn kfifo_c_give(pass: &mut ValueHandle, value: u64) -> u32
 /// one, and returns its answer's number. Returns BAD_CALL, with nothing done, where the handle is closed.
 #[unsafe(no_mangle)]
 pub extern "C" fn kfifo_c_take(pass: &mut ValueHandle, value: &mut u64) -> u32
-    ensures answer { (answer : Option (HasTaken ℕ)) × (result ≡ taken_number answer) × (value.new ≡ value_after value.old answer)
+    ensures answer { (answer : Option (HasTaken ℕ)) × (result ≡ taken_number answer)
+        × (value.new ≡ value_after value.old answer)
         × Tries (λ _. ⊤) TakesValue answer pass.old.held.value pass.new.held.value }
     ensures address { pass.new.address ≡ pass.old.address }
 {

@@ -1,5 +1,6 @@
 //! Closing a queue of values.
-ghost use Rattle.std.specs.Prelude.{◌≡◌, ◌⊎◌, ◌↔◌, ◌≤◌, ◌*◌, ◌++◌, None, Some, ◌==◌, not, MatchOption, IsTrue, All, length, drop};
+ghost use Rattle.std.specs.Prelude.{◌≡◌, ◌⊎◌, ◌↔◌, ◌≤◌, ◌*◌, ◌++◌, None, Some, ◌==◌, not, MatchOption, IsTrue, All};
+ghost use Rattle.std.specs.Prelude.{length, drop};
 ghost use Rattle.std.specs.List.{list_all};
 ghost use Rattle.kfifo_live.specs.Pass.{OpenQueue};
 ghost use Rattle.kfifo_c.specs.ValueHandles.{values_behind, value_addresses};
@@ -91,8 +92,10 @@ pub extern "C" fn kfifo_c_close_values(
 ) -> u32
     requires { AreOfOneValueQueue (values_behind passes.old) }
     ensures answers { (result ≡ 0) ⊎ (result ≡ 6) ⊎ (result ≡ 9) }
-    ensures bad { result ≡ 6 → ¬ ((queue : OpenQueue) × MayCloseValues queue (values_behind passes.old) (length values.old)) }
-    ensures may { (result ≡ 0) ⊎ (result ≡ 9) → (queue : OpenQueue) × MayCloseValues queue (values_behind passes.old) (length values.old) }
+    ensures bad { result ≡ 6 → ¬ ((queue : OpenQueue)
+        × MayCloseValues queue (values_behind passes.old) (length values.old)) }
+    ensures may { (result ≡ 0) ⊎ (result ≡ 9) → (queue : OpenQueue)
+        × MayCloseValues queue (values_behind passes.old) (length values.old) }
     ensures nothing { result ≡ 6 → (values_behind passes.new ≡ values_behind passes.old)
         × (value_addresses passes.new ≡ value_addresses passes.old) }
     ensures closed { (result ≡ 0) ⊎ (result ≡ 9) → All (λ pass. pass.held.value ≡ None) passes.new }

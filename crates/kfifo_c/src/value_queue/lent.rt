@@ -14,7 +14,8 @@ impl ValueHeld {
     #[inline(always)]
     pub(crate) fn seat_mut(&mut self) -> &mut ValueSeat
         requires { (seat : ValueSeated) × (self.old.value ≡ Some seat) }
-        ensures* writes_back { sem 𝓛 (follows held_row seat_row self.entry.ghost_name result.ghost_name (value_held_with self.old)) }
+        ensures* writes_back { sem 𝓛 (follows held_row seat_row self.entry.ghost_name result.ghost_name
+            (value_held_with self.old)) }
         ensures value { self.old.value ≡ Some result.now }
     {
         unsafe { &mut *(self.at as *mut ValueSeat) }

@@ -1,8 +1,9 @@
 //! Opening a queue of values.
-ghost use Rattle.std.specs.Prelude.{◌≡◌, ◌≢◌, ◌<◌, ◌≤◌, ◌⊎◌, ◌↔◌, None, Some, IfSome, IfOk, IsErrOf, All, length, map, reverse};
+ghost use Rattle.std.specs.Prelude.{◌≡◌, ◌≢◌, ◌<◌, ◌≤◌, ◌⊎◌, ◌↔◌, None, Some, IfSome, IfOk, IsErrOf, All, length, map};
+ghost use Rattle.std.specs.Prelude.{reverse};
 ghost use denote.RawPtr.{Ptr};
 ghost use Rattle.kfifo_words.specs.Sizes.{fault_of};
-ghost use Rattle.kfifo_live.specs.Pass.{IsOf};
+ghost use Rattle.kfifo_live.specs.Pass.{IsPassOf};
 ghost use Rattle.kfifo_live.specs.declared.fault.OpenFault.TheVariants.{ThreadsOutOfRange, TokensOutOfRange};
 ghost use Rattle.kfifo_c.specs.ValueHandles.{values_behind};
 ghost use Rattle.kfifo_c.specs.Exports.{shape_number};
@@ -24,9 +25,10 @@ fn seat_all(
     mut passes: Vec<PayPass<u64>>,
     threads: u32,
 ) -> Result<Vec<Box<ValueSeat, Global>>, AllocError>
-    requires of { All (λ p. IsOf queue p.pass) passes.items }
+    requires of { All (λ p. IsPassOf queue p.pass) passes.items }
     requires threads { threads ≡ queue.opened.threads }
-    ensures { IfOk result (λ seats. reverse (map (λ seat. seat.value) seats.items) ≡ value_seats_of queue passes.items) }
+    ensures { IfOk result (λ seats. reverse (map (λ seat. seat.value) seats.items)
+        ≡ value_seats_of queue passes.items) }
 {
     let shared = Arc::new(alloc, queue)?;
     let mut seats = Vec::with_capacity(alloc, passes.len())?;
@@ -45,9 +47,11 @@ fn open_seats(
     threads: u32,
     tokens: u32,
 ) -> Result<Vec<Box<ValueSeat, Global>>, OpenFault>
-    ensures ok { IfOk result (λ seats. OpensValues shape threads tokens (reverse (map (λ seat. seat.value) seats.items))) }
+    ensures ok { IfOk result (λ seats. OpensValues shape threads tokens
+        (reverse (map (λ seat. seat.value) seats.items))) }
     ensures threads { IsErrOf result ThreadsOutOfRange ↔ ((threads ≡ 0) ⊎ (64 < threads)) }
-    ensures tokens { IsErrOf result TokensOutOfRange ↔ ((1 ≤ threads) × (threads ≤ 64) × ((tokens ≡ 0) ⊎ (1024 < tokens))) }
+    ensures tokens { IsErrOf result TokensOutOfRange
+        ↔ ((1 ≤ threads) × (threads ≤ 64) × ((tokens ≡ 0) ⊎ (1024 < tokens))) }
 {
     let (queue, passes) = PayQueue::open_with_pool(alloc, shape, threads, tokens)?;
     let seats = seat_all(alloc, queue, passes, threads)?;
@@ -89,14 +93,17 @@ pub extern "C" fn kfifo_c_open_values(
     tokens: u32,
     passes: &mut [ValueHandle],
 ) -> u32
-    ensures ok { result ≡ 0 → OpensValueSizes k segments last probes (length passes.old) tokens (values_behind passes.new) }
+    ensures ok { result ≡ 0 → OpensValueSizes k segments last probes (length passes.old) tokens
+        (values_behind passes.new) }
     ensures address { result ≡ 0 → (address : Ptr) × All (λ pass. pass.address ≡ address) passes.new }
     ensures refused { result ≢ 0 → passes.new ≡ passes.old }
     ensures shape { IfSome (fault_of k segments last probes) (λ fault. result ≡ shape_number fault) }
-    ensures threads { fault_of k segments last probes ≡ None → (length passes.old ≡ 0) ⊎ (64 < length passes.old) → result ≡ 8 }
+    ensures threads { fault_of k segments last probes ≡ None → (length passes.old ≡ 0) ⊎ (64 < length passes.old)
+        → result ≡ 8 }
     ensures tokens { fault_of k segments last probes ≡ None → 1 ≤ length passes.old → length passes.old ≤ 64
         → (tokens ≡ 0) ⊎ (1024 < tokens) → result ≡ 15 }
-    ensures memory { fault_of k segments last probes ≡ None → 1 ≤ length passes.old → length passes.old ≤ 64 → 1 ≤ tokens → tokens ≤ 1024
+    ensures memory { fault_of k segments last probes ≡ None → 1 ≤ length passes.old → length passes.old ≤ 64
+        → 1 ≤ tokens → tokens ≤ 1024
         → (result ≡ 0) ⊎ (result ≡ 7) }
 {
     let shape = match Shape::with_probes(k, segments, last, probes) {

@@ -1,6 +1,6 @@
 //! What a handle of a queue of values stands for.
 ghost use Rattle.std.specs.Prelude.{◌≡◌, ◌*◌};
-ghost use Rattle.kfifo_live.specs.Pass.{IsOf};
+ghost use Rattle.kfifo_live.specs.Pass.{IsPassOf};
 ghost use Rattle.kfifo_c.specs.ValueSeats.{ValueSeated, value_seated};
 ghost use Rattle.kfifo_c.specs.Values.{GivesValue, TakesValue};
 
@@ -10,7 +10,8 @@ use std::alloc::Global;
 use std::marker::Model;
 use std::sync::Arc;
 
-/// A pass with the starts and rounds of its calls, a part in the queue that it is of, and the number of that queue's passes.
+/// A pass with the starts and rounds of its calls, a part in the queue that it is of, and the number of that queue's
+/// passes.
 #[derive(Drop)]
 pub struct ValueSeat {
     pub(crate) queue: Arc<PayQueue<u64>, Global>,
@@ -25,7 +26,7 @@ impl Model for ValueSeat {
 
     ghost view = { λ s. record { queue = s.queue.value; held = s.handle } };
 
-    ghost invariant = { λ s. IsOf s.queue.value s.handle.pass.pass × (s.threads ≡ s.queue.value.opened.threads) };
+    ghost invariant = { λ s. IsPassOf s.queue.value s.handle.pass.pass × (s.threads ≡ s.queue.value.opened.threads) };
 }
 
 impl ValueSeat {
@@ -35,7 +36,7 @@ impl ValueSeat {
         pass: PayPass<u64>,
         threads: u32,
     ) -> ValueSeat
-        requires of { IsOf queue.value pass.pass }
+        requires of { IsPassOf queue.value pass.pass }
         requires threads { threads ≡ queue.value.opened.threads }
         ensures { result ≡ value_seated queue.value pass }
     {
@@ -79,7 +80,7 @@ impl ValueSeat {
     pub(crate) fn into_parts(self) -> (Arc<PayQueue<u64>, Global>, PayPass<u64>)
         ensures queue { result.0.value ≡ self.queue }
         ensures pass { result.1 ≡ self.held.pass }
-        ensures of { IsOf self.queue result.1.pass }
+        ensures of { IsPassOf self.queue result.1.pass }
     {
         let ValueSeat { queue, handle, .. } = self;
         (queue, handle.into_pass())

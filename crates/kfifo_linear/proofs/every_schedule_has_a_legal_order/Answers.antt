@@ -4,4 +4,14 @@ use Rattle.kfifo_linear.proofs.Schedule.{points_hold, has_legal_order, few_overt
 use Rattle.kfifo_linear.proofs.every_schedule_has_a_legal_order.Goals as goal
 
 pub returns : goal.returns
-returns c = record { points = points_hold; legal = has_legal_order; overtaken = few_overtake; certainly = few_certainly; laws = laws_hold; puts = puts_in_visit; numbers = numbers_agree; one = one_order; in_time = late_take }
+returns c = record {
+  points = points_hold;
+  legal = has_legal_order;
+  overtaken = few_overtake;
+  certainly = few_certainly;
+  laws = laws_hold;
+  puts = puts_in_visit;
+  numbers = numbers_agree;
+  one = one_order;
+  in_time = late_take;
+}

@@ -9,7 +9,13 @@ pub seat_mut-requires : goal.seat_mut-requires
 seat_mut-requires c = open_at _ c.args.start (c.has_start.ensures.0 c.if-not-has_start.false)
 
 pub dequeue-answer-requires : goal.dequeue-answer-requires
-dequeue-answer-requires c = subst (λ n. c.args.start < n) (ap starts_of c.seat_mut.ensures.value) (c.has_start.ensures.0 c.if-not-has_start.false)
+dequeue-answer-requires c = subst (λ n. c.args.start < n) (ap starts_of c.seat_mut.ensures.value)
+    (c.has_start.ensures.0 c.if-not-has_start.false)
 
 pub returns-clause-answer : goal.returns-clause-answer
-returns-clause-answer c = (c.dequeue-answer.result, c.status.ensures, elim c.match-answer.branch [ in-Some-Got w ↦ search rules | in-Some+in-Done-1 w ↦ search rules | in-None-1 w ↦ search rules ], tried _ _ _ _ _ _ _ c.seat_mut.ensures.value refl c.dequeue-answer.ensures)
+returns-clause-answer c = (
+  c.dequeue-answer.result,
+  c.status.ensures,
+  elim c.match-answer.branch [ in-Some-Got w ↦ search rules | in-Some+in-Done-1 w ↦ search rules | in-None-1 w ↦ search rules ],
+  tried _ _ _ _ _ _ _ c.seat_mut.ensures.value refl c.dequeue-answer.ensures,
+)

@@ -8,14 +8,17 @@ seat_mut-seat-requires c = something _ (λ e. c.if-first-eq0.false (c.in-Some.fi
 
 pub returns-in_err-queue-clause-same : goal.returns-in_err-queue-clause-same
 returns-in_err-queue-clause-same c =
-    put_back c.args.handles.now 0 _ c.in-Some.first.now (sym c.seat_mut-seat.ensures.value ∙ ap (λ h. h.held.value) c.in-Some.ensures.item.1)
+    put_back c.args.handles.now 0 _ c.in-Some.first.now
+    (sym c.seat_mut-seat.ensures.value ∙ ap (λ h. h.held.value) c.in-Some.ensures.item.1)
 
 pub returns-in_err-queue-clause-addresses : goal.returns-in_err-queue-clause-addresses
-returns-in_err-queue-clause-addresses c = same_address c.args.handles.now 0 _ c.in-Some.first.now (ap (λ h. h.address) c.in-Some.ensures.item.1)
+returns-in_err-queue-clause-addresses c = same_address c.args.handles.now 0 _ c.in-Some.first.now
+    (ap (λ h. h.address) c.in-Some.ensures.item.1)
 
 pub returns-clause-same : goal.returns-clause-same
 returns-clause-same c =
-    put_back c.args.handles.now 0 _ c.in-Some.first.now (sym c.seat_mut-seat.ensures.value ∙ ap (λ h. h.held.value) c.in-Some.ensures.item.1)
+    put_back c.args.handles.now 0 _ c.in-Some.first.now
+    (sym c.seat_mut-seat.ensures.value ∙ ap (λ h. h.held.value) c.in-Some.ensures.item.1)
 
 pub returns-clause-addresses : goal.returns-clause-addresses
 returns-clause-addresses c = same_address c.args.handles.now 0 _ c.in-Some.first.now (ap (λ h. h.address) c.in-Some.ensures.item.1)

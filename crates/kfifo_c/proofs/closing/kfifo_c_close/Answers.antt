@@ -1,5 +1,5 @@
 use Rattle.std.proofs.Common.{All, List, ◌≡◌, ◌≤◌, ◌*◌, ◌++◌, length, drop, vec_len, sym, ap, subst, ◌∙◌, arith}
-use Rattle.kfifo_live.specs.Pass.{OpenQueue, Known, IsOf, Closes}
+use Rattle.kfifo_live.specs.Pass.{OpenQueue, PassView, IsPassOf, Closes}
 use Rattle.kfifo_c.specs.Handles.{behind}
 use Rattle.kfifo_c.specs.Exports.{MayClose, passes_in, AreTheirs}
 use Rattle.kfifo_c.proofs.Closings.{match_some, few_closed, closes_theirs}
@@ -11,14 +11,15 @@ close-requires c =
     let may = match_some _ _ c.in-Ok-Some.field-0 c.in-Ok-Some.queue c.in-Ok-Some.ensures.may c.in-Ok-Some.field-0-is in
     let may' = subst (λ (q : OpenQueue). MayClose q os (length c.args.items.now)) (sym c.in-Some.ensures) may in
     let same = c.in-Ok-Some.ensures.same in
-    subst (All (IsOf c.in-Some.queue)) (sym (c.in-Ok.ensures.taken ∙ ap passes_in same))
+    subst (All (IsPassOf c.in-Some.queue)) (sym (c.in-Ok.ensures.taken ∙ ap passes_in same))
     (closes_theirs os (length c.args.items.now) c.in-Some.queue may' (subst AreTheirs same c.in-Ok.ensures.of))
 
 pub write_items-requires : goal.write_items-requires
 write_items-requires c =
     let may = match_some _ _ c.in-Ok-Some.field-0 c.in-Ok-Some.queue c.in-Ok-Some.ensures.may c.in-Ok-Some.field-0-is in
     let few = few_closed c.in-Some.queue c.in-Ok.taken.items c.in-Ok-close.left.items c.in-Ok-close.ensures.ok in
-    let wide = subst (λ (q : OpenQueue). q.opened.shape.n * q.opened.shape.k ≤ length c.args.items.now) (sym c.in-Some.ensures) may.room_is in
+    let wide = subst (λ (q : OpenQueue). q.opened.shape.n * q.opened.shape.k ≤ length c.args.items.now) (sym c.in-Some.ensures)
+    may.room_is in
     let e = ap length c.as_slice.ensures.value in
     let slots = c.in-Some.queue.opened.shape.n * c.in-Some.queue.opened.shape.k in
     subst (λ n. n ≤ length c.args.items.now) (sym e) (omega (arith, few, wide))
@@ -33,16 +34,21 @@ returns-clause-done c = λ _.
       queue = c.in-Some.queue;
       each_open = may'.each_open;
       left = c.in-Ok-close.left.items;
-      closes = subst (λ (ps : List Known). Closes c.in-Some.queue ps c.in-Ok-close.left.items) taken c.in-Ok-close.ensures.ok;
+      closes = subst (λ (ps : List PassView). Closes c.in-Some.queue ps c.in-Ok-close.left.items) taken c.in-Ok-close.ensures.ok;
       count_is = c.len.ensures ∙ v;
       written = c.write_items.ensures ∙ ap (λ l. l ++ drop (length l) c.args.items.now) c.as_slice.ensures.value;
     }
 
 pub returns-in_default-into_inner-clause-may : goal.returns-in_default-into_inner-clause-may
-returns-in_default-into_inner-clause-may c = λ _. (c.in-Ok-Some.queue.value, match_some _ _ c.in-Ok-Some.field-0 c.in-Ok-Some.queue c.in-Ok-Some.ensures.may c.in-Ok-Some.field-0-is)
+returns-in_default-into_inner-clause-may c =
+    λ _. (c.in-Ok-Some.queue.value, match_some _ _ c.in-Ok-Some.field-0 c.in-Ok-Some.queue c.in-Ok-Some.ensures.may c.in-Ok-Some.field-0-is)
 
 pub returns-in_default-close-clause-may : goal.returns-in_default-close-clause-may
-returns-in_default-close-clause-may c = λ _. (c.in-Ok-Some.queue.value, match_some _ _ c.in-Ok-Some.field-0 c.in-Ok-Some.queue c.in-Ok-Some.ensures.may c.in-Ok-Some.field-0-is)
+returns-in_default-close-clause-may c = λ _.
+    (c.in-Ok-Some.queue.value, match_some _ _ c.in-Ok-Some.field-0 c.in-Ok-Some.queue c.in-Ok-Some.ensures.may c.in-Ok-Some.field-0-is)
 
 pub returns-clause-may : goal.returns-clause-may
-returns-clause-may c = λ _. (c.in-Ok-Some.queue.value, match_some _ _ c.in-Ok-Some.field-0 c.in-Ok-Some.queue c.in-Ok-Some.ensures.may c.in-Ok-Some.field-0-is)
+returns-clause-may c = λ _. (
+  c.in-Ok-Some.queue.value,
+  match_some _ _ c.in-Ok-Some.field-0 c.in-Ok-Some.queue c.in-Ok-Some.ensures.may c.in-Ok-Some.field-0-is,
+)

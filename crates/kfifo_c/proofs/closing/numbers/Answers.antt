@@ -7,29 +7,38 @@ use Rattle.kfifo_c.proofs.closing.numbers.Goals.{then-handle-ne0+in_ok-push, els
 use Rattle.kfifo_c.proofs.closing.numbers.Goals as goal
 
 pub seat_mut-requires : goal.seat_mut-requires
-seat_mut-requires c = something _ (λ e. c.if-handle-ne0.true ((get_or c.loop-handle.handles c.loop-handle.handle-index c.handle-item.result).starts_are ∙ e))
+seat_mut-requires c = something _ (λ e. c.if-handle-ne0.true
+    ((get_or c.loop-handle.handles c.loop-handle.handle-index c.handle-item.result).starts_are ∙ e))
 
 pub returns-in_err-push-clause-same : goal.returns-in_err-push-clause-same
-returns-in_err-push-clause-same c = put_back c.loop-handle.handles c.loop-handle.handle-index _ c.handle-item.result (sym c.seat_mut.ensures.value) ∙ c.loop-handle.invariant.same
+returns-in_err-push-clause-same c = put_back c.loop-handle.handles c.loop-handle.handle-index _ c.handle-item.result
+    (sym c.seat_mut.ensures.value) ∙ c.loop-handle.invariant.same
 
 pub returns-in_err-push-clause-addresses : goal.returns-in_err-push-clause-addresses
-returns-in_err-push-clause-addresses c = same_address c.loop-handle.handles c.loop-handle.handle-index _ c.handle-item.result refl ∙ c.loop-handle.invariant.addresses
+returns-in_err-push-clause-addresses c = same_address c.loop-handle.handles c.loop-handle.handle-index _ c.handle-item.result refl
+    ∙ c.loop-handle.invariant.addresses
 
 pub loop-handle-preserved : goal.loop-handle-preserved
 loop-handle-preserved c =
-    let hs = c.loop-handle.handles in let i = c.loop-handle.handle-index in let d = c.handle-item.result in let os = behind c.args.handles.now in
+    let hs = c.loop-handle.handles in let i = c.loop-handle.handle-index in let d = c.handle-item.result in let os =
+    behind c.args.handles.now in
     elim c.if-handle-ne0.branch [
       | then-handle-ne0+in_ok-push w ↦ record {
         same = ap behind w.handles-is ∙ put_back hs i _ d (sym w.seat_mut.ensures.value) ∙ c.loop-handle.invariant.same;
         addresses = ap addresses w.handles-is ∙ same_address hs i _ d refl ∙ c.loop-handle.invariant.addresses;
-        found = ap (λ v. v.items) w.numbers-is ∙ w.in_ok-push.ensures.items ∙ ap (λ l. l ++ w.thread.result ∷ []) c.loop-handle.invariant.found
+        found = ap (λ v. v.items) w.numbers-is ∙ w.in_ok-push.ensures.items
+            ∙ ap (λ l. l ++ w.thread.result ∷ []) c.loop-handle.invariant.found
             ∙ ap (λ n. numbers_in (take i os) ++ n ∷ []) w.thread.ensures
-            ∙ sym (numbers_more (take i os) w.seat_mut.result.now) ∙ ap numbers_in (sym (next_behind hs os i d (Some w.seat_mut.result.now) c.loop-handle.invariant.same (omega arith) w.seat_mut.ensures.value));
+            ∙ sym (numbers_more (take i os) w.seat_mut.result.now)
+            ∙ ap numbers_in (sym (next_behind hs os i d (Some w.seat_mut.result.now) c.loop-handle.invariant.same (omega arith)
+            w.seat_mut.ensures.value));
       }
       | else-handle-ne0 w ↦ record {
         same = ap behind w.handles-is ∙ put_back hs i _ d refl ∙ c.loop-handle.invariant.same;
         addresses = ap addresses w.handles-is ∙ same_address hs i _ d refl ∙ c.loop-handle.invariant.addresses;
         found = ap (λ v. v.items) w.numbers-is ∙ c.loop-handle.invariant.found
-            ∙ sym (numbers_same (take i os)) ∙ ap numbers_in (sym (next_behind hs os i d None c.loop-handle.invariant.same (omega arith) (closed_at _ (sym (get_or hs i d).starts_are ∙ w.if-handle-ne0.false))));
+            ∙ sym (numbers_same (take i os)) ∙ ap numbers_in
+            (sym (next_behind hs os i d None c.loop-handle.invariant.same (omega arith)
+            (closed_at _ (sym (get_or hs i d).starts_are ∙ w.if-handle-ne0.false))));
       }
     ]

@@ -1,5 +1,5 @@
 use Rattle.std.proofs.Common.{refl, subst, vec_capacity, ◌≡◌, ◌++◌, ◌∷◌, [], Some, None, get_or, take, length, sym, ap, ◌∙◌, arith}
-use Rattle.kfifo_live.specs.Pass.{IsOf}
+use Rattle.kfifo_live.specs.Pass.{IsPassOf}
 use Rattle.kfifo_c.specs.Handles.{behind}
 use Rattle.kfifo_c.specs.Exports.{passes_in, AreTheirs}
 use Rattle.kfifo_c.proofs.Closings.{one_longer, next_behind, passes_more, passes_same, theirs_more, closed_more, rest_more}
@@ -25,7 +25,8 @@ loop-handle-preserved c =
             taken = items ∙ ap (λ l. l ++ w.into_pass.result ∷ []) inv.taken ∙ ap (λ p. passes_in (take i os) ++ p ∷ []) pass
                 ∙ sym (passes_more (take i os) seat) ∙ ap passes_in (sym next);
             theirs = subst AreTheirs (sym next) (theirs_more (take i os) (Some seat) inv.theirs
-                (subst (λ p. IsOf seat.queue p) pass (subst (λ s. IsOf s.queue w.into_pass.result) w.into_inner-seat.ensures w.into_pass.ensures.of)));
+                (subst (λ p. IsPassOf seat.queue p) pass
+                (subst (λ s. IsPassOf s.queue w.into_pass.result) w.into_inner-seat.ensures w.into_pass.ensures.of)));
             few = omega arith;
             room = omega arith;
           }

@@ -19,7 +19,8 @@ loop-handle-preserved c =
                 (ap (λ l. behind (take i hs) ++ map Some (reverse (map (λ seat. seat.value) l))) (sym items) ∙ c.loop-handle.invariant.put);
             address = subst (λ l. All (λ handle. handle.address ≡ c.args.address) (take (i + 1) l)) (sym w.handles-is)
                 (subst (All (λ handle. handle.address ≡ c.args.address)) (sym (take_more_set hs i w.of.result (omega arith)))
-                (All-push (λ handle. handle.address ≡ c.args.address) (take i hs) w.of.result c.loop-handle.invariant.address w.of.ensures.address));
+                (All-push (λ handle. handle.address ≡ c.args.address) (take i hs) w.of.result c.loop-handle.invariant.address
+                w.of.ensures.address));
           }
       | in_default w ↦ record { left = search rules; put = search rules; address = search rules }
     ]

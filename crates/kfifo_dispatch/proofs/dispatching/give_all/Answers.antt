@@ -13,8 +13,10 @@ loop-place-preserved g c =
     let less : c.loop-place.place < length c.args.tasks.now = omega (arith, c.loop-place-test.true) in
     let task = get_or c.args.tasks.now c.loop-place.place (record { id = 0; left = 0; sum = 0 }) in
     let job : c.new-job.result ≡ begun c.loop-place.place task = c.new-job.ensures in
-    let more : map (λ (d : Progress). d.place) c.keep.new.kept.items ≡ map (λ (d : Progress). d.place) c.loop-place.returned.items ++ kept_after c.give-given.result =
-    c.in_ok-keep.ensures ∙ ap (λ (ns : List ℕ). map (λ (d : Progress). d.place) c.loop-place.returned.items ++ ns) c.work_off_refused.ensures in
+    let more : map (λ (d : Progress). d.place) c.keep.new.kept.items
+    ≡ map (λ (d : Progress). d.place) c.loop-place.returned.items ++ kept_after c.give-given.result =
+    c.in_ok-keep.ensures ∙ ap (λ (ns : List ℕ). map (λ (d : Progress). d.place) c.loop-place.returned.items ++ ns)
+    c.work_off_refused.ensures in
     record {
       same =
           same_trans (g.P.Station.known c.args.pass.now) (g.P.Station.known c.loop-place.pass) (g.P.Station.known c.give-given.new.self)
@@ -27,6 +29,8 @@ loop-place-preserved g c =
 pub returns-clause-gives : goal.returns-clause-gives
 returns-clause-gives g c =
     let all : c.loop-place.place ≡ length c.args.tasks.now = omega (arith, c.loop-place.auto.place-end, c.loop-place-test.false) in
-    let whole : take c.loop-place.place c.args.tasks.now ≡ c.args.tasks.now = ap (λ n. take n c.args.tasks.now) all ∙ take-length c.args.tasks.now in
-    subst (λ (ts : List Task). GivesAll g.P.Station.gives (c.args.shape.n + 2) 0 ts c.args.pass.now c.loop-place.pass (map (λ (d : Progress). d.place) c.loop-place.returned.items))
+    let whole : take c.loop-place.place c.args.tasks.now ≡ c.args.tasks.now =
+    ap (λ n. take n c.args.tasks.now) all ∙ take-length c.args.tasks.now in
+    subst (λ (ts : List Task). GivesAll g.P.Station.gives (c.args.shape.n + 2) 0 ts c.args.pass.now c.loop-place.pass
+    (map (λ (d : Progress). d.place) c.loop-place.returned.items))
     whole c.loop-place.invariant.gives

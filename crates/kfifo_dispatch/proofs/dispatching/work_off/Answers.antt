@@ -1,6 +1,6 @@
 -- What the calls of a dispatch came to, one after the other.
 use Rattle.std.proofs.Common.{ℕ, map, subst, List}
-use Rattle.kfifo_live.specs.Payloads.{PayKnown}
+use Rattle.kfifo_live.specs.Payloads.{PayPassView}
 use Rattle.kfifo_dispatch.specs.Jobs.{Progress}
 use Rattle.kfifo_dispatch.specs.Running.{AreEach}
 use Rattle.kfifo_dispatch.specs.Working.{PassRuns}
@@ -13,7 +13,7 @@ returns-clause-run g c =
     let opened = c.in_ok-queue.ensures in
     let backs = c.in_ok-backs.backs.items in
     let ran = each_ran c.in_ok-queue.passes.items backs (λ b. b.pass) (λ b. b.kept) (λ kept. map (λ (d : Progress). d.place) kept.items)
-    (PassRuns (g.G.Gate.passed c.args.gate.now) c.args.shape c.args.seed) c.in_ok-backs.ensures.run c.in_ok-gather.ensures.all in
+    (PassRuns (g.G.Gate.passed c.args.gate.now) c.args.shape c.args.seed) c.in_ok-backs.ensures.run c.in_ok-collect_finished.ensures.all in
     if_ok c.finish.result (record {
       queue = c.in_ok-queue.queue;
       opened = opened.opened;
@@ -23,6 +23,8 @@ returns-clause-run g c =
       first_is = opened.own_is;
       gives = c.in_ok-returned.ensures.gives;
       lasts = map (λ b. b.pass) backs;
-      runs = subst (λ (ps : List (PayKnown Progress)). AreEach (λ (first last : PayKnown Progress). (kept : List ℕ) × PassRuns (g.G.Gate.passed c.args.gate.now) c.args.shape c.args.seed first last kept)
+      runs = subst (λ (ps : List (PayPassView Progress)).
+          AreEach (λ (first last : PayPassView Progress). (kept : List ℕ)
+          × PassRuns (g.G.Gate.passed c.args.gate.now) c.args.shape c.args.seed first last kept)
           ps (map (λ b. b.pass) backs)) opened.passes_are ran;
     })

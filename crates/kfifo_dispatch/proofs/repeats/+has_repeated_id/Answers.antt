@@ -13,7 +13,8 @@ returns-else-comes_again-clause-repeated t c found =
 
 pub returns-else-comes_again-clause-apart : goal.returns-else-comes_again-clause-apart
 returns-else-comes_again-clause-apart t c none =
-    of_none c.args.tasks.now c.in-Some.rest.now c.in-Some.first.now c.in-Some.ensures.cases.0 (sym c.comes_again.ensures ∙ c.if-comes_again.false)
+    of_none c.args.tasks.now c.in-Some.rest.now c.in-Some.first.now c.in-Some.ensures.cases.0
+    (sym c.comes_again.ensures ∙ c.if-comes_again.false)
     (c.has_repeated_id.ensures.apart none)
 
 pub returns-in-None-clause-apart : goal.returns-in-None-clause-apart

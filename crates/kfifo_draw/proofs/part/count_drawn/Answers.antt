@@ -17,7 +17,11 @@ loop-number-preserved c =
     elim c.if-is_in_part.branch [
       | then-is_in_part w ↦ (
           let is = w.count-is in
-          rw is (count_more (IsInPart c.args.calls.now c.args.logged.now c.args.part) c.loop-number.number c.loop-number.count counted (w.if-is_in_part.ensures.0 refl), omega (arith, few))
+          rw is (
+            count_more (IsInPart c.args.calls.now c.args.logged.now c.args.part) c.loop-number.number c.loop-number.count counted
+                (w.if-is_in_part.ensures.0 refl),
+            omega (arith, few),
+          )
           )
       | else-is_in_part w ↦ (
           let is = w.count-is in

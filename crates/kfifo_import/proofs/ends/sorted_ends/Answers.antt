@@ -6,6 +6,8 @@ use Rattle.kfifo_import.proofs.ends.sorted_ends.Goals as goal
 
 pub returns : goal.returns
 returns c = record {
-  are = ends_moved c.args.calls.now c.in_ok-ends.ends.items c.sort_unstable_by_key.new.self.items c.sort_unstable_by_key.ensures.permutation c.in_ok-ends.ensures;
-  rise = IsNonDecreasingBy-from_sort_by_key (λ n. last_of c.args.calls.now n) c.sort_unstable_by_key.new.self.items c.sort_unstable_by_key.ensures.sorted (λ a r q k. search rules);
+  are = ends_moved c.args.calls.now c.in_ok-ends.ends.items c.sort_unstable_by_key.new.self.items c.sort_unstable_by_key.ensures.permutation
+      c.in_ok-ends.ensures;
+  rise = IsNonDecreasingBy-from_sort_by_key (λ n. last_of c.args.calls.now n) c.sort_unstable_by_key.new.self.items
+      c.sort_unstable_by_key.ensures.sorted (λ a r q k. search rules);
 }

@@ -7,6 +7,7 @@ pub returns : goal.returns
 returns c = (
   c.partition_point.ensures.bound,
   up_to_point (λ y. y.first) c.args.calls.now c.args.time c.partition_point.result
-      (IsPartitionPoint-from_clause (λ y. leb y.first c.args.time) c.args.calls.now c.partition_point.result c.partition_point.ensures.partitioned
+      (IsPartitionPoint-from_clause (λ y. leb y.first c.args.time) c.args.calls.now c.partition_point.result
+      c.partition_point.ensures.partitioned
       (IsPartitionedBy-leb (λ y. y.first) c.args.calls.now c.args.time c.requires) (λ a r q k. search rules)),
 )

@@ -9,6 +9,7 @@ returns c =
     let ends = c.args.ends.now in (
       c.partition_point.ensures.bound,
       below_point (λ n. last_of c.args.calls.now n) ends c.args.time c.partition_point.result
-          (IsPartitionPoint-from_clause (λ n. ltb (last_of c.args.calls.now n) c.args.time) ends c.partition_point.result c.partition_point.ensures.partitioned
+          (IsPartitionPoint-from_clause (λ n. ltb (last_of c.args.calls.now n) c.args.time) ends c.partition_point.result
+          c.partition_point.ensures.partitioned
           (IsPartitionedBy-ltb (λ n. last_of c.args.calls.now n) ends c.args.time c.requires) (λ a r q k. search rules)),
     )

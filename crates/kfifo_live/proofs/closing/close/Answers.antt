@@ -1,6 +1,6 @@
 use Rattle.std.proofs.Common.{◌<◌, ◌≤◌, All, Some, List, ap, sym, ◌∙◌, subst, arith}
 use Rattle.std.proofs.lemmas.List.Elements.{All-pop}
-use Rattle.kfifo_live.specs.Pass.{OpenQueue, Known, queue_of, IsOf}
+use Rattle.kfifo_live.specs.Pass.{OpenQueue, PassView, queue_of, IsPassOf}
 use Rattle.core.specs.Mem.Slots.{slots_items}
 use Rattle.kfifo_live.specs.Left.{items_left}
 use Rattle.std.proofs.Common.{ℕ, get_or}
@@ -9,40 +9,44 @@ use Rattle.kfifo_live.specs.declared.view.Opening.{Opening}
 use Rattle.kfifo_live.proofs.Gathered.{closes, pass_begins, final_head}
 use Rattle.kfifo_live.proofs.closing.close.Goals as goal
 
-pub gather_all-seat-requires-clause-table : goal.gather_all-seat-requires-clause-table
-gather_all-seat-requires-clause-table c =
-    let of = All-pop (IsOf c.args.queue) _ _ (Some c.in-Some.last) c.in-Some.ensures.items c.requires in (
-      ap (λ (k : Known). k.table) c.last.view_is ∙ of.1.0 ∙ sym (ap (λ (q : OpenQueue). q.table) c.queue.view_is),
+pub join_all-seat-requires-clause-table : goal.join_all-seat-requires-clause-table
+join_all-seat-requires-clause-table c =
+    let of = All-pop (IsPassOf c.args.queue) _ _ (Some c.in-Some.last) c.in-Some.ensures.items c.requires in (
+      ap (λ (k : PassView). k.table) c.last.view_is ∙ of.1.0 ∙ sym (ap (λ (q : OpenQueue). q.table) c.queue.view_is),
       omega (arith, c.queue.invariant.1),
     )
 
-pub gather_all-seat-requires-clause-of : goal.gather_all-seat-requires-clause-of
-gather_all-seat-requires-clause-of c =
-    let of = All-pop (IsOf c.args.queue) _ _ (Some c.in-Some.last) c.in-Some.ensures.items c.requires in
-    let table = ap (λ (k : Known). k.table) c.last.view_is ∙ of.1.0 in
-    let opened = ap (λ (k : Known). k.opened) c.last.view_is ∙ of.1.1 in
-    subst (λ (q : OpenQueue). All (IsOf q) c.pop.new.self.items) (λ k. queue_of (sym table k) (sym opened k)) of.0
+pub join_all-seat-requires-clause-of : goal.join_all-seat-requires-clause-of
+join_all-seat-requires-clause-of c =
+    let of = All-pop (IsPassOf c.args.queue) _ _ (Some c.in-Some.last) c.in-Some.ensures.items c.requires in
+    let table = ap (λ (k : PassView). k.table) c.last.view_is ∙ of.1.0 in
+    let opened = ap (λ (k : PassView). k.opened) c.last.view_is ∙ of.1.1 in
+    subst (λ (q : OpenQueue). All (IsPassOf q) c.pop.new.self.items) (λ k. queue_of (sym table k) (sym opened k)) of.0
 
 pub close_with-closed-requires : goal.close_with-closed-requires
 close_with-closed-requires c =
-    let of = All-pop (IsOf c.args.queue) _ _ (Some c.in-Some.last) c.in-Some.ensures.items c.requires in
-    c.gather_all-seat.ensures.table ∙ ap (λ (k : Known). k.table) c.last.view_is ∙ of.1.0 ∙ sym (ap (λ (q : OpenQueue). q.table) c.queue.view_is)
+    let of = All-pop (IsPassOf c.args.queue) _ _ (Some c.in-Some.last) c.in-Some.ensures.items c.requires in
+    c.join_all-seat.ensures.table ∙ ap (λ (k : PassView). k.table) c.last.view_is ∙ of.1.0
+    ∙ sym (ap (λ (q : OpenQueue). q.table) c.queue.view_is)
 
 pub returns-clause-ok : goal.returns-clause-ok
 returns-clause-ok c =
-    let of = All-pop (IsOf c.args.queue) _ _ (Some c.in-Some.last) c.in-Some.ensures.items c.requires in
-    let few = subst (λ (o : Opening). o.threads ≤ 64) (ap (λ (k : Known). k.opened) c.last.view_is ∙ of.1.1) c.last.invariant.few.0 in
+    let of = All-pop (IsPassOf c.args.queue) _ _ (Some c.in-Some.last) c.in-Some.ensures.items c.requires in
+    let few = subst (λ (o : Opening). o.threads ≤ 64) (ap (λ (k : PassView). k.opened) c.last.view_is ∙ of.1.1) c.last.invariant.few.0 in
     closes c.args.queue _ _ _ _ _ _ c.last.inside.seat.me.0 _ c.pop.new.self.items c.in-Some.last
     (c.queue.invariant.0 ∙ ap (λ (q : OpenQueue). q.opened) c.queue.view_is)
     c.in-Some.ensures.items
-    c.gather_all-seat.ensures.all
-    (λ all b. pass_begins _ c.last.inside.seat.me c.in-Some.last all c.last.invariant (sym (ap (λ (k : Known). k.thread) c.last.view_is)) (sym (ap (λ (k : Known). k.seen) c.last.view_is)) b)
+    c.join_all-seat.ensures.all
+    (λ all b. pass_begins _ c.last.inside.seat.me c.in-Some.last all c.last.invariant (sym (ap (λ (k : PassView). k.thread) c.last.view_is))
+    (sym (ap (λ (k : PassView). k.seen) c.last.view_is)) b)
     few
-    (c.in_ok-items.ensures ∙ ap (items_left c.queue.inside.shape) (c.as_slice-2.ensures.value ∙ c.in_ok-words.ensures) ∙ ap (λ (q : OpenQueue). items_left q.opened.shape (slots_items c.close_with-closed.result.words)) c.queue.view_is)
+    (c.in_ok-items.ensures ∙ ap (items_left c.queue.inside.shape) (c.as_slice-2.ensures.value ∙ c.in_ok-words.ensures)
+    ∙ ap (λ (q : OpenQueue). items_left q.opened.shape (slots_items c.close_with-closed.result.words)) c.queue.view_is)
     c.close_with-closed.ensures.values.2
 
 pub read_items-requires-clause-head : goal.read_items-requires-clause-head
 read_items-requires-clause-head c =
     let words = c.as_slice-2.ensures.value ∙ c.in_ok-words.ensures in
     let P : List ℕ × ℕ → Type 0 = λ x. head_of (get_or x.0 0 0) < x.1 in
-    subst P (λ i. (sym words i, ap (λ (o : Opening). o.shape.n) c.queue.invariant.0 i)) (final_head _ _ _ _ _ c.close_with-closed.ensures.values.2)
+    subst P (λ i. (sym words i, ap (λ (o : Opening). o.shape.n) c.queue.invariant.0 i))
+    (final_head _ _ _ _ _ c.close_with-closed.ensures.values.2)

@@ -1,11 +1,12 @@
 -- The pass is of a thread of the queue.
 use Rattle.std.proofs.Common.{◌<◌, ◌∙◌, ap, sym, subst}
-use Rattle.kfifo_live.specs.Pass.{Known, OpenQueue}
+use Rattle.kfifo_live.specs.Pass.{PassView, OpenQueue}
 use Rattle.kfifo_live.specs.declared.view.Opening.{Opening}
 use Rattle.kfifo_live.proofs.Spreads.{thread_within}
 use Rattle.kfifo_live.proofs.handle.starts_of.Goals as goal
 
 pub spread-requires-clause-thread : goal.spread-requires-clause-thread
 spread-requires-clause-thread c =
-    let threads = ap (λ (k : Known). k.opened.threads) c.pass.view_is ∙ ap (λ (o : Opening). o.threads) c.requires.1 ∙ sym (ap (λ (q : OpenQueue). q.opened.threads) c.queue.view_is) in
+    let threads = ap (λ (k : PassView). k.opened.threads) c.pass.view_is ∙ ap (λ (o : Opening). o.threads) c.requires.1
+    ∙ sym (ap (λ (q : OpenQueue). q.opened.threads) c.queue.view_is) in
     subst (λ n. c.pass.inside.thread < n) threads (thread_within _ c.pass.inside.seat.me c.pass.invariant)

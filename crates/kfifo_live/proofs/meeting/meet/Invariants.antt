@@ -1,4 +1,4 @@
 use Rattle.kfifo_live.proofs.meeting.meet.Given as goal
 
-abbrev pub ghosts-gather : goal.ghosts-gather
-ghosts-gather a = record { opened = a.seat.now.me.0.opened }
+abbrev pub ghosts-join_seats : goal.ghosts-join_seats
+ghosts-join_seats a = record { opened = a.seat.now.me.0.opened }

@@ -1,5 +1,5 @@
 use Rattle.std.proofs.Common.{◌≡◌, ◌<◌, ◌+◌, ◌++◌, [], ◌∷◌, sym, ◌∙◌, arith}
-use Rattle.kfifo_live.specs.Pass.{queue_of, known_of}
+use Rattle.kfifo_live.specs.Pass.{queue_of, pass_view}
 use Rattle.kfifo_live.proofs.Opens.{new_passes-snoc, new_pass, cut_first}
 use Rattle.kfifo_live.proofs.opening.deal.Goals as goal
 
@@ -24,6 +24,6 @@ loop-thread-preserved c =
       view = cut.1;
       made =
           c.in_ok-push.ensures.items
-          ∙ (λ k. i.made k ++ known_of (table k) (n k) (cut.0 k) ∷ [])
+          ∙ (λ k. i.made k ++ pass_view (table k) (n k) (cut.0 k) ∷ [])
           ∙ sym (new_passes-snoc (queue_of c.args.seat.table_id c.args.seat.me.0.opened) 0 c.loop-thread.thread);
     }

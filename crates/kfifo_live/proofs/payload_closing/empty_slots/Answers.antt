@@ -19,5 +19,6 @@ loop-index-preserved g c =
       read =
           p.items
           ∙ ap (λ xs. xs ++ c.take.result ∷ []) i.read
-          ∙ sym (take_next (slots_items c.args.closed.slots) c.loop-index.index c.take.result (ap (λ xs. get_elem? xs c.loop-index.index) (sym i.same) ∙ t.value));
+          ∙ sym (take_next (slots_items c.args.closed.slots) c.loop-index.index c.take.result
+          (ap (λ xs. get_elem? xs c.loop-index.index) (sym i.same) ∙ t.value));
     }

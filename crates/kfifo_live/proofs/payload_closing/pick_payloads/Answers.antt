@@ -12,9 +12,11 @@ loop-token-preserved g c =
     let index = c.loop-token.token-index in
     let slots = c.loop-token.slots.items in
     let both =
-    picks slots c.args.slots.items tokens index c.loop-token.payloads.items c.in-Some.payload c.index_mut.result.now (omega (arith, c.loop-token-test.true)) i.have c.index_mut.ensures.value (sym c.take.ensures.value ∙ c.in-Some.is) i.picked in
+    picks slots c.args.slots.items tokens index c.loop-token.payloads.items c.in-Some.payload c.index_mut.result.now
+    (omega (arith, c.loop-token-test.true)) i.have c.index_mut.ensures.value (sym c.take.ensures.value ∙ c.in-Some.is) i.picked in
     let P : Option g.row.T.Denot × List g.row.T.Denot → Type 0 = λ y.
     HavePayloads (set slots (get_or tokens index 0 - 1) y.0) (drop (index + 1) tokens)
-    × (map Some y.1 ++ map (in_slot (set slots (get_or tokens index 0 - 1) y.0)) (drop (index + 1) tokens) ≡ map (in_slot c.args.slots.items) tokens) in
+    × (map Some y.1 ++ map (in_slot (set slots (get_or tokens index 0 - 1) y.0)) (drop (index + 1) tokens)
+    ≡ map (in_slot c.args.slots.items) tokens) in
     let now = subst P (λ k. (sym c.take.ensures.after k, sym p.items k)) both in
     record { room = omega (arith, i.room, p.capacity); size = search rules; have = now.0; picked = now.1 }

@@ -22,6 +22,8 @@ returns-clause-pool g t c =
     let view = c.new.ensures.1 ∙ ap (λ x. x.0) cut.resting.1 ∙ ap (λ xs. resting_view old.me.0.opened (next_of xs)) first in
     c.in_ok-extend_pool.ensures.pool
     ∙ (λ i. c.in_ok-push.ensures.items i ++ pool_for {T = g.row.T.Denot} (cut.same.0 i) (opened i) (c.args.token + 1) (c.args.count - 1))
-    ∙ append_assoc c.args.pool.now.items (c.new.result ∷ []) (pool_for {T = g.row.T.Denot} old.table_id old.me.0.opened (c.args.token + 1) (c.args.count - 1))
-    ∙ (λ i. c.args.pool.now.items ++ record { table_id = table i; view = view i } ∷ pool_for {T = g.row.T.Denot} old.table_id old.me.0.opened (c.args.token + 1) (c.args.count - 1))
+    ∙ append_assoc c.args.pool.now.items (c.new.result ∷ [])
+    (pool_for {T = g.row.T.Denot} old.table_id old.me.0.opened (c.args.token + 1) (c.args.count - 1))
+    ∙ (λ i. c.args.pool.now.items ++ record { table_id = table i; view = view i }
+    ∷ pool_for {T = g.row.T.Denot} old.table_id old.me.0.opened (c.args.token + 1) (c.args.count - 1))
     ∙ ap (λ ps. c.args.pool.now.items ++ ps) (sym (pool_first old.table_id old.me.0.opened c.args.token c.args.count c.if-count-eq0.false))

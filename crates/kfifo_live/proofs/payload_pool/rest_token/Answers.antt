@@ -8,6 +8,7 @@ give-requires-clause-seat g c =
     let within = c.if-token-pool.false in
     let some = c.if-token-eq0.false in
     let positive : 0 < c.args.token = omega arith in
-    let at = pool_at c.args.shared.now.table_id c.args.shared.now.key 1 c.args.pool.now (c.args.token - 1) c.index-pool-token.result c.requires.pool (omega arith) c.index-pool-token.is in
+    let at = pool_at c.args.shared.now.table_id c.args.shared.now.key 1 c.args.pool.now (c.args.token - 1) c.index-pool-token.result
+    c.requires.pool (omega arith) c.index-pool-token.is in
     let same : 1 + (c.args.token - 1) ≡ c.args.token = omega arith in
     (c.requires.resting.0 ∙ sym at.0, c.requires.resting.1 ∙ ap (λ x. (x, [])) (sym (at.1 ∙ ap (resting_view c.args.shared.now.key) same)))

@@ -7,7 +7,8 @@ use Rattle.kfifo_machine.proofs.schedule.run_events.Goals as goal
 pub loop-place-preserved : goal.loop-place-preserved
 loop-place-preserved c = record {
   shape = c.step.ensures.shape ∙ c.loop-place.invariant.shape;
-  reached = goes_on c.args.shape c.args.threads c.args.events.now c.loop-place.place _ c.loop-place.state.shape c.loop-place.state.world c.step.new.state.world _
+  reached = goes_on c.args.shape c.args.threads c.args.events.now c.loop-place.place _ c.loop-place.state.shape c.loop-place.state.world
+      c.step.new.state.world _
       c.loop-place-test.true c.loop-place.invariant.shape c.loop-place.invariant.reached c.in-Ok.ensures.made;
 }
 

@@ -14,13 +14,15 @@ touch-word-requires c =
 pub invariant_of-state : goal.invariant_of-state
 invariant_of-state c =
     let place : IsPlace c.state.inside.shape c.args.running = rw (ap (λ m. m.shape) c.state.view_is) c.requires.place in
-    sound_is c.state.inside.shape c.state.inside.words.items c.state.inside.places.items c.args.thread c.args.running c.access-access.result c.touch-word.result _ _ _
+    sound_is c.state.inside.shape c.state.inside.words.items c.state.inside.places.items c.args.thread c.args.running c.access-access.result
+    c.touch-word.result _ _ _
     c.state.invariant place (rw (ap (λ m. m.world.places) c.state.view_is) c.requires.thread)
     c.access-access.ensures c.touch-word.ensures.found (sym c.in-Goes.is ∙ c.advance.ensures) c.touch-word.ensures.words refl
 
 pub returns-in-Goes-clause-world : goal.returns-in-Goes-clause-world
 returns-in-Goes-clause-world c =
-    moved_is c.state.inside.shape c.state.inside.words.items c.state.inside.places.items c.args.thread c.args.running c.access-access.result c.touch-word.result _ _ _
+    moved_is c.state.inside.shape c.state.inside.words.items c.state.inside.places.items c.args.thread c.args.running c.access-access.result
+    c.touch-word.result _ _ _
     c.access-access.ensures c.touch-word.ensures.found (sym c.in-Goes.is ∙ c.advance.ensures) c.touch-word.ensures.words refl
     ∙ ap (λ (m : Machine). moved m.shape m.world c.args.thread c.args.running) c.state.view_is
 
@@ -33,13 +35,15 @@ returns-in-Goes-clause-outcome c =
 pub invariant_of-state-in-Answers : goal.invariant_of-state-in-Answers
 invariant_of-state-in-Answers c =
     let place : IsPlace c.state.inside.shape c.args.running = rw (ap (λ m. m.shape) c.state.view_is) c.requires.place in
-    sound_is c.state.inside.shape c.state.inside.words.items c.state.inside.places.items c.args.thread c.args.running c.access-access.result c.touch-word.result _ _ _
+    sound_is c.state.inside.shape c.state.inside.words.items c.state.inside.places.items c.args.thread c.args.running c.access-access.result
+    c.touch-word.result _ _ _
     c.state.invariant place (rw (ap (λ m. m.world.places) c.state.view_is) c.requires.thread)
     c.access-access.ensures c.touch-word.ensures.found (sym c.in-Answers.is ∙ c.advance.ensures) c.touch-word.ensures.words refl
 
 pub returns-in-Answers-clause-world : goal.returns-in-Answers-clause-world
 returns-in-Answers-clause-world c =
-    moved_is c.state.inside.shape c.state.inside.words.items c.state.inside.places.items c.args.thread c.args.running c.access-access.result c.touch-word.result _ _ _
+    moved_is c.state.inside.shape c.state.inside.words.items c.state.inside.places.items c.args.thread c.args.running c.access-access.result
+    c.touch-word.result _ _ _
     c.access-access.ensures c.touch-word.ensures.found (sym c.in-Answers.is ∙ c.advance.ensures) c.touch-word.ensures.words refl
     ∙ ap (λ (m : Machine). moved m.shape m.world c.args.thread c.args.running) c.state.view_is
 

@@ -17,7 +17,9 @@ loop-rival-preserved c =
     let from_latest = most.0 in
     let from_put = most.1 in
     subst (λ xs. IsSpan xs c.min-earliest.result c.max-latest.result) (sym (take_more c.args.rivals.now i d c.loop-rival-test.true))
-    (span_more (take i c.args.rivals.now) r c.loop-rival.earliest c.loop-rival.latest c.min-earliest.result c.max-latest.result c.loop-rival.invariant (omega arith) (omega arith) (omega arith) (omega arith))
+    (span_more (take i c.args.rivals.now) r c.loop-rival.earliest c.loop-rival.latest c.min-earliest.result c.max-latest.result
+    c.loop-rival.invariant (omega arith) (omega arith) (omega arith) (omega arith))
 
 pub returns : goal.returns
-returns c = subst (λ xs. IsSpan xs c.loop-rival.earliest c.loop-rival.latest) (take_all c.loop-rival.rival-index c.args.rivals.now c.loop-rival-test.false) c.loop-rival.invariant
+returns c = subst (λ xs. IsSpan xs c.loop-rival.earliest c.loop-rival.latest)
+    (take_all c.loop-rival.rival-index c.args.rivals.now c.loop-rival-test.false) c.loop-rival.invariant

@@ -10,7 +10,8 @@ returns-then-not-lets c = (
   answers_at c.args.calls.now c.loop-n.n _ c.loop-n-test.true (c.if-not-answers.ensures.0 refl),
   ends_at c.args.calls.now c.loop-n.n _ c.loop-n-test.true (c.if-not-ends_from.ensures.0 refl),
   rises_at c.args.calls.now c.loop-n.n c.loop-n.progress _ c.loop-n-test.true c.loop-n.invariant.seen (c.if-not-rises.ensures.0 refl),
-  not_apart c.args.calls.now c.loop-n.n c.loop-n.progress _ c.loop-n-test.true c.loop-n.invariant.seen (c.if-not-is_in_range.ensures.0 refl).0
+  not_apart c.args.calls.now c.loop-n.n c.loop-n.progress _ c.loop-n-test.true c.loop-n.invariant.seen
+      (c.if-not-is_in_range.ensures.0 refl).0
       (λ e l. false≢true ((c.if-not-lets.ensures e).1 l)),
 )
 
@@ -25,5 +26,6 @@ loop-n-preserved c =
     }) in
     record {
       good = good_more c.args.calls.now c.loop-n.n c.loop-n.invariant.good good;
-      seen = more_calls c.args.calls.now c.loop-n.n c.loop-n.progress c.note.new.self _ c.loop-n-test.true c.loop-n.invariant.seen good c.note.ensures.latest c.note.ensures.threads;
+      seen = more_calls c.args.calls.now c.loop-n.n c.loop-n.progress c.note.new.self _ c.loop-n-test.true c.loop-n.invariant.seen good
+          c.note.ensures.latest c.note.ensures.threads;
     }

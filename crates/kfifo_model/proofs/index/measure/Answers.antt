@@ -7,5 +7,6 @@ use Rattle.kfifo_model.proofs.index.measure.Goals as goal
 
 pub returns : goal.returns
 returns c =
-    let P : List Call → Type 0 = λ h. MatchResult c.measure_among.result (λ v. (v.items ≡ measured h (length h)) × ((n : ℕ) → IsDoneEnqueue h n → HasDistinctItems h)) (IsMeasureFault h) in
+    let P : List Call → Type 0 = λ h. MatchResult c.measure_among.result
+    (λ v. (v.items ≡ measured h (length h)) × ((n : ℕ) → IsDoneEnqueue h n → HasDistinctItems h)) (IsMeasureFault h) in
     subst P c.calls.ensures.calls c.measure_among.ensures

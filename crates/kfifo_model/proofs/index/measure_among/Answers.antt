@@ -22,5 +22,8 @@ returns-in_default-2 c =
 pub returns : goal.returns
 returns c =
     let puts = rw c.in-Some.is at c.in_ok-puts.ensures in
-    let gots = rw c.in-Some-2.is at c.in_ok-gots.ensures in
-    (c.in_ok-measure_calls.ensures, λ n d. all_distinct c.args.calls.now (λ x. get nat_cmp c.in-Some.puts x) (λ x. get nat_cmp c.in-Some-2.gots x) puts gots)
+    let gots = rw c.in-Some-2.is at c.in_ok-gots.ensures in (
+      c.in_ok-measure_calls.ensures,
+      λ n d. all_distinct c.args.calls.now (λ x. get nat_cmp c.in-Some.puts x)
+          (λ x. get nat_cmp c.in-Some-2.gots x) puts gots,
+    )

@@ -24,18 +24,23 @@ loop-n-preserved c =
           let o = w.in-Some.overtaken in
           let in_blocks = flat_map (λ (b : List Rival). b) c.deref-in-loop-n.result.now in
           let rivals = rivals_below h (λ x. get nat_cmp c.args.puts.now x) (length h) in
-          let Q : Call → Type 0 = λ t. (done_item t.op t.end ≡ Some o.item) × (o.count ≡ count_by (λ r. is_beaten (last_of t.end) (get nat_cmp c.args.gots.now o.item) r) in_blocks) in
+          let Q : Call → Type 0 = λ t. (done_item t.op t.end ≡ Some o.item)
+          × (o.count ≡ count_by (λ r. is_beaten (last_of t.end) (get nat_cmp c.args.gots.now o.item) r) in_blocks) in
           let q = subst Q same (w.in-Some.ensures.1, w.in-Some.ensures.2) in
           let beaten : Rival → Bool = λ r. is_beaten (last_of (call h n).end) (get nat_cmp c.args.gots.now o.item) r in
-          let sorted : in_blocks ≡ c.sort_by_key.new.self.items = ap (flat_map (λ (b : List Rival). b)) c.deref-in-loop-n.ensures.value ∙ c.in_ok-blocks.ensures ∙ c.deref.ensures.value in
+          let sorted : in_blocks ≡ c.sort_by_key.new.self.items =
+          ap (flat_map (λ (b : List Rival). b)) c.deref-in-loop-n.ensures.value ∙ c.in_ok-blocks.ensures ∙ c.deref.ensures.value in
           let same_count : count_by beaten in_blocks ≡ count_by beaten rivals =
-          ap (count_by beaten) sorted ∙ count-permuted beaten c.in_ok-rivals.rivals.items c.sort_by_key.new.self.items c.sort_by_key.ensures.permutation ∙ ap (count_by beaten) c.in_ok-rivals.ensures in
+          ap (count_by beaten) sorted ∙ count-permuted beaten c.in_ok-rivals.rivals.items c.sort_by_key.new.self.items
+          c.sort_by_key.ensures.permutation ∙ ap (count_by beaten) c.in_ok-rivals.ensures in
           subst P (ap (λ v. v.items) (sym w.found-is))
-          (measured_some h (λ x. get nat_cmp c.args.puts.now x) (λ x. get nat_cmp c.args.gots.now x) c.requires.puts c.requires.gots n rivals c.loop-n.found.items w.push.new.self.items o
+          (measured_some h (λ x. get nat_cmp c.args.puts.now x) (λ x. get nat_cmp c.args.gots.now x) c.requires.puts c.requires.gots n
+          rivals c.loop-n.found.items w.push.new.self.items o
           refl c.loop-n.invariant w.in-Some.ensures.0 q.0 (q.1 ∙ same_count) w.in_ok-push.ensures.items)
           )
       | in_default w ↦ (
           let Q : Call → Type 0 = λ t. done_item t.op t.end ≡ None in
-          subst P (ap (λ v. v.items) (sym w.found-is)) (measured_none h n c.loop-n.found.items c.loop-n.invariant (subst Q same w.in_default.ensures))
+          subst P (ap (λ v. v.items) (sym w.found-is))
+          (measured_none h n c.loop-n.found.items c.loop-n.invariant (subst Q same w.in_default.ensures))
           )
     ]

@@ -11,9 +11,12 @@ returns-in-NotLegal c =
 
 pub loop-p-preserved : goal.loop-p-preserved
 loop-p-preserved c =
-    goes_on c.args.k c.args.calls.now c.args.order.now c.loop-p.p c.loop-p.items.items c.try_number.new.items.items c.loop-p-test.true c.loop-p.invariant
-    (tried_went c.args.k c.loop-p.items.items c.try_number.new.items.items (does c.args.calls.now (get_or c.args.order.now c.loop-p.p 0)) c.in_ok-tried.tried c.in_ok-tried.ensures c.in_default.not-NotLegal)
+    goes_on c.args.k c.args.calls.now c.args.order.now c.loop-p.p c.loop-p.items.items c.try_number.new.items.items c.loop-p-test.true
+    c.loop-p.invariant
+    (tried_went c.args.k c.loop-p.items.items c.try_number.new.items.items (does c.args.calls.now (get_or c.args.order.now c.loop-p.p 0))
+    c.in_ok-tried.tried c.in_ok-tried.ensures c.in_default.not-NotLegal)
 
 pub returns : goal.returns
 returns c =
-    runs_whole c.args.k c.args.calls.now c.args.order.now c.loop-p.p c.loop-p.items.items (take_all c.loop-p.p c.args.order.now c.loop-p-test.false) c.loop-p.invariant
+    runs_whole c.args.k c.args.calls.now c.args.order.now c.loop-p.p c.loop-p.items.items
+    (take_all c.loop-p.p c.args.order.now c.loop-p-test.false) c.loop-p.invariant

@@ -8,8 +8,13 @@ pub returns-then-index-item : goal.returns-then-index-item
 returns-then-index-item c =
     let e = c.min-i-end.ensures in
     let l = c.len.ensures in
-    let h : c.loop-i.i < length c.args.items.now.items = omega arith in
-    (place_is c.args.items.now.items c.args.item c.loop-i.i h c.loop-i.invariant (sym (c.index.ensures ∙ get_or_default c.args.items.now.items c.loop-i.i _ 0 h) ∙ c.if-index-item.true), omega arith, h)
+    let h : c.loop-i.i < length c.args.items.now.items = omega arith in (
+      place_is c.args.items.now.items c.args.item c.loop-i.i h c.loop-i.invariant
+          (sym (c.index.ensures ∙ get_or_default c.args.items.now.items c.loop-i.i _ 0 h) ∙ c.if-index-item.true),
+      omega arith,
+      h,
+    )
 
 pub returns : goal.returns
-returns c = not_below c.args.k c.args.items.now.items c.args.item (λ j lk ll. c.loop-i.invariant j (let e = c.min-i-end.ensures in let l = c.len.ensures in omega arith))
+returns c = not_below c.args.k c.args.items.now.items c.args.item
+    (λ j lk ll. c.loop-i.invariant j (let e = c.min-i-end.ensures in let l = c.len.ensures in omega arith))

@@ -7,8 +7,8 @@ use Rattle.kfifo_model.specs.Records.{IsRecordOf}
 use Rattle.kfifo_model.proofs.RecordLemmas.{is_array, too_many, member_fault}
 use Rattle.kfifo_model.proofs.reading.read_history.Goals as goal
 
-pub returns-then-len-gt-MOST_CALLS : goal.returns-then-len-gt-MOST_CALLS
-returns-then-len-gt-MOST_CALLS c =
+pub returns-then-len-gt-MAX_CALLS : goal.returns-then-len-gt-MAX_CALLS
+returns-then-len-gt-MAX_CALLS c =
     too_many (view c.args.json.now) c.in-Some.members.now.items c.in-Some.ensures (let e = c.len.ensures in omega arith)
 
 pub returns-in-Ok : goal.returns-in-Ok

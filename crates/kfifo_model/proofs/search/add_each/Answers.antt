@@ -8,7 +8,8 @@ use Rattle.kfifo_model.proofs.search.add_each.Goals as goal
 use Rattle.kfifo_model.proofs.search.add_each.Goals.{then-is_free+in_ok-add_after, else-is_free}
 
 pub loop-n-init : goal.loop-n-init
-loop-n-init c = added_none c.args.k c.args.calls.now (reach c.args.done.now c.args.items.now) c.args.next.now.items _ (λ j lt. absurd (omega arith))
+loop-n-init c = added_none c.args.k c.args.calls.now (reach c.args.done.now c.args.items.now) c.args.next.now.items _
+    (λ j lt. absurd (omega arith))
 
 pub loop-n-preserved : goal.loop-n-preserved
 loop-n-preserved c =
@@ -18,11 +19,14 @@ loop-n-preserved c =
     let P : List Reach → Type 0 = λ t. IsAdded c.args.k c.args.calls.now r c.args.next.now.items t T in
     elim c.if-is_free.branch [
       | then-is_free+in_ok-add_after w ↦ subst P (ap (λ v. v.items) (sym w.next-is))
-          (added_both c.args.k c.args.calls.now r c.args.next.now.items c.loop-n.next.items w.add_after.new.next.items S (IsNoNext c.args.k c.args.calls.now r c.loop-n.n) T
+          (added_both c.args.k c.args.calls.now r c.args.next.now.items c.loop-n.next.items w.add_after.new.next.items S
+          (IsNoNext c.args.k c.args.calls.now r c.loop-n.n) T
           (no_next_more c.args.k c.args.calls.now r c.loop-n.n) c.loop-n.invariant w.in_ok-add_after.ensures)
       | else-is_free w ↦ subst P (ap (λ v. v.items) (sym w.next-is))
           (added_as c.args.k c.args.calls.now r c.args.next.now.items c.loop-n.next.items S T
-          (λ s. no_next_more c.args.k c.args.calls.now r c.loop-n.n s (not_free c.args.k c.args.calls.now r c.loop-n.n c.requires.history (λ f. false≢true (sym w.if-is_free.false ∙ c.is_free.ensures.1 f)))) c.loop-n.invariant)
+          (λ s. no_next_more c.args.k c.args.calls.now r c.loop-n.n s
+          (not_free c.args.k c.args.calls.now r c.loop-n.n c.requires.history
+          (λ f. false≢true (sym w.if-is_free.false ∙ c.is_free.ensures.1 f)))) c.loop-n.invariant)
     ]
 
 pub returns : goal.returns

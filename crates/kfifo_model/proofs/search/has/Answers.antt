@@ -12,5 +12,6 @@ returns-then-x-item c =
 pub returns : goal.returns
 returns c = (
   λ f. absurd (false≢true f),
-  λ i. absurd (let p = in_place c.args.item c.args.items.now i in let lt : p.0 < length c.args.items.now = p.1 in c.loop-x.invariant p.0 (omega arith) p.2),
+  λ i. absurd (let p = in_place c.args.item c.args.items.now i in let lt : p.0
+      < length c.args.items.now = p.1 in c.loop-x.invariant p.0 (omega arith) p.2),
 )

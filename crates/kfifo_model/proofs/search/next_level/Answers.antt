@@ -6,8 +6,10 @@ loop-reached-init c = led_none c.args.k c.args.calls.now c.args.level.now c.new-
 
 pub loop-reached-preserved : goal.loop-reached-preserved
 loop-reached-preserved c =
-    led_more c.args.k c.args.calls.now c.args.level.now c.loop-reached.next.items c.expand.new.next.items c.loop-reached.reached-index c.reached-item.result c.loop-reached-test.true c.reached-item.is c.loop-reached.invariant c.in_ok-expand.ensures
+    led_more c.args.k c.args.calls.now c.args.level.now c.loop-reached.next.items c.expand.new.next.items c.loop-reached.reached-index
+    c.reached-item.result c.loop-reached-test.true c.reached-item.is c.loop-reached.invariant c.in_ok-expand.ensures
 
 pub returns : goal.returns
 returns c =
-    led_all c.args.k c.args.calls.now c.args.level.now c.loop-reached.next.items c.loop-reached.reached-index c.loop-reached-test.false c.loop-reached.invariant
+    led_all c.args.k c.args.calls.now c.args.level.now c.loop-reached.next.items c.loop-reached.reached-index c.loop-reached-test.false
+    c.loop-reached.invariant

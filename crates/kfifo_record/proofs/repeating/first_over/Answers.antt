@@ -5,5 +5,6 @@ use Rattle.kfifo_record.proofs.repeating.first_over.Goals as goal
 
 pub loop-place-preserved : goal.loop-place-preserved
 loop-place-preserved c =
-    let same = c.as_slice.ensures.value ∙ script_at c.args.scripts.now c.loop-place.place c.index-scripts-place.result c.loop-place-test.true c.index-scripts-place.is in
+    let same = c.as_slice.ensures.value ∙ script_at c.args.scripts.now c.loop-place.place c.index-scripts-place.result
+    c.loop-place-test.true c.index-scripts-place.is in
     below_more _ _ c.loop-place.invariant (subst (FitsTo _) same (c.fits.ensures.0 c.if-not-fits.false))

@@ -14,7 +14,8 @@ unreachable-requires g c =
     (complete_for c.args.shape (scripts_in c.args.scripts.now) _ _ _ c.in_ok-queue.ensures.ok c.in_ok-passes.ensures)
 
 pub returns-in-Ok-clause-ok : goal.returns-in-Ok-clause-ok
-returns-in-Ok-clause-ok g c = recorded c.args.shape (scripts_in c.args.scripts.now) _ _ _ _ c.in_ok-queue.ensures.ok c.in_ok-passes.ensures c.in-Ok.ensures.ok
+returns-in-Ok-clause-ok g c = recorded c.args.shape (scripts_in c.args.scripts.now) _ _ _ _ c.in_ok-queue.ensures.ok c.in_ok-passes.ensures
+    c.in-Ok.ensures.ok
 
 pub returns-in-Ok-clause-few : goal.returns-in-Ok-clause-few
 returns-in-Ok-clause-few g c =

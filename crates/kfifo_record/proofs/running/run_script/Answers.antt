@@ -7,7 +7,8 @@ loop-index-preserved g c =
     let i = c.loop-index.invariant in
     let one = c.make.ensures in
     record {
-      made = turn c.args.script.now c.loop-index.index _ c.args.pass.now c.loop-index.pass c.make.new.pass c.loop-index-test.true i.made one;
+      made = turn c.args.script.now c.loop-index.index _ c.args.pass.now c.loop-index.pass c.make.new.pass c.loop-index-test.true i.made
+          one;
       same = then_same c.args.pass.now.pass c.loop-index.pass.pass c.make.new.pass.pass i.same one.0;
       count = longer _ c.loop-index.pass c.make.new.pass c.loop-index.index one i.count;
     }

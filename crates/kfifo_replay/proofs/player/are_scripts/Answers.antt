@@ -18,7 +18,8 @@ by_calls scripts = map (λ (script : Vec Begin Global). script.items) scripts
 some_if : (n : ℕ) → false ≡ (n == 0) → 0 < n
 some_if n is = grind (arith, nat_tests, is)
 
-are_if : (shape : Shape) (scripts : List (Vec Begin Global)) (each : Bool) → 0 < length scripts → length scripts ≤ 64 → (IsTrue each ↔ All (λ (script : Vec Begin Global). IsScript shape script.items) scripts)
+are_if : (shape : Shape) (scripts : List (Vec Begin Global)) (each : Bool) → 0 < length scripts → length scripts ≤ 64
+    → (IsTrue each ↔ All (λ (script : Vec Begin Global). IsScript shape script.items) scripts)
     → IsTrue each ↔ AreScripts shape (by_calls scripts)
 are_if shape scripts each some few is = (there, back)
   where
@@ -33,7 +34,9 @@ are_if shape scripts each some few is = (there, back)
     }
 
     back : AreScripts shape (by_calls scripts) → IsTrue each
-    back are = is.1 (λ k d within. subst (IsScript shape) (get_or-map (λ (script : Vec Begin Global). script.items) scripts k d d.items within) (are.each k d.items (omega (arith, within, size))))
+    back are = is.1 (λ k d within. subst (IsScript shape)
+        (get_or-map (λ (script : Vec Begin Global). script.items) scripts k d d.items within)
+        (are.each k d.items (omega (arith, within, size))))
 
 pub returns-then-scripts : goal.returns-then-scripts
 returns-then-scripts c =

@@ -4,4 +4,5 @@ use Rattle.kfifo_machine.specs.declared.event.Begin.{Begin}
 use Rattle.kfifo_replay.proofs.player.copy_scripts.Given as goal
 
 abbrev pub invariant-loop-script : goal.invariant-loop-script
-invariant-loop-script l = map (λ (script : Vec Begin Global). script.items) l.copies.items ≡ map (λ (script : Vec Begin Global). script.items) (take l.script-index l.scripts)
+invariant-loop-script l = map (λ (script : Vec Begin Global). script.items) l.copies.items
+    ≡ map (λ (script : Vec Begin Global). script.items) (take l.script-index l.scripts)

@@ -6,7 +6,8 @@ use Rattle.kfifo_replay.specs.Traces.{max_steps}
 use Rattle.kfifo_replay.proofs.tracer.keep.Goals as goal
 
 -- a push that cannot fail appends
-pushed : {A E X : Type 0} (r : Result A E) (new old : List X) (x : X) (P : Type 0) → OnErr r P → (P → ⊥) → new ≡ (if is_ok r then old ++ x ∷ [] else old) → new ≡ old ++ x ∷ []
+pushed : {A E X : Type 0} (r : Result A E) (new old : List X) (x : X) (P : Type 0) → OnErr r P → (P → ⊥)
+    → new ≡ (if is_ok r then old ++ x ∷ [] else old) → new ≡ old ++ x ∷ []
 pushed (Ok a) new old x P full isnt is = is
 pushed (Err e) new old x P full isnt is = absurd (isnt full)
 
@@ -14,7 +15,8 @@ pub returns-then-len-lt-MAX_STEPS-clause-kept : goal.returns-then-len-lt-MAX_STE
 returns-then-len-lt-MAX_STEPS-clause-kept g c =
     let n = length-append c.args.steps.now.items (c.args.step ∷ []) in
     let all : take max_steps (c.args.steps.now.items ++ c.args.step ∷ []) ≡ c.args.steps.now.items ++ c.args.step ∷ [] =
-    take_all max_steps (c.args.steps.now.items ++ c.args.step ∷ []) (omega (arith, n, c.len.ensures, c.args.steps.now.ok, c.if-len-lt-MAX_STEPS.true)) in
+    take_all max_steps (c.args.steps.now.items ++ c.args.step ∷ [])
+    (omega (arith, n, c.len.ensures, c.args.steps.now.ok, c.if-len-lt-MAX_STEPS.true)) in
     pushed c.push.result c.push.new.self.items c.args.steps.now.items c.args.step _ c.push.ensures.full
     (λ full. omega (arith, full, c.requires.room, c.len.ensures, c.args.steps.now.ok, c.if-len-lt-MAX_STEPS.true)) c.push.ensures.items
     ∙ sym all

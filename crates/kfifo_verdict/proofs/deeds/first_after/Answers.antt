@@ -12,4 +12,5 @@ returns-in-Some c =
     let P : Option End → Type 0 = λ w. IsStart h w c.partition_point.result in
     subst P (sym c.in-Some.is)
     (start_found h c.in-Some.end c.partition_point.result c.partition_point.ensures.bound
-    (IsPartitionPoint-from_clause (λ y. leb y.first last) h c.partition_point.result c.partition_point.ensures.partitioned (IsPartitionedBy-leb (λ y. y.first) h last (by_first h c.requires)) (λ a r q k. search rules)))
+    (IsPartitionPoint-from_clause (λ y. leb y.first last) h c.partition_point.result c.partition_point.ensures.partitioned
+    (IsPartitionedBy-leb (λ y. y.first) h last (by_first h c.requires)) (λ a r q k. search rules)))

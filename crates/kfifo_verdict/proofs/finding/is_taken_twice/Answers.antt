@@ -18,8 +18,10 @@ returns-then-got-n c =
     let G : Tally → Type 0 = λ t. IsTally (has_item Out h item) (first_of h) (length h) t in
     let put = subst P (sym c.tally_of.ensures) (c.requires.puts item) in
     let got = subst G (sym c.tally_of-got.ensures) (c.requires.gets item) in (
-      λ t. twice_from h item n c.tally_of.result c.tally_of-got.result put got is c.if-got-n.true (ltb-true c.tally_of.result.count c.tally_of-got.result.count t),
-      λ t. lt-ltb c.tally_of.result.count c.tally_of-got.result.count (twice_tells h item n c.tally_of.result c.tally_of-got.result put got is t).1,
+      λ t. twice_from h item n c.tally_of.result c.tally_of-got.result put got is c.if-got-n.true
+          (ltb-true c.tally_of.result.count c.tally_of-got.result.count t),
+      λ t. lt-ltb c.tally_of.result.count c.tally_of-got.result.count
+          (twice_tells h item n c.tally_of.result c.tally_of-got.result put got is t).1,
     )
 
 pub returns-else-got-n : goal.returns-else-got-n

@@ -14,7 +14,8 @@ loop-n-preserved c =
     let n = c.loop-n.n in
     no_more (FoundNotEmpty h) n c.loop-n.invariant (λ f. elim c.match-deed_of.branch [
       | in-FoundNone+in_ok-puts+in_default-2 w ↦ (let gap = rw w.in_default-2.is at w.in_ok-puts.ensures in gap.0 f)
-      | in_default w ↦ w.in_default.not-FoundNone (found_deed _ c.deed_of.result c.deed_of.ensures (ap effect_of (read h n _ c.loop-n-test.true) ∙ f.1.empty))
+      | in_default w ↦ w.in_default.not-FoundNone
+          (found_deed _ c.deed_of.result c.deed_of.ensures (ap effect_of (read h n _ c.loop-n-test.true) ∙ f.1.empty))
     ])
 
 pub returns : goal.returns

@@ -14,5 +14,6 @@ returns-clause-older c =
     let after = c.first_after-after.result in
     let A : List Presence → Type 0 = λ w. ArePresences h (length h) w in
     let B : Call → Type 0 = λ w. IsStart h w.end after in
-    young_count h ps n c.in-Some.put after c.count_older.result c.requires.history (subst A (sym c.deref.ensures.value) c.requires.items.presences)
+    young_count h ps n c.in-Some.put after c.count_older.result c.requires.history
+    (subst A (sym c.deref.ensures.value) c.requires.items.presences)
     (subst B (read h n _ c.requires.inside) c.first_after-after.ensures) c.in-Some.ensures c.count_older.ensures.counted

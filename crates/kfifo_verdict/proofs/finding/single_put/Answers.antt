@@ -21,8 +21,13 @@ returns-then-tally_of-eq1 c =
     let put = subst P (sym c.tally_of-put.ensures) (c.requires.items.puts item) in
     let got = subst G (sym c.tally_of.ensures) (c.requires.items.gets item) in
     let puts = put_last h item c.tally_of-put.result put c.if-put-eq1.true in
-    let once = c.if-tally_of-eq1.true in
-    (item, single_from h item c.tally_of-put.result.last c.tally_of-put.result c.tally_of.result put got puts c.if-put-eq1.true (omega (arith, once)), is, put_inside h item c.tally_of-put.result.last puts)
+    let once = c.if-tally_of-eq1.true in (
+      item,
+      single_from h item c.tally_of-put.result.last c.tally_of-put.result c.tally_of.result put got puts c.if-put-eq1.true
+          (omega (arith, once)),
+      is,
+      put_inside h item c.tally_of-put.result.last puts,
+    )
 
 pub returns-else-put-eq1 : goal.returns-else-put-eq1
 returns-else-put-eq1 c = λ x p s gets.

@@ -15,8 +15,10 @@ returns-then-count_older-k-clause-young c =
     let after = c.first_after-after.result in
     let A : List Presence → Type 0 = λ w. ArePresences h (length h) w in
     let B : Call → Type 0 = λ w. IsStart h w.end after in
-    young_none h ps n c.in-Some.put after c.args.k c.count_older.result c.requires.history (subst A (sym c.deref.ensures.value) c.requires.items.presences)
-    (subst B (read h n _ c.requires.inside) c.first_after-after.ensures) c.in-Some.ensures c.count_older.ensures.counted c.if-count_older-k.true
+    young_none h ps n c.in-Some.put after c.args.k c.count_older.result c.requires.history
+    (subst A (sym c.deref.ensures.value) c.requires.items.presences)
+    (subst B (read h n _ c.requires.inside) c.first_after-after.ensures) c.in-Some.ensures c.count_older.ensures.counted
+    c.if-count_older-k.true
 
 pub returns-clause-young : goal.returns-clause-young
 returns-clause-young c =
@@ -29,5 +31,6 @@ returns-clause-young c =
     let C : List Presence → Type 0 = λ w. IsCountedTo c.args.k (count_below (lasts_at w put after) put) c.count_older.result in
     let F : List Presence → Type 0 = λ w. AreFirst (lasts_at w put after) c.args.k put c.in_ok-first_older.field-0.items in
     young_found h ps n put after c.args.k c.count_older.result c.in_ok-first_older.field-0.items c.requires.items.presences
-    (subst B (read h n _ c.requires.inside) c.first_after-after.ensures) c.in-Some.ensures (subst C c.deref.ensures.value c.count_older.ensures.counted) c.if-count_older-k.false
+    (subst B (read h n _ c.requires.inside) c.first_after-after.ensures) c.in-Some.ensures
+    (subst C c.deref.ensures.value c.count_older.ensures.counted) c.if-count_older-k.false
     (subst F c.deref-2.ensures.value c.in_ok-first_older.ensures)

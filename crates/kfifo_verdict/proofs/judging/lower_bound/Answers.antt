@@ -12,9 +12,12 @@ loop-n-preserved c =
     let P : ℕ → Type 0 = λ w. IsMost h (n + 1) w in
     record {
       most = elim c.match-older_at.branch [
-        | in-Some+then-most-older w ↦ most_more h n most w.in-Some.older c.match-older_at.most c.loop-n.invariant.most w.in-Some.ensures.older (inl (w.most-is, w.if-most-older.true))
-        | in-Some+else-most-older w ↦ most_more h n most w.in-Some.older c.match-older_at.most c.loop-n.invariant.most w.in-Some.ensures.older (inr (w.most-is, w.if-most-older.false))
-        | in_default w ↦ subst P (sym w.most-is) (most_skip h n most c.loop-n.invariant.most (rw w.in_default.is at c.older_at.ensures.older))
+        | in-Some+then-most-older w ↦ most_more h n most w.in-Some.older c.match-older_at.most c.loop-n.invariant.most
+            w.in-Some.ensures.older (inl (w.most-is, w.if-most-older.true))
+        | in-Some+else-most-older w ↦ most_more h n most w.in-Some.older c.match-older_at.most c.loop-n.invariant.most
+            w.in-Some.ensures.older (inr (w.most-is, w.if-most-older.false))
+        | in_default w ↦ subst P (sym w.most-is)
+            (most_skip h n most c.loop-n.invariant.most (rw w.in_default.is at c.older_at.ensures.older))
       ];
       skips = skips_later c.in_ok-items.items.presences.items n c.older_at.new.skips.items c.older_at.ensures.skips;
     }

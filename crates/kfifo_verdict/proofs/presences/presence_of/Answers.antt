@@ -9,7 +9,8 @@ use Rattle.kfifo_verdict.specs.Finding.{IsTally, IsStart, has_item, first_of}
 use Rattle.kfifo_verdict.proofs.Telling.{single_from, single_put_once, single_got_once, got_last, got_none}
 use Rattle.kfifo_verdict.proofs.Being.{same_put, known_presence, never_presence}
 use Rattle.kfifo_verdict.proofs.presences.presence_of.Goals as goal
-use Rattle.kfifo_verdict.proofs.presences.presence_of.Goals.{then-tally_of-ne1-via-then-tally_of-ne1, then-tally_of-ne1-via-else-tally_of-ne1+then-got-gt1}
+use Rattle.kfifo_verdict.proofs.presences.presence_of.Goals.{then-tally_of-ne1-via-then-tally_of-ne1}
+use Rattle.kfifo_verdict.proofs.presences.presence_of.Goals.{then-tally_of-ne1-via-else-tally_of-ne1+then-got-gt1}
 
 pub returns-then-tally_of-ne1 : goal.returns-then-tally_of-ne1
 returns-then-tally_of-ne1 c =

@@ -22,11 +22,13 @@ loop-n-preserved c =
           let is = ap effect_of (sym same) ∙ w.in-Some.ensures in
           let Q : Tally → Type 0 = λ t. IsTally (has_item side h x) (first_of h) n t in
           let R : Tally → Type 0 = λ t. IsTally (has_item side h x) (first_of h) (n + 1) t in
-          let now = w.with-tally.ensures (has_item side h x) (first_of h) (subst Q (sym w.tally_of.ensures) (c.loop-n.invariant x)) (side_here side h x n is) (ap (λ t. t.first) (sym same)) in
+          let now = w.with-tally.ensures (has_item side h x) (first_of h) (subst Q (sym w.tally_of.ensures) (c.loop-n.invariant x))
+          (side_here side h x n is) (ap (λ t. t.first) (sym same)) in
           let at = ap (λ o. unwrap_or o no_tally) w.in_ok-insert.ensures.updates.1 in
           subst P (sym w.tallies-is)
           (tallied_more h side n x (tally_in c.loop-n.tallies) (tally_in w.insert.new.self) c.loop-n.invariant is (subst R (sym at) now)
           (λ q ne. ap (λ o. unwrap_or o no_tally) (w.in_ok-insert.ensures.updates.2 q (differs x q ne))))
           )
-      | in_default w ↦ subst P (sym w.tallies-is) (tallied_skip h side n (tally_in c.loop-n.tallies) c.loop-n.invariant (λ x e. w.in_default.ensures x (ap effect_of same ∙ e)))
+      | in_default w ↦ subst P (sym w.tallies-is)
+          (tallied_skip h side n (tally_in c.loop-n.tallies) c.loop-n.invariant (λ x e. w.in_default.ensures x (ap effect_of same ∙ e)))
     ]

@@ -11,7 +11,9 @@ use Rattle.kfifo_verdict.proofs.Being.{same_put}
 use Rattle.kfifo_verdict.proofs.Telling.{single_from, single_put_once, single_got_once}
 use Rattle.kfifo_verdict.proofs.Lining.{put_deed, has_end, plain_more, plain_all}
 use Rattle.kfifo_verdict.proofs.turns.is_plain.Goals as goal
-use Rattle.kfifo_verdict.proofs.turns.is_plain.Goals.{then-tally_of-ne1-via-then-tally_of-ne1, then-tally_of-ne1-via-else-tally_of-ne1+then-tally_of-gt1, in-PutIn+else-tally_of-ne1+else-tally_of-gt1, in_default}
+use Rattle.kfifo_verdict.proofs.turns.is_plain.Goals.{then-tally_of-ne1-via-then-tally_of-ne1}
+use Rattle.kfifo_verdict.proofs.turns.is_plain.Goals.{then-tally_of-ne1-via-else-tally_of-ne1+then-tally_of-gt1}
+use Rattle.kfifo_verdict.proofs.turns.is_plain.Goals.{in-PutIn+else-tally_of-ne1+else-tally_of-gt1, in_default}
 
 pub returns-then-tally_of-ne1 : goal.returns-then-tally_of-ne1
 returns-then-tally_of-ne1 c =
@@ -24,7 +26,8 @@ returns-then-tally_of-ne1 c =
     let put = subst P (sym c.tally_of.ensures) (c.requires.puts item) in (
       λ t. absurd (false≢true t),
       λ plain. absurd (elim c.then-tally_of-ne1.branch [
-        | then-tally_of-ne1-via-then-tally_of-ne1 w ↦ w.if-tally_of-ne1.true (single_put_once h item n c.tally_of.result put (plain.0 item n is))
+        | then-tally_of-ne1-via-then-tally_of-ne1 w ↦
+            w.if-tally_of-ne1.true (single_put_once h item n c.tally_of.result put (plain.0 item n is))
         | then-tally_of-ne1-via-else-tally_of-ne1+then-tally_of-gt1 w ↦ (
             let got = subst G (sym w.tally_of-else-tally_of-ne1.ensures) (c.requires.gets item) in
             let more = w.if-tally_of-gt1.true in
@@ -39,7 +42,9 @@ loop-n-preserved c =
     let h = c.args.calls.now in
     let n = c.loop-n.n in
     let same = ap effect_of (sym (read h n _ c.loop-n-test.true)) in
-    plain_more h n c.loop-n.invariant (let E : Option End → Type 0 = λ o. HasEnd o in subst E (ap (λ w. w.end) (read h n _ c.loop-n-test.true)) (has_end _ c.is_none.result c.is_none.ensures c.if-is_none.false)) (λ x a. elim c.match-deed_of.branch [
+    plain_more h n c.loop-n.invariant (let E : Option End
+    → Type 0 = λ o. HasEnd o in subst E (ap (λ w. w.end) (read h n _ c.loop-n-test.true))
+    (has_end _ c.is_none.result c.is_none.ensures c.if-is_none.false)) (λ x a. elim c.match-deed_of.branch [
       | in-PutIn+else-tally_of-ne1+else-tally_of-gt1 w ↦ (
           let item = w.in-PutIn.item in
           let is = same ∙ w.in-PutIn.ensures in
@@ -48,7 +53,8 @@ loop-n-preserved c =
           let put = subst P (sym w.tally_of.ensures) (c.requires.puts item) in
           let got = subst G (sym w.tally_of-else-tally_of-ne1.ensures) (c.requires.gets item) in
           let S : ℕ → Type 0 = λ v. IsSingle h v n in
-          subst S (same_put h item x n is a) (single_from h item n w.tally_of.result w.tally_of-else-tally_of-ne1.result put got is w.if-tally_of-ne1.false w.if-tally_of-gt1.false)
+          subst S (same_put h item x n is a) (single_from h item n w.tally_of.result w.tally_of-else-tally_of-ne1.result put got is
+          w.if-tally_of-ne1.false w.if-tally_of-gt1.false)
           )
       | in_default w ↦ absurd (w.in_default.not-PutIn x (put_deed x _ c.deed_of.result c.deed_of.ensures (sym same ∙ a)))
     ])

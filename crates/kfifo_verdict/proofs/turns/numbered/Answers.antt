@@ -3,7 +3,8 @@ use Rattle.kfifo_verdict.proofs.Lining.{numbered_more, numbered_all}
 use Rattle.kfifo_verdict.proofs.turns.numbered.Goals as goal
 
 pub loop-n-preserved : goal.loop-n-preserved
-loop-n-preserved c = numbered_more c.args.turns.now c.loop-n.n c.loop-n.numbered.items c.push.new.self.items _ refl c.in_ok-push.ensures.items c.loop-n.invariant
+loop-n-preserved c = numbered_more c.args.turns.now c.loop-n.n c.loop-n.numbered.items c.push.new.self.items _ refl
+    c.in_ok-push.ensures.items c.loop-n.invariant
 
 pub returns : goal.returns
 returns c =

@@ -10,7 +10,8 @@ pub due_of-requires-clause-bound : goal.due_of-requires-clause-bound
 due_of-requires-clause-bound c =
     let h = c.args.calls.now in
     let p = c.loop-p.p in
-    start_within h c.args.presences.now c.in-PutIn.field-0 p c.requires.plain c.requires.presences (ap effect_of (sym (read h p _ c.loop-p-test.true)) ∙ c.in-PutIn.ensures)
+    start_within h c.args.presences.now c.in-PutIn.field-0 p c.requires.plain c.requires.presences
+    (ap effect_of (sym (read h p _ c.loop-p-test.true)) ∙ c.in-PutIn.ensures)
 
 pub loop-p-preserved : goal.loop-p-preserved
 loop-p-preserved c =
@@ -23,8 +24,18 @@ loop-p-preserved c =
       | in-PutIn+in_ok-push w ↦ (
           let late = w.late_of-late.result in
           let L : ℕ → Type 0 = λ g. IsLate h g late in
-          let here : IsPlace h ps (w.due_of.result, late, p) = record { item = w.in-PutIn.field-0; puts = same ∙ w.in-PutIn.ensures; late = subst L w.gone_of.ensures w.late_of-late.ensures; due = w.due_of.ensures } in
-          subst Q (sym (ap (λ v. v.items) w.places-is)) (places_more h ps p c.loop-p.places.items w.push.new.self.items (w.due_of.result, late, p) here refl w.in_ok-push.ensures.items c.loop-p.invariant)
+          let here : IsPlace h ps (w.due_of.result, late, p) =
+          record {
+            item = w.in-PutIn.field-0;
+            puts = same ∙ w.in-PutIn.ensures;
+            late = subst L w.gone_of.ensures w.late_of-late.ensures;
+            due = w.due_of.ensures;
+          } in
+          subst Q (sym (ap (λ v. v.items) w.places-is))
+          (places_more h ps p c.loop-p.places.items w.push.new.self.items (w.due_of.result, late, p) here refl
+          w.in_ok-push.ensures.items c.loop-p.invariant)
           )
-      | in_default w ↦ subst Q (sym (ap (λ v. v.items) w.places-is)) (places_skip h ps p c.loop-p.places.items (λ x a. w.in_default.not-PutIn x (put_deed x _ c.deed_of.result c.deed_of.ensures (sym same ∙ a))) c.loop-p.invariant)
+      | in_default w ↦ subst Q (sym (ap (λ v. v.items) w.places-is))
+          (places_skip h ps p c.loop-p.places.items
+          (λ x a. w.in_default.not-PutIn x (put_deed x _ c.deed_of.result c.deed_of.ensures (sym same ∙ a))) c.loop-p.invariant)
     ]

@@ -16,7 +16,12 @@ returns c =
     let P : List Presence → Type 0 = λ w. ArePresences h (length h) w in
     let L : List (ℕ × ℕ × ℕ) → Type 0 = λ w. IsLine h ps w in
     let T : List Turn → Type 0 = λ w. AreTurns h ps line (length line) w in
-    let scene : IsScene h ps = record { history = c.requires.history; plain = c.requires.plain; are = subst P (sym c.as_slice-presences.ensures.value) c.requires.items.presences; clear = c.requires.clear } in
+    let scene : IsScene h ps = record {
+      history = c.requires.history;
+      plain = c.requires.plain;
+      are = subst P (sym c.as_slice-presences.ensures.value) c.requires.items.presences;
+      clear = c.requires.clear;
+    } in
     let is_line = subst L (sym c.as_slice-line.ensures.value) c.in_ok-places.ensures in
     let turns = subst T (sym c.as_slice-3.ensures.value) c.with_items-turns.ensures in
     IfOk-weaker c.by_turns.result _ _ (λ order b. legal_by_turns h ps line ts scene is_line turns order.items b) c.by_turns.ensures

@@ -42,11 +42,14 @@ loop-i-preserved c =
     let same = length-set ts p put in
     let S : ℕ → Type 0 = λ v. IsSet ts c.if-gone-len.turns.items p v put got (length h) in
     let is : S c.gone_of-gone.result = elim c.if-gone-len.branch [
-      | then-gone-len w ↦ (let lt = w.if-gone-len.true in (set ts p put, refl, inl (omega (arith, lt, long, same, size), ap (λ v. v.items) w.turns-is)))
-      | else-gone-len w ↦ (let le = w.if-gone-len.false in (set ts p put, refl, inr (omega (arith, le, long, same, size), ap (λ v. v.items) w.turns-is)))
+      | then-gone-len w ↦ (let lt = w.if-gone-len.true in
+          (set ts p put, refl, inl (omega (arith, lt, long, same, size), ap (λ v. v.items) w.turns-is)))
+      | else-gone-len w ↦ (let le = w.if-gone-len.false in
+          (set ts p put, refl, inr (omega (arith, le, long, same, size), ap (λ v. v.items) w.turns-is)))
     ] in
     record {
-      turns = turns_more h ps line i last ts c.if-gone-len.turns.items c.requires.plain c.requires.presences c.requires.line c.loop-i-test.true latest (subst S g is) c.loop-i.invariant.turns;
+      turns = turns_more h ps line i last ts c.if-gone-len.turns.items c.requires.plain c.requires.presences c.requires.line
+          c.loop-i-test.true latest (subst S g is) c.loop-i.invariant.turns;
       latest = so_far ps line i last latest;
     }
 
@@ -54,4 +57,5 @@ pub returns : goal.returns
 returns c =
     let test = c.loop-i-test.false in
     let end = c.loop-i.auto.i-end in
-    turns_all c.args.calls.now c.args.presences.now c.args.line.now c.loop-i.i (length c.args.line.now) c.loop-i.turns.items (omega (arith, test, end)) c.loop-i.invariant.turns
+    turns_all c.args.calls.now c.args.presences.now c.args.line.now c.loop-i.i (length c.args.line.now) c.loop-i.turns.items
+    (omega (arith, test, end)) c.loop-i.invariant.turns

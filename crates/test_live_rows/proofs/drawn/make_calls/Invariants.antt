@@ -1,5 +1,5 @@
-use Rattle.kfifo_live.specs.Pass.{IsSame}
+use Rattle.kfifo_live.specs.Pass.{IsSamePass}
 use Rattle.test_live_rows.proofs.drawn.make_calls.Given as goal
 
 abbrev pub invariant-loop-item : goal.invariant-loop-item
-invariant-loop-item l = IsSame l.fn.pass l.pass
+invariant-loop-item l = IsSamePass l.fn.pass l.pass

@@ -1,6 +1,6 @@
 use Rattle.std.proofs.Common.{All}
-use Rattle.kfifo_live.specs.Pass.{IsOf}
+use Rattle.kfifo_live.specs.Pass.{IsPassOf}
 use Rattle.test_live_rows.proofs.items.add_steps.Given as goal
 
 abbrev pub invariant-loop-step : goal.invariant-loop-step
-invariant-loop-step l = All (IsOf l.queue) l.passes.items
+invariant-loop-step l = All (IsPassOf l.queue) l.passes.items

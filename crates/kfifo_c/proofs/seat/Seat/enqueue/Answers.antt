@@ -7,8 +7,14 @@ use Rattle.kfifo_c.proofs.seat.Seat.enqueue.Goals as goal
 pub returns : goal.returns
 returns c =
     let below = subst (λ (s : Seated). c.args.start < s.queue.opened.shape.k) (sym c.self.view_is) c.requires.start in
-    let after : Seated = record { queue = c.self.inside.queue.value; pass = c.enqueue.new.self; put_start = c.self.inside.puts.start; get_start = c.self.inside.gets.start } in
-    subst (λ (s : Seated). MayEnqueue c.args.item c.args.start c.args.turns s × CalledFrom (Enqueue c.args.item c.args.start c.args.turns) c.enqueue.result s after) c.self.view_is (
+    let after : Seated = record {
+      queue = c.self.inside.queue.value;
+      pass = c.enqueue.new.self;
+      put_start = c.self.inside.puts.start;
+      get_start = c.self.inside.gets.start;
+    } in
+    subst (λ (s : Seated). MayEnqueue c.args.item c.args.start c.args.turns s
+    × CalledFrom (Enqueue c.args.item c.args.start c.args.turns) c.enqueue.result s after) c.self.view_is (
       record {
         some_item = c.requires.item.0;
         small_item = c.requires.item.1;

@@ -11,7 +11,12 @@ pub returns : goal.returns
 returns c =
     let e = c.enqueue.ensures in let i = c.self.inside in let v = c.self.invariant in
     let before : Seated = record { queue = i.queue.value; pass = i.pass; put_start = i.puts.start; get_start = i.gets.start } in
-    let after : Seated = record { queue = i.queue.value; pass = c.enqueue.new.self; put_start = c.next-start.new.self.start; get_start = i.gets.start } in
+    let after : Seated = record {
+      queue = i.queue.value;
+      pass = c.enqueue.new.self;
+      put_start = c.next-start.new.self.start;
+      get_start = i.gets.start;
+    } in
     let turns : i.turns ≡ enough_turns i.pass = v.4 ∙ ap (λ (o : Opening). o.shape.n + 2) (sym v.0.1) in
     let made : Called (Enqueue c.args.item c.next-start.result i.turns) c.enqueue.result before after = record {
       queue = refl;
@@ -24,8 +29,10 @@ returns c =
       promise = e.promise;
     } in
     subst (λ (s : Seated). Puts c.args.item c.enqueue.result s after) c.self.view_is (record {
-      called = subst (λ (x : ℕ × ℕ). Called (Enqueue c.args.item x.0 x.1) c.enqueue.result before after) (λ j. (c.next-start.ensures.start j, turns j)) made;
+      called = subst (λ (x : ℕ × ℕ). Called (Enqueue c.args.item x.0 x.1) c.enqueue.result before after)
+          (λ j. (c.next-start.ensures.start j, turns j)) made;
       busy = λ is. e.disturbed is (omega (arith, turns));
-      next_put = ap (λ r. r.start) c.next-start.ensures.moves ∙ ap (λ (k : ℕ). start_after k i.puts.start) (v.2 ∙ ap (λ (o : Opening). o.shape.k) (sym v.0.1));
+      next_put = ap (λ r. r.start) c.next-start.ensures.moves
+          ∙ ap (λ (k : ℕ). start_after k i.puts.start) (v.2 ∙ ap (λ (o : Opening). o.shape.k) (sym v.0.1));
       same_get = refl;
     })

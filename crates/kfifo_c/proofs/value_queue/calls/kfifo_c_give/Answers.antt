@@ -6,4 +6,8 @@ pub seat_mut-requires : goal.seat_mut-requires
 seat_mut-requires c = something _ (λ e. c.if-pass-eq0.false (c.args.pass.now.starts_are ∙ e))
 
 pub returns-clause-answer : goal.returns-clause-answer
-returns-clause-answer c = (Some c.give-given.result, c.given_status.ensures, (c.seat_mut.result.now, c.give-given.new.self, c.seat_mut.ensures.value, refl, tt, c.give-given.ensures))
+returns-clause-answer c = (
+  Some c.give-given.result,
+  c.given_status.ensures,
+  (c.seat_mut.result.now, c.give-given.new.self, c.seat_mut.ensures.value, refl, tt, c.give-given.ensures),
+)

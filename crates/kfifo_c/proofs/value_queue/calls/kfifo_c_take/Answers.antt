@@ -10,7 +10,8 @@ seat_mut-requires c = something _ (λ e. c.if-pass-eq0.false (c.args.pass.now.st
 
 pub returns-clause-answer : goal.returns-clause-answer
 returns-clause-answer c =
-    let same : c.match-taken.taken ≡ c.take-taken.result = elim c.match-taken.branch [ in-Got w ↦ search rules | in_default w ↦ search rules ] in (
+    let same : c.match-taken.taken ≡ c.take-taken.result =
+    elim c.match-taken.branch [ in-Got w ↦ search rules | in_default w ↦ search rules ] in (
       Some c.match-taken.taken,
       c.taken_status.ensures,
       elim c.match-taken.branch [ in-Got w ↦ search rules | in_default w ↦ search rules ],

@@ -14,16 +14,20 @@ loop-handle-preserved c =
     elim c.match-take.branch [
       | in-Some w ↦
           let seat = w.in-Some.seat.value in
-          let next = next_behind olds i d (Some seat) (omega arith) (ap (λ h. h.held.value) (sym same) ∙ w.in-Some.ensures.value) in record {
+          let next = next_behind olds i d (Some seat) (omega arith) (ap (λ h. h.held.value) (sym same) ∙ w.in-Some.ensures.value) in
+          record {
             rest = rest_more olds hs i c.take.new.self inv.rest;
             closed = closed_more hs i c.take.new.self inv.closed c.take.ensures.closed (omega arith);
-            last = subst (λ o. MatchOption o (last_seat (take (i + 1) os) ≡ None) (λ seat. last_seat (take (i + 1) os) ≡ Some seat.value)) (sym w.last-is) (ap last_seat next ∙ last_more None (take i os) seat);
+            last = subst (λ o. MatchOption o (last_seat (take (i + 1) os) ≡ None) (λ seat. last_seat (take (i + 1) os) ≡ Some seat.value))
+                (sym w.last-is) (ap last_seat next ∙ last_more None (take i os) seat);
           }
       | in_default w ↦
           let next = next_behind olds i d None (omega arith) (ap (λ h. h.held.value) (sym same) ∙ w.in_default.ensures.value) in record {
             rest = rest_more olds hs i c.take.new.self inv.rest;
             closed = closed_more hs i c.take.new.self inv.closed c.take.ensures.closed (omega arith);
-            last = subst (λ o. MatchOption o (last_seat (take (i + 1) os) ≡ None) (λ seat. last_seat (take (i + 1) os) ≡ Some seat.value)) (sym w.last-is)
-                (subst (λ (l : Option ValueSeated). MatchOption c.loop-handle.last (l ≡ None) (λ seat. l ≡ Some seat.value)) (sym (ap last_seat next ∙ last_same None (take i os))) inv.last);
+            last = subst (λ o. MatchOption o (last_seat (take (i + 1) os) ≡ None) (λ seat. last_seat (take (i + 1) os) ≡ Some seat.value))
+                (sym w.last-is)
+                (subst (λ (l : Option ValueSeated). MatchOption c.loop-handle.last (l ≡ None) (λ seat. l ≡ Some seat.value))
+                (sym (ap last_seat next ∙ last_same None (take i os))) inv.last);
           }
     ]

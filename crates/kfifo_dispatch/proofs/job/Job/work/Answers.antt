@@ -13,4 +13,7 @@ overflow_add-self g c =
 pub invariant_of-self : goal.invariant_of-self
 invariant_of-self g c =
     let some = subst (λ (v : Progress). 0 < v.left) (sym c.self.view_is) c.requires in
-    rw c.from.ensures ((goes_on g.L.Tasks.tasks c.self.inside.place c.self.inside.left c.self.inside.sum some c.self.invariant.0).1, c.self.invariant.1)
+    rw c.from.ensures (
+      (goes_on g.L.Tasks.tasks c.self.inside.place c.self.inside.left c.self.inside.sum some c.self.invariant.0).1,
+      c.self.invariant.1,
+    )

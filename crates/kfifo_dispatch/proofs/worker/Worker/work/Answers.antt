@@ -17,7 +17,8 @@ loop-call-preserved g c =
     let after = g.P.Station.known c.take_once.new.self.pass in
     let same = c.take_once.ensures.same in
     record {
-      may = may_still c.args.queue.now before after c.loop-call.self.starts c.take_once.new.self.starts c.loop-call.self.turns c.take_once.new.self.turns i.may same.0 same.1 same.2;
+      may = may_still c.args.queue.now before after c.loop-call.self.starts c.take_once.new.self.starts c.loop-call.self.turns
+          c.take_once.new.self.turns i.may same.0 same.1 same.2;
       same = same_trans (g.P.Station.known c.args.self.now.pass) before after i.same same.0;
       turns = same.2 ∙ i.turns;
       ends =

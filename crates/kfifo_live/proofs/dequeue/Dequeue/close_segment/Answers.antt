@@ -12,4 +12,5 @@ pub take-requires : goal.take-requires
 take-requires g c = goes_to c.requires c.move_tail.ensures (grind (arith, nat_tests))
 
 pub returns : goal.returns
-returns g c = comes_by (dequeue_at c.args.self (P.Take c.args.ends c.args.index c.args.filled)) c.requires c.move_tail.ensures (grind (arith, nat_tests)) c.take.ensures
+returns g c = comes_by (dequeue_at c.args.self (P.Take c.args.ends c.args.index c.args.filled)) c.requires c.move_tail.ensures
+    (grind (arith, nat_tests)) c.take.ensures

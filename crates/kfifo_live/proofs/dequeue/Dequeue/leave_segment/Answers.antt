@@ -15,9 +15,11 @@ pub returns-then-version-last : goal.returns-then-version-last
 returns-then-version-last g c = comes c.requires c.load_ends.ensures (grind (arith, nat_tests))
 
 pub move_head-requires-clause-next : goal.move_head-requires-clause-next
-move_head-requires-clause-next g c = awaits (goes_to {later = dequeue_at c.args.self (P.MoveHead c.args.ends)} c.requires c.load_ends.ensures (grind (arith, nat_tests))) refl
+move_head-requires-clause-next g c = awaits
+    (goes_to {later = dequeue_at c.args.self (P.MoveHead c.args.ends)} c.requires c.load_ends.ensures (grind (arith, nat_tests))) refl
 
 pub returns : goal.returns
 returns g c =
     let place = dequeue_at c.args.self (P.MoveHead c.args.ends) in
-    comes_by place c.requires c.load_ends.ensures (grind (arith, nat_tests)) (comes (goes_to {later = place} c.requires c.load_ends.ensures (grind (arith, nat_tests))) c.move_head.ensures refl)
+    comes_by place c.requires c.load_ends.ensures (grind (arith, nat_tests))
+    (comes (goes_to {later = place} c.requires c.load_ends.ensures (grind (arith, nat_tests))) c.move_head.ensures refl)

@@ -4,7 +4,7 @@ use Rattle.kfifo_live.proofs.Whole.{comes}
 use Rattle.kfifo_live.proofs.dequeue.Dequeue.take.Goals as goal
 
 pub returns-then-ne : goal.returns-then-ne
-returns-then-ne g c = comes c.requires c.exchange.ensures (grind (arith, nat_tests))
+returns-then-ne g c = comes c.requires c.compare_exchange.ensures (grind (arith, nat_tests))
 
 pub returns : goal.returns
-returns g c = comes c.requires c.exchange.ensures (grind (arith, nat_tests))
+returns g c = comes c.requires c.compare_exchange.ensures (grind (arith, nat_tests))

@@ -15,4 +15,5 @@ pub put-requires : goal.put-requires
 put-requires g c = goes_to c.requires c.load_ends.ensures (grind (arith, nat_tests))
 
 pub returns : goal.returns
-returns g c = comes_by (enqueue_at c.args.self (P.Put c.args.ends c.args.index c.args.empty)) c.requires c.load_ends.ensures (grind (arith, nat_tests)) c.put.ensures
+returns g c = comes_by (enqueue_at c.args.self (P.Put c.args.ends c.args.index c.args.empty)) c.requires c.load_ends.ensures
+    (grind (arith, nat_tests)) c.put.ensures

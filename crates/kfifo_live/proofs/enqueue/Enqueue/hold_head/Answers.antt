@@ -6,10 +6,11 @@ use Rattle.kfifo_live.proofs.Whole.{comes, comes_by, goes_to}
 use Rattle.kfifo_live.proofs.enqueue.Enqueue.hold_head.Goals as goal
 
 pub returns-then-eq : goal.returns-then-eq
-returns-then-eq g c = comes c.requires c.exchange-found.ensures (grind (arith, nat_tests))
+returns-then-eq g c = comes c.requires c.compare_exchange-found.ensures (grind (arith, nat_tests))
 
 pub undo-requires : goal.undo-requires
-undo-requires g c = goes_to c.requires c.exchange-found.ensures (grind (arith, nat_tests))
+undo-requires g c = goes_to c.requires c.compare_exchange-found.ensures (grind (arith, nat_tests))
 
 pub returns : goal.returns
-returns g c = comes_by (enqueue_at c.args.self (P.Undo c.args.index c.args.filled false)) c.requires c.exchange-found.ensures (grind (arith, nat_tests)) c.undo.ensures
+returns g c = comes_by (enqueue_at c.args.self (P.Undo c.args.index c.args.filled false)) c.requires c.compare_exchange-found.ensures
+    (grind (arith, nat_tests)) c.undo.ensures

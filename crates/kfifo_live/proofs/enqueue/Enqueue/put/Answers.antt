@@ -6,10 +6,11 @@ use Rattle.kfifo_live.proofs.Whole.{comes, comes_by, goes_to}
 use Rattle.kfifo_live.proofs.enqueue.Enqueue.put.Goals as goal
 
 pub returns-then-ne : goal.returns-then-ne
-returns-then-ne g c = comes c.requires c.exchange.ensures (grind (arith, nat_tests))
+returns-then-ne g c = comes c.requires c.compare_exchange.ensures (grind (arith, nat_tests))
 
 pub see_put-requires : goal.see_put-requires
-see_put-requires g c = goes_to c.requires c.exchange.ensures (grind (arith, nat_tests))
+see_put-requires g c = goes_to c.requires c.compare_exchange.ensures (grind (arith, nat_tests))
 
 pub returns : goal.returns
-returns g c = comes_by (enqueue_at c.args.self (P.ReloadSlot c.args.ends c.args.index c.pack-filled.result)) c.requires c.exchange.ensures (grind (arith, nat_tests)) c.see_put.ensures
+returns g c = comes_by (enqueue_at c.args.self (P.ReloadSlot c.args.ends c.args.index c.pack-filled.result)) c.requires
+    c.compare_exchange.ensures (grind (arith, nat_tests)) c.see_put.ensures

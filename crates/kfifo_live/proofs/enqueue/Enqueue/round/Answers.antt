@@ -7,13 +7,17 @@ pub scan-requires-clause-scan : goal.scan-requires-clause-scan
 scan-requires-clause-scan g c = (tail_scan c.args.self c.args.ends _ _ c.tail.ensures.value c.probes-probes.ensures, c.requires)
 
 pub fill_slot-requires : goal.fill_slot-requires
-fill_slot-requires g c = stands_on c.requires.of (c.in-Slot.ensures (tail_scan c.args.self c.args.ends _ _ c.tail.ensures.value c.probes-probes.ensures) c.requires)
+fill_slot-requires g c = stands_on c.requires.of
+    (c.in-Slot.ensures (tail_scan c.args.self c.args.ends _ _ c.tail.ensures.value c.probes-probes.ensures) c.requires)
 
 pub leave_segment-requires : goal.leave_segment-requires
-leave_segment-requires g c = stands_on c.requires.of (c.in-Nothing.ensures (tail_scan c.args.self c.args.ends _ _ c.tail.ensures.value c.probes-probes.ensures) c.requires)
+leave_segment-requires g c = stands_on c.requires.of
+    (c.in-Nothing.ensures (tail_scan c.args.self c.args.ends _ _ c.tail.ensures.value c.probes-probes.ensures) c.requires)
 
 pub returns-in-Slot : goal.returns-in-Slot
-returns-in-Slot g c = runs_on (c.in-Slot.ensures (tail_scan c.args.self c.args.ends _ _ c.tail.ensures.value c.probes-probes.ensures) c.requires) c.fill_slot.ensures
+returns-in-Slot g c = runs_on (c.in-Slot.ensures (tail_scan c.args.self c.args.ends _ _ c.tail.ensures.value c.probes-probes.ensures)
+    c.requires) c.fill_slot.ensures
 
 pub returns-in-Nothing : goal.returns-in-Nothing
-returns-in-Nothing g c = runs_on (c.in-Nothing.ensures (tail_scan c.args.self c.args.ends _ _ c.tail.ensures.value c.probes-probes.ensures) c.requires) c.leave_segment.ensures
+returns-in-Nothing g c = runs_on (c.in-Nothing.ensures (tail_scan c.args.self c.args.ends _ _ c.tail.ensures.value c.probes-probes.ensures)
+    c.requires) c.leave_segment.ensures

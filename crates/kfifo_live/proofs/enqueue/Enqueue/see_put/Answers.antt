@@ -12,4 +12,5 @@ pub settle-requires : goal.settle-requires
 settle-requires g c = goes_to c.requires c.load.ensures (grind (arith, nat_tests))
 
 pub returns : goal.returns
-returns g c = comes_by (enqueue_at c.args.self (P.ReloadEnds c.args.ends c.args.index c.args.filled)) c.requires c.load.ensures (grind (arith, nat_tests)) c.settle.ensures
+returns g c = comes_by (enqueue_at c.args.self (P.ReloadEnds c.args.ends c.args.index c.args.filled)) c.requires c.load.ensures
+    (grind (arith, nat_tests)) c.settle.ensures

@@ -10,13 +10,15 @@ pub undo-requires : goal.undo-requires
 undo-requires g c = goes_to c.requires c.load_ends-now.ensures (grind (arith, nat_tests))
 
 pub returns-then-version-last : goal.returns-then-version-last
-returns-then-version-last g c = comes_by (enqueue_at c.args.self (P.Undo c.args.index c.args.filled true)) c.requires c.load_ends-now.ensures (grind (arith, nat_tests)) c.undo.ensures
+returns-then-version-last g c = comes_by (enqueue_at c.args.self (P.Undo c.args.index c.args.filled true)) c.requires
+    c.load_ends-now.ensures (grind (arith, nat_tests)) c.undo.ensures
 
 pub hold_head-requires : goal.hold_head-requires
 hold_head-requires g c = goes_to c.requires c.load_ends-now.ensures (grind (arith, nat_tests))
 
 pub returns-then-segment-head : goal.returns-then-segment-head
-returns-then-segment-head g c = comes_by (enqueue_at c.args.self (P.HoldHead c.args.index c.args.filled c.load_ends-now.result)) c.requires c.load_ends-now.ensures (grind (arith, nat_tests)) c.hold_head.ensures
+returns-then-segment-head g c = comes_by (enqueue_at c.args.self (P.HoldHead c.args.index c.args.filled c.load_ends-now.result)) c.requires
+    c.load_ends-now.ensures (grind (arith, nat_tests)) c.hold_head.ensures
 
 pub dist-requires-clause-from_in : goal.dist-requires-clause-from_in
 dist-requires-clause-from_in g c = let ends = c.load_ends-now.ensures.sound _ c.requires in omega arith
@@ -34,4 +36,5 @@ pub undo-requires-2 : goal.undo-requires-2
 undo-requires-2 g c = goes_to c.requires c.load_ends-now.ensures (grind (arith, nat_tests))
 
 pub returns : goal.returns
-returns g c = comes_by (enqueue_at c.args.self (P.Undo c.args.index c.args.filled false)) c.requires c.load_ends-now.ensures (grind (arith, nat_tests)) c.undo-2.ensures
+returns g c = comes_by (enqueue_at c.args.self (P.Undo c.args.index c.args.filled false)) c.requires c.load_ends-now.ensures
+    (grind (arith, nat_tests)) c.undo-2.ensures

@@ -11,24 +11,30 @@ pub returns-then-tokens-queue-clause-takes : goal.returns-then-tokens-queue-clau
 returns-then-tokens-queue-clause-takes g c =
     let old = c.args.self.now in
     let first = c.self.view_is in
-    let opened : old.pass.pass.opened.tokens ≡ c.queue.inside.tokens = ap (λ (o : Opening). o.tokens) c.requires.of.1 ∙ sym (ap (λ (q : OpenQueue). q.opened.tokens) c.queue.view_is) in
+    let opened : old.pass.pass.opened.tokens ≡ c.queue.inside.tokens =
+    ap (λ (o : Opening). o.tokens) c.requires.of.1 ∙ sym (ap (λ (q : OpenQueue). q.opened.tokens) c.queue.view_is) in
     let size = c.tokens.ensures in
     let more = c.if-tokens-queue.true in
     let less : old.pass.pass.opened.tokens < length c.take-taken.new.self.tokens = omega (arith, opened, size, more) in
-    took_more c.take-taken.result old c.lay_down.new.self c.take-taken.new.self c.next-start.result c.self.inside.turns (c.next-start.ensures.start ∙ ap (λ (h : PayHeld g.row.T.Denot). h.take_start) first)
+    took_more c.take-taken.result old c.lay_down.new.self c.take-taken.new.self c.next-start.result c.self.inside.turns
+    (c.next-start.ensures.start ∙ ap (λ (h : PayHeld g.row.T.Denot). h.take_start) first)
     (c.self.invariant.2 ∙ ap (λ (h : PayHeld g.row.T.Denot). enough_turns h.pass.pass) first)
-    (subst (λ (h : PayHeld g.row.T.Denot). TakesOut c.next-start.result c.self.inside.turns c.take-taken.result h.pass c.take-taken.new.self) first c.take-taken.ensures.takes) less c.lay_down.ensures.lays
+    (subst (λ (h : PayHeld g.row.T.Denot). TakesOut c.next-start.result c.self.inside.turns c.take-taken.result h.pass
+    c.take-taken.new.self) first c.take-taken.ensures.takes) less c.lay_down.ensures.lays
     (c.lay_down.ensures.counts.0 ∙ ap (λ (h : PayHeld g.row.T.Denot). one_more h.surpluses) first)
 
 pub returns-else-tokens-queue-clause-takes : goal.returns-else-tokens-queue-clause-takes
 returns-else-tokens-queue-clause-takes g c =
     let old = c.args.self.now in
     let first = c.self.view_is in
-    let opened : old.pass.pass.opened.tokens ≡ c.queue.inside.tokens = ap (λ (o : Opening). o.tokens) c.requires.of.1 ∙ sym (ap (λ (q : OpenQueue). q.opened.tokens) c.queue.view_is) in
+    let opened : old.pass.pass.opened.tokens ≡ c.queue.inside.tokens =
+    ap (λ (o : Opening). o.tokens) c.requires.of.1 ∙ sym (ap (λ (q : OpenQueue). q.opened.tokens) c.queue.view_is) in
     let size = c.tokens.ensures in
     let few = c.if-tokens-queue.false in
     let le : length c.take-taken.new.self.tokens ≤ old.pass.pass.opened.tokens = omega (arith, opened, size, few) in
-    took_few c.take-taken.result old _ c.take-taken.new.self c.next-start.result c.self.inside.turns (c.next-start.ensures.start ∙ ap (λ (h : PayHeld g.row.T.Denot). h.take_start) first)
+    took_few c.take-taken.result old _ c.take-taken.new.self c.next-start.result c.self.inside.turns
+    (c.next-start.ensures.start ∙ ap (λ (h : PayHeld g.row.T.Denot). h.take_start) first)
     (c.self.invariant.2 ∙ ap (λ (h : PayHeld g.row.T.Denot). enough_turns h.pass.pass) first)
-    (subst (λ (h : PayHeld g.row.T.Denot). TakesOut c.next-start.result c.self.inside.turns c.take-taken.result h.pass c.take-taken.new.self) first c.take-taken.ensures.takes) le refl
+    (subst (λ (h : PayHeld g.row.T.Denot). TakesOut c.next-start.result c.self.inside.turns c.take-taken.result h.pass
+    c.take-taken.new.self) first c.take-taken.ensures.takes) le refl
     (ap (λ (h : PayHeld g.row.T.Denot). h.surpluses) first)

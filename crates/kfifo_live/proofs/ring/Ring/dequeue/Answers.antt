@@ -29,7 +29,8 @@ overflow_sub-left g c = (stands_on c.requires.rests.of c.rounds.invariant).is_pl
 
 pub load_ends-ends-requires : goal.load_ends-ends-requires
 load_ends-ends-requires g c =
-    let again = comes_as {later = Goes (R.Dequeue c.args.start (c.rounds.left - 1) P.LoadEnds)} c.in_default.ensures (grind (arith, nat_tests)) in
+    let again = comes_as {later = Goes (R.Dequeue c.args.start (c.rounds.left - 1) P.LoadEnds)} c.in_default.ensures
+    (grind (arith, nat_tests)) in
     awaits (stands_on c.requires.rests.of (runs_on c.rounds.invariant again)) refl
 
 pub rounds-smaller : goal.rounds-smaller
@@ -40,5 +41,6 @@ rounds-smaller g c =
 
 pub rounds-preserved : goal.rounds-preserved
 rounds-preserved g c =
-    let again = runs_on c.rounds.invariant (comes_as {later = Goes (R.Dequeue c.args.start (c.rounds.left - 1) P.LoadEnds)} c.in_default.ensures (grind (arith, nat_tests))) in
+    let again = runs_on c.rounds.invariant (comes_as {later = Goes (R.Dequeue c.args.start (c.rounds.left - 1) P.LoadEnds)}
+    c.in_default.ensures (grind (arith, nat_tests))) in
     runs_on again (comes (stands_on c.requires.rests.of again) c.load_ends-ends.ensures refl)

@@ -9,5 +9,6 @@ slots-preserved g c =
     record {
       from = omega arith;
       inside = omega arith;
-      stands = λ row stands. onward_step (i.stands row stands) c.load-word.ensures (row_goes_on row c.slots.index c.load-word.result i.from (omega arith) (sym c.is_wanted.ensures ∙ c.if-is_wanted.false));
+      stands = λ row stands. onward_step (i.stands row stands) c.load-word.ensures
+          (row_goes_on row c.slots.index c.load-word.result i.from (omega arith) (sym c.is_wanted.ensures ∙ c.if-is_wanted.false));
     }

@@ -8,7 +8,9 @@ abbrev pub invariant-slots : goal.invariant-slots
 invariant-slots g l = record {
   from : l.fn.first ≤ l.index;
   inside : l.index < l.fn.end;
-  stands : (row : Row l.self.shape.now g.W.Wanted.stops l.fn.first (l.fn.end - l.fn.first)) → Stands l.self l.fn.seat (row.scan.looking row.offset) → Onward l.self l.fn.seat (row.scan.looking (row.offset + (l.index - l.fn.first))) l.seat;
+  stands : (row : Row l.self.shape.now g.W.Wanted.stops l.fn.first (l.fn.end - l.fn.first))
+      → Stands l.self l.fn.seat (row.scan.looking row.offset)
+      → Onward l.self l.fn.seat (row.scan.looking (row.offset + (l.index - l.fn.first))) l.seat;
 }
 
 abbrev pub decreases-slots : goal.decreases-slots

@@ -11,12 +11,16 @@ returns-then-is_full-clause-promise c = subst (λ (x : Logged). KeepsPromise x.p
 
 pub draw_stamp-last-requires-clause-room : goal.draw_stamp-last-requires-clause-room
 draw_stamp-last-requires-clause-room c =
-    let room = subst (λ (x : Logged). length x.log < x.pass.opened.calls) (sym c.self.view_is) (c.is_full.ensures.room c.if-is_full.false) in
-    room_left c.self.inside.pass c.draw_stamp-first.new.self c.enqueue-answer.new.self c.enqueue-answer.new.self (B.Enqueue c.args.item c.args.start c.args.turns) c.enqueue-answer.result c.draw_stamp-first.result 0 c.self.inside.log.items
+    let room = subst (λ (x : Logged). length x.log < x.pass.opened.calls) (sym c.self.view_is)
+    (c.is_full.ensures.room c.if-is_full.false) in
+    room_left c.self.inside.pass c.draw_stamp-first.new.self c.enqueue-answer.new.self c.enqueue-answer.new.self
+    (B.Enqueue c.args.item c.args.start c.args.turns) c.enqueue-answer.result c.draw_stamp-first.result 0 c.self.inside.log.items
     c.self.invariant.0 room refl c.draw_stamp-first.ensures.draws c.enqueue-answer.ensures.same c.enqueue-answer.ensures.run
 
 stamped : (c : goal.After-push_reserved)
-    → StampedRun c.self.inside.pass c.draw_stamp-first.new.self c.enqueue-answer.new.self c.draw_stamp-last.new.self (B.Enqueue c.args.item c.args.start c.args.turns) c.enqueue-answer.result c.draw_stamp-first.result c.draw_stamp-last.result c.self.inside.log.items
+    → StampedRun c.self.inside.pass c.draw_stamp-first.new.self c.enqueue-answer.new.self c.draw_stamp-last.new.self
+    (B.Enqueue c.args.item c.args.start c.args.turns) c.enqueue-answer.result c.draw_stamp-first.result c.draw_stamp-last.result
+    c.self.inside.log.items
 stamped c = record {
   is = c.self.invariant.0;
   room = subst (λ (x : Logged). length x.log < x.pass.opened.calls) (sym c.self.view_is) (c.is_full.ensures.room c.if-is_full.false);
@@ -35,12 +39,15 @@ invariant_of-self c =
 
 pub returns-clause-some : goal.returns-clause-some
 returns-clause-some c =
-    let made = makes_stamped (stamped c) c.thread.result c.push_reserved.new.self.items c.thread.ensures c.push_reserved.ensures.items c.enqueue-answer.ensures.cause c.enqueue-answer.ensures.disturbed c.enqueue-answer.ensures.leaves_none in
-    subst (λ (x : Logged). MakesStamped (B.Enqueue c.args.item c.args.start c.args.turns) c.enqueue-answer.result x (logged_by c.draw_stamp-last.new.self c.push_reserved.new.self.items)) c.self.view_is made
+    let made = makes_stamped (stamped c) c.thread.result c.push_reserved.new.self.items c.thread.ensures c.push_reserved.ensures.items
+    c.enqueue-answer.ensures.cause c.enqueue-answer.ensures.disturbed c.enqueue-answer.ensures.leaves_none in
+    subst (λ (x : Logged). MakesStamped (B.Enqueue c.args.item c.args.start c.args.turns) c.enqueue-answer.result x
+    (logged_by c.draw_stamp-last.new.self c.push_reserved.new.self.items)) c.self.view_is made
 
 pub returns-clause-few_steps : goal.returns-clause-few_steps
 returns-clause-few_steps c =
-    subst (λ (x : Logged). TakesFewStampedSteps (B.Enqueue c.args.item c.args.start c.args.turns) x.pass c.draw_stamp-last.new.self) c.self.view_is (few_steps_more (stamped c) c.enqueue-answer.ensures.few_steps)
+    subst (λ (x : Logged). TakesFewStampedSteps (B.Enqueue c.args.item c.args.start c.args.turns) x.pass c.draw_stamp-last.new.self)
+    c.self.view_is (few_steps_more (stamped c) c.enqueue-answer.ensures.few_steps)
 
 pub returns-clause-promise : goal.returns-clause-promise
 returns-clause-promise c = c.draw_stamp-last.ensures.promise

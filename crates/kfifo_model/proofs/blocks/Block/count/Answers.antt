@@ -10,7 +10,8 @@ use Rattle.kfifo_model.proofs.blocks.Block.count.Goals as goal
 pub returns-then-self-last : goal.returns-then-self-last
 returns-then-self-last c =
     let b = c.self.invariant in
-    sym (ap (count_by (λ r. is_beaten c.args.last c.args.got r)) (sym c.self.view_is) ∙ none_beats c.self.inside.rivals.items _ _ c.args.last c.args.got b.span c.if-self-last.true)
+    sym (ap (count_by (λ r. is_beaten c.args.last c.args.got r)) (sym c.self.view_is)
+    ∙ none_beats c.self.inside.rivals.items _ _ c.args.last c.args.got b.span c.if-self-last.true)
 
 pub returns-in-Some : goal.returns-in-Some
 returns-in-Some c =
@@ -20,8 +21,10 @@ returns-in-Some c =
     let ends = c.self.inside.ends.items in
     let rivals = c.self.inside.rivals.items in
     let same = c.deref-in-Some.ensures.value in
-    let point = IsPartitionPoint-from_clause (λ n. ltb n first) c.deref-in-Some.result.now c.partition_point.result c.partition_point.ensures.partitioned
-    (subst (IsPartitionedBy (λ n. ltb n first)) (sym same) (IsPartitionedBy-ltb (λ (n : ℕ). n) ends first b.sorted)) (λ a r q k. search rules) in
+    let point = IsPartitionPoint-from_clause (λ n. ltb n first) c.deref-in-Some.result.now c.partition_point.result
+    c.partition_point.ensures.partitioned
+    (subst (IsPartitionedBy (λ n. ltb n first)) (sym same) (IsPartitionedBy-ltb (λ (n : ℕ). n) ends first b.sorted))
+    (λ a r q k. search rules) in
     sym
     (ap (count_by (λ r. is_beaten last c.args.got r)) (sym c.self.view_is)
     ∙ ap (λ got. count_by (λ r. is_beaten last got r) rivals) c.in-Some.is

@@ -6,4 +6,5 @@ use Rattle.kfifo_replay.specs.Player.{StandsFor}
 use Rattle.kfifo_replay.proofs.player.Replay.feed.Given as goal
 
 abbrev pub invariant-loop-place : goal.invariant-loop-place
-invariant-loop-place l = (shape : Shape) (scripts : List (List Begin)) (earlier : List ℕ) → StandsFor shape scripts earlier l.initial.self → StandsFor shape scripts (earlier ++ take l.place l.picks) l.self
+invariant-loop-place l = (shape : Shape) (scripts : List (List Begin)) (earlier : List ℕ) → StandsFor shape scripts earlier l.initial.self
+    → StandsFor shape scripts (earlier ++ take l.place l.picks) l.self

@@ -7,4 +7,5 @@ use Rattle.kfifo_replay.specs.Finishing.{Finished}
 use Rattle.kfifo_replay.proofs.player.Replay.finish.Given as goal
 
 abbrev pub invariant-loop-thread : goal.invariant-loop-thread
-invariant-loop-thread l = (shape : Shape) (scripts : List (List Begin)) (earlier : List ℕ) → StandsFor shape scripts earlier l.initial.self → Finished l.stopped shape scripts l.thread earlier l.self
+invariant-loop-thread l = (shape : Shape) (scripts : List (List Begin)) (earlier : List ℕ) → StandsFor shape scripts earlier l.initial.self
+    → Finished l.stopped shape scripts l.thread earlier l.self

@@ -31,8 +31,10 @@ stands : (c : goal.In_ok-new) → StandsFor c.args.shape (by_calls c.args.script
     })
 stands c =
     let are : AreScripts c.args.shape (by_calls c.args.scripts.now) = c.are_scripts.ensures.0 c.if-not-are_scripts.false in
-    let size : length c.args.scripts.now ≡ length (by_calls c.args.scripts.now) = sym (length-map c.args.scripts.now (λ (script : Vec Begin Global). script.items)) in
-    let calls : c.count_calls-room.result ≡ calls_in (by_calls c.args.scripts.now) = c.count_calls-room.ensures ∙ sym (calls_in-map c.args.scripts.now) in
+    let size : length c.args.scripts.now ≡ length (by_calls c.args.scripts.now) =
+    sym (length-map c.args.scripts.now (λ (script : Vec Begin Global). script.items)) in
+    let calls : c.count_calls-room.result ≡ calls_in (by_calls c.args.scripts.now) =
+    c.count_calls-room.ensures ∙ sym (calls_in-map c.args.scripts.now) in
     let follows : Follows (length c.args.scripts.now) c.count_calls-room.result [] c.in-Ok.linearizer = c.in-Ok.ensures.follows.1 in
     stands_none c.args.shape (by_calls c.args.scripts.now) _ are refl c.in_ok-copy_scripts.ensures
     (ap (λ (f : Follower). f.shape) c.linearizer.view_is ∙ c.in-Ok.ensures.follows.0)

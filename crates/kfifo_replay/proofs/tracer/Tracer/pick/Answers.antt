@@ -17,13 +17,15 @@ pub returns-in_default-clause-few : goal.returns-in_default-clause-few
 returns-in_default-clause-few c =
     let i = c.self.invariant in
     let few = few_steps i.shape i.scripts i.picks c.self.inside.replay i.traces.stands in
-    let same : c.self.inside.replay.follower.notes.step ≡ c.args.self.now.player.follower.notes.step = ap (λ (t : Tracing). t.player.follower.notes.step) c.self.view_is in
+    let same : c.self.inside.replay.follower.notes.step ≡ c.args.self.now.player.follower.notes.step =
+    ap (λ (t : Tracing). t.player.follower.notes.step) c.self.view_is in
     omega (arith, few, same)
 
 pub follow-step-requires-clause-enabled : goal.follow-step-requires-clause-enabled
 follow-step-requires-clause-enabled c =
     let i = c.self.invariant in
-    enabled i.shape i.scripts i.picks (the_view c.self.inside) i.traces c.args.thread c.in-Some.event (sym c.next_event.ensures ∙ c.in-Some.is)
+    enabled i.shape i.scripts i.picks (the_view c.self.inside) i.traces c.args.thread c.in-Some.event
+    (sym c.next_event.ensures ∙ c.in-Some.is)
 
 pub follow-step-requires-clause-goes : goal.follow-step-requires-clause-goes
 follow-step-requires-clause-goes c =
@@ -34,8 +36,15 @@ pub keep-requires-clause-few : goal.keep-requires-clause-few
 keep-requires-clause-few c = let i = c.self.invariant in few_kept i.shape i.scripts i.picks (the_view c.self.inside) i.traces
 
 -- the tracer traces one pick more
-traces_then : (c : goal.After-keep) (shape : Shape) (scripts : List (List Begin)) (earlier : List ℕ) → Traces shape scripts earlier (the_view c.self.inside)
-    → Traces shape scripts (earlier ++ c.args.thread ∷ []) (record { player = c.pick.new.self; machine = c.follow-step.new.state; steps = c.keep.new.steps.items; room = vec_capacity c.keep.new.steps })
+traces_then : (c : goal.After-keep) (shape : Shape) (scripts : List (List Begin)) (earlier : List ℕ)
+    → Traces shape scripts earlier (the_view c.self.inside)
+    → Traces shape scripts (earlier ++ c.args.thread ∷ [])
+    (record {
+      player = c.pick.new.self;
+      machine = c.follow-step.new.state;
+      steps = c.keep.new.steps.items;
+      room = vec_capacity c.keep.new.steps;
+    })
 traces_then c shape scripts earlier traces =
     traces_on shape scripts earlier (the_view c.self.inside) traces c.args.thread c.in-Some.event (sym c.next_event.ensures ∙ c.in-Some.is)
     c.pick.new.self c.follow-step.new.state c.keep.new.steps.items (vec_capacity c.keep.new.steps) c.follow-step.result
@@ -45,7 +54,13 @@ traces_then c shape scripts earlier traces =
 pub invariant_of-self-2 : goal.invariant_of-self-2
 invariant_of-self-2 c =
     let i = c.self.invariant in
-    record { shape = i.shape; scripts = i.scripts; picks = i.picks ++ c.args.thread ∷ []; traces = traces_then c i.shape i.scripts i.picks i.traces }
+    record {
+      shape = i.shape;
+      scripts = i.scripts;
+      picks = i.picks ++ c.args.thread ∷ [];
+      traces = traces_then c i.shape i.scripts i.picks i.traces;
+    }
 
 pub returns-clause-made : goal.returns-clause-made
-returns-clause-made c isnt shape scripts earlier traces = traces_then c shape scripts earlier (subst (Traces shape scripts earlier) (sym c.self.view_is) traces)
+returns-clause-made c isnt shape scripts earlier traces =
+    traces_then c shape scripts earlier (subst (Traces shape scripts earlier) (sym c.self.view_is) traces)

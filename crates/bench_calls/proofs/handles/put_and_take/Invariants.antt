@@ -1,0 +1,9 @@
+use Rattle.std.proofs.Common.{◌≤◌, ◌*◌}
+use Rattle.kfifo_live.specs.Pass.{IsSamePass}
+use Rattle.bench_calls.proofs.handles.put_and_take.Given as goal
+
+abbrev pub invariant-loop-item : goal.invariant-loop-item
+invariant-loop-item l = record {
+  same : IsSamePass l.fn.handle.pass l.handle.pass;
+  few : l.wanted ≤ 2 * l.item;
+}

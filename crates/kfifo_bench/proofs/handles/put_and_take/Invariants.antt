@@ -1,9 +1,0 @@
-use Rattle.std.proofs.Common.{◌≤◌, ◌*◌}
-use Rattle.kfifo_live.specs.Pass.{IsSame}
-use Rattle.kfifo_bench.proofs.handles.put_and_take.Given as goal
-
-abbrev pub invariant-loop-item : goal.invariant-loop-item
-invariant-loop-item l = record {
-  same : IsSame l.fn.handle.pass l.handle.pass;
-  few : l.wanted ≤ 2 * l.item;
-}

@@ -1,9 +1,0 @@
-use Rattle.std.proofs.Common.{◌≤◌}
-use Rattle.kfifo_live.specs.Pass.{IsSame}
-use Rattle.kfifo_bench.proofs.handles.take_none.Given as goal
-
-abbrev pub invariant-loop-call : goal.invariant-loop-call
-invariant-loop-call l = record {
-  same : IsSame l.fn.handle.pass l.handle.pass;
-  few : l.wanted ≤ l.call;
-}

@@ -1,9 +1,0 @@
-use Rattle.std.proofs.Common.{◌≡◌}
-use Rattle.kfifo_live.specs.Pass.{IsSame}
-use Rattle.kfifo_bench.proofs.payloads.fill.Given as goal
-
-abbrev pub invariant-loop-number : goal.invariant-loop-number
-invariant-loop-number l = record {
-  same : IsSame l.fn.pass.pass l.pass.pass;
-  k : l.starts.k ≡ l.fn.starts.k;
-}

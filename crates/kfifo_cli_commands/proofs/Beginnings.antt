@@ -1,0 +1,26 @@
+-- The first byte of an input that is no white space.
+use Rattle.std.proofs.Common.{◌≡◌, ◌<◌, ◌↔◌, ℕ, List, get_or, length, arith, subst}
+use Rattle.kfifo_cli_commands.specs.Inputs.{BeginsRecord, IsSpace}
+
+no_bracket : IsSpace 91 → ⊥
+no_bracket s = omega (arith, s)
+
+-- it is where all before it are white space, and it is none
+first_is : (bytes : List ℕ) (place : ℕ) → (IsSpace (get_or bytes place 0) → ⊥) → ((n : ℕ) → n < place → IsSpace (get_or bytes n 0))
+    → BeginsRecord bytes → get_or bytes place 0 ≡ 91
+first_is bytes place other spaces r =
+    let early : r.place < place → ⊥ = λ l. no_bracket (subst IsSpace r.bracket (spaces r.place l)) in
+    let late : place < r.place → ⊥ = λ l. other (r.spaces place l) in
+    let same : r.place ≡ place = omega (arith, early, late) in
+    subst (λ n. get_or bytes n 0 ≡ 91) same r.bracket
+
+pub tells : (bytes : List ℕ) (place : ℕ) → place < length bytes → (IsSpace (get_or bytes place 0) → ⊥)
+    → ((n : ℕ) → n < place → IsSpace (get_or bytes n 0)) → get_or bytes place 0 ≡ 91 ↔ BeginsRecord bytes
+tells bytes place inside other spaces = (
+  (λ e. record { place = place; inside = inside; bracket = e; spaces = spaces }),
+  (λ r. first_is bytes place other spaces r),
+)
+
+-- white space alone is no record
+pub none : (bytes : List ℕ) → ((n : ℕ) → n < length bytes → IsSpace (get_or bytes n 0)) → BeginsRecord bytes → ⊥
+none bytes spaces r = no_bracket (subst IsSpace r.bracket (spaces r.place r.inside))

@@ -1,0 +1,55 @@
+-- What the lines of events and the report behind them are, and why there are none.
+use Rattle.std.proofs.Common.{◌≡◌, ◌⊎◌, ℕ, ◌≤◌, ◌<◌, Bool, true, List, ◌++◌, Option, Some, inl, inr, length, take, subst, arith}
+use Rattle.std.proofs.lemmas.List.{take_all}
+use Rattle.kfifo_words.specs.declared.shape.Shape.{Shape}
+use Rattle.kfifo_machine.specs.declared.event.Begin.{Begin}
+use Rattle.kfifo_machine.specs.declared.event.Event.{Event}
+use Rattle.kfifo_machine.specs.Machine.{opening}
+use Rattle.kfifo_replay.specs.declared.fault.ReplayFault.TheVariants as replays
+use Rattle.kfifo_replay.specs.declared.steps.Step.{Step}
+use Rattle.kfifo_replay.specs.Picks.{events_of}
+use Rattle.kfifo_replay.specs.Steps.{AreSteps}
+use Rattle.kfifo_replay.specs.Traces.{IsTrace, Traces, Tracing, max_steps}
+use Rattle.kfifo_cli_texts.specs.declared.fault.Fault.{Fault}
+use Rattle.kfifo_cli_texts.specs.declared.fault.Fault.TheVariants.{Memory, Replay, Trace}
+use Rattle.kfifo_cli_texts.specs.TraceLines.{trace_lines}
+use Rattle.kfifo_cli_commands.specs.declared.options.ReplayOptions.{ReplayOptions}
+use Rattle.kfifo_cli_commands.specs.Replays.{IsLong, IsReportText, IsTracedText, IsUnplayed, Makes, traces}
+
+module _ (shape : Shape) (scripts : List (List Begin)) (picks : List ℕ) (count : ℕ)
+    (counted : (events : List Event) → events_of shape scripts picks ≡ Some events → count ≡ length events) where
+  -- more events than a trace may have
+  pub is_long : (t : Tracing) → Traces shape scripts picks t → max_steps < count → IsLong shape scripts picks
+  is_long t traced many = record {
+    events = traced.stands.events;
+    made = traced.stands.made;
+    long = let same = counted traced.stands.events traced.stands.made in omega (arith, same, many);
+  }
+
+  -- the lines of the steps of so few events are those of all, and the report stands behind them
+  pub is_traced : (steps : List Step) → IsTrace shape scripts picks steps → count ≤ max_steps
+      → (points : Bool) (stopped : Option ℕ) (report text : List ℕ) → IsReportText points stopped shape scripts picks report
+      → text ≡ trace_lines shape.k 0 steps ++ report → IsTracedText points stopped shape scripts picks text
+  is_traced steps trace few points stopped report text reported is =
+      let same = counted trace.events trace.made in
+      let all : take max_steps trace.events ≡ trace.events = take_all max_steps trace.events (omega (arith, same, few)) in
+      record {
+        events = trace.events;
+        made = trace.made;
+        steps = steps;
+        are = subst (λ (events : List Event). AreSteps shape (opening shape (length scripts)) events steps) all trace.are;
+        report = report;
+        reported = reported;
+        text_is = is;
+      }
+
+module _ (options : ReplayOptions) (shape : Shape) (scripts : List (List Begin)) (picks made : List ℕ) (t : Tracing)
+    (asked : traces options.record options.trace ≡ true) (makes : Makes options.stopped shape scripts picks made)
+    (traced : Traces shape scripts made t) where
+  -- what has no text of its events is a refusal: memory is, and more events than a trace may have are
+  pub no_text : (fault : Fault) → (fault ≡ Memory) ⊎ (fault ≡ Replay replays.Memory)
+      ⊎ ((fault ≡ Trace) × ((own : List (List Begin)) (all : List ℕ) → Traces shape own all t → IsLong shape own all))
+      → IsUnplayed options shape scripts picks fault
+  no_text fault (inl is) = inl is
+  no_text fault (inr (inl is)) = inr (inl (replays.Memory, is, tt))
+  no_text fault (inr (inr u)) = inr (inr (u.0, record { asked = asked; made = made; makes = makes; long = u.1 scripts made traced }))

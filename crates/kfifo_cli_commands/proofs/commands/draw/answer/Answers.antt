@@ -1,0 +1,75 @@
+use Rattle.std.proofs.Common.{◌≡◌, ◌≢◌, List, ℕ, rules, subst, sym}
+use Rattle.kfifo_cli_texts.specs.declared.fault.Fault.TheVariants.{Output}
+use Rattle.kfifo_cli_texts.proofs.Outcomes.{ok_to}
+use Rattle.kfifo_cli_commands.specs.Pictures.{IsDrawRefusal}
+use Rattle.kfifo_cli_commands.specs.Records.{IsInput}
+use Rattle.kfifo_cli_commands.proofs.Drawing.{cut_refused, err_of, input_refused, ok_of, order_refused, picture_refused, read_well}
+use Rattle.kfifo_cli_commands.proofs.Drawing.{refusal_told, told}
+use Rattle.kfifo_cli_commands.proofs.Refusals.{err_to}
+use Rattle.kfifo_cli_commands.proofs.commands.draw.answer.Goals as goal
+
+pub returns-in_err-cut-clause-err : goal.returns-in_err-cut-clause-err
+returns-in_err-cut-clause-err g c =
+    let at = g.S.Source.failed c.args.input.now in
+    let refusal : IsDrawRefusal c.args.options (g.S.Source.remaining c.args.input.now) at at c.in_err-cut.field-0.0 =
+    cut_refused (g.S.Source.remaining c.args.input.now) at at c.args.options c.in_err-cut.field-0.0 c.in_err-cut.ensures in
+    search (rules, refusal)
+
+pub returns-in_err-cut-clause-silent : goal.returns-in_err-cut-clause-silent
+returns-in_err-cut-clause-silent g c =
+    let at = g.S.Source.failed c.args.input.now in
+    let refusal : IsDrawRefusal c.args.options (g.S.Source.remaining c.args.input.now) at at c.in_err-cut.field-0.0 =
+    cut_refused (g.S.Source.remaining c.args.input.now) at at c.args.options c.in_err-cut.field-0.0 c.in_err-cut.ensures in
+    let told : c.in_err-cut.field-0.0 ≢ Output =
+    refusal_told (g.S.Source.remaining c.args.input.now) at at c.args.options c.in_err-cut.field-0.0 refusal in
+    search (rules, told)
+
+pub returns-in_err-order-clause-err : goal.returns-in_err-order-clause-err
+returns-in_err-order-clause-err g c =
+    let at = g.S.Source.failed c.args.input.now in
+    let refusal : IsDrawRefusal c.args.options (g.S.Source.remaining c.args.input.now) at at c.in_err-order.field-0.0 =
+    order_refused (g.S.Source.remaining c.args.input.now) at at c.args.options c.in_err-order.field-0.0 c.in_err-order.ensures.err in
+    search (rules, refusal)
+
+pub returns-in_err-bytes-clause-err : goal.returns-in_err-bytes-clause-err
+returns-in_err-bytes-clause-err g c =
+    let before = g.S.Source.failed c.args.input.now in
+    let after = g.S.Source.failed c.read_input.new.input in
+    let refusal : IsDrawRefusal c.args.options (g.S.Source.remaining c.args.input.now) before after c.in_err-bytes.field-0.0 =
+    input_refused (g.S.Source.remaining c.args.input.now) before after c.args.options c.in_err-bytes.field-0.0 c.in_err-bytes.ensures.err in
+    search (rules, refusal)
+
+pub returns-clause-ok : goal.returns-clause-ok
+returns-clause-ok g c =
+    let input = g.S.Source.remaining c.args.input.now in
+    let read = subst (λ (b : List ℕ). IsInput input b) (sym c.as_slice.ensures.value) c.in_ok-bytes.ensures.ok in
+    ok_to _ _ (λ text pictured. record {
+      cut = c.in_ok-cut.cut;
+      asked = c.in_ok-cut.ensures;
+      order = _;
+      order_given = c.in_ok-order.ensures.ok;
+      bytes = c.as_slice.result.now;
+      read = read;
+      pictured = pictured;
+    }) c.picture.result (ok_of _ _ c.picture.result c.picture.ensures)
+
+pub returns-clause-err : goal.returns-clause-err
+returns-clause-err g c =
+    let input = g.S.Source.remaining c.args.input.now in
+    let read = subst (λ (b : List ℕ). IsInput input b) (sym c.as_slice.ensures.value) c.in_ok-bytes.ensures.ok in
+    err_to _ _ (λ fault given. picture_refused input _ _ c.args.options c.in_ok-cut.cut c.in_ok-cut.ensures c.as_slice.result.now read fault
+    given)
+    c.picture.result (err_of _ _ c.picture.result c.picture.ensures)
+
+pub returns-clause-silent : goal.returns-clause-silent
+returns-clause-silent g c =
+    let input = g.S.Source.remaining c.args.input.now in
+    let at = g.S.Source.failed c.args.input.now in
+    let read = subst (λ (b : List ℕ). IsInput input b) (sym c.as_slice.ensures.value) c.in_ok-bytes.ensures.ok in
+    told input at at c.args.options c.picture.result
+    (err_to _ _ (λ fault given. picture_refused input at at c.args.options c.in_ok-cut.cut c.in_ok-cut.ensures c.as_slice.result.now
+    read fault given)
+    c.picture.result (err_of _ _ c.picture.result c.picture.ensures))
+
+pub returns-clause-reads : goal.returns-clause-reads
+returns-clause-reads g c = read_well c.picture.result _ _ c.in_ok-bytes.ensures.reads

@@ -1,0 +1,13 @@
+use Rattle.std.proofs.Common.{◌≡◌, ℕ, List, ◌++◌, take}
+use Rattle.kfifo_words.specs.declared.shape.Shape.{Shape}
+use Rattle.kfifo_machine.specs.declared.event.Begin.{Begin}
+use Rattle.kfifo_replay.specs.Player.{StandsFor}
+use Rattle.kfifo_cli_texts.specs.Picks.{count_of, picks_of}
+use Rattle.kfifo_cli_commands.proofs.commands.replay.feed.Given as goal
+
+abbrev pub invariant-loop-group : goal.invariant-loop-group
+invariant-loop-group g l = record {
+  count : l.made ≡ count_of (take l.group-index l.groups);
+  stands : (shape : Shape) (scripts : List (List Begin)) (earlier : List ℕ) → StandsFor shape scripts earlier l.fn.replay
+      → StandsFor shape scripts (earlier ++ picks_of (take l.group-index l.groups)) l.replay;
+}

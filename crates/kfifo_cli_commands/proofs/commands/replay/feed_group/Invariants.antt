@@ -1,0 +1,15 @@
+use Rattle.std.proofs.Common.{ℕ, List, ◌++◌, ◌≤◌, ◌-◌, replicate}
+use Rattle.kfifo_words.specs.declared.shape.Shape.{Shape}
+use Rattle.kfifo_machine.specs.declared.event.Begin.{Begin}
+use Rattle.kfifo_replay.specs.Player.{StandsFor}
+use Rattle.kfifo_cli_commands.proofs.commands.replay.feed_group.Given as goal
+
+abbrev pub invariant-loop-fed : goal.invariant-loop-fed
+invariant-loop-fed g l = record {
+  within : l.fed ≤ l.group.count;
+  stands : (shape : Shape) (scripts : List (List Begin)) (earlier : List ℕ) → StandsFor shape scripts earlier l.fn.replay
+      → StandsFor shape scripts (earlier ++ replicate l.fed l.group.thread) l.replay;
+}
+
+abbrev pub decreases-loop-fed : goal.decreases-loop-fed
+decreases-loop-fed g l = l.group.count - l.fed

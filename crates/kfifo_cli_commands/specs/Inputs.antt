@@ -1,0 +1,43 @@
+-- What the commands `judge`, `least` and `draw` read: a record in JSON, or a log in CSV.
+use Rattle.std.specs.Prelude.{◌≡◌, ◌≢◌, ◌⊎◌, ◌<◌, ℕ, List, [], Option, Some, None, length, slice_index}
+use Rattle.kfifo_model.specs.declared.calls.Call.{Call}
+use Rattle.kfifo_model.specs.declared.history.RecordFault.{RecordFault}
+use Rattle.kfifo_import.specs.declared.log.ImportFault.{ImportFault}
+use Rattle.kfifo_import.specs.declared.log.LoggedCall.{LoggedCall}
+use Rattle.kfifo_import.specs.Tables.{IsReadLog, IsUnimported}
+use Rattle.kfifo_judge.specs.declared.record.StreamFault.TheVariants as streams
+use Rattle.kfifo_judge.specs.Inputs.{IsRecordText}
+use Rattle.kfifo_judge.specs.TextFaults.{IsTextFault}
+use Rattle.kfifo_cli_texts.specs.declared.fault.Fault.{Fault}
+use Rattle.kfifo_cli_texts.specs.declared.fault.Fault.TheVariants.{Import, NotJson, Record, Memory}
+
+-- a space, a tab, a line feed or a carriage return
+abbrev pub IsSpace : ℕ → Type 0
+IsSpace byte = (byte ≡ 32) ⊎ (byte ≡ 9) ⊎ (byte ≡ 10) ⊎ (byte ≡ 13)
+
+-- The first byte that is no white space is `[`: the input is a record in JSON. Any other input is a log in CSV, an
+-- empty one too.
+pub record BeginsRecord (bytes : List ℕ) : Type 0 where
+  pub place : ℕ
+  pub inside : place < length bytes
+  pub bracket : slice_index bytes place ≡ 91
+  pub spaces : (n : ℕ) → n < place → IsSpace (slice_index bytes n)
+
+-- The calls of an input: the record's, or the log's with what the log says of each beside them.
+abbrev pub IsCalls : List ℕ → List Call → Option (List LoggedCall) → Type 0
+IsCalls bytes history None = BeginsRecord bytes × IsRecordText bytes history
+IsCalls bytes history (Some calls) = ¬ (BeginsRecord bytes) × IsReadLog bytes history calls
+    × (length calls ≡ length history)
+
+-- what the log says of each call, and nothing of a record
+abbrev pub logged_calls : Option (List LoggedCall) → List LoggedCall
+logged_calls (Some calls) = calls
+logged_calls None = []
+
+-- why an input has no calls
+abbrev pub IsNoCalls : List ℕ → Fault → Type 0
+IsNoCalls bytes NotJson = BeginsRecord bytes × IsTextFault bytes streams.NotJson
+IsNoCalls bytes (Record fault) = BeginsRecord bytes × IsTextFault bytes (streams.Record fault)
+IsNoCalls bytes (Import fault) = ¬ (BeginsRecord bytes) × IsUnimported bytes fault
+IsNoCalls bytes Memory = Unit {0}
+IsNoCalls bytes _ = ⊥

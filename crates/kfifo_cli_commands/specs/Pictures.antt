@@ -1,0 +1,82 @@
+-- What the command `draw` comes to, by its options, its input and its failed reads. How a picture looks is not said.
+use Rattle.std.specs.Prelude.{ℕ, ◌≡◌, true, false, Bool, List, [], Option, Some, None, IsSome, MatchOption, length}
+use Rattle.std.specs.Prelude.{option_map}
+use Rattle.kfifo_model.specs.declared.calls.Call.{Call}
+use Rattle.kfifo_import.specs.declared.log.LoggedCall.{LoggedCall}
+use Rattle.kfifo_verdict.specs.declared.verdicts.Evidence.{Evidence}
+use Rattle.kfifo_verdict.specs.Judging.{HasNoEvidence, IsFirstEvidence}
+use Rattle.kfifo_draw.specs.Drawing.{AreFew, AreMany, IsInPart}
+use Rattle.kfifo_draw.specs.declared.part.Part.{Part}
+use Rattle.kfifo_cli_texts.specs.declared.fault.Fault.{Fault}
+use Rattle.kfifo_cli_texts.specs.declared.fault.Fault.TheVariants.{Order, Input, NotJson, Record, Import, TooManyDrawn}
+use Rattle.kfifo_cli_texts.specs.declared.fault.Fault.TheVariants.{Contradiction, Stretch, NoLines, Memory}
+use Rattle.kfifo_cli_commands.specs.declared.options.DrawOptions.{DrawOptions}
+use Rattle.kfifo_cli_commands.specs.declared.cut.Cut.{Cut}
+use Rattle.kfifo_cli_commands.specs.Cuts.{AsksFor, IsCutFault, IsOfLines, IsPartOf, named_by}
+use Rattle.kfifo_cli_commands.specs.Inputs.{BeginsRecord, IsCalls, IsNoCalls, logged_calls}
+use Rattle.kfifo_cli_commands.specs.Records.{IsInput, IsOrder, IsOrderFault, IsUnread}
+
+-- the evidence for this k, where it is asked for
+abbrev pub IsSought : Bool → ℕ → List Call → Option Evidence → Type 0
+IsSought true k h found = MatchOption found (HasNoEvidence k h) (IsFirstEvidence k h)
+IsSought false k h found = found ≡ None
+
+-- The number of the calls to be drawn: `Has` says of a fact and of how many calls there are whether it holds of few or
+-- of many.
+pub record IsPictureOf (Has : (ℕ → Type 0) → ℕ → Type 0) (k : ℕ) (asked : Bool) (cut : Cut) (h : List Call)
+    (logged : List LoggedCall) : Type 0 where
+  pub found : Option Evidence
+  pub sought : IsSought asked k h found
+  pub part : Part
+  pub cut_to : IsPartOf (option_map named_by found) cut part
+  pub drawn : Has (IsInPart h logged part) (length h)
+
+-- the calls of an input, few or many of them to be drawn
+pub record AreCallsOf (Has : (ℕ → Type 0) → ℕ → Type 0) (k : ℕ) (asked : Bool) (cut : Cut)
+    (bytes : List ℕ) : Type 0 where
+  pub history : List Call
+  pub logged : Option (List LoggedCall)
+  pub calls : IsCalls bytes history logged
+  pub lines : IsOfLines cut → IsSome logged
+  pub number : IsPictureOf Has k asked cut history (logged_calls logged)
+
+-- there is a picture of these calls of an input
+abbrev pub IsPicture : ℕ → Bool → Cut → List ℕ → Type 0
+IsPicture k asked cut bytes = AreCallsOf AreFew k asked cut bytes
+
+-- why there is no picture of these calls of an input
+abbrev pub IsNoPicture : ℕ → Bool → Cut → List ℕ → Fault → Type 0
+IsNoPicture k asked cut bytes NotJson = IsNoCalls bytes NotJson
+IsNoPicture k asked cut bytes (Record fault) = IsNoCalls bytes (Record fault)
+IsNoPicture k asked cut bytes (Import fault) = IsNoCalls bytes (Import fault)
+IsNoPicture k asked cut bytes NoLines = IsOfLines cut × BeginsRecord bytes
+IsNoPicture k asked cut bytes TooManyDrawn = AreCallsOf AreMany k asked cut bytes
+IsNoPicture k asked cut bytes Memory = Unit {0}
+IsNoPicture k asked cut bytes _ = ⊥
+
+-- there is a picture: of the calls that the options ask for, with the order where one is given
+pub record IsDraw (options : DrawOptions) (input : Option (List ℕ)) : Type 0 where
+  pub cut : Cut
+  pub asked : AsksFor options cut
+  pub order : Option (List ℕ)
+  pub order_given : IsOrder options.check order
+  pub bytes : List ℕ
+  pub read : IsInput input bytes
+  pub pictured : IsPicture options.check.k options.evidence cut bytes
+
+-- the options ask for calls of the input that have no picture
+pub record IsUndrawn (options : DrawOptions) (input : Option (List ℕ)) (fault : Fault) : Type 0 where
+  pub cut : Cut
+  pub asked : AsksFor options cut
+  pub bytes : List ℕ
+  pub read : IsInput input bytes
+  pub unpictured : IsNoPicture options.check.k options.evidence cut bytes fault
+
+-- why there is no picture
+abbrev pub IsDrawRefusal : DrawOptions → Option (List ℕ) → ℕ → ℕ → Fault → Type 0
+IsDrawRefusal options input before after Contradiction = IsCutFault options Contradiction
+IsDrawRefusal options input before after Stretch = IsCutFault options Stretch
+IsDrawRefusal options input before after Order = IsOrderFault options.check
+IsDrawRefusal options input before after Input = IsUnread input before after
+IsDrawRefusal options input before after Memory = Unit {0}
+IsDrawRefusal options input before after fault = IsUndrawn options input fault

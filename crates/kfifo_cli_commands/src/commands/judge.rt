@@ -1,0 +1,42 @@
+//! The command `judge`: a verdict on a history of any length.
+ghost use Rattle.std.specs.Prelude.{◌≡◌, ◌≢◌, ◌⊎◌, IfErr, IfOk, MatchResult, string_bytes};
+ghost use Rattle.kfifo_cli_commands.specs.Inputs.{IsNoCalls};
+ghost use Rattle.kfifo_cli_commands.specs.Records.{ReadsWell};
+ghost use Rattle.kfifo_cli_commands.specs.Statuses.{status_number};
+ghost use Rattle.kfifo_cli_commands.specs.Verdicts.{IsJudge, IsJudged, IsVerdictRefusal};
+
+use crate::input::{read_calls, read_input};
+use crate::options::JudgeOptions;
+use crate::status::{Status, status_of};
+use kfifo_cli_texts::Fault;
+use kfifo_judge::{Source, judge_text};
+use std::alloc::Global;
+
+/// The lines for the calls of the input, and the status.
+pub fn answer<S: Source>(
+    alloc: Global,
+    options: JudgeOptions,
+    input: &mut S,
+) -> Result<(String, Status), Fault>
+    ensures ok { IfOk result (λ a. IsJudge options (S.remaining input.old) (string_bytes a.0) (status_number a.1)) }
+    ensures status { IfOk result (λ a. (a.1 ≡ Status.Answered) ⊎ (a.1 ≡ Status.Unordered) ⊎ (a.1 ≡ Status.Undecided)) }
+    ensures err { IfErr result (IsVerdictRefusal (S.remaining input.old) (S.failed input.old) (S.failed input.new)) }
+    ensures silent { IfErr result (λ fault. fault ≢ Fault.Output) }
+    ensures reads { ReadsWell result (S.failed input.old) (S.failed input.new) }
+{
+    let bytes = read_input(alloc, input)?;
+    let (text, status) = text_of(alloc, options, bytes.as_slice())?;
+    Ok((text, status))
+}
+
+/// The lines for the calls of these bytes, and the status.
+fn text_of(alloc: Global, options: JudgeOptions, bytes: &[u8]) -> Result<(String, Status), Fault>
+    ensures said { MatchResult result (λ a. IsJudged options bytes.now (string_bytes a.0) (status_number a.1))
+        (IsNoCalls bytes.now) }
+    ensures status { IfOk result (λ a. (a.1 ≡ Status.Answered) ⊎ (a.1 ≡ Status.Unordered) ⊎ (a.1 ≡ Status.Undecided)) }
+{
+    let calls = read_calls(alloc, bytes)?;
+    let (k, tries, show) = (options.k, options.tries, options.show);
+    let (text, said) = judge_text(alloc, &calls.history, calls.logged(), k, tries, show)?;
+    Ok((text, status_of(said)))
+}

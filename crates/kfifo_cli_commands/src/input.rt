@@ -1,0 +1,85 @@
+//! What the commands read.
+ghost use Rattle.std.specs.Prelude.{◌≡◌, ◌⊎◌, ◌↔◌, IfErr, IfOk, IsTrue, MatchResult, option_map};
+ghost use Rattle.kfifo_cli_commands.specs.Inputs.{BeginsRecord, IsCalls, IsNoCalls, IsSpace, logged_calls};
+ghost use Rattle.kfifo_cli_commands.specs.Records.{IsInput, IsUnread, ReadsWell};
+
+use kfifo_cli_texts::Fault;
+use kfifo_import::{LoggedCall, read_log};
+use kfifo_judge::{ReadFault, Source, read_all, read_record};
+use kfifo_model::History;
+use std::alloc::Global;
+
+/// The calls of an input.
+#[derive(Drop)]
+pub(crate) struct Calls {
+    /// The calls of the record, or the record of the log.
+    pub(crate) history: History,
+    /// For a log, where each call of the history stands in it and when it was, by its number; empty for a record in
+    /// JSON.
+    pub(crate) logged: Option<Vec<LoggedCall>>,
+}
+
+impl Calls {
+    /// Where each call stands in its log and when it was; empty for a record in JSON.
+    pub(crate) fn logged(&self) -> &[LoggedCall]
+        ensures { result.now ≡ logged_calls (option_map (λ logged. logged.items) self.now.logged) }
+    {
+        self.logged.as_deref().unwrap_or(&[])
+    }
+}
+
+/// All bytes of the input, at most 16,777,216.
+pub fn read_input<S: Source>(alloc: Global, input: &mut S) -> Result<Vec<u8>, Fault>
+    ensures ok { IfOk result (λ bytes. IsInput (S.remaining input.old) bytes.items) }
+    ensures err { IfErr result (λ fault. (fault ≡ Fault.Memory)
+        ⊎ ((fault ≡ Fault.Input) × IsUnread (S.remaining input.old) (S.failed input.old) (S.failed input.new))) }
+    ensures reads { ReadsWell result (S.failed input.old) (S.failed input.new) }
+{
+    match read_all(alloc, input) {
+        Ok(bytes) => Ok(bytes),
+        Err(ReadFault::Failed) => Err(Fault::Input),
+        Err(ReadFault::TooLong) => Err(Fault::Input),
+        Err(ReadFault::Memory) => Err(Fault::Memory),
+    }
+}
+
+/// Whether a byte is a space, a tab, a line feed or a carriage return.
+fn is_space(byte: u8) -> bool
+    ensures { IsTrue result ↔ IsSpace byte }
+{
+    byte == b' ' || byte == b'\t' || byte == b'\n' || byte == b'\r'
+}
+
+/// Whether the first byte that is no white space is `[`.
+fn begins_record(bytes: &[u8]) -> bool
+    ensures { IsTrue result ↔ BeginsRecord bytes.now }
+{
+    for place in 0..bytes.len() {
+        if !is_space(bytes[place]) {
+            return bytes[place] == b'[';
+        }
+    }
+    false
+}
+
+/// The calls of an input. Where its first byte that is no white space is `[` it is a record in JSON, read as `check`
+/// reads it and with its faults; else it is a log in CSV, read as `import` reads it and with its faults. An input with
+/// no byte, or of white space alone, is a log that lacks its header: the fault is `csv fault at line 1`.
+pub(crate) fn read_calls(alloc: Global, bytes: &[u8]) -> Result<Calls, Fault>
+    ensures { MatchResult result (λ calls.
+        IsCalls bytes.now calls.history (option_map (λ logged. logged.items) calls.logged))
+        (IsNoCalls bytes.now) }
+{
+    if begins_record(bytes) {
+        let history = read_record(alloc, bytes)?;
+        return Ok(Calls {
+            history,
+            logged: None,
+        });
+    }
+    let log = read_log(alloc, bytes)?;
+    Ok(Calls {
+        history: log.history,
+        logged: Some(log.calls),
+    })
+}

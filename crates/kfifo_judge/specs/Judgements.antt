@@ -1,0 +1,70 @@
+-- What `judge` says of a history.
+use Rattle.std.specs.Prelude.{ℕ, ◌≡◌, Bool, true, false, List, [], ◌++◌, Option, codes, decimal}
+use Rattle.kfifo_model.specs.declared.calls.Call.{Call}
+use Rattle.kfifo_model.specs.Ranks.{ranks_of}
+use Rattle.kfifo_verdict.specs.declared.verdicts.Evidence.{Evidence}
+use Rattle.kfifo_verdict.specs.declared.verdicts.Judgement.{Judgement}
+use Rattle.kfifo_verdict.specs.declared.verdicts.Judgement.TheVariants.{Legal, NoOrder, Undecided}
+use Rattle.kfifo_verdict.specs.declared.verdicts.Stuck.{Stuck}
+use Rattle.kfifo_verdict.specs.declared.verdicts.Stuck.TheVariants.{TriesRanOut, NothingLeft}
+use Rattle.kfifo_verdict.specs.Judging.{IsJudgement}
+use Rattle.kfifo_import.specs.declared.log.LoggedCall.{LoggedCall}
+use Rattle.kfifo_judge.specs.Check.{line}
+use Rattle.kfifo_judge.specs.declared.outcome.Outcome.{Outcome}
+use Rattle.kfifo_judge.specs.declared.outcome.Outcome.TheVariants as outcomes
+use Rattle.kfifo_judge.specs.Bounds.{FollowsReason}
+use Rattle.kfifo_judge.specs.Numbers.{greatest, numbers_line}
+use Rattle.kfifo_judge.specs.Reasons.{reason_lines}
+use Rattle.kfifo_judge.specs.Repeats.{IsRepeatNote}
+
+-- a verdict and the k that it is about
+abbrev pub about : List ℕ → ℕ → List ℕ
+about verdict k = line (verdict ++ (codes " for k = " ++ decimal k))
+
+-- the greatest rank of an order
+abbrev pub worst_line : ℕ → List ℕ
+worst_line worst = line (codes "worst rank " ++ decimal worst)
+
+-- the order, where it is to be shown
+abbrev pub shown_line : Bool → List ℕ → List ℕ
+shown_line true order = numbers_line (codes "order ") order
+shown_line false order = []
+
+abbrev pub legal_text : ℕ → Bool → List Call → List ℕ → List ℕ
+legal_text k show h order = about (codes "legal") k ++ worst_line (greatest (ranks_of k h order))
+    ++ shown_line show order
+
+-- the evidence with the calls that it names, and what follows it
+abbrev pub IsNoOrderText : ℕ → List LoggedCall → List Call → Evidence → List ℕ → Type 0
+IsNoOrderText k logged h found text =
+    (rest : List ℕ) × FollowsReason h found rest
+    × (text ≡ about (codes "no order") k ++ reason_lines logged h found ++ rest)
+
+-- why the search stopped
+abbrev pub stuck_text : Stuck → List ℕ
+stuck_text TriesRanOut = codes "the tries ran out"
+stuck_text NothingLeft = codes "nothing is left to try"
+
+-- why the search stopped, and whether items repeat
+abbrev pub IsUndecidedText : ℕ → List Call → Stuck → List ℕ → Type 0
+IsUndecidedText k h stuck text =
+    (note : List ℕ) × IsRepeatNote h note × (text ≡ about (codes "undecided") k ++ line (stuck_text stuck ++ note))
+
+-- the text says this verdict
+abbrev pub IsJudgementText : ℕ → Bool → List LoggedCall → List Call → Judgement → List ℕ → Type 0
+IsJudgementText k show logged h (Legal order) text = text ≡ legal_text k show h order.items
+IsJudgementText k show logged h (NoOrder found) text = IsNoOrderText k logged h found text
+IsJudgementText k show logged h (Undecided stuck) text = IsUndecidedText k h stuck text
+
+abbrev pub outcome : Judgement → Outcome
+outcome (Legal order) = outcomes.Answered
+outcome (NoOrder found) = outcomes.Unordered
+outcome (Undecided stuck) = outcomes.Undecided
+
+-- This is the text and the outcome for a history: what is to be said of a verdict on it, the order shown or not.
+pub record IsJudgeAnswer (k : ℕ) (show : Bool) (logged : List LoggedCall) (h : List Call) (text : List ℕ)
+    (said : Outcome) : Type 0 where
+  pub judgement : Judgement
+  pub judged : IsJudgement k h judgement
+  pub told : IsJudgementText k show logged h judgement text
+  pub ended : said ≡ outcome judgement

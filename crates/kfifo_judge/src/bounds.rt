@@ -1,0 +1,93 @@
+//! The answer of the command `least`.
+ghost use Rattle.std.specs.Prelude.{ℕ, ◌≡◌, ◌++◌, ◌↔◌, List, OnOk, IfOk, IsTrue, string_bytes};
+ghost use Rattle.kfifo_model.specs.Validity.{IsHistory};
+ghost use Rattle.kfifo_judge.specs.Bounds.{FollowsReason, IsLeastAnswer, NamesNoK, bounds_text, no_least_text};
+
+use crate::outcome::Outcome;
+use crate::reasons::push_reasons;
+use kfifo_import::LoggedCall;
+use kfifo_model::History;
+use kfifo_verdict::{Bounds, Evidence, evidence, least_k};
+use std::alloc::{AllocError, Global};
+use std::fmt::Write;
+
+/// The greatest k that is asked for.
+const MAX_K: u32 = 64;
+
+/// Whether the evidence is there for each k.
+fn names_no_k(found: &Evidence) -> bool
+    ensures { IsTrue result ↔ NamesNoK found.now }
+{
+    match found {
+        Evidence::NeverPut(_) | Evidence::TakenTwice(_) | Evidence::NotEmpty { .. } => true,
+        Evidence::TooYoung { .. } => false,
+    }
+}
+
+/// Adds the lines of the bounds.
+fn push_bounds(text: &mut String, bounds: Bounds) -> Result<(), AllocError>
+    ensures { OnOk result (string_bytes text.new ≡ string_bytes text.old ++ bounds_text bounds) }
+{
+    let at_least = bounds.at_least;
+    writeln!(text, "k at least {at_least}")?;
+    match bounds.at_most {
+        Some(k) => writeln!(text, "k at most {k}"),
+        None => writeln!(text, "k unknown"),
+    }
+}
+
+/// Adds bounds of the least k behind evidence that is about one k alone.
+pub(crate) fn push_following(
+    alloc: Global,
+    text: &mut String,
+    history: &History,
+    tries: u64,
+    found: &Evidence,
+) -> Result<(), AllocError>
+    ensures { OnOk result ((rest : List ℕ) × FollowsReason history.now found.now rest
+        × (string_bytes text.new ≡ string_bytes text.old ++ rest)) }
+{
+    if names_no_k(found) {
+        return Ok(());
+    }
+    push_bounds(text, least_k(alloc, history, tries)?)
+}
+
+/// What is said where no k has an order.
+fn no_least(
+    alloc: Global,
+    history: &History,
+    logged: &[LoggedCall],
+    found: &Evidence,
+) -> Result<String, AllocError>
+    ensures { IfOk result (λ text. string_bytes text ≡ no_least_text logged.now history.now found.now) }
+{
+    let mut text = String::new(alloc);
+    text.push_str("no order\n")?;
+    push_reasons(&mut text, history, logged, found)?;
+    Ok(text)
+}
+
+/// Returns between which bounds the least k lies for which a history has a legal order, as a text; or `no order` with
+/// the evidence and the calls that it names, where there is evidence that names no k. `logged` has the line and the
+/// times of each call of a log, and nothing of a record. `tries` is the number of choices that each search for an order
+/// may undo. An error means that an allocation failed.
+pub fn least_text(
+    alloc: Global,
+    history: &History,
+    logged: &[LoggedCall],
+    tries: u64,
+) -> Result<(String, Outcome), AllocError>
+    requires { IsHistory history.now }
+    ensures { IfOk result (λ a. IsLeastAnswer logged.now history.now (string_bytes a.0) a.1) }
+{
+    let found = evidence(alloc, history, MAX_K)?;
+    if let Some(found) = &found {
+        if names_no_k(found) {
+            return Ok((no_least(alloc, history, logged, found)?, Outcome::Unordered));
+        }
+    }
+    let mut text = String::new(alloc);
+    push_bounds(&mut text, least_k(alloc, history, tries)?)?;
+    Ok((text, Outcome::Answered))
+}

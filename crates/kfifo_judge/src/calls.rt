@@ -1,0 +1,244 @@
+//! The line of a call that a reason names.
+ghost use Rattle.std.specs.Prelude.{◌≡◌, ◌++◌, Bool, OnOk, string_bytes, take};
+ghost use Rattle.kfifo_model.specs.Histories.{call, does, effect_of};
+ghost use Rattle.kfifo_model.specs.Overtaking.{takes};
+ghost use Rattle.kfifo_judge.specs.Calls.{action, action_text, call_line, call_lines, deed_text, fate_part, in_log};
+ghost use Rattle.kfifo_judge.specs.Calls.{in_record, last_part, name_text, occurrence, taker, taker_part, times_text};
+
+use kfifo_import::LoggedCall;
+use kfifo_model::{Answer, Call, End, History, Op};
+use std::alloc::AllocError;
+use std::fmt::Write;
+
+/// How many puts have a line behind the line of the call that they are named beside: 32 calls in all.
+const MAX_PUTS: usize = 31;
+
+/// A call past the last one.
+const NO_CALL: Call = Call {
+    thread: 0,
+    op: Op::Dequeue,
+    first: 0,
+    end: None,
+};
+
+/// What a call did to the items in the queue.
+#[derive(Clone, Copy)]
+pub(crate) enum Action {
+    /// It put this item in.
+    Put(u32),
+    /// It got this item out.
+    Got(u32),
+    /// It found no item.
+    FoundNothing,
+    /// It changed nothing.
+    Nothing,
+}
+
+/// When a call was, and where it stands in its log.
+#[derive(Clone, Copy)]
+struct Occurrence {
+    /// The number of its line; none of a call of a record.
+    line: Option<u64>,
+    /// When it began.
+    first: u64,
+    /// When it ended; none of an unfinished call.
+    last: Option<u64>,
+}
+
+/// The call with this number.
+fn call_at(history: &History, number: usize) -> Call
+    ensures { result ≡ call history.now number }
+{
+    history.calls().get(number).copied().unwrap_or(NO_CALL)
+}
+
+/// What the call did.
+pub(crate) fn action_of(call: &Call) -> Action
+    ensures { result ≡ action (effect_of call.now) }
+{
+    match (call.op, call.end) {
+        (Op::Enqueue(item), None) => Action::Put(item),
+        (Op::Dequeue, None) => Action::Nothing,
+        (Op::Enqueue(item), Some(end)) => match end.answer {
+            Answer::Done => Action::Put(item),
+            _ => Action::Nothing,
+        },
+        (Op::Dequeue, Some(end)) => match end.answer {
+            Answer::Got(item) => Action::Got(item),
+            Answer::Empty => Action::FoundNothing,
+            _ => Action::Nothing,
+        },
+    }
+}
+
+/// What the call with this number did.
+pub(crate) fn action_at(history: &History, number: usize) -> Action
+    ensures { result ≡ action (does history.now number) }
+{
+    action_of(&call_at(history, number))
+}
+
+/// When a call of a record was.
+fn in_record(call: &Call) -> Occurrence
+    ensures { result ≡ in_record call.now }
+{
+    Occurrence {
+        line: None,
+        first: call.first,
+        last: call.end.map(|end| end.last),
+    }
+}
+
+/// When a call of a log was.
+fn in_log(logged: &LoggedCall) -> Occurrence
+    ensures { result ≡ in_log logged.now }
+{
+    Occurrence {
+        line: Some(logged.line),
+        first: logged.first,
+        last: logged.last,
+    }
+}
+
+/// When the call with this number was, by the log if it is one of a log.
+fn occurrence_of(logged: &[LoggedCall], call: &Call, number: usize) -> Occurrence
+    ensures { result ≡ occurrence logged.now call.now number }
+{
+    match logged.get(number) {
+        Some(logged) => in_log(logged),
+        None => in_record(call),
+    }
+}
+
+/// Whether the call got the item.
+fn takes(call: &Call, item: u32) -> bool
+    ensures { result ≡ takes item (effect_of call.now) }
+{
+    match (call.op, call.end) {
+        (
+            Op::Dequeue,
+            Some(
+                End {
+                    answer: Answer::Got(got),
+                    ..
+                },
+            ),
+        ) => item == got,
+        _ => false,
+    }
+}
+
+/// The first call that got the item.
+fn taker_of(history: &History, item: u32) -> Option<usize>
+    ensures { result ≡ taker history.now item }
+{
+    history.calls().iter().position(|call| takes(call, item))
+}
+
+/// Adds the number of a call, and its line in a log.
+fn push_name(text: &mut String, number: usize, line: Option<u64>) -> Result<(), AllocError>
+    ensures { OnOk result (string_bytes text.new ≡ string_bytes text.old ++ name_text number line) }
+{
+    write!(text, "  call {number}")?;
+    match line {
+        Some(line) => write!(text, ", line {line}"),
+        None => Ok(()),
+    }
+}
+
+/// Adds what a call did.
+fn push_action(text: &mut String, action: Action) -> Result<(), AllocError>
+    ensures { OnOk result (string_bytes text.new ≡ string_bytes text.old ++ action_text action) }
+{
+    match action {
+        Action::Put(item) => write!(text, "put {item}"),
+        Action::Got(item) => write!(text, "got {item}"),
+        Action::FoundNothing => text.push_str("found nothing"),
+        Action::Nothing => text.push_str("changed nothing"),
+    }
+}
+
+/// Adds when a call was.
+fn push_times(text: &mut String, occurrence: Occurrence) -> Result<(), AllocError>
+    ensures { OnOk result (string_bytes text.new ≡ string_bytes text.old ++ times_text occurrence) }
+{
+    let first = occurrence.first;
+    write!(text, " from {first}")?;
+    match occurrence.last {
+        Some(last) => write!(text, " to {last}"),
+        None => text.push_str(" on"),
+    }
+}
+
+/// Adds, behind a put, which call got its item.
+fn push_fate(text: &mut String, history: &History, action: Action) -> Result<(), AllocError>
+    ensures { OnOk result (string_bytes text.new ≡ string_bytes text.old ++ fate_part history.now action) }
+{
+    let Action::Put(item) = action else {
+        return Ok(());
+    };
+    match taker_of(history, item) {
+        Some(get) => write!(text, ", got by call {get}"),
+        None => text.push_str(", never got"),
+    }
+}
+
+/// Adds what a call did, when it did, and what became of the item that it put.
+fn push_deed(
+    text: &mut String,
+    history: &History,
+    thread: u32,
+    action: Action,
+    occurrence: Occurrence,
+) -> Result<(), AllocError>
+    ensures { OnOk result (string_bytes text.new
+        ≡ string_bytes text.old ++ deed_text history.now thread action occurrence) }
+{
+    write!(text, ": thread {thread} ")?;
+    push_action(text, action)?;
+    push_times(text, occurrence)?;
+    push_fate(text, history, action)
+}
+
+/// Adds the line of the call with this number.
+pub(crate) fn push_call(
+    text: &mut String,
+    history: &History,
+    logged: &[LoggedCall],
+    number: usize,
+) -> Result<(), AllocError>
+    ensures { OnOk result (string_bytes text.new
+        ≡ string_bytes text.old ++ call_line logged.now history.now number) }
+{
+    let call = call_at(history, number);
+    let occurrence = occurrence_of(logged, &call, number);
+    push_name(text, number, occurrence.line)?;
+    push_deed(text, history, call.thread, action_of(&call), occurrence)?;
+    text.push('\n')
+}
+
+/// The first of these calls, so many as have a line behind another call's.
+#[tactic(auto, using(std::proofs::lemmas::List::take_min))]
+fn with_lines(puts: &[usize]) -> &[usize]
+    ensures { result.now ≡ take 31 puts.now }
+{
+    let few = MAX_PUTS.min(puts.len());
+    &puts[..few]
+}
+
+/// Adds the lines of the first of these calls, so many as have a line behind another call's.
+pub(crate) fn push_puts(
+    text: &mut String,
+    history: &History,
+    logged: &[LoggedCall],
+    puts: &[usize],
+) -> Result<(), AllocError>
+    ensures { OnOk result (string_bytes text.new
+        ≡ string_bytes text.old ++ call_lines logged.now history.now (take 31 puts.now)) }
+{
+    let named = with_lines(puts);
+    for put in named {
+        push_call(text, history, logged, *put)?;
+    }
+    Ok(())
+}

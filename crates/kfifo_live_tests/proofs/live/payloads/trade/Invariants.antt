@@ -1,5 +1,0 @@
-use Rattle.kfifo_live.specs.Pass.{IsSame}
-use Rattle.kfifo_live_tests.proofs.live.payloads.trade.Given as goal
-
-abbrev pub invariant-loop-call : goal.invariant-loop-call
-invariant-loop-call l = IsSame l.fn.pass.pass l.pass.pass

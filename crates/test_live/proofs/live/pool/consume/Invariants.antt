@@ -1,0 +1,5 @@
+use Rattle.kfifo_live.specs.Pass.{IsSamePass}
+use Rattle.test_live.proofs.live.pool.consume.Given as goal
+
+abbrev pub invariant-loop-place : goal.invariant-loop-place
+invariant-loop-place l = IsSamePass l.fn.pass.pass l.pass.pass

@@ -1,0 +1,515 @@
+//! Tokens that come back.
+ghost use Rattle.std.specs.Prelude.{◌≡◌, ◌<◌, IfOk, IfSome, All};
+ghost use Rattle.kfifo_live.specs.Pass.{IsPassOf, IsSamePass};
+
+use crate::plain::{close_payloads, give, take};
+use kfifo_live::{Given, MAX_TOKENS, OpenFault, PayPass, PayQueue, Taken};
+use kfifo_words::{MAX_VERSION, Shape};
+use std::alloc::{AllocError, Global};
+use std::process::Abort;
+use std::sync::Arc;
+use std::sync::atomic::{AtomicU64, Ordering};
+use std::test::Fail;
+use std::thread::{Threads, map_vec, yield_now};
+
+/// A queue with a pool, with passes of its own.
+fn open_pool<T: Drop>(
+    alloc: Global,
+    shape: Shape,
+    threads: u32,
+    tokens: u32,
+) -> Result<(PayQueue<T>, Vec<PayPass<T>>), OpenFault>
+    ensures { IfOk result (λ r. All (λ p. IsPassOf r.0 p.pass) r.1.items) }
+{
+    PayQueue::open_with_pool(alloc, shape, threads, tokens)
+}
+
+/// A queue with a pool for two threads, with the pass of each.
+fn open_pool_two<T: Drop>(
+    alloc: Global,
+    shape: Shape,
+    tokens: u32,
+) -> Result<(PayQueue<T>, PayPass<T>, PayPass<T>), OpenFault>
+    ensures { IfOk result (λ r. (r.0.opened.shape ≡ shape) × IsPassOf r.0 r.1.pass × IsPassOf r.0 r.2.pass) }
+{
+    let (queue, mut passes) = PayQueue::open_with_pool(alloc, shape, 2, tokens)?;
+    let (Some(second), Some(first)) = (passes.pop(), passes.pop()) else {
+        unreachable!()
+    };
+    Ok((queue, first, second))
+}
+
+/// A queue without a pool for two threads, with the pass of each.
+fn open_without_pool<T: Drop>(
+    alloc: Global,
+    shape: Shape,
+    tokens: u32,
+) -> Result<(PayQueue<T>, PayPass<T>, PayPass<T>), OpenFault>
+    ensures { IfOk result (λ r. (r.0.opened.shape ≡ shape) × IsPassOf r.0 r.1.pass × IsPassOf r.0 r.2.pass) }
+{
+    let (queue, mut passes) = PayQueue::open(alloc, shape, 2, tokens)?;
+    let (Some(second), Some(first)) = (passes.pop(), passes.pop()) else {
+        unreachable!()
+    };
+    Ok((queue, first, second))
+}
+
+fn lay_down<T: Drop>(queue: &PayQueue<T>, pass: &mut PayPass<T>) -> bool
+    requires { IsPassOf queue.now pass.old.pass }
+    ensures { IsSamePass pass.old.pass pass.new.pass }
+{
+    pass.lay_down(queue)
+}
+
+fn pick_up<T: Drop>(queue: &PayQueue<T>, pass: &mut PayPass<T>) -> bool
+    requires { IsPassOf queue.now pass.old.pass }
+    ensures { IsSamePass pass.old.pass pass.new.pass }
+{
+    pass.pick_up(queue)
+}
+
+/// A move of a token between a pass and the pool.
+#[derive(Clone, Copy, Debug)]
+enum Move {
+    Down,
+    Up,
+}
+
+/// A pass makes these moves. Each has this answer, and leaves the pass so many tokens.
+fn check_moves(
+    rt: &impl Abort,
+    queue: &PayQueue<u64>,
+    pass: &mut PayPass<u64>,
+    moves: &[(Move, bool, usize)],
+)
+    requires { IsPassOf queue.now pass.old.pass }
+    ensures { IsSamePass pass.old.pass pass.new.pass }
+{
+    for (way, wanted, tokens) in moves {
+        let moved = match way {
+            Move::Down => lay_down(queue, pass),
+            Move::Up => pick_up(queue, pass),
+        };
+        assert_eq!(rt; (moved, pass.tokens()), (*wanted, *tokens), "{way:?}");
+    }
+}
+
+#[test]
+fn picks_up_what_was_laid_down(rt: HostRuntime) -> Result<(), Fail> {
+    let shape = Shape::new(2, 4, MAX_VERSION)?;
+    let (queue, mut giver, mut taker) = open_pool_two(rt.alloc(), shape, 2)?;
+    check_moves(&rt, &queue, &mut giver, &[(Move::Up, false, 2)]);
+    let all_down = [
+        (Move::Down, true, 1),
+        (Move::Down, true, 0),
+        (Move::Down, false, 0),
+    ];
+    check_moves(&rt, &queue, &mut taker, &all_down);
+    let all_up = [
+        (Move::Up, true, 3),
+        (Move::Up, true, 4),
+        (Move::Up, false, 4),
+    ];
+    check_moves(&rt, &queue, &mut giver, &all_up);
+    Ok(())
+}
+
+/// The first pass finds the tokens of the second at the end of the pool. So its next look begins there.
+#[test]
+fn looks_round_to_the_first_word(rt: HostRuntime) -> Result<(), Fail> {
+    let shape = Shape::new(2, 4, MAX_VERSION)?;
+    let (queue, mut first, mut second) = open_pool_two(rt.alloc(), shape, 2)?;
+    check_moves(
+        &rt,
+        &queue,
+        &mut second,
+        &[(Move::Down, true, 1), (Move::Down, true, 0)],
+    );
+    check_moves(
+        &rt,
+        &queue,
+        &mut first,
+        &[(Move::Up, true, 3), (Move::Up, true, 4)],
+    );
+    let all_down = [
+        (Move::Down, true, 3),
+        (Move::Down, true, 2),
+        (Move::Down, true, 1),
+        (Move::Down, true, 0),
+    ];
+    check_moves(&rt, &queue, &mut first, &all_down);
+    let all_up = [
+        (Move::Up, true, 1),
+        (Move::Up, true, 2),
+        (Move::Up, true, 3),
+        (Move::Up, true, 4),
+        (Move::Up, false, 4),
+    ];
+    check_moves(&rt, &queue, &mut first, &all_up);
+    Ok(())
+}
+
+#[test]
+fn nothing_rests_without_a_pool(rt: HostRuntime) -> Result<(), Fail> {
+    let shape = Shape::new(1, 2, MAX_VERSION)?;
+    let (queue, mut first, mut second) = open_without_pool(rt.alloc(), shape, 2)?;
+    let moves = [(Move::Down, false, 2), (Move::Up, false, 2)];
+    check_moves(&rt, &queue, &mut first, &moves);
+    check_moves(&rt, &queue, &mut second, &moves);
+    Ok(())
+}
+
+/// One token goes through the queue and through the pool, again and again.
+fn check_round(
+    rt: &impl Abort,
+    queue: &PayQueue<u64>,
+    giver: &mut PayPass<u64>,
+    taker: &mut PayPass<u64>,
+    payload: u64,
+)
+    requires giver { IsPassOf queue.now giver.old.pass }
+    requires taker { IsPassOf queue.now taker.old.pass }
+    requires start { 0 < queue.now.opened.shape.k }
+    ensures giver { IsSamePass giver.old.pass giver.new.pass }
+    ensures taker { IsSamePass taker.old.pass taker.new.pass }
+{
+    assert_eq!(rt; give(queue, giver, payload, 0, 4), Given::Done);
+    assert_eq!(rt; give(queue, giver, payload, 0, 4), Given::NoToken(payload));
+    assert_eq!(rt; take(queue, taker, 0, 4), Taken::Got(payload));
+    check_moves(rt, queue, taker, &[(Move::Down, true, 1)]);
+    check_moves(rt, queue, giver, &[(Move::Up, true, 1)]);
+}
+
+#[test]
+fn a_token_goes_round(rt: HostRuntime) -> Result<(), Fail> {
+    let shape = Shape::new(2, 4, MAX_VERSION)?;
+    let (queue, mut giver, mut taker) = open_pool_two(rt.alloc(), shape, 1)?;
+    check_round(&rt, &queue, &mut giver, &mut taker, 70);
+    check_round(&rt, &queue, &mut giver, &mut taker, 80);
+    check_round(&rt, &queue, &mut giver, &mut taker, 90);
+    assert_eq!(rt; give(&queue, &mut giver, 95, 0, 4), Given::Done);
+    check_moves(&rt, &queue, &mut taker, &[(Move::Down, true, 0)]);
+    let left = close_payloads(rt.alloc(), queue, giver)?;
+    assert_eq!(rt; left.as_slice(), [95].as_slice());
+    Ok(())
+}
+
+#[test]
+fn refuses_an_opening_with_a_pool_in_the_stated_order(rt: HostRuntime) -> Result<(), Fail> {
+    let shape = Shape::new(2, 2, MAX_VERSION)?;
+    for (threads, tokens, fault) in [
+        (0u32, 0u32, OpenFault::ThreadsOutOfRange),
+        (65, MAX_TOKENS, OpenFault::ThreadsOutOfRange),
+        (64, 0, OpenFault::TokensOutOfRange),
+        (1, MAX_TOKENS + 1, OpenFault::TokensOutOfRange),
+    ] {
+        let opened: Result<(PayQueue<u64>, Vec<PayPass<u64>>), OpenFault> = open_pool(
+            rt.alloc(),
+            shape,
+            threads,
+            tokens,
+        );
+        let Err(refused) = opened else {
+            panic!(rt; "opened for {threads} threads and {tokens} tokens");
+        };
+        assert_eq!(rt; refused, fault);
+    }
+    Ok(())
+}
+
+/// The greatest pool has a word for each of 65,536 tokens.
+#[test]
+fn opens_the_greatest_pool(rt: HostRuntime) -> Result<(), Fail> {
+    let shape = Shape::new(2, 2, MAX_VERSION)?;
+    let (queue, mut passes): (PayQueue<u64>, Vec<PayPass<u64>>) = open_pool(
+        rt.alloc(),
+        shape,
+        64,
+        MAX_TOKENS,
+    )?;
+    let (Some(mut last), Some(mut other)) = (passes.pop(), passes.pop()) else {
+        panic!(rt; "no two passes");
+    };
+    check_moves(&rt, &queue, &mut last, &[(Move::Down, true, 1023)]);
+    check_moves(
+        &rt,
+        &queue,
+        &mut other,
+        &[(Move::Up, true, 1025), (Move::Up, false, 1025)],
+    );
+    Ok(())
+}
+
+/// So often a thread tries to give or take one payload before it gives up.
+const TRIES: u32 = 16_777_216;
+
+/// How many tokens each pass is opened with.
+const TOKENS: u32 = 3;
+
+/// How many payloads of each thread that gives nobody takes.
+const LEFT: u32 = 2;
+
+/// A payload that counts its drops.
+struct Counted {
+    number: u64,
+    drops: Arc<AtomicU64>,
+}
+
+impl Counted {
+    fn new(number: u64, drops: &Arc<AtomicU64>) -> Result<Counted, AllocError> {
+        let drops = Arc::try_clone(drops)?;
+        Ok(Counted { number, drops })
+    }
+}
+
+impl Drop for Counted {
+    fn drop(self) {
+        let Counted { number: _, drops } = self;
+        drops.fetch_add(1, Ordering::SeqCst);
+    }
+}
+
+/// Gives a payload, with a token from the pool where the pass has none. Hands it back where it is refused.
+fn offer(
+    queue: &PayQueue<Counted>,
+    pass: &mut PayPass<Counted>,
+    payload: Counted,
+) -> Option<Counted>
+    requires { IsPassOf queue.now pass.old.pass }
+    ensures { IsSamePass pass.old.pass pass.new.pass }
+{
+    let start = queue.shape().k() - 1;
+    if pass.tokens() == 0 && !pick_up(queue, pass) {
+        return Some(payload);
+    }
+    match give(queue, pass, payload, start, 100) {
+        Given::Done => None,
+        Given::Full(payload)
+        | Given::Busy(payload)
+        | Given::Worn(payload)
+        | Given::NoToken(payload) => Some(payload),
+    }
+}
+
+/// Tries to give a payload until it is taken in. Whether it was.
+fn insist(queue: &PayQueue<Counted>, pass: &mut PayPass<Counted>, payload: Counted) -> bool
+    requires { IsPassOf queue.now pass.old.pass }
+    ensures { IsSamePass pass.old.pass pass.new.pass }
+{
+    let mut waiting = payload;
+    for _try in 0..TRIES {
+        match offer(queue, pass, waiting) {
+            None => return true,
+            Some(back) => waiting = back,
+        }
+        yield_now();
+    }
+    false
+}
+
+/// Gives so many payloads. Returns the numbers of those that were not given.
+fn produce(
+    alloc: Global,
+    queue: &PayQueue<Counted>,
+    pass: &mut PayPass<Counted>,
+    drops: &Arc<AtomicU64>,
+    payloads: u32,
+) -> Result<Vec<u64>, AllocError>
+    requires { IsPassOf queue.now pass.old.pass }
+    ensures { IsSamePass pass.old.pass pass.new.pass }
+{
+    let thread = u64::from(pass.thread());
+    let mut kept = Vec::new(alloc);
+    for place in 0..payloads {
+        let number = (thread << 32) | u64::from(place);
+        if !insist(queue, pass, Counted::new(number, drops)?) {
+            kept.push(number)?;
+        }
+    }
+    Ok(kept)
+}
+
+/// Takes a payload, and lays its token down where the pass then has more than it was opened with. Returns its number.
+fn accept(queue: &PayQueue<Counted>, pass: &mut PayPass<Counted>) -> Option<u64>
+    requires { IsPassOf queue.now pass.old.pass }
+    ensures { IsSamePass pass.old.pass pass.new.pass }
+{
+    let start = queue.shape().k() - 1;
+    let Taken::Got(payload) = take(queue, pass, start, 100) else {
+        return None;
+    };
+    if pass.tokens() > TOKENS as usize {
+        lay_down(queue, pass);
+    }
+    Some(payload.number)
+}
+
+/// Tries to take a payload until there is one. Returns its number.
+fn await_one(queue: &PayQueue<Counted>, pass: &mut PayPass<Counted>) -> Option<u64>
+    requires { IsPassOf queue.now pass.old.pass }
+    ensures { IsSamePass pass.old.pass pass.new.pass }
+{
+    for _try in 0..TRIES {
+        let number = accept(queue, pass);
+        if number.is_some() {
+            return number;
+        }
+        yield_now();
+    }
+    None
+}
+
+/// Takes so many payloads. Returns their numbers.
+fn consume(
+    alloc: Global,
+    queue: &PayQueue<Counted>,
+    pass: &mut PayPass<Counted>,
+    payloads: u32,
+) -> Result<Vec<u64>, AllocError>
+    requires { IsPassOf queue.now pass.old.pass }
+    ensures { IsSamePass pass.old.pass pass.new.pass }
+{
+    let mut numbers = Vec::with_capacity(alloc, payloads as usize)?;
+    for _place in 0..payloads {
+        if let Some(number) = await_one(queue, pass) {
+            numbers.push(number)?;
+        }
+    }
+    Ok(numbers)
+}
+
+/// A pass that comes back from a thread, with the numbers of the payloads that it took, or that it could not give.
+#[derive(Drop)]
+struct Worker {
+    pass: PayPass<Counted>,
+    numbers: Result<Vec<u64>, AllocError>,
+}
+
+/// Gives alone in one of the first threads, and takes alone in the others.
+fn work(
+    alloc: Global,
+    queue: &PayQueue<Counted>,
+    mut pass: PayPass<Counted>,
+    drops: &Arc<AtomicU64>,
+    givers: u32,
+    payloads: u32,
+) -> Worker
+    requires { IsPassOf queue.now pass.pass }
+    ensures { IsPassOf queue.now result.pass.pass }
+{
+    let numbers = if pass.thread() < givers {
+        produce(alloc, queue, &mut pass, drops, payloads)
+    } else {
+        consume(alloc, queue, &mut pass, payloads.saturating_sub(LEFT))
+    };
+    Worker { pass, numbers }
+}
+
+/// The numbers of all payloads that were taken or could not be given.
+fn numbers_of(alloc: Global, workers: &[Worker]) -> Result<Vec<u64>, Fail> {
+    let mut numbers = Vec::new(alloc);
+    for worker in workers {
+        match &worker.numbers {
+            Ok(own) => numbers.extend_from_slice(own.as_slice())?,
+            Err(fault) => return Err((*fault).into()),
+        }
+    }
+    Ok(numbers)
+}
+
+/// The numbers of the payloads that are left in a queue.
+fn left_in(
+    alloc: Global,
+    queue: PayQueue<Counted>,
+    pass: PayPass<Counted>,
+) -> Result<Vec<u64>, Fail>
+    requires { IsPassOf queue pass.pass }
+{
+    let mut left = Vec::new(alloc);
+    for payload in close_payloads(alloc, queue, pass)? {
+        left.push(payload.number)?;
+    }
+    Ok(left)
+}
+
+/// The pass of the last worker.
+fn last_pass(queue: &PayQueue<Counted>, workers: &mut Vec<Worker>) -> Option<PayPass<Counted>>
+    requires { All (λ worker. IsPassOf queue.now worker.pass.pass) workers.old.items }
+    ensures { IfSome result (λ pass. IsPassOf queue.now pass.pass) }
+{
+    let _of = queue;
+    let Worker { pass, numbers: _ } = workers.pop()?;
+    Some(pass)
+}
+
+/// The numbers of all payloads that were taken or could not be given, and of those that are left.
+fn finish(
+    alloc: Global,
+    queue: PayQueue<Counted>,
+    mut workers: Vec<Worker>,
+) -> Result<(Vec<u64>, Vec<u64>), Fail>
+    requires { All (λ worker. IsPassOf queue worker.pass.pass) workers.items }
+{
+    let numbers = numbers_of(alloc, workers.as_slice())?;
+    let Some(pass) = last_pass(&queue, &mut workers) else {
+        return Ok((numbers, Vec::new(alloc)));
+    };
+    Ok((numbers, left_in(alloc, queue, pass)?))
+}
+
+/// What so many threads that give, so many payloads each, and as many that take come to.
+fn work_all<R: Threads + Sync>(
+    rt: &R,
+    alloc: Global,
+    shape: Shape,
+    givers: u32,
+    payloads: u32,
+    drops: &Arc<AtomicU64>,
+) -> Result<(Vec<u64>, Vec<u64>), Fail> {
+    let (queue, passes) = open_pool(alloc, shape, givers.saturating_mul(2), TOKENS)?;
+    let workers = map_vec(
+        rt,
+        passes,
+        &|pass| work(alloc, &queue, pass, drops, givers, payloads),
+    )?;
+    finish(alloc, queue, workers)
+}
+
+/// Nothing is lost and nothing comes twice where so many threads only give, so many payloads each, and as many only
+/// take.
+fn check_workers<R: Threads + Abort + Sync>(
+    rt: &R,
+    alloc: Global,
+    givers: u32,
+    payloads: u32,
+) -> Result<(), Fail> {
+    let drops = Arc::new(alloc, AtomicU64::new(0))?;
+    let shape = Shape::new(4, 8, MAX_VERSION)?;
+    let (mut numbers, left) = work_all(rt, alloc, shape, givers, payloads, &drops)?;
+    assert_eq!(rt; left.len(), givers as usize * LEFT as usize);
+    numbers.extend_from_slice(left.as_slice())?;
+    numbers.sort_unstable();
+    assert_eq!(rt; numbers.len(), givers as usize * payloads as usize);
+    assert_eq!(rt; drops.load(Ordering::SeqCst), numbers.len() as u64);
+    let payloads = u64::from(payloads).max(1);
+    for (place, number) in numbers.iter().enumerate() {
+        let place = place as u64;
+        assert_eq!(rt; *number, ((place / payloads) << 32) | (place % payloads));
+    }
+    Ok(())
+}
+
+#[test]
+fn one_thread_gives_and_one_takes(rt: HostRuntime) -> Result<(), Fail> {
+    check_workers(&rt, rt.alloc(), 1, 10_000)
+}
+
+#[test]
+fn two_threads_give_and_two_take(rt: HostRuntime) -> Result<(), Fail> {
+    check_workers(&rt, rt.alloc(), 2, 10_000)
+}
+
+#[test]
+fn four_threads_give_and_four_take(rt: HostRuntime) -> Result<(), Fail> {
+    check_workers(&rt, rt.alloc(), 4, 10_000)
+}

@@ -1,0 +1,192 @@
+//! The calls that the tests make, with no more said of each than the next call asks for. No test needs the rest of what
+//! the contracts say, and some take long to prove with it in view.
+ghost use Rattle.std.specs.Prelude.{◌≡◌, ◌<◌, ◌≤◌, IfOk, All};
+ghost use Rattle.kfifo_live.specs.Pass.{IsPassOf, IsSamePass};
+
+use kfifo_dispatch::{DispatchFault, Finished, Task};
+use kfifo_live::{
+    CloseFault, GatherFault, Given, OpenFault, Pass, PayPass, PayQueue, Queue, StampPass,
+    StampQueue, Taken,
+};
+use kfifo_model::{Answer, History, MeasureFault, Overtaken, SearchFault};
+use kfifo_words::Shape;
+use std::alloc::Global;
+use std::thread::Threads;
+
+/// A queue with passes of its own.
+pub fn open(alloc: Global, shape: Shape, threads: u32) -> Result<(Queue, Vec<Pass>), OpenFault>
+    ensures { IfOk result (λ r. All (IsPassOf r.0) r.1.items) }
+{
+    Queue::open(alloc, shape, threads)
+}
+
+/// A queue for two threads, with the pass of each.
+pub fn open_two(alloc: Global, shape: Shape) -> Result<(Queue, Pass, Pass), OpenFault>
+    ensures { IfOk result (λ r. IsPassOf r.0 r.1 × IsPassOf r.0 r.2) }
+{
+    let (queue, mut passes) = Queue::open(alloc, shape, 2)?;
+    let (Some(second), Some(first)) = (passes.pop(), passes.pop()) else {
+        unreachable!()
+    };
+    Ok((queue, first, second))
+}
+
+pub fn enqueue(queue: &Queue, pass: &mut Pass, item: u32, start: u32, turns: u16) -> Answer
+    requires of { IsPassOf queue.now pass.old }
+    requires item { (1 ≤ item) × (item < 16777216) }
+    requires start { start < queue.now.opened.shape.k }
+    requires turns { 1 ≤ turns }
+    ensures { IsSamePass pass.old pass.new }
+{
+    pass.enqueue(queue, item, start, turns)
+}
+
+pub fn dequeue(queue: &Queue, pass: &mut Pass, start: u32, turns: u16) -> Answer
+    requires of { IsPassOf queue.now pass.old }
+    requires start { start < queue.now.opened.shape.k }
+    requires turns { 1 ≤ turns }
+    ensures { IsSamePass pass.old pass.new }
+{
+    pass.dequeue(queue, start, turns)
+}
+
+pub fn close(alloc: Global, queue: Queue, passes: Vec<Pass>) -> Result<Vec<u32>, CloseFault>
+    requires { All (IsPassOf queue) passes.items }
+{
+    kfifo_live::close(alloc, queue, passes)
+}
+
+/// A stamped queue with passes of its own.
+pub fn open_stamped(
+    alloc: Global,
+    shape: Shape,
+    threads: u32,
+    calls: u32,
+) -> Result<(StampQueue, Vec<StampPass>), OpenFault>
+    ensures { IfOk result (λ r. All (λ p. IsPassOf r.0 p.pass) r.1.items) }
+{
+    StampQueue::open(alloc, shape, threads, calls)
+}
+
+pub fn enqueue_stamped(
+    queue: &StampQueue,
+    pass: &mut StampPass,
+    item: u32,
+    start: u32,
+    turns: u16,
+) -> Option<Answer>
+    requires of { IsPassOf queue.now pass.old.pass }
+    requires item { (1 ≤ item) × (item < 16777216) }
+    requires start { start < queue.now.opened.shape.k }
+    requires turns { 1 ≤ turns }
+    ensures { IsSamePass pass.old.pass pass.new.pass }
+{
+    pass.enqueue(queue, item, start, turns)
+}
+
+pub fn dequeue_stamped(
+    queue: &StampQueue,
+    pass: &mut StampPass,
+    start: u32,
+    turns: u16,
+) -> Option<Answer>
+    requires of { IsPassOf queue.now pass.old.pass }
+    requires start { start < queue.now.opened.shape.k }
+    requires turns { 1 ≤ turns }
+    ensures { IsSamePass pass.old.pass pass.new.pass }
+{
+    pass.dequeue(queue, start, turns)
+}
+
+pub fn gather(
+    alloc: Global,
+    queue: StampQueue,
+    passes: Vec<StampPass>,
+) -> Result<History, GatherFault>
+    requires { All (λ p. IsPassOf queue p.pass) passes.items }
+{
+    kfifo_live::gather(alloc, queue, passes)
+}
+
+/// A queue of payloads with passes of its own.
+pub fn open_payloads<T: Drop>(
+    alloc: Global,
+    shape: Shape,
+    threads: u32,
+    tokens: u32,
+) -> Result<(PayQueue<T>, Vec<PayPass<T>>), OpenFault>
+    ensures { IfOk result (λ r. All (λ p. IsPassOf r.0 p.pass) r.1.items) }
+{
+    PayQueue::open(alloc, shape, threads, tokens)
+}
+
+/// A queue of payloads for one thread, with its pass.
+pub fn open_payloads_one<T: Drop>(
+    alloc: Global,
+    shape: Shape,
+    tokens: u32,
+) -> Result<(PayQueue<T>, PayPass<T>), OpenFault>
+    ensures { IfOk result (λ r. (r.0.opened.shape ≡ shape) × IsPassOf r.0 r.1.pass) }
+{
+    let (queue, mut passes) = PayQueue::open(alloc, shape, 1, tokens)?;
+    let Some(pass) = passes.pop() else {
+        unreachable!()
+    };
+    Ok((queue, pass))
+}
+
+pub fn give<T: Drop>(
+    queue: &PayQueue<T>,
+    pass: &mut PayPass<T>,
+    payload: T,
+    start: u32,
+    turns: u16,
+) -> Given<T>
+    requires of { IsPassOf queue.now pass.old.pass }
+    requires start { start < queue.now.opened.shape.k }
+    requires turns { 1 ≤ turns }
+    ensures { IsSamePass pass.old.pass pass.new.pass }
+{
+    pass.give(queue, payload, start, turns)
+}
+
+pub fn take<T: Drop>(queue: &PayQueue<T>, pass: &mut PayPass<T>, start: u32, turns: u16) -> Taken<T>
+    requires of { IsPassOf queue.now pass.old.pass }
+    requires start { start < queue.now.opened.shape.k }
+    requires turns { 1 ≤ turns }
+    ensures { IsSamePass pass.old.pass pass.new.pass }
+{
+    pass.take(queue, start, turns)
+}
+
+pub fn close_payloads<T: Drop>(
+    alloc: Global,
+    queue: PayQueue<T>,
+    pass: PayPass<T>,
+) -> Result<Vec<T>, CloseFault>
+    requires { IsPassOf queue pass.pass }
+{
+    queue.close(alloc, pass)
+}
+
+pub fn dispatch<R: Threads + Sync, G: kfifo_dispatch::Gate + Sync>(
+    threads: &R,
+    alloc: Global,
+    tasks: &[Task],
+    workers: u32,
+    shape: Shape,
+    seed: u64,
+    gate: &G,
+) -> Result<Vec<Finished>, DispatchFault> {
+    kfifo_dispatch::dispatch(threads, alloc, tasks, workers, shape, seed, gate)
+}
+
+pub fn has_order(alloc: Global, history: &History, k: u32) -> Result<bool, SearchFault>
+    requires { (1 ≤ k) × (k ≤ 64) }
+{
+    kfifo_model::has_order(alloc, history, k)
+}
+
+pub fn measure(alloc: Global, history: &History) -> Result<Vec<Overtaken>, MeasureFault> {
+    kfifo_model::measure(alloc, history)
+}
