@@ -142,7 +142,7 @@ fn named(word: Option<String>) -> Mode {
     }
 }
 
-/// Makes calls of a queue of items, and counts those with the answer that is wanted; none where there is no memory.
+/// Makes calls of a queue of items, and counts those with the answer that is wanted; none if memory runs out.
 fn count_items(
     alloc: Global,
     shape: Shape,

@@ -12,7 +12,7 @@ pub(crate) struct Parcel {
     pub(crate) weight: u64,
 }
 
-/// How many tokens the pass has: those of the payloads in the queue, and as many to give with.
+/// How many tokens the pass has: one for each payload in the queue, and as many to give with.
 pub(crate) const TOKENS: u32 = 1_024;
 
 /// Gives 512 payloads, one after the other.

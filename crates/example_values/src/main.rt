@@ -1,4 +1,4 @@
-//! A program to start from: threads that hand each other values which they own, here texts. Each makes 1,000 texts,
+//! A program to start from: threads that give each other values which they own, here texts. Each makes 1,000 texts,
 //! gives them to a queue, and takes one after each. The program prints what was made and what came out, which is the
 //! same in every run.
 #![tactic(auto)]
@@ -81,7 +81,7 @@ fn meet_all(
     Ok(())
 }
 
-/// Four threads share a queue with k = 2 and 8 segments. Each is handed a pass of the list, and hands it back.
+/// Four threads share a queue with k = 2 and 8 segments. Each gets a pass of the list, and returns it.
 fn run<R: Threads + Sync>(rt: &R, alloc: Global) -> anyhow::Result<Totals> {
     let (queue, passes) = PayQueue::open(alloc, Shape::new(2, 8, MAX_VERSION)?, THREADS, TOKENS)?;
     let workers = map_vec(rt, passes, &|pass| work(alloc, &queue, pass))?;

@@ -1,4 +1,4 @@
--- What C is answered, and what the answers say of the pass behind a handle. The numbers are those of c/kfifo.h.
+-- What C gets from a call, and what that says of the pass behind a handle. c/kfifo.h has the same numbers.
 use Rattle.std.specs.Prelude.{◌≡◌, ℕ, ◌+◌, ◌*◌, ◌^◌, ◌<◌, ◌≤◌, Option, Some, None, IfSome, List, [], ◌∷◌, ◌++◌, map}
 use Rattle.std.specs.Prelude.{length, drop, All, true, ◌==◌, ⊤}
 use Rattle.std.specs.List.{list_any}
@@ -79,7 +79,7 @@ pub record Called (call : Begin) (answer : Answer) (old new : Seated) : Type 0 w
   pub leaves_none : IsRefusal answer → LeavesNoItem old.pass new.pass
   pub promise : KeepsPromise new.pass.opened new.pass.seen
 
--- the call that chooses its own start, and leaves those of the handle as they are
+-- the call that chooses its own start, and leaves the handle's as they are
 pub record CalledFrom (call : Begin) (answer : Answer) (old new : Seated) : Type 0 where
   pub called : Called call answer old new
   pub same_put : new.put_start ≡ old.put_start
@@ -130,7 +130,7 @@ word_after old None = old
 abbrev pub seats_of : OpenQueue → List PassView → List Seated
 seats_of queue = map (λ pass. seated queue pass)
 
--- a queue of these sizes was opened, of which these are the new seats: all that the running queue says of an opening
+-- a queue of these sizes was opened, and these are its new seats: all that the running queue says of an opening
 pub record Opens (shape : Shape) (threads : ℕ) (seats : List Seated) : Type 0 where
   pub queue : OpenQueue
   pub opened : queue.opened ≡ opening shape threads
@@ -180,7 +180,7 @@ AreTheirs [] = ⊤
 AreTheirs (None ∷ handles) = AreTheirs handles
 AreTheirs (Some seat ∷ handles) = IsPassOf seat.queue seat.pass × AreTheirs handles
 
--- as many numbers as there are threads, and that of each
+-- as many numbers as there are threads, one for each
 pub record HasEach (threads : ℕ) (numbers : List ℕ) : Type 0 where
   pub count : length numbers ≡ threads
   pub each : (thread : ℕ) → thread < threads → list_any (λ number. number == thread) numbers ≡ true

@@ -1,5 +1,5 @@
--- What C is told of the calls with values, and what these say of the pass behind a handle. The numbers are those of
--- c/kfifo.h.
+-- What C is told of the calls with values, and what these say of the pass behind a handle. c/kfifo.h has the same
+-- numbers.
 use Rattle.std.specs.Prelude.{◌≡◌, ℕ, ◌*◌, ◌≤◌, Option, Some, None, IfSome, List, [], ◌∷◌, ◌++◌, map, length, drop, All}
 use Rattle.std.specs.Prelude.{⊤}
 use Rattle.kfifo_words.specs.declared.shape.Shape.{Shape}
@@ -62,7 +62,7 @@ pub record TakesValue (answer : Taken ℕ) (old new : ValueSeated) : Type 0 wher
 abbrev pub value_seats_of : OpenQueue → List (PayPassView ℕ) → List ValueSeated
 value_seats_of queue = map (λ pass. value_seated queue pass)
 
--- a queue of these sizes was opened, of which these are the new seats: all that the running queue says of an opening
+-- a queue of these sizes was opened, and these are its new seats: all that the running queue says of an opening
 pub record OpensValues (shape : Shape) (threads tokens : ℕ) (seats : List ValueSeated) : Type 0 where
   pub queue : OpenQueue
   pub opened : queue.opened ≡ pay_opening shape threads tokens

@@ -10,8 +10,8 @@ use crate::status::{BAD_CALL, DONE, status};
 use kfifo_model::{Answer, MAX_ITEM};
 use std::alloc::Global;
 
-/// Puts an item into the queue of the handle: `Pass::enqueue`, and its answer's number. BAD_CALL, with nothing done,
-/// where the handle is closed, the item is not 1 to 2^24 - 1, `start` not below k, or `turns` 0.
+/// Puts an item into the queue of the handle, as `Pass::enqueue`, and returns its answer's number. Returns BAD_CALL,
+/// with nothing done, where the handle is closed, the item is not 1 to 2^24 - 1, `start` not below k, or `turns` 0.
 #[unsafe(no_mangle)]
 pub extern "C" fn kfifo_c_enqueue(pass: &mut Handle, item: u32, start: u32, turns: u16) -> u32
     ensures answer { (answer : Option Answered) × (result ≡ number_of answer)
@@ -28,9 +28,9 @@ pub extern "C" fn kfifo_c_enqueue(pass: &mut Handle, item: u32, start: u32, turn
     status(answer)
 }
 
-/// Takes one of the k oldest items out of the queue of the handle: `Pass::dequeue`, and its answer's number; the item
-/// is written where there is one. BAD_CALL, with nothing done, where the handle is closed, `start` not below k, or
-/// `turns` 0.
+/// Takes one of the k oldest items out of the queue of the handle, as `Pass::dequeue`, writes the item if there is one,
+/// and returns its answer's number. Returns BAD_CALL, with nothing done, where the handle is closed, `start` not below
+/// k, or `turns` 0.
 #[unsafe(no_mangle)]
 pub extern "C" fn kfifo_c_dequeue(pass: &mut Handle, item: &mut u32, start: u32, turns: u16) -> u32
     ensures answer { (answer : Option Answered) × (result ≡ number_of answer) × (item.new ≡ item_after item.old answer)
@@ -48,9 +48,8 @@ pub extern "C" fn kfifo_c_dequeue(pass: &mut Handle, item: &mut u32, start: u32,
     status(answer)
 }
 
-/// Puts an item into the queue of the handle, with nothing to choose: an enqueue from the handle's start, in n + 2
-/// rounds, and its answer's number. BAD_CALL, with nothing done, where the handle is closed or the item is not 1 to
-/// 2^24 - 1.
+/// Puts an item into the queue of the handle, with nothing to choose: from the handle's start, in n + 2 rounds. Returns
+/// the answer's number, or BAD_CALL, with nothing done, where the handle is closed or the item is not 1 to 2^24 - 1.
 #[unsafe(no_mangle)]
 pub extern "C" fn kfifo_c_put(pass: &mut Handle, item: u32) -> u32
     ensures answer { (answer : Option Answered) × (result ≡ number_of answer)
@@ -64,9 +63,9 @@ pub extern "C" fn kfifo_c_put(pass: &mut Handle, item: u32) -> u32
     status(Some(answer))
 }
 
-/// Takes one of the k oldest items out of the queue of the handle, with nothing to choose: a dequeue from the handle's
-/// start, in n + 2 rounds, and its answer's number; the item is written where there is one. BAD_CALL, with nothing
-/// done, where the handle is closed.
+/// Takes one of the k oldest items out of the queue of the handle, with nothing to choose: from the handle's start, in
+/// n + 2 rounds. Writes the item if there is one. Returns the answer's number, or BAD_CALL, with nothing done, where
+/// the handle is closed.
 #[unsafe(no_mangle)]
 pub extern "C" fn kfifo_c_get(pass: &mut Handle, item: &mut u32) -> u32
     ensures answer { (answer : Option Answered) × (result ≡ number_of answer) × (item.new ≡ item_after item.old answer)
@@ -83,8 +82,8 @@ pub extern "C" fn kfifo_c_get(pass: &mut Handle, item: &mut u32) -> u32
     status(Some(answer))
 }
 
-/// Reads the word of this index: `Pass::word`. BAD_CALL, with nothing done, where the handle is closed or there is no
-/// such word.
+/// Reads the word of this index, as `Pass::word`. Returns BAD_CALL, with nothing done, where the handle is closed or
+/// there is no such word.
 #[unsafe(no_mangle)]
 pub extern "C" fn kfifo_c_word(pass: &mut Handle, index: usize, word: &mut u64) -> u32
     ensures read { (read : Option ℕ) × (result ≡ read_number read) × (word.new ≡ word_after word.old read)

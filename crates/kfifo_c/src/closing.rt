@@ -70,7 +70,7 @@ fn has_each(numbers: &[u32], threads: u32) -> bool
     true
 }
 
-/// A part in the queue that may be closed by these handles, into so much room; none where there is none.
+/// A part in the queue, if these handles may close it into so much room.
 fn ready(
     alloc: Global,
     handles: &mut [Handle],
@@ -125,10 +125,10 @@ fn write_items(items: &mut [u32], left: &[u32])
     items[..left.len()].copy_from_slice(left);
 }
 
-/// Closes a queue by the handles of all its passes, and writes the items that are left, and how many: `close`. The
-/// handles of one call are of one queue. BAD_CALL, with nothing done, where there are none, one is closed, a pass of
-/// the queue is missing, or there is not room for an item of each slot; NO_MEMORY, with nothing done, and LOST, with
-/// the queue closed and its items lost, where an allocation failed.
+/// Closes a queue by the handles of all its passes, as `close`, and writes the items that are left, and how many. The
+/// handles of one call are of one queue. Returns BAD_CALL, with nothing done, where there are none, one is closed, a
+/// pass of the queue is missing, or there is not room for an item of each slot; NO_MEMORY, with nothing done, and LOST,
+/// with the queue closed and its items lost, where an allocation failed.
 #[unsafe(no_mangle)]
 pub extern "C" fn kfifo_c_close(
     alloc: Global,

@@ -38,7 +38,7 @@ fn seat_all(
     Ok(seats)
 }
 
-/// The seats of a new queue, that of the last thread first.
+/// The seats of a new queue, the last thread's first.
 fn open_seats(
     alloc: Global,
     shape: Shape,
@@ -74,9 +74,9 @@ fn put_all(handles: &mut [Handle], mut seats: Vec<Box<Seat, Global>>, address: *
     }
 }
 
-/// Opens a queue for as many threads as there are handles, and puts a pass behind each, in their order: `Queue::open`.
-/// What was behind them is lost. Else nothing is done: BAD_K, BAD_SEGMENTS, BAD_LAST or BAD_PROBES where there is no
-/// such shape, BAD_THREADS where the handles are not 1 to 64, NO_MEMORY where an allocation failed.
+/// Opens a queue for as many threads as there are handles, as `Queue::open`, and puts a pass behind each, in their
+/// order. What was behind them is lost. A refusal does nothing: BAD_K, BAD_SEGMENTS, BAD_LAST or BAD_PROBES where there
+/// is no such shape, BAD_THREADS where the handles are not 1 to 64, NO_MEMORY where an allocation failed.
 #[unsafe(no_mangle)]
 pub extern "C" fn kfifo_c_open(
     alloc: Global,

@@ -1,4 +1,4 @@
-//! The numbers that C is answered: those of `enum kfifo_status` in `c/kfifo.h`.
+//! The numbers that C gets: the members of `enum kfifo_status` in `c/kfifo.h`.
 ghost use Rattle.std.specs.Prelude.{◌≡◌};
 ghost use Rattle.kfifo_c.specs.Exports.{number_of, shape_number, open_number};
 
@@ -16,7 +16,7 @@ pub(crate) const NO_MEMORY: u32 = 7;
 pub(crate) const BAD_THREADS: u32 = 8;
 /// The number of tokens of a thread is not 1 to 1,024.
 pub(crate) const BAD_TOKENS: u32 = 15;
-/// The queue was closed, and want of memory lost the items that were left.
+/// The queue was closed, and an allocation failed, so the items that were left are lost.
 pub(crate) const LOST: u32 = 9;
 
 /// The number of a call's answer, if it was made. In this order it is how the compiler stores the answer, so it costs

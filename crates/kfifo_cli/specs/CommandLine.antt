@@ -67,7 +67,7 @@ with_places default app = with_rule app (places_option 1 64 default)
 abbrev pub with_tries : App → App
 with_tries app = with_rule app (default_option (codes "tries") (small_numbers 0 4294967295) (codes "1000000"))
 
--- words, of which there may be none
+-- words, or none
 abbrev pub any_words : Rule
 any_words = record (new_rule (codes "words")) {
   value_names = 1;

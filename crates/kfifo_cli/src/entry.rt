@@ -55,10 +55,9 @@ cannot say.
 The documents, where this program comes from: README.md begins; docs/PROGRAM.md is about the commands,
 docs/JUDGE.md about records and orders, docs/QUEUE.md about the queue.";
 
-/// Does all that the program does with `words`, the arguments after the program's name, and gives the
-/// exit status: 0 for an answer, 1 for a fault of the data, of a size, of memory, of reading or of
-/// writing, 2 for a fault of the command line, 3 where a record has no order or its order is not legal, and 4 where
-/// nothing can be said of it.
+/// Does all that the program does with `words`, the arguments after the program's name, and returns the exit status. It
+/// is 0 for an answer; 1 for a fault of the data, a size, the memory, reading or writing; 2 for a fault of the command
+/// line; 3 where a record has no order or its order is not legal; 4 where `judge` cannot say.
 ///
 /// It says nothing of its progress.
 pub fn program<T: Threads + Files + Sync, R: Read, W: Write, F: Write>(

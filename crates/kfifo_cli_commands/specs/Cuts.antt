@@ -42,7 +42,7 @@ AsksForCut options (cuts.Evidence around) = (given options.calls ≡ None) × (g
     × (options.evidence ≡ true)
     × (around ≡ unwrap_or options.around 8)
 
--- the calls to be drawn are those of lines of a log
+-- lines of a log say which calls are drawn
 abbrev pub IsOfLines : Cut → Type 0
 IsOfLines (cuts.Lines stretch) = Unit {0}
 IsOfLines _ = ⊥

@@ -25,7 +25,7 @@ IsTasksFault tasks workers refusals.Memory = Unit {0}
 IsTasksFault tasks workers refusals.WorkersOutOfRange = (length tasks ≤ 1024) × ¬ (HasRepeatedId tasks)
     × ((workers ≡ 0) ⊎ (63 < workers))
 
--- The answer: the lines of the tasks, each finished and once, by rising id. Nothing but want of memory refuses them
+-- The answer: the lines of the tasks, each finished and once, by rising id. Only an allocation that fails refuses them
 pub record IsDispatch (options : DispatchOptions) (text : List ℕ) : Type 0 where
   pub shape : Shape
   pub tasks : List Task

@@ -17,7 +17,7 @@ use Rattle.kfifo_cli_commands.specs.Replays.{IsReplayAnswer, IsReplayRefusal}
 use Rattle.kfifo_cli_commands.specs.Runs.{IsRunAnswer, IsRunRefusal}
 use Rattle.kfifo_cli_commands.specs.Verdicts.{IsJudge, IsLeast, IsVerdictRefusal}
 
--- the text that answers a request, and its status
+-- the text for a request, and its status
 abbrev pub Answers : Request → Option (List ℕ) → List ℕ → ℕ → Type 0
 Answers (Run options) input text status = IsRunAnswer options text × (status ≡ 0)
 Answers (Check options) input text status = IsCheck options input text status
@@ -53,9 +53,8 @@ IsCause (Explain options) input before after fault = IsExplainRefusal fault
 abbrev pub IsRefused : Request → Option (List ℕ) → ℕ → ℕ → Fault → Type 0
 IsRefused request input before after fault = IsCause request input before after fault × (fault ≢ Input → after ≡ before)
 
--- How a run ends with a status. `answers` says which texts answer with which status, `causes` which faults are the
--- cause of a failure, `misuse` when the command line is at fault; `output` and `faults` say what was written to either
--- writer.
+-- How a run ends with a status. `answers` says which texts go with which status, `causes` which faults are the cause of
+-- a failure, `misuse` when the command line is at fault; `output` and `faults` say what was written to either writer.
 pub record Ends (answers : List ℕ → ℕ → Type 0) (causes : Fault → Type 0) (misuse : Type 0)
     (output faults : Written → Type 0) (status : ℕ) : Type 0 where
   pub known : status ≤ 4

@@ -23,7 +23,7 @@ pub record BeginsRecord (bytes : List ℕ) : Type 0 where
   pub bracket : slice_index bytes place ≡ 91
   pub spaces : (n : ℕ) → n < place → IsSpace (slice_index bytes n)
 
--- The calls of an input: those of the record, or of the log, with what the log says of each beside them.
+-- The calls of an input: the record's, or the log's with what the log says of each beside them.
 abbrev pub IsCalls : List ℕ → List Call → Option (List LoggedCall) → Type 0
 IsCalls bytes history None = BeginsRecord bytes × IsRecordText bytes history
 IsCalls bytes history (Some calls) = ¬ (BeginsRecord bytes) × IsReadLog bytes history calls

@@ -31,7 +31,7 @@ pub record IsPictureOf (Has : (ℕ → Type 0) → ℕ → Type 0) (k : ℕ) (as
   pub cut_to : IsPartOf (option_map named_by found) cut part
   pub drawn : Has (IsInPart h logged part) (length h)
 
--- the calls of an input, of which few or many are to be drawn
+-- the calls of an input, few or many of them to be drawn
 pub record AreCallsOf (Has : (ℕ → Type 0) → ℕ → Type 0) (k : ℕ) (asked : Bool) (cut : Cut)
     (bytes : List ℕ) : Type 0 where
   pub history : List Call
@@ -64,7 +64,7 @@ pub record IsDraw (options : DrawOptions) (input : Option (List ℕ)) : Type 0 w
   pub read : IsInput input bytes
   pub pictured : IsPicture options.check.k options.evidence cut bytes
 
--- the options ask for calls of the input of which there is no picture
+-- the options ask for calls of the input that have no picture
 pub record IsUndrawn (options : DrawOptions) (input : Option (List ℕ)) (fault : Fault) : Type 0 where
   pub cut : Cut
   pub asked : AsksFor options cut

@@ -22,7 +22,7 @@ abbrev pub IsUnread : Option (List ℕ) → ℕ → ℕ → Type 0
 IsUnread input before after = CountsOne before after
     ⊎ ((after ≡ before) × IfSome input (λ given. 16777216 < length given))
 
--- no read failed, but where that is the fault that is answered
+-- no read failed, unless that is the fault that is reported
 abbrev pub ReadsWell : {T : Type 0} → Result T Fault → ℕ → ℕ → Type 0
 ReadsWell result before after = MatchResult result (λ answer. after ≡ before) (λ fault. fault ≢ Input → after ≡ before)
 
@@ -30,7 +30,7 @@ ReadsWell result before after = MatchResult result (λ answer. after ≡ before)
 abbrev pub IsOfInput : Option (List ℕ) → (List ℕ → StreamFault → Type 0) → StreamFault → Type 0
 IsOfInput input IsFaulty given = (bytes : List ℕ) × IsInput input bytes × IsFaulty bytes given
 
--- the fault of a command whose stream was refused: that of the stream, with its cause
+-- the fault of a command whose stream was refused: the stream's, with its cause
 abbrev pub IsStreamFault : Option (List ℕ) → ℕ → ℕ → (List ℕ → StreamFault → Type 0) → Fault → Type 0
 IsStreamFault input before after IsFaulty fault = (given : StreamFault) × (fault ≡ stream_fault given)
     × (given ≡ streams.Input → IsUnread input before after)
@@ -77,7 +77,7 @@ IsCheckRefusal options input before after (Search fault) = IsUnchecked options i
 IsCheckRefusal options input before after Memory = Unit {0}
 IsCheckRefusal options input before after _ = ⊥
 
--- the text of `measure`: the one that answers the record of the input
+-- the text of `measure` for the record of the input
 pub record IsMeasure (input : Option (List ℕ)) (text : List ℕ) : Type 0 where
   pub bytes : List ℕ
   pub read : IsInput input bytes

@@ -17,7 +17,7 @@ pub record IsAlone (queue : OpenQueue) (pass : PassView) : Type 0 where
   pub one : queue.opened.threads ≡ 1
   pub first : pass.thread ≡ 0
 
--- the line of a call that was answered so
+-- the line of a call that returned this
 abbrev pub call_line : Begin → Answer → List ℕ
 call_line (Enqueue item start turns) answer = enqueue_line item answer
 call_line (Dequeue start turns) answer = dequeue_line answer

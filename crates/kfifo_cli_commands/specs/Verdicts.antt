@@ -12,7 +12,8 @@ use Rattle.kfifo_cli_commands.specs.Inputs.{IsCalls, IsNoCalls, logged_calls}
 use Rattle.kfifo_cli_commands.specs.Records.{IsInput, IsUnread}
 use Rattle.kfifo_cli_commands.specs.Statuses.{outcome_status, status_number}
 
--- The text and the status answer the calls of these bytes, as `IsAnswer` says of calls with what a log says of them.
+-- This is the text and the status for the calls of these bytes, as `IsAnswer` says of calls with what a log says of
+-- them.
 pub record AnswersCalls (IsAnswer : List LoggedCall → List Call → List ℕ → Outcome → Type 0) (bytes text : List ℕ)
     (status : ℕ) : Type 0 where
   pub history : List Call

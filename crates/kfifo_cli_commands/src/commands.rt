@@ -1,4 +1,4 @@
-//! The commands, one module for each: what it answers.
+//! The commands, one module for each: what it prints.
 
 pub mod check;
 pub mod dispatch;

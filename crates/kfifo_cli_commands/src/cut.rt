@@ -20,12 +20,12 @@ pub(crate) enum Cut {
     Calls(Stretch),
     /// Those in these lines of the log.
     Lines(Stretch),
-    /// Those that the evidence names, and those that overlap one of them or stand within so many calls of one; all
-    /// where there is no evidence.
+    /// The calls that the evidence names, and the calls that overlap one of them or stand within so many calls of one;
+    /// all calls where there is no evidence.
     Evidence(u32),
 }
 
-/// Whether the calls to be drawn are those of lines of a log.
+/// Whether lines of a log say which calls are drawn.
 pub(crate) fn is_of_lines(cut: Cut) -> bool
     ensures { IsTrue result ↔ IsOfLines cut }
 {

@@ -64,7 +64,7 @@ pub fn end_with_fault<F: Write>(fault: Fault, faults: &mut Printer<'_, F>) -> St
     Status::Failed
 }
 
-/// Writes a text in place of an answer. Where memory is refused for it, that is told.
+/// Writes a text in place of an answer. If memory runs out for it, it says so.
 pub fn end_with_text<D: Display + Drop, W: Write, F: Write>(
     alloc: Global,
     notice: Notice,

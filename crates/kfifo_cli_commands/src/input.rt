@@ -14,12 +14,13 @@ use std::alloc::Global;
 pub(crate) struct Calls {
     /// The calls of the record, or the record of the log.
     pub(crate) history: History,
-    /// Of a log: where each call of the history stands in it and when it was, by its number. None of a record in JSON.
+    /// For a log, where each call of the history stands in it and when it was, by its number; empty for a record in
+    /// JSON.
     pub(crate) logged: Option<Vec<LoggedCall>>,
 }
 
 impl Calls {
-    /// Where each call stands in its log and when it was; nothing of the calls of a record in JSON.
+    /// Where each call stands in its log and when it was; empty for a record in JSON.
     pub(crate) fn logged(&self) -> &[LoggedCall]
         ensures { result.now ≡ logged_calls (option_map (λ logged. logged.items) self.now.logged) }
     {

@@ -9,7 +9,7 @@ use kfifo_cli_texts::Topic;
 pub struct RunOptions<'a> {
     /// The sizes of the queue.
     pub sizes: Sizes,
-    /// Rounds that a call makes before it answers busy, at least 1.
+    /// Rounds that a call makes before it returns busy, at least 1.
     pub turns: u16,
     /// The calls, in their order, as they are written.
     pub words: &'a [&'a str],
@@ -32,12 +32,11 @@ pub struct CheckOptions<'a> {
 pub struct ReplayOptions<'a> {
     /// The sizes of the queue.
     pub sizes: Sizes,
-    /// Rounds that a call makes before it answers busy, at least 1.
+    /// Rounds that a call makes before it returns busy, at least 1.
     pub turns: u16,
     /// The picks, as they are written.
     pub picks: &'a str,
-    /// The thread that makes no event behind the picks, while each other goes to the end of its script; none where
-    /// nobody does.
+    /// The thread that stops after the picks, while each other goes to the end of its script; none where all stop.
     pub stopped: Option<u32>,
     /// Whether the points of the calls in the order are printed too.
     pub points: bool,
@@ -82,7 +81,7 @@ pub struct DrawOptions<'a> {
     pub evidence: bool,
     /// Within how many calls of a named one further calls are drawn, with `evidence` alone; 8 where it is left out.
     pub around: Option<u32>,
-    /// The numbers of the calls that are drawn, as they are written; none to draw those of the evidence, or all.
+    /// The numbers of the calls that are drawn, as they are written; none to draw the calls of the evidence, or all.
     pub calls: Option<&'a str>,
     /// The lines of the log whose calls are drawn, as they are written.
     pub lines: Option<&'a str>,
@@ -93,7 +92,7 @@ pub struct DrawOptions<'a> {
 pub struct RecordOptions<'a> {
     /// The sizes of the queue.
     pub sizes: Sizes,
-    /// Rounds that a call makes before it answers busy, at least 1.
+    /// Rounds that a call makes before it returns busy, at least 1.
     pub turns: u16,
     /// How often the calls of each script are made over, at least 1.
     pub repeat: u32,
@@ -154,7 +153,7 @@ pub enum Request<'a> {
     Import,
     /// Draws a record.
     Draw(DrawOptions<'a>),
-    /// Works off tasks by worker threads.
+    /// Runs tasks on worker threads.
     Dispatch(DispatchOptions<'a>),
     /// Says what a fault or an answer means.
     Explain(ExplainOptions<'a>),

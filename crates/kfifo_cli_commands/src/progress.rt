@@ -1,7 +1,7 @@
 //! Where long work tells how far it has come.
 ghost use Rattle.std.specs.Prelude.{◌≤◌};
 
-/// Who is told how far a work has come. What it does with that is its own: no answer depends on it.
+/// Gets told how far a piece of work has come. No answer depends on what it does with that.
 pub trait Progress {
     /// So many steps of so many in all are made.
     fn told(&mut self, made: u64, all: u64);
@@ -23,7 +23,7 @@ impl Progress for Silent {
 /// The steps that are made between two calls of a progress.
 const PIECE: u32 = 262_144;
 
-/// Counts the steps of a work, and tells each time that 262,144 further ones are made.
+/// Counts the steps of a piece of work, and tells the progress at each 262,144 further ones.
 #[derive(Drop)]
 pub struct Meter<'a, P> {
     progress: &'a mut P,
@@ -32,7 +32,7 @@ pub struct Meter<'a, P> {
 }
 
 impl<'a, P: Progress> Meter<'a, P> {
-    /// Of a work of so many steps in all, of which none is made.
+    /// Begins a piece of work of so many steps in all.
     pub fn new(progress: &'a mut P, all: u64) -> Meter<'a, P> {
         Meter {
             progress,

@@ -30,12 +30,12 @@ pub struct Started<'a> {
     pub output: Stdout,
     /// Standard error.
     pub faults: Stderr,
-    /// Shows on standard error, where that is a terminal, how far work has come that goes on for over a second.
+    /// Shows on standard error, if that is a terminal, how far work of over a second has come.
     pub progress: Showing<'a, HostRuntime, Stderr>,
 }
 
-/// What this process was started with. Where an argument is not UTF-8, or memory is refused for them, that is told, and
-/// the exit status is answered.
+/// Returns what this process was started with. If an argument is not UTF-8, or memory runs out for the arguments, it
+/// says so and returns the exit status.
 pub fn start(streams: &HostRuntime) -> Result<Started<'_>, u8> {
     let mut faults = streams.stderr();
     let words = match arguments(streams) {
@@ -113,7 +113,7 @@ pub struct Showing<'a, C, W> {
 }
 
 impl<'a, C: Clock, W: Write> Showing<'a, C, W> {
-    /// Of work that began then, or at a time that the clock could not say: of that nothing is shown.
+    /// For work that began then. If the clock could not tell when, nothing is shown.
     pub fn new(clock: &'a C, begun: Option<Instant>, screen: Option<W>) -> Showing<'a, C, W> {
         Showing {
             clock,

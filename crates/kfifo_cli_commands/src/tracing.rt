@@ -91,7 +91,7 @@ fn feed_group<P: Progress>(
     Ok(())
 }
 
-/// The lines of the events, and the report behind them. Refused where there are over 65,536 events.
+/// The lines of the events, and the report behind them. It refuses over 65,536 events.
 pub(crate) fn text_of(
     alloc: Global,
     options: &ReplayOptions<'_>,

@@ -30,7 +30,7 @@ number_at before number (Some place) = decimal number ++ before ++ decimal place
 abbrev pub record_fault_text : RecordFault → List ℕ
 record_fault_text fault = number_at (codes " at call ") (fault_number fault) (fault_call fault)
 
--- the fault of a command, of that of its stream to memory: a failed write is a refused growth
+-- the fault of a command, from its stream's over memory: a failed write is a refused growth
 abbrev pub stream_fault : StreamFault → Fault
 stream_fault streams.Input = faults.Input
 stream_fault streams.NotJson = faults.NotJson
@@ -40,7 +40,7 @@ stream_fault streams.RepeatedItem = faults.RepeatedItem
 stream_fault streams.Memory = faults.Memory
 stream_fault streams.Output = faults.Memory
 
--- the fault of a command, of that of a log
+-- the fault of a command, from a log's
 abbrev pub log_fault : ImportFault → Fault
 log_fault (logs.Csv n) = faults.Import (logs.Csv n)
 log_fault logs.TooMany = faults.Import logs.TooMany
@@ -51,7 +51,7 @@ log_fault (logs.EndsEarly n) = faults.Import (logs.EndsEarly n)
 log_fault (logs.Overlap n) = faults.Import (logs.Overlap n)
 log_fault logs.Memory = faults.Memory
 
--- the fault of a command, of that of a picture
+-- the fault of a command, from a picture's
 abbrev pub picture_fault : DrawFault → Fault
 picture_fault pictures.TooMany = faults.TooManyDrawn
 picture_fault pictures.Memory = faults.Memory

@@ -89,7 +89,7 @@ abbrev pub step_line : ℕ → ℕ → Step → List ℕ
 step_line k place s = line (event_text place s.thread
     ++ (step_text s.place ++ (codes " " ++ (access_text k s.access s.before ++ outcome_text s.outcome))))
 
--- The lines of events in turn, of which the first one stands at this place
+-- The lines of events in turn, the first of them at this place
 abbrev pub trace_lines : ℕ → ℕ → List Step → List ℕ
 trace_lines k place [] = []
 trace_lines k place (s ∷ steps) = step_line k place s ++ trace_lines k (place + 1) steps

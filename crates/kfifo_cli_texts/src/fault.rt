@@ -60,7 +60,7 @@ pub enum Fault {
     Stretch,
     /// Lines of a log are to be drawn, and the input is a record.
     NoLines,
-    /// The words to be explained are those of no fault and no answer.
+    /// No fault and no answer has the words that are to be explained.
     Unexplained,
     /// A growth was refused.
     Memory,
@@ -69,7 +69,7 @@ pub enum Fault {
 }
 
 impl Fault {
-    /// Writes the line of the fault, or answers false where a call failed.
+    /// Writes the line of the fault, or returns false where a call failed.
     pub fn tell<F: Write>(self, faults: &mut Printer<'_, F>) -> bool
         ensures { MatchBool result (Writes F.contents faults.old (fault_line self) faults.new)
             (Breaks F.contents faults.old (fault_line self) faults.new) }
@@ -160,7 +160,7 @@ struct Line {
 }
 
 impl Line {
-    /// Writes the line without its ends, or answers false where a call failed.
+    /// Writes the line without its ends, or returns false where a call failed.
     fn tell<F: Write>(self, faults: &mut Printer<'_, F>) -> bool
         ensures { let text = numbered self.words.now self.number self.before.now self.place in MatchBool result
             (Writes F.contents faults.old text faults.new) (Breaks F.contents faults.old text faults.new) }

@@ -8,8 +8,8 @@ use crate::fault::Fault;
 use itoa::Buffer;
 use std::io::{ErrorKind, Write};
 
-/// A writer of std that was lent, with a count of its calls that failed: those that answered an error
-/// other than an interruption, or took no byte though there were some. A flush counts as a call.
+/// A writer of std that was lent, with a count of its calls that failed: those that returned an error other than an
+/// interruption, or took no byte though there were some. A flush counts as a call.
 #[derive(Drop)]
 pub struct Printer<'a, W> {
     writer: &'a mut W,
@@ -26,8 +26,8 @@ impl<'a, W: Write> Printer<'a, W> {
         Printer { writer, failed: 0 }
     }
 
-    /// Writes the whole text, or answers false after a call that failed, which is not made again. An
-    /// interrupted call took nothing, and is made again.
+    /// Writes the whole text, or returns false after a call that failed, which is not made again. An interrupted call
+    /// took nothing, and is made again.
     pub fn write(&mut self, text: &[u8]) -> bool
         ensures { MatchBool result (Writes W.contents self.old text.now self.new)
             (Breaks W.contents self.old text.now self.new) }
@@ -50,7 +50,7 @@ impl<'a, W: Write> Printer<'a, W> {
         self.fail()
     }
 
-    /// Writes a number behind a text, or nothing where there is none. Answers false where a call failed.
+    /// Writes a number behind a text, or nothing where there is none. Returns false where a call failed.
     pub fn write_number(&mut self, before: &str, number: Option<usize>) -> bool
         ensures { MatchBool result (Writes W.contents self.old (number_text before.now number) self.new)
             (Breaks W.contents self.old (number_text before.now number) self.new) }

@@ -29,7 +29,7 @@ fn fits(word: &str, pattern: &str) -> bool {
     }
 }
 
-/// Whether the words begin with those of the pattern.
+/// Whether the words begin with the pattern's.
 fn begin_with(words: &[&str], pattern: &str) -> bool {
     for (place, wanted) in pattern.split(' ').enumerate() {
         match words.get(place) {

@@ -48,8 +48,8 @@ kept_after (G.NoToken back) = back.place ∷ []
 -- What a worker does, by what its calls do: a call Passes s c t takes it from the state s to t, and so on
 module _ {S : Type 0} (Passes : S → ℕ → S → Type 0) (Takes : S → ℕ → ℕ → Taken Progress → S → Type 0)
     (Gives : S → Progress → ℕ → ℕ → Given Progress → S → Type 0) where
-  -- A task that it took: it keeps one of which nothing is left after a unit of work, and gives any other back, at the
-  -- next start
+  -- A task that it took: it keeps one with nothing left after a unit of work, and gives any other back, at the next
+  -- start
   abbrev pub WorksAt : ℕ → Progress → S → Draws → S → Draws → List ℕ → Type 0
   WorksAt turns job s d t e kept =
       ((job.left ≤ 1) × (t ≡ s) × (e ≡ d) × (kept ≡ job.place ∷ []))
@@ -79,8 +79,8 @@ module _ {S : Type 0} (Passes : S → ℕ → S → Type 0) (Takes : S → ℕ �
   Works turns (suc left) call s d t kept = (turn : Turn Progress) × (u : S) × (e : Draws)
       × IsTurn turns call s d turn u e × GoesOn (Works turns left (suc call)) turn u e t kept
 
-  -- the whole work of a worker: its starts are those of `Starts::new(seed, worker, k)` in turn, each call makes n + 2
-  -- rounds, and it takes 65,536 times at most
+  -- the whole work of a worker: `Starts::new(seed, worker, k)` makes its starts in turn, each call makes n + 2 rounds,
+  -- and it takes 65,536 times at most
   abbrev pub Runs : Shape → ℕ → ℕ → S → S → List ℕ → Type 0
   Runs shape seed worker s t kept = Works (shape.n + 2) 65536 1 s (first_draws shape seed worker) t kept
 

@@ -1,4 +1,4 @@
-//! Worker threads run tasks that they hand to each other through one queue.
+//! Worker threads run tasks that they give to each other through one queue.
 ghost use Rattle.std.specs.Prelude.{◌≡◌, ◌+◌, ◌<◌, ◌≤◌, ◌⊎◌, ◌↔◌, All, IfOk, IsErrOf, IsOk, length, map};
 ghost use Rattle.std.specs.List.{AllByRecursion};
 ghost use Rattle.kfifo_live.specs.Pass.{IsPassOf, IsSamePass};
@@ -44,9 +44,9 @@ const MAX_WORKERS: u32 = 63;
 /// 65,536 calls to take. A worker finishes itself each task that the queue refuses to take back. The caller finishes
 /// what is left when all have ended. The dispatch returns if the gate's calls return.
 ///
-/// TooManyTasks where there are over 1,024; then RepeatedId where two have one id; then WorkersOutOfRange where the
-/// number of workers is not 1 to 63; Memory where an allocation failed. After a refusal nothing is kept, and all
-/// workers that were started have ended.
+/// Refuses: TooManyTasks where there are over 1,024; then RepeatedId where two have one id; then WorkersOutOfRange
+/// where the number of workers is not 1 to 63; Memory where an allocation failed. After a refusal nothing is kept, and
+/// all workers that were started have ended.
 pub fn dispatch<R: Threads + Sync, G: Gate + Sync>(
     threads: &R,
     alloc: Global,
@@ -76,7 +76,7 @@ pub fn dispatch<R: Threads + Sync, G: Gate + Sync>(
     Ok(list)
 }
 
-/// Works off tasks that a dispatch admits.
+/// Runs tasks that a dispatch admits.
 fn work_off<L: Tasks + Send + Sync, R: Threads + Sync, G: Gate + Sync>(
     threads: &R,
     alloc: Global,
@@ -103,7 +103,7 @@ fn work_off<L: Tasks + Send + Sync, R: Threads + Sync, G: Gate + Sync>(
     finish(alloc, tasks, returned, gate)
 }
 
-/// Works off the tasks that were left in the queue.
+/// Finishes the tasks that were left in the queue.
 fn finish_left<L: Tasks, G: Gate>(
     left: Vec<Job<L>>,
     returned: &mut Vec<Done<L>>,
@@ -138,7 +138,7 @@ fn open<L: Tasks>(
     }
 }
 
-/// Gives the tasks to the queue, in their order. Those that it refuses are worked off here.
+/// Gives the tasks to the queue, in their order. The caller finishes each task that it refuses.
 fn give_all<L: Tasks, G: Gate, P: Station<Job<L>, G>>(
     alloc: Global,
     queue: &PayQueue<Job<L>>,
@@ -220,7 +220,7 @@ fn run_one<L: Tasks, G: Gate>(
     run_at_station(alloc, queue, pass, shape, seed, gate)
 }
 
-/// Runs the worker of this station, whose starts are those of its number.
+/// Runs the worker of this station, with the starts of its number.
 fn run_at_station<L: Tasks, G: Gate, P: Station<Job<L>, G> + Drop>(
     alloc: Global,
     queue: &PayQueue<Job<L>>,

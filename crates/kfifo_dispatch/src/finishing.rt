@@ -8,8 +8,8 @@ use crate::job::{Done, Job, Tasks};
 use crate::task::{Finished, Task};
 use std::alloc::{AllocError, Global};
 
-/// The finished list of the tasks, from what came back of them. What came back nowhere the caller works off itself,
-/// as worker 0; what came back a second time is dropped.
+/// Makes the finished list of the tasks from what came back of them. The caller, as worker 0, finishes a task that
+/// never came back; what came back a second time is dropped.
 pub(crate) fn finish<L: Tasks, G: Gate>(
     alloc: Global,
     tasks: &[Task],
@@ -29,7 +29,7 @@ pub(crate) fn finish<L: Tasks, G: Gate>(
     Ok(list)
 }
 
-/// What each task came to of which something came back.
+/// What each task came to, if it came back.
 fn sums_of<L: Tasks>(
     alloc: Global,
     tasks: &[Task],
@@ -45,7 +45,7 @@ fn sums_of<L: Tasks>(
     Ok(sums)
 }
 
-/// The task at this place, finished: with the sum that came back of it, or worked off here.
+/// The task at this place, finished: with the sum that came back, or by the work done here.
 fn finish_one<L: Tasks, G: Gate>(place: usize, task: &Task, sum: Option<u64>, gate: &G) -> Finished
     requires place { place < 1024 }
     requires task { slice_get L.tasks place ≡ Some task.now }

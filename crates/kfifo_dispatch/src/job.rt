@@ -16,8 +16,8 @@ impl Tasks for Brand {
     ghost tasks = { [] };
 }
 
-/// A task that is worked off. Whatever way it takes between workers, its sum and the work that is left
-/// come to what its task comes to: its type says so.
+/// A task on its way to being finished. Whatever way it takes between workers, its sum and the work that is left come
+/// to what its task comes to: its type says so.
 #[derive(Drop)]
 pub(crate) struct Job<L: Tasks> {
     // The task's place in the list of all tasks.
@@ -37,7 +37,7 @@ impl<L: Tasks> Model for Job<L> {
         × (j.id ≡ id_at L.tasks j.place) };
 }
 
-/// A job of which nothing is left.
+/// A job with nothing left.
 #[derive(Drop)]
 pub(crate) struct Done<L: Tasks> {
     place: u16,
@@ -95,7 +95,7 @@ impl<L: Tasks> Job<L> {
         }
     }
 
-    /// Works off all that is left, and tells the gate of each unit.
+    /// Does all units that are left, and tells the gate of each.
     pub(crate) fn work_off<G: Gate>(mut self, worker: u32, gate: &G) -> Done<L>
         ensures place { result.place ≡ self.place }
         ensures told { 0 < self.left → G.told gate.now worker (id_at L.tasks self.place) }

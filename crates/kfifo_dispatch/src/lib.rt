@@ -1,4 +1,4 @@
-//! A dispatcher: tasks that worker threads work off, a unit of work at a time, over the queue.
+//! A dispatcher: worker threads run tasks, a unit of work at a time, over the queue.
 #![tactic(auto)]
 
 mod dispatching;

@@ -10,7 +10,7 @@ use kfifo_live::{Given, PayPass, PayQueue, Taken};
 
 /// What a worker makes its calls by: the pass of a payload queue.
 ///
-/// Clauses see each call as a step from one state to another, of which nothing else is known. So what a worker is
+/// Clauses see each call as a step from one state to another, and know nothing else of the states. So what a worker is
 /// proved to have done by such steps it has done by calls.
 pub(crate) trait Station<T: Drop, G> {
     // What is known of its pass.
@@ -19,10 +19,10 @@ pub(crate) trait Station<T: Drop, G> {
     // A call with this number was announced at the gate.
     ghost passes: { G → Self → ℕ → Self → Type 0 };
 
-    // A call to take, with this start and so many rounds, was made and answered this.
+    // A call to take, with this start and so many rounds, was made and returned this.
     ghost takes: { Self → ℕ → ℕ → Taken T → Self → Type 0 };
 
-    // A call to give this payload, with this start and so many rounds, was made and answered this.
+    // A call to give this payload, with this start and so many rounds, was made and returned this.
     ghost gives: { Self → T → ℕ → ℕ → Given T → Self → Type 0 };
 
     /// The number of its worker.

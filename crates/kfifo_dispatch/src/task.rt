@@ -4,7 +4,7 @@ ghost use Rattle.kfifo_dispatch.specs.Tasks.{finished, total, work};
 
 /// A task: so many units of work are left of it.
 ///
-/// A unit of work adds `left` to the sum, and takes 1 from `left`. A task of which nothing is left is finished.
+/// A unit of work adds `left` to the sum, and takes 1 from `left`. A task with nothing left is finished.
 #[derive(Clone, Copy, PartialEq, Eq, Debug)]
 pub struct Task {
     /// Its number, which no other task of a dispatch has.

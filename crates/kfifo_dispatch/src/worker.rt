@@ -109,8 +109,8 @@ impl<P> Worker<P> {
         }
     }
 
-    /// Does a unit of work on the task. Gives it back to the queue where more is left, and answers it where it is
-    /// finished. A task that the queue refuses is worked off here.
+    /// Does a unit of work on the task. Gives it back to the queue if more is left, and returns it if it is finished.
+    /// It finishes a task that the queue refuses.
     fn work_at<L: Tasks, G: Gate>(
         &mut self,
         mut job: Job<L>,
@@ -137,7 +137,7 @@ impl<P> Worker<P> {
     }
 }
 
-/// Works off a task that the queue refused.
+/// Finishes a task that the queue refused.
 pub(crate) fn work_off_refused<L: Tasks, G: Gate>(
     given: Given<Job<L>>,
     worker: u32,
@@ -153,7 +153,7 @@ pub(crate) fn work_off_refused<L: Tasks, G: Gate>(
     }
 }
 
-/// Adds a finished task, if there is one, to those that are kept.
+/// Adds a finished task, if there is one, to the ones that are kept.
 pub(crate) fn keep<L: Tasks>(
     kept: &mut Vec<Done<L>>,
     finished: Option<Done<L>>,

@@ -22,7 +22,7 @@ Overlap h c d = (¬ (Precedes h c d)) × (¬ (Precedes h d c))
 abbrev pub AreWithin : ℕ → ℕ → ℕ → Type 0
 AreWithin around c d = (c ≤ d + around) × (d ≤ c + around)
 
--- d is a call that c overlaps, or within so many calls of which it stands
+-- d is a call that c overlaps, or c stands within so many calls of d
 abbrev pub IsNear : List Call → ℕ → ℕ → ℕ → Type 0
 IsNear h around c d = (d < length h) × (Overlap h c d ⊎ AreWithin around c d)
 
@@ -41,7 +41,7 @@ IsInPart h logged (Calls first last) c = (first ≤ c) × (c ≤ last)
 IsInPart h logged (Lines first last) c = (first ≤ line_of logged c) × (line_of logged c ≤ last)
 IsInPart h logged (Near named around) c = Any (IsNear h around c) named.now
 
--- The numbers below n of which P holds, each once, by rising number.
+-- The numbers below n for which P holds, each once, by rising number.
 pub record AreThoseBelow (P : ℕ → Type 0) (n : ℕ) (numbers : List ℕ) : Type 0 where
   pub rising : EachPair (λ c d. c < d) numbers
   pub each : (c : ℕ) → IsIn c numbers ↔ ((c < n) × P c)
@@ -62,12 +62,12 @@ AreMany P n = (count : ℕ) × CountsThose P n count × (most_drawn < count)
 abbrev pub AreDrawn : List Call → List LoggedCall → Part → List ℕ → Type 0
 AreDrawn h logged part drawn = AreThoseBelow (IsInPart h logged part) (length h) drawn
 
--- a part of a history is refused for the number of its calls alone, else for want of memory
+-- a part of a history is refused for the number of its calls alone, or because an allocation failed
 abbrev pub IsDrawFault : List Call → List LoggedCall → Part → DrawFault → Type 0
 IsDrawFault h logged part TooMany = AreMany (IsInPart h logged part) (length h)
 IsDrawFault h logged part Memory = AreFew (IsInPart h logged part) (length h)
 
--- the number of a fault, 0 for want of memory
+-- the number of a fault, 0 where an allocation failed
 abbrev pub draw_fault_number : DrawFault → ℕ
 draw_fault_number TooMany = 1
 draw_fault_number Memory = 0

@@ -32,7 +32,7 @@ pub(crate) struct Bar {
 /// A stretch of the lanes.
 #[derive(Drop)]
 pub(crate) struct Band {
-    /// The bars of the calls of which some place lies in the band, by the calls' numbers.
+    /// The bars of the calls with some place in the band, by the calls' numbers.
     pub bars: Vec<Bar>,
     /// How many columns there are.
     pub columns: usize,
@@ -51,7 +51,8 @@ fn column_count(spans: &[Span], widths: &[usize], places: &[usize]) -> usize {
     count
 }
 
-/// How the bar of a call ends at the right in a band of which it has this part; `last` says whether none stands below.
+/// How the bar of a call ends at the right of a band, in which it has this part; `last` says whether no band stands
+/// below.
 fn edge_of(span: &Span, part: &Span, last: bool) -> Edge {
     if part.to.is_some() {
         Edge::Closed
@@ -98,7 +99,7 @@ fn parts_of(
     Ok(parts)
 }
 
-/// The band of the places from one to another, of which the last one has no band below it.
+/// The band of the places from one to another; the last band has none below it.
 fn band_of(
     alloc: Global,
     spans: &[Span],

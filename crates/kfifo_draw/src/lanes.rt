@@ -15,7 +15,7 @@ fn push_times(text: &mut String, mark: char, count: usize) -> Result<(), AllocEr
     Ok(())
 }
 
-/// Adds a bar with this label, and answers the column behind it. `column` is the one behind what the lane has so far.
+/// Adds a bar with this label, and returns the column behind it. `column` is the one behind what the lane has so far.
 fn push_bar(text: &mut String, bar: &Bar, label: &str, column: usize) -> Result<usize, AllocError> {
     push_times(text, ' ', bar.left.saturating_sub(column))?;
     text.push(if bar.goes_on { '~' } else { '[' })?;

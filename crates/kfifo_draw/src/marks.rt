@@ -106,7 +106,7 @@ impl Marks {
         self.verdict.is_some() || !self.reason.is_empty()
     }
 
-    /// Adds what is to be said of the whole, and answers whether there is anything.
+    /// Adds what is to be said of the whole, and returns whether there is anything.
     pub(crate) fn push_verdict(&self, text: &mut String) -> Result<bool, AllocError> {
         let Some(verdict) = self.verdict else {
             text.push_str(self.reason.as_str())?;
@@ -182,7 +182,7 @@ fn first_repeated(order: &[usize], places: &[Option<usize>]) -> Option<usize> {
     None
 }
 
-/// The first number of the order that is that of no call or of an unfinished dequeue, where it is the latter.
+/// The first number of the order that no call or an unfinished dequeue has, if it is the dequeue's.
 fn first_not_a_call(calls: &[Call], order: &[usize]) -> Option<usize> {
     for number in order {
         match calls.get(*number) {

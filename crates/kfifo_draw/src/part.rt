@@ -46,7 +46,7 @@ fn is_near(calls: &[Call], number: usize, named: usize, around: usize) -> bool
     number.abs_diff(named) <= around
 }
 
-/// Whether the call with this number is near one of those named.
+/// Whether the call with this number is near a named one.
 fn is_near_some(calls: &[Call], number: usize, named: &[usize], around: usize) -> bool
     requires { number < length calls.now }
     ensures { IsTrue result ↔ Any (IsNear calls.now around number) named.now }

@@ -37,8 +37,7 @@ pub struct Drawing<'a> {
     pub marking: Marking<'a>,
     /// The k of the verdict on an order, 1 to 64: a dequeue may give any of the k oldest items.
     pub k: u32,
-    /// Where each call of the history stands in the log that it is the record of, and when it was, by the calls'
-    /// numbers; empty of a history of no log.
+    /// For the record of a log, where each call stands in the log and when it was, by the calls' numbers; else empty.
     pub logged: &'a [LoggedCall],
     pub ghost some_places: { 1 ≤ k },
     pub ghost few_places: { k ≤ 64 },
@@ -56,7 +55,7 @@ pub enum DrawFault {
 }
 
 impl DrawFault {
-    /// The number of the fault, 0 for want of memory.
+    /// The number of the fault: 1, or 0 where an allocation failed.
     pub fn number(self) -> u32
         ensures { result ≡ draw_fault_number self }
     {
@@ -87,17 +86,30 @@ impl<T: Drop> From<AllocFailed<T>> for DrawFault {
     }
 }
 
-/// The picture of a part of a history, of at most 4,096 calls: a lane for each of its threads, by number, and in it a
-/// bar for each call from its beginning to its end, with an open end where the call is unfinished. Only the order of
-/// beginnings and ends counts, where at one step beginnings come before ends: the picture has no room for idle time,
-/// and a bar is as long as its label needs. Lanes that are longer than 4,000 pixels, or than 120 characters, go on
-/// below.
+/// Returns the picture of a part of a history.
+///
+/// ```rust
+/// let drawing = Drawing {
+///     style,
+///     part: Part::All,
+///     marking,
+///     k,
+///     logged: &[],
+/// };
+/// kfifo_draw::draw(alloc, history, &drawing)
+/// ```
+///
+/// The part has at most 4,096 calls. It has a lane for each of its threads, by number, and in it a bar for each call
+/// from its beginning to its end, with an open end where the call is unfinished. Only the order of beginnings and ends
+/// counts, where at one step beginnings come before ends: the picture has no room for idle time, and a bar is as long
+/// as its label needs. Lanes that are longer than 4,000 pixels, or than 120 characters, go on below.
 ///
 /// Calls have the numbers of the whole history. Where an order is given, each call's label has its place in it, and the
 /// picture says whether the order of the whole is legal for k; of one that is not, the call at which it fails is
 /// marked.
 ///
-/// Refused: TooMany where over 4,096 calls belong to the part, else Memory where an allocation failed.
+/// `alloc`, the runtime's allocator, makes room for the text. Refuses: TooMany where over 4,096 calls belong to the
+/// part, else Memory where an allocation failed.
 pub fn draw(alloc: Global, history: &History, drawing: &Drawing<'_>) -> Result<String, DrawFault>
     ensures { MatchResult result (λ _. AreFew (IsInPart history.now drawing.now.logged.now drawing.now.part)
         (length history.now))

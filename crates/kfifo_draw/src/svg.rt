@@ -7,9 +7,9 @@ use kfifo_model::{Call, Op};
 use std::alloc::{AllocError, Global};
 use std::fmt::Write;
 
-/// The width of a column, somewhat more than that of a character.
+/// The width of a column, somewhat more than a character's.
 const COLUMN: usize = 8;
-/// The room at the left, for the numbers of the threads, and that at the right.
+/// The room at the left, for the numbers of the threads, and the room at the right.
 const LEFT: usize = 96;
 
 const RIGHT: usize = 16;
@@ -21,7 +21,7 @@ const TOP: usize = 60;
 const NOTE: usize = 18;
 /// The room between two bands.
 const GAP: usize = 18;
-/// The height of a lane, that of a bar, and how far a bar stands below the top of its lane.
+/// The height of a lane and of a bar, and how far a bar stands below the top of its lane.
 const LANE: usize = 36;
 
 const BAR: usize = 24;
@@ -64,7 +64,7 @@ struct Outline {
     x: usize,
     y: usize,
     width: usize,
-    /// Whether its corners are round, as those of dequeues are.
+    /// Whether its corners are round, as dequeues' are.
     round: bool,
     /// Whether its left end is torn, since it began in a band before.
     goes_on: bool,
@@ -115,7 +115,7 @@ fn push_right_end(text: &mut String, outline: Outline) -> Result<(), AllocError>
     }
 }
 
-/// Adds an outline of which an end is open or torn.
+/// Adds an outline with an open or a torn end.
 fn push_partial(text: &mut String, outline: Outline) -> Result<(), AllocError> {
     let y = outline.y;
     let right = outline.x.saturating_add(outline.width);
@@ -146,7 +146,7 @@ fn column_left(column: usize) -> usize {
     column.saturating_mul(COLUMN).saturating_add(LEFT)
 }
 
-/// Where the lines of a picture are that are as wide and as high as it.
+/// Where the lines stand that are as wide and as high as a picture.
 #[derive(Clone, Copy)]
 struct Frame {
     /// The width of the picture.

@@ -54,7 +54,7 @@ abbrev pub IsOp : List ℕ → Option ℕ → Op → Type 0
 IsOp text item (Enqueue x) = (text ≡ codes "enq") × (item ≡ Some x)
 IsOp text item Dequeue = text ≡ codes "deq"
 
--- the text of an enqueue's answer; Empty, which no enqueue answers, stands for other texts
+-- the text of an enqueue's answer; Empty, which no enqueue returns, stands for other texts
 abbrev pub IsPutAnswer : List ℕ → Answer → Type 0
 IsPutAnswer text Done = text ≡ codes "done"
 IsPutAnswer text Full = text ≡ codes "full"
@@ -63,7 +63,7 @@ IsPutAnswer text Empty = Unit {0}
 IsPutAnswer text Busy = text ≡ codes "busy"
 IsPutAnswer text Worn = text ≡ codes "worn"
 
--- the text of a dequeue's answer, beside the item; Done, which no dequeue answers, stands for other texts
+-- the text of a dequeue's answer, beside the item; Done, which no dequeue returns, stands for other texts
 abbrev pub IsTakeAnswer : List ℕ → Option ℕ → Answer → Type 0
 IsTakeAnswer text item Done = item ≡ None
 IsTakeAnswer text item Full = ⊥
@@ -87,7 +87,7 @@ IsEnd op last answer item (Some end) = (text : List ℕ) × (last ≡ Some end.l
     × IsAnswer op text item end.answer
 IsEnd op last answer item None = (last ≡ None) × (answer ≡ None) × IsUnfinished op item
 
--- The fields of a line are those of the call, whose steps are times.
+-- The fields of a line are the call's, whose steps are times.
 pub record IsCallOf (columns : Columns) (fields : List (List ℕ)) (c : Call) : Type 0 where
   pub thread : Gives WritesSmall (field_at fields columns.thread) (Some c.thread)
   pub first : Gives WritesWhole (field_at fields columns.first) (Some c.first)

@@ -19,7 +19,7 @@ AreLines columns [] (line ∷ lines) = ⊥
 AreLines columns (row ∷ rows) [] = ⊥
 AreLines columns (row ∷ rows) (line ∷ lines) = IsCallOf columns row line.call × AreLines columns rows lines
 
--- The lines are those of a table in CSV: a header with the six fields, and below it a row for each line, with its call.
+-- The lines are a table in CSV: a header with the six fields, and below it a row for each line, with its call.
 pub record ReadsLog (bytes : List ℕ) (lines : List Line) : Type 0 where
   pub names : List (List ℕ)
   pub columns : Columns
@@ -34,7 +34,7 @@ Holds read None lines = (read ≡ []) × (lines ≡ [])
 Holds read (Some columns) lines = (names : List (List ℕ)) × (rows : List (List (List ℕ))) × (read ≡ names ∷ rows)
     × HasColumns names columns × AreLines columns rows lines
 
--- a fault that comes before those of records
+-- a fault that comes before records' faults
 abbrev pub IsTextFault : ImportFault → Type 0
 IsTextFault (Csv n) = Unit {0}
 IsTextFault TooMany = Unit {0}

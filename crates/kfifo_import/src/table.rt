@@ -292,7 +292,14 @@ pub fn read_log(alloc: Global, text: &[u8]) -> Result<Log, ImportFault>
     log_of(alloc, lines)
 }
 
-/// The record alone of the log that a text in CSV is, with the refusals of `read_log`.
+/// Returns the record of a log in CSV, without the lines and times of its calls.
+///
+/// ```rust
+/// let history = import_text(alloc, bytes.as_slice())?;
+/// ```
+///
+/// A log has a line for each of at most 65,536 calls, under the header `thread,op,item,first,last,answer`. `alloc`, the
+/// runtime's allocator, makes room for the lines and the calls. Refuses what `read_log` refuses.
 pub fn import_text(alloc: Global, text: &[u8]) -> Result<History, ImportFault>
     ensures record { MatchResult result (IsImported text.now) (IsUnimported text.now) }
     ensures few { IfOk result (λ history. length history ≤ 65536) }

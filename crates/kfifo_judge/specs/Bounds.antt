@@ -56,6 +56,6 @@ pub record HasBounds (h : List Call) (text : List ℕ) (said : Outcome) : Type 0
   pub told : text ≡ bounds_text bounds
   pub ended : said ≡ Answered
 
--- the text and the outcome answer a history
+-- this is the text and the outcome for a history
 abbrev pub IsLeastAnswer : List LoggedCall → List Call → List ℕ → Outcome → Type 0
 IsLeastAnswer logged h text said = HasNoLeast logged h text said ⊎ HasBounds h text said

@@ -34,8 +34,8 @@ verdict_status LeavesOut = 3
 verdict_status BreaksBefore = 3
 verdict_status (NotARun place) = 3
 
--- The text and the status that answer a history: whether some order of its 12 calls or fewer is legal, or what is to be
--- said of the given one.
+-- The text and the status for a history: whether some order of its 12 calls or fewer is legal, or what is to be said of
+-- the given one.
 abbrev pub IsCheckAnswer : ℕ → Option (List ℕ) → List Call → List ℕ → ℕ → Type 0
 IsCheckAnswer k None h text status =
     (length h ≤ 12)
@@ -44,7 +44,7 @@ IsCheckAnswer k None h text status =
 IsCheckAnswer k (Some order) h text status = (v : Verdict) × IsVerdict k h order v × (text ≡ verdict_text v)
     × (status ≡ verdict_status v)
 
--- The text and the status answer the record that the bytes are.
+-- This is the text and the status for the record that the bytes are.
 pub record IsChecked (k : ℕ) (order : Option (List ℕ)) (bytes text : List ℕ) (status : ℕ) : Type 0 where
   pub calls : List Call
   pub recorded : IsRecordText bytes calls

@@ -61,7 +61,7 @@ outcome (Legal order) = outcomes.Answered
 outcome (NoOrder found) = outcomes.Unordered
 outcome (Undecided stuck) = outcomes.Undecided
 
--- The text and the outcome answer a history: what is to be said of a verdict on it, the order shown or not.
+-- This is the text and the outcome for a history: what is to be said of a verdict on it, the order shown or not.
 pub record IsJudgeAnswer (k : ℕ) (show : Bool) (logged : List LoggedCall) (h : List Call) (text : List ℕ)
     (said : Outcome) : Type 0 where
   pub judgement : Judgement

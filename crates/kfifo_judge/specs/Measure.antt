@@ -27,7 +27,7 @@ most (o ∷ os) = max o.count (most os)
 abbrev pub measure_text : List Overtaken → List ℕ
 measure_text os = overtaken_lines os ++ line (codes "most " ++ decimal (most os))
 
--- The text and the status answer the record that the bytes are.
+-- This is the text and the status for the record that the bytes are.
 pub record IsMeasured (bytes text : List ℕ) (status : ℕ) : Type 0 where
   pub calls : List Call
   pub recorded : IsRecordText bytes calls

@@ -1,4 +1,4 @@
--- What a reading that gave no input did to the count of failed calls, and what is answered then.
+-- What a reading that gave no input did to the count of failed calls, and which fault is reported then.
 use Rattle.std.specs.Prelude.{ℕ, ◌≡◌}
 use Rattle.kfifo_judge.specs.declared.streams.ReadFault.{ReadFault}
 use Rattle.kfifo_judge.specs.declared.streams.ReadFault.TheVariants.{Failed, TooLong, Memory}

@@ -10,12 +10,12 @@ countable = 2 ^ 64 - 1
 abbrev pub CountsOne : ℕ → ℕ → Type 0
 CountsOne before after = before < countable → after ≡ before + 1
 
--- a read fails where it answers an error
+-- a read fails where it returns an error
 abbrev pub CountsRead : {E : Type 0} → Result ℕ E → ℕ → ℕ → Type 0
 CountsRead (Ok n) before after = after ≡ before
 CountsRead (Err e) before after = CountsOne before after
 
--- a write fails where it answers an error, or takes no byte though there are some
+-- a write fails where it returns an error, or takes no byte though there are some
 abbrev pub CountsWrite : {E : Type 0} → Result ℕ E → ℕ → ℕ → ℕ → Type 0
 CountsWrite (Ok zero) offered before after = (0 < offered → CountsOne before after) × (offered ≡ 0 → after ≡ before)
 CountsWrite (Ok (suc n)) offered before after = after ≡ before

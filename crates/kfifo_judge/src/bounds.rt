@@ -68,10 +68,10 @@ fn no_least(
     Ok(text)
 }
 
-/// Between which bounds the least k lies for which a history has a legal order, as a text; or `no order` with the
-/// evidence and the calls that it names, where there is evidence that names no k. `logged` has the line and the times
-/// of each call of a log, and nothing of a record. `tries` is the number of choices that each search for an order may
-/// undo.
+/// Returns between which bounds the least k lies for which a history has a legal order, as a text; or `no order` with
+/// the evidence and the calls that it names, where there is evidence that names no k. `logged` has the line and the
+/// times of each call of a log, and nothing of a record. `tries` is the number of choices that each search for an order
+/// may undo. An error means that an allocation failed.
 pub fn least_text(
     alloc: Global,
     history: &History,

@@ -10,7 +10,7 @@ use kfifo_model::{Answer, Call, End, History, Op};
 use std::alloc::AllocError;
 use std::fmt::Write;
 
-/// How many puts have a line each behind that of the call that they are named beside: 32 calls in all.
+/// How many puts have a line behind the line of the call that they are named beside: 32 calls in all.
 const MAX_PUTS: usize = 31;
 
 /// A call past the last one.

@@ -45,7 +45,7 @@ fn status_of(verdict: Verdict) -> u8
     }
 }
 
-/// The text and the status that answer a history.
+/// The text and the status for a history.
 fn answer(
     alloc: Global,
     history: &History,
@@ -69,7 +69,7 @@ fn answer(
     }
 }
 
-/// The text and the status that answer a record's text.
+/// The text and the status for a record's text.
 fn answer_text(
     alloc: Global,
     bytes: &[u8],
@@ -89,9 +89,21 @@ fn answer_text(
     }
 }
 
-/// Reads a record from the source and writes to the sink whether a legal order of it exists, or, where an order is
-/// given, what is to be said of that. The answer is the exit status: 0, or 3 where there is no order or the order is
-/// not legal. A failed call of the source or the sink is not made again. k is 1 to 64.
+/// Reads a record from the source and writes a line to the sink: whether the record has a legal order, or, if an order
+/// is given, whether that order is legal. Returns the exit status: 0, or 3 where there is no order or the order is not
+/// legal. k is 1 to 64: a dequeue may take any of the k oldest items.
+///
+/// ```rust
+/// let mut sink = FromStd::new(Vec::new(alloc));
+/// match check_stream(alloc, input, &mut sink, k, order) {
+///     Ok(0) => Ok((sink.inner, Status::Answered)),
+///     Ok(_) => Ok((sink.inner, Status::Unordered)),
+///     Err(fault) => Err(Fault::from(fault)),
+/// }
+/// ```
+///
+/// `alloc`, the runtime's allocator, holds the input, at most 16,777,216 bytes, and the history of at most 65,536
+/// calls. `StreamFault` lists the faults. A failed call of the source or the sink is not made again.
 pub fn check_stream<R: Source, W: Sink>(
     alloc: Global,
     source: &mut R,
@@ -120,10 +132,10 @@ pub fn check_stream<R: Source, W: Sink>(
     ensures faults { let o = option_map (λ s. s.now) order.entry in
         IfErr result (λ f. f ≢ StreamFault.Input → f ≢ StreamFault.Output → f ≢ StreamFault.Memory →
         (bytes : List ℕ) × IfSome (R.remaining source.old) (λ given. given ≡ bytes) × IsCheckFault o bytes f) }
-    // Every answer but Input and Memory: all that the source had to give, no longer than the limit, was read.
+    // Every result but Input and Memory: all that the source had to give, no longer than the limit, was read.
     ensures short { result ≢ Err StreamFault.Input → result ≢ Err StreamFault.Memory
         → IfSome (R.remaining source.old) (λ given. length given ≤ 16777216) }
-    // No call failed but the one that was answered.
+    // No call failed but the one that is reported.
     ensures source_calls { (result ≢ Err StreamFault.Input) → R.failed source.new ≡ R.failed source.old }
     ensures sink_calls { (result ≢ Err StreamFault.Output) → W.failed sink.new ≡ W.failed sink.old }
     ensures sink_failed { result ≡ Err StreamFault.Output → CountsOne (W.failed sink.old) (W.failed sink.new) }

@@ -140,11 +140,11 @@ fn outcome_of(judgement: &Judgement) -> Outcome
     }
 }
 
-/// A verdict on a history for a queue that may give any of its k oldest items, 1 to 64, as a text: `legal` with the
-/// greatest rank of the order that was found, and the order itself where it is to be shown; or `no order` with the
+/// Returns a verdict on a history for a queue that may give any of its k oldest items, 1 to 64, as a text: `legal` with
+/// the greatest rank of the order that was found, and the order itself where it is to be shown; or `no order` with the
 /// evidence, the calls that it names and, where it is about this k alone, bounds of the least k; or `undecided` with
-/// the reason. `log` has the line and the times of each call, where the history is the record of a log. `tries` is the
-/// number of choices that each search for an order may undo.
+/// the reason. `logged` has the line and the times of each call, where the history is the record of a log. `tries` is
+/// the number of choices that each search for an order may undo. An error means that an allocation failed.
 pub fn judge_text(
     alloc: Global,
     history: &History,

@@ -39,7 +39,7 @@ fn all_lines(alloc: Global, found: &[Overtaken]) -> Result<String, AllocError>
     Ok(text)
 }
 
-/// The text that answers a history.
+/// The text for a history.
 fn answer(alloc: Global, history: &History) -> Result<String, StreamFault>
     ensures { MatchResult result (λ s. (string_bytes s ≡ measure_text (measured history.now (length history.now)))
         × ((n : ℕ) → IsDoneEnqueue history.now n → HasDistinctItems history.now)) (IsUnmeasured history.now) }
@@ -51,7 +51,7 @@ fn answer(alloc: Global, history: &History) -> Result<String, StreamFault>
     }
 }
 
-/// The text that answers a record's text.
+/// The text for a record's text.
 fn answer_text(alloc: Global, bytes: &[u8]) -> Result<String, StreamFault>
     ensures { MatchResult result (λ s. IsMeasured bytes.now (string_bytes s) 0) (IsMeasuringFault bytes.now) }
 {
@@ -64,9 +64,18 @@ fn answer_text(alloc: Global, bytes: &[u8]) -> Result<String, StreamFault>
     }
 }
 
-/// Reads a record from the source and writes to the sink how often the item of each finished enqueue with answer
-/// Done is certainly overtaken, and the greatest count. The answer is the exit status, 0. A failed call of the source
-/// or the sink is not made again.
+/// Reads a record from the source, and writes to the sink how often the item of each finished enqueue that returned
+/// Done is certainly overtaken, and the greatest count. Returns the exit status, 0.
+///
+/// ```rust
+/// let mut sink = FromStd::new(Vec::new(alloc));
+/// match measure_stream(alloc, input, &mut sink) {
+///     Ok(_) => Ok(sink.inner),
+///     Err(fault) => Err(Fault::from(fault)),
+/// }
+/// ```
+///
+/// Memory, limits and faults are as of `check_stream`. A failed call of the source or the sink is not made again.
 pub fn measure_stream<R: Source, W: Sink>(
     alloc: Global,
     source: &mut R,
@@ -89,10 +98,10 @@ pub fn measure_stream<R: Source, W: Sink>(
         × IfSome (R.remaining source.old) (λ given. 16777216 < length given)) }
     ensures faults { IfErr result (λ f. f ≢ StreamFault.Input → f ≢ StreamFault.Output → f ≢ StreamFault.Memory →
         (bytes : List ℕ) × IfSome (R.remaining source.old) (λ given. given ≡ bytes) × IsMeasuringFault bytes f) }
-    // Every answer but Input and Memory: all that the source had to give, no longer than the limit, was read.
+    // Every result but Input and Memory: all that the source had to give, no longer than the limit, was read.
     ensures short { result ≢ Err StreamFault.Input → result ≢ Err StreamFault.Memory
         → IfSome (R.remaining source.old) (λ given. length given ≤ 16777216) }
-    // No call failed but the one that was answered.
+    // No call failed but the one that is reported.
     ensures source_calls { (result ≢ Err StreamFault.Input) → R.failed source.new ≡ R.failed source.old }
     ensures sink_calls { (result ≢ Err StreamFault.Output) → W.failed sink.new ≡ W.failed sink.old }
     ensures sink_failed { result ≡ Err StreamFault.Output → CountsOne (W.failed sink.old) (W.failed sink.new) }

@@ -1,4 +1,4 @@
-//! Records as texts, and why a stream is not answered.
+//! Records as texts, and why a stream gets no answer.
 ghost use Rattle.std.specs.Prelude.{ℕ, ◌≡◌, List, MatchResult};
 ghost use Rattle.kfifo_judge.specs.Inputs.{IsRecordText};
 ghost use Rattle.kfifo_judge.specs.TextFaults.{IsTextFault};
@@ -9,7 +9,7 @@ use serde_json::Value;
 use std::alloc::{AllocError, Global};
 use thiserror::Error;
 
-/// Why a stream of a record is not answered. `Output` is a fault of writing; the others have a line each.
+/// Why a stream of a record gets no answer. `Output` is a fault of writing; the others have a line each.
 #[derive(Clone, Copy, Debug, PartialEq, Eq, Error)]
 pub enum StreamFault {
     /// `input`: a call of the source failed, or over 16,777,216 bytes came.
@@ -58,7 +58,14 @@ impl From<ReadFault> for StreamFault {
     }
 }
 
-/// The history that a text records, or why there is none.
+/// Returns the history that a text records: a record in JSON, as `read_history` of `kfifo_model` takes it.
+///
+/// ```rust
+/// let history = kfifo_judge::read_record(alloc, text.as_bytes())?;
+/// ```
+///
+/// Refuses: NotJson where the text is not UTF-8 or no JSON; Record with the first fault of the record; Memory where an
+/// allocation failed.
 pub fn read_record(alloc: Global, bytes: &[u8]) -> Result<History, StreamFault>
     ensures { MatchResult result (IsRecordText bytes.now) (IsTextFault bytes.now) }
 {

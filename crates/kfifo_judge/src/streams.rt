@@ -19,7 +19,7 @@ pub trait Source {
     // The bytes that reads will give from here on, where they are known.
     ghost remaining: { Self → Option (List ℕ) };
 
-    // How many calls of `read` answered an error so far.
+    // How many calls of `read` returned an error so far.
     ghost failed: { Self → ℕ };
 
     /// As std's `Read`: the number of bytes put into the piece, 0 at the end.
@@ -34,7 +34,7 @@ pub trait Sink {
     // The bytes that it holds, where they are known.
     ghost contents: { Self → Option (List ℕ) };
 
-    // How many calls of `write` answered an error so far, or took no byte though there were some.
+    // How many calls of `write` returned an error so far, or took no byte though there were some.
     ghost failed: { Self → ℕ };
 
     /// As std's `Write`: the number of bytes of the piece that were taken.
@@ -44,7 +44,11 @@ pub trait Sink {
         ensures failures { CountsWrite result (length piece.now) (failed self.old) (failed self.new) };
 }
 
-/// A reader or a writer of std as a source or a sink.
+/// A reader or a writer of std as a source or a sink. This sink keeps in memory what is written:
+///
+/// ```rust
+/// let mut sink = FromStd::new(Vec::new(alloc));
+/// ```
 #[derive(Drop)]
 pub struct FromStd<T> {
     /// The reader or the writer.
@@ -124,7 +128,8 @@ impl From<AllocError> for ReadFault {
     }
 }
 
-/// All that a source gives, at most 16,777,216 bytes. A call that failed is not made again.
+/// Returns all that a source gives. Refuses: Failed where a call of the source failed, which is not made again; TooLong
+/// where over 16,777,216 bytes came; Memory where an allocation failed.
 pub fn read_all<R: Source>(alloc: Global, source: &mut R) -> Result<Vec<u8>, ReadFault>
     ensures read { IfOk result (λ v. IfSome (R.remaining source.old) (λ xs. xs ≡ v.items)) }
     ensures small { IfOk result (λ v. length v.items ≤ 16777216) }
@@ -149,7 +154,7 @@ pub fn read_all<R: Source>(alloc: Global, source: &mut R) -> Result<Vec<u8>, Rea
     }
 }
 
-/// Writes the whole text, or answers false after a call that failed or took no byte, which is not made again.
+/// Writes the whole text, or returns false after a call that failed or took no byte, which is not made again.
 pub fn write_all<W: Sink>(sink: &mut W, text: &[u8]) -> bool
     ensures whole { IsTrue result → Appends (W.contents sink.old) (W.contents sink.new) text.now }
     ensures beginning { result ≡ false → AppendsPart (W.contents sink.old) (W.contents sink.new) text.now }

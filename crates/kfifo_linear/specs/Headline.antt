@@ -29,7 +29,7 @@ FewOvertake shape threads = (events : List Event) (here : World) → after shape
     → (c x : ℕ) → IsIn c (order_of shape threads events) → does (history_of shape threads events) c ≡ Adds x
     → overtaken_in (history_of shape threads events) (order_of shape threads events) c < shape.k
 
--- In the history of a schedule, where its items are distinct, the item of each enqueue answered Done is certainly
+-- In the history of a schedule, where its items are distinct, the item of each enqueue that returned Done is certainly
 -- overtaken fewer than k times
 abbrev pub FewCertainlyOvertake : Shape → ℕ → Type 0
 FewCertainlyOvertake shape threads = (events : List Event) (here : World) → after shape threads events ≡ Some here
@@ -91,7 +91,7 @@ TakesInTime shape threads = (events : List Event) (here : World) → after shape
     × ((ledger_after_all shape threads events).tail
     < (ledger_after_all shape threads events).head_seen thread + 2 * shape.n)
 
--- The ledger's numbers of head and tail are those of the won head-ons and tail-ons
+-- The ledger's numbers of head and tail are the numbers of won head-ons and tail-ons
 abbrev pub NumbersAgree : Shape → ℕ → Type 0
 NumbersAgree shape threads = (events : List Event) (here : World) → after shape threads events ≡ Some here
     → ((ledger_after_all shape threads events).head ≡ head_ons shape threads events)

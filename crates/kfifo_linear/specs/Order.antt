@@ -1,4 +1,4 @@
--- The linearization order of a schedule: the calls that stand in it, by rising point, those of one point by rising
+-- The linearization order of a schedule: the calls that stand in it, by rising point, and at one point by rising
 -- number.
 use Rattle.std.specs.Prelude.{ℕ, zero, suc, ◌-◌, ◌%◌, Bool, nat_lt, if◌then◌else◌, List, Option, Some, None, is_some}
 use Rattle.kfifo_words.specs.declared.shape.Shape.{Shape}

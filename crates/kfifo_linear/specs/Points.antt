@@ -26,7 +26,7 @@ IsAdd act m c = (m.stands c ≡ true) × (x : ℕ) × (act c ≡ Adds x)
 abbrev pub IsTakeOf : (ℕ → Effect) → Marks → ℕ → ℕ → Type 0
 IsTakeOf act m c g = (m.stands g ≡ true) × (x : ℕ) × (act g ≡ Takes x) × (m.source g ≡ c)
 
--- The facts about points of which the order is made.
+-- The facts about points that make the order.
 pub record PointsFit (k : ℕ) (act : ℕ → Effect) (m : Marks) : Type 0 where
   pub head_rises : (p q : ℕ) → p ≤ q → m.head p ≤ m.head q
   pub tail_rises : (p q : ℕ) → p ≤ q → m.tail p ≤ m.tail q
@@ -67,14 +67,14 @@ abbrev pub IsNoLater : ℕ → Option End → Type 0
 IsNoLater step None = Unit {0}
 IsNoLater step (Some end) = step ≤ end.last
 
--- The calls that stand are those of a history, each with its point between its first step and its last.
+-- The calls that stand are calls of a history, each with its point between its first step and its last.
 pub record StandsFit (h : List Call) (m : Marks) : Type 0 where
   pub finished_stand : (c : ℕ) → IsFinished h c → m.stands c ≡ true
   pub can_stand : (c : ℕ) → m.stands c ≡ true → CanStand (call h c).end (call h c).op
   pub point_from : (c : ℕ) → m.stands c ≡ true → (call h c).first ≤ m.point c
   pub point_to : (c : ℕ) → m.stands c ≡ true → IsNoLater (m.point c) (call h c).end
 
--- The calls that stand with their points among the first steps, step by step, those of one step by number.
+-- The calls that stand with their points among the first steps, step by step, and at one step by number.
 abbrev pub by_point : (ℕ → Bool) → (ℕ → ℕ) → ℕ → List Call → List ℕ
 by_point stands point steps h = flat_map (λ p. filter (λ c. stands c && eqb (point c) p) (numbers_of h))
     (range_with_len 0 steps)

@@ -37,7 +37,7 @@ pub fn few_overtake_in_the_order()
         → overtaken_in h (by_point m.stands m.point steps h) c < k }
 {}
 
-/// Of the overtakings of an item fewer than k are certain by the history, where its items are distinct.
+/// Fewer than k overtakings of an item are certain by the history, where its items are distinct.
 pub fn few_certainly_overtake()
     ensures { (k : ℕ) (h : List Call) (m : Marks) → PointsFit k (does h) m → StandsFit h m
         → AddsAreDistinct (does h) (numbers_of h)
@@ -46,14 +46,13 @@ pub fn few_certainly_overtake()
 
 /// Laws of every schedule of every shape, with up to 64 threads.
 ///
-/// The calls of a schedule by the rising points of its ledger, those of one point by rising number,
-/// are a legal order of its history: an order of all its finished calls and some unfinished
-/// enqueues that keeps every pair of which one returned before the other was called, and that is a
-/// run of the k-relaxed queue.
+/// The calls of a schedule by the rising points of its ledger, and at one point by rising number, are a legal order of
+/// its history: an order of all its finished calls and some unfinished enqueues that keeps every return-before-call
+/// pair, and that is a run of the k-relaxed queue.
 ///
-/// In that order each item is overtaken at most k - 1 times, where the items enqueued in it are
-/// distinct; and by the history alone at most k - 1 overtakings of the item of an enqueue answered
-/// Done are certain, where its items are distinct.
+/// In that order each item is overtaken at most k - 1 times, where the items enqueued in it are distinct; and by the
+/// history alone at most k - 1 overtakings of the item of an enqueue that returned Done are certain, where its items
+/// are distinct.
 pub fn every_schedule_has_a_legal_order()
     ensures points { (shape : Shape) (threads : ℕ) → threads ≤ 64 → PointsHold shape threads }
     ensures legal { (shape : Shape) (threads : ℕ) → threads ≤ 64 → HasLegalOrder shape threads }

@@ -114,17 +114,20 @@ fn order_events(
     Ok(linearizer.order(alloc)?)
 }
 
-/// The linearization order of the schedule of these events, as numbers of calls by their first events.
+/// Returns the linearization order of the schedule of these events, as numbers of calls by their first events.
 ///
-/// Refused: NotASchedule exactly where the number of threads is not 1 to 64, or else, Memory aside, an
-/// event is not enabled; Memory where an allocation failed.
+/// ```rust
+/// kfifo_linear::linearize(alloc, shape, threads, events)
+/// ```
 ///
-/// The clauses from `legal` on speak of every schedule of this shape and number of threads, whatever is
-/// answered. The order of a schedule is a legal order of its history: it has all finished calls and
-/// some unfinished enqueues, keeps every pair of which one returned before the other was called, and
-/// is a run of the k-relaxed queue. In it, where its enqueues carry distinct items, each item is
-/// overtaken at most k - 1 times in its whole life; and by the history, where its items are distinct,
-/// at most k - 1 overtakings of the item of an enqueue answered Done are certain.
+/// Refuses: NotASchedule exactly where the number of threads is not 1 to 64, or else, Memory aside, an event is not
+/// enabled; Memory where an allocation failed.
+///
+/// The clauses from `legal` on speak of every schedule of this shape and number of threads, whatever the call returns.
+/// The order of a schedule is a legal order of its history: it has all finished calls and some unfinished enqueues,
+/// keeps every return-before-call pair, and is a run of the k-relaxed queue. In it, where its enqueues carry distinct
+/// items, each item is overtaken at most k - 1 times in its whole life; and by the history, where its items are
+/// distinct, at most k - 1 overtakings of the item of an enqueue that returned Done are certain.
 pub fn linearize(
     alloc: Global,
     shape: Shape,

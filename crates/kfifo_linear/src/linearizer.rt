@@ -17,9 +17,9 @@ use std::marker::Model;
 
 /// Follows a schedule event by event, and names the linearization order of what it has followed.
 ///
-/// It has room for a fixed number of calls, and keeps of the schedule what the order needs: of head
-/// and tail the steps of their latest 2n visits, of each slot what stands in it, and of each call
-/// where it stands. No event takes memory.
+/// It has room for a fixed number of calls, and keeps what the order needs of the schedule: for head and tail the steps
+/// of their latest 2n visits, for each slot what stands in it, and for each call where it stands. No event takes
+/// memory.
 #[derive(Drop)]
 pub struct Linearizer {
     state: State,
@@ -53,8 +53,7 @@ fn points_of(alloc: Global, placed: &[(u64, usize)]) -> Result<Vec<u64>, AllocEr
 impl Linearizer {
     /// A linearizer of this many threads, with room for this many calls, that has followed no event.
     ///
-    /// ThreadsOutOfRange where the number of threads is not 1 to 64; Memory where an allocation
-    /// failed.
+    /// Refuses: ThreadsOutOfRange where the number of threads is not 1 to 64; Memory where an allocation failed.
     pub fn open(
         alloc: Global,
         shape: Shape,

@@ -34,7 +34,7 @@ pub struct Caller {
 pub enum Whereabouts {
     /// Nowhere yet.
     Nowhere,
-    /// Its item is in this slot, of which its point is noted.
+    /// Its item is in this slot, and the slot's notes have its point.
     InSlot(usize),
     /// At this step.
     At(u64),
@@ -78,8 +78,8 @@ impl Visits {
     }
 }
 
-/// What is kept of a schedule: of head and tail the latest visits, of each slot what stands in it, of
-/// each thread its call, and where each call stands.
+/// What is kept of a schedule: the latest visits of head and tail, what stands in each slot, each thread's call, and
+/// where each call stands.
 #[derive(Drop)]
 pub struct Notes {
     step: u64,
@@ -110,7 +110,7 @@ impl Model for Notes {
 }
 
 impl Notes {
-    /// Of no event, with room for the latest 2n visits, and for these threads and calls.
+    /// Makes the notes of no event, with room for the latest 2n visits, and for these threads and calls.
     pub fn new(
         alloc: Global,
         shape: &Shape,
@@ -280,7 +280,7 @@ impl Notes {
         }
     }
 
-    /// The thread's call ends, if the step came to an answer.
+    /// The thread's call ends, if the step ended it.
     fn end(&mut self, thread: usize, outcome: Outcome)
         requires thread { thread < length self.old.callers }
         requires call { own_call self.old thread < length self.old.calls }

@@ -8,12 +8,12 @@ use Rattle.kfifo_words.specs.Ring.{next_segment, slot_at}
 abbrev pub item_in : ℕ → List ℕ
 item_in word = if value_of word == 0 then [] else value_of word ∷ []
 
--- those of `count` slots from an index on
+-- the items of `count` slots from an index on
 abbrev pub slots_left : List ℕ → ℕ → ℕ → List ℕ
 slots_left words index zero = []
 slots_left words index (suc count) = item_in (get_or words index 0) ++ slots_left words (suc index) count
 
--- those of `count` segments from a segment on, round the ring
+-- the items of `count` segments from a segment on, round the ring
 abbrev pub segments_left : Shape → List ℕ → ℕ → ℕ → List ℕ
 segments_left shape words segment zero = []
 segments_left shape words segment (suc count) =

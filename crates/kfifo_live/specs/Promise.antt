@@ -32,7 +32,7 @@ pub record KeepsPromise (o : Opening) (seen : List Event) : Type 0 where
   pub few_overtake : AddsAreDistinct (does (calls_of o seen)) (order_in o seen) → (c x : ℕ) → IsIn c (order_in o seen)
       → does (calls_of o seen) c ≡ Adds x
       → overtaken_in (calls_of o seen) (order_in o seen) c < o.shape.k
-  -- by the calls alone, where items are distinct, fewer than k overtakings of the item of an enqueue answered Done are
-  -- certain
+  -- by the calls alone, where items are distinct, fewer than k overtakings of the item of an enqueue that returned Done
+  -- are certain
   pub few_certainly_overtake : HasDistinctItems (calls_of o seen) → (c : ℕ) → IsDoneEnqueue (calls_of o seen) c
       → certainly_overtaken (calls_of o seen) c < o.shape.k

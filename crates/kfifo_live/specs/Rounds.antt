@@ -15,7 +15,7 @@ use Rattle.kfifo_live.specs.declared.dequeue.Dequeue.{Dequeue}
 abbrev pub enqueue_at : {T : Type 0} → Enqueue T → EnqueuePhase → Running
 enqueue_at call phase = R.Enqueue call.item call.start call.left phase
 
--- a round of an enqueue comes to an answer, or is lost: then the next one begins, or the call answers Busy
+-- a round of an enqueue comes to an answer, or is lost: then the next one begins, or the call returns Busy
 abbrev pub enqueue_round : {T : Type 0} → Enqueue T → Option Answer → Next
 enqueue_round call None = enqueue_again call.item call.start call.left
 enqueue_round call (Some answer) = Answers answer

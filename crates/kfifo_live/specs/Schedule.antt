@@ -19,7 +19,7 @@ use Rattle.kfifo_live.specs.declared.view.Part.{Part}
 use Rattle.kfifo_live.specs.declared.view.View.{View}
 use Rattle.kfifo_live.specs.Hands.{Gifts, Homes, InTurn, Where, HandFits, SlotsFit}
 
--- the opening of a stamped queue, and that of a plain one, in which no call is stamped
+-- the opening of a stamped queue, and of a plain one, in which no call is stamped
 abbrev pub stamped_opening : Shape → ℕ → ℕ → Opening
 stamped_opening shape threads calls = record { shape = shape; threads = threads; calls = calls; tokens = 0 }
 

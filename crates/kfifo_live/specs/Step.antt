@@ -26,7 +26,7 @@ use Rattle.kfifo_live.specs.declared.view.Hand.{Hand}
 use Rattle.kfifo_live.specs.Hands.{Gifts, InTurn, Takes, beside, gift, move, hand_after, begun_hand, carried, carrying}
 use Rattle.kfifo_live.specs.Hands.{own_item, out_at, Carries, BeginsWith, Leaves}
 
--- the own events of a call in progress begin nothing; those of a call from its first step on begin it once
+-- the own events of a call in progress begin nothing; the events of a call from its first step on begin it once
 abbrev pub IsOwnRun : ℕ → Option Begin → List Event → Type 0
 IsOwnRun thread None events = AllGoOn events
 IsOwnRun thread (Some call) events = BeginsOnce thread call events
@@ -136,7 +136,7 @@ module _ {T : Type 0} where
         ((gifts_of v.0 ++ earlier) ++ gift begin v.1)
 
   -- Steps of one call, from its first where it begins here: events of others and own ones, the last of them own, after
-  -- which the call goes on from the next place or has answered
+  -- which the call goes on from the next place or has returned
   pub record Leads (begin : Option Begin) (v : Me (Option T) (View T)) (next : Next)
       (w : Me (Option T) (View T)) : Type 0 where
     pub between : List Event

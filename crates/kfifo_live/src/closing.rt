@@ -108,8 +108,8 @@ fn join_all(shared: &Words<()>, mut seat: ThreadSeat<()>, mut passes: Vec<Pass>)
 /// let left = close(alloc, queue, vec![in alloc; pass]?)?; // the items that are left
 /// ```
 ///
-/// MissingPass where not each pass of the opening is there once, which is tested first; Memory where an allocation
-/// failed. The items are then lost to the caller.
+/// Refuses: MissingPass where not each pass of the opening is there once, which is tested first; Memory where an
+/// allocation failed. The items are then lost to the caller.
 pub fn close(alloc: Global, queue: Queue, mut passes: Vec<Pass>) -> Result<Vec<u32>, CloseFault>
     requires { All (IsPassOf queue) passes.items }
     ensures ok { IfOk result (λ items. Closes queue passes.items items.items) }

@@ -42,7 +42,7 @@ impl<T> Dequeue<'_, T> {
         requires { Stands self.ring seat.old (dequeue_at self (DequeuePhase.Take ends index filled)) }
         ensures { Comes seat.old (dequeue_round self.entry result) seat.new }
     {
-        // The version rises with each take, so that of two dequeues that read the item one loses.
+        // The version rises with each take, so one of two dequeues that read the item loses.
         let emptied = Word::pack(0, filled.version() + 1);
         if self.ring.compare_exchange(seat, index, filled, emptied) != filled {
             return None;
@@ -101,8 +101,8 @@ impl<T> Dequeue<'_, T> {
         requires { Stands self.ring seat.old (dequeue_at self (DequeuePhase.Recheck ends Found.Nothing)) }
         ensures { Comes seat.old (dequeue_round self.entry result) seat.new }
     {
-        // An item may have been put into a slot after it was seen empty. It is not Done before the head is
-        // held, which changes the ends word: without this look Empty would be answered though it is there.
+        // An item may have been put into a slot after it was seen empty. It is not Done before the head is held, which
+        // changes the ends word: without this look the call would return Empty though it is there.
         if self.ring.load_ends(seat) != ends {
             return None;
         }

@@ -43,8 +43,8 @@ impl<T> Enqueue<'_, T> {
         requires { Stands self.ring seat.old (enqueue_at self (EnqueuePhase.Undo index filled worn)) }
         ensures { Comes seat.old (enqueue_round self.entry result) seat.new }
     {
-        // The version rises. If it went back to that of the empty slot, an enqueue that has read the slot
-        // as empty could put its item long after, in a segment that is no longer the tail's (ABA).
+        // The version rises. If it went back to the empty slot's, an enqueue that has read the slot as empty could put
+        // its item long after, in a segment that is no longer the tail's (ABA).
         let emptied = Word::pack(0, filled.version() + 1);
         if self.ring.compare_exchange(seat, index, filled, emptied) != filled {
             return Some(Answer::Done);
@@ -98,9 +98,9 @@ impl<T> Enqueue<'_, T> {
             }
             return self.hold_head(seat, now, index, filled);
         }
-        // Between the look at the ends and the put, others may have filled and emptied the segment, and
-        // the head have moved on past it. Done would then leave the item behind the head: a dequeue
-        // could answer Empty while it is there.
+        // Between the look at the ends and the put, others may have filled and emptied the segment, and the head have
+        // moved on past it. Done would then leave the item behind the head: a dequeue could return Empty while it is
+        // there.
         let tail = now.tail();
         if segment == tail || shape.dist(head, segment) <= shape.dist(head, tail) {
             return Some(Answer::Done);
@@ -165,8 +165,8 @@ impl<T> Enqueue<'_, T> {
         requires { Stands self.ring seat.old (enqueue_at self (EnqueuePhase.ConfirmFull ends)) }
         ensures { Comes seat.old (enqueue_round self.entry result) seat.new }
     {
-        // The slots were looked at one after the other. Only if head and tail have not moved since were
-        // they those of the tail's and the head's segment, all in one round.
+        // The slots were looked at one after the other. Only if head and tail have not moved since, they were slots of
+        // the tail's and the head's segment, all in one round.
         if self.ring.load_ends(seat) == ends {
             Some(Answer::Full)
         } else {

@@ -76,8 +76,8 @@ impl Queue {
     /// let (queue, mut passes) = Queue::open(alloc, shape, 1)?; // one pass for each thread
     /// ```
     ///
-    /// ThreadsOutOfRange where the number of threads is not 1 to 64; Memory where an allocation failed. Nothing is kept
-    /// after a refusal.
+    /// Refuses: ThreadsOutOfRange where the number of threads is not 1 to 64; Memory where an allocation failed.
+    /// Nothing is kept after a refusal.
     ///
     /// Every schedule of such a queue, and so what any of its passes will have seen, has a legal
     /// order of its calls; in it, where the items are distinct, none is overtaken k times.

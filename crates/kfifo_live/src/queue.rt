@@ -70,7 +70,7 @@ impl Queue {
 }
 
 impl Pass {
-    /// The number of the pass, which is that of its thread in the schedule.
+    /// The number of the pass: its thread's in the schedule.
     pub fn thread(&self) -> u32
         ensures { result ≡ self.now.thread }
     {

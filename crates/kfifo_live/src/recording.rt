@@ -42,8 +42,8 @@ impl StampQueue {
     /// let (queue, mut passes) = StampQueue::open(alloc, shape, 1, 2)?; // room for two calls in each log
     /// ```
     ///
-    /// ThreadsOutOfRange where the number of threads is not 1 to 64; then CallsOutOfRange where the number of calls is
-    /// not 1 to 1,024; Memory where an allocation failed. Nothing is kept after a refusal.
+    /// Refuses: ThreadsOutOfRange where the number of threads is not 1 to 64; then CallsOutOfRange where the number of
+    /// calls is not 1 to 1,024; Memory where an allocation failed. Nothing is kept after a refusal.
     pub fn open(
         alloc: Global,
         shape: Shape,
@@ -116,8 +116,8 @@ fn take_logs(alloc: Global, passes: Vec<StampPass>) -> Result<(Vec<Call>, Vec<Pa
 /// let history = gather(alloc, queue, vec![in alloc; pass]?)?; // all logged calls, by rising first stamps
 /// ```
 ///
-/// MissingPass where not each pass of the opening is there once, which is tested first; Memory where an allocation
-/// failed. The logs are then lost to the caller, and the items left in the queue always.
+/// Refuses: MissingPass where not each pass of the opening is there once, which is tested first; Memory where an
+/// allocation failed. The logs are then lost to the caller, and the items left in the queue always.
 pub fn gather(
     alloc: Global,
     queue: StampQueue,

@@ -43,7 +43,7 @@ impl<T> Ring<'_, T> {
         Word::of_bits(self.words.load::<NextStep>(seat, index))
     }
 
-    /// Puts `to` in the place of `from`, and answers the word that it found: `from` where it was won.
+    /// Puts `to` in the place of `from`, and returns the word that it found: `from` where it was won.
     #[inline(always)]
     pub(crate) fn compare_exchange(
         self,
@@ -82,7 +82,7 @@ impl<T> Ring<'_, T> {
         self.load(seat, ENDS).into()
     }
 
-    /// Moves the head on to the next segment, and answers the ends that it found: `ends` where it was won.
+    /// Moves the head on to the next segment, and returns the ends that it found: `ends` where it was won.
     #[inline(always)]
     pub(crate) fn move_head(self, seat: &mut ThreadSeat<T>, ends: Ends) -> Ends
         requires ends { IsEnds self.shape.now ends }
@@ -96,7 +96,7 @@ impl<T> Ring<'_, T> {
             .into()
     }
 
-    /// Moves the tail on to the next segment, and answers the ends that it found: `ends` where it was won.
+    /// Moves the tail on to the next segment, and returns the ends that it found: `ends` where it was won.
     #[inline(always)]
     pub(crate) fn move_tail(self, seat: &mut ThreadSeat<T>, ends: Ends) -> Ends
         requires ends { IsEnds self.shape.now ends }

@@ -63,7 +63,7 @@ impl<T> Ring<'_, T> {
 
     /// The same among `count` slots, two at a time, which takes fewer instructions where the row is long.
     ///
-    /// It is for the second row of a scan, which few scans come to but those of an empty segment.
+    /// It is for the second row of a scan, which few scans reach unless the segment is empty.
     #[inline(always)]
     fn scan_row_by_two<W: Wanted>(self, seat: &mut ThreadSeat<T>, first: usize, count: u32) -> Found
         requires row { MakesRow self W.stops first count seat.old }

@@ -77,7 +77,7 @@ impl StampQueue {
 }
 
 impl StampPass {
-    /// The number of the pass, which is that of its thread.
+    /// The number of the pass: its thread's.
     pub fn thread(&self) -> u32
         ensures { result ≡ self.now.pass.thread }
     {

@@ -22,7 +22,7 @@ pub struct Opening {
     pub threads: u32,
     /// How many stamped calls each of them may make: none of a plain queue.
     pub calls: u32,
-    /// How many tokens each of them begins with, each of which names a slot: none of a plain queue.
+    /// How many tokens each of them begins with; each names a slot. A plain queue has none.
     pub tokens: u32,
 }
 

@@ -1,4 +1,4 @@
--- The calls of a schedule: what each thread asked for and was answered, with the places of its first and last events.
+-- The calls of a schedule: what each thread asked for and what came back, with the places of its first and last events.
 use Rattle.std.specs.Prelude.{ℕ, ◌+◌, List, [], ◌∷◌, ◌++◌, length, get_or, set, replicate, Option, Some, None, Result}
 use Rattle.std.specs.Prelude.{Ok, Err}
 use Rattle.kfifo_words.specs.declared.shape.Shape.{Shape}

@@ -111,7 +111,7 @@ abbrev pub looks_of : (shape : Shape) (threads thread : ℕ) (call : Begin) (ans
 looks_of shape threads thread call answer old new whole =
     looks shape thread (after shape threads old) (whole.between ++ whole.last ∷ [])
 
--- a call is answered Full and Worn only with their causes, in every schedule
+-- a call returns Full and Worn only with their causes, in every schedule
 abbrev pub FullHasCause : Shape → ℕ → Type 0
 FullHasCause shape threads = (thread : ℕ) (call : Begin) (old new : List Event)
     (whole : CompleteExecution shape threads thread call Full old new)

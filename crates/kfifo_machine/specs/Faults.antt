@@ -1,4 +1,4 @@
--- The faults of a start, a run and an event, by their numbers; and what a run answers where a machine was not started.
+-- The faults of a start, a run and an event, by their numbers; and what a run returns where a machine was not started.
 use Rattle.std.specs.Prelude.{ℕ}
 use Rattle.kfifo_machine.specs.declared.event.NotEnabled.{NotEnabled}
 use Rattle.kfifo_machine.specs.declared.event.NotEnabled.TheVariants as N

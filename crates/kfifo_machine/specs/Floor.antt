@@ -37,8 +37,8 @@ answers shape one None (event ∷ events) = 0
 answers shape one (Some world) (event ∷ events) =
     counts one (step shape world event) + answers shape one (world_of (step shape world event)) events
 
--- The floor: where no two calls overlap, an enqueue is Full only where Done was answered over (n - 1) * probes times
--- more often than Got
+-- The floor: where no two calls overlap, an enqueue returns Full only where Done came over (n - 1) * probes times more
+-- often than Got
 abbrev pub Floor : Shape → ℕ → Type 0
 Floor shape threads = (events : List Event) (last : Event) (here world : World) → after shape threads events ≡ Some here
     → NoOverlap shape (Some (opening shape threads)) (events ++ last ∷ [])

@@ -66,7 +66,7 @@ abbrev pub access : Shape → Running → Access
 access shape (R.Enqueue item start left phase) = enqueue_access shape item start phase
 access shape (R.Dequeue start left phase) = dequeue_access shape start phase
 
--- the round ends: the next one begins, or the call answers Busy
+-- the round ends: the next one begins, or the call returns Busy
 abbrev pub enqueue_again : ℕ → ℕ → ℕ → Next
 enqueue_again item start left = if left == 1 then Answers Busy else Goes (R.Enqueue item start (left - 1) E.LoadEnds)
 

@@ -1,4 +1,4 @@
--- Rounds that were lost, and what a call that was answered Busy has behind it.
+-- Rounds that were lost, and what a call that returned Busy has behind it.
 use Rattle.std.specs.Prelude.{◌≡◌, ◌≢◌, ◌≤◌, ℕ, zero, suc, ◌+◌, ◌⊎◌, true, List, [], ◌∷◌, ◌++◌, Some}
 use Rattle.kfifo_words.specs.declared.shape.Shape.{Shape}
 use Rattle.kfifo_model.specs.declared.calls.Answer.TheVariants.{Busy}
@@ -95,8 +95,8 @@ pub record OtherWins (shape : Shape) (thread : ℕ) (here : World) (events : Lis
   pub other : event.thread ≢ thread
   pub wins : WinsSome shape world event
 
--- A call of n + 2 rounds or more is answered Busy only where another thread won an exchange between its first and its
--- last event
+-- A call of n + 2 rounds or more returns Busy only where another thread won an exchange between its first and its last
+-- event
 abbrev pub BusyIsDisturbed : Shape → ℕ → Type 0
 BusyIsDisturbed shape threads = (thread : ℕ) (call : Begin) (old new : List Event)
     (whole : CompleteExecution shape threads thread call Busy old new) (here : World)

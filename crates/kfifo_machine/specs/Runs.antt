@@ -11,7 +11,7 @@ use Rattle.kfifo_machine.specs.Machine.{World, begun, may_begin, step, after}
 abbrev pub event : ℕ → Option Begin → Event
 event thread begin = record { thread = thread; begin = begin }
 
--- the place from which a thread makes its step: that of its call, or the first of the call that it begins
+-- the place from which a thread makes its step: its call's, or the first of the call that it begins
 abbrev pub going : Shape → Option Running → Option Begin → Option Running
 going shape None None = None
 going shape None (Some begin) = if may_begin shape begin then begun begin else None
@@ -39,8 +39,9 @@ pub record BeginsOnce (thread : ℕ) (call : Begin) (events : List Event) : Type
   pub first : events ≡ event thread (Some call) ∷ others
   pub go_on : AllGoOn others
 
--- A complete execution of a call: what is new in the schedule are events of other threads, and own ones, of which the
--- first begins the call, no other begins one, and the last event of all is own and ends the call with this answer
+-- A complete execution of a call: what is new in the schedule are events of other threads, and own ones. The first of
+-- the own events begins the call, no other begins one, and the last event of all is own and ends the call with this
+-- answer
 pub record CompleteExecution (shape : Shape) (threads thread : ℕ) (call : Begin) (answer : Answer)
     (old new : List Event) : Type 0 where
   pub between : List Event

@@ -16,7 +16,19 @@ pub enum Begin {
     Tick,
 }
 
-/// One atomic step of one thread.
+/// One atomic step of one thread. A dequeue of an empty queue with k = 1 loads the ends word, a slot and the ends word:
+///
+/// ```rust
+/// let first = Event {
+///     thread: 0,
+///     begin: Some(Begin::Dequeue { start: 0, turns: 1 }),
+/// };
+/// let next = Event {
+///     thread: 0,
+///     begin: None,
+/// };
+/// let events = [first, next, next];
+/// ```
 #[derive(Clone, Copy, PartialEq, Eq, Debug)]
 pub struct Event {
     /// The thread that makes the step.
@@ -34,7 +46,7 @@ pub enum Outcome {
     Ended(Answer),
 }
 
-/// Why an event cannot be made. The first fault in this order is answered.
+/// Why an event cannot be made: the first of these faults that applies.
 #[derive(Clone, Copy, PartialEq, Eq, Debug, Error)]
 pub enum NotEnabled {
     /// 1: no thread has this number.

@@ -123,12 +123,16 @@ fn log_events(
     }
 }
 
-/// The calls of these events, by their first events, from the opening. The steps of a call are the
+/// Returns the calls of these events, by their first events, from the opening. The steps of a call are the
 /// places of its events, from 0.
 ///
-/// Refused as by `run`.
+/// ```rust
+/// kfifo_machine::history(alloc, shape, threads, events)
+/// ```
 ///
-/// The clause `floor` speaks of every schedule of this shape and number of threads, whatever is answered.
+/// Refuses what `run` refuses.
+///
+/// The clause `floor` speaks of every schedule of this shape and number of threads, whatever the call returns.
 pub fn history(
     alloc: Global,
     shape: Shape,

@@ -56,7 +56,7 @@ pub enum EnqueuePhase {
         filled: Word,
         held: Ends,
     },
-    /// Takes the item out again; a won undo answers Worn where `worn` says so.
+    /// Takes the item out again; a won undo returns Worn where `worn` says so.
     Undo {
         index: usize,
         filled: Word,
@@ -67,7 +67,7 @@ pub enum EnqueuePhase {
         ends: Ends,
         offset: u32,
     },
-    /// Loads the ends word again, a slot of the head's segment being filled.
+    /// Loads the ends word again, after a filled slot of the head's segment.
     ConfirmFull {
         ends: Ends,
     },
@@ -157,7 +157,7 @@ impl Access {
 pub enum Next {
     /// Its call goes on from this place.
     Goes(Running),
-    /// Its call answers.
+    /// Its call returns.
     Answers(Answer),
 }
 

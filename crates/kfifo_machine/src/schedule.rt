@@ -33,13 +33,17 @@ fn run_events(
     Ok(state)
 }
 
-/// The state after these events, from the opening.
+/// Returns the state after these events, from the opening.
 ///
-/// Refused, in this order: ThreadsOutOfRange where the number of threads is not 1 to 64; Memory where
-/// an allocation failed; NotASchedule with the place of the first event that is not enabled.
+/// ```rust
+/// kfifo_machine::run(alloc, shape, threads, events)
+/// ```
 ///
-/// The clauses from `no_wrap` on speak of every schedule of this shape and number of threads, whatever
-/// is answered.
+/// Refuses, in this order: ThreadsOutOfRange where the number of threads is not 1 to 64; Memory where an allocation
+/// failed; NotASchedule with the place of the first event that is not enabled.
+///
+/// The clauses from `no_wrap` on speak of every schedule of this shape and number of threads, whatever the call
+/// returns.
 pub fn run(alloc: Global, shape: Shape, threads: u32, events: &[Event]) -> Result<State, RunFault>
     ensures state { IfOk result (λ s. (s.shape ≡ shape) × (after shape threads events.now ≡ Some s.world)) }
     ensures threads { (result ≡ Err RunFault.ThreadsOutOfRange) ↔ ((threads ≡ 0) ⊎ (64 < threads)) }

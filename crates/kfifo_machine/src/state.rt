@@ -39,9 +39,13 @@ impl Model for State {
     ghost invariant = { λ s. IsState s.shape s.words.items s.places.items };
 }
 
-/// The opening state: every word is 0, every thread idle.
+/// Returns the opening state: every word is 0, every thread idle.
 ///
-/// ThreadsOutOfRange where the number of threads is not 1 to 64; Memory where an allocation failed.
+/// ```rust
+/// kfifo_machine::start(alloc, shape, threads)
+/// ```
+///
+/// Refuses: ThreadsOutOfRange where the number of threads is not 1 to 64; Memory where an allocation failed.
 pub fn start(alloc: Global, shape: Shape, threads: u32) -> Result<State, StartFault>
     ensures opening { IfOk result (λ s. (s.shape ≡ shape) × (s.world ≡ opening shape threads)) }
     ensures threads { (result ≡ Err StartFault.ThreadsOutOfRange) ↔ ((threads ≡ 0) ⊎ (64 < threads)) }
@@ -205,6 +209,10 @@ fn make_event(state: &mut State, event: Event) -> Result<Outcome, NotEnabled>
 }
 
 /// Makes one event, or says why it cannot be made and leaves the state as it was.
+///
+/// ```rust
+/// kfifo_machine::step(state, event)
+/// ```
 ///
 /// Each other thread stays at its place. One word changes at most, by a won exchange or a tick, and
 /// no word and no version falls.

@@ -145,7 +145,7 @@ impl EnqueueRound {
         })
     }
 
-    /// The round ends: the next one begins, or the call answers Busy.
+    /// The round ends: the next one begins, or the call returns Busy.
     fn again(self) -> Next
         requires { 0 < self.left }
         ensures { result ≡ enqueue_again self.item self.start self.left }
@@ -185,7 +185,7 @@ impl EnqueueRound {
         }
     }
 
-    /// After the ends word was loaded again, an empty slot having been found or none.
+    /// What follows the second load of the ends word, with an empty slot that was found or with none.
     fn rechecked(self, shape: &Shape, ends: Ends, found: Found, now: Ends) -> Next
         requires left { 0 < self.left }
         requires ends { IsEnds shape.now ends }
@@ -222,7 +222,7 @@ impl EnqueueRound {
         }
     }
 
-    /// After the ends word was loaded again, the item being in its slot.
+    /// What follows the third load of the ends word, with the item in its slot.
     fn placed(self, shape: &Shape, ends: Ends, index: usize, filled: Word, now: Ends) -> Next
         requires ends { IsEnds shape.now ends }
         requires now { IsEnds shape.now now }
@@ -317,7 +317,7 @@ impl EnqueueRound {
         }
     }
 
-    /// After the slot was loaded again, the item having been put into it.
+    /// What follows the load of the slot after the put.
     fn slot_reloaded(
         self,
         shape: &Shape,
@@ -340,7 +340,7 @@ impl EnqueueRound {
         }
     }
 
-    /// After an exchange that raises the version of the ends word.
+    /// What follows an exchange that raises the version of the ends word.
     fn head_held(self, shape: &Shape, index: usize, filled: Word, held: Ends, now: Ends) -> Next
         ensures { result ≡ enqueue_advance shape.now self.item self.start self.left
             (EnqueuePhase.HoldHead index filled held) now }
@@ -356,7 +356,7 @@ impl EnqueueRound {
         }
     }
 
-    /// After the ends word was loaded again, a slot of the head's segment being filled.
+    /// What follows the load of the ends word after a filled slot of the head's segment.
     fn full_confirmed(self, shape: &Shape, ends: Ends, now: Ends) -> Next
         requires left { 0 < self.left }
         ensures { result ≡ enqueue_advance shape.now self.item self.start self.left (EnqueuePhase.ConfirmFull ends)
@@ -438,7 +438,7 @@ impl DequeueRound {
         })
     }
 
-    /// The round ends: the next one begins, or the call answers Busy.
+    /// The round ends: the next one begins, or the call returns Busy.
     fn again(self) -> Next
         requires { 0 < self.left }
         ensures { result ≡ dequeue_again self.start self.left }
@@ -477,7 +477,7 @@ impl DequeueRound {
         }
     }
 
-    /// After the ends word was loaded again, a filled slot having been found or none.
+    /// What follows the second load of the ends word, with a filled slot that was found or with none.
     fn rechecked(self, shape: &Shape, ends: Ends, found: Found, now: Ends) -> Next
         requires left { 0 < self.left }
         ensures { result ≡ dequeue_advance shape.now self.start self.left (DequeuePhase.Recheck ends found) now }

@@ -56,7 +56,7 @@ CanStand None Dequeue = ⊥
 abbrev pub HasNoRepeats : List ℕ → Type 0
 HasNoRepeats order = EachPair (λ c d. c ≢ d) order
 
--- each number is that of a finished call or of an unfinished enqueue
+-- a finished call or an unfinished enqueue has each number
 abbrev pub HasOnlyCalls : List Call → List ℕ → Type 0
 HasOnlyCalls h order = AllByRecursion (λ c. CanStand (call h c).end (call h c).op) order
 

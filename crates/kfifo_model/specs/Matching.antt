@@ -14,7 +14,7 @@ pub record Bijects (a b : ℕ) : Type 0 where
   pub forth : (n : ℕ) → n < a → from (to n) ≡ n
   pub back : (n : ℕ) → n < b → to (from n) ≡ n
 
--- The calls of g are those of h under other numbers, all of them finished, and what precedes in g precedes in h.
+-- The calls of g are the calls of h under other numbers, all of them finished, and what precedes in g precedes in h.
 pub record Matches (g h : List Call) : Type 0 where
   -- a call's number in h by the one in g, and back
   pub numbers : Bijects (length g) (length h)

@@ -42,7 +42,7 @@ abbrev pub EndsFrom : ℕ → Option End → Type 0
 EndsFrom step (Some end) = step ≤ end.last
 EndsFrom step None = Unit {0}
 
--- its first step is greater than that of the call before it
+-- its first step is greater than the one of the call before it
 abbrev pub Rises : List Call → ℕ → Type 0
 Rises h n = (j : ℕ) → j + 1 ≡ n → (call h j).first < (call h n).first
 

@@ -1,4 +1,4 @@
--- What the checker answers.
+-- What the checker returns.
 use Rattle.std.specs.Prelude.{ℕ, ◌≡◌, ◌+◌, ◌<◌, List, [], ◌∷◌, Option, Some, None, map, take, length}
 use Rattle.kfifo_model.specs.declared.calls.Call.{Call}
 use Rattle.kfifo_model.specs.declared.orders.Verdict.{Verdict}

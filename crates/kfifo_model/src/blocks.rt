@@ -1,4 +1,4 @@
-//! Calls that got an item, in blocks by when it was put, so that those which overtake an item are counted fast.
+//! Calls that got an item, in blocks by when it was put, so that the calls that overtake an item are counted fast.
 ghost use Rattle.std.specs.Prelude.{ℕ, ◌≡◌, ◌≤◌, ◌<◌, List, map, length, IfOk, All, IsPermutation, count_by};
 ghost use Rattle.std.specs.List.{flat_map};
 ghost use Rattle.std.specs.List.Sorted.{IsNonDecreasingBy};
@@ -17,8 +17,8 @@ const BLOCK: usize = 512;
 
 /// Rivals, with the first and the last of the steps at which their items were put.
 ///
-/// Where all of them were put after an item, those that overtake it are told by the steps at which they ended
-/// alone, so a search among these finds their number.
+/// If all of them were put after an item, their last steps alone tell which of them overtake it. So a search among
+/// these finds how many do.
 ///
 /// Clauses see it as the list of its rivals.
 #[derive(Drop)]

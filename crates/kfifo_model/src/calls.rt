@@ -1,4 +1,4 @@
-//! A call of a queue, and what it was answered.
+//! A call of a queue, and what it returned.
 ghost use Rattle.std.specs.Prelude.{◌≡◌};
 ghost use Rattle.kfifo_model.specs.Words.{answer_word, op_word};
 
@@ -26,7 +26,7 @@ impl Op {
     }
 }
 
-/// What a call was answered.
+/// What a call returned.
 #[derive(Clone, Copy, Debug, PartialEq, Eq)]
 pub enum Answer {
     /// An enqueue's item is in the queue, or was already taken.
@@ -65,11 +65,24 @@ impl Answer {
 pub struct End {
     /// The place of the call's last step.
     pub last: u64,
-    /// What the call was answered.
+    /// What the call returned.
     pub answer: Answer,
 }
 
 /// A call, from its first step on. It is unfinished where it has no end.
+///
+/// ```rust
+/// let end = End { last, answer };
+/// Call {
+///     thread,
+///     op,
+///     first,
+///     end: Some(end),
+/// }
+/// ```
+///
+/// Steps are numbers of one clock that all threads share. A call precedes another if its last step is below the other's
+/// first.
 #[derive(Clone, Copy, Debug, PartialEq, Eq)]
 pub struct Call {
     /// The number of the thread that makes the call.

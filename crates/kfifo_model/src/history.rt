@@ -9,7 +9,7 @@ use std::alloc::{AllocError, AllocFailed};
 use std::marker::Model;
 use thiserror::Error;
 
-/// What is wrong with a record, or with a list of calls: the first fault. Those of one call carry its number.
+/// What is wrong with a record, or with a list of calls: the first fault. A fault of one call carries its number.
 #[derive(Clone, Copy, Debug, PartialEq, Eq, Error)]
 pub enum RecordFault {
     /// 1: the record is no array.
@@ -30,7 +30,7 @@ pub enum RecordFault {
     /// 6: the last step is less than the first.
     #[error("call {0} has a last step below its first")]
     EndsEarly(usize),
-    /// 7: the first step is not greater than that of the call before.
+    /// 7: the first step is not greater than the one of the call before.
     #[error("call {0} has a first step that is not above that of the call before it")]
     OutOfOrder(usize),
     /// 8: an earlier call of the thread is unfinished, or does not end before this first step.
@@ -95,7 +95,7 @@ impl<T: Drop> From<AllocFailed<T>> for RecordFault {
     }
 }
 
-/// Calls by rising first step, of which those of one thread do not overlap.
+/// Calls by rising first step. Calls of one thread do not overlap.
 #[derive(Drop)]
 pub struct History {
     calls: Vec<Call>,
@@ -194,7 +194,17 @@ fn first_fault(calls: &[Call]) -> Option<RecordFault>
 }
 
 impl History {
-    /// The calls as a history, or their first fault, one of 4 to 8. It takes no memory.
+    /// Returns the calls as a history. They have to be in order, by rising first step. It takes no memory.
+    ///
+    /// ```rust
+    /// let history = History::new(made)?;
+    /// ```
+    ///
+    /// Refuses the calls for the first call that has a fault, and for its first fault. Each fault carries the number of
+    /// the call, from 0: NumberOutOfRange where the thread is not 0 to 63 or an item not 1 to 2^24 - 1; WrongAnswer
+    /// where the operation has no such answer; EndsEarly where the last step is below the first; OutOfOrder where the
+    /// first step is not above the one of the call before; Overlap where an earlier call of the thread has not ended
+    /// before it.
     pub fn new(calls: Vec<Call>) -> Result<Self, RecordFault>
         ensures { MatchResult result (λ h. (h ≡ calls.items) × IsHistory calls.items) (IsFault calls.items) }
     {

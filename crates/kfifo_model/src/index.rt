@@ -35,7 +35,7 @@ pub struct Overtaken {
 /// Why nothing was counted.
 #[derive(Clone, Copy, Debug, PartialEq, Eq, Error)]
 pub enum MeasureFault {
-    /// 2, as of one call: two enqueues, each Done or unfinished, carry one item, or two dequeues got one.
+    /// 2, as for one call: two enqueues, each Done or unfinished, carry one item, or two dequeues got one.
     #[error("an item is repeated: it was put or taken twice")]
     RepeatedItem,
     /// 3: an allocation failed.
@@ -204,7 +204,7 @@ fn measure_calls(
     ensures { IfOk result (λ v. v.items ≡ measured calls.now (length calls.now)) }
 {
     let mut rivals = rivals(alloc, calls, puts)?;
-    // Blocks of rivals that were put soon after each other: of all blocks one at most is counted one by one.
+    // Blocks of rivals that were put soon after each other: at most one of all blocks is counted one by one.
     rivals.sort_by_key(|rival| rival.put_first)?;
     let blocks = blocks_of(alloc, &rivals)?;
     let mut found = Vec::new(alloc);
@@ -228,7 +228,21 @@ fn has_done(calls: &[Call]) -> bool
     false
 }
 
-/// The certain overtakings of each item that a finished enqueue put with answer Done, by rising call number.
+/// Returns for each finished enqueue that returned Done, by rising call number, how many items certainly overtake its
+/// item. Such an item was put by a call that began after this enqueue had ended. It was taken by a call that had ended
+/// when this item's dequeue began, or this item was never taken.
+///
+/// ```rust
+/// for overtaken in measure(alloc, &history)? {
+///     assert!(rt;
+///         overtaken.count < shape.k() as usize,
+///         "{shape:?} {overtaken:?}"
+///     );
+/// }
+/// ```
+///
+/// Refuses: RepeatedItem where there is such an enqueue, and two enqueues that are Done or unfinished carry one item or
+/// two dequeues got one; Memory where an allocation failed.
 pub fn measure(alloc: Global, history: &History) -> Result<Vec<Overtaken>, MeasureFault>
     ensures { MatchResult result
         (λ v. (v.items ≡ measured history.now (length history.now))

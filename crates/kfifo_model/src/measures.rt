@@ -54,7 +54,7 @@ impl From<AllocError> for RankFault {
 /// Why an item's overtakings are not counted.
 #[derive(Clone, Copy, Debug, PartialEq, Eq, Error)]
 pub enum OvertakenFault {
-    /// 1: no call of the history has the number, or it is no finished enqueue that was answered Done.
+    /// 1: no call of the history has the number, or it is no finished enqueue that returned Done.
     #[error("the number is not that of a finished enqueue that was answered done")]
     NotAnEnqueue,
     /// 2: two enqueues, each Done or unfinished, carry one item, or two dequeues got one.
@@ -144,7 +144,7 @@ fn is_legal(alloc: Global, calls: &[Call], k: usize, order: &[usize]) -> Result<
 
 /// For each Got of a legal order in turn, the place in the list of the item that it removes.
 ///
-/// Refused: NotLegal exactly where the order is no legal one of the history; Memory where an allocation failed.
+/// Refuses: NotLegal exactly where the order is no legal one of the history; Memory where an allocation failed.
 pub fn ranks(
     alloc: Global,
     history: &History,
@@ -324,8 +324,8 @@ fn overtaken_among(calls: &[Call], call: usize) -> Result<usize, OvertakenFault>
 
 /// How many overtakings of the item that this enqueue put are certain. It takes no memory.
 ///
-/// Refused, in this order: NotAnEnqueue where the number is not that of a finished enqueue that was answered Done;
-/// RepeatedItem where an item was put or taken twice.
+/// Refuses, in this order: NotAnEnqueue where no finished enqueue that returned Done has the number; RepeatedItem where
+/// an item was put or taken twice.
 pub fn overtaken(history: &History, call: usize) -> Result<usize, OvertakenFault>
     ensures { MatchResult result
         (λ n. IsDoneEnqueue history.now call × HasDistinctItems history.now

@@ -21,7 +21,7 @@ pub enum Verdict {
     Legal,
     /// 1: a number stands twice.
     Repeats,
-    /// 2: a number is that of no call, or of an unfinished dequeue.
+    /// 2: no call has a number, or an unfinished dequeue has it.
     NotACall,
     /// 3: a finished call is missing.
     LeavesOut,
@@ -72,7 +72,7 @@ fn distinct_numbers(alloc: Global, order: &[usize]) -> Result<Option<BTreeSet<us
     Ok(Some(seen))
 }
 
-/// Whether each number is that of a finished call or of an unfinished enqueue.
+/// Whether a finished call or an unfinished enqueue has each number.
 fn has_only_calls(calls: &[Call], order: &[usize]) -> bool
     ensures { IsTrue result ↔ HasOnlyCalls calls.now order.now }
 {
@@ -236,8 +236,15 @@ pub(crate) fn judge(
     }
 }
 
-/// Judges an order of a history's calls, given by their numbers, for a queue that may give any of its k oldest
-/// items. The time is near linear in the lengths of both, times k, which is 1 to 64.
+/// Returns whether an order of a history's calls is legal for a queue that may give any of its k oldest items, and if
+/// not, its first fault. The order has the numbers of the calls, from 0. k is 1 to 64.
+///
+/// ```rust
+/// let verdict = check_order(alloc, history, k, order)?;
+/// ```
+///
+/// The time is near linear in the lengths of history and order, times k. It takes memory for the numbers of the order
+/// and for the items of the queue. An error means that an allocation failed.
 pub fn check_order(
     alloc: Global,
     history: &History,

@@ -364,8 +364,18 @@ fn read_members(alloc: Global, members: &[Value]) -> Result<Vec<Call>, RecordFau
     Ok(calls)
 }
 
-/// The history that a record says, or its first fault: 1 and 2 before all others, then those of the calls in turn,
-/// each call's from 3 to 8; 9 where an allocation failed.
+/// Returns the history that a record holds. `alloc`, the runtime's allocator, makes room for its calls.
+///
+/// ```rust
+/// let value = Value::from_str(rt.alloc(), text.as_str())?;
+/// let history = read_history(rt.alloc(), &value)?;
+/// ```
+///
+/// A record is an array of at most 65,536 objects, one for each call, as
+/// `{"thread":0,"op":"enq","item":1,"first":0,"last":8,"answer":"done"}`.
+///
+/// Refuses a record for its first fault: NotAList where it is no array; TooMany where it has over 65,536 members; then,
+/// by the members in turn, NotACall, or as `History::new`; Memory where an allocation failed.
 pub fn read_history(alloc: Global, json: &Value) -> Result<History, RecordFault>
     ensures { MatchResult result (λ h. IsRecordOf (view json.now) h × IsHistory h) (IsReadFault (view json.now)) }
 {

@@ -1,9 +1,9 @@
 //! The search for a legal order.
 //!
-//! Beginnings of orders are built level by level, one call more in each. Of a beginning only the calls done and the
-//! items left count, so equal ones are kept once, and an item that no call takes any more is as good as any other
-//! such item. A call that is legal and changes nothing goes at once. A beginning from which some dequeue can no
-//! longer get its item is dropped.
+//! The search builds beginnings of orders level by level, one call more in each. Of a beginning only the calls done and
+//! the items left count, so equal ones are kept once. An item that no call takes any more is as good as any other such
+//! item. A call that is legal and changes nothing goes at once. A beginning from which some dequeue can no longer get
+//! its item is dropped.
 ghost use Rattle.std.specs.Prelude.{ℕ, ◌≡◌, ◌≤◌, ◌<◌, ◌+◌, ◌↔◌, ◌⊎◌, Bool, true, false, slice_set, replicate, List, []};
 ghost use Rattle.std.specs.Prelude.{◌∷◌};
 ghost use Rattle.std.specs.Prelude.{length, All, Contains, Any, IsTrue, IsSome, IfSome, IfOk, OnOk, MatchOption};
@@ -471,7 +471,16 @@ fn search(alloc: Global, calls: &[Call], k: usize) -> Result<bool, AllocError>
     }
 }
 
-/// Whether some order of the history is legal for a queue that may give any of its k oldest items.
+/// Returns whether the history has a legal order for a queue that may give any of its k oldest items. k is 1 to 64.
+///
+/// ```rust
+/// let history = History::new(made)?;
+/// assert!(rt; has_order(rt.alloc(), &history, k)?, "{shape:?} {round}");
+/// ```
+///
+/// It tries all orders, so it takes at most 12 calls: `judge` of `kfifo_verdict` takes more, and may leave the answer
+/// open. Refuses: TooLong where the history has over 12 calls, unfinished ones counted; Memory where an allocation
+/// failed.
 pub fn has_order(alloc: Global, history: &History, k: u32) -> Result<bool, SearchFault>
     requires { (1 ≤ k) × (k ≤ 64) }
     ensures { MatchResult result (λ found. (length history.now ≤ 12) × (IsTrue found ↔ HasOrder k history.now))

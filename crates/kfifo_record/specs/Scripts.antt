@@ -46,7 +46,7 @@ abbrev pub MakesInTurn : List Begin → Logged → Logged → Type 0
 MakesInTurn [] old new = new ≡ old
 MakesInTurn (begin ∷ script) old new = (next : Logged) × MakesOne begin old next × MakesInTurn script next new
 
--- passes make the calls of scripts, each those of the script at its place
+-- each pass makes the calls of the script at its place
 abbrev pub EachMakes : List (List Begin) → List Logged → List Logged → Type 0
 EachMakes [] [] [] = Unit {0}
 EachMakes (script ∷ scripts) (old ∷ olds) (new ∷ news) = MakesInTurn script old new × EachMakes scripts olds news
@@ -69,8 +69,8 @@ pub record MayRun (queue : OpenQueue) (scripts : List (List Begin)) (pass : Logg
   pub few : queue.opened.calls ≤ 1024
 
 -- What the run of scripts came to: of one queue pass t made the calls of script t in turn, each between two stamps. The
--- history has them by rising first stamps, all of them ended: those of thread t are script t in its order, and no other
--- thread made one. It has a legal order, and little overtakes (`Gathers`)
+-- history has them by rising first stamps, all of them ended. The calls of thread t are script t in its order, and no
+-- other thread made one. It has a legal order, and little overtakes (`Gathers`)
 pub record IsRecord (shape : Shape) (scripts : List (List Begin)) (h : List Call) : Type 0 where
   pub queue : OpenQueue
   pub fresh : List Logged

@@ -26,10 +26,10 @@ pub fn first_over(scripts: &[Vec<Begin>], count: u32) -> Option<usize>
     None
 }
 
-/// The scripts made so many times over: in repetition r, from 0, each item is that of the script plus r times
-/// the greatest item of all scripts, so that where no two enqueues of the scripts have one item, no two of these have.
+/// The scripts made so many times over. In repetition r, from 0, each item is the one of the script plus r times the
+/// greatest item of all scripts. So if no two enqueues of the scripts have one item, no two of these have.
 ///
-/// No item may go over 2^24 - 1: `first_over` tests it.
+/// No item may go over 2^24 - 1: `first_over` tests it. An error means that an allocation failed.
 pub fn repeat_scripts(
     alloc: Global,
     scripts: &[Vec<Begin>],

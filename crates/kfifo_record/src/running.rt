@@ -15,8 +15,8 @@ use std::alloc::{AllocError, Global};
 use std::thread::{Threads, map_vec};
 
 /// Runs scripts on one queue of this shape, and returns the record of the run. A thread of its own runs script t, call
-/// by call, with pass t. The record has the calls of all threads by rising first stamps, those of thread t being script
-/// t in its order: at most 65,536 in all, as many as a record may have.
+/// by call, with pass t. The record has the calls of all threads by rising first stamps. The calls of thread t are
+/// script t in its order: at most 65,536 in all, as many as a record may have.
 ///
 /// ```rust
 /// let history = record_scripts(threads, alloc, shape, scripts.as_slice(), &OpenGate)?;
@@ -25,8 +25,8 @@ use std::thread::{Threads, map_vec};
 /// Before call number c of script t, from 1, its worker passes `gate` with t and c. One of the workers is the calling
 /// thread. Where no thread can be made, scripts run one after the other. The call returns if the gate's calls return.
 ///
-/// ThreadsOutOfRange where there are not 1 to 64 scripts; then CallsOutOfRange where one has over 1,024 calls; Memory
-/// where an allocation failed. After a refusal nothing is kept, and all workers that were started have ended.
+/// Refuses: ThreadsOutOfRange where there are not 1 to 64 scripts; then CallsOutOfRange where one has over 1,024 calls;
+/// Memory where an allocation failed. After a refusal nothing is kept, and all workers that were started have ended.
 pub fn record_scripts<R: Threads + Sync, G: Gate + Sync>(
     threads: &R,
     alloc: Global,

@@ -29,7 +29,7 @@ abbrev pub is_undoing : Option Running → Bool
 is_undoing (Some (R.Enqueue item start left (E.Undo index filled worn))) = true
 is_undoing other = false
 
--- an undo that came to this is won: one that is lost answers Done
+-- an undo that came to this is won: one that is lost returns Done
 abbrev pub takes_back : Bool → Outcome → Bool
 takes_back undoing (Ended Done) = false
 takes_back undoing other = undoing

@@ -30,7 +30,7 @@ impl Model for Book {
 }
 
 impl Book {
-    /// Of threads that have made no event, with room for so many calls.
+    /// Makes the book of threads that have made no event, with room for so many calls.
     pub fn new(alloc: Global, threads: usize, room: usize) -> Result<Book, AllocError>
         ensures log { IfOk result (λ b. b.log ≡ blank threads) }
         ensures room { IfOk result (λ b. room ≤ b.room) }

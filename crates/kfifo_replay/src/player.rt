@@ -26,8 +26,16 @@ pub const MAX_SCRIPT_CALLS: usize = 64;
 
 /// A replay of scripts, one for each thread, that has made the events of the picks that it was fed.
 ///
+/// ```rust
+/// let mut replay = Replay::open(alloc, shape, scripts)?;
+/// replay.feed(picks)?; // these picks, one by one
+/// replay.feed_many(thread, count)?; // one pick so many times, with no list
+/// replay.finish(stopped)?; // all threads but this one go to the ends of their scripts
+/// let report = replay.report(alloc)?;
+/// ```
+///
 /// It keeps the machine's state, one entry for each call of the scripts, and what the order of the calls
-/// needs: no list of picks or events. All its room is made by `open`, so no pick takes memory.
+/// needs, but no list of picks or events. `open` makes all its room, so no pick takes memory.
 #[derive(Drop)]
 pub struct Replay {
     shape: Shape,
@@ -142,10 +150,19 @@ fn is_undoing(place: &Option<Running>) -> bool
 }
 
 impl Replay {
-    /// The replay of these scripts, script i being that of thread i, with no pick.
+    /// Returns the replay of these scripts with no pick. Script i lists the calls of thread i. These are two threads
+    /// that dequeue once, from slot 0, and give up after one round:
     ///
-    /// Refused, in this order: BadScript where there is no script, or there are over 64, or one has over
-    /// 64 calls, a tick, or a call out of range; Memory where an allocation failed.
+    /// ```rust
+    /// let mut scripts = Vec::new(alloc);
+    /// for _script in 0..2 {
+    ///     let script = vec![in alloc; Begin::Dequeue { start: 0, turns: 1 }].ok()?;
+    ///     scripts.push(script).ok()?;
+    /// }
+    /// ```
+    ///
+    /// `alloc`, the runtime's allocator, makes all the room. Refuses: BadScript where there is no script, or there are
+    /// over 64, or one has over 64 calls, a tick, or a call out of range; then Memory where an allocation failed.
     pub fn open(alloc: Global, shape: Shape, scripts: &[Vec<Begin>]) -> Result<Replay, ReplayFault>
         ensures opened { IfOk result (λ r. StandsFor shape (map (λ script. script.items) scripts.now) [] r) }
         ensures refused { (result ≡ Err ReplayFault.BadScript)
@@ -215,7 +232,7 @@ impl Replay {
         self.event(thread, &self.linearizer.place(thread))
     }
 
-    /// Makes the event of this pick, or answers false where it is refused, and stays as it was.
+    /// Makes the event of this pick, or returns false where it is refused, and stays as it was.
     pub(crate) fn pick(&mut self, thread: u32) -> bool
         ensures made { result ≡ true → OfItsPicks self.old
             (λ shape scripts earlier. StandsFor shape scripts (earlier ++ thread ∷ []) self.new) }
@@ -241,12 +258,11 @@ impl Replay {
         true
     }
 
-    /// Makes the events of these picks, each of which names the thread that makes the next event: an
-    /// idle thread begins the next call of its script, and a thread inside a call goes on.
+    /// Makes the events of these picks. Each pick names the thread that makes the next event: an idle thread begins the
+    /// next call of its script, and a thread inside a call goes on.
     ///
-    /// BadPick with the place among these picks, from 0, of the first one that names no script or a
-    /// thread whose script has ended: the picks before it are made, it and the later ones are not. It
-    /// takes no memory.
+    /// Refuses: BadPick with the place among these picks, from 0, of the first one that names no script or a thread
+    /// whose script has ended: the picks before it are made, it and the later ones are not. It takes no memory.
     pub fn feed(&mut self, picks: &[u32]) -> Result<(), ReplayFault>
         ensures made { OnOk result (OfItsPicks self.old
             (λ shape scripts earlier. StandsFor shape scripts (earlier ++ picks.now) self.new)) }
@@ -261,7 +277,7 @@ impl Replay {
         Ok(())
     }
 
-    /// As `feed` of a list with this pick so many times.
+    /// Makes the events of this pick so many times, and refuses as `feed` does with such a list.
     pub fn feed_many(&mut self, pick: u32, count: u32) -> Result<(), ReplayFault>
         ensures made { OnOk result (OfItsPicks self.old
             (λ shape scripts earlier. StandsFor shape scripts (earlier ++ replicate count pick) self.new)) }
@@ -286,7 +302,7 @@ impl Replay {
 
     /// By rising number, each thread but the stopped one makes all events that its script still has.
     ///
-    /// BadScript where no script has the number of the stopped thread; then nothing changes. It takes no
+    /// Refuses: BadScript where no script has the number of the stopped thread; then nothing changes. It takes no
     /// memory.
     pub fn finish(&mut self, stopped: u32) -> Result<(), ReplayFault>
         ensures finished { OnOk result (OfItsPicks self.old

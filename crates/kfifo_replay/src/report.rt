@@ -49,8 +49,8 @@ pub(crate) fn count_unfinished(calls: &[Call], order: &[usize]) -> u32
 
 /// The report of these picks of these scripts.
 ///
-/// Refused, in this order: BadScript as by `Replay::open`; Memory where an allocation failed; BadPick
-/// with the place of the first pick that names no script or a thread whose script has ended.
+/// Refuses, in this order: BadScript as by `Replay::open`; Memory where an allocation failed; BadPick with the place of
+/// the first pick that names no script or a thread whose script has ended.
 pub fn replay(
     alloc: Global,
     shape: Shape,

@@ -20,8 +20,16 @@ pub const MAX_STEPS: usize = 65_536;
 
 /// A replay that also keeps what each of its first 65,536 events did.
 ///
-/// Beside the replay it keeps a machine of its own, which makes the same events, and so has the words
-/// that they find. All room is made by `open`, so no pick takes memory.
+/// ```rust
+/// let mut tracer = Tracer::open(alloc, shape, scripts)?;
+/// tracer.finish(thread)?;
+/// push_trace(&mut text, shape.k(), tracer.steps())?;
+/// ```
+///
+/// Here `push_trace` of `kfifo_cli_texts` writes a line for each step.
+///
+/// Beside the replay it keeps a second machine that makes the same events, and so has the words that they
+/// find. `open` makes all the room, some 10 MB for the steps, so no pick takes memory.
 #[derive(Drop)]
 pub struct Tracer {
     replay: Replay,
@@ -63,7 +71,7 @@ fn keep<T: Copy>(steps: &mut Vec<T>, step: T)
 }
 
 impl Tracer {
-    /// The tracer of these scripts, with no pick. Refused as by `Replay::open`.
+    /// Returns the tracer of these scripts, with no pick. It refuses what `Replay::open` refuses.
     pub fn open(alloc: Global, shape: Shape, scripts: &[Vec<Begin>]) -> Result<Tracer, ReplayFault>
         ensures opened { IfOk result (λ t. Traces shape (map (λ script. script.items) scripts.now) [] t) }
         ensures refused { (result ≡ Err ReplayFault.BadScript)
@@ -82,7 +90,7 @@ impl Tracer {
         })
     }
 
-    /// Makes the event of this pick, or answers false where it is refused, and stays as it was.
+    /// Makes the event of this pick, or returns false where it is refused, and stays as it was.
     fn pick(&mut self, thread: u32) -> bool
         ensures made { result ≡ true → OfTracedPicks self.old
             (λ shape scripts earlier. Traces shape scripts (earlier ++ thread ∷ []) self.new) }
@@ -103,7 +111,7 @@ impl Tracer {
         true
     }
 
-    /// Makes the events of these picks, as `Replay::feed`.
+    /// Makes the events of these picks, and refuses one, as `Replay::feed`.
     pub fn feed(&mut self, picks: &[u32]) -> Result<(), ReplayFault>
         ensures made { OnOk result (OfTracedPicks self.old
             (λ shape scripts earlier. Traces shape scripts (earlier ++ picks.now) self.new)) }

@@ -1,6 +1,6 @@
--- Evidence that a history has no legal order: a few of its calls because of which each order fails. The four kinds are
--- those by which Henzinger, Sezgin and Vafeiadis part the ways in which a queue can fail ("Aspect-oriented
--- linearizability proofs", CONCUR 2013), with k older items in place of one.
+-- Evidence that a history has no legal order: a few of its calls that make each order fail. The four kinds are those by
+-- which Henzinger, Sezgin and Vafeiadis part the ways in which a queue can fail ("Aspect-oriented linearizability
+-- proofs", CONCUR 2013), with k older items in place of one.
 use Rattle.std.specs.Prelude.{ℕ, zero, suc, ◌≡◌, ◌+◌, ◌<◌, ◌≤◌, Bool, cond, List, length}
 use Rattle.kfifo_model.specs.declared.calls.Call.{Call}
 use Rattle.std.specs.List.{AllByRecursion}
@@ -14,7 +14,7 @@ use Rattle.kfifo_model.specs.Validity.{EndsFrom}
 abbrev pub Puts : List Call → ℕ → ℕ → Type 0
 Puts h x c = does h c ≡ Adds x
 
--- a dequeue that was answered Got(x)
+-- a dequeue that returned Got(x)
 abbrev pub Gets : List Call → ℕ → ℕ → Type 0
 Gets h x c = does h c ≡ Takes x
 
@@ -55,8 +55,8 @@ IsNeverPut h get = (x : ℕ) × Gets h x get × ((p : ℕ) → Puts h x p → Pr
 abbrev pub IsTakenTwice : List Call → ℕ → Type 0
 IsTakenTwice h get = (x : ℕ) × Gets h x get × ((g : ℕ) → Gets h x g → g ≤ get) × (puts_of h x < gets_of h x)
 
--- 3: A call was answered Empty, and at each of its moments the item of one of these puts was certainly there. The item
--- of each of these puts was there at some moment of the call; a moment may have several.
+-- 3: A call returned Empty, and at each of its moments the item of one of these puts was certainly there. The item of
+-- each of these puts was there at some moment of the call; a moment may have several.
 pub record IsNotEmpty (h : List Call) (c : ℕ) (puts : List ℕ) : Type 0 where
   pub empty : does h c ≡ FindsNone
   pub covered : (moment : ℕ) → IsMomentOf h c moment → (p : ℕ) × IsIn p puts × IsCertainlyThere h p moment

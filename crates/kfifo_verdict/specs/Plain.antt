@@ -93,7 +93,7 @@ pub record IsItemTurn (h : List Call) (ps : List Presence) (line : List (ℕ × 
   pub get : (presence ps p).gone < length h → (latest : ℕ) × IsLatest ps line i latest
       × (turn ts (presence ps p).gone ≡ record { moment = latest; rank = length line + i })
 
--- the turns of all calls, those of the items at the first n places of the line among them
+-- the turns of all calls, among them the turns of the items at the first n places of the line
 pub record AreTurns (h : List Call) (ps : List Presence) (line : List (ℕ × ℕ × ℕ)) (n : ℕ)
     (ts : List Turn) : Type 0 where
   pub sized : length ts ≡ length h

@@ -96,7 +96,7 @@ fn taken_twice(calls: &[Call], puts: &Tallies, gets: &Tallies) -> Option<usize>
     None
 }
 
-/// For each call, of the items that are certainly there from that call on the one that stays longest.
+/// For each call, the item that stays longest of all that are certainly there from that call on.
 fn stays_from(
     alloc: Global,
     calls: &[Call],
@@ -121,7 +121,7 @@ fn stays_from(
     Ok(stays)
 }
 
-/// For each call, of the items that are certainly there from that call or an earlier one on the one that stays longest.
+/// For each call, the item that stays longest of all that are certainly there from that call or an earlier one on.
 pub(crate) fn longest_stays(
     alloc: Global,
     calls: &[Call],
@@ -160,7 +160,7 @@ pub(crate) enum Covered {
     Gap(usize),
 }
 
-/// Puts of items of which one is certainly there at each moment of a call, or a moment at which none is.
+/// Puts whose items cover a call, one certainly there at each moment of it, or a moment at which none is.
 pub(crate) fn cover(
     alloc: Global,
     calls: &[Call],
@@ -186,7 +186,7 @@ pub(crate) fn cover(
     Ok(Covered::Whole(puts))
 }
 
-/// The first call that was answered Empty while there were items.
+/// The first call that returned Empty while there were items.
 fn not_empty(
     alloc: Global,
     calls: &[Call],

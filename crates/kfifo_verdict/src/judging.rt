@@ -12,8 +12,8 @@ use kfifo_model::{Call, History};
 use std::alloc::{AllocError, Global};
 
 /// Returns a verdict on the history, for a queue that may give any of its k oldest items: an order that is legal, found
-/// with at most `tries` choices undone; or evidence that there is none; or neither. It is never neither, whatever
-/// `tries` is, where k is 1, each call has ended, and each item that is put is put by one call and got by at most one.
+/// with at most `tries` choices undone; or evidence that there is none; or neither. With k = 1 it is one of the two,
+/// whatever `tries` is, if each call has ended and each item that is put is put by one call and got by at most one.
 ///
 /// ```rust
 /// let judgement = judge(alloc, history, k, tries)?;
@@ -62,7 +62,8 @@ fn lower_bound(alloc: Global, calls: &[Call]) -> Result<usize, AllocError>
 
 /// Returns bounds of the least k for which the history has a legal order. It is at least one more than the greatest
 /// number of items that are certainly older and there where a single item is got. It is at most the least k, from there
-/// to 64, for which `witness` finds an order.
+/// to 64, for which `witness` finds an order with `tries`; a smaller k may have an order that `witness` does not find.
+/// An error means that an allocation failed.
 pub fn least_k(alloc: Global, history: &History, tries: u64) -> Result<Bounds, AllocError>
     ensures { IfOk result (AreBounds history.now) }
 {

@@ -1,4 +1,4 @@
-//! Verdicts on histories of any length: evidence because of which a history has no legal order, or a legal order.
+//! Verdicts on histories of any length: a legal order, or evidence that there is none.
 #![tactic(auto)]
 
 mod deeds;

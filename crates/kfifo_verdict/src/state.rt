@@ -284,8 +284,8 @@ impl State {
         Ok(())
     }
 
-    /// Of the waiting gets of an item the one that ends first, other than this call. Where any of them may go it can be
-    /// this one: in a legal order in which another goes first the two can change places.
+    /// The waiting get of an item that ends first, other than this call. Where any of them may go it can be this one:
+    /// in a legal order in which another goes first the two can change places.
     pub(crate) fn get_that_waits(&self, facts: &Facts, item: usize, but: usize) -> Option<usize> {
         let mut best: Option<usize> = None;
         let mut soonest = u64::MAX;

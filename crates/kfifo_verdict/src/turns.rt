@@ -23,7 +23,7 @@ use std::alloc::{AllocError, Global};
 /// The place of an item in the line: by when it has to be in, by when out, and its put.
 type Place = (usize, usize, usize);
 
-/// When a call has its turn: at a moment, and of those at one moment by rising rank.
+/// When a call has its turn: at a moment, and at one moment by rising rank.
 #[derive(Clone, Copy)]
 pub(crate) struct Turn {
     /// The moment: a call's number, for when it begins, or the number of calls, for the end.
@@ -134,7 +134,7 @@ fn idle_turns(
     Ok(turns)
 }
 
-/// The turns of all calls, from those of the calls that neither put nor get an item.
+/// The turns of all calls, from the turns of the calls that neither put nor get an item.
 fn with_items(calls: &[Call], presences: &[Presence], line: &[Place], idle: Vec<Turn>) -> Vec<Turn>
     requires history { IsHistory calls.now }
     requires plain { IsPlain calls.now }

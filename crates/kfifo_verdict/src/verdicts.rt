@@ -1,13 +1,13 @@
 //! What can be said of a history.
 
-/// A few calls because of which a history has no legal order. Calls are named by their numbers.
+/// A few calls that leave a history no legal order. Calls are named by their numbers.
 #[derive(Debug, PartialEq, Eq, Drop)]
 pub enum Evidence {
     /// 1: this call got an item that no call before its end put.
     NeverPut(usize),
     /// 2: this call, the last that got its item, got one that was taken more often than put.
     TakenTwice(usize),
-    /// 3: this call was answered Empty while there were items.
+    /// 3: this call returned Empty while there were items.
     NotEmpty {
         /// The call.
         empty: usize,

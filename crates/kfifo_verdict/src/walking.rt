@@ -7,8 +7,8 @@
 //! empty front, and that no put has ended whose item is there.
 //!
 //! So few choices are left: which put of an item that was put more than once, which item leaves the front, and when an
-//! Empty goes. Where a due call cannot go, the last of them is changed. A state in which the walk has been before is
-//! not gone through again, since from there on it would only fail once more.
+//! Empty goes. Where a due call cannot go, the walk changes the last of them. A state in which the walk has been before
+//! is not gone through again, since from there on it would only fail once more.
 ghost use Rattle.std.specs.Prelude.{◌≤◌, IfOk, IfSome};
 ghost use Rattle.kfifo_model.specs.Histories.{IsLegal};
 
@@ -199,8 +199,8 @@ impl Walk {
         (found, false)
     }
 
-    /// A due get takes an item. One at the front is best: then there is more room. Else it takes that of a put, in one
-    /// of several ways.
+    /// A due get takes an item. One at the front is best: then there is more room. Else it takes a put's, in one of
+    /// several ways.
     fn serve(&mut self, get: usize, step: u64, way: usize) -> Result<Outcome, AllocError> {
         let item = self.facts.at(get).item;
         if let Some(place) = self.place_of(item) {
@@ -230,8 +230,8 @@ impl Walk {
         })
     }
 
-    /// All items leave the list that are there for certain: those at the front, and those of puts that have ended.
-    /// Returns whether waiting gets took them all.
+    /// All items that are there for certain leave the list: the ones at the front, and the ones of puts that have
+    /// ended. Returns whether waiting gets took them all.
     fn drain(&mut self, step: u64) -> Result<bool, AllocError> {
         for _ in 0..self.facts.count() {
             if self.state.is_free(&self.facts, step) {
@@ -429,9 +429,9 @@ pub(crate) fn search(
     }
 }
 
-/// A legal order of the history for a queue that may give any of its k oldest items, or none where none was found: then
-/// there may be one all the same. At most `tries` choices of the search are undone; where none is, its time is near
-/// linear in the calls times k.
+/// Returns a legal order of the history for a queue that may give any of its k oldest items, or none where it found
+/// none: then there may be one all the same. Its search undoes at most `tries` choices; where it undoes none, its time
+/// is near linear in the calls times k. An error means that an allocation failed.
 pub fn witness(
     alloc: Global,
     history: &History,

@@ -1,4 +1,4 @@
--- Which sizes a shape may have, and what is answered where it may not.
+-- Which sizes a shape may have, and which fault is reported where it may not.
 use Rattle.std.specs.Prelude.{ℕ, ◌&&◌, nat_le, if◌then◌else◌, Bool, not, Option, Some, None}
 use Rattle.kfifo_words.specs.declared.fault.ShapeFault.{ShapeFault}
 use Rattle.kfifo_words.specs.declared.fault.ShapeFault.TheVariants.{KOutOfRange, SegmentsOutOfRange, LastOutOfRange}

@@ -70,7 +70,7 @@ impl Ends {
         self.bits / 16_777_216
     }
 
-    /// The 64 bits. They are those that `pack` gives for the head, the tail and the version.
+    /// The 64 bits. `pack` makes the same of the head, the tail and the version.
     #[tactic(auto, unfolding(crate::specs::Words::ends_word, crate::specs::Words::head_of, crate::specs::Words::tail_of, crate::specs::Words::version_of))]
     pub fn bits(self) -> u64
         ensures bits { result ≡ self }

@@ -1,9 +1,9 @@
-//! Why there is no such shape.
+//! Why a shape is refused.
 ghost use Rattle.std.specs.Prelude.{◌≡◌};
 
 use thiserror::Error;
 
-/// What is wrong with the sizes of a shape. The first fault in this order is answered.
+/// What is wrong with the sizes of a shape: the first of these faults that applies.
 #[derive(Clone, Copy, PartialEq, Eq, Debug, Error)]
 pub enum ShapeFault {
     /// 1: k is not 1 to 64.

@@ -9,8 +9,10 @@ pub const MAX_K: u32 = 64;
 /// The most segments of a ring.
 pub const MAX_SEGMENTS: u32 = 1024;
 
-/// The sizes of a ring: n segments of k slots, how far versions go, and how many slots an enqueue
-/// looks at.
+/// The sizes of a ring: n segments of k slots, the greatest version, and how many slots an enqueue looks at.
+///
+/// `Shape::new` and `Shape::with_probes` make shapes. A ring holds at most n * k items, and the table of a queue of
+/// this shape has n * k + 2 words of 64 bits.
 #[derive(Clone, Copy, PartialEq, Eq, Debug)]
 pub struct Shape {
     /// Slots in a segment, 1 to 64.
@@ -35,9 +37,19 @@ impl Shape {
     ghost use Rattle.kfifo_words.specs.Ring.{next_segment, distance, slot_at, clock_at};
     ghost use Rattle.kfifo_words.specs.Sizes.{fault_of};
 
-    /// The shape of n segments of k slots whose enqueues probe all k slots.
+    /// Returns the shape of n segments of k slots whose enqueues probe all k slots.
     ///
-    /// Refused, in this order, where k is not 1 to 64, n not 2 to 1,024, `last` not 2 to 2^40 - 1.
+    /// ```rust
+    /// let shape = Shape::new(4, 256, MAX_VERSION)?; // k, segments, greatest version
+    /// ```
+    ///
+    /// A dequeue may return any of the k oldest items, so k = 1 is a plain queue. For many threads begin with as many
+    /// slots as threads call at once: a greater k gives up more order and makes an Empty dearer. Take at least 4
+    /// segments, and twice as many slots in all as items are ever in the queue. A greatest version below `MAX_VERSION`
+    /// only makes a queue return Worn sooner.
+    ///
+    /// Refuses the first size that is out of range: KOutOfRange where k is not 1 to 64, SegmentsOutOfRange where n is
+    /// not 2 to 1,024, LastOutOfRange where `last` is not 2 to 2^40 - 1.
     pub fn new(k: u32, n: u32, last: u64) -> Result<Shape, ShapeFault>
         ensures { MatchResult result (λ s. (s.k ≡ k) × (s.n ≡ n) × (s.last ≡ last) × (s.probes ≡ k))
             (λ f. fault_of k n last k ≡ Some f) }
@@ -45,10 +57,16 @@ impl Shape {
         Shape::with_probes(k, n, last, k)
     }
 
-    /// The shape of n segments of k slots whose enqueues probe the first `probes` slots from their
-    /// start.
+    /// Returns the shape of n segments of k slots whose enqueues probe the first `probes` slots from their start.
     ///
-    /// Refused as by `new`, and then where `probes` is not 1 to k.
+    /// ```rust
+    /// let shape = Shape::with_probes(k, n, MAX_VERSION, probes)?;
+    /// ```
+    ///
+    /// With fewer probes than k an enqueue sooner goes on to the next segment, and may return Full while slots of the
+    /// tail's segment are empty.
+    ///
+    /// Refuses as `new` does, and then ProbesOutOfRange where `probes` is not 1 to k.
     pub fn with_probes(k: u32, n: u32, last: u64, probes: u32) -> Result<Shape, ShapeFault>
         ensures { MatchResult result (λ s. (s.k ≡ k) × (s.n ≡ n) × (s.last ≡ last) × (s.probes ≡ probes))
             (λ f. fault_of k n last probes ≡ Some f) }
@@ -127,7 +145,7 @@ impl Shape {
 
     /// The index of a slot's word in the table.
     ///
-    /// Distinct slots have distinct indexes, none of which is that of the ends word or of the clock.
+    /// Distinct slots have distinct indexes, and no slot has the ends word's or the clock's.
     pub fn slot_index(&self, segment: u32, slot: u32) -> usize
         requires segment_in { segment < self.now.n }
         requires slot_in { slot < self.now.k }

@@ -62,7 +62,7 @@ impl Word {
         self.bits / 16_777_216
     }
 
-    /// The 64 bits. They are those that `pack` gives for the value and the version.
+    /// The 64 bits. `pack` makes the same of the value and the version.
     #[tactic(auto, unfolding(crate::specs::Words::slot_word, crate::specs::Words::value_of, crate::specs::Words::version_of))]
     pub fn bits(self) -> u64
         ensures bits { result ≡ self }

@@ -1,5 +1,5 @@
-//! A program that always ends with a fault, started as `kfifo` is: its stored run shows that the line of a fault is
-//! not written to standard output, and that the exit status is the one that was answered.
+//! A program that always ends with a fault, started as `kfifo` is: its stored run shows that the line of a fault is not
+//! written to standard output, and that the exit status is the one that was returned.
 #![tactic(auto)]
 
 use kfifo_cli_commands::{Request, RunOptions, Sizes, Started, carry_out, start_program};

@@ -25,7 +25,7 @@ fn begun(thread: u32, op: Op, first: u64) -> Call {
     }
 }
 
-/// A call of each kind by three threads, of which one ends at the step at which another begins.
+/// A call of each kind by three threads; one ends at the step at which another begins.
 fn all_kinds() -> [Call; 8] {
     [
         done(0, Op::Enqueue(1), 0, 3, Answer::Done),
@@ -76,7 +76,7 @@ fn bar_of(piece: &str) -> Option<Bar> {
     })
 }
 
-/// The bars of a picture of finished calls, by their numbers, and behind them those of the key.
+/// The bars of a picture of finished calls, by their numbers, and then the key's.
 fn bars_of(alloc: Global, picture: &str) -> Result<Vec<Bar>, Fail> {
     let mut bars = Vec::new(alloc);
     for piece in picture.split("<rect class=\"bar\" ").skip(1) {
@@ -87,8 +87,8 @@ fn bars_of(alloc: Global, picture: &str) -> Result<Vec<Bar>, Fail> {
     Ok(bars)
 }
 
-/// Whether two finished calls stand one behind the other: the bar of one ends before that of the other begins exactly
-/// where it precedes it.
+/// Whether two finished calls stand one behind the other: one's bar ends before the other's begins exactly where it
+/// precedes it.
 fn stand_as_they_precede(calls: &[Call], bars: &[Bar]) -> bool {
     for (call, bar) in calls.iter().zip(bars.iter()) {
         for (other, beside) in calls.iter().zip(bars.iter()) {

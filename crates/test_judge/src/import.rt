@@ -11,7 +11,7 @@ const TOUCHING: &str = "first,last,thread,op,item,answer
 50,,0,enq,6,
 ";
 
-/// Holds with each allocation failing in turn: what is answered after a refusal is the record.
+/// Holds with each allocation failing in turn: the call after a refusal returns the record.
 #[test]
 fn refused_memory(rt: HostRuntime) -> Result<(), Fail> {
     let history = match import_text(rt.alloc(), TOUCHING.as_bytes()) {

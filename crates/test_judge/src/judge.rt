@@ -1,4 +1,4 @@
-//! What the streams of records answer where reading, writing or memory fails, and to inputs that are too long.
+//! What the streams of records return when reading, writing or an allocation fails, and for inputs that are too long.
 use crate::plain::{check_stream, measure_stream};
 use crate::streams::{Pieces, sink_with, source_of};
 use kfifo_judge::{FromStd, StreamFault};

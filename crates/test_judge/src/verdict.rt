@@ -1,4 +1,4 @@
-//! What no contract says: that the calls answer where they must, over all short histories and over long ones.
+//! What no contract says: that the calls find what they must, over all short histories and over long ones.
 ghost use Rattle.std.specs.Prelude.{◌≤◌};
 
 use crate::plain::{evidence, has_order, history_of, judge, witness};
@@ -18,7 +18,7 @@ fn ended(thread: u32, op: Op, first: u64, last: u64, answer: Answer) -> Call {
     }
 }
 
-/// A finished enqueue that was answered Done.
+/// A finished enqueue that returned Done.
 fn put(thread: u32, item: u32, first: u64, last: u64) -> Call {
     ended(thread, Op::Enqueue(item), first, last, Answer::Done)
 }
@@ -28,7 +28,7 @@ fn got(thread: u32, item: u32, first: u64, last: u64) -> Call {
     ended(thread, Op::Dequeue, first, last, Answer::Got(item))
 }
 
-/// A dequeue that was answered Empty.
+/// A dequeue that returned Empty.
 fn empty(thread: u32, first: u64, last: u64) -> Call {
     ended(thread, Op::Dequeue, first, last, Answer::Empty)
 }

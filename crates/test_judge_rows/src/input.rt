@@ -50,7 +50,7 @@ fn lines_joined(alloc: Global, parts: &[Value]) -> Result<String, AllocError> {
     Ok(input)
 }
 
-/// A text as it stands, or that of a list of lines.
+/// A text as it stands, or made of a list of lines.
 fn text_of(alloc: Global, value: &Value) -> Result<String, AllocError> {
     match value.as_str() {
         Some(input) => input.to_string(alloc),

@@ -17,7 +17,7 @@ fn op_of(word: &Value, item: u32) -> Op {
     }
 }
 
-/// What a call was answered.
+/// What a call returned.
 fn answer_of(word: &Value, item: u32) -> Answer {
     let word = word.as_str().unwrap_or("");
     if word == "done" {
@@ -231,7 +231,7 @@ pub fn add_asks(
     Ok(())
 }
 
-/// The number of a history's calls, as they are read and as they are handed out.
+/// The number of a history's calls, as it is read and as `into_calls` returns them.
 fn count_line(alloc: Global, history: History) -> Result<String, AllocError> {
     let read = history.calls().len();
     let handed_out = history.into_calls().len();

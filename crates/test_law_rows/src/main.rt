@@ -1,5 +1,5 @@
-//! Checks worked rows of the words, the machine, the histories, the linearization orders and the replays against
-//! what the libraries answer. `drive.rt` says what the keys of a row mean.
+//! Checks worked rows of the words, the machine, the histories, the linearization orders and the replays against what
+//! the libraries return. `drive.rt` says what the keys of a row mean.
 #![tactic(auto)]
 
 mod drive;

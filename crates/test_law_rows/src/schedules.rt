@@ -35,7 +35,7 @@ pub fn begin_of(call: &[Value]) -> Option<Begin> {
     }
 }
 
-/// Adds so many events of each of the threads from one to another, in turn, of which the first begins a call.
+/// Adds so many events of each of the threads from one to another, in turn. The first event of a thread begins a call.
 fn add_rounds(
     threads: &[u32],
     count: u32,

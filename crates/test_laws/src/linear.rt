@@ -6,7 +6,7 @@ use kfifo_machine::{Begin, Event};
 use kfifo_words::{MAX_VERSION, Shape};
 use std::test::Fail;
 
-/// Where one request for memory fails, the call is refused with Memory and answers when it is made again.
+/// Where one request for memory fails, the call is refused with Memory, and succeeds when it is made again.
 #[test]
 fn memory_is_refused(rt: HostRuntime) -> Result<(), Fail> {
     let shape = Shape::new(1, 2, MAX_VERSION)?;

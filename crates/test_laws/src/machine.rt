@@ -9,7 +9,7 @@ fn event(thread: u32, begin: Option<Begin>) -> Event {
     Event { thread, begin }
 }
 
-/// Where one request for memory fails, the call is refused with Memory and answers when it is made again.
+/// Where one request for memory fails, the call is refused with Memory, and succeeds when it is made again.
 #[test]
 fn memory_is_refused(rt: HostRuntime) -> Result<(), Fail> {
     let shape = Shape::new(1, 2, MAX_VERSION)?;

@@ -19,7 +19,7 @@ fn call(thread: u32, op: Op, first: u64, last: u64, answer: Answer) -> Call {
     }
 }
 
-/// An enqueue that answered Done.
+/// An enqueue that returned Done.
 fn put(thread: u32, item: u32, first: u64, last: u64) -> Call {
     call(thread, Op::Enqueue(item), first, last, Answer::Done)
 }
@@ -53,7 +53,7 @@ fn relaxed_history(alloc: Global) -> Result<History, Fail> {
     Ok(History::new(calls)?)
 }
 
-/// Where one request for memory fails, the call is refused with Memory and answers when it is made again.
+/// Where one request for memory fails, the call is refused with Memory, and succeeds when it is made again.
 #[test]
 fn refused_memory(rt: HostRuntime) -> Result<(), Fail> {
     let history = relaxed_history(rt.alloc())?;

@@ -48,7 +48,7 @@ fn replay_again(alloc: Global, shape: Shape, scripts: &[Vec<Begin>]) -> bool {
     false
 }
 
-/// Whichever request for memory fails, a whole replay is refused for that, or answered as it is without.
+/// Whichever request for memory fails, a whole replay reports that, or returns what it returns when none fails.
 #[test]
 fn memory_refused_to_a_whole_replay(rt: HostRuntime) -> Result<(), Fail> {
     let shape = Shape::new(1, 2, MAX_VERSION)?;
@@ -82,8 +82,8 @@ fn report_again(alloc: Global, replay: &Replay) -> bool {
     false
 }
 
-/// Whichever request for memory of `open` or `report` fails, that is the answer, and what stood before a refused
-/// report stands after it.
+/// Whichever request for memory of `open` or `report` fails, the call reports it, and a refused report leaves the
+/// replay as it was.
 #[test]
 fn memory_refused_to_a_report(rt: HostRuntime) -> Result<(), Fail> {
     let shape = Shape::new(1, 2, MAX_VERSION)?;

@@ -311,7 +311,7 @@ fn the_seed_picks_the_starts(rt: HostRuntime) -> Result<(), Fail> {
     Ok(())
 }
 
-/// A task that the queue refuses is worked off by the caller, who is worker 0.
+/// The caller, who is worker 0, finishes a task that the queue refuses.
 #[test]
 fn the_caller_works_off_what_is_refused(rt: HostRuntime) -> Result<(), Fail> {
     let shape = Shape::new(1, 2, MAX_VERSION)?;
@@ -325,7 +325,7 @@ fn the_caller_works_off_what_is_refused(rt: HostRuntime) -> Result<(), Fail> {
     Ok(())
 }
 
-/// A worker ends after 65,536 takes, and the caller works off what is left in the queue.
+/// A worker ends after 65,536 takes, and the caller finishes what is left in the queue.
 #[test]
 fn a_worker_takes_so_often_at_most(rt: HostRuntime) -> Result<(), Fail> {
     let shape = Shape::new(2, 2, MAX_VERSION)?;
@@ -391,7 +391,7 @@ impl Gate for Laborious {
     }
 }
 
-/// So many workers work off tasks of 256 units. Returns the work done.
+/// So many workers run tasks of 256 units. Returns the work done.
 fn labor<R: Threads + Abort + Sync>(
     rt: &R,
     alloc: Global,

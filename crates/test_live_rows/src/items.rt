@@ -30,7 +30,7 @@ pub fn drive(state: &mut State, thread: u32, begin: Begin) -> Option<Answer> {
     None
 }
 
-/// How many words of the queue are not those of the machine.
+/// How many words of the queue are not the machine's.
 pub fn words_that_differ(queue: &Queue, pass: &mut Pass, state: &State) -> u32
     requires { IsPassOf queue.now pass.old }
     ensures { IsSamePass pass.old pass.new }
@@ -277,7 +277,7 @@ fn end(
     Ok(())
 }
 
-/// Adds the lines of the steps on an open queue and a machine, and that of the close.
+/// Adds the lines of the steps on an open queue and a machine, and the line of the close.
 fn run(
     alloc: Global,
     queue: Queue,

@@ -27,7 +27,7 @@ impl Drop for Counted {
     }
 }
 
-/// What `give` answers, with the number of the payload that it hands back, which is then dropped.
+/// What `give` returns, with the number of the payload that comes back, which is then dropped.
 fn given_text(alloc: Global, given: Option<Given<Counted>>) -> Result<String, AllocError> {
     let (word, payload) = match given {
         Some(Given::Done) => return "Done".to_string(alloc),
@@ -41,7 +41,7 @@ fn given_text(alloc: Global, given: Option<Given<Counted>>) -> Result<String, Al
     format!(in alloc; "{word} {number}")
 }
 
-/// What `take` answers, with the number of the payload, which is then dropped.
+/// What `take` returns, with the number of the payload, which is then dropped.
 fn taken_text(alloc: Global, taken: Option<Taken<Counted>>) -> Result<String, AllocError> {
     match taken {
         Some(Taken::Got(payload)) => {
@@ -296,7 +296,7 @@ fn drop_queue(
     Ok(text)
 }
 
-/// Adds the lines of the steps on an open queue, and that of the close, or drops the queue where the row has none.
+/// Adds the lines of the steps on an open queue, and the line of the close, or drops the queue where the row has none.
 fn run(
     alloc: Global,
     queue: PayQueue<Counted>,

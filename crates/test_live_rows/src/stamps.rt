@@ -135,7 +135,7 @@ fn end(
     Ok(())
 }
 
-/// Adds the lines of the steps on an open queue, and that of the end.
+/// Adds the lines of the steps on an open queue, and the line of the end.
 fn run(
     alloc: Global,
     queue: StampQueue,

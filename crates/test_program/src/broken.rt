@@ -37,7 +37,7 @@ fn tells_where_the_input_fails(rt: HostRuntime) -> Result<(), Fail> {
     Ok(())
 }
 
-/// An order at fault is refused before anything is read: else the fault would be that of the input.
+/// An order at fault is refused before anything is read: else the fault would be the input's.
 #[test]
 fn refuses_an_order_before_it_reads(rt: HostRuntime) -> Result<(), Fail> {
     for order in ["0,,1", "none,0", ""] {

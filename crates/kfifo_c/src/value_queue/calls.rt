@@ -11,8 +11,8 @@ use crate::value_queue::status::{given_status, taken_status};
 use kfifo_live::Taken;
 use std::alloc::Global;
 
-/// Gives a value to the queue of the handle: `PayHandle::give`, and its answer's number. BAD_CALL, with nothing done,
-/// where the handle is closed.
+/// Gives a value to the queue of the handle, as `PayHandle::give`, and returns its answer's number. Returns BAD_CALL,
+/// with nothing done, where the handle is closed.
 #[unsafe(no_mangle)]
 pub extern "C" fn kfifo_c_give(pass: &mut ValueHandle, value: u64) -> u32
     ensures answer { (answer : Option (HasGiven ℕ)) × (result ≡ given_number answer)
@@ -26,8 +26,8 @@ pub extern "C" fn kfifo_c_give(pass: &mut ValueHandle, value: u64) -> u32
     given_status(&given)
 }
 
-/// Takes one of the k oldest values out of the queue of the handle: `PayHandle::take`, and its answer's number; the
-/// value is written where there is one. BAD_CALL, with nothing done, where the handle is closed.
+/// Takes one of the k oldest values out of the queue of the handle, as `PayHandle::take`, writes the value if there is
+/// one, and returns its answer's number. Returns BAD_CALL, with nothing done, where the handle is closed.
 #[unsafe(no_mangle)]
 pub extern "C" fn kfifo_c_take(pass: &mut ValueHandle, value: &mut u64) -> u32
     ensures answer { (answer : Option (HasTaken ℕ)) × (result ≡ taken_number answer)

@@ -79,10 +79,10 @@ fn write_values(values: &mut [u64], left: &[u64])
     values[..left.len()].copy_from_slice(left);
 }
 
-/// Closes a queue by the handles of all its passes, and writes the values that are left, and how many:
-/// `PayQueue::close`. The handles of one call are of one queue. BAD_CALL, with nothing done, where there are none, one
-/// is closed, one of the queue is missing, or there is not room for a value of each slot; LOST, with the queue closed
-/// and its values lost, where an allocation failed.
+/// Closes a queue by the handles of all its passes, as `PayQueue::close`, and writes the values that are left, and how
+/// many. The handles of one call are of one queue. Returns BAD_CALL, with nothing done, where there are none, one is
+/// closed, one of the queue is missing, or there is not room for a value of each slot; LOST, with the queue closed and
+/// its values lost, where an allocation failed.
 #[unsafe(no_mangle)]
 pub extern "C" fn kfifo_c_close_values(
     alloc: Global,

@@ -40,7 +40,7 @@ fn seat_all(
     Ok(seats)
 }
 
-/// The seats of a new queue, that of the last thread first.
+/// The seats of a new queue, the last thread's first.
 fn open_seats(
     alloc: Global,
     shape: Shape,
@@ -79,10 +79,10 @@ fn put_all(handles: &mut [ValueHandle], mut seats: Vec<Box<ValueSeat, Global>>, 
     }
 }
 
-/// Opens a queue of values with a pool for as many threads as there are handles, with so many tokens each, and puts a
-/// pass behind each handle, in their order: `PayQueue::open_with_pool`. What was behind them is lost. Else nothing is
-/// done: BAD_K, BAD_SEGMENTS, BAD_LAST or BAD_PROBES where there is no such shape, BAD_THREADS where the handles are
-/// not 1 to 64, BAD_TOKENS where the tokens are not 1 to 1,024, NO_MEMORY where an allocation failed.
+/// Opens a queue of values with a pool for as many threads as there are handles, with so many tokens each, as
+/// `PayQueue::open_with_pool`, and puts a pass behind each handle, in their order. What was behind them is lost. A
+/// refusal does nothing: BAD_K, BAD_SEGMENTS, BAD_LAST or BAD_PROBES where there is no such shape, BAD_THREADS where
+/// the handles are not 1 to 64, BAD_TOKENS where the tokens are not 1 to 1,024, NO_MEMORY where an allocation failed.
 #[unsafe(no_mangle)]
 pub extern "C" fn kfifo_c_open_values(
     alloc: Global,

@@ -1,4 +1,4 @@
-//! The numbers that C is given of the calls with values.
+//! The numbers that C gets from the calls with values.
 ghost use Rattle.std.specs.Prelude.{◌≡◌, Some};
 ghost use Rattle.kfifo_c.specs.Values.{given_number, taken_number};
 

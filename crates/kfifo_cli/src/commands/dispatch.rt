@@ -1,4 +1,4 @@
-//! The command `dispatch`: tasks worked off by worker threads, and the finished list.
+//! The command `dispatch`: worker threads run tasks and make the finished list.
 ghost use Rattle.std.specs.Prelude.{IfOk};
 ghost use Rattle.clap.specs.Words.{found_of};
 ghost use Rattle.kfifo_cli.specs.CommandLine.{IsCommand, dispatch_command};

@@ -95,7 +95,7 @@ const HELPS: &[&str] = &[
     DETAILS,
 ];
 
-/// The faults and answers: of those that begin alike, the longer one first.
+/// The faults and answers. If two begin alike, the longer one comes first.
 const FIRST_TOPICS: &[Topic] = &[
     Topic {
         words: "shape fault 1",

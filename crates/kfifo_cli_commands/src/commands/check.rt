@@ -13,7 +13,7 @@ use kfifo_judge::{FromStd, Source, check_stream};
 use std::alloc::Global;
 use std::rt::Files;
 
-/// The line that answers the record of the input, and the status.
+/// The line for the record of the input, and the status.
 pub fn answer<H: Files, S: Source>(
     alloc: Global,
     files: &H,
@@ -34,7 +34,7 @@ pub fn answer<H: Files, S: Source>(
     judge(alloc, input, options.k, Some(order.as_slice()))
 }
 
-/// The line that answers the record of the input for this k, and the status.
+/// The line for the record of the input for this k, and the status.
 fn judge<S: Source>(
     alloc: Global,
     input: &mut S,

@@ -1,4 +1,4 @@
-//! The command `dispatch`: tasks worked off by worker threads, and the finished list.
+//! The command `dispatch`: worker threads run tasks and make the finished list.
 ghost use Rattle.std.specs.Prelude.{◌≢◌, IfOk, IfErr, string_bytes};
 ghost use Rattle.kfifo_cli_commands.specs.Dispatches.{IsDispatch, IsDispatchRefusal};
 

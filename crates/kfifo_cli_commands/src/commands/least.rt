@@ -12,7 +12,7 @@ use kfifo_cli_texts::Fault;
 use kfifo_judge::{Source, least_text};
 use std::alloc::Global;
 
-/// The lines that answer the calls of the input, and the status.
+/// The lines for the calls of the input, and the status.
 pub fn answer<S: Source>(
     alloc: Global,
     options: LeastOptions,
@@ -29,7 +29,7 @@ pub fn answer<S: Source>(
     Ok((text, status))
 }
 
-/// The lines that answer the calls of these bytes, and the status.
+/// The lines for the calls of these bytes, and the status.
 fn text_of(alloc: Global, options: LeastOptions, bytes: &[u8]) -> Result<(String, Status), Fault>
     ensures said { MatchResult result (λ a. IsBounded bytes.now (string_bytes a.0) (status_number a.1))
         (IsNoCalls bytes.now) }

@@ -6,7 +6,7 @@ use kfifo_cli_texts::Fault;
 use kfifo_judge::{FromStd, Source, measure_stream};
 use std::alloc::Global;
 
-/// The lines that answer the record of the input.
+/// The lines for the record of the input.
 pub fn answer<S: Source>(alloc: Global, input: &mut S) -> Result<Vec<u8>, Fault>
     ensures ok { IfOk result (λ text. IsMeasure (S.remaining input.old) text.items) }
     ensures err { IfErr result (IsMeasureRefusal (S.remaining input.old) (S.failed input.old) (S.failed input.new)) }

@@ -244,7 +244,7 @@ fn push_points(alloc: Global, text: &mut String, wanted: bool, replay: &Replay) 
     Ok(())
 }
 
-/// Adds the other numbers of the report; that of the unfinished enqueues where a thread was stopped.
+/// Adds the other numbers of the report. It counts the unfinished enqueues if a thread was stopped.
 fn push_last(text: &mut String, stopped: Option<u32>, report: &Report) -> Result<(), AllocError>
     ensures { OnOk result (string_bytes text.new ≡ string_bytes text.old ++ last_lines stopped report.now) }
 {

@@ -32,7 +32,7 @@ impl Drop for Counted {
     }
 }
 
-/// What `give` answers, and the number of the payload that it hands back, which is then dropped.
+/// What `give` returns, and the number of the payload that comes back, which is then dropped.
 fn given(given: Given<Counted>) -> (&'static str, Option<u64>) {
     match given {
         Given::Done => ("Done", None),
@@ -43,7 +43,7 @@ fn given(given: Given<Counted>) -> (&'static str, Option<u64>) {
     }
 }
 
-/// What `take` answers, and the number of the payload, which is then dropped.
+/// What `take` returns, and the number of the payload, which is then dropped.
 fn taken(taken: Taken<Counted>) -> (&'static str, Option<u64>) {
     match taken {
         Taken::Got(payload) => ("Got", Some(payload.number)),
@@ -53,7 +53,7 @@ fn taken(taken: Taken<Counted>) -> (&'static str, Option<u64>) {
     }
 }
 
-/// Puts one payload into a queue and closes it. Answers the number that came back, or 0 where memory was refused.
+/// Puts one payload into a queue and closes it. Returns the number that came back, or 0 where memory was refused.
 fn close_one(alloc: Global, drops: &Arc<AtomicU64>) -> u64 {
     let Ok(shape) = Shape::new(1, 2, MAX_VERSION) else {
         return 0;
@@ -76,7 +76,7 @@ fn close_one(alloc: Global, drops: &Arc<AtomicU64>) -> u64 {
     }
 }
 
-/// Holds whichever one request for memory fails, and fails where a call always answers Memory.
+/// Holds whichever one request for memory fails, and fails where a call always returns Memory.
 #[test]
 fn refused_memory_of_payloads(rt: HostRuntime) -> Result<(), Fail> {
     let Ok(drops) = Arc::new(rt.alloc(), AtomicU64::new(0)) else {
@@ -100,7 +100,7 @@ struct Trader {
     numbers: Result<Vec<u64>, AllocError>,
 }
 
-/// Gives and takes by turns. Notes the number of each payload that was taken, or handed back.
+/// Gives and takes by turns. Notes the number of each payload that was taken or refused.
 fn trade(
     alloc: Global,
     queue: &PayQueue<Counted>,

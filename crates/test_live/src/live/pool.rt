@@ -307,7 +307,7 @@ fn insist(queue: &PayQueue<Counted>, pass: &mut PayPass<Counted>, payload: Count
     false
 }
 
-/// Gives so many payloads. Answers the numbers of those that were not given.
+/// Gives so many payloads. Returns the numbers of those that were not given.
 fn produce(
     alloc: Global,
     queue: &PayQueue<Counted>,
@@ -329,7 +329,7 @@ fn produce(
     Ok(kept)
 }
 
-/// Takes a payload, and lays its token down where the pass then has more than it was opened with. Answers its number.
+/// Takes a payload, and lays its token down where the pass then has more than it was opened with. Returns its number.
 fn accept(queue: &PayQueue<Counted>, pass: &mut PayPass<Counted>) -> Option<u64>
     requires { IsPassOf queue.now pass.old.pass }
     ensures { IsSamePass pass.old.pass pass.new.pass }
@@ -344,7 +344,7 @@ fn accept(queue: &PayQueue<Counted>, pass: &mut PayPass<Counted>) -> Option<u64>
     Some(payload.number)
 }
 
-/// Tries to take a payload until there is one. Answers its number.
+/// Tries to take a payload until there is one. Returns its number.
 fn await_one(queue: &PayQueue<Counted>, pass: &mut PayPass<Counted>) -> Option<u64>
     requires { IsPassOf queue.now pass.old.pass }
     ensures { IsSamePass pass.old.pass pass.new.pass }
@@ -359,7 +359,7 @@ fn await_one(queue: &PayQueue<Counted>, pass: &mut PayPass<Counted>) -> Option<u
     None
 }
 
-/// Takes so many payloads. Answers their numbers.
+/// Takes so many payloads. Returns their numbers.
 fn consume(
     alloc: Global,
     queue: &PayQueue<Counted>,

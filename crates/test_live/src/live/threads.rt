@@ -67,7 +67,7 @@ fn open_again(alloc: Global, shape: Shape) -> Result<(Queue, Vec<Pass>), OpenFau
     }
 }
 
-/// Holds whichever one request for memory fails, and fails where a call always answers Memory.
+/// Holds whichever one request for memory fails, and fails where a call always returns Memory.
 #[test]
 fn refused_memory(rt: HostRuntime) -> Result<(), Fail> {
     let shape = Shape::new(2, 2, MAX_VERSION)?;
@@ -279,7 +279,7 @@ fn sixty_four_passes_make_calls(rt: HostRuntime) -> Result<(), Fail> {
     Ok(())
 }
 
-/// How many calls were answered Worn.
+/// How many calls returned Worn.
 fn count_worn(made: &[Call]) -> usize {
     made.iter()
         .filter(|call| matches!(
