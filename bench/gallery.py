@@ -4,8 +4,9 @@
     bench/gallery.py [--program PATH] [--out FOLDER] [--runs N]
 
 Four threads put and take in turn, and at the end one thread takes until the queue is empty. Where a verdict is a matter of
-luck, the queue is run again, at most N times, until it comes. For each queue the script prints a row of the page's table;
-FOLDER gets the logs, and a picture of each piece of evidence. The last line is 'N passed, M failed'.
+luck, the queue is run again, at most N times, until it comes. For each queue the script prints a row of the page's table,
+with the processor time of `kfifo judge`; FOLDER gets the logs, and a picture of each piece of evidence: of a k-relaxed queue
+that it is no queue of k - 1. The last line is 'N passed, M failed'.
 
 It needs what bench/run.py needs, and kfifo: PATH is crates/kfifo/out/kfifo where it is left out.
 """
@@ -14,9 +15,9 @@ import dataclasses
 import os
 import pathlib
 import re
+import resource
 import subprocess
 import sys
-import time
 
 import run
 
@@ -24,44 +25,50 @@ HERE = pathlib.Path(__file__).resolve().parent
 PROGRAM = HERE.parent / "crates/kfifo/out/kfifo"
 
 
-@dataclasses.dataclass
-class Entry:
-    """A queue of the gallery: its words for log_queue, how often each thread puts and takes, and its verdict."""
-
-    name: str
-    title: str
-    k: int
-    turns: int
-    judged: int
-    verdict: str
-    least: str = ""
-    luck: bool = False
-
-
+THREADS, TURNS = 4, 8000
+# How many items come before the threads begin, in a queue that is k-relaxed: among few items none can be passed over.
+BEFORE = 512
 LEGAL = r"legal for k = \d+\nworst rank \d+\n"
 OVERTAKEN = r"no order for k = 1\ncall \d+ got item \d+, while 1 older items were there: calls \d+\n(?s:.*)"
 TOO_EARLY = r"no order for k = 1\ncall \d+ found nothing, while there were items: calls (?s:.*)"
 PLAIN = r"k at least 1\nk at most 1\n"
 
 
-def up_to(k):
-    """A pattern for bounds of k that are at most this k."""
-    return r"k at least \d+\nk at most (%s)\n" % "|".join(str(it) for it in range(1, k + 1))
+@dataclasses.dataclass
+class Entry:
+    """A queue of the gallery: its words for log_queue, and its verdict."""
+
+    name: str
+    title: str
+    k: int = 0
+    before: int = 0
+    judged: int = 1
+    verdict: str = LEGAL
+    least: str = PLAIN
+    luck: bool = False
+
+
+def relaxed(name, title, k):
+    """A k-relaxed queue, with items in it from the beginning. The bounds meet at its k."""
+    return Entry(name, title, k, BEFORE, k, LEGAL, f"k at least {k}\nk at most {k}\n", luck=True)
 
 
 ENTRIES = [
-    Entry("boost", "Boost's `lockfree::queue`", 0, 8000, 1, LEGAL, PLAIN),
-    Entry("tbb", "oneTBB's `concurrent_bounded_queue`", 0, 8000, 1, LEGAL, PLAIN),
-    Entry("ms", "libcds's `MSQueue`, of Michael and Scott", 0, 8000, 1, LEGAL, PLAIN),
-    Entry("vyukov", "libcds's `VyukovMPMCCycleQueue`", 0, 8000, 1, LEGAL, PLAIN),
-    Entry("array", "crossbeam's `ArrayQueue`", 0, 8000, 1, LEGAL, PLAIN),
-    Entry("mutex", "`std::deque` behind a mutex", 0, 8000, 1, LEGAL, PLAIN),
-    Entry("segmented", "libcds's `SegmentedQueue`, quasi factor 8", 8, 8000, 8, LEGAL, up_to(8)),
-    Entry("kfifo", "this repository's queue, k = 1", 1, 8000, 1, LEGAL, PLAIN),
-    Entry("kfifo", "this repository's queue, k = 4", 4, 8000, 4, LEGAL, up_to(4)),
-    Entry("kfifo", "this repository's queue, k = 64", 64, 8000, 64, LEGAL, up_to(64)),
-    Entry("moodycamel", "moodycamel's `ConcurrentQueue`", 0, 200, 1, OVERTAKEN, luck=True),
-    Entry("paused-ring", "a ring in Vyukov's manner, with pauses", 0, 200, 1, TOO_EARLY, luck=True),
+    Entry("boost", "Boost's `lockfree::queue`"),
+    Entry("tbb", "oneTBB's `concurrent_bounded_queue`"),
+    Entry("ms", "libcds's `MSQueue`, of Michael and Scott"),
+    Entry("vyukov", "libcds's `VyukovMPMCCycleQueue`"),
+    Entry("array", "crossbeam's `ArrayQueue`"),
+    Entry("ck", "Concurrency Kit's ring"),
+    Entry("mutex", "`std::deque` behind a mutex"),
+    Entry("python", "Python's `queue.Queue`"),
+    relaxed("segmented", "libcds's `SegmentedQueue`, quasi factor 8", 8),
+    relaxed("kfifo", "this repository's queue, k = 1", 1),
+    relaxed("kfifo", "this repository's queue, k = 4", 4),
+    relaxed("kfifo", "this repository's queue, k = 16", 16),
+    relaxed("kfifo", "this repository's queue, k = 64", 64),
+    Entry("moodycamel", "moodycamel's `ConcurrentQueue`", verdict=OVERTAKEN, least="", luck=True),
+    Entry("paused-ring", "a ring in Vyukov's manner, with pauses", verdict=TOO_EARLY, least="", luck=True),
 ]
 
 
@@ -71,12 +78,25 @@ def build():
     run.build()
 
 
+def command_of(entry):
+    """The command that prints a log of a queue."""
+    if entry.name == "python":
+        return [sys.executable, HERE / "log_queue.py", THREADS, TURNS]
+    return [f"{run.OUT}/log_queue", entry.name, entry.k, THREADS, TURNS, entry.before]
+
+
+def processor_seconds():
+    """The processor time of all children that have ended."""
+    used = resource.getrusage(resource.RUSAGE_CHILDREN)
+    return used.ru_utime + used.ru_stime
+
+
 def kfifo(program, words, log):
-    """Runs kfifo on a log, and returns what it prints, its status and its seconds."""
-    began = time.time()
+    """Runs kfifo on a log, and returns what it prints, its status and its seconds of a processor."""
+    began = processor_seconds()
     with open(log, "rb") as given:
         ran = subprocess.run([str(program), *words], stdin=given, capture_output=True, text=True)
-    return ran.stdout + ran.stderr, ran.returncode, time.time() - began
+    return ran.stdout + ran.stderr, ran.returncode, processor_seconds() - began
 
 
 def log_of(command, log):
@@ -90,34 +110,36 @@ def differs(program, entry, log):
     said, _, seconds = kfifo(program, ["judge", "-k", str(entry.judged)], log)
     if not re.fullmatch(entry.verdict, said):
         return f"judge prints {said!r}", ""
-    told = "<br>".join(said.splitlines()[:2])
+    told = said.splitlines()[:2]
     if entry.least:
         least, _, _ = kfifo(program, ["least"], log)
         if not re.fullmatch(entry.least, least):
             return f"least prints {least!r}", ""
-        told += "<br>" + "<br>".join(least.splitlines())
+        told += least.splitlines()
     calls = sum(1 for _ in open(log)) - 1
-    return None, f"| {entry.title} | {calls:,} | {told} | {seconds:.2f} s |"
+    return None, f"| {entry.title} | {calls:,} | {'; '.join(told)} | {seconds:.2f} s |"
 
 
-def tried(program, entry, command, out, runs):
+def tried(program, entry, out, runs):
     """Runs an entry until its verdict comes, and returns what is wrong, or None."""
     name = f"{entry.name}_{entry.k}" if entry.k else entry.name
     log = out / f"{name}.csv"
     for _ in range(runs if entry.luck else 1):
-        log_of(command, log)
+        log_of(command_of(entry), log)
         wrong, row = differs(program, entry, log)
         if wrong is None:
             print(row, flush=True)
             if entry.verdict != LEGAL:
-                draw(program, log, out / f"{name}.svg")
+                draw(program, ["--around", "2"], log, out / f"{name}.svg")
+            elif entry.k > 1:
+                draw(program, ["--around", "0", "-k", str(entry.k - 1)], log, out / f"{name}.svg")
             return None
     return wrong
 
 
-def draw(program, log, picture):
+def draw(program, words, log, picture):
     """Draws the evidence of a log."""
-    drawn, status, _ = kfifo(program, ["draw", "--evidence", "--around", "2"], log)
+    drawn, status, _ = kfifo(program, ["draw", "--evidence", *words], log)
     if status != 0:
         sys.exit(f"kfifo draw: {drawn}")
     picture.write_text(drawn)
@@ -133,16 +155,13 @@ def main():
         sys.exit(f"there is no program {words.program}")
     build()
     words.out.mkdir(parents=True, exist_ok=True)
-    python = Entry("python", "Python's `queue.Queue`", 0, 0, 1, LEGAL, PLAIN)
-    commands = [(it, [f"{run.OUT}/log_queue", it.name, it.k, 4, it.turns]) for it in ENTRIES]
-    commands.append((python, [sys.executable, HERE.parent / "loggers/examples/log_python.py"]))
     failed = 0
-    for entry, command in commands:
-        wrong = tried(words.program.resolve(), entry, command, words.out, words.runs)
+    for entry in ENTRIES:
+        wrong = tried(words.program.resolve(), entry, words.out, words.runs)
         if wrong is not None:
             failed += 1
             print(f"FAILED: {entry.title}: {wrong[:300]}", flush=True)
-    print(f"{len(commands) - failed} passed, {failed} failed")
+    print(f"{len(ENTRIES) - failed} passed, {failed} failed")
     return failed > 0
 
 

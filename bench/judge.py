@@ -7,16 +7,17 @@ legal order, and any other verdict than `legal` is a miss. In a third of the sim
 
     bench/judge.py KFIFO [--runs N] [--seed N] [--long] [--out FOLDER]
 
-KFIFO is the built program. With --long it judges runs of 65,536 calls in place of short ones. --out keeps the records that are missed.
+KFIFO is the built program. N is 300 runs of a class where it is left out; with --long it is 5, of 65,536 calls each. --out keeps the
+records that are missed. A time is the processor time of one `kfifo judge`, reading and printing included, so other work on the machine hardly changes it.
 """
 import argparse
 import heapq
 import json
 import os
 import random
+import resource
 import subprocess
 import sys
-import time
 
 KS = [1, 2, 8]
 # 0: each item has a number of its own
@@ -128,10 +129,16 @@ def real(kfifo, rng, k, modulus):
     return subprocess.run(command, check=True, capture_output=True, text=True).stdout
 
 
+def processor_seconds():
+    """The processor time of all children that have ended."""
+    used = resource.getrusage(resource.RUSAGE_CHILDREN)
+    return used.ru_utime + used.ru_stime
+
+
 def judged(kfifo, record, k):
-    begin = time.monotonic()
+    begin = processor_seconds()
     answer = subprocess.run([kfifo, "judge", "--k", str(k)], input=record, capture_output=True, text=True)
-    return answer.stdout.split("\n")[0].split(" ")[0] or answer.stderr.strip(), time.monotonic() - begin
+    return answer.stdout.split("\n")[0].split(" ")[0] or answer.stderr.strip(), processor_seconds() - begin
 
 
 def told(name, k, modulus, verdicts, times):
@@ -141,21 +148,27 @@ def told(name, k, modulus, verdicts, times):
     print(f"| {name} | {k} | {items} | {counts} of {len(verdicts)} | {1000 * middle:.0f} ms | {1000 * max(times):.0f} ms |", flush=True)
 
 
+def class_told(args, name, k, modulus, recorded):
+    """Judges the runs of a class, and prints its row."""
+    verdicts, times = [], []
+    for n in range(args.runs or (5 if args.long else 300)):
+        record = recorded()
+        verdict, seconds = judged(args.kfifo, record, k)
+        verdicts.append(verdict)
+        times.append(seconds)
+        if args.out and verdict != "legal":
+            with open(f"{args.out}/{name.replace(' ', '_')}_{k}_{modulus}_{n}.json", "w") as file:
+                file.write(record)
+    told(name, k, modulus, verdicts, times)
+
+
 def short_runs(args):
     for name in ["simulated", "real"]:
         for k in KS:
             for modulus in MODULI:
                 rng = random.Random(f"{args.seed} {name} {k} {modulus}")
-                verdicts, times = [], []
-                for n in range(args.runs):
-                    record = simulated(rng, k, modulus) if name == "simulated" else real(args.kfifo, rng, k, modulus)
-                    verdict, seconds = judged(args.kfifo, record, k)
-                    verdicts.append(verdict)
-                    times.append(seconds)
-                    if args.out and verdict != "legal":
-                        with open(f"{args.out}/{name}_{k}_{modulus}_{n}.json", "w") as file:
-                            file.write(record)
-                told(name, k, modulus, verdicts, times)
+                made = lambda: simulated(rng, k, modulus) if name == "simulated" else real(args.kfifo, rng, k, modulus)
+                class_told(args, name, k, modulus, made)
 
 
 def long_runs(args):
@@ -163,14 +176,13 @@ def long_runs(args):
         for k in KS:
             for modulus in MODULI:
                 rng = random.Random(f"{args.seed} {threads} {k} {modulus}")
-                verdict, seconds = judged(args.kfifo, simulated(rng, k, modulus, 65536, threads), k)
-                told(f"{threads} threads", k, modulus, [verdict], [seconds])
+                class_told(args, f"{threads} threads", k, modulus, lambda: simulated(rng, k, modulus, 65536, threads))
 
 
 def main():
     parser = argparse.ArgumentParser()
     parser.add_argument("kfifo")
-    parser.add_argument("--runs", type=int, default=300)
+    parser.add_argument("--runs", type=int)
     parser.add_argument("--seed", type=int, default=1)
     parser.add_argument("--long", action="store_true")
     parser.add_argument("--out")

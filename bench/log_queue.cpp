@@ -1,6 +1,7 @@
-// Logs a run of a queue as CSV, for kfifo to judge: each thread puts an item and takes one in turn, and at the end one
-// thread takes until the queue is empty. The arguments are the queue (a name of queues.hpp, or paused-ring), k (of kfifo
-// and segmented alone), the threads, and how often each puts and takes. The capacity is 1,024.
+// Logs a run of a queue as CSV, for kfifo to judge: one thread puts items before the others begin, then each of these
+// puts an item and takes one in turn, and at the end the one thread takes until the queue is empty. The arguments are the
+// queue (a name of queues.hpp, or paused-ring), k (of kfifo and segmented alone), the threads, how often each puts and
+// takes, and how many items come before. The capacity is 1,024.
 #include "../loggers/kfifo_log.h"
 
 #include "queues.hpp"
@@ -27,6 +28,7 @@ struct PausedRing {
 struct Plan {
     std::size_t threads;
     std::uint32_t turns;
+    std::uint32_t before;
 };
 
 template <typename Queue> std::optional<std::uint32_t> taken(Queue &queue, std::size_t thread) {
@@ -36,8 +38,11 @@ template <typename Queue> std::optional<std::uint32_t> taken(Queue &queue, std::
 
 template <typename Queue> int run(Queue &queue, const Plan &plan) {
     std::vector<kfifo::ThreadLog> logs;
-    for (std::size_t t = 0; t <= plan.threads; t++)
-        logs.emplace_back(unsigned(t), t == plan.threads ? plan.threads * plan.turns + 1 : 2 * plan.turns);
+    const std::uint32_t items = std::uint32_t(plan.threads) * plan.turns;
+    for (std::size_t t = 0; t < plan.threads; t++) logs.emplace_back(unsigned(t), 2 * plan.turns);
+    logs.emplace_back(unsigned(plan.threads), items + 2 * plan.before + 1);
+    for (std::uint32_t item = items + 1; item <= items + plan.before; item++)
+        logs.back().enqueue(item, [&] { return queue.push(0, item); });
     std::atomic<bool> go{false};
     std::vector<std::thread> threads;
     for (std::size_t t = 0; t < plan.threads; t++)
@@ -61,9 +66,9 @@ template <typename Queue> int run(Queue &queue, const Plan &plan) {
 } // namespace
 
 int main(int count, char **words) try {
-    if (count != 5) return 2;
+    if (count != 6) return 2;
     auto number = [&](int place) { return std::uint32_t(std::strtoul(words[place], nullptr, 10)); };
-    const Plan plan{number(3), number(4)};
+    const Plan plan{number(3), number(4), number(5)};
     if (words[1] == std::string("paused-ring")) {
         PausedRing ring;
         return run(ring, plan);

@@ -7,11 +7,14 @@ How to use it:
  2. Before the threads start, make a log for each: `logs = [kfifo_log.ThreadLog(t, calls) for t in range(threads)]`, t
     below 64.
  3. Make each call through it: `log.enqueue(item, queue.put_nowait)` and `log.dequeue(queue.get_nowait)`. An enqueue
-    that raises `queue.Full` is logged as full, and a dequeue that raises `queue.Empty` as empty. For other answers
-    call `begin_enqueue(item)` or `begin_dequeue()`, and behind the call `end(answer)`, or `end("got", item)`.
+    that raises `queue.Full` or returns False is logged as full, and a dequeue that raises `queue.Empty` or returns
+    None as empty. For other answers call `begin_enqueue(item)` or `begin_dequeue()`, and behind the call
+    `end(answer)`, or `end("got", item)`.
  4. Give each item a number of its own, 1 to 16,777,215, as from a counter of each producer that starts where no other
     gets to.
- 5. Join the threads, and dequeue, logged too, until the queue is empty: else nobody can see that an item is lost.
+ 5. Put some hundred items in before the threads start, and dequeue after their join until the queue is empty, in a log
+    of its own. In a queue that is nearly empty a wrong order hardly shows, and of one that is left filled nobody can
+    see that an item is lost.
  6. `kfifo_log.write(logs, sys.stdout)`, and then:
     `python3 my_test.py > log.csv && kfifo judge < log.csv`
 
@@ -92,25 +95,23 @@ class ThreadLog:
         self._answers[place] = NUMBERS[answer]
 
     def enqueue(self, item, put):
-        """Calls put(item), and returns whether it is done. It is full where it raises queue.Full."""
+        """Calls put(item), and returns whether it is done. It is full where it raises queue.Full or returns False."""
         self.begin_enqueue(item)
         try:
-            put(item)
+            done = put(item) is not False
         except queue.Full:
-            self.end("full")
-            return False
-        self.end("done")
-        return True
+            done = False
+        self.end("done" if done else "full")
+        return done
 
     def dequeue(self, get):
-        """Calls get(), and returns the item, or None where it raises queue.Empty."""
+        """Calls get(), and returns the item, or None where it raises queue.Empty or returns None."""
         self.begin_dequeue()
         try:
             item = get()
         except queue.Empty:
-            self.end("empty")
-            return None
-        self.end("got", item)
+            item = None
+        self.end("empty" if item is None else "got", item)
         return item
 
     def lines(self):

@@ -9,7 +9,9 @@
 //!    `Dequeued`.
 //! 4. Give each item a number of its own, 1 to 16,777,215, as from a counter of each producer that starts where no
 //!    other gets to.
-//! 5. Join the threads, and dequeue, logged too, until the queue is empty: else nobody can see that an item is lost.
+//! 5. Put some hundred items in before the threads start, and dequeue after their join until the queue is empty, in a
+//!    log of its own. In a queue that is nearly empty a wrong order hardly shows, and of one that is left filled nobody
+//!    can see that an item is lost.
 //! 6. `kfifo_log::write(&logs, std::io::stdout())?`, and then:
 //!    `my_test > log.csv && kfifo judge < log.csv`
 //!

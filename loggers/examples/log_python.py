@@ -1,6 +1,8 @@
 """A queue.Queue, logged: two threads put items in and two take them out, and then the queue is emptied. Prints the log.
-With the argument broken the queue gives an item that nobody put, and with short the logs are too small.
+With the argument own it is a deque behind a lock, with broken the queue gives an item that nobody put, and with short the
+logs are too small.
 """
+import collections
 import pathlib
 import queue
 import sys
@@ -20,6 +22,25 @@ class BrokenQueue(queue.Queue):
         return item + 65536 if item == 100 else item
 
 
+class OwnQueue:
+    """Says by its results, and not by exceptions, that it is full or empty."""
+
+    def __init__(self):
+        self.lock = threading.Lock()
+        self.items = collections.deque()
+
+    def put_nowait(self, item):
+        with self.lock:
+            if len(self.items) == 10:
+                return False
+            self.items.append(item)
+            return True
+
+    def get_nowait(self):
+        with self.lock:
+            return self.items.popleft() if self.items else None
+
+
 def produce(shared, log, start, first):
     start.wait()
     for item in range(first, first + ITEMS):
@@ -34,7 +55,7 @@ def consume(shared, log, start):
 
 def main():
     mode = sys.argv[1] if len(sys.argv) > 1 else ""
-    shared = BrokenQueue() if mode == "broken" else queue.Queue()
+    shared = {"broken": BrokenQueue, "own": OwnQueue}.get(mode, queue.Queue)()
     # The last log, that of the main thread, has room for all items and the Empty behind them.
     room = 10 if mode == "short" else 2 * ITEMS + 1
     logs = [kfifo_log.ThreadLog(thread, room) for thread in range(5)]
