@@ -6,7 +6,7 @@ use Rattle.kfifo_live.specs.Pass.{PassView, queue_of, AllSeen, IsPassOf}
 use Rattle.kfifo_live.proofs.Gathered.{all_seen_push, all_begin_parts, pass_begins}
 use Rattle.kfifo_live.proofs.closing.join_all.Goals as goal
 
-pub join_seats-requires-clause-other : goal.gather-requires-clause-other
+pub join_seats-requires-clause-other : goal.join_seats-requires-clause-other
 join_seats-requires-clause-other c =
     let of = All-pop (IsPassOf (queue_of c.args.seat.table_id c.args.seat.me.0.opened)) _ _ (Some c.in-Some.pass) c.in-Some.ensures.items
     c.loop-pass.invariant.all_of in
