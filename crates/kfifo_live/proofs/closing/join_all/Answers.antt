@@ -6,8 +6,8 @@ use Rattle.kfifo_live.specs.Pass.{PassView, queue_of, AllSeen, IsPassOf}
 use Rattle.kfifo_live.proofs.Gathered.{all_seen_push, all_begin_parts, pass_begins}
 use Rattle.kfifo_live.proofs.closing.join_all.Goals as goal
 
-pub gather-requires-clause-other : goal.gather-requires-clause-other
-gather-requires-clause-other c =
+pub join_seats-requires-clause-other : goal.join_seats-requires-clause-other
+join_seats-requires-clause-other c =
     let of = All-pop (IsPassOf (queue_of c.args.seat.table_id c.args.seat.me.0.opened)) _ _ (Some c.in-Some.pass) c.in-Some.ensures.items
     c.loop-pass.invariant.all_of in
     (ap (λ (k : PassView). k.table) c.pass.view_is ∙ of.1.0 ∙ c.requires.table.0, c.pass.invariant.held)
