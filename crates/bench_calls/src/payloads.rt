@@ -15,15 +15,23 @@ pub(crate) struct Parcel {
 /// How many tokens the pass has: one for each payload in the queue, and as many to give with.
 pub(crate) const TOKENS: u32 = 1_024;
 
-/// Gives 512 payloads, one after the other.
+/// How many payloads a filled queue has.
+pub(crate) const FILLED: u32 = 512;
+
+/// Gives so many payloads, one after the other.
+// Inlined, as the loops are, so that all stands in the function that has the queue itself.
+#[inline(always)]
 pub(crate) fn fill(queue: &PayQueue<Parcel>, pass: &mut PayPass<Parcel>, starts: &mut Starts)
     requires of { IsPassOf queue.now pass.old.pass }
     requires k { starts.old.k ≡ queue.now.opened.shape.k }
     ensures same { IsSamePass pass.old.pass pass.new.pass }
     ensures k { starts.new.k ≡ starts.old.k }
 {
-    for number in 0..512u64 {
-        let parcel = Parcel { number, weight: 1 };
+    for number in 0..FILLED {
+        let parcel = Parcel {
+            number: u64::from(number),
+            weight: 1,
+        };
         pass.give(queue, parcel, starts.next(), TURNS);
     }
 }

@@ -15,6 +15,7 @@ mod payload_closing;
 mod payload_meeting;
 mod payload_opening;
 mod payload_pool;
+mod pool_word;
 mod queue;
 mod recording;
 mod ring;

@@ -65,6 +65,7 @@ impl<T: Drop> PayQueue<T> {
             threads,
             tokens,
             pool: _,
+            latest: _,
         } = self;
         let PayPass {
             thread: _,

@@ -5,8 +5,8 @@ ghost use Rattle.kfifo_live.specs.Pass.{IsPassOf, IsSamePass};
 
 use kfifo_dispatch::{DispatchFault, Finished, Task};
 use kfifo_live::{
-    CloseFault, GatherFault, Given, OpenFault, Pass, PayPass, PayQueue, Queue, StampPass,
-    StampQueue, Taken,
+    CloseFault, GatherFault, Given, OpenFault, Pass, PayHandle, PayPass, PayQueue, Queue,
+    StampPass, StampQueue, Taken,
 };
 use kfifo_model::{Answer, History, MeasureFault, Overtaken, SearchFault};
 use kfifo_words::Shape;
@@ -157,6 +157,24 @@ pub fn take<T: Drop>(queue: &PayQueue<T>, pass: &mut PayPass<T>, start: u32, tur
     ensures { IsSamePass pass.old.pass pass.new.pass }
 {
     pass.take(queue, start, turns)
+}
+
+pub fn give_by_handle<T: Drop>(
+    queue: &PayQueue<T>,
+    handle: &mut PayHandle<T>,
+    payload: T,
+) -> Given<T>
+    requires { IsPassOf queue.now handle.old.pass.pass }
+    ensures { IsSamePass handle.old.pass.pass handle.new.pass.pass }
+{
+    handle.give(queue, payload)
+}
+
+pub fn take_by_handle<T: Drop>(queue: &PayQueue<T>, handle: &mut PayHandle<T>) -> Taken<T>
+    requires { IsPassOf queue.now handle.old.pass.pass }
+    ensures { IsSamePass handle.old.pass.pass handle.new.pass.pass }
+{
+    handle.take(queue)
 }
 
 pub fn close_payloads<T: Drop>(

@@ -2,8 +2,8 @@
 ghost use Rattle.std.specs.Prelude.{◌≡◌, ◌<◌, IfOk, IfSome, All};
 ghost use Rattle.kfifo_live.specs.Pass.{IsPassOf, IsSamePass};
 
-use crate::plain::{close_payloads, give, take};
-use kfifo_live::{Given, MAX_TOKENS, OpenFault, PayPass, PayQueue, Taken};
+use crate::plain::{close_payloads, give, give_by_handle, take, take_by_handle};
+use kfifo_live::{Given, MAX_TOKENS, OpenFault, PayHandle, PayPass, PayQueue, Taken};
 use kfifo_words::{MAX_VERSION, Shape};
 use std::alloc::{AllocError, Global};
 use std::process::Abort;
@@ -114,9 +114,9 @@ fn picks_up_what_was_laid_down(rt: HostRuntime) -> Result<(), Fail> {
     Ok(())
 }
 
-/// The first pass finds the tokens of the second at the end of the pool. So its next look begins there.
+/// The first pass picks up the tokens of the second, lays down its own before those, and finds all four again.
 #[test]
-fn looks_round_to_the_first_word(rt: HostRuntime) -> Result<(), Fail> {
+fn finds_all_tokens_of_two_passes(rt: HostRuntime) -> Result<(), Fail> {
     let shape = Shape::new(2, 4, MAX_VERSION)?;
     let (queue, mut first, mut second) = open_pool_two(rt.alloc(), shape, 2)?;
     check_moves(
@@ -243,8 +243,11 @@ fn opens_the_greatest_pool(rt: HostRuntime) -> Result<(), Fail> {
 /// So often a thread tries to give or take one payload before it gives up.
 const TRIES: u32 = 16_777_216;
 
-/// How many tokens each pass is opened with.
+/// How many tokens each pass is opened with. A thread that only gives needs many more, which come from the pool.
 const TOKENS: u32 = 3;
+
+/// How many payloads each thread gives.
+const PAYLOADS: u32 = 1_000_000;
 
 /// How many payloads of each thread that gives nobody takes.
 const LEFT: u32 = 2;
@@ -269,20 +272,16 @@ impl Drop for Counted {
     }
 }
 
-/// Gives a payload, with a token from the pool where the pass has none. Hands it back where it is refused.
+/// Gives a payload by a handle. Hands it back where it is refused.
 fn offer(
     queue: &PayQueue<Counted>,
-    pass: &mut PayPass<Counted>,
+    handle: &mut PayHandle<Counted>,
     payload: Counted,
 ) -> Option<Counted>
-    requires { IsPassOf queue.now pass.old.pass }
-    ensures { IsSamePass pass.old.pass pass.new.pass }
+    requires { IsPassOf queue.now handle.old.pass.pass }
+    ensures { IsSamePass handle.old.pass.pass handle.new.pass.pass }
 {
-    let start = queue.shape().k() - 1;
-    if pass.tokens() == 0 && !pick_up(queue, pass) {
-        return Some(payload);
-    }
-    match give(queue, pass, payload, start, 100) {
+    match give_by_handle(queue, handle, payload) {
         Given::Done => None,
         Given::Full(payload)
         | Given::Busy(payload)
@@ -292,13 +291,13 @@ fn offer(
 }
 
 /// Tries to give a payload until it is taken in. Whether it was.
-fn insist(queue: &PayQueue<Counted>, pass: &mut PayPass<Counted>, payload: Counted) -> bool
-    requires { IsPassOf queue.now pass.old.pass }
-    ensures { IsSamePass pass.old.pass pass.new.pass }
+fn insist(queue: &PayQueue<Counted>, handle: &mut PayHandle<Counted>, payload: Counted) -> bool
+    requires { IsPassOf queue.now handle.old.pass.pass }
+    ensures { IsSamePass handle.old.pass.pass handle.new.pass.pass }
 {
     let mut waiting = payload;
     for _try in 0..TRIES {
-        match offer(queue, pass, waiting) {
+        match offer(queue, handle, waiting) {
             None => return true,
             Some(back) => waiting = back,
         }
@@ -307,73 +306,59 @@ fn insist(queue: &PayQueue<Counted>, pass: &mut PayPass<Counted>, payload: Count
     false
 }
 
-/// Gives so many payloads. Returns the numbers of those that were not given.
+/// Gives so many payloads. Returns the number of the first that it could not give, if there is one.
 fn produce(
     alloc: Global,
     queue: &PayQueue<Counted>,
-    pass: &mut PayPass<Counted>,
+    handle: &mut PayHandle<Counted>,
     drops: &Arc<AtomicU64>,
     payloads: u32,
 ) -> Result<Vec<u64>, AllocError>
-    requires { IsPassOf queue.now pass.old.pass }
-    ensures { IsSamePass pass.old.pass pass.new.pass }
+    requires { IsPassOf queue.now handle.old.pass.pass }
+    ensures { IsSamePass handle.old.pass.pass handle.new.pass.pass }
 {
-    let thread = u64::from(pass.thread());
+    let thread = u64::from(handle.pass().thread());
     let mut kept = Vec::new(alloc);
     for place in 0..payloads {
         let number = (thread << 32) | u64::from(place);
-        if !insist(queue, pass, Counted::new(number, drops)?) {
+        if !insist(queue, handle, Counted::new(number, drops)?) {
             kept.push(number)?;
+            return Ok(kept);
         }
     }
     Ok(kept)
 }
 
-/// Takes a payload, and lays its token down where the pass then has more than it was opened with. Returns its number.
-fn accept(queue: &PayQueue<Counted>, pass: &mut PayPass<Counted>) -> Option<u64>
-    requires { IsPassOf queue.now pass.old.pass }
-    ensures { IsSamePass pass.old.pass pass.new.pass }
-{
-    let start = queue.shape().k() - 1;
-    let Taken::Got(payload) = take(queue, pass, start, 100) else {
-        return None;
-    };
-    if pass.tokens() > TOKENS as usize {
-        lay_down(queue, pass);
-    }
-    Some(payload.number)
-}
-
 /// Tries to take a payload until there is one. Returns its number.
-fn await_one(queue: &PayQueue<Counted>, pass: &mut PayPass<Counted>) -> Option<u64>
-    requires { IsPassOf queue.now pass.old.pass }
-    ensures { IsSamePass pass.old.pass pass.new.pass }
+fn await_one(queue: &PayQueue<Counted>, handle: &mut PayHandle<Counted>) -> Option<u64>
+    requires { IsPassOf queue.now handle.old.pass.pass }
+    ensures { IsSamePass handle.old.pass.pass handle.new.pass.pass }
 {
     for _try in 0..TRIES {
-        let number = accept(queue, pass);
-        if number.is_some() {
-            return number;
+        if let Taken::Got(payload) = take_by_handle(queue, handle) {
+            return Some(payload.number);
         }
         yield_now();
     }
     None
 }
 
-/// Takes so many payloads. Returns their numbers.
+/// Takes so many payloads, or fewer where it waited for one in vain. Returns their numbers.
 fn consume(
     alloc: Global,
     queue: &PayQueue<Counted>,
-    pass: &mut PayPass<Counted>,
+    handle: &mut PayHandle<Counted>,
     payloads: u32,
 ) -> Result<Vec<u64>, AllocError>
-    requires { IsPassOf queue.now pass.old.pass }
-    ensures { IsSamePass pass.old.pass pass.new.pass }
+    requires { IsPassOf queue.now handle.old.pass.pass }
+    ensures { IsSamePass handle.old.pass.pass handle.new.pass.pass }
 {
     let mut numbers = Vec::with_capacity(alloc, payloads as usize)?;
     for _place in 0..payloads {
-        if let Some(number) = await_one(queue, pass) {
-            numbers.push(number)?;
-        }
+        let Some(number) = await_one(queue, handle) else {
+            return Ok(numbers);
+        };
+        numbers.push(number)?;
     }
     Ok(numbers)
 }
@@ -389,7 +374,7 @@ struct Worker {
 fn work(
     alloc: Global,
     queue: &PayQueue<Counted>,
-    mut pass: PayPass<Counted>,
+    pass: PayPass<Counted>,
     drops: &Arc<AtomicU64>,
     givers: u32,
     payloads: u32,
@@ -397,12 +382,17 @@ fn work(
     requires { IsPassOf queue.now pass.pass }
     ensures { IsPassOf queue.now result.pass.pass }
 {
-    let numbers = if pass.thread() < givers {
-        produce(alloc, queue, &mut pass, drops, payloads)
+    let is_giver = pass.thread() < givers;
+    let mut handle = PayHandle::new(queue, pass);
+    let numbers = if is_giver {
+        produce(alloc, queue, &mut handle, drops, payloads)
     } else {
-        consume(alloc, queue, &mut pass, payloads.saturating_sub(LEFT))
+        consume(alloc, queue, &mut handle, payloads.saturating_sub(LEFT))
     };
-    Worker { pass, numbers }
+    Worker {
+        pass: handle.into_pass(),
+        numbers,
+    }
 }
 
 /// The numbers of all payloads that were taken or could not be given.
@@ -501,15 +491,15 @@ fn check_workers<R: Threads + Abort + Sync>(
 
 #[test]
 fn one_thread_gives_and_one_takes(rt: HostRuntime) -> Result<(), Fail> {
-    check_workers(&rt, rt.alloc(), 1, 10_000)
+    check_workers(&rt, rt.alloc(), 1, PAYLOADS)
 }
 
 #[test]
 fn two_threads_give_and_two_take(rt: HostRuntime) -> Result<(), Fail> {
-    check_workers(&rt, rt.alloc(), 2, 10_000)
+    check_workers(&rt, rt.alloc(), 2, PAYLOADS)
 }
 
 #[test]
 fn four_threads_give_and_four_take(rt: HostRuntime) -> Result<(), Fail> {
-    check_workers(&rt, rt.alloc(), 4, 10_000)
+    check_workers(&rt, rt.alloc(), 4, PAYLOADS)
 }
