@@ -4,9 +4,9 @@ use Rattle.kfifo_model.specs.declared.calls.Call.{Call}
 use Rattle.kfifo_model.specs.Searching.{HasOrder}
 use Rattle.kfifo_verdict.specs.declared.verdicts.Bounds.{Bounds}
 use Rattle.kfifo_verdict.specs.declared.verdicts.Evidence.{Evidence}
-use Rattle.kfifo_verdict.specs.Evidence.{IsNeverPut, IsTakenTwice}
-use Rattle.kfifo_verdict.specs.Judging.{AreBounds, FoundNotEmpty, IsFirstEvidence, Never}
+use Rattle.kfifo_verdict.specs.Judging.{AreBounds, HasNoneForEachK, IsFirstForEachK}
 use Rattle.kfifo_verdict.specs.declared.verdicts.Evidence.TheVariants.{NeverPut, TakenTwice, NotEmpty, TooYoung}
+use Rattle.kfifo_verdict.specs.declared.verdicts.Evidence.TheVariants.{TakenTooSoon}
 use Rattle.kfifo_import.specs.declared.log.LoggedCall.{LoggedCall}
 use Rattle.kfifo_judge.specs.Check.{line}
 use Rattle.kfifo_judge.specs.declared.outcome.Outcome.{Outcome}
@@ -20,37 +20,28 @@ at_most_line None = line (codes "k unknown")
 abbrev pub bounds_text : Bounds → List ℕ
 bounds_text b = line (codes "k at least " ++ decimal b.at_least) ++ at_most_line b.at_most
 
--- the evidence is of one of the kinds 1 to 3, in which no k is named
+-- the evidence is of one of the kinds 1, 2, 3 and 5, in which no k is named
 abbrev pub NamesNoK : Evidence → Type 0
 NamesNoK (NeverPut get) = Unit {0}
 NamesNoK (TakenTwice get) = Unit {0}
 NamesNoK (NotEmpty empty puts) = Unit {0}
 NamesNoK (TooYoung get puts) = ⊥
-
--- what follows the evidence against one k: bounds of the least k, where the evidence names a k
-abbrev pub FollowsReason : List Call → Evidence → List ℕ → Type 0
-FollowsReason h (NeverPut get) text = text ≡ []
-FollowsReason h (TakenTwice get) text = text ≡ []
-FollowsReason h (NotEmpty empty puts) text = text ≡ []
-FollowsReason h (TooYoung get puts) text = (b : Bounds) × AreBounds h b × (text ≡ bounds_text b)
+NamesNoK (TakenTooSoon get) = Unit {0}
 
 abbrev pub no_least_text : List LoggedCall → List Call → Evidence → List ℕ
 no_least_text logged h found = line (codes "no order") ++ reason_lines logged h found
 
--- There is evidence of the kinds 1 to 3, so no k has an order; it is told.
+-- There is evidence of the kinds 1, 2, 3 and 5, so no k has an order; it is told.
 pub record HasNoLeast (logged : List LoggedCall) (h : List Call) (text : List ℕ) (said : Outcome) : Type 0 where
   pub found : Evidence
-  pub first : (k : ℕ) → IsFirstEvidence k h found
-  pub named : NamesNoK found
+  pub first : IsFirstForEachK h found
   pub refuted : (k : ℕ) → HasOrder k h → ⊥
   pub told : text ≡ no_least_text logged h found
   pub ended : said ≡ Unordered
 
 -- There is none, and bounds of the least k are told.
 pub record HasBounds (h : List Call) (text : List ℕ) (said : Outcome) : Type 0 where
-  pub put : Never (IsNeverPut h)
-  pub taken_once : Never (IsTakenTwice h)
-  pub empty : Never (FoundNotEmpty h)
+  pub none : HasNoneForEachK h
   pub bounds : Bounds
   pub are : AreBounds h bounds
   pub told : text ≡ bounds_text bounds
@@ -59,3 +50,11 @@ pub record HasBounds (h : List Call) (text : List ℕ) (said : Outcome) : Type 0
 -- this is the text and the outcome for a history
 abbrev pub IsLeastAnswer : List LoggedCall → List Call → List ℕ → Outcome → Type 0
 IsLeastAnswer logged h text said = HasNoLeast logged h text said ⊎ HasBounds h text said
+
+-- what follows the evidence against one k: what `least` says, where the evidence names a k
+abbrev pub FollowsReason : List LoggedCall → List Call → Evidence → List ℕ → Type 0
+FollowsReason logged h (NeverPut get) text = text ≡ []
+FollowsReason logged h (TakenTwice get) text = text ≡ []
+FollowsReason logged h (NotEmpty empty puts) text = text ≡ []
+FollowsReason logged h (TooYoung get puts) text = (said : Outcome) × IsLeastAnswer logged h text said
+FollowsReason logged h (TakenTooSoon get) text = text ≡ []

@@ -1,5 +1,5 @@
 -- What `judge` says of a history.
-use Rattle.std.specs.Prelude.{ℕ, ◌≡◌, Bool, true, false, List, [], ◌++◌, Option, codes, decimal}
+use Rattle.std.specs.Prelude.{ℕ, ◌≡◌, Bool, true, false, List, [], ◌++◌, codes, decimal}
 use Rattle.kfifo_model.specs.declared.calls.Call.{Call}
 use Rattle.kfifo_model.specs.Ranks.{ranks_of}
 use Rattle.kfifo_verdict.specs.declared.verdicts.Evidence.{Evidence}
@@ -37,7 +37,7 @@ legal_text k show h order = about (codes "legal") k ++ worst_line (greatest (ran
 -- the evidence with the calls that it names, and what follows it
 abbrev pub IsNoOrderText : ℕ → List LoggedCall → List Call → Evidence → List ℕ → Type 0
 IsNoOrderText k logged h found text =
-    (rest : List ℕ) × FollowsReason h found rest
+    (rest : List ℕ) × FollowsReason logged h found rest
     × (text ≡ about (codes "no order") k ++ reason_lines logged h found ++ rest)
 
 -- why the search stopped

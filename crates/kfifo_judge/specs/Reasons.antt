@@ -1,10 +1,11 @@
 -- Why a history has no legal order.
-use Rattle.std.specs.Prelude.{ℕ, List, [], ◌∷◌, ◌++◌, Option, codes, decimal, length, take}
+use Rattle.std.specs.Prelude.{ℕ, List, [], ◌∷◌, ◌++◌, codes, decimal, length, take}
 use Rattle.kfifo_model.specs.declared.calls.Call.{Call}
 use Rattle.kfifo_model.specs.Relaxed.{Effect, Adds, Takes, FindsNone, Refused, Wrong}
 use Rattle.kfifo_model.specs.Histories.{does}
 use Rattle.kfifo_verdict.specs.declared.verdicts.Evidence.{Evidence}
 use Rattle.kfifo_verdict.specs.declared.verdicts.Evidence.TheVariants.{NeverPut, TakenTwice, NotEmpty, TooYoung}
+use Rattle.kfifo_verdict.specs.declared.verdicts.Evidence.TheVariants.{TakenTooSoon}
 use Rattle.kfifo_import.specs.declared.log.LoggedCall.{LoggedCall}
 use Rattle.kfifo_judge.specs.Check.{line}
 use Rattle.kfifo_judge.specs.Calls.{call_lines}
@@ -35,6 +36,7 @@ reason_text h (NotEmpty empty puts) =
 reason_text h (TooYoung get puts) =
     got_text h get (counted (codes ", while ") (length puts.items)
     (codes " older items were there: calls " ++ joined puts.items))
+reason_text h (TakenTooSoon get) = got_text h get (codes ", when more gets of it had ended than puts had begun")
 
 -- the calls that the evidence names, in its order
 abbrev pub named : Evidence → List ℕ
@@ -42,6 +44,7 @@ named (NeverPut get) = get ∷ []
 named (TakenTwice get) = get ∷ []
 named (NotEmpty empty puts) = empty ∷ puts.items
 named (TooYoung get puts) = get ∷ puts.items
+named (TakenTooSoon get) = get ∷ []
 
 -- the evidence in a line, and a line for each of the first 32 calls that it names
 abbrev pub reason_lines : List LoggedCall → List Call → Evidence → List ℕ

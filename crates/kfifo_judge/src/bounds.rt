@@ -1,18 +1,14 @@
 //! The answer of the command `least`.
 ghost use Rattle.std.specs.Prelude.{ℕ, ◌≡◌, ◌++◌, ◌↔◌, List, OnOk, IfOk, IsTrue, string_bytes};
-ghost use Rattle.kfifo_model.specs.Validity.{IsHistory};
 ghost use Rattle.kfifo_judge.specs.Bounds.{FollowsReason, IsLeastAnswer, NamesNoK, bounds_text, no_least_text};
 
 use crate::outcome::Outcome;
 use crate::reasons::push_reasons;
 use kfifo_import::LoggedCall;
 use kfifo_model::History;
-use kfifo_verdict::{Bounds, Evidence, evidence, least_k};
+use kfifo_verdict::{Bounds, Evidence, evidence_for_each_k, least_k};
 use std::alloc::{AllocError, Global};
 use std::fmt::Write;
-
-/// The greatest k that is asked for.
-const MAX_K: u32 = 64;
 
 /// Whether the evidence is there for each k.
 fn names_no_k(found: &Evidence) -> bool
@@ -21,6 +17,7 @@ fn names_no_k(found: &Evidence) -> bool
     match found {
         Evidence::NeverPut(_) | Evidence::TakenTwice(_) | Evidence::NotEmpty { .. } => true,
         Evidence::TooYoung { .. } => false,
+        Evidence::TakenTooSoon(_) => true,
     }
 }
 
@@ -34,23 +31,6 @@ fn push_bounds(text: &mut String, bounds: Bounds) -> Result<(), AllocError>
         Some(k) => writeln!(text, "k at most {k}"),
         None => writeln!(text, "k unknown"),
     }
-}
-
-/// Adds bounds of the least k behind evidence that is about one k alone.
-pub(crate) fn push_following(
-    alloc: Global,
-    text: &mut String,
-    history: &History,
-    tries: u64,
-    found: &Evidence,
-) -> Result<(), AllocError>
-    ensures { OnOk result ((rest : List ℕ) × FollowsReason history.now found.now rest
-        × (string_bytes text.new ≡ string_bytes text.old ++ rest)) }
-{
-    if names_no_k(found) {
-        return Ok(());
-    }
-    push_bounds(text, least_k(alloc, history, tries)?)
 }
 
 /// What is said where no k has an order.
@@ -69,7 +49,7 @@ fn no_least(
 }
 
 /// Returns between which bounds the least k lies for which a history has a legal order, as a text; or `no order` with
-/// the evidence and the calls that it names, where there is evidence that names no k. `logged` has the line and the
+/// the evidence and the calls that it names, where there is evidence for each k. `logged` has the line and the
 /// times of each call of a log, and nothing of a record. `tries` is the number of choices that each search for an order
 /// may undo. An error means that an allocation failed.
 pub fn least_text(
@@ -78,16 +58,32 @@ pub fn least_text(
     logged: &[LoggedCall],
     tries: u64,
 ) -> Result<(String, Outcome), AllocError>
-    requires { IsHistory history.now }
     ensures { IfOk result (λ a. IsLeastAnswer logged.now history.now (string_bytes a.0) a.1) }
 {
-    let found = evidence(alloc, history, MAX_K)?;
+    let found = evidence_for_each_k(alloc, history)?;
     if let Some(found) = &found {
-        if names_no_k(found) {
-            return Ok((no_least(alloc, history, logged, found)?, Outcome::Unordered));
-        }
+        return Ok((no_least(alloc, history, logged, found)?, Outcome::Unordered));
     }
     let mut text = String::new(alloc);
     push_bounds(&mut text, least_k(alloc, history, tries)?)?;
     Ok((text, Outcome::Answered))
+}
+
+/// Adds what `least` says, behind evidence that is about one k alone.
+pub(crate) fn push_following(
+    alloc: Global,
+    text: &mut String,
+    history: &History,
+    logged: &[LoggedCall],
+    tries: u64,
+    found: &Evidence,
+) -> Result<(), AllocError>
+    ensures { OnOk result ((rest : List ℕ) × FollowsReason logged.now history.now found.now rest
+        × (string_bytes text.new ≡ string_bytes text.old ++ rest)) }
+{
+    if names_no_k(found) {
+        return Ok(());
+    }
+    let (least, _outcome) = least_text(alloc, history, logged, tries)?;
+    text.push_str(&least)
 }

@@ -91,7 +91,7 @@ fn no_order(
     let mut text = String::new(alloc);
     push_about(&mut text, "no order", k)?;
     push_reasons(&mut text, history, logged, found)?;
-    push_following(alloc, &mut text, history, tries, found)?;
+    push_following(alloc, &mut text, history, logged, tries, found)?;
     Ok(text)
 }
 

@@ -58,6 +58,13 @@ fn push_reason(text: &mut String, history: &History, found: &Evidence) -> Result
             )?;
             push_joined(text, puts)
         }
+        Evidence::TakenTooSoon(get) => {
+            let item = item_got(history, *get);
+            write!(
+                text,
+                "call {get} got item {item}, when more gets of it had ended than puts had begun"
+            )
+        }
     }
 }
 
@@ -83,6 +90,7 @@ fn push_named(
             push_call(text, history, logged, *get)?;
             push_puts(text, history, logged, puts.as_slice())
         }
+        Evidence::TakenTooSoon(get) => push_call(text, history, logged, *get),
     }
 }
 

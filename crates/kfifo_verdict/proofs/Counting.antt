@@ -1,8 +1,9 @@
 -- How many numbers of a list, or below a bound, pass a test.
-use Rattle.std.proofs.Common.{ℕ, zero, suc, ◌≡◌, ◌≢◌, ◌+◌, ◌<◌, ◌≤◌, Bool, true, cond, count_by, List, [], ◌∷◌, ◌++◌, length, refl, sym}
-use Rattle.std.proofs.Common.{◌∙◌, ap, subst, inl, inr, arith, length-append}
-use Rattle.std.proofs.lemmas.Bool.{cases_Bool}
-use Rattle.std.proofs.lemmas.List.Sums.{sum_by-cons}
+use Rattle.std.proofs.Common.{ℕ, zero, suc, ◌≡◌, ◌≢◌, ◌+◌, ◌<◌, ◌≤◌, Bool, true, false, cond, count_by, List, [], ◌∷◌, ◌++◌, length, refl}
+use Rattle.std.proofs.Common.{sym, ◌∙◌, ap, subst, inl, inr, arith, length-append, add-one}
+use Rattle.std.proofs.lemmas.Bool.{cases_Bool, cases_lt}
+use Rattle.std.proofs.lemmas.List.Sums.{sum_by-cons, sum_by_push}
+use Rattle.std.specs.List.Sorted.{IsPartitionPoint}
 use Rattle.std.specs.List.{AllByRecursion}
 use Rattle.kfifo_model.specs.Lists.{IsIn, EachPair}
 use Rattle.kfifo_model.proofs.Lists.{in_append, in_less, in_more, parted, each_at, each_from, pairs_less, pairs_across, pairs_back, Differ}
@@ -98,3 +99,64 @@ as_many Has once (p ∷ l) items d f =
     ))) in
     let size = ap length parts.is in
     omega (arith, on, size, length-append parts.front (x ∷ parts.back), length-append parts.front parts.back)
+
+-- ---- lists that grow, and their beginnings
+
+pub count_push : {X : Type 0} (t : X → Bool) (l : List X) (x : X) → count_by t (l ++ x ∷ []) ≡ count_by t l + cond (t x) 1 0
+count_push t l x = sum_by_push (λ y. cond (t y) 1 0) l x
+
+pub below_more : (t : ℕ → Bool) (n : ℕ) → count_below t (n + 1) ≡ count_below t n + cond (t n) 1 0
+below_more t n = ap (count_below t) (add-one n)
+
+pub count_weaker : (t u : ℕ → Bool) (l : List ℕ) → ((c : ℕ) → IsIn c l → t c ≡ true → u c ≡ true) → count_by t l ≤ count_by u l
+count_weaker t u [] f = omega arith
+count_weaker t u (x ∷ l) f =
+    let on = count_weaker t u l (λ c i e. f c (inr i) e) in
+    let p = count_cons t x l in
+    let q = count_cons u x l in
+    elim (cases_Bool (t x)) [
+      | inl passes ↦ (
+          let one : ◌≡◌ {A = ℕ} (cond (t x) 1 0) 1 = ap (λ b. cond b 1 0) passes in
+          let too : ◌≡◌ {A = ℕ} (cond (u x) 1 0) 1 = ap (λ b. cond b 1 0) (f x (inl refl) passes) in
+          omega (arith, on, p, q, one, too)
+          )
+      | inr never ↦ (let none : ◌≡◌ {A = ℕ} (cond (t x) 1 0) 0 = ap (λ b. cond b 1 0) never in omega (arith, on, p, q, none))
+    ]
+
+-- the last number of a list that passes, where one does
+pub last_passing : (t : ℕ → Bool) (l : List ℕ) → 0 < count_by t l → (front : List ℕ) × (x : ℕ) × (back : List ℕ) × (l ≡ front ++ x ∷ back)
+    × (t x ≡ true) × (count_by t back ≡ 0)
+last_passing t [] some = absurd (omega (arith, some))
+last_passing t (x ∷ l) some =
+    elim (cases_lt 0 (count_by t l)) [
+      | inl later ↦ (let p = last_passing t l later in (x ∷ p.0, p.1, p.2, ap (λ w. x ∷ w) p.3, p.4, p.5))
+      | inr none ↦ elim (cases_Bool (t x)) [
+        | inl passes ↦ ([], x, l, refl, passes, omega (arith, none))
+        | inr never ↦ (
+            let zero : ◌≡◌ {A = ℕ} (cond (t x) 1 0) 0 = ap (λ b. cond b 1 0) never in
+            let p = count_cons t x l in
+            absurd (omega (arith, some, none, zero, p))
+            )
+      ]
+    ]
+
+-- where those that pass stand first, the place at which they end is their number
+pub count_at : {X : Type 0} (t : X → Bool) (l : List X) (i : ℕ) → i ≤ length l → IsPartitionPoint (λ y. t y ≡ true) (λ y. t y ≡ false) l i
+    → count_by t l ≡ i
+count_at t [] i le point = omega (arith, le)
+count_at t (x ∷ l) zero le point =
+    let on = count_at t l zero (omega arith) (
+      λ j d a b. absurd (omega (arith, a, b)),
+      λ j d a b. point.1 (suc j) d (omega arith) (omega (arith, b)),
+    ) in
+    let none : ◌≡◌ {A = ℕ} (cond (t x) 1 0) 0 = ap (λ b. cond b 1 0) (point.1 0 x (omega arith) (omega arith)) in
+    let p = sum_by-cons (λ y. cond (t y) 1 0) x l in
+    omega (arith, on, none, p)
+count_at t (x ∷ l) (suc i) le point =
+    let on = count_at t l i (omega (arith, le)) (
+      λ j d a b. point.0 (suc j) d (omega arith) (omega (arith, b)),
+      λ j d a b. point.1 (suc j) d (omega (arith, a)) (omega (arith, b)),
+    ) in
+    let one : ◌≡◌ {A = ℕ} (cond (t x) 1 0) 1 = ap (λ b. cond b 1 0) (point.0 0 x (omega arith) (omega arith)) in
+    let p = sum_by-cons (λ y. cond (t y) 1 0) x l in
+    omega (arith, on, one, p)

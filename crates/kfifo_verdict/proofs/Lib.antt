@@ -13,3 +13,4 @@ pub mod Serving
 pub mod Queueing
 pub mod Turning
 pub mod Lining
+pub mod Stepping

@@ -1,8 +1,9 @@
 -- Each kind of evidence refutes every order.
-use Rattle.std.proofs.Common.{ℕ, ◌≡◌, ◌≢◌, ◌<◌, ◌≤◌, ◌⊎◌, Bool, true, count_by, List, [], ◌∷◌, ◌++◌, length, map, refl, sym, ◌∙◌, ap, subst}
-use Rattle.std.proofs.Common.{inl, inr, arith, Option, Some, None, slice_get}
-use Rattle.std.proofs.lemmas.Bool.{cases_lt, eqb-true}
+use Rattle.std.proofs.Common.{ℕ, ◌≡◌, ◌≢◌, ◌<◌, ◌≤◌, ◌⊎◌, ◌+◌, ◌&&◌, Bool, true, cond, leb, count_by, List, [], ◌∷◌, ◌++◌, length, map}
+use Rattle.std.proofs.Common.{refl, sym, ◌∙◌, ap, subst, inl, inr, arith, Option, Some, None, slice_get, append_assoc}
+use Rattle.std.proofs.lemmas.Bool.{cases_lt, eqb-true, leb-true, le-leb, and_parts, and_from}
 use Rattle.std.proofs.lemmas.List.{map-append}
+use Rattle.std.proofs.lemmas.List.Sums.{sum_by-append}
 use Rattle.kfifo_model.specs.declared.calls.Call.{Call}
 use Rattle.kfifo_model.specs.declared.calls.End.{End}
 use Rattle.kfifo_model.specs.declared.calls.Op.{Op}
@@ -17,9 +18,10 @@ use Rattle.kfifo_model.proofs.Lists.{in_append, in_left, in_right, parted, each_
 use Rattle.kfifo_model.proofs.Lists.{pairs_weaker, Differ}
 use Rattle.kfifo_model.proofs.Forgetting.{Has}
 use Rattle.kfifo_model.proofs.Checking.{in_bounds}
-use Rattle.kfifo_verdict.specs.Evidence.{Puts, Gets, IsSingle, IsNeverPut, IsTakenTwice, IsNotEmpty, IsOlder, IsTooYoung, Rise}
-use Rattle.kfifo_verdict.proofs.Counting.{count_cons, count_into, count_within, as_many}
-use Rattle.kfifo_verdict.proofs.Runs.{RunsTo, run_split, runs_split, has_map, into_map, in_get, put_along, came_along, IsBehind}
+use Rattle.kfifo_verdict.specs.Evidence.{Puts, Gets, IsSingle, IsNeverPut, IsTakenTwice, IsNotEmpty, IsOlder, IsTooYoung, Rise, last_step}
+use Rattle.kfifo_verdict.specs.Evidence.{puts_begun, gets_ended, IsOverdrawn, IsTakenTooSoon}
+use Rattle.kfifo_verdict.proofs.Counting.{count_cons, count_into, count_within, count_weaker, last_passing, as_many}
+use Rattle.kfifo_verdict.proofs.Runs.{RunsTo, run_split, run_front, runs_split, has_map, into_map, in_get, put_along, came_along, IsBehind}
 use Rattle.kfifo_verdict.proofs.Runs.{behind_along, place_behind, times, taken_as_often}
 
 -- ---- what an effect says of its call
@@ -317,3 +319,63 @@ too_young_refutes k n h g puts v le t o =
     let size = t.count in
     let near = s.1 in
     absurd (omega (arith, far, many, size, near, le))
+
+-- ---- 5: taken too soon
+
+from_last : (o : Option End) (s : ℕ) → HasEnd o → EndsFrom s o → s ≤ last_step o
+from_last (Some end) s ended f = f
+from_last None s ended f = absurd ended
+
+-- a put that stands before a get has begun by the get's end
+begun_by : (h : List Call) (x d : ℕ) (front : List ℕ) → Gets h x d → EachPair (λ u v. Precedes h v u → ⊥) (front ++ d ∷ []) → (c : ℕ)
+    → IsIn c (front ++ d ∷ []) → Puts h x c → (call h c).first ≤ last_step (call h d).end
+begun_by h x d front gets before c i puts =
+    elim (in_append c front (d ∷ []) i) [
+      | inl j ↦ from_last (call h d).end (call h c).first (got_ended h x d gets)
+          (not_ended (call h d).end (call h c).first (pairs_across (λ u v. Precedes h v u → ⊥) front (d ∷ []) before c d j (inl refl)))
+      | inr j ↦ elim j [ inl same ↦ (let u = sym puts ∙ ap (does h) same in let w = u ∙ gets in absurd (cc)) | inr never ↦ absurd never ]
+    ]
+
+-- Of the gets that have ended by then, take the last in the order. Up to it stand all of them, and only puts that have begun.
+overdrawn_refutes : (k : ℕ) (h : List Call) (x step : ℕ) → IsOverdrawn h x step → HasOrder k h → ⊥
+overdrawn_refutes k h x step more o =
+    let order = o.0 in
+    let adds_x : ℕ → Bool = λ c. adds x (does h c) in
+    let takes_x : ℕ → Bool = λ c. takes x (does h c) in
+    let begun : ℕ → Bool = λ c. adds x (does h c) && leb (call h c).first step in
+    let ended : ℕ → Bool = λ c. takes x (does h c) && leb (last_step (call h c).end) step in
+    let gets_of_test : (c : ℕ) → ended c ≡ true → (Gets h x c) × (last_step (call h c).end ≤ step) = λ c t.
+    let both = and_parts (takes x (does h c)) (leb (last_step (call h c).end) step) t in
+    (takes_is x (does h c) both.0, leb-true (last_step (call h c).end) step both.1) in
+    let all : gets_ended h x step ≤ count_by ended order =
+    count_into ended (length h) order (λ c lt t. o.1.is_order.complete c (got_ended h x c (gets_of_test c t).0)) in
+    let p = last_passing ended order (omega (arith, all, more)) in
+    let d = p.1 in
+    let part = p.0 ++ d ∷ [] in
+    let whole : order ≡ part ++ p.2 = p.3 ∙ sym (append_assoc p.0 (d ∷ []) p.2) in
+    let D : List ℕ → Type 0 = λ w. EachPair Differ w in
+    let B : List ℕ → Type 0 = λ w. EachPair (λ u v. Precedes h v u → ⊥) w in
+    let R : List Effect → Type 0 = λ w. IsRun k [] w in
+    let distinct = pairs_front Differ part p.2 (subst D whole o.1.is_order.distinct) in
+    let before = pairs_front (λ u v. Precedes h v u → ⊥) part p.2 (subst B whole o.1.is_order.before) in
+    let run = run_front k [] (map (does h) part) (map (does h) p.2)
+    (subst R (ap (map (does h)) whole ∙ map-append (does h) part p.2) o.1.is_run) in
+    let last = gets_of_test d p.4 in
+    let split : count_by ended order ≡ count_by ended part + count_by ended p.2 =
+    ap (count_by ended) whole ∙ sum_by-append (λ c. cond (ended c) 1 0) part p.2 in
+    let none = p.5 in
+    let took = count_weaker ended takes_x part (λ c i t. (and_parts (takes x (does h c)) (leb (last_step (call h c).end) step) t).0) in
+    let put = count_weaker adds_x begun part (λ c i t.
+    let by = begun_by h x d p.0 last.0 before c i (adds_is x (does h c) t) in
+    let le = last.1 in
+    and_from (adds x (does h c)) (leb (call h c).first step) t (le-leb (call h c).first step (omega (arith, by, le)))) in
+    let few : count_by begun part ≤ puts_begun h x step =
+    count_within begun (length h) part distinct
+    (λ c i t. put_inside h x c (adds_is x (does h c) (and_parts (adds x (does h c)) (leb (call h c).first step) t).0)) in
+    let often = taken_as_often k x [] (map (does h) part) run in
+    let a = times_map h (takes x) part in
+    let b = times_map h (adds x) part in
+    absurd (omega (arith, all, more, split, none, took, put, few, often, a, b))
+
+pub too_soon_refutes : (k : ℕ) (h : List Call) (g : ℕ) → IsTakenTooSoon h g → HasOrder k h → ⊥
+too_soon_refutes k h g n o = overdrawn_refutes k h n.0 (last_step (call h g).end) n.2 o

@@ -20,6 +20,11 @@ pub run_split : (k : ℕ) (items : List ℕ) (es fs : List Effect) → IsRun k i
 run_split k items [] fs r = (items, refl, r)
 run_split k items (e ∷ es) fs r = let p = run_split k r.0 es fs r.2 in (p.0, (r.0, r.1, p.1), p.2)
 
+-- a run's beginning is a run
+pub run_front : (k : ℕ) (items : List ℕ) (es fs : List Effect) → IsRun k items (es ++ fs) → IsRun k items es
+run_front k items [] fs r = tt
+run_front k items (e ∷ es) fs r = (r.0, r.1, run_front k r.0 es fs r.2)
+
 pub runs_split : (k : ℕ) (items : List ℕ) (es fs : List Effect) (after : List ℕ) → RunsTo k items (es ++ fs) after → (mid : List ℕ)
     × RunsTo k items es mid × RunsTo k mid fs after
 runs_split k items [] fs after r = (items, refl, r)

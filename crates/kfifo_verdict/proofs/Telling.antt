@@ -54,11 +54,11 @@ tally_skip test first n t was fails = record {
 
 -- ---- what is put or got
 
-side_passes : (side : Side) (h : List Call) (x c : ℕ) → does h c ≡ side_effect side x → (y : ℕ) → has_item side h y c ≡ eqb y x
+pub side_passes : (side : Side) (h : List Call) (x c : ℕ) → does h c ≡ side_effect side x → (y : ℕ) → has_item side h y c ≡ eqb y x
 side_passes In h x c e y = ap (adds y) e
 side_passes Out h x c e y = ap (takes y) e
 
-side_is : (side : Side) (h : List Call) (x c : ℕ) → has_item side h x c ≡ true → does h c ≡ side_effect side x
+pub side_is : (side : Side) (h : List Call) (x c : ℕ) → has_item side h x c ≡ true → does h c ≡ side_effect side x
 side_is In h x c t = adds_is x (does h c) t
 side_is Out h x c t = takes_is x (does h c) t
 

@@ -1,8 +1,9 @@
--- Evidence that a history has no legal order: a few of its calls that make each order fail. The four kinds are those by
--- which Henzinger, Sezgin and Vafeiadis part the ways in which a queue can fail ("Aspect-oriented linearizability
--- proofs", CONCUR 2013), with k older items in place of one.
-use Rattle.std.specs.Prelude.{ℕ, zero, suc, ◌≡◌, ◌+◌, ◌<◌, ◌≤◌, Bool, cond, List, length}
+-- Evidence that a history has no legal order: a few of its calls that make each order fail. The kinds 1 to 4 are
+-- those by which Henzinger, Sezgin and Vafeiadis part the ways in which a queue can fail ("Aspect-oriented
+-- linearizability proofs", CONCUR 2013), with k older items in place of one. Kind 5 is for items that repeat.
+use Rattle.std.specs.Prelude.{ℕ, zero, suc, ◌≡◌, ◌+◌, ◌<◌, ◌≤◌, ◌&&◌, leb, Bool, cond, List, Option, Some, None, length}
 use Rattle.kfifo_model.specs.declared.calls.Call.{Call}
+use Rattle.kfifo_model.specs.declared.calls.End.{End}
 use Rattle.std.specs.List.{AllByRecursion}
 use Rattle.kfifo_model.specs.Lists.{EachPair, IsIn}
 use Rattle.kfifo_model.specs.Relaxed.{Adds, Takes, FindsNone}
@@ -84,3 +85,24 @@ pub record IsTooYoung (k : ℕ) (h : List Call) (get : ℕ) (puts : List ℕ) : 
   pub older : AllByRecursion (IsOlder h get put) puts
   pub rising : Rise puts
   pub count : length puts ≡ k
+
+-- a call's last step, or 0 where it has not ended
+abbrev pub last_step : Option End → ℕ
+last_step (Some end) = end.last
+last_step None = 0
+
+-- how many puts of x have begun by a step
+abbrev pub puts_begun : List Call → ℕ → ℕ → ℕ
+puts_begun h x step = count_below (λ c. adds x (does h c) && leb (call h c).first step) (length h)
+
+-- how many gets of x have ended by a step
+abbrev pub gets_ended : List Call → ℕ → ℕ → ℕ
+gets_ended h x step = count_below (λ c. takes x (does h c) && leb (last_step (call h c).end) step) (length h)
+
+-- by a step, more gets of x have ended than puts of x have begun
+abbrev pub IsOverdrawn : List Call → ℕ → ℕ → Type 0
+IsOverdrawn h x step = puts_begun h x step < gets_ended h x step
+
+-- 5: a call gets x, and by its end more gets of x have ended than puts of x have begun
+abbrev pub IsTakenTooSoon : List Call → ℕ → Type 0
+IsTakenTooSoon h get = (x : ℕ) × Gets h x get × IsOverdrawn h x (last_step (call h get).end)

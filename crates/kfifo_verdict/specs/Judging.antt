@@ -5,10 +5,12 @@ use Rattle.kfifo_model.specs.Histories.{IsFinished, IsLegal}
 use Rattle.kfifo_model.specs.Searching.{HasOrder}
 use Rattle.kfifo_verdict.specs.declared.verdicts.Evidence.{Evidence}
 use Rattle.kfifo_verdict.specs.declared.verdicts.Evidence.TheVariants.{NeverPut, TakenTwice, NotEmpty, TooYoung}
+use Rattle.kfifo_verdict.specs.declared.verdicts.Evidence.TheVariants.{TakenTooSoon}
 use Rattle.kfifo_verdict.specs.declared.verdicts.Judgement.{Judgement}
 use Rattle.kfifo_verdict.specs.declared.verdicts.Judgement.TheVariants.{Legal, NoOrder, Undecided}
 use Rattle.kfifo_verdict.specs.declared.verdicts.Bounds.{Bounds}
 use Rattle.kfifo_verdict.specs.Evidence.{Puts, IsSingle, IsNeverPut, IsTakenTwice, IsNotEmpty, IsTooYoung}
+use Rattle.kfifo_verdict.specs.Evidence.{IsTakenTooSoon}
 
 -- some puts show it of this call
 abbrev pub FoundNotEmpty : List Call → ℕ → Type 0
@@ -25,19 +27,46 @@ Never P = (c : ℕ) → P c → ⊥
 abbrev pub NeverBefore : (ℕ → Type 0) → ℕ → Type 0
 NeverBefore P n = (c : ℕ) → c < n → P c → ⊥
 
--- there is none of the four kinds of evidence
+-- there is none of the five kinds of evidence
 abbrev pub HasNoEvidence : ℕ → List Call → Type 0
 HasNoEvidence k h = Never (IsNeverPut h) × Never (IsTakenTwice h) × Never (FoundNotEmpty h) × Never (GotTooYoung k h)
+    × Never (IsTakenTooSoon h)
+
+-- there is none of the kinds 1 to 3
+abbrev pub HasNoneTo3 : List Call → Type 0
+HasNoneTo3 h = Never (IsNeverPut h) × Never (IsTakenTwice h) × Never (FoundNotEmpty h)
+
+-- evidence of the kinds 1 to 3: of the least number that is there, and of that number the one with the least call
+abbrev pub IsFirstTo3 : List Call → Evidence → Type 0
+IsFirstTo3 h (NeverPut get) = IsNeverPut h get × NeverBefore (IsNeverPut h) get
+IsFirstTo3 h (TakenTwice get) = Never (IsNeverPut h) × IsTakenTwice h get × NeverBefore (IsTakenTwice h) get
+IsFirstTo3 h (NotEmpty empty puts) =
+    Never (IsNeverPut h) × Never (IsTakenTwice h) × IsNotEmpty h empty puts.items × NeverBefore (FoundNotEmpty h) empty
+IsFirstTo3 h (TooYoung get puts) = ⊥
+IsFirstTo3 h (TakenTooSoon get) = ⊥
 
 -- evidence of the least number that is there, and of that number the one with the least call
 abbrev pub IsFirstEvidence : ℕ → List Call → Evidence → Type 0
-IsFirstEvidence k h (NeverPut get) = IsNeverPut h get × NeverBefore (IsNeverPut h) get
-IsFirstEvidence k h (TakenTwice get) = Never (IsNeverPut h) × IsTakenTwice h get × NeverBefore (IsTakenTwice h) get
-IsFirstEvidence k h (NotEmpty empty puts) =
-    Never (IsNeverPut h) × Never (IsTakenTwice h) × IsNotEmpty h empty puts.items × NeverBefore (FoundNotEmpty h) empty
 IsFirstEvidence k h (TooYoung get puts) =
     Never (IsNeverPut h) × Never (IsTakenTwice h) × Never (FoundNotEmpty h) × IsTooYoung k h get puts.items
     × NeverBefore (GotTooYoung k h) get
+IsFirstEvidence k h (TakenTooSoon get) =
+    Never (IsNeverPut h) × Never (IsTakenTwice h) × Never (FoundNotEmpty h) × Never (GotTooYoung k h)
+    × IsTakenTooSoon h get
+    × NeverBefore (IsTakenTooSoon h) get
+IsFirstEvidence k h found = IsFirstTo3 h found
+
+-- there is no evidence but of kind 4, the only one that is about one k
+abbrev pub HasNoneForEachK : List Call → Type 0
+HasNoneForEachK h = Never (IsNeverPut h) × Never (IsTakenTwice h) × Never (FoundNotEmpty h) × Never (IsTakenTooSoon h)
+
+-- evidence of the kinds 1, 2, 3 and 5: of the least number that is there, and of that number the one with the least
+-- call
+abbrev pub IsFirstForEachK : List Call → Evidence → Type 0
+IsFirstForEachK h (TakenTooSoon get) =
+    Never (IsNeverPut h) × Never (IsTakenTwice h) × Never (FoundNotEmpty h) × IsTakenTooSoon h get
+    × NeverBefore (IsTakenTooSoon h) get
+IsFirstForEachK h found = IsFirstTo3 h found
 
 -- each item that is put is single, and each call has ended
 abbrev pub IsPlain : List Call → Type 0

@@ -2,3 +2,4 @@ pub mod Evidence
 pub mod Finding
 pub mod Judging
 pub mod Plain
+pub mod Soon

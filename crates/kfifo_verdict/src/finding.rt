@@ -12,9 +12,11 @@ ghost use Rattle.kfifo_verdict.specs.Finding.{IsBucketed, IsCovered, outlast, la
 ghost use Rattle.kfifo_verdict.specs.Finding.{AreSkips, IsCountedTo, AreFirst, first_of};
 ghost use Rattle.kfifo_verdict.specs.Judging.{FoundNotEmpty, GotTooYoung, Never, NeverBefore, HasNoEvidence};
 ghost use Rattle.kfifo_verdict.specs.Judging.{IsFirstEvidence};
+ghost use Rattle.kfifo_verdict.specs.Judging.{HasNoneTo3, IsFirstTo3, HasNoneForEachK, IsFirstForEachK};
 
 use crate::deeds::{Deed, deed_of, ends_before, first_after};
 use crate::presences::{Items, Presence};
+use crate::soon::taken_too_soon;
 use crate::tallies::{Tallies, tally_of};
 use crate::verdicts::Evidence;
 use kfifo_model::{Call, History};
@@ -374,12 +376,16 @@ fn too_young(
     Ok(None)
 }
 
-/// The evidence among the calls of a history.
-fn evidence_among(alloc: Global, calls: &[Call], k: usize) -> Result<Option<Evidence>, AllocError>
-    requires { IsHistory calls.now }
-    ensures { IfOk result (λ found. MatchOption found (HasNoEvidence k calls.now) (IsFirstEvidence k calls.now)) }
+/// The evidence of the kinds 1 to 3.
+fn evidence_to_3(
+    alloc: Global,
+    calls: &[Call],
+    items: &Items,
+) -> Result<Option<Evidence>, AllocError>
+    requires history { IsHistory calls.now }
+    requires items { IsIndexed calls.now items.now }
+    ensures { IfOk result (λ found. MatchOption found (HasNoneTo3 calls.now) (IsFirstTo3 calls.now)) }
 {
-    let items = Items::of(alloc, calls)?;
     if let Some(get) = never_put(calls, &items.puts) {
         return Ok(Some(Evidence::NeverPut(get)));
     }
@@ -390,15 +396,45 @@ fn evidence_among(alloc: Global, calls: &[Call], k: usize) -> Result<Option<Evid
     if let Some((empty, puts)) = not_empty(alloc, calls, &stays)? {
         return Ok(Some(Evidence::NotEmpty { empty, puts }));
     }
+    Ok(None)
+}
+
+/// The evidence among the calls of a history.
+fn evidence_among(alloc: Global, calls: &[Call], k: usize) -> Result<Option<Evidence>, AllocError>
+    requires { IsHistory calls.now }
+    ensures { IfOk result (λ found. MatchOption found (HasNoEvidence k calls.now) (IsFirstEvidence k calls.now)) }
+{
+    let items = Items::of(alloc, calls)?;
+    if let Some(found) = evidence_to_3(alloc, calls, &items)? {
+        return Ok(Some(found));
+    }
     if let Some((get, puts)) = too_young(alloc, calls, &items, k)? {
         return Ok(Some(Evidence::TooYoung { get, puts }));
+    }
+    if let Some(get) = taken_too_soon(alloc, calls)? {
+        return Ok(Some(Evidence::TakenTooSoon(get)));
     }
     Ok(None)
 }
 
-/// The evidence that a history has no legal order for a queue that may give any of its k oldest items: of the kinds
-/// that are there the first, and of that kind the one with the least call. None exactly where there is none of the
-/// four.
+/// The evidence for each k among the calls of a history.
+fn evidence_for_all(alloc: Global, calls: &[Call]) -> Result<Option<Evidence>, AllocError>
+    requires { IsHistory calls.now }
+    ensures { IfOk result (λ found. MatchOption found (HasNoneForEachK calls.now) (IsFirstForEachK calls.now)) }
+{
+    let items = Items::of(alloc, calls)?;
+    if let Some(found) = evidence_to_3(alloc, calls, &items)? {
+        return Ok(Some(found));
+    }
+    if let Some(get) = taken_too_soon(alloc, calls)? {
+        return Ok(Some(Evidence::TakenTooSoon(get)));
+    }
+    Ok(None)
+}
+
+/// Returns the evidence that a history has no legal order for a queue that may give any of its k oldest items: of the
+/// numbers that are there the least, and of that number the one with the least call. None exactly where there is none
+/// of the five kinds.
 pub fn evidence(alloc: Global, history: &History, k: u32) -> Result<Option<Evidence>, AllocError>
     requires { (1 ≤ k) × (k ≤ 64) }
     ensures first { IfOk result (λ found.
@@ -406,4 +442,14 @@ pub fn evidence(alloc: Global, history: &History, k: u32) -> Result<Option<Evide
     ensures refutes { IfOk result (λ found. OnSome found (HasOrder k history.now → ⊥)) }
 {
     evidence_among(alloc, history.calls(), k as usize)
+}
+
+/// Returns the evidence that a history has a legal order for no k: as `evidence`, but for number 4, which is about one
+/// k.
+pub fn evidence_for_each_k(alloc: Global, history: &History) -> Result<Option<Evidence>, AllocError>
+    ensures first { IfOk result (λ found.
+        MatchOption found (HasNoneForEachK history.now) (IsFirstForEachK history.now)) }
+    ensures refutes { IfOk result (λ found. OnSome found ((k : ℕ) → HasOrder k history.now → ⊥)) }
+{
+    evidence_for_all(alloc, history.calls())
 }

@@ -9,13 +9,14 @@ mod picks;
 mod presences;
 mod rings;
 mod seen;
+mod soon;
 mod state;
 mod tallies;
 mod turns;
 mod verdicts;
 mod walking;
 
-pub use finding::evidence;
+pub use finding::{evidence, evidence_for_each_k};
 pub use judging::{judge, least_k};
 pub use verdicts::{Bounds, Evidence, Judgement, Stuck};
 pub use walking::witness;

@@ -21,6 +21,8 @@ pub enum Evidence {
         /// The puts of k of them, by rising number.
         puts: Vec<usize>,
     },
+    /// 5: this call got an item of which, by the call's end, more gets had ended than puts had begun.
+    TakenTooSoon(usize),
 }
 
 /// Why the search for an order found none.
@@ -39,7 +41,7 @@ pub enum Judgement {
     Legal(Vec<usize>),
     /// No order is legal, because of this.
     NoOrder(Evidence),
-    /// There is none of the four kinds of evidence, and no order was found, for this reason: there may be one all the
+    /// There is none of the five kinds of evidence, and no order was found, for this reason: there may be one all the
     /// same.
     Undecided(Stuck),
 }

@@ -607,6 +607,15 @@ To do: see below for which k there may be an order: for those the queue is a k-r
 ",
     },
     Topic {
+        words: "call # got item #, when",
+        help: JUDGE,
+        line: "  call <N> got item <X>, when",
+        advice: "\
+To do: look for a dequeue that takes an item which another one takes, too; give each item a number of its own to see
+which one.
+",
+    },
+    Topic {
         words: "call #: thread",
         help: JUDGE,
         line: "  call <N>: thread",

@@ -42,6 +42,9 @@ The answer is one of these:
   call <N> got item <X>, while <K> older items were there: calls <CALLS>
                               an overtaking: the items of these puts stood before X, so X was not one of
                               the k oldest
+  call <N> got item <X>, when more gets of it had ended than puts had begun
+                              an item too soon: X is put more than once, but by the end of call N more calls
+                              had got it than had begun to put it
   Then come the calls that are named, the first 32 of them, each in a line:
   call <N>: thread <T> put <X> from <FIRST> to <LAST>
                               what call N did, and when; or `got <X>`, or `found nothing`

@@ -202,6 +202,7 @@ fn named_calls(alloc: Global, found: &Evidence) -> Result<Vec<usize>, AllocError
     let mut calls = Vec::new(alloc);
     match found {
         Evidence::NeverPut(get) | Evidence::TakenTwice(get) => calls.push(*get)?,
+        Evidence::TakenTooSoon(get) => calls.push(*get)?,
         Evidence::NotEmpty { empty, puts } => {
             calls.push(*empty)?;
             calls.extend_from_slice(puts.as_slice())?;
@@ -275,6 +276,13 @@ fn push_reason(text: &mut String, history: &History, found: &Evidence) -> Result
             write!(
                 text,
                 "call {get} got item {item}, while {count} older items were there"
+            )
+        }
+        Evidence::TakenTooSoon(get) => {
+            let item = item_got(history, *get);
+            write!(
+                text,
+                "call {get} got item {item}, when more gets of it had ended than puts had begun"
             )
         }
     }

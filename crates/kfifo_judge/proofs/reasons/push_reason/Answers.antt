@@ -29,3 +29,9 @@ returns-in_ok-write-in-TooYoung c =
     (counted (codes " got item ") item (counted (codes ", while ") (length c.as_slice-puts.result.now)
     (codes " older items were there: calls "))) = c.in_ok-write-in-TooYoung.ensures.bytes in
     rw (c.in-TooYoung.is, ← got, ← puts) (on_ok _ _ _ _ (rw wrote (simp append_assoc)) c.push_joined-in-TooYoung.ensures)
+
+pub returns-in-TakenTooSoon : goal.returns-in-TakenTooSoon
+returns-in-TakenTooSoon c =
+    let got : c.item_got-item-in-TakenTooSoon.result ≡ taken (does c.args.history.now c.in-TakenTooSoon.get) =
+    c.item_got-item-in-TakenTooSoon.ensures in
+    rw (c.in-TakenTooSoon.is, ← got) c.write-in-TakenTooSoon.ensures.bytes
