@@ -2,9 +2,9 @@
 use Rattle.std.proofs.Common.{◌≡◌, ◌≢◌, ℕ, List, Option, Some, subst, sym, ◌⊎◌, inl, inr, option_map, Result, Ok, Err, IfErr, IfOk}
 use Rattle.std.proofs.Common.{MatchResult}
 use Rattle.kfifo_cli_texts.specs.declared.fault.Fault.{Fault}
-use Rattle.kfifo_cli_texts.specs.declared.fault.Fault.TheVariants.{Shape, Word, Order, Picks, Replay, Trace, Open, Dispatch, Input, NotJson}
-use Rattle.kfifo_cli_texts.specs.declared.fault.Fault.TheVariants.{Record, Search, RepeatedItem, Import, TooManyDrawn, Contradiction}
-use Rattle.kfifo_cli_texts.specs.declared.fault.Fault.TheVariants.{Stretch, NoLines, Unexplained, Memory, Output}
+use Rattle.kfifo_cli_texts.specs.declared.fault.Fault.TheVariants.{Shape, Word, Order, Picks, Replay, Trace, Open, Dispatch, Input, NoInput}
+use Rattle.kfifo_cli_texts.specs.declared.fault.Fault.TheVariants.{NotJson, Record, Search, RepeatedItem, Import, TooManyDrawn}
+use Rattle.kfifo_cli_texts.specs.declared.fault.Fault.TheVariants.{Contradiction, Stretch, NoLines, Unexplained, Memory, Output}
 use Rattle.kfifo_cli_commands.specs.declared.cut.Cut.{Cut}
 use Rattle.kfifo_cli_commands.specs.declared.options.DrawOptions.{DrawOptions}
 use Rattle.kfifo_cli_commands.specs.Cuts.{AsksFor, IsCutFault}
@@ -25,6 +25,7 @@ module _ (input : Option (List ℕ)) (before after : ℕ) (options : DrawOptions
   cut_refused (Open fault) u = absurd u
   cut_refused (Dispatch fault) u = absurd u
   cut_refused Input u = absurd u
+  cut_refused NoInput u = absurd u
   cut_refused NotJson u = absurd u
   cut_refused (Record fault) u = absurd u
   cut_refused (Search fault) u = absurd u
@@ -66,6 +67,7 @@ module _ (input : Option (List ℕ)) (before after : ℕ) (options : DrawOptions
     picture_refused (Open fault) u = absurd u
     picture_refused (Dispatch fault) u = absurd u
     picture_refused Input u = absurd u
+    picture_refused NoInput u = undrawn NoInput u
     picture_refused NotJson u = undrawn NotJson u
     picture_refused (Record fault) u = undrawn (Record fault) u
     picture_refused (Search fault) u = absurd u

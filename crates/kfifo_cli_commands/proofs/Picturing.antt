@@ -7,9 +7,9 @@ use Rattle.kfifo_draw.specs.declared.picture.DrawFault.{DrawFault}
 use Rattle.kfifo_draw.specs.declared.picture.DrawFault.TheVariants as pictures
 use Rattle.kfifo_cli_texts.specs.Faults.{picture_fault}
 use Rattle.kfifo_cli_texts.specs.declared.fault.Fault.{Fault}
-use Rattle.kfifo_cli_texts.specs.declared.fault.Fault.TheVariants.{Shape, Word, Order, Picks, Replay, Trace, Open, Dispatch, Input, NotJson}
-use Rattle.kfifo_cli_texts.specs.declared.fault.Fault.TheVariants.{Record, Search, RepeatedItem, Import, TooManyDrawn, Contradiction}
-use Rattle.kfifo_cli_texts.specs.declared.fault.Fault.TheVariants.{Stretch, NoLines, Unexplained, Memory, Output}
+use Rattle.kfifo_cli_texts.specs.declared.fault.Fault.TheVariants.{Shape, Word, Order, Picks, Replay, Trace, Open, Dispatch, Input, NoInput}
+use Rattle.kfifo_cli_texts.specs.declared.fault.Fault.TheVariants.{NotJson, Record, Search, RepeatedItem, Import, TooManyDrawn}
+use Rattle.kfifo_cli_texts.specs.declared.fault.Fault.TheVariants.{Contradiction, Stretch, NoLines, Unexplained, Memory, Output}
 use Rattle.kfifo_cli_commands.specs.declared.cut.Cut.{Cut}
 use Rattle.kfifo_cli_commands.specs.Inputs.{IsNoCalls}
 use Rattle.kfifo_cli_commands.specs.Pictures.{AreCallsOf, IsNoPicture}
@@ -28,6 +28,7 @@ module _ (k : ℕ) (asked : Bool) (cut : Cut) (bytes : List ℕ) where
   no_calls (Open fault) u = absurd u
   no_calls (Dispatch fault) u = absurd u
   no_calls Input u = absurd u
+  no_calls NoInput u = u
   no_calls NotJson u = u
   no_calls (Record fault) u = u
   no_calls (Search fault) u = absurd u

@@ -9,14 +9,14 @@ use Rattle.kfifo_judge.specs.declared.record.StreamFault.TheVariants as streams
 use Rattle.kfifo_judge.specs.Inputs.{IsRecordText}
 use Rattle.kfifo_judge.specs.TextFaults.{IsTextFault}
 use Rattle.kfifo_cli_texts.specs.declared.fault.Fault.{Fault}
-use Rattle.kfifo_cli_texts.specs.declared.fault.Fault.TheVariants.{Import, NotJson, Record, Memory}
+use Rattle.kfifo_cli_texts.specs.declared.fault.Fault.TheVariants.{Import, NoInput, NotJson, Record, Memory}
 
 -- a space, a tab, a line feed or a carriage return
 abbrev pub IsSpace : ℕ → Type 0
 IsSpace byte = (byte ≡ 32) ⊎ (byte ≡ 9) ⊎ (byte ≡ 10) ⊎ (byte ≡ 13)
 
--- The first byte that is no white space is `[`: the input is a record in JSON. Any other input is a log in CSV, an
--- empty one too.
+-- The first byte that is no white space is `[`: the input is a record in JSON. Any other input with a byte is a log in
+-- CSV.
 pub record BeginsRecord (bytes : List ℕ) : Type 0 where
   pub place : ℕ
   pub inside : place < length bytes
@@ -36,8 +36,9 @@ logged_calls None = []
 
 -- why an input has no calls
 abbrev pub IsNoCalls : List ℕ → Fault → Type 0
+IsNoCalls bytes NoInput = bytes ≡ []
 IsNoCalls bytes NotJson = BeginsRecord bytes × IsTextFault bytes streams.NotJson
 IsNoCalls bytes (Record fault) = BeginsRecord bytes × IsTextFault bytes (streams.Record fault)
-IsNoCalls bytes (Import fault) = ¬ (BeginsRecord bytes) × IsUnimported bytes fault
+IsNoCalls bytes (Import fault) = (bytes ≢ []) × ¬ (BeginsRecord bytes) × IsUnimported bytes fault
 IsNoCalls bytes Memory = Unit {0}
 IsNoCalls bytes _ = ⊥

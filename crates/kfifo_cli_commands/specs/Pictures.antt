@@ -8,8 +8,9 @@ use Rattle.kfifo_verdict.specs.Judging.{HasNoEvidence, IsFirstEvidence}
 use Rattle.kfifo_draw.specs.Drawing.{AreFew, AreMany, IsInPart}
 use Rattle.kfifo_draw.specs.declared.part.Part.{Part}
 use Rattle.kfifo_cli_texts.specs.declared.fault.Fault.{Fault}
-use Rattle.kfifo_cli_texts.specs.declared.fault.Fault.TheVariants.{Order, Input, NotJson, Record, Import, TooManyDrawn}
-use Rattle.kfifo_cli_texts.specs.declared.fault.Fault.TheVariants.{Contradiction, Stretch, NoLines, Memory}
+use Rattle.kfifo_cli_texts.specs.declared.fault.Fault.TheVariants.{Order, Input, NoInput, NotJson, Record, Import}
+use Rattle.kfifo_cli_texts.specs.declared.fault.Fault.TheVariants.{TooManyDrawn, Contradiction, Stretch, NoLines}
+use Rattle.kfifo_cli_texts.specs.declared.fault.Fault.TheVariants.{Memory}
 use Rattle.kfifo_cli_commands.specs.declared.options.DrawOptions.{DrawOptions}
 use Rattle.kfifo_cli_commands.specs.declared.cut.Cut.{Cut}
 use Rattle.kfifo_cli_commands.specs.Cuts.{AsksFor, IsCutFault, IsOfLines, IsPartOf, named_by}
@@ -46,6 +47,7 @@ IsPicture k asked cut bytes = AreCallsOf AreFew k asked cut bytes
 
 -- why there is no picture of these calls of an input
 abbrev pub IsNoPicture : ℕ → Bool → Cut → List ℕ → Fault → Type 0
+IsNoPicture k asked cut bytes NoInput = IsNoCalls bytes NoInput
 IsNoPicture k asked cut bytes NotJson = IsNoCalls bytes NotJson
 IsNoPicture k asked cut bytes (Record fault) = IsNoCalls bytes (Record fault)
 IsNoPicture k asked cut bytes (Import fault) = IsNoCalls bytes (Import fault)

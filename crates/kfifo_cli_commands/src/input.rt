@@ -63,13 +63,17 @@ fn begins_record(bytes: &[u8]) -> bool
 }
 
 /// The calls of an input. Where its first byte that is no white space is `[` it is a record in JSON, read as `check`
-/// reads it and with its faults; else it is a log in CSV, read as `import` reads it and with its faults. An input with
-/// no byte, or of white space alone, is a log that lacks its header: the fault is `csv fault at line 1`.
+/// reads it and with its faults; else it is a log in CSV, read as `import` reads it and with its faults. An input of
+/// white space alone is a log that lacks its header. One with no byte is neither: the command before it in a pipe has
+/// probably failed.
 pub(crate) fn read_calls(alloc: Global, bytes: &[u8]) -> Result<Calls, Fault>
     ensures { MatchResult result (λ calls.
         IsCalls bytes.now calls.history (option_map (λ logged. logged.items) calls.logged))
         (IsNoCalls bytes.now) }
 {
+    if bytes.is_empty() {
+        return Err(Fault::NoInput);
+    }
     if begins_record(bytes) {
         let history = read_record(alloc, bytes)?;
         return Ok(Calls {

@@ -99,6 +99,7 @@ fault_text faults.Trace = codes "trace fault"
 fault_text (faults.Open fault) = codes "open fault " ++ decimal (open_fault_number fault)
 fault_text (faults.Dispatch fault) = codes "dispatch fault " ++ decimal (dispatch_fault_number fault)
 fault_text faults.Input = codes "input"
+fault_text faults.NoInput = codes "no input"
 fault_text faults.NotJson = codes "not json"
 fault_text (faults.Record fault) = codes "record fault " ++ record_fault_text fault
 fault_text (faults.Search fault) = codes "search fault " ++ decimal (search_fault_number fault)

@@ -42,6 +42,8 @@ pub enum Fault {
     Dispatch(DispatchFault),
     /// Reading failed, or over 16,777,216 bytes came.
     Input,
+    /// The input has no byte.
+    NoInput,
     /// The input is no JSON text, or is not UTF-8.
     NotJson,
     /// The input is no record.
@@ -102,6 +104,7 @@ impl Fault {
             Fault::Open(fault) => Line::numbered("open fault ", fault.number() as usize),
             Fault::Dispatch(fault) => Line::numbered("dispatch fault ", fault.number() as usize),
             Fault::Input => Line::plain("input"),
+            Fault::NoInput => Line::plain("no input"),
             Fault::NotJson => Line::plain("not json"),
             Fault::Record(fault) => Line {
                 words: "record fault ",

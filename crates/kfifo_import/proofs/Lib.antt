@@ -3,3 +3,7 @@ pub mod Points
 pub mod Stamps
 pub mod Logs
 pub mod Rows
+pub mod Texts
+pub mod Walks
+pub mod Fronts
+pub mod Readings

@@ -1,5 +1,6 @@
 -- The fields of a log's lines.
-use Rattle.std.specs.Prelude.{◌≡◌, ℕ, ◌≤◌, List, [], Option, Some, None, EachIndex, codes, length, min, slice_index}
+use Rattle.std.specs.Prelude.{◌≡◌, ◌≢◌, ℕ, ◌^◌, ◌<◌, ◌≤◌, List, [], Option, Some, None, EachIndex, codes, length, min}
+use Rattle.std.specs.Prelude.{slice_index}
 use Rattle.std.specs.Int.{IsInRange}
 use Rattle.std.specs.Str.Parse.{digits_value}
 use Rattle.csv.specs.Records.{field_at}
@@ -24,11 +25,12 @@ pub record HasColumns (names : List (List ℕ)) (columns : Columns) : Type 0 whe
 abbrev pub IsDigits : List ℕ → Type 0
 IsDigits text = EachIndex text (λ i. IsInRange 48 57 (slice_index text i))
 
--- decimal digits write this number
+-- decimal digits write this number, which has at most 64 bits
 pub record WritesWhole (text : List ℕ) (number : ℕ) : Type 0 where
   pub some : 1 ≤ length text
   pub digits : IsDigits text
   pub value : number ≡ digits_value 10 text
+  pub fits : number < 2 ^ 64
 
 -- the same, where a number of over 32 bits, which is out of every range, is taken as the greatest of 32 bits
 abbrev pub WritesSmall : List ℕ → ℕ → Type 0
@@ -42,7 +44,7 @@ DoesNotApply (Some text) = text ≡ []
 -- the text of a field, none where it does not apply
 abbrev pub GivesText : Option (List ℕ) → Option (List ℕ) → Type 0
 GivesText given None = DoesNotApply given
-GivesText given (Some text) = given ≡ Some text
+GivesText given (Some text) = (given ≡ Some text) × (1 ≤ length text)
 
 -- the number of a field, none where it does not apply
 abbrev pub Gives : (List ℕ → ℕ → Type 0) → Option (List ℕ) → Option ℕ → Type 0
@@ -54,18 +56,26 @@ abbrev pub IsOp : List ℕ → Option ℕ → Op → Type 0
 IsOp text item (Enqueue x) = (text ≡ codes "enq") × (item ≡ Some x)
 IsOp text item Dequeue = text ≡ codes "deq"
 
+-- no enqueue has this answer
+abbrev pub IsNoPutAnswer : List ℕ → Type 0
+IsNoPutAnswer text = (text ≢ codes "done") × (text ≢ codes "full") × (text ≢ codes "busy") × (text ≢ codes "worn")
+
+-- no dequeue that got nothing has this answer
+abbrev pub IsNoTakeAnswer : List ℕ → Type 0
+IsNoTakeAnswer text = (text ≢ codes "got") × (text ≢ codes "empty") × (text ≢ codes "busy") × (text ≢ codes "worn")
+
 -- the text of an enqueue's answer; Empty, which no enqueue returns, stands for other texts
 abbrev pub IsPutAnswer : List ℕ → Answer → Type 0
 IsPutAnswer text Done = text ≡ codes "done"
 IsPutAnswer text Full = text ≡ codes "full"
 IsPutAnswer text (Got x) = ⊥
-IsPutAnswer text Empty = Unit {0}
+IsPutAnswer text Empty = IsNoPutAnswer text
 IsPutAnswer text Busy = text ≡ codes "busy"
 IsPutAnswer text Worn = text ≡ codes "worn"
 
 -- the text of a dequeue's answer, beside the item; Done, which no dequeue returns, stands for other texts
 abbrev pub IsTakeAnswer : List ℕ → Option ℕ → Answer → Type 0
-IsTakeAnswer text item Done = item ≡ None
+IsTakeAnswer text item Done = IsNoTakeAnswer text × (item ≡ None)
 IsTakeAnswer text item Full = ⊥
 IsTakeAnswer text item (Got x) = (text ≡ codes "got") × (item ≡ Some x)
 IsTakeAnswer text item Empty = (text ≡ codes "empty") × (item ≡ None)

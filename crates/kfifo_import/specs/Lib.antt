@@ -1,4 +1,7 @@
 pub mod Stamping
 pub mod Logs
+pub mod Rows
+pub mod Spots
 pub mod Tables
+pub mod Taking
 pub mod Fields

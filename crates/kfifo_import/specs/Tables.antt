@@ -1,7 +1,6 @@
 -- What a log in CSV gives.
-use Rattle.std.specs.Prelude.{◌≡◌, ℕ, List, [], ◌∷◌, Option, Some, None}
-use Rattle.csv.specs.Reading.{AreRecords, default_config, strip_bom}
-use Rattle.csv.specs.declared.parser.State.TheVariants as st
+use Rattle.std.specs.Prelude.{◌≡◌, ◌≢◌, ◌<◌, ◌⊎◌, ℕ, List, [], ◌∷◌, None, length}
+use Rattle.csv.specs.Reading.{strip_bom}
 use Rattle.kfifo_model.specs.declared.calls.Call.{Call}
 use Rattle.kfifo_import.specs.declared.log.ImportFault.{ImportFault}
 use Rattle.kfifo_import.specs.declared.log.ImportFault.TheVariants.{Csv, TooMany, NotACall, NumberOutOfRange}
@@ -11,39 +10,79 @@ use Rattle.kfifo_import.specs.declared.log.LoggedCall.{LoggedCall}
 use Rattle.kfifo_import.specs.declared.table.Columns.{Columns}
 use Rattle.kfifo_import.specs.Fields.{HasColumns, IsCallOf}
 use Rattle.kfifo_import.specs.Logs.{IsImportFault, IsLogOf}
+use Rattle.kfifo_import.specs.Rows.{AreRows, IsNextRow, Row, first_row}
 
--- each line has the call of the row in its place
-abbrev pub AreLines : Columns → List (List (List ℕ)) → List Line → Type 0
-AreLines columns [] [] = Unit {0}
-AreLines columns [] (line ∷ lines) = ⊥
-AreLines columns (row ∷ rows) [] = ⊥
-AreLines columns (row ∷ rows) (line ∷ lines) = IsCallOf columns row line.call × AreLines columns rows lines
+-- a line has the number and the call of a row, which has as many fields as the header
+abbrev pub IsLineOf : Columns → ℕ → Row → Line → Type 0
+IsLineOf columns width row line = (length row.fields ≡ width) × (line.number ≡ row.number)
+    × IsCallOf columns row.fields line.call
 
--- The lines are a table in CSV: a header with the six fields, and below it a row for each line, with its call.
+-- each line is one of the row in its place
+abbrev pub AreLines : Columns → ℕ → List Row → List Line → Type 0
+AreLines columns width [] [] = Unit {0}
+AreLines columns width [] (line ∷ lines) = ⊥
+AreLines columns width (row ∷ rows) [] = ⊥
+AreLines columns width (row ∷ rows) (line ∷ lines) = IsLineOf columns width row line × AreLines columns width rows lines
+
+-- A text was read up to this rest: a header, so many fields wide and with the six fields in these columns, and a row
+-- for each of these lines.
+pub record HasRead (text : List ℕ) (columns : Columns) (width : ℕ) (lines : List Line) (rest : List ℕ) : Type 0 where
+  pub header : Row
+  pub rows : List Row
+  pub are_rows : AreRows text text (header ∷ rows) rest
+  pub is_wide : length header.fields ≡ width
+  pub has_columns : HasColumns header.fields columns
+  pub are_lines : AreLines columns width rows lines
+
+-- The lines are those of a table in CSV: a header with the six fields, and below it a row for each line, with its
+-- number and its call. A byte order mark is no part of the table.
 pub record ReadsLog (bytes : List ℕ) (lines : List Line) : Type 0 where
-  pub names : List (List ℕ)
   pub columns : Columns
-  pub has_columns : HasColumns names columns
-  pub rows : List (List (List ℕ))
-  pub are_rows : AreRecords default_config st.StartRecord (strip_bom bytes) (names ∷ rows)
-  pub are_lines : AreLines columns rows lines
+  pub width : ℕ
+  pub rest : List ℕ
+  pub read : HasRead (strip_bom bytes) columns width lines rest
+  pub ended : first_row rest ≡ None
 
--- what was read of the first rows of a table: nothing yet, or the header and the lines below it
-abbrev pub Holds : List (List (List ℕ)) → Option Columns → List Line → Type 0
-Holds read None lines = (read ≡ []) × (lines ≡ [])
-Holds read (Some columns) lines = (names : List (List ℕ)) × (rows : List (List (List ℕ))) × (read ≡ names ∷ rows)
-    × HasColumns names columns × AreLines columns rows lines
+-- no columns have the six fields in this header
+abbrev pub LacksColumns : List (List ℕ) → Type 0
+LacksColumns names = (columns : Columns) → ¬ (HasColumns names columns)
+
+-- no call has these fields
+abbrev pub IsNoCall : Columns → List (List ℕ) → Type 0
+IsNoCall columns fields = (c : Call) → ¬ (IsCallOf columns fields c)
+
+-- what is wrong with a row that comes behind these lines
+abbrev pub IsRowFault : Columns → ℕ → List Line → Row → ImportFault → Type 0
+IsRowFault columns width lines row (Csv n) = (n ≡ row.number) × (length row.fields ≢ width)
+IsRowFault columns width lines row TooMany = (length row.fields ≡ width) × (length lines ≡ 65536)
+IsRowFault columns width lines row (NotACall n) = (n ≡ row.number) × (length row.fields ≡ width)
+    × (length lines < 65536)
+    × IsNoCall columns row.fields
+IsRowFault columns width lines row _ = ⊥
+
+-- The first row of a text that has a fault has this one: the rows before it are a header and lines.
+pub record IsFirstFault (text : List ℕ) (fault : ImportFault) : Type 0 where
+  pub columns : Columns
+  pub width : ℕ
+  pub lines : List Line
+  pub rest : List ℕ
+  pub read : HasRead text columns width lines rest
+  pub row : Row
+  pub next : IsNextRow text rest row
+  pub is : IsRowFault columns width lines row fault
+
+-- a text has no header: its first row, at this line, lacks a field, or it has no row, which is said of line 1
+abbrev pub HasNoHeader : List ℕ → ℕ → Type 0
+HasNoHeader text n = ((row : Row) × IsNextRow text text row × (n ≡ row.number) × LacksColumns row.fields)
+    ⊎ ((first_row text ≡ None) × (n ≡ 1))
 
 -- a fault that comes before records' faults
-abbrev pub IsTextFault : ImportFault → Type 0
-IsTextFault (Csv n) = Unit {0}
-IsTextFault TooMany = Unit {0}
-IsTextFault (NotACall n) = Unit {0}
-IsTextFault (NumberOutOfRange n) = ⊥
-IsTextFault (WrongAnswer n) = ⊥
-IsTextFault (EndsEarly n) = ⊥
-IsTextFault (Overlap n) = ⊥
-IsTextFault Memory = Unit {0}
+abbrev pub IsTextFault : List ℕ → ImportFault → Type 0
+IsTextFault text (Csv n) = HasNoHeader text n ⊎ IsFirstFault text (Csv n)
+IsTextFault text TooMany = IsFirstFault text TooMany
+IsTextFault text (NotACall n) = IsFirstFault text (NotACall n)
+IsTextFault text Memory = Unit {0}
+IsTextFault text _ = ⊥
 
 -- The history is the record of the lines of a text, and its calls stand in it and were as these say.
 pub record IsReadLog (bytes : List ℕ) (h : List Call) (calls : List LoggedCall) : Type 0 where
@@ -59,11 +98,11 @@ IsImported bytes h = (calls : List LoggedCall) × IsReadLog bytes h calls
 abbrev pub IsOfLines : List ℕ → ImportFault → Type 0
 IsOfLines bytes fault = (lines : List Line) × ReadsLog bytes lines × IsImportFault lines fault
 
--- why a text gives no record: a fault of the text, or the fault of its lines
+-- why a text gives no record: the first fault of its rows, or the first of its lines, whose rows have none
 abbrev pub IsUnimported : List ℕ → ImportFault → Type 0
-IsUnimported bytes (Csv n) = Unit {0}
-IsUnimported bytes TooMany = Unit {0}
-IsUnimported bytes (NotACall n) = Unit {0}
+IsUnimported bytes (Csv n) = IsTextFault (strip_bom bytes) (Csv n)
+IsUnimported bytes TooMany = IsTextFault (strip_bom bytes) TooMany
+IsUnimported bytes (NotACall n) = IsTextFault (strip_bom bytes) (NotACall n)
 IsUnimported bytes (NumberOutOfRange n) = IsOfLines bytes (NumberOutOfRange n)
 IsUnimported bytes (WrongAnswer n) = IsOfLines bytes (WrongAnswer n)
 IsUnimported bytes (EndsEarly n) = IsOfLines bytes (EndsEarly n)

@@ -5,6 +5,7 @@ mod ends;
 mod log;
 mod stamping;
 mod table;
+mod walk;
 
 pub use log::{ImportFault, Line, Log, LoggedCall, log_of, record_of};
 pub use table::{import_text, read_log};

@@ -1,12 +1,19 @@
 //! Logs as tables of comma-separated fields.
-ghost use Rattle.std.specs.Prelude.{◌≡◌, ◌≤◌, ◌↔◌, ◌++◌, ◌∷◌, [], ℕ, List, IfErr, IfOk, IfSome, IsTrue, None, OnOk};
-ghost use Rattle.std.specs.Prelude.{Some, MatchResult, length, option_map};
+ghost use Rattle.std.specs.Prelude.{◌≡◌, ◌≤◌, ◌↔◌, ℕ, IfErr, IfOk, IsTrue, None, OnOk, Option, Some, MatchOption};
+ghost use Rattle.std.specs.Prelude.{MatchResult, length, option_map};
+ghost use Rattle.kfifo_model.specs.declared.calls.Answer.{Answer};
+ghost use Rattle.kfifo_model.specs.declared.calls.End.{End};
+ghost use Rattle.kfifo_model.specs.declared.calls.Op.{Op};
+ghost use Rattle.csv.specs.Reading.{strip_bom};
 ghost use Rattle.csv.specs.Records.{field_at, fields_of};
 ghost use Rattle.kfifo_import.specs.Fields.{Gives, GivesText, HasColumns, IsAnswer, IsCallOf, IsDigits, IsEnd, IsOp};
 ghost use Rattle.kfifo_import.specs.Fields.{IsPutAnswer, IsTakeAnswer, WritesSmall, WritesWhole};
-ghost use Rattle.kfifo_import.specs.Tables.{Holds, IsImported, IsReadLog, IsTextFault, IsUnimported, ReadsLog};
+ghost use Rattle.kfifo_import.specs.Tables.{IsImported, IsNoCall, IsReadLog, IsTextFault, IsUnimported, LacksColumns};
+ghost use Rattle.kfifo_import.specs.Tables.{ReadsLog};
+ghost use Rattle.kfifo_import.specs.Taking.{IsNotTaken, IsReadFault, Takes};
 
 use crate::log::{ImportFault, Line, Log, log_of};
+use crate::walk::{Place, row_end, row_front, without_mark};
 use csv::{ByteRecord, ErrorKind, ReaderBuilder};
 use kfifo_model::{Answer, Call, End, History, MAX_CALLS, Op};
 use std::alloc::Global;
@@ -24,7 +31,9 @@ struct Columns {
 
 /// The place of a field with this name in the header.
 fn place_of(header: &ByteRecord, name: &[u8]) -> Option<usize>
-    ensures { IfSome result (λ place. field_at (fields_of header.now) place ≡ Some name.now) }
+    ensures { MatchOption result
+        ((place : ℕ) → ¬ (field_at (fields_of header.now) place ≡ Some name.now))
+        (λ place. field_at (fields_of header.now) place ≡ Some name.now) }
 {
     for place in 0..header.len() {
         if header.get(place) == Some(name) {
@@ -36,7 +45,7 @@ fn place_of(header: &ByteRecord, name: &[u8]) -> Option<usize>
 
 /// The places of the six fields, if the header has them.
 fn columns_of(header: &ByteRecord) -> Option<Columns>
-    ensures { IfSome result (HasColumns (fields_of header.now)) }
+    ensures { MatchOption result (LacksColumns (fields_of header.now)) (HasColumns (fields_of header.now)) }
 {
     Some(Columns {
         thread: place_of(header, b"thread")?,
@@ -67,7 +76,7 @@ fn is_digits(text: &[u8]) -> bool
 
 /// The whole number that digits write.
 fn whole(text: &[u8]) -> Option<u64>
-    ensures { IfSome result (WritesWhole text.now) }
+    ensures { MatchOption result ((number : ℕ) → ¬ (WritesWhole text.now number)) (WritesWhole text.now) }
 {
     if !is_digits(text) {
         return None;
@@ -80,7 +89,7 @@ fn whole(text: &[u8]) -> Option<u64>
 
 /// The same as a number of 32 bits; one that is too great is out of every range.
 fn small(text: &[u8]) -> Option<u32>
-    ensures { IfSome result (WritesSmall text.now) }
+    ensures { MatchOption result ((number : ℕ) → ¬ (WritesSmall text.now number)) (WritesSmall text.now) }
 {
     let number = whole(text)?;
     if number < 4_294_967_295 {
@@ -92,7 +101,9 @@ fn small(text: &[u8]) -> Option<u32>
 
 /// The item in this field, none where it is empty; none at all where it is no number.
 fn item_in(row: &ByteRecord, place: usize) -> Option<Option<u32>>
-    ensures { IfSome result (Gives WritesSmall (field_at (fields_of row.now) place)) }
+    ensures { MatchOption result
+        ((number : Option ℕ) → ¬ (Gives WritesSmall (field_at (fields_of row.now) place) number))
+        (Gives WritesSmall (field_at (fields_of row.now) place)) }
 {
     match field(row, place) {
         Some(text) => Some(Some(small(text)?)),
@@ -102,7 +113,9 @@ fn item_in(row: &ByteRecord, place: usize) -> Option<Option<u32>>
 
 /// The time in this field, none where it is empty; none at all where it is no number.
 fn time_in(row: &ByteRecord, place: usize) -> Option<Option<u64>>
-    ensures { IfSome result (Gives WritesWhole (field_at (fields_of row.now) place)) }
+    ensures { MatchOption result
+        ((number : Option ℕ) → ¬ (Gives WritesWhole (field_at (fields_of row.now) place) number))
+        (Gives WritesWhole (field_at (fields_of row.now) place)) }
 {
     match field(row, place) {
         Some(text) => Some(Some(whole(text)?)),
@@ -112,7 +125,7 @@ fn time_in(row: &ByteRecord, place: usize) -> Option<Option<u64>>
 
 /// The operation.
 fn op_of(text: &[u8], item: Option<u32>) -> Option<Op>
-    ensures { IfSome result (IsOp text.now item) }
+    ensures { MatchOption result ((op : Op) → ¬ (IsOp text.now item op)) (IsOp text.now item) }
 {
     if text == b"enq".as_slice() {
         Some(Op::Enqueue(item?))
@@ -140,31 +153,34 @@ fn put_answer(text: &[u8]) -> Answer
     }
 }
 
-/// The answer of a dequeue that got nothing; another text is an answer that no dequeue has.
-fn take_answer(text: &[u8]) -> Answer
-    ensures { IsTakeAnswer text.now None result }
+/// The answer of a dequeue with no item, none of `got`; another text is an answer that no dequeue has.
+fn take_answer(text: &[u8]) -> Option<Answer>
+    ensures { MatchOption result ((answer : Answer) → ¬ (IsTakeAnswer text.now None answer))
+        (IsTakeAnswer text.now None) }
 {
     if text == b"empty".as_slice() {
-        Answer::Empty
+        Some(Answer::Empty)
     } else if text == b"busy".as_slice() {
-        Answer::Busy
+        Some(Answer::Busy)
     } else if text == b"worn".as_slice() {
-        Answer::Worn
+        Some(Answer::Worn)
+    } else if text == b"got".as_slice() {
+        None
     } else {
-        Answer::Done
+        Some(Answer::Done)
     }
 }
 
 /// The answer of a call. None where a dequeue has an item without the answer `got`, or the other way round.
 fn answer_of(op: Op, text: &[u8], item: Option<u32>) -> Option<Answer>
-    ensures { IfSome result (IsAnswer op text.now item) }
+    ensures { MatchOption result ((answer : Answer) → ¬ (IsAnswer op text.now item answer))
+        (IsAnswer op text.now item) }
 {
     match (op, item) {
         (Op::Enqueue(_), _) => Some(put_answer(text)),
         (Op::Dequeue, Some(item)) if text == b"got".as_slice() => Some(Answer::Got(item)),
         (Op::Dequeue, Some(_)) => None,
-        (Op::Dequeue, None) if text == b"got".as_slice() => None,
-        (Op::Dequeue, None) => Some(take_answer(text)),
+        (Op::Dequeue, None) => take_answer(text),
     }
 }
 
@@ -176,7 +192,9 @@ fn end_of(
     answer: Option<&[u8]>,
     item: Option<u32>,
 ) -> Option<Option<End>>
-    ensures { IfSome result (IsEnd op last (option_map (λ t. t.now) answer.entry) item) }
+    ensures { MatchOption result
+        ((end : Option End) → ¬ (IsEnd op last (option_map (λ t. t.now) answer.entry) item end))
+        (IsEnd op last (option_map (λ t. t.now) answer.entry) item) }
 {
     match (last, answer) {
         (Some(last), Some(text)) => {
@@ -190,7 +208,7 @@ fn end_of(
 
 /// The call of a line, or none where the line is no call.
 fn call_of(row: &ByteRecord, columns: &Columns) -> Option<Call>
-    ensures { IfSome result (IsCallOf columns.now (fields_of row.now)) }
+    ensures { MatchOption result (IsNoCall columns.now (fields_of row.now)) (IsCallOf columns.now (fields_of row.now)) }
 {
     let thread = small(field(row, columns.thread)?)?;
     let first = whole(field(row, columns.first)?)?;
@@ -206,19 +224,13 @@ fn call_of(row: &ByteRecord, columns: &Columns) -> Option<Call>
     })
 }
 
-/// The number of a line, from 1, 0 where it is not known.
-fn line_of(row: &ByteRecord) -> u64 {
-    row.position().map_or(0, |position| position.line)
-}
-
-/// What an error of the reader says of the text.
-fn fault_of(kind: &ErrorKind) -> ImportFault
-    ensures { IsTextFault result }
+/// What an error of the reader at a line says of the text.
+fn fault_of(kind: &ErrorKind, number: u64) -> ImportFault
+    ensures { IsReadFault kind.now number result }
 {
     match kind {
-        ErrorKind::UnequalLengths { pos: Some(pos), .. } => ImportFault::Csv(pos.line),
         ErrorKind::OutOfMemory | ErrorKind::Io(_) => ImportFault::Memory,
-        _ => ImportFault::Csv(0),
+        _ => ImportFault::Csv(number),
     }
 }
 
@@ -232,13 +244,12 @@ struct Table {
 }
 
 impl Table {
-    /// Takes in the next row: the header, and then lines.
-    fn take(&mut self, row: &ByteRecord) -> Result<(), ImportFault>
-        ensures ok { OnOk result ((rows : List (List (List ℕ))) → Holds rows self.old.columns self.old.lines.items
-            → Holds (rows ++ fields_of row.now ∷ []) self.new.columns self.new.lines.items) }
-        ensures err { IfErr result IsTextFault }
+    /// Takes in the next row, which begins at this line: the header, and then lines.
+    fn take(&mut self, row: &ByteRecord, number: u64) -> Result<(), ImportFault>
+        ensures ok { OnOk result (Takes self.old.columns self.old.lines.items number (fields_of row.now)
+            self.new.columns self.new.lines.items) }
+        ensures err { IfErr result (IsNotTaken self.old.columns self.old.lines.items number (fields_of row.now)) }
     {
-        let number = line_of(row);
         let Some(columns) = self.columns else {
             let columns = columns_of(row).ok_or(ImportFault::Csv(number))?;
             self.columns = Some(columns);
@@ -256,7 +267,8 @@ impl Table {
 /// The lines of a table with a header.
 fn lines_of(alloc: Global, text: &[u8]) -> Result<Vec<Line>, ImportFault>
     ensures ok { IfOk result (λ lines. ReadsLog text.now lines.items) }
-    ensures err { IfErr result IsTextFault }
+    ensures few { IfOk result (λ lines. length lines.items ≤ 65536) }
+    ensures err { IfErr result (IsTextFault (strip_bom text.now)) }
 {
     let reader = ReaderBuilder::new()
         .has_headers(false)
@@ -265,11 +277,15 @@ fn lines_of(alloc: Global, text: &[u8]) -> Result<Vec<Line>, ImportFault>
         columns: None,
         lines: Vec::new(alloc),
     };
+    let plain = without_mark(text);
+    let mut place = Place { at: 0, line: 1 };
     for row in reader.into_byte_records() {
+        let front = row_front(plain, place);
         match row {
-            Ok(row) => table.take(&row)?,
-            Err(error) => return Err(fault_of(error.kind())),
+            Ok(row) => table.take(&row, front.line)?,
+            Err(error) => return Err(fault_of(error.kind(), front.line)),
         }
+        place = row_end(plain, front);
     }
     match table.columns {
         Some(_) => Ok(table.lines),

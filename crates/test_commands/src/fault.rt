@@ -46,6 +46,7 @@ fn a_fault_shows_its_line(rt: HostRuntime) -> Result<(), Fail> {
         (Fault::Unexplained, "explain fault 1"),
         (Fault::Contradiction, "draw fault 2"),
         (Fault::Stretch, "draw fault 3"),
+        (Fault::NoInput, "no input"),
         (Fault::NoLines, "draw fault 4"),
         (Fault::Memory, "memory"),
     ] {

@@ -70,6 +70,7 @@ Faults, each one line on standard error:
   kfifo: order fault          the value of --order, or its file, is no order or cannot be read; the
                               input is not read then
   kfifo: input                reading failed, or over 16777216 bytes came
+  kfifo: no input             no byte came; in a pipe the command before has probably failed, and said why
   kfifo: not json             the input begins as a record, and is no JSON text or not UTF-8
   kfifo: record fault <F>     record faults 1, 2 and 9, as `kfifo check --help` lists them
   kfifo: record fault <F> at call <N>   record faults 3 to 8

@@ -408,6 +408,16 @@ To do: give the program more memory, or judge a shorter run.
 ",
     },
     Topic {
+        words: "no input",
+        help: JUDGE,
+        line: "  kfifo: no input",
+        advice: "\
+Allowed: a record in JSON or a log in CSV on standard input.
+To do: read the line before this fault. Where another command stands before this one in a pipe, as in
+`kfifo import < log.csv | kfifo judge`, it has probably failed, and printed why.
+",
+    },
+    Topic {
         words: "csv fault",
         help: IMPORT,
         line: "  kfifo: csv fault",

@@ -63,6 +63,7 @@ Call numbers are places in the array, from 0; those of a log are by rising first
 
 Faults, each one line on standard error; `kfifo explain` says more of each:
   kfifo: input                reading failed, or over 16777216 bytes came
+  kfifo: no input             no byte came; in a pipe the command before has probably failed, and said why
   kfifo: not json             a record is no JSON text, or is not UTF-8
   kfifo: record fault <F>     record faults 1, 2 and 9, as `kfifo check --help` lists them
   kfifo: record fault <F> at call <N>   record faults 3 to 8 of a record

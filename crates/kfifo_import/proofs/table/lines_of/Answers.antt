@@ -1,35 +1,78 @@
-use Rattle.std.proofs.Common.{Bor, List, ℕ, ◌∙◌, ◌++◌, ◌∷◌, [], sym, refl, inl, inr, Some}
-use Rattle.csv.specs.Reading.{Reached, default_config, strip_bom}
+use Rattle.std.proofs.Common.{◌≡◌, ◌∙◌, Bor, List, ℕ, Option, Some, ap, drop, length, rules, subst, sym}
+use Rattle.csv.specs.Reading.{strip_bom}
 use Rattle.csv.specs.Records.{fields_of}
-use Rattle.csv.specs.declared.parser.State.TheVariants as st
-use Rattle.csv.proofs.ReadFacts.{rows-more}
+use Rattle.kfifo_import.specs.Rows.{IsNextRow, behind_ends, first_row}
+use Rattle.kfifo_import.specs.Tables.{IsTextFault}
+use Rattle.kfifo_import.specs.Taking.{row_at}
+use Rattle.kfifo_import.proofs.Fronts.{behind_same}
+use Rattle.kfifo_import.proofs.Readings.{next_row, not_taken, read_fault, stands_next, takes_few, width_same}
+use Rattle.kfifo_import.proofs.Rows.{Holds, takes_row}
 use Rattle.kfifo_import.proofs.table.lines_of.Goals as goal
 
-pub loop-row-init : goal.loop-row-init
-unfolding Reached
-loop-row-init c =
-    let fr = c.from_reader-reader.ensures in
-    let e = c.has_headers.ensures in
-    let start = c.into_iter-row-iterator.ensures.into_iter_gives ∙ refl in
-    let rdr = c.into_byte_records-row-items.ensures.rdr in
-    let left = c.into_byte_records-row-items.ensures.left in
-    rw (start, rdr) (
-      rw (e) at fr.trim ∙ c.new.ensures.trim,
-      inr (inr (rw e at fr.has_headers, fr.headers)),
-      left,
-      rw e at fr.config ∙ c.new.ensures.config,
-      strip_bom c.args.text.now,
-      fr.source,
-      [],
-      (sym fr.state, refl),
-      (refl, c.new-2.ensures.items),
-    )
+abbrev rem : Bor (List ℕ) → Option (List ℕ)
+rem s = Some s.now
 
 pub loop-row-preserved : goal.loop-row-preserved
 loop-row-preserved c =
     let inv = c.loop-row.invariant in
-    let s = rw (c.in-Some.is, c.in-Ok.is) at ((c.next.ensures.steps inv.2 inv.0).0 inv.1) in
-    let f = fields_of c.in-Ok.row in
-    let m = rows-more (λ (s : Bor (List ℕ)). Some s.now) c.loop-row.row-iterator.rdr c.next.new.self.rdr f default_config st.StartRecord
-    (strip_bom c.args.text.now) inv.4 inv.6 inv.3 inv.5 inv.7 s.0 in
-    (s.0.3 ∙ inv.0, inl s.1, s.2, s.0.2 ∙ inv.3, m.0, m.1, inv.6 ++ (f ∷ []), m.2, c.in_ok-take-in-Ok.ensures.ok inv.6 inv.8)
+    let plain = c.without_mark-plain.result.now in
+    let table = c.loop-row.table in
+    let a = c.loop-row.row-iterator.rdr in
+    let b = c.next.new.self.rdr in
+    let fields = fields_of c.in-Ok.row in
+    let front = c.row_front-front.result in
+    let steps = c.next.ensures.steps inv.0 inv.4.trim in
+    let step = rw (c.in-Some.is, c.in-Ok.is) at (steps.0 inv.4.ready) in
+    let flexible : b.flexible ≡ a.flexible = rw (c.in-Some.is, c.in-Ok.is) at steps.3 in
+    let at : drop front.at plain ≡ behind_ends inv.3 = c.row_front-front.ensures.rest ∙ ap behind_ends inv.6 in
+    let next : IsNextRow plain inv.3 (row_at front.line fields) =
+    next_row rem plain inv.3 a b front fields inv.4 c.row_front-front.ensures.is at step.0 in
+    let width = width_same rem a b inv.3 fields inv.4 step.0 in
+    let first : first_row (drop front.at plain) ≡ Some next.0 = ap first_row at ∙ behind_same inv.3 ∙ next.1 in (
+      step.2,
+      inv.1,
+      takes_few table.columns c.take.new.self.columns table.lines.items c.take.new.self.lines.items front.line fields
+          c.in_ok-take-in-Ok.ensures.ok inv.2,
+      next.0.2,
+      stands_next rem inv.3 a b fields inv.4 step.0 step.1 flexible (next.0, next.1),
+      c.row_end-place.ensures.is,
+      c.row_end-place.ensures.rest next.0 first,
+      subst (λ wide. Holds plain c.take.new.self.columns c.take.new.self.lines.items wide next.0.2) (sym width.0)
+          (takes_row plain inv.3 table.columns c.take.new.self.columns table.lines.items c.take.new.self.lines.items a.expected front.line
+          fields next width.1 inv.7
+          c.in_ok-take-in-Ok.ensures.ok),
+    )
+
+pub returns-in_err-take-in-Ok-clause-err : goal.returns-in_err-take-in-Ok-clause-err
+returns-in_err-take-in-Ok-clause-err c =
+    let inv = c.loop-row.invariant in
+    let plain = c.without_mark-plain.result.now in
+    let table = c.loop-row.table in
+    let a = c.loop-row.row-iterator.rdr in
+    let b = c.next.new.self.rdr in
+    let fields = fields_of c.in-Ok.row in
+    let front = c.row_front-front.result in
+    let step = rw (c.in-Some.is, c.in-Ok.is) at ((c.next.ensures.steps inv.0 inv.4.trim).0 inv.4.ready) in
+    let at : drop front.at plain ≡ behind_ends inv.3 = c.row_front-front.ensures.rest ∙ ap behind_ends inv.6 in
+    let next : IsNextRow plain inv.3 (row_at front.line fields) =
+    next_row rem plain inv.3 a b front fields inv.4 c.row_front-front.ensures.is at step.0 in
+    let width = width_same rem a b inv.3 fields inv.4 step.0 in
+    let refused : IsTextFault (strip_bom c.args.text.now) c.in_err-take-in-Ok.field-0.0 =
+    subst (λ t. IsTextFault t c.in_err-take-in-Ok.field-0.0) inv.1
+    (not_taken plain inv.3 table.columns table.lines.items a.expected front.line fields c.in_err-take-in-Ok.field-0.0 next width.1 inv.2
+    inv.7 c.in_err-take-in-Ok.ensures.err) in
+    search rules
+
+pub returns-in-Err-clause-err : goal.returns-in-Err-clause-err
+returns-in-Err-clause-err c =
+    let inv = c.loop-row.invariant in
+    let plain = c.without_mark-plain.result.now in
+    let table = c.loop-row.table in
+    let a = c.loop-row.row-iterator.rdr in
+    let b = c.next.new.self.rdr in
+    let front = c.row_front-front.result in
+    let step = rw (c.in-Some.is, c.in-Err.is) at ((c.next.ensures.steps inv.0 inv.4.trim).0 inv.4.ready) in
+    let at : drop front.at plain ≡ behind_ends inv.3 = c.row_front-front.ensures.rest ∙ ap behind_ends inv.6 in
+    subst (λ t. IsTextFault t c.fault_of.result) inv.1
+    (read_fault rem plain inv.3 a b table.columns table.lines.items front c.in-Err.error.kind c.fault_of.result inv.4
+    c.row_front-front.ensures.is at inv.7 step (rw c.kind.ensures at c.fault_of.ensures))

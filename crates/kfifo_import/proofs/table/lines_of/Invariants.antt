@@ -1,13 +1,12 @@
-use Rattle.std.proofs.Common.{◌≡◌, ◌<◌, ℕ, List, Some}
-use Rattle.csv.specs.Reading.{Reached, Ready, default_config, source_of, strip_bom}
-use Rattle.csv.specs.declared.parser.State.TheVariants as st
-use Rattle.csv.specs.declared.reader.Trim.TheVariants as trim
-use Rattle.kfifo_import.specs.Tables.{Holds}
+use Rattle.std.proofs.Common.{◌≡◌, ◌<◌, ◌≤◌, Bor, List, ℕ, Some, drop, length}
+use Rattle.csv.specs.Reading.{strip_bom}
+use Rattle.kfifo_import.specs.Rows.{IsPlace}
+use Rattle.kfifo_import.proofs.Readings.{Stands}
+use Rattle.kfifo_import.proofs.Rows.{Holds}
 use Rattle.kfifo_import.proofs.table.lines_of.Given as goal
 
 abbrev pub invariant-loop-row : goal.invariant-loop-row
-invariant-loop-row l = (l.row-iterator.rdr.trim ≡ trim.None) × Ready l.row-iterator.rdr × (0 < l.row-iterator.left)
-    × (l.row-iterator.rdr.config ≡ default_config)
-    × (y : List ℕ) × (source_of (λ s. Some s.now) l.row-iterator.rdr ≡ Some y)
-    × (rows : List (List (List ℕ))) × Reached default_config st.StartRecord (strip_bom l.fn.text) rows l.row-iterator.rdr.state y
-    × Holds rows l.table.columns l.table.lines.items
+invariant-loop-row l = (0 < l.row-iterator.left) × (l.plain ≡ strip_bom l.fn.text) × (length l.table.lines.items ≤ 65536)
+    × (rest : List ℕ) × Stands (λ (s : Bor (List ℕ)). Some s.now) l.row-iterator.rdr rest
+    × IsPlace l.plain l.place × (drop l.place.at l.plain ≡ rest)
+    × Holds l.plain l.table.columns l.table.lines.items l.row-iterator.rdr.expected rest

@@ -1,0 +1,38 @@
+-- What one row more does to a table, and why it is not taken.
+use Rattle.std.specs.Prelude.{◌≡◌, ◌++◌, ◌∷◌, [], ◌<◌, ◌≤◌, ℕ, List, Option, Some, None, length}
+use Rattle.csv.specs.declared.error.ErrorKind.{ErrorKind}
+use Rattle.csv.specs.declared.error.ErrorKind.TheVariants as kinds
+use Rattle.kfifo_import.specs.declared.log.ImportFault.{ImportFault}
+use Rattle.kfifo_import.specs.declared.log.ImportFault.TheVariants.{Csv, TooMany, NotACall, Memory}
+use Rattle.kfifo_import.specs.declared.log.Line.{Line}
+use Rattle.kfifo_import.specs.declared.table.Columns.{Columns}
+use Rattle.kfifo_import.specs.Fields.{HasColumns}
+use Rattle.kfifo_import.specs.Rows.{Row}
+use Rattle.kfifo_import.specs.Tables.{IsLineOf, IsNoCall, LacksColumns}
+
+-- a row with these fields, which begins at this line
+abbrev pub row_at : ℕ → List (List ℕ) → Row
+row_at number fields = record { number = number; fields = fields }
+
+-- a row is taken as the header, or as one more line
+abbrev pub Takes : Option Columns → List Line → ℕ → List (List ℕ) → Option Columns → List Line → Type 0
+Takes None lines number fields None after = ⊥
+Takes None lines number fields (Some columns) after = HasColumns fields columns × (after ≡ lines)
+Takes (Some columns) lines number fields now after = (now ≡ Some columns) × (length lines < 65536)
+    × (line : Line) × IsLineOf columns (length fields) (row_at number fields) line × (after ≡ lines ++ line ∷ [])
+
+-- why a row is not taken
+abbrev pub IsNotTaken : Option Columns → List Line → ℕ → List (List ℕ) → ImportFault → Type 0
+IsNotTaken columns lines number fields Memory = Unit {0}
+IsNotTaken None lines number fields (Csv n) = (n ≡ number) × LacksColumns fields
+IsNotTaken None lines number fields _ = ⊥
+IsNotTaken (Some columns) lines number fields TooMany = 65536 ≤ length lines
+IsNotTaken (Some columns) lines number fields (NotACall n) = (n ≡ number) × (length lines < 65536)
+    × IsNoCall columns fields
+IsNotTaken (Some columns) lines number fields _ = ⊥
+
+-- what an error of the reader at a line says of the text
+abbrev pub IsReadFault : ErrorKind → ℕ → ImportFault → Type 0
+IsReadFault (kinds.Io e) number fault = fault ≡ Memory
+IsReadFault kinds.OutOfMemory number fault = fault ≡ Memory
+IsReadFault _ number fault = fault ≡ Csv number
