@@ -231,7 +231,7 @@ fn count_payloads_by_handle(
     Some(handles::give_and_take(&queue, &mut handle, calls))
 }
 
-/// Makes calls of a queue of payloads by two handles, one of which only takes and one of which only gives.
+/// Makes calls of a queue of payloads by two handles: one only takes, and one only gives.
 fn count_moving(alloc: Global, shape: Shape, mut starts: Starts, calls: u32) -> Option<u64>
     requires { starts.k ≡ shape.k }
 {

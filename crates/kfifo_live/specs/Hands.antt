@@ -94,7 +94,7 @@ where_after thread own (Lays index) at x = if x == own then In index else at x
 where_after thread own (Lifts item) at x = if x == item then Out thread else at x
 where_after thread own (Takes item) at x = if x == item then Out thread else at x
 
--- an enqueue, which has an item of its own, and a dequeue answer each their own way
+-- which answers a call can have: an enqueue, which has an item of its own, and a dequeue have different ones
 abbrev pub FitsOwn : ℕ → Next → Type 0
 FitsOwn own (Answers Done) = 0 < own
 FitsOwn own (Answers Full) = 0 < own

@@ -161,7 +161,7 @@ module _ {T : Type 0} where
     pub kept : new.tokens ≡ old.tokens
     pub enqueue : EnqueuesWith token start turns answer payload old new
 
-  -- What `give` did, by what it answers: Done gives up the first token. NoToken comes where the pass has none, and
+  -- What `give` did, by what it returns: Done gives up the first token. NoToken comes where the pass has none, and
   -- nothing is done
   abbrev pub Gives : ℕ → ℕ → T → Given T → PayPassView T → PayPassView T → Type 0
   Gives start turns payload G.Done old new = (token : ℕ) × (old.tokens ≡ token ∷ new.tokens)

@@ -149,7 +149,7 @@ fn take_back<T: Drop>(
 }
 
 impl<T: Drop> PayPass<T> {
-    /// The number of the pass, which is that of its thread in the schedule.
+    /// The number of the pass: its thread has the same number in the schedule.
     pub fn thread(&self) -> u32
         ensures { result ≡ self.now.pass.thread }
     {

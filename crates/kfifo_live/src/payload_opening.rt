@@ -76,8 +76,7 @@ fn deal_tokens<T: Drop>(
 }
 
 impl<T: Drop> PayQueue<T> {
-    /// A queue for so many threads, and its passes with so many tokens each, `pooled` of which have a word in its
-    /// pool.
+    /// A queue for so many threads, and its passes with so many tokens each. `pooled` tokens have a word in its pool.
     fn open_for(
         alloc: Global,
         shape: Shape,

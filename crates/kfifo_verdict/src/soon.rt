@@ -97,7 +97,7 @@ fn count_of(steps: &[Step], item: u32, step: u64) -> usize
     until - below
 }
 
-/// Whether call n got an item of which, by its end, more gets had ended than puts had begun.
+/// Whether call n got an item, and by its end more gets of that item had ended than puts had begun.
 fn is_taken_too_soon(calls: &[Call], n: usize, begun: &[Step], ended: &[Step]) -> bool
     requires inside { n < length calls.now }
     requires begun { AreSorted calls.now In begun.now }
@@ -112,7 +112,7 @@ fn is_taken_too_soon(calls: &[Call], n: usize, begun: &[Step], ended: &[Step]) -
     count_of(begun, item, end) < count_of(ended, item, end)
 }
 
-/// The first call that got an item of which, by its end, more gets had ended than puts had begun.
+/// The first call that got an item when, by its end, more gets of that item had ended than puts had begun.
 pub(crate) fn taken_too_soon(alloc: Global, calls: &[Call]) -> Result<Option<usize>, AllocError>
     ensures { IfOk result (λ found. MatchOption found (Never (IsTakenTooSoon calls.now))
         (λ n. IsTakenTooSoon calls.now n × NeverBefore (IsTakenTooSoon calls.now) n)) }

@@ -21,7 +21,7 @@ pub enum Evidence {
         /// The puts of k of them, by rising number.
         puts: Vec<usize>,
     },
-    /// 5: this call got an item of which, by the call's end, more gets had ended than puts had begun.
+    /// 5: this call got an item, and by its end more gets of that item had ended than puts had begun.
     TakenTooSoon(usize),
 }
 
