@@ -87,8 +87,8 @@ fn wake_token<T>(shared: &Words<T>, pool: &[PoolWord<T>], index: usize) -> Optio
     pool[index].take()
 }
 
-/// The first token that is won by hints: by a look at the word of the token that was laid down last, then at the word of
-/// the one before it, and so on, at no more than `HINTS` words.
+/// The first token that is won by hints: by a look at the word of the token that was laid down last, then at the word
+/// of the one before it, and so on, at no more than `HINTS` words.
 fn find_latest<T>(
     shared: &Words<T>,
     pool: &[PoolWord<T>],
@@ -169,8 +169,8 @@ fn seek_token<T>(
 impl<T: Drop> PayPass<T> {
     /// Lays the token that the pass would use next down in the pool of the queue.
     ///
-    /// Returns true where it did: the pass has one token less. Returns false where the pass has no token, and for a queue
-    /// without a pool; then nothing changes. It is no event, and the pass has seen no more than before. It never
+    /// Returns true where it did: the pass has one token less. Returns false where the pass has no token, and for a
+    /// queue without a pool; then nothing changes. It is no event, and the pass has seen no more than before. It never
     /// allocates, waits or locks.
     pub fn lay_down(&mut self, queue: &PayQueue<T>) -> bool
         requires of { IsPassOf queue.now self.old.pass }
@@ -195,8 +195,8 @@ impl<T: Drop> PayPass<T> {
     /// Returns true where it did: the pass has one token more, and uses it next. Returns false where one look at each
     /// word found no token that could be taken, and for a queue without a pool; then nothing changes. It looks first at
     /// up to 8 words of tokens that were laid down last, and then at each word. That look begins where the pass last
-    /// found a token so, at first at the word of its own first token. It is no event, and the pass has seen no more than
-    /// before. It never allocates, waits or locks.
+    /// found a token so, at first at the word of its own first token. It is no event, and the pass has seen no more
+    /// than before. It never allocates, waits or locks.
     pub fn pick_up(&mut self, queue: &PayQueue<T>) -> bool
         requires of { IsPassOf queue.now self.old.pass }
         ensures picks { PicksUp result self.old self.new }
