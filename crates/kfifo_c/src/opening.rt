@@ -1,6 +1,7 @@
 //! Opening a queue.
 ghost use Rattle.std.specs.Prelude.{◌≡◌, ◌≢◌, ◌<◌, ◌≤◌, ◌⊎◌, ◌↔◌, None, Some, IfSome, IfOk, IsErrOf, All, length, map};
 ghost use Rattle.std.specs.Prelude.{reverse};
+ghost use Rattle.kfifo_model.specs.declared.calls.TheConstants.{MAX_THREADS};
 ghost use denote.RawPtr.{Ptr};
 ghost use Rattle.kfifo_words.specs.Sizes.{fault_of};
 ghost use Rattle.kfifo_live.specs.declared.fault.OpenFault.TheVariants.{ThreadsOutOfRange, TokensOutOfRange};
@@ -45,7 +46,7 @@ fn open_seats(
     threads: u32,
 ) -> Result<Vec<Box<Seat, Global>>, OpenFault>
     ensures ok { IfOk result (λ seats. Opens shape threads (reverse (map (λ seat. seat.value) seats.items))) }
-    ensures threads { IsErrOf result ThreadsOutOfRange ↔ ((threads ≡ 0) ⊎ (64 < threads)) }
+    ensures threads { IsErrOf result ThreadsOutOfRange ↔ ((threads ≡ 0) ⊎ (MAX_THREADS < threads)) }
     ensures tokens { ¬ IsErrOf result TokensOutOfRange }
 {
     let (queue, passes) = Queue::open(alloc, shape, threads)?;
@@ -90,9 +91,10 @@ pub extern "C" fn kfifo_c_open(
     ensures address { result ≡ 0 → (address : Ptr) × All (λ pass. pass.address ≡ address) passes.new }
     ensures refused { result ≢ 0 → passes.new ≡ passes.old }
     ensures shape { IfSome (fault_of k segments last probes) (λ fault. result ≡ shape_number fault) }
-    ensures threads { fault_of k segments last probes ≡ None → (length passes.old ≡ 0) ⊎ (64 < length passes.old)
+    ensures threads { fault_of k segments last probes ≡ None → (length passes.old ≡ 0)
+        ⊎ (MAX_THREADS < length passes.old)
         → result ≡ 8 }
-    ensures memory { fault_of k segments last probes ≡ None → 1 ≤ length passes.old → length passes.old ≤ 64
+    ensures memory { fault_of k segments last probes ≡ None → 1 ≤ length passes.old → length passes.old ≤ MAX_THREADS
         → (result ≡ 0) ⊎ (result ≡ 7) }
 {
     let shape = match Shape::with_probes(k, segments, last, probes) {

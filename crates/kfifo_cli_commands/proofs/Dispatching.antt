@@ -1,11 +1,10 @@
 -- What the command `dispatch` comes to.
 use Rattle.std.proofs.Common.{◌≡◌, ◌⊎◌, ◌<◌, ◌≤◌, ℕ, ◌+◌, List, length, inl, inr, refl, subst, sym}
-use Rattle.kfifo_words.specs.declared.shape.Shape.{Shape}
+use Rattle.kfifo_cli_commands.proofs.Types.{Fault, Shape}
 use Rattle.kfifo_dispatch.specs.declared.fault.DispatchFault.{DispatchFault}
 use Rattle.kfifo_dispatch.specs.declared.fault.DispatchFault.TheVariants as refusals
 use Rattle.kfifo_dispatch.specs.declared.task.Task.{Task}
 use Rattle.kfifo_dispatch.specs.Tasks.{HasRepeatedId}
-use Rattle.kfifo_cli_texts.specs.declared.fault.Fault.{Fault}
 use Rattle.kfifo_cli_texts.specs.declared.fault.Fault.TheVariants.{Dispatch, Memory, Word}
 use Rattle.kfifo_cli_commands.specs.declared.options.DispatchOptions.{DispatchOptions}
 use Rattle.kfifo_cli_commands.specs.Dispatches.{IsDispatchRefusal, IsTasksFault}

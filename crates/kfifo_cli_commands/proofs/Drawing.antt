@@ -1,7 +1,7 @@
 -- Why the command `draw` has no answer.
 use Rattle.std.proofs.Common.{◌≡◌, ◌≢◌, ℕ, List, Option, Some, subst, sym, ◌⊎◌, inl, inr, option_map, Result, Ok, Err, IfErr, IfOk}
 use Rattle.std.proofs.Common.{MatchResult}
-use Rattle.kfifo_cli_texts.specs.declared.fault.Fault.{Fault}
+use Rattle.kfifo_cli_commands.proofs.Types.{Fault}
 use Rattle.kfifo_cli_texts.specs.declared.fault.Fault.TheVariants.{Shape, Word, Order, Picks, Replay, Trace, Open, Dispatch, Input, NoInput}
 use Rattle.kfifo_cli_texts.specs.declared.fault.Fault.TheVariants.{NotJson, Record, Search, RepeatedItem, Import, TooManyDrawn}
 use Rattle.kfifo_cli_texts.specs.declared.fault.Fault.TheVariants.{Contradiction, Stretch, NoLines, Unexplained, Memory, Output}

@@ -1,8 +1,7 @@
 -- What the lines of events and the report behind them are, and why there are none.
 use Rattle.std.proofs.Common.{◌≡◌, ◌⊎◌, ℕ, ◌≤◌, ◌<◌, Bool, true, List, ◌++◌, Option, Some, inl, inr, length, take, subst, arith}
 use Rattle.std.proofs.lemmas.List.{take_all}
-use Rattle.kfifo_words.specs.declared.shape.Shape.{Shape}
-use Rattle.kfifo_machine.specs.declared.event.Begin.{Begin}
+use Rattle.kfifo_cli_commands.proofs.Types.{Begin, Fault, Shape}
 use Rattle.kfifo_machine.specs.declared.event.Event.{Event}
 use Rattle.kfifo_machine.specs.Machine.{opening}
 use Rattle.kfifo_replay.specs.declared.fault.ReplayFault.TheVariants as replays
@@ -10,7 +9,6 @@ use Rattle.kfifo_replay.specs.declared.steps.Step.{Step}
 use Rattle.kfifo_replay.specs.Picks.{events_of}
 use Rattle.kfifo_replay.specs.Steps.{AreSteps}
 use Rattle.kfifo_replay.specs.Traces.{IsTrace, Traces, Tracing, max_steps}
-use Rattle.kfifo_cli_texts.specs.declared.fault.Fault.{Fault}
 use Rattle.kfifo_cli_texts.specs.declared.fault.Fault.TheVariants.{Memory, Replay, Trace}
 use Rattle.kfifo_cli_texts.specs.TraceLines.{trace_lines}
 use Rattle.kfifo_cli_commands.specs.declared.options.ReplayOptions.{ReplayOptions}

@@ -5,12 +5,10 @@ use Rattle.std.proofs.lemmas.List.{append_assoc, get_or-append-add, get_or_appen
 use Rattle.std.proofs.lemmas.List.{replicate-append-replicate, append-nil, take-append-drop, take-append-le}
 use Rattle.std.proofs.lemmas.List.Concat.{flat_map-append, length-flat_map}
 use Rattle.std.proofs.Math.Seq.{drop-cons, take-append-add, take-suc}
-use Rattle.kfifo_words.specs.declared.shape.Shape.{Shape}
-use Rattle.kfifo_machine.specs.declared.event.Begin.{Begin}
+use Rattle.kfifo_cli_commands.proofs.Types.{Begin, Group, Shape}
 use Rattle.kfifo_replay.specs.declared.fault.ReplayFault.{ReplayFault}
 use Rattle.kfifo_replay.specs.declared.fault.ReplayFault.TheVariants.{BadPick}
 use Rattle.kfifo_replay.specs.Player.{IsRefused, Player, StandsFor, Stops, StopsAt}
-use Rattle.kfifo_cli_texts.specs.declared.picks.Group.{Group}
 use Rattle.kfifo_cli_texts.specs.Picks.{behind, count_of, picks_of}
 
 -- what stands past the end of a list of groups

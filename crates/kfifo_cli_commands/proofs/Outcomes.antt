@@ -1,7 +1,6 @@
 -- What the command `run` comes to.
 use Rattle.std.proofs.Common.{◌≡◌, ℕ, ◌+◌, sym, subst, refl, inl, inr, ◌⊎◌}
-use Rattle.kfifo_words.specs.declared.shape.Shape.{Shape}
-use Rattle.kfifo_cli_texts.specs.declared.fault.Fault.{Fault}
+use Rattle.kfifo_cli_commands.proofs.Types.{Fault, Shape}
 use Rattle.kfifo_cli_texts.specs.declared.fault.Fault.TheVariants.{Word, Memory}
 use Rattle.kfifo_cli_commands.specs.declared.options.RunOptions.{RunOptions}
 use Rattle.kfifo_cli_commands.specs.Runs.{IsRunRefusal, IsShapeOf}

@@ -1,12 +1,9 @@
 -- What the command `replay` comes to.
 use Rattle.std.proofs.Common.{◌≡◌, ◌⊎◌, ℕ, ◌+◌, Bool, true, false, List, Option, inl, inr, refl, subst, sym}
-use Rattle.kfifo_words.specs.declared.shape.Shape.{Shape}
-use Rattle.kfifo_machine.specs.declared.event.Begin.{Begin}
+use Rattle.kfifo_cli_commands.proofs.Types.{Begin, Fault, Group, Shape}
 use Rattle.kfifo_replay.specs.declared.fault.ReplayFault.{ReplayFault}
-use Rattle.kfifo_cli_texts.specs.declared.fault.Fault.{Fault}
 use Rattle.kfifo_cli_texts.specs.declared.fault.Fault.TheVariants.{Memory, Picks, Word}
 use Rattle.kfifo_cli_commands.specs.declared.options.ReplayOptions.{ReplayOptions}
-use Rattle.kfifo_cli_texts.specs.declared.picks.Group.{Group}
 use Rattle.kfifo_cli_texts.specs.Picks.{GivesGroups, GivesNoGroups, picks_of}
 use Rattle.kfifo_cli_commands.specs.Replays.{Gives, IsLongTrace, IsPlainText, IsRefusal, IsReplayFault, IsReplayRefusal, IsReplayText}
 use Rattle.kfifo_cli_commands.specs.Replays.{IsTraceFault, IsTracedText, IsUnplayed, traces}

@@ -4,9 +4,8 @@ use Rattle.std.proofs.Common.{append-nil, add-one, get_or, take}
 use Rattle.std.proofs.Math.Seq.{take-suc}
 use Rattle.kfifo_words.specs.Ring.{slot_at}
 use Rattle.kfifo_cli_texts.specs.Lines.{slot_line}
-use Rattle.kfifo_words.specs.declared.shape.Shape.{Shape}
+use Rattle.kfifo_cli_commands.proofs.Types.{Begin, Shape}
 use Rattle.kfifo_model.specs.declared.calls.Answer.{Answer}
-use Rattle.kfifo_machine.specs.declared.event.Begin.{Begin}
 use Rattle.kfifo_machine.specs.declared.event.Event.{Event}
 use Rattle.kfifo_machine.specs.Machine.{World, after, run, opening, word_at}
 use Rattle.kfifo_machine.specs.Runs.{Begins, CompleteExecution, own}

@@ -4,7 +4,7 @@ use Rattle.std.specs.Prelude.{unwrap_or}
 use denote.Ref.{Bor}
 use Rattle.kfifo_verdict.specs.declared.verdicts.Evidence.{Evidence}
 use Rattle.kfifo_verdict.specs.declared.verdicts.Evidence.TheVariants.{NeverPut, TakenTwice, NotEmpty, TooYoung}
-use Rattle.kfifo_verdict.specs.declared.verdicts.Evidence.TheVariants.{TakenTooSoon}
+use Rattle.kfifo_verdict.specs.declared.verdicts.Evidence.TheVariants.{TakenTooSoon, ItemsLeft, OlderLeft}
 use Rattle.kfifo_draw.specs.declared.part.Part.{Part}
 use Rattle.kfifo_draw.specs.declared.part.Part.TheVariants as parts
 use Rattle.kfifo_cli_texts.specs.declared.fault.Fault.{Fault}
@@ -65,6 +65,8 @@ named_by (TakenTwice get) = get ∷ []
 named_by (NotEmpty empty puts) = empty ∷ puts.items
 named_by (TooYoung get puts) = get ∷ puts.items
 named_by (TakenTooSoon get) = get ∷ []
+named_by (ItemsLeft empty) = empty ∷ []
+named_by (OlderLeft get puts) = get ∷ puts.items
 
 -- the part of a history that is to be drawn, where the evidence names these calls: all where there is no evidence
 abbrev pub IsPartOf : Option (List ℕ) → Cut → Part → Type 0

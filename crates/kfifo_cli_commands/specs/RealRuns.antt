@@ -1,5 +1,7 @@
 -- What the command `record` comes to.
 use Rattle.std.specs.Prelude.{◌≡◌, ℕ, ◌+◌, ◌<◌, ◌≤◌, ◌⊎◌, List, length}
+use Rattle.kfifo_model.specs.declared.calls.TheConstants.{MAX_THREADS}
+use Rattle.kfifo_live.specs.declared.recording.TheConstants.{MAX_STAMPED_CALLS}
 use Rattle.kfifo_words.specs.declared.shape.Shape.{Shape}
 use Rattle.kfifo_model.specs.declared.calls.Call.{Call}
 use Rattle.kfifo_machine.specs.declared.event.Begin.{Begin}
@@ -52,10 +54,11 @@ pub record IsScriptOver (options : RecordOptions) (number : ℕ) : Type 0 where
 
 -- why a queue for these scripts is refused
 abbrev pub IsQueueFault : List (List Begin) → OpenFault → Type 0
-IsQueueFault scripts opens.ThreadsOutOfRange = (length scripts ≡ 0) ⊎ (64 < length scripts)
+IsQueueFault scripts opens.ThreadsOutOfRange = (length scripts ≡ 0) ⊎ (MAX_THREADS < length scripts)
 IsQueueFault scripts opens.Memory = Unit {0}
 IsQueueFault scripts opens.TokensOutOfRange = ⊥
-IsQueueFault scripts opens.CallsOutOfRange = (0 < length scripts) × (length scripts ≤ 64) × (1024 < longest scripts)
+IsQueueFault scripts opens.CallsOutOfRange = (0 < length scripts) × (length scripts ≤ MAX_THREADS)
+    × (MAX_STAMPED_CALLS < longest scripts)
 
 -- the run that the options give is refused its queue
 pub record IsQueueRefused (options : RecordOptions) (fault : OpenFault) : Type 0 where

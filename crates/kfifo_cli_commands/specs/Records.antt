@@ -1,6 +1,7 @@
 -- What the commands `check` and `measure` come to, by their options, their input and its failed reads.
 use Rattle.std.specs.Prelude.{◌≡◌, ◌≢◌, ◌⊎◌, ◌<◌, ◌≤◌, ℕ, List, Option, Some, None, IfSome, Result, MatchResult, length}
 use Rattle.std.specs.Prelude.{option_map}
+use Rattle.kfifo_judge.specs.declared.streams.TheConstants.{MAX_BYTES}
 use Rattle.kfifo_judge.specs.declared.record.StreamFault.{StreamFault}
 use Rattle.kfifo_judge.specs.declared.record.StreamFault.TheVariants as streams
 use Rattle.kfifo_judge.specs.Check.{IsChecked, IsCheckFault}
@@ -15,12 +16,12 @@ use Rattle.kfifo_cli_texts.specs.Orders.{GivesNoOrder, GivesOrder}
 
 -- these are the bytes of the input, where those are known, and they are at most 16,777,216
 abbrev pub IsInput : Option (List ℕ) → List ℕ → Type 0
-IsInput input bytes = IfSome input (λ given. (given ≡ bytes) × (length given ≤ 16777216))
+IsInput input bytes = IfSome input (λ given. (given ≡ bytes) × (length given ≤ MAX_BYTES))
 
 -- the input was not read whole: a read failed, or over 16,777,216 bytes came
 abbrev pub IsUnread : Option (List ℕ) → ℕ → ℕ → Type 0
 IsUnread input before after = CountsOne before after
-    ⊎ ((after ≡ before) × IfSome input (λ given. 16777216 < length given))
+    ⊎ ((after ≡ before) × IfSome input (λ given. MAX_BYTES < length given))
 
 -- no read failed, unless that is the fault that is reported
 abbrev pub ReadsWell : {T : Type 0} → Result T Fault → ℕ → ℕ → Type 0

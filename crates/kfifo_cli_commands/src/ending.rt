@@ -31,7 +31,7 @@ pub enum Notice {
 
 /// Does what is requested, and writes its answer or the line of its fault. The order of `check` and `draw` may stand in
 /// a file, and `record` and `dispatch` start threads: `rt` may do both. `replay` tells the progress how far it has
-/// come, and that it has ended before anything is written.
+/// come, and that it has ended before anything is written; a command that reads a log tells it of one that is refused.
 pub fn carry_out<H: Threads + Files + Sync, S: Source, W: Write, F: Write, P: Progress>(
     alloc: Global,
     rt: &H,
@@ -48,7 +48,11 @@ pub fn carry_out<H: Threads + Files + Sync, S: Source, W: Write, F: Write, P: Pr
 {
     match answer(alloc, rt, request, input, output, progress) {
         Ok(status) => status,
-        Err(fault) => end_with_fault(fault, faults),
+        Err(fault) => {
+            let status = end_with_fault(fault, faults);
+            progress.fault_written();
+            status
+        }
     }
 }
 
@@ -139,12 +143,12 @@ fn answer<H: Threads + Files + Sync, S: Source, W: Write, P: Progress>(
             Ok(Status::Answered)
         }
         Request::Judge(options) => {
-            let (text, status) = judge::answer(alloc, options, input)?;
+            let (text, status) = judge::answer(alloc, options, input, progress)?;
             output.print(text.as_bytes())?;
             Ok(status)
         }
         Request::Least(options) => {
-            let (text, status) = least::answer(alloc, options, input)?;
+            let (text, status) = least::answer(alloc, options, input, progress)?;
             output.print(text.as_bytes())?;
             Ok(status)
         }
@@ -154,12 +158,12 @@ fn answer<H: Threads + Files + Sync, S: Source, W: Write, P: Progress>(
             Ok(Status::Answered)
         }
         Request::Import => {
-            let text = import::answer(alloc, input)?;
+            let text = import::answer(alloc, input, progress)?;
             output.print(text.as_bytes())?;
             Ok(Status::Answered)
         }
         Request::Draw(options) => {
-            let text = draw::answer(alloc, rt, options, input)?;
+            let text = draw::answer(alloc, rt, options, input, progress)?;
             output.print(text.as_bytes())?;
             Ok(Status::Answered)
         }

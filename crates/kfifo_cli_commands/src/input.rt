@@ -1,10 +1,13 @@
 //! What the commands read.
-ghost use Rattle.std.specs.Prelude.{◌≡◌, ◌⊎◌, ◌↔◌, IfErr, IfOk, IsTrue, MatchResult, option_map};
+ghost use Rattle.std.specs.Prelude.{◌≡◌, ◌≤◌, ◌⊎◌, ◌↔◌, IfErr, IfOk, IsTrue, MatchResult, length, option_map};
+ghost use Rattle.kfifo_model.specs.declared.reading.TheConstants.{MAX_CALLS};
+ghost use Rattle.kfifo_import.specs.Tables.{IsReadLog, IsUnimported};
 ghost use Rattle.kfifo_cli_commands.specs.Inputs.{BeginsRecord, IsCalls, IsNoCalls, IsSpace, logged_calls};
 ghost use Rattle.kfifo_cli_commands.specs.Records.{IsInput, IsUnread, ReadsWell};
 
+use crate::progress::Progress;
 use kfifo_cli_texts::Fault;
-use kfifo_import::{LoggedCall, read_log};
+use kfifo_import::{ImportFault, Log, LoggedCall, read_log};
 use kfifo_judge::{ReadFault, Source, read_all, read_record};
 use kfifo_model::History;
 use std::alloc::Global;
@@ -62,11 +65,32 @@ fn begins_record(bytes: &[u8]) -> bool
     false
 }
 
+/// The log that these bytes are. If a line is no call, the progress is told.
+pub(crate) fn read_log_telling<P: Progress>(
+    alloc: Global,
+    bytes: &[u8],
+    progress: &mut P,
+) -> Result<Log, ImportFault>
+    ensures read { MatchResult result (λ log. IsReadLog bytes.now log.history log.calls.items)
+        (IsUnimported bytes.now) }
+    ensures few { IfOk result (λ log. length log.history ≤ MAX_CALLS) }
+{
+    let found = read_log(alloc, bytes);
+    if let Err(ImportFault::NotACall(_)) = &found {
+        progress.refused(alloc, bytes);
+    }
+    found
+}
+
 /// The calls of an input. Where its first byte that is no white space is `[` it is a record in JSON, read as `check`
 /// reads it and with its faults; else it is a log in CSV, read as `import` reads it and with its faults. An input of
 /// white space alone is a log that lacks its header. One with no byte is neither: the command before it in a pipe has
-/// probably failed.
-pub(crate) fn read_calls(alloc: Global, bytes: &[u8]) -> Result<Calls, Fault>
+/// probably failed. If a line of a log is no call, the progress is told.
+pub(crate) fn read_calls<P: Progress>(
+    alloc: Global,
+    bytes: &[u8],
+    progress: &mut P,
+) -> Result<Calls, Fault>
     ensures { MatchResult result (λ calls.
         IsCalls bytes.now calls.history (option_map (λ logged. logged.items) calls.logged))
         (IsNoCalls bytes.now) }
@@ -81,7 +105,7 @@ pub(crate) fn read_calls(alloc: Global, bytes: &[u8]) -> Result<Calls, Fault>
             logged: None,
         });
     }
-    let log = read_log(alloc, bytes)?;
+    let log = read_log_telling(alloc, bytes, progress)?;
     Ok(Calls {
         history: log.history,
         logged: Some(log.calls),

@@ -1,13 +1,22 @@
-//! Where long work tells how far it has come.
+//! Where long work tells how far it has come, and a log which of its lines is no call.
 ghost use Rattle.std.specs.Prelude.{◌≤◌};
 
-/// Gets told how far a piece of work has come. No answer depends on what it does with that.
+use std::alloc::Global;
+
+/// Gets told how far a piece of work has come, and of a log that is refused. No answer depends on what it does with
+/// that.
 pub trait Progress {
     /// So many steps of so many in all are made.
     fn told(&mut self, made: u64, all: u64);
 
     /// The work is done, or was given up.
     fn ended(&mut self);
+
+    /// A line of this log is no call. The line of that fault is still to be written.
+    fn refused(&mut self, alloc: Global, log: &[u8]);
+
+    /// The line of a fault is written.
+    fn fault_written(&mut self);
 }
 
 /// Tells nobody.
@@ -18,6 +27,10 @@ impl Progress for Silent {
     fn told(&mut self, _made: u64, _all: u64) {}
 
     fn ended(&mut self) {}
+
+    fn refused(&mut self, _alloc: Global, _log: &[u8]) {}
+
+    fn fault_written(&mut self) {}
 }
 
 /// The steps that are made between two calls of a progress.

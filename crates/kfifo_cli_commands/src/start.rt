@@ -7,6 +7,8 @@ use crate::ending::end_with_fault;
 use crate::progress::Progress;
 use crate::status::Status;
 use kfifo_cli_texts::{Fault, Printer};
+use kfifo_import::{WrongField, wrong_field};
+use std::alloc::Global;
 use std::env;
 use std::io::{self, ErrorKind, IsTerminal, Read, Write};
 use std::rt::{Env, Stderr, Stdin, Stdout};
@@ -30,7 +32,8 @@ pub struct Started<'a> {
     pub output: Stdout,
     /// Standard error.
     pub faults: Stderr,
-    /// Shows on standard error, if that is a terminal, how far work of over a second has come.
+    /// Shows on standard error, if that is a terminal, how far work of over a second has come, and which field of a log
+    /// is wrong.
     pub progress: Showing<'a, HostRuntime, Stderr>,
 }
 
@@ -103,13 +106,14 @@ impl<R: Read, W: Write + Drop> Read for Prompting<R, W> {
 }
 
 /// Shows how far work has come, on a line of its own that is written anew each time, where there is a screen and a
-/// second has gone by.
+/// second has gone by. Of a log that is refused it shows the wrong field, on a line behind that of the fault.
 #[derive(Drop)]
 pub struct Showing<'a, C, W> {
     clock: &'a C,
     begun: Option<Instant>,
     screen: Option<W>,
     shown: bool,
+    wrong: Option<WrongField>,
 }
 
 impl<'a, C: Clock, W: Write> Showing<'a, C, W> {
@@ -120,6 +124,7 @@ impl<'a, C: Clock, W: Write> Showing<'a, C, W> {
             begun,
             screen,
             shown: false,
+            wrong: None,
         }
     }
 
@@ -155,6 +160,20 @@ impl<C: Clock, W: Write> Progress for Showing<'_, C, W> {
         if let Some(screen) = &mut self.screen {
             let _ = screen.write_all(BLANKS.as_bytes());
             self.shown = false;
+        }
+    }
+
+    fn refused(&mut self, alloc: Global, log: &[u8]) {
+        if self.screen.is_some() {
+            // Where memory is short the fault is told without the field.
+            self.wrong = wrong_field(alloc, log).unwrap_or(None);
+        }
+    }
+
+    fn fault_written(&mut self) {
+        if let (Some(screen), Some(wrong)) = (&mut self.screen, &self.wrong) {
+            // A line that cannot be written changes nothing.
+            let _ = writeln!(screen, "{wrong}");
         }
     }
 }

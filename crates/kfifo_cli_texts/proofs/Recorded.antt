@@ -14,10 +14,10 @@ use Rattle.kfifo_model.specs.declared.calls.Answer.{Answer}
 use Rattle.kfifo_model.specs.declared.calls.Answer.TheVariants as A
 use Rattle.kfifo_model.specs.declared.calls.End.{End}
 use Rattle.kfifo_model.specs.declared.calls.Call.{Call}
-use Rattle.kfifo_model.specs.declared.reading.OpWord.{OpWord}
-use Rattle.kfifo_model.specs.declared.reading.OpWord.TheVariants.{Enq, Deq}
-use Rattle.kfifo_model.specs.declared.reading.AnswerWord.{AnswerWord}
-use Rattle.kfifo_model.specs.declared.reading.AnswerWord.TheVariants as W
+use Rattle.kfifo_model.specs.declared.spellings.OpWord.{OpWord}
+use Rattle.kfifo_model.specs.declared.spellings.OpWord.TheVariants.{Enq, Deq}
+use Rattle.kfifo_model.specs.declared.spellings.AnswerWord.{AnswerWord}
+use Rattle.kfifo_model.specs.declared.spellings.AnswerWord.TheVariants as W
 use Rattle.kfifo_model.specs.declared.reading.Ending.{Ending}
 use Rattle.kfifo_model.specs.declared.reading.Entry.{Entry}
 use Rattle.kfifo_model.specs.Histories.{call}

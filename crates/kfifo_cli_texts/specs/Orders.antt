@@ -4,6 +4,7 @@ use Rattle.std.specs.Prelude.{take}
 use Rattle.std.specs.Char.{is_ascii_whitespace}
 use Rattle.std.specs.List.{prefix_len, slice_split, suffix_len}
 use Rattle.std.specs.Str.{IsUtf8}
+use Rattle.kfifo_judge.specs.declared.streams.TheConstants.{MAX_BYTES}
 use Rattle.kfifo_cli_texts.specs.Words.{EachWrites, WritesNumber}
 
 -- each part writes the number in its place
@@ -36,7 +37,7 @@ WritesSpacedOrder bytes order = IsUtf8 bytes
 -- the value of the option gives this order: as a text, or by some bytes of the file that is named behind @ (64)
 abbrev pub GivesOrder : List ℕ → List ℕ → Type 0
 GivesOrder text order = WritesOrder text order
-    ⊎ ((path : List ℕ) × (bytes : List ℕ) × (text ≡ 64 ∷ path) × (length bytes ≤ 16777216)
+    ⊎ ((path : List ℕ) × (bytes : List ℕ) × (text ≡ 64 ∷ path) × (length bytes ≤ MAX_BYTES)
     × WritesSpacedOrder bytes order)
 
 -- the value of the option gives no order: it names a file, or is a text that writes none

@@ -1,6 +1,7 @@
 -- How picks are written on the command line.
 use Rattle.std.specs.Prelude.{◌≡◌, ℕ, ◌+◌, ◌^◌, ◌<◌, ◌≤◌, ◌⊎◌, List, [], ◌∷◌, ◌++◌, codes, replicate, sum_by}
 use Rattle.std.specs.List.{flat_map}
+use Rattle.kfifo_cli_texts.specs.declared.picks.TheConstants.{MAX_PICKS}
 use Rattle.kfifo_replay.specs.declared.fault.ReplayFault.{ReplayFault}
 use Rattle.kfifo_replay.specs.declared.fault.ReplayFault.TheVariants.{BadPick, Memory, BadScript}
 use Rattle.kfifo_cli_texts.specs.declared.picks.Group.{Group}
@@ -40,9 +41,9 @@ behind made BadScript = BadScript
 
 -- a text gives these groups, of at most 16,777,216 picks
 abbrev pub GivesGroups : List ℕ → List Group → Type 0
-GivesGroups text groups = WritesGroups text groups × (count_of groups ≤ 16777216)
+GivesGroups text groups = WritesGroups text groups × (count_of groups ≤ MAX_PICKS)
 
 -- a text writes no groups, or groups of more picks than that
 abbrev pub GivesNoGroups : List ℕ → Type 0
 GivesNoGroups text = ((groups : List Group) → WritesGroups text groups → ⊥)
-    ⊎ ((groups : List Group) × WritesGroups text groups × (16777216 < count_of groups))
+    ⊎ ((groups : List Group) × WritesGroups text groups × (MAX_PICKS < count_of groups))

@@ -4,6 +4,7 @@ use Rattle.std.specs.Prelude.{EachIndex}
 use denote.Ref.{Bor}
 use Rattle.std.specs.Int.{IsInRange}
 use Rattle.std.specs.Str.Parse.{digits_value}
+use Rattle.kfifo_words.specs.declared.word.TheConstants.{VALUES}
 use Rattle.kfifo_machine.specs.declared.event.Begin.{Begin}
 use Rattle.kfifo_machine.specs.declared.event.Begin.TheVariants.{Enqueue, Dequeue, Tick}
 
@@ -43,7 +44,7 @@ pub record WritesEnqueue (k : ℕ) (word : List ℕ) (item start : ℕ) : Type 0
   pub item_written : WritesNumber number item
   pub start_written : WritesStart rest start
   pub some_item : 1 ≤ item
-  pub item_fits : item < 16777216
+  pub item_fits : item < VALUES
   pub start_fits : start < k
 
 -- d and a start write a dequeue
@@ -61,7 +62,7 @@ WritesCall k turns word Tick = ⊥
 
 -- a call that a pass may make where segments have k slots
 abbrev pub IsCall : ℕ → Begin → Type 0
-IsCall k (Enqueue item start turns) = (1 ≤ item) × (item < 16777216) × (start < k) × (1 ≤ turns)
+IsCall k (Enqueue item start turns) = (1 ≤ item) × (item < VALUES) × (start < k) × (1 ≤ turns)
 IsCall k (Dequeue start turns) = (start < k) × (1 ≤ turns)
 IsCall k Tick = ⊥
 

@@ -42,7 +42,7 @@ pub fn read_picks(alloc: Global, text: &str) -> Result<Vec<Group>, Fault>
 
 /// Whether these are at most 16,777,216 picks.
 fn are_few(groups: &[Group]) -> bool
-    ensures { IsTrue result ↔ (count_of groups.now ≤ 16777216) }
+    ensures { IsTrue result ↔ (count_of groups.now ≤ MAX_PICKS) }
 {
     let mut left = MAX_PICKS;
     for group in groups {

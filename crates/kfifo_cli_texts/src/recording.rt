@@ -1,5 +1,6 @@
 //! Records of histories as texts.
 ghost use Rattle.std.specs.Prelude.{◌≡◌, ◌≤◌, IfOk, length, string_bytes};
+ghost use Rattle.kfifo_model.specs.declared.reading.TheConstants.{MAX_CALLS};
 ghost use Rattle.serde_json.specs.View.{view};
 ghost use Rattle.serde_json.specs.Written.{compact_text};
 ghost use Rattle.kfifo_judge.specs.Inputs.{IsRecordText};
@@ -15,7 +16,7 @@ use std::alloc::{AllocError, Global};
 /// 65,536 calls, as many as a record may have, who reads it has this history.
 pub fn record_text(alloc: Global, history: &History) -> Result<String, AllocError>
     ensures text { IfOk result (λ text. string_bytes text ≡ words.record_text history.now) }
-    ensures read_back { IfOk result (λ text. length history.now ≤ 65536
+    ensures read_back { IfOk result (λ text. length history.now ≤ MAX_CALLS
         → IsRecordText (string_bytes text) history.now) }
 {
     record_value(alloc, history.calls())?.to_string(alloc)
@@ -23,7 +24,7 @@ pub fn record_text(alloc: Global, history: &History) -> Result<String, AllocErro
 
 /// The line of the record of a history of as many calls as a record may have.
 pub fn record_line(alloc: Global, history: &History) -> Result<String, AllocError>
-    requires { length history.now ≤ 65536 }
+    requires { length history.now ≤ MAX_CALLS }
     ensures line { IfOk result (λ text. string_bytes text ≡ line (words.record_text history.now)) }
     ensures read_back { IfOk result (λ text. IsRecordText (words.record_text history.now) history.now) }
 {

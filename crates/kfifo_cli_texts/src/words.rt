@@ -1,6 +1,7 @@
 //! Words of the command line: numbers, the calls of a script, and orders.
 ghost use Rattle.std.specs.Prelude.{◌≡◌, ℕ, ◌+◌, ◌^◌, ◌<◌, ◌≤◌, ◌↔◌, ◌⊎◌, IsTrue, List, MatchOption, MatchResult, IfOk};
 ghost use Rattle.std.specs.Prelude.{IfErr, length, map};
+ghost use Rattle.kfifo_judge.specs.declared.streams.TheConstants.{MAX_BYTES};
 ghost use Rattle.kfifo_cli_texts.specs.Words.{Cuts, EachWrites, IsDigits, WritesNumber, WritesStart, WritesCall};
 ghost use Rattle.kfifo_cli_texts.specs.Words.{WritesCalls, IsFirstUnread};
 ghost use Rattle.kfifo_cli_texts.specs.Orders.{GivesNoOrder, GivesOrder, WriteNumbers, WritesOrder, WritesSpacedOrder};
@@ -180,7 +181,7 @@ pub fn order_of<R: Files>(alloc: Global, files: &R, text: &str) -> Result<Vec<us
 
 /// The bytes of a file, at most 16,777,216.
 fn read_file<R: Files>(alloc: Global, files: &R, path: &str) -> Result<Vec<u8>, Fault>
-    ensures few { IfOk result (λ bytes. length bytes.items ≤ 16777216) }
+    ensures few { IfOk result (λ bytes. length bytes.items ≤ MAX_BYTES) }
     ensures fault { IfErr result (λ fault. (fault ≡ Fault.Memory) ⊎ (fault ≡ Fault.Order)) }
 {
     let Ok(file) = fs::open(files, path) else {

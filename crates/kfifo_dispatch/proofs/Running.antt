@@ -5,7 +5,7 @@ use Rattle.std.proofs.lemmas.List.{length-take, take_more}
 use Rattle.std.specs.List.{AllByRecursion}
 use Rattle.kfifo_live.specs.declared.payload.Given.{Given}
 use Rattle.kfifo_live.specs.declared.payload.Taken.{Taken}
-use Rattle.kfifo_dispatch.specs.Jobs.{Progress}
+use Rattle.kfifo_dispatch.specs.Jobs.{JobView}
 use Rattle.kfifo_dispatch.specs.Starts.{Draws}
 use Rattle.kfifo_dispatch.specs.declared.worker.Turn.{Turn}
 use Rattle.kfifo_dispatch.specs.declared.worker.Turn.TheVariants as W
@@ -34,8 +34,8 @@ may_still q p p' d d' n n' may same k turns = record {
   turns_some = rw turns may.turns_some;
 }
 
-module _ {S : Type 0} (Passes : S → ℕ → S → Type 0) (Takes : S → ℕ → ℕ → Taken Progress → S → Type 0)
-    (Gives : S → Progress → ℕ → ℕ → Given Progress → S → Type 0) where
+module _ {S : Type 0} (Passes : S → ℕ → S → Type 0) (Takes : S → ℕ → ℕ → Taken JobView → S → Type 0)
+    (Gives : S → JobView → ℕ → ℕ → Given JobView → S → Type 0) where
   -- what a worker does after so many calls is the end of what it does in all
   abbrev pub Ends : ℕ → ℕ → S → Draws → ℕ → S → Draws → List ℕ → Type 0
   Ends turns all s0 d0 call s d kept = (t : S) (later : List ℕ)
@@ -47,7 +47,7 @@ module _ {S : Type 0} (Passes : S → ℕ → S → Type 0) (Takes : S → ℕ �
       subst (λ (n : ℕ). Works Passes Takes Gives turns n 1 s d t later) none works
 
   -- one more take
-  one_turn : (turns left call : ℕ) (s u t : S) (d e : Draws) (turn : Turn Progress) (kept : List ℕ)
+  one_turn : (turns left call : ℕ) (s u t : S) (d e : Draws) (turn : Turn JobView) (kept : List ℕ)
       → IsTurn Passes Takes Gives turns call s d turn u e
       → GoesOn Passes Takes Gives (Works Passes Takes Gives turns left (suc call)) turn u e t kept
       → Works Passes Takes Gives turns (suc left) call s d t kept
@@ -59,7 +59,7 @@ module _ {S : Type 0} (Passes : S → ℕ → S → Type 0) (Takes : S → ℕ �
   no_turn turns call s d = (refl, refl)
 
   -- one more take of those that are left
-  next_turn : (turns all call : ℕ) (s u t : S) (d e : Draws) (turn : Turn Progress) (kept : List ℕ) → call < all
+  next_turn : (turns all call : ℕ) (s u t : S) (d e : Draws) (turn : Turn JobView) (kept : List ℕ) → call < all
       → IsTurn Passes Takes Gives turns (call + 1) s d turn u e
       → GoesOn Passes Takes Gives (Works Passes Takes Gives turns (all - (call + 1)) (call + 1 + 1)) turn u e t kept
       → Works Passes Takes Gives turns (all - call) (call + 1) s d t kept
@@ -72,26 +72,26 @@ module _ {S : Type 0} (Passes : S → ℕ → S → Type 0) (Takes : S → ℕ �
       (one_turn turns (all - (call + 1)) (call + 1) s u t d e turn kept is goes')
 
   -- a take after which the worker goes on
-  pub goes_on : (turns turns' all call : ℕ) (s0 s u : S) (d0 d e : Draws) (kept kept' : List ℕ) (turn : Turn Progress)
-      (now : Option Progress)
+  pub goes_on : (turns turns' all call : ℕ) (s0 s u : S) (d0 d e : Draws) (kept kept' : List ℕ) (turn : Turn JobView)
+      (now : Option JobView)
       → Ends turns all s0 d0 call s d kept → call < all → turns' ≡ turns → turn ≡ W.On now
       → IsTurn Passes Takes Gives turns' (call + 1) s d turn u e → kept' ≡ kept ++ place_kept now
       → Ends turns all s0 d0 (call + 1) u e kept'
   goes_on turns turns' all call s0 s u d0 d e kept kept' turn now ends less same on is more t later works =
       let is' = subst (λ (n : ℕ). IsTurn Passes Takes Gives n (call + 1) s d (W.On now) u e) same
-      (subst (λ (w : Turn Progress). IsTurn Passes Takes Gives turns' (call + 1) s d w u e) on is) in
+      (subst (λ (w : Turn JobView). IsTurn Passes Takes Gives turns' (call + 1) s d w u e) on is) in
       let whole = ends t (place_kept now ++ later)
       (next_turn turns all call s u t d e (W.On now) (place_kept now ++ later) less is' (later, works, refl)) in
       subst (λ (ns : List ℕ). Works Passes Takes Gives turns all 1 s0 d0 t ns)
       (sym (append_assoc' kept (place_kept now) later) ∙ ap (λ (ns : List ℕ). ns ++ later) (sym more)) whole
 
   -- a take at which it ends
-  pub is_over : (turns turns' all call : ℕ) (s0 s u : S) (d0 d e : Draws) (kept : List ℕ) (turn : Turn Progress)
+  pub is_over : (turns turns' all call : ℕ) (s0 s u : S) (d0 d e : Draws) (kept : List ℕ) (turn : Turn JobView)
       → Ends turns all s0 d0 call s d kept → call < all → turns' ≡ turns → turn ≡ W.Over
       → IsTurn Passes Takes Gives turns' (call + 1) s d turn u e → Works Passes Takes Gives turns all 1 s0 d0 u kept
   is_over turns turns' all call s0 s u d0 d e kept turn ends less same over is =
       let is' = subst (λ (n : ℕ). IsTurn Passes Takes Gives n (call + 1) s d W.Over u e) same
-      (subst (λ (w : Turn Progress). IsTurn Passes Takes Gives turns' (call + 1) s d w u e) over is) in
+      (subst (λ (w : Turn JobView). IsTurn Passes Takes Gives turns' (call + 1) s d w u e) over is) in
       subst (λ (ns : List ℕ). Works Passes Takes Gives turns all 1 s0 d0 u ns) (append_nil kept)
       (ends u [] (next_turn turns all call s u u d e W.Over [] less is' (refl, refl)))
 
@@ -103,9 +103,9 @@ module _ {S : Type 0} (Passes : S → ℕ → S → Type 0) (Takes : S → ℕ �
       subst (λ (ns : List ℕ). Works Passes Takes Gives turns all 1 s0 d0 s ns) (append_nil kept)
       (ends s [] (subst (λ (n : ℕ). Works Passes Takes Gives turns n (call + 1) s d s []) none (no_turn turns (call + 1) s d)))
 
-module _ {S : Type 0} (Gives : S → Progress → ℕ → ℕ → Given Progress → S → Type 0) where
+module _ {S : Type 0} (Gives : S → JobView → ℕ → ℕ → Given JobView → S → Type 0) where
   -- one more task
-  pub gives_one : (turns place : ℕ) (tasks : List Task) (s t u : S) (task : Task) (answer : Given Progress) (kept : List ℕ)
+  pub gives_one : (turns place : ℕ) (tasks : List Task) (s t u : S) (task : Task) (answer : Given JobView) (kept : List ℕ)
       → GivesAll Gives turns place tasks s t kept → Gives t (begun (place + length tasks) task) 0 turns answer u
       → GivesAll Gives turns place (tasks ++ task ∷ []) s u (kept ++ kept_after answer)
   gives_one turns place [] s t u task answer kept gives one =
@@ -130,7 +130,7 @@ module _ {S : Type 0} (Gives : S → Progress → ℕ → ℕ → Given Progress
         ap (λ (ns : List ℕ). ns ++ kept_after answer) gives.5 ∙ append_assoc' (kept_after gives.1) gives.2 (kept_after answer),
       )
 
-  pub gives_more : (turns turns' n : ℕ) (tasks : List Task) (s0 s u : S) (task : Task) (job : Progress) (answer : Given Progress)
+  pub gives_more : (turns turns' n : ℕ) (tasks : List Task) (s0 s u : S) (task : Task) (job : JobView) (answer : Given JobView)
       (kept kept' : List ℕ)
       → n < length tasks → GivesAll Gives turns 0 (take n tasks) s0 s kept → get_or tasks n task ≡ task → job ≡ begun n task
       → turns' ≡ turns
@@ -138,7 +138,7 @@ module _ {S : Type 0} (Gives : S → Progress → ℕ → ℕ → Given Progress
   gives_more turns turns' n tasks s0 s u task job answer kept kept' less gives at job_is same one more =
       let here : n ≡ 0 + length (take n tasks) = omega (arith, length-take n tasks, less) in
       let one' = subst (λ (m : ℕ). Gives s (begun m task) 0 turns answer u) here
-      (subst (λ (m : ℕ). Gives s (begun n task) 0 m answer u) same (subst (λ (j : Progress). Gives s j 0 turns' answer u) job_is one)) in
+      (subst (λ (m : ℕ). Gives s (begun n task) 0 m answer u) same (subst (λ (j : JobView). Gives s j 0 turns' answer u) job_is one)) in
       let all = gives_one turns 0 (take n tasks) s0 s u task answer kept gives one' in
       let front = take_more tasks n task less ∙ ap (λ (x : Task). take n tasks ++ x ∷ []) at in
       subst (λ (ns : List ℕ). GivesAll Gives turns 0 (take (n + 1) tasks) s0 u ns) (sym more)

@@ -3,7 +3,7 @@ use Rattle.std.proofs.Common.{◌≡◌, ◌≤◌, ◌<◌, ◌^◌, ◌*◌, �
 use Rattle.std.proofs.lemmas.Option.{slice_get_within}
 use Rattle.kfifo_dispatch.specs.declared.task.Task.{Task}
 use Rattle.kfifo_dispatch.specs.Tasks.{work}
-use Rattle.kfifo_dispatch.specs.Jobs.{IsOn, Progress, id_at, total_at}
+use Rattle.kfifo_dispatch.specs.Jobs.{IsOn, JobView, id_at, total_at}
 
 work_few : (most left : ℕ) → left ≤ most → work left ≤ left * most
 unfolding work
@@ -37,5 +37,5 @@ pub comes_to : (tasks : List Task) (place sum : ℕ) → IsOn tasks (record { pl
 unfolding work
 comes_to tasks place sum on = rw on.at (omega (arith, on.comes))
 
-pub is_there : (tasks : List Task) (job : Progress) → IsOn tasks job → job.place < length tasks
+pub is_there : (tasks : List Task) (job : JobView) → IsOn tasks job → job.place < length tasks
 is_there tasks job on = slice_get_within tasks job.place on.task on.at

@@ -3,21 +3,21 @@ use Rattle.std.specs.Prelude.{◌≡◌, ℕ, ◌+◌, ◌-◌, ◌<◌, ◌^◌
 use Rattle.kfifo_dispatch.specs.declared.task.Task.{Task}
 use Rattle.kfifo_dispatch.specs.Tasks.{total, work}
 
--- how far the task at this place in the list has come
-pub record Progress : Type 0 where
+-- A job as clauses see it: the place of its task, the work that is left, and the sum so far.
+pub record JobView : Type 0 where
   pub place : ℕ
   pub left : ℕ
   pub sum : ℕ
 
 -- its sum and the work that is left come to what the task comes to, a number of 64 bits
-pub record IsOn (tasks : List Task) (job : Progress) : Type 0 where
+pub record IsOn (tasks : List Task) (job : JobView) : Type 0 where
   pub task : Task
   pub at : slice_get tasks job.place ≡ Some task
   pub comes : job.sum + work job.left ≡ total task
   pub small : total task < 2 ^ 64
 
 -- one unit of work: what is left was added to the sum, and 1 taken from it
-abbrev pub IsWorked : Progress → Progress → Type 0
+abbrev pub IsWorked : JobView → JobView → Type 0
 IsWorked old new = new ≡ record { place = old.place; left = old.left - 1; sum = old.sum + old.left }
 
 -- what a task comes to, 0 of none

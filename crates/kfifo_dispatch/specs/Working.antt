@@ -6,14 +6,14 @@ use Rattle.kfifo_live.specs.Payloads.{Gives, PayPassView, TakesOut, new_pay_pass
 use Rattle.kfifo_live.specs.declared.payload.Given.{Given}
 use Rattle.kfifo_live.specs.declared.payload.Taken.{Taken}
 use Rattle.kfifo_dispatch.specs.declared.task.Task.{Task}
-use Rattle.kfifo_dispatch.specs.Jobs.{Progress}
+use Rattle.kfifo_dispatch.specs.Jobs.{JobView}
 use Rattle.kfifo_dispatch.specs.Running.{AreEach, GivesAll, Runs}
 use Rattle.kfifo_dispatch.specs.Starts.{Draws}
 
 -- a queue of this shape for a caller and so many workers, with a token a pass for each of so many tasks, the caller's
 -- pass and the others
-pub record IsOpened (shape : Shape) (workers tasks : ℕ) (queue : OpenQueue) (own : PayPassView Progress)
-    (passes : List (PayPassView Progress)) : Type 0 where
+pub record IsOpened (shape : Shape) (workers tasks : ℕ) (queue : OpenQueue) (own : PayPassView JobView)
+    (passes : List (PayPassView JobView)) : Type 0 where
   pub opened : queue.opened ≡ pay_opening shape (workers + 1) (max tasks 1)
   pub own_is : new_pay_passes queue 0 1 ≡ own ∷ []
   pub passes_are : passes ≡ new_pay_passes queue 1 workers
@@ -38,7 +38,7 @@ module _ {T : Type 0} where
   PassGives s payload start turns answer t = Gives start turns payload answer s t
 
 -- the whole work of a worker with such a pass, and the places of the tasks that it finished
-abbrev pub PassRuns : (ℕ → ℕ → Type 0) → Shape → ℕ → PayPassView Progress → PayPassView Progress → List ℕ → Type 0
+abbrev pub PassRuns : (ℕ → ℕ → Type 0) → Shape → ℕ → PayPassView JobView → PayPassView JobView → List ℕ → Type 0
 PassRuns passed shape seed s t kept = Runs (PassPasses passed) PassTakes PassGives shape seed s.pass.thread s t kept
 
 -- What a dispatch does. It opens a queue with a pass for the caller and one for each worker, each with a token for each
@@ -47,11 +47,11 @@ PassRuns passed shape seed s t kept = Runs (PassPasses passed) PassTakes PassGiv
 pub record HasRun (passed : ℕ → ℕ → Type 0) (shape : Shape) (workers seed : ℕ) (tasks : List Task) : Type 0 where
   pub queue : OpenQueue
   pub opened : queue.opened ≡ pay_opening shape (workers + 1) (max (length tasks) 1)
-  pub given : PayPassView Progress
+  pub given : PayPassView JobView
   pub refused : List ℕ
-  pub first : PayPassView Progress
+  pub first : PayPassView JobView
   pub first_is : new_pay_passes queue 0 1 ≡ first ∷ []
   pub gives : GivesAll PassGives (shape.n + 2) 0 tasks first given refused
-  pub lasts : List (PayPassView Progress)
+  pub lasts : List (PayPassView JobView)
   pub runs : AreEach (λ first last. (kept : List ℕ) × PassRuns passed shape seed first last kept)
       (new_pay_passes queue 1 workers) lasts

@@ -58,10 +58,10 @@ pub fn dispatch<R: Threads + Sync, G: Gate + Sync>(
 ) -> Result<Vec<Finished>, DispatchFault>
     ensures ok { IfOk result (λ list. IsFinishedList tasks.now list.items) }
     ensures run { IfOk result (λ _. HasRun (G.passed gate.now) shape workers seed tasks.now) }
-    ensures many { IsErrOf result TooManyTasks ↔ (1024 < length tasks.now) }
-    ensures repeated { IsErrOf result RepeatedId ↔ ((length tasks.now ≤ 1024) × HasRepeatedId tasks.now) }
+    ensures many { IsErrOf result TooManyTasks ↔ (MAX_TASKS < length tasks.now) }
+    ensures repeated { IsErrOf result RepeatedId ↔ ((length tasks.now ≤ MAX_TASKS) × HasRepeatedId tasks.now) }
     ensures workers { IsErrOf result WorkersOutOfRange
-        ↔ ((length tasks.now ≤ 1024) × (HasRepeatedId tasks.now → ⊥) × ((workers ≡ 0) ⊎ (63 < workers))) }
+        ↔ ((length tasks.now ≤ MAX_TASKS) × (HasRepeatedId tasks.now → ⊥) × ((workers ≡ 0) ⊎ (MAX_WORKERS < workers))) }
 {
     if tasks.len() > MAX_TASKS {
         return Err(DispatchFault::TooManyTasks);
@@ -87,8 +87,8 @@ fn work_off<L: Tasks + Send + Sync, R: Threads + Sync, G: Gate + Sync>(
     gate: &G,
 ) -> Result<Vec<Finished>, AllocError>
     requires tasks { L.tasks ≡ tasks.now }
-    requires few { length tasks.now ≤ 1024 }
-    requires workers { (1 ≤ workers) × (workers ≤ 63) }
+    requires few { length tasks.now ≤ MAX_TASKS }
+    requires workers { (1 ≤ workers) × (workers ≤ MAX_WORKERS) }
     ensures list { IfOk result (λ list. IsFinishedList tasks.now list.items) }
     ensures run { IfOk result (λ _. HasRun (G.passed gate.now) shape workers seed tasks.now) }
 {
@@ -122,8 +122,8 @@ fn open<L: Tasks>(
     workers: u32,
     tasks: u32,
 ) -> Result<(PayQueue<Job<L>>, PayPass<Job<L>>, Vec<PayPass<Job<L>>>), AllocError>
-    requires tasks { tasks ≤ 1024 }
-    requires workers { (1 ≤ workers) × (workers ≤ 63) }
+    requires tasks { tasks ≤ MAX_TASKS }
+    requires workers { (1 ≤ workers) × (workers ≤ MAX_WORKERS) }
     ensures { IfOk result (λ r. IsOpened shape workers tasks r.0 r.1 r.2.items) }
 {
     match PayQueue::open(alloc, shape, workers + 1, tasks.max(1)) {
@@ -148,7 +148,7 @@ fn give_all<L: Tasks, G: Gate, P: Station<Job<L>, G>>(
     gate: &G,
 ) -> Result<Vec<Done<L>>, AllocError>
     requires tasks { L.tasks ≡ tasks.now }
-    requires few { length tasks.now ≤ 1024 }
+    requires few { length tasks.now ≤ MAX_TASKS }
     requires of { IsPassOf queue.now (P.known pass.old) }
     requires shape { queue.now.opened.shape ≡ shape }
     ensures same { IsSamePass (P.known pass.old) (P.known pass.new) }

@@ -1,5 +1,6 @@
 //! The finished list.
 ghost use Rattle.std.specs.Prelude.{◌≡◌, ◌<◌, ◌≤◌, IfOk, IfSome, Some, length, slice_get};
+ghost use Rattle.kfifo_dispatch.specs.declared.dispatching.TheConstants.{MAX_TASKS};
 ghost use Rattle.kfifo_dispatch.specs.Jobs.{AreTotals, total_at};
 ghost use Rattle.kfifo_dispatch.specs.Tasks.{IsFinishedList, finished};
 
@@ -17,7 +18,7 @@ pub(crate) fn finish<L: Tasks, G: Gate>(
     gate: &G,
 ) -> Result<Vec<Finished>, AllocError>
     requires tasks { L.tasks ≡ tasks.now }
-    requires few { length tasks.now ≤ 1024 }
+    requires few { length tasks.now ≤ MAX_TASKS }
     ensures { IfOk result (λ list. IsFinishedList tasks.now list.items) }
 {
     let sums = sums_of(alloc, tasks, returned)?;
@@ -47,7 +48,7 @@ fn sums_of<L: Tasks>(
 
 /// The task at this place, finished: with the sum that came back, or by the work done here.
 fn finish_one<L: Tasks, G: Gate>(place: usize, task: &Task, sum: Option<u64>, gate: &G) -> Finished
-    requires place { place < 1024 }
+    requires place { place < MAX_TASKS }
     requires task { slice_get L.tasks place ≡ Some task.now }
     requires sum { IfSome sum (λ n. n ≡ total_at L.tasks place) }
     ensures { result ≡ finished task.now }

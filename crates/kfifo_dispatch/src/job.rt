@@ -1,7 +1,7 @@
 //! A task on its way from worker to worker.
 ghost use Rattle.std.specs.Prelude.{◌≡◌, ◌==◌, ◌<◌, ◌+◌, ◌-◌, ◌^◌, List, [], Some, slice_get, length};
 ghost use Rattle.kfifo_dispatch.specs.declared.task.Task.{Task};
-ghost use Rattle.kfifo_dispatch.specs.Jobs.{Progress, IsOn, IsWorked, id_at, total_at};
+ghost use Rattle.kfifo_dispatch.specs.Jobs.{JobView, IsOn, IsWorked, id_at, total_at};
 
 use crate::gate::Gate;
 use crate::task::Task;
@@ -29,7 +29,7 @@ pub(crate) struct Job<L: Tasks> {
 }
 
 impl<L: Tasks> Model for Job<L> {
-    ghost Value = { Progress };
+    ghost Value = { JobView };
 
     ghost view = { λ j. record { place = j.place; left = j.left; sum = j.sum } };
 
@@ -46,7 +46,7 @@ pub(crate) struct Done<L: Tasks> {
 }
 
 impl<L: Tasks> Model for Done<L> {
-    ghost Value = { Progress };
+    ghost Value = { JobView };
 
     ghost view = { λ d. record { place = d.place; left = 0; sum = d.sum } };
 

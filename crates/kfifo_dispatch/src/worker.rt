@@ -49,7 +49,7 @@ impl<P> Worker<P> {
         P: Station<Job<L>, G> + Drop,
         requires { MayWork queue.now (P.known self.pass) self.starts self.turns }
         ensures same { IsSamePass (P.known self.pass) (P.known result.pass) }
-        ensures works { IfOk result.kept (λ kept. Works (P.passes gate.now) P.takes P.gives self.turns 65536 1
+        ensures works { IfOk result.kept (λ kept. Works (P.passes gate.now) P.takes P.gives self.turns MAX_TAKES 1
             self.pass self.starts result.pass
             (map (λ done. done.place) kept.items)) }
     {
@@ -71,7 +71,7 @@ impl<P> Worker<P> {
         P: Station<Job<L>, G> + Drop,
         requires { MayWork queue.now (P.known self.old.pass) self.old.starts self.old.turns }
         ensures same { IsSamePass (P.known self.old.pass) (P.known self.new.pass) }
-        ensures works { IfOk result (λ kept. Works (P.passes gate.now) P.takes P.gives self.old.turns 65536 1
+        ensures works { IfOk result (λ kept. Works (P.passes gate.now) P.takes P.gives self.old.turns MAX_TAKES 1
             self.old.pass self.old.starts self.new.pass
             (map (λ done. done.place) kept.items)) }
     {

@@ -1,6 +1,7 @@
 -- Which calls of a history a picture has, and why there is none.
 use Rattle.std.specs.Prelude.{ℕ, ◌≡◌, ◌+◌, ◌<◌, ◌≤◌, ◌⊎◌, ◌↔◌, List, Option, Some, None, length, slice_index_or}
 use Rattle.std.specs.List.{Any}
+use Rattle.kfifo_draw.specs.declared.picture.TheConstants.{MAX_DRAWN}
 use Rattle.kfifo_model.specs.declared.calls.Call.{Call}
 use Rattle.kfifo_model.specs.Lists.{EachPair, IsIn}
 use Rattle.kfifo_model.specs.Histories.{Precedes, call}
@@ -12,7 +13,7 @@ use Rattle.kfifo_draw.specs.declared.picture.DrawFault.TheVariants.{TooMany, Mem
 
 -- the most calls of a picture
 abbrev pub most_drawn : ℕ
-most_drawn = 4096
+most_drawn = MAX_DRAWN
 
 -- neither call precedes the other
 abbrev pub Overlap : List Call → ℕ → ℕ → Type 0

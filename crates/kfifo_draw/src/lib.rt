@@ -3,7 +3,6 @@
 
 mod bands;
 mod columns;
-mod kinds;
 mod lanes;
 mod layout;
 mod marks;

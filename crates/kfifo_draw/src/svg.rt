@@ -1,9 +1,8 @@
 //! Pictures as SVG.
 use crate::bands::{Band, Bar, Edge};
-use crate::kinds::Kind;
 use crate::scene::Scene;
 use crate::words::push_details;
-use kfifo_model::{Call, Op};
+use kfifo_model::{Call, Effect, Op};
 use std::alloc::{AllocError, Global};
 use std::fmt::Write;
 
@@ -218,6 +217,17 @@ fn outline_of(call: &Call, bar: &Bar, top: usize, width: usize) -> Outline {
     }
 }
 
+/// The class in the style sheet of what a call does.
+fn class_of(call: &Call) -> &'static str {
+    match call.effect() {
+        Effect::Adds(_) => "puts",
+        // An unfinished dequeue, which has no place in an order, is about to take an item.
+        Effect::Takes(_) | Effect::Wrong => "takes",
+        Effect::FindsNone => "none",
+        Effect::Refused => "refused",
+    }
+}
+
 /// Adds the bar of a call, with its label, and all that is known of the call as a title, which viewers show where the
 /// pointer rests.
 fn push_call(
@@ -228,7 +238,7 @@ fn push_call(
     outline: Outline,
 ) -> Result<(), AllocError> {
     let number = scene.numbers.get(bar.index).copied().unwrap_or(bar.index);
-    let class = Kind::of(call).class();
+    let class = class_of(call);
     let fails = if scene.marks.fails_at(number) {
         " fails"
     } else {

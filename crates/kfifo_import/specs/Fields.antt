@@ -10,6 +10,7 @@ use Rattle.kfifo_model.specs.declared.calls.Call.{Call}
 use Rattle.kfifo_model.specs.declared.calls.End.{End}
 use Rattle.kfifo_model.specs.declared.calls.Op.{Op}
 use Rattle.kfifo_model.specs.declared.calls.Op.TheVariants.{Enqueue, Dequeue}
+use Rattle.kfifo_model.specs.Words.{answer_word, op_word}
 use Rattle.kfifo_import.specs.declared.table.Columns.{Columns}
 
 -- the header has each field at its place
@@ -53,34 +54,36 @@ Gives Writes given (Some number) = (text : List ℕ) × (given ≡ Some text) ×
 
 -- the text of an operation, beside the item
 abbrev pub IsOp : List ℕ → Option ℕ → Op → Type 0
-IsOp text item (Enqueue x) = (text ≡ codes "enq") × (item ≡ Some x)
-IsOp text item Dequeue = text ≡ codes "deq"
+IsOp text item (Enqueue x) = (text ≡ op_word (Enqueue x)) × (item ≡ Some x)
+IsOp text item Dequeue = text ≡ op_word Dequeue
 
 -- no enqueue has this answer
 abbrev pub IsNoPutAnswer : List ℕ → Type 0
-IsNoPutAnswer text = (text ≢ codes "done") × (text ≢ codes "full") × (text ≢ codes "busy") × (text ≢ codes "worn")
+IsNoPutAnswer text = (text ≢ answer_word Done) × (text ≢ answer_word Full) × (text ≢ answer_word Busy)
+    × (text ≢ answer_word Worn)
 
 -- no dequeue that got nothing has this answer
 abbrev pub IsNoTakeAnswer : List ℕ → Type 0
-IsNoTakeAnswer text = (text ≢ codes "got") × (text ≢ codes "empty") × (text ≢ codes "busy") × (text ≢ codes "worn")
+IsNoTakeAnswer text = (text ≢ answer_word (Got 0)) × (text ≢ answer_word Empty) × (text ≢ answer_word Busy)
+    × (text ≢ answer_word Worn)
 
 -- the text of an enqueue's answer; Empty, which no enqueue returns, stands for other texts
 abbrev pub IsPutAnswer : List ℕ → Answer → Type 0
-IsPutAnswer text Done = text ≡ codes "done"
-IsPutAnswer text Full = text ≡ codes "full"
+IsPutAnswer text Done = text ≡ answer_word Done
+IsPutAnswer text Full = text ≡ answer_word Full
 IsPutAnswer text (Got x) = ⊥
 IsPutAnswer text Empty = IsNoPutAnswer text
-IsPutAnswer text Busy = text ≡ codes "busy"
-IsPutAnswer text Worn = text ≡ codes "worn"
+IsPutAnswer text Busy = text ≡ answer_word Busy
+IsPutAnswer text Worn = text ≡ answer_word Worn
 
 -- the text of a dequeue's answer, beside the item; Done, which no dequeue returns, stands for other texts
 abbrev pub IsTakeAnswer : List ℕ → Option ℕ → Answer → Type 0
 IsTakeAnswer text item Done = IsNoTakeAnswer text × (item ≡ None)
 IsTakeAnswer text item Full = ⊥
-IsTakeAnswer text item (Got x) = (text ≡ codes "got") × (item ≡ Some x)
-IsTakeAnswer text item Empty = (text ≡ codes "empty") × (item ≡ None)
-IsTakeAnswer text item Busy = (text ≡ codes "busy") × (item ≡ None)
-IsTakeAnswer text item Worn = (text ≡ codes "worn") × (item ≡ None)
+IsTakeAnswer text item (Got x) = (text ≡ answer_word (Got x)) × (item ≡ Some x)
+IsTakeAnswer text item Empty = (text ≡ answer_word Empty) × (item ≡ None)
+IsTakeAnswer text item Busy = (text ≡ answer_word Busy) × (item ≡ None)
+IsTakeAnswer text item Worn = (text ≡ answer_word Worn) × (item ≡ None)
 
 abbrev pub IsAnswer : Op → List ℕ → Option ℕ → Answer → Type 0
 IsAnswer (Enqueue x) text item answer = IsPutAnswer text answer

@@ -4,4 +4,5 @@ pub mod Rows
 pub mod Spots
 pub mod Tables
 pub mod Taking
+pub mod Wrong
 pub mod Fields

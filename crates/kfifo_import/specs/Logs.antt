@@ -2,6 +2,7 @@
 use Rattle.std.specs.Prelude.{ℕ, ◌≡◌, ◌<◌, ◌≤◌, List, length, map, option_map, slice_index_or}
 use Rattle.std.specs.List.Sorted.{IsNonDecreasingBy, IsPermutation, IsStableByKey}
 use Rattle.std.specs.Ordering.{nat_cmp}
+use Rattle.kfifo_model.specs.declared.reading.TheConstants.{MAX_CALLS}
 use Rattle.kfifo_model.specs.declared.calls.Call.{Call}
 use Rattle.kfifo_model.specs.declared.history.RecordFault.{RecordFault}
 use Rattle.kfifo_model.specs.declared.history.RecordFault.TheVariants as records
@@ -41,7 +42,7 @@ logged_call line = record {
 -- The history is the record of the log, which has at most 65,536 lines: its calls by rising first time, with stamps.
 -- The calls of the log, by the numbers of the record, are these.
 pub record IsLogOf (lines : List Line) (h : List Call) (calls : List LoggedCall) : Type 0 where
-  pub few : length lines ≤ 65536
+  pub few : length lines ≤ MAX_CALLS
   pub sorted : List Line
   pub by_first : AreByFirst lines sorted
   pub stamped : AreStamped (calls_of sorted) h
@@ -77,10 +78,10 @@ pub record IsFaultyLog (lines : List Line) (fault : ImportFault) : Type 0 where
 -- why a log has no record. Faults of texts come before
 abbrev pub IsImportFault : List Line → ImportFault → Type 0
 IsImportFault lines (Csv n) = ⊥
-IsImportFault lines TooMany = 65536 < length lines
+IsImportFault lines TooMany = MAX_CALLS < length lines
 IsImportFault lines (NotACall n) = ⊥
 IsImportFault lines (NumberOutOfRange n) = IsFaultyLog lines (NumberOutOfRange n)
 IsImportFault lines (WrongAnswer n) = IsFaultyLog lines (WrongAnswer n)
 IsImportFault lines (EndsEarly n) = IsFaultyLog lines (EndsEarly n)
 IsImportFault lines (Overlap n) = IsFaultyLog lines (Overlap n)
-IsImportFault lines Memory = length lines ≤ 65536
+IsImportFault lines Memory = length lines ≤ MAX_CALLS

@@ -1,5 +1,6 @@
 -- What a log in CSV gives.
 use Rattle.std.specs.Prelude.{◌≡◌, ◌≢◌, ◌<◌, ◌⊎◌, ℕ, List, [], ◌∷◌, None, length}
+use Rattle.kfifo_model.specs.declared.reading.TheConstants.{MAX_CALLS}
 use Rattle.csv.specs.Reading.{strip_bom}
 use Rattle.kfifo_model.specs.declared.calls.Call.{Call}
 use Rattle.kfifo_import.specs.declared.log.ImportFault.{ImportFault}
@@ -54,9 +55,9 @@ IsNoCall columns fields = (c : Call) → ¬ (IsCallOf columns fields c)
 -- what is wrong with a row that comes behind these lines
 abbrev pub IsRowFault : Columns → ℕ → List Line → Row → ImportFault → Type 0
 IsRowFault columns width lines row (Csv n) = (n ≡ row.number) × (length row.fields ≢ width)
-IsRowFault columns width lines row TooMany = (length row.fields ≡ width) × (length lines ≡ 65536)
+IsRowFault columns width lines row TooMany = (length row.fields ≡ width) × (length lines ≡ MAX_CALLS)
 IsRowFault columns width lines row (NotACall n) = (n ≡ row.number) × (length row.fields ≡ width)
-    × (length lines < 65536)
+    × (length lines < MAX_CALLS)
     × IsNoCall columns row.fields
 IsRowFault columns width lines row _ = ⊥
 

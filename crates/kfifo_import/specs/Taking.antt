@@ -1,11 +1,14 @@
 -- What one row more does to a table, and why it is not taken.
 use Rattle.std.specs.Prelude.{◌≡◌, ◌++◌, ◌∷◌, [], ◌<◌, ◌≤◌, ℕ, List, Option, Some, None, length}
+use Rattle.kfifo_model.specs.declared.reading.TheConstants.{MAX_CALLS}
 use Rattle.csv.specs.declared.error.ErrorKind.{ErrorKind}
 use Rattle.csv.specs.declared.error.ErrorKind.TheVariants as kinds
 use Rattle.kfifo_import.specs.declared.log.ImportFault.{ImportFault}
 use Rattle.kfifo_import.specs.declared.log.ImportFault.TheVariants.{Csv, TooMany, NotACall, Memory}
 use Rattle.kfifo_import.specs.declared.log.Line.{Line}
 use Rattle.kfifo_import.specs.declared.table.Columns.{Columns}
+use Rattle.kfifo_import.specs.declared.table.Refused.{Refused}
+use Rattle.csv.specs.Records.{fields_of}
 use Rattle.kfifo_import.specs.Fields.{HasColumns}
 use Rattle.kfifo_import.specs.Rows.{Row}
 use Rattle.kfifo_import.specs.Tables.{IsLineOf, IsNoCall, LacksColumns}
@@ -18,7 +21,7 @@ row_at number fields = record { number = number; fields = fields }
 abbrev pub Takes : Option Columns → List Line → ℕ → List (List ℕ) → Option Columns → List Line → Type 0
 Takes None lines number fields None after = ⊥
 Takes None lines number fields (Some columns) after = HasColumns fields columns × (after ≡ lines)
-Takes (Some columns) lines number fields now after = (now ≡ Some columns) × (length lines < 65536)
+Takes (Some columns) lines number fields now after = (now ≡ Some columns) × (length lines < MAX_CALLS)
     × (line : Line) × IsLineOf columns (length fields) (row_at number fields) line × (after ≡ lines ++ line ∷ [])
 
 -- why a row is not taken
@@ -26,10 +29,18 @@ abbrev pub IsNotTaken : Option Columns → List Line → ℕ → List (List ℕ)
 IsNotTaken columns lines number fields Memory = Unit {0}
 IsNotTaken None lines number fields (Csv n) = (n ≡ number) × LacksColumns fields
 IsNotTaken None lines number fields _ = ⊥
-IsNotTaken (Some columns) lines number fields TooMany = 65536 ≤ length lines
-IsNotTaken (Some columns) lines number fields (NotACall n) = (n ≡ number) × (length lines < 65536)
+IsNotTaken (Some columns) lines number fields TooMany = MAX_CALLS ≤ length lines
+IsNotTaken (Some columns) lines number fields (NotACall n) = (n ≡ number) × (length lines < MAX_CALLS)
     × IsNoCall columns fields
 IsNotTaken (Some columns) lines number fields _ = ⊥
+
+-- a row that is refused comes with the fault where it is no call, and with no other fault
+abbrev pub IsRefused : Option Columns → ℕ → List (List ℕ) → ImportFault → Option Refused → Type 0
+IsRefused columns number fields (NotACall n) None = ⊥
+IsRefused columns number fields (NotACall n) (Some refused) = (refused.number ≡ number)
+    × (fields_of refused.row ≡ fields) × (columns ≡ Some refused.columns)
+IsRefused columns number fields _ None = Unit {0}
+IsRefused columns number fields _ (Some refused) = ⊥
 
 -- what an error of the reader at a line says of the text
 abbrev pub IsReadFault : ErrorKind → ℕ → ImportFault → Type 0

@@ -6,6 +6,8 @@ mod log;
 mod stamping;
 mod table;
 mod walk;
+mod wrong;
 
 pub use log::{ImportFault, Line, Log, LoggedCall, log_of, record_of};
 pub use table::{import_text, read_log};
+pub use wrong::{Allowed, Field, WrongField, wrong_field};

@@ -1,32 +1,34 @@
 //! Logs as tables of comma-separated fields.
-ghost use Rattle.std.specs.Prelude.{◌≡◌, ◌≤◌, ◌↔◌, ℕ, IfErr, IfOk, IsTrue, None, OnOk, Option, Some, MatchOption};
-ghost use Rattle.std.specs.Prelude.{MatchResult, length, option_map};
+ghost use Rattle.std.specs.Prelude.{◌≡◌, ◌≤◌, ◌↔◌, ℕ, IfErr, IfOk, IfSome, IsTrue, List, None, OnOk, Option, Some};
+ghost use Rattle.std.specs.Prelude.{MatchOption, MatchResult, length, option_map};
 ghost use Rattle.kfifo_model.specs.declared.calls.Answer.{Answer};
 ghost use Rattle.kfifo_model.specs.declared.calls.End.{End};
 ghost use Rattle.kfifo_model.specs.declared.calls.Op.{Op};
 ghost use Rattle.csv.specs.Reading.{strip_bom};
 ghost use Rattle.csv.specs.Records.{field_at, fields_of};
+ghost use Rattle.kfifo_model.specs.Words.{IsAnswerWord};
 ghost use Rattle.kfifo_import.specs.Fields.{Gives, GivesText, HasColumns, IsAnswer, IsCallOf, IsDigits, IsEnd, IsOp};
 ghost use Rattle.kfifo_import.specs.Fields.{IsPutAnswer, IsTakeAnswer, WritesSmall, WritesWhole};
 ghost use Rattle.kfifo_import.specs.Tables.{IsImported, IsNoCall, IsReadLog, IsTextFault, IsUnimported, LacksColumns};
 ghost use Rattle.kfifo_import.specs.Tables.{ReadsLog};
-ghost use Rattle.kfifo_import.specs.Taking.{IsNotTaken, IsReadFault, Takes};
+ghost use Rattle.kfifo_import.specs.Taking.{IsNotTaken, IsReadFault, IsRefused, Takes, row_at};
+ghost use Rattle.kfifo_import.specs.Wrong.{IsRowBehind};
 
 use crate::log::{ImportFault, Line, Log, log_of};
 use crate::walk::{Place, row_end, row_front, without_mark};
 use csv::{ByteRecord, ErrorKind, ReaderBuilder};
-use kfifo_model::{Answer, Call, End, History, MAX_CALLS, Op};
-use std::alloc::Global;
+use kfifo_model::{Answer, AnswerWord, Call, End, History, MAX_CALLS, Op, OpWord};
+use std::alloc::{AllocFailed, Global};
 
 /// Where the fields of a call stand in a line.
 #[derive(Clone, Copy)]
-struct Columns {
-    thread: usize,
-    op: usize,
-    item: usize,
-    first: usize,
-    last: usize,
-    answer: usize,
+pub(crate) struct Columns {
+    pub(crate) thread: usize,
+    pub(crate) op: usize,
+    pub(crate) item: usize,
+    pub(crate) first: usize,
+    pub(crate) last: usize,
+    pub(crate) answer: usize,
 }
 
 /// The place of a field with this name in the header.
@@ -75,7 +77,7 @@ fn is_digits(text: &[u8]) -> bool
 }
 
 /// The whole number that digits write.
-fn whole(text: &[u8]) -> Option<u64>
+pub(crate) fn whole(text: &[u8]) -> Option<u64>
     ensures { MatchOption result ((number : ℕ) → ¬ (WritesWhole text.now number)) (WritesWhole text.now) }
 {
     if !is_digits(text) {
@@ -127,47 +129,50 @@ fn time_in(row: &ByteRecord, place: usize) -> Option<Option<u64>>
 fn op_of(text: &[u8], item: Option<u32>) -> Option<Op>
     ensures { MatchOption result ((op : Op) → ¬ (IsOp text.now item op)) (IsOp text.now item) }
 {
-    if text == b"enq".as_slice() {
-        Some(Op::Enqueue(item?))
-    } else if text == b"deq".as_slice() {
-        Some(Op::Dequeue)
-    } else {
-        None
+    match OpWord::of(text) {
+        Some(OpWord::Enq) => Some(Op::Enqueue(item?)),
+        Some(OpWord::Deq) => Some(Op::Dequeue),
+        None => None,
     }
 }
 
-/// The answer of an enqueue; another text is an answer that no enqueue has.
-fn put_answer(text: &[u8]) -> Answer
-    ensures { IsPutAnswer text.now result }
+/// The answer of an enqueue. For a word that no enqueue returns stands Empty, by which the record refuses the call.
+fn put_answer(word: AnswerWord) -> Answer
+    ensures { (text : List ℕ) → IsAnswerWord text word → IsPutAnswer text result }
 {
-    if text == b"done".as_slice() {
-        Answer::Done
-    } else if text == b"full".as_slice() {
-        Answer::Full
-    } else if text == b"busy".as_slice() {
-        Answer::Busy
-    } else if text == b"worn".as_slice() {
-        Answer::Worn
-    } else {
-        Answer::Empty
+    match word {
+        AnswerWord::Done => Answer::Done,
+        AnswerWord::Full => Answer::Full,
+        AnswerWord::Busy => Answer::Busy,
+        AnswerWord::Worn => Answer::Worn,
+        AnswerWord::Got | AnswerWord::Empty | AnswerWord::Other => Answer::Empty,
     }
 }
 
-/// The answer of a dequeue with no item, none of `got`; another text is an answer that no dequeue has.
-fn take_answer(text: &[u8]) -> Option<Answer>
-    ensures { MatchOption result ((answer : Answer) → ¬ (IsTakeAnswer text.now None answer))
-        (IsTakeAnswer text.now None) }
+/// The answer of a dequeue with no item, none of `got`. For a word that no dequeue returns stands Done, by which the
+/// record refuses the call.
+fn take_answer(word: AnswerWord) -> Option<Answer>
+    ensures { (text : List ℕ) → IsAnswerWord text word
+        → MatchOption result ((answer : Answer) → ¬ (IsTakeAnswer text None answer)) (IsTakeAnswer text None) }
 {
-    if text == b"empty".as_slice() {
-        Some(Answer::Empty)
-    } else if text == b"busy".as_slice() {
-        Some(Answer::Busy)
-    } else if text == b"worn".as_slice() {
-        Some(Answer::Worn)
-    } else if text == b"got".as_slice() {
-        None
-    } else {
-        Some(Answer::Done)
+    match word {
+        AnswerWord::Got => None,
+        AnswerWord::Empty => Some(Answer::Empty),
+        AnswerWord::Busy => Some(Answer::Busy),
+        AnswerWord::Worn => Some(Answer::Worn),
+        AnswerWord::Done | AnswerWord::Full | AnswerWord::Other => Some(Answer::Done),
+    }
+}
+
+/// The answer of a dequeue with an item: `got` alone has one.
+fn got_answer(word: AnswerWord, item: u32) -> Option<Answer>
+    ensures { (text : List ℕ) → IsAnswerWord text word
+        → MatchOption result ((answer : Answer) → ¬ (IsTakeAnswer text (Some item) answer))
+        (IsTakeAnswer text (Some item)) }
+{
+    match word {
+        AnswerWord::Got => Some(Answer::Got(item)),
+        _ => None,
     }
 }
 
@@ -176,11 +181,11 @@ fn answer_of(op: Op, text: &[u8], item: Option<u32>) -> Option<Answer>
     ensures { MatchOption result ((answer : Answer) → ¬ (IsAnswer op text.now item answer))
         (IsAnswer op text.now item) }
 {
+    let word = AnswerWord::of(text);
     match (op, item) {
-        (Op::Enqueue(_), _) => Some(put_answer(text)),
-        (Op::Dequeue, Some(item)) if text == b"got".as_slice() => Some(Answer::Got(item)),
-        (Op::Dequeue, Some(_)) => None,
-        (Op::Dequeue, None) => take_answer(text),
+        (Op::Enqueue(_), _) => Some(put_answer(word)),
+        (Op::Dequeue, Some(item)) => got_answer(word, item),
+        (Op::Dequeue, None) => take_answer(word),
     }
 }
 
@@ -234,6 +239,55 @@ fn fault_of(kind: &ErrorKind, number: u64) -> ImportFault
     }
 }
 
+/// A row behind the header that is no call.
+#[derive(Drop)]
+pub(crate) struct Refused {
+    /// The number of the line that it begins in.
+    pub(crate) number: u64,
+    /// Its fields.
+    pub(crate) row: ByteRecord,
+    /// Where the fields of a call stand in it.
+    pub(crate) columns: Columns,
+}
+
+/// Why a text is no table of calls.
+#[derive(Drop)]
+pub(crate) struct Refusal {
+    /// The first fault of its rows.
+    pub(crate) fault: ImportFault,
+    /// The row with this fault, where it is no call.
+    pub(crate) refused: Option<Refused>,
+}
+
+impl From<ImportFault> for Refusal {
+    ghost from_gives = { λ given refusal. (refusal.fault ≡ given) × (refusal.refused ≡ None) };
+
+    fn from(fault: ImportFault) -> Refusal {
+        Refusal {
+            fault,
+            refused: None,
+        }
+    }
+}
+
+impl From<AllocFailed<Line>> for Refusal {
+    ghost use Rattle.kfifo_import.specs.declared.log.ImportFault.TheVariants.{Memory};
+
+    ghost from_gives = { λ _ refusal. (refusal.fault ≡ Memory) × (refusal.refused ≡ None) };
+
+    fn from(_failed: AllocFailed<Line>) -> Refusal {
+        Refusal::from(ImportFault::Memory)
+    }
+}
+
+impl From<Refusal> for ImportFault {
+    ghost from_gives = { λ given fault. fault ≡ given.fault };
+
+    fn from(refusal: Refusal) -> ImportFault {
+        refusal.fault
+    }
+}
+
 /// What was read of a table so far.
 #[derive(Drop)]
 struct Table {
@@ -245,30 +299,44 @@ struct Table {
 
 impl Table {
     /// Takes in the next row, which begins at this line: the header, and then lines.
-    fn take(&mut self, row: &ByteRecord, number: u64) -> Result<(), ImportFault>
-        ensures ok { OnOk result (Takes self.old.columns self.old.lines.items number (fields_of row.now)
+    fn take(&mut self, row: ByteRecord, number: u64) -> Result<(), Refusal>
+        ensures ok { OnOk result (Takes self.old.columns self.old.lines.items number (fields_of row)
             self.new.columns self.new.lines.items) }
-        ensures err { IfErr result (IsNotTaken self.old.columns self.old.lines.items number (fields_of row.now)) }
+        ensures err { IfErr result (λ refusal.
+            IsNotTaken self.old.columns self.old.lines.items number (fields_of row) refusal.fault) }
+        ensures row { IfErr result (λ refusal.
+            IsRefused self.old.columns number (fields_of row) refusal.fault refusal.refused) }
     {
         let Some(columns) = self.columns else {
-            let columns = columns_of(row).ok_or(ImportFault::Csv(number))?;
+            let columns = columns_of(&row).ok_or(ImportFault::Csv(number))?;
             self.columns = Some(columns);
             return Ok(());
         };
         if self.lines.len() >= MAX_CALLS {
-            return Err(ImportFault::TooMany);
+            return Err(Refusal::from(ImportFault::TooMany));
         }
-        let call = call_of(row, &columns).ok_or(ImportFault::NotACall(number))?;
+        let Some(call) = call_of(&row, &columns) else {
+            return Err(Refusal {
+                fault: ImportFault::NotACall(number),
+                refused: Some(Refused {
+                    number,
+                    row,
+                    columns,
+                }),
+            });
+        };
         self.lines.push(Line { number, call })?;
         Ok(())
     }
 }
 
 /// The lines of a table with a header.
-fn lines_of(alloc: Global, text: &[u8]) -> Result<Vec<Line>, ImportFault>
+pub(crate) fn lines_of(alloc: Global, text: &[u8]) -> Result<Vec<Line>, Refusal>
     ensures ok { IfOk result (λ lines. ReadsLog text.now lines.items) }
-    ensures few { IfOk result (λ lines. length lines.items ≤ 65536) }
-    ensures err { IfErr result (IsTextFault (strip_bom text.now)) }
+    ensures few { IfOk result (λ lines. length lines.items ≤ MAX_CALLS) }
+    ensures err { IfErr result (λ refusal. IsTextFault (strip_bom text.now) refusal.fault) }
+    ensures row { IfErr result (λ refusal. IfSome refusal.refused (λ refused.
+        IsRowBehind (strip_bom text.now) refused.columns (row_at refused.number (fields_of refused.row)))) }
 {
     let reader = ReaderBuilder::new()
         .has_headers(false)
@@ -282,14 +350,14 @@ fn lines_of(alloc: Global, text: &[u8]) -> Result<Vec<Line>, ImportFault>
     for row in reader.into_byte_records() {
         let front = row_front(plain, place);
         match row {
-            Ok(row) => table.take(&row, front.line)?,
-            Err(error) => return Err(fault_of(error.kind(), front.line)),
+            Ok(row) => table.take(row, front.line)?,
+            Err(error) => return Err(Refusal::from(fault_of(error.kind(), front.line))),
         }
         place = row_end(plain, front);
     }
     match table.columns {
         Some(_) => Ok(table.lines),
-        None => Err(ImportFault::Csv(1)),
+        None => Err(Refusal::from(ImportFault::Csv(1))),
     }
 }
 
@@ -297,11 +365,15 @@ fn lines_of(alloc: Global, text: &[u8]) -> Result<Vec<Line>, ImportFault>
 /// `answer`, and a call a line, in any order. A field that does not apply is empty. `first` and `last` are whole
 /// numbers, as nanoseconds of a clock. Each call comes with the number of its line in the text, from 1, and its times.
 ///
+/// ```rust
+/// let found = read_log(alloc, bytes);
+/// ```
+///
 /// Refused: first what a line itself has wrong, by lines: Csv, NotACall, and TooMany at line 65,537; then as by
 /// `log_of`.
 pub fn read_log(alloc: Global, text: &[u8]) -> Result<Log, ImportFault>
     ensures read { MatchResult result (λ log. IsReadLog text.now log.history log.calls.items) (IsUnimported text.now) }
-    ensures few { IfOk result (λ log. length log.history ≤ 65536) }
+    ensures few { IfOk result (λ log. length log.history ≤ MAX_CALLS) }
     ensures each { IfOk result (λ log. length log.calls.items ≡ length log.history) }
 {
     let lines = lines_of(alloc, text)?;
@@ -310,15 +382,11 @@ pub fn read_log(alloc: Global, text: &[u8]) -> Result<Log, ImportFault>
 
 /// Returns the record of a log in CSV, without the lines and times of its calls.
 ///
-/// ```rust
-/// let history = import_text(alloc, bytes.as_slice())?;
-/// ```
-///
 /// A log has a line for each of at most 65,536 calls, under the header `thread,op,item,first,last,answer`. `alloc`, the
 /// runtime's allocator, makes room for the lines and the calls. Refuses what `read_log` refuses.
 pub fn import_text(alloc: Global, text: &[u8]) -> Result<History, ImportFault>
     ensures record { MatchResult result (IsImported text.now) (IsUnimported text.now) }
-    ensures few { IfOk result (λ history. length history ≤ 65536) }
+    ensures few { IfOk result (λ history. length history ≤ MAX_CALLS) }
 {
     let log = read_log(alloc, text)?;
     Ok(log.history)

@@ -6,7 +6,7 @@ use Rattle.kfifo_verdict.specs.declared.verdicts.Bounds.{Bounds}
 use Rattle.kfifo_verdict.specs.declared.verdicts.Evidence.{Evidence}
 use Rattle.kfifo_verdict.specs.Judging.{AreBounds, HasNoneForEachK, IsFirstForEachK}
 use Rattle.kfifo_verdict.specs.declared.verdicts.Evidence.TheVariants.{NeverPut, TakenTwice, NotEmpty, TooYoung}
-use Rattle.kfifo_verdict.specs.declared.verdicts.Evidence.TheVariants.{TakenTooSoon}
+use Rattle.kfifo_verdict.specs.declared.verdicts.Evidence.TheVariants.{TakenTooSoon, ItemsLeft, OlderLeft}
 use Rattle.kfifo_import.specs.declared.log.LoggedCall.{LoggedCall}
 use Rattle.kfifo_judge.specs.Check.{line}
 use Rattle.kfifo_judge.specs.declared.outcome.Outcome.{Outcome}
@@ -20,18 +20,20 @@ at_most_line None = line (codes "k unknown")
 abbrev pub bounds_text : Bounds → List ℕ
 bounds_text b = line (codes "k at least " ++ decimal b.at_least) ++ at_most_line b.at_most
 
--- the evidence is of one of the kinds 1, 2, 3 and 5, in which no k is named
+-- the evidence is of another kind than 4 and 7, in which a k is named
 abbrev pub NamesNoK : Evidence → Type 0
 NamesNoK (NeverPut get) = Unit {0}
 NamesNoK (TakenTwice get) = Unit {0}
 NamesNoK (NotEmpty empty puts) = Unit {0}
 NamesNoK (TooYoung get puts) = ⊥
 NamesNoK (TakenTooSoon get) = Unit {0}
+NamesNoK (ItemsLeft empty) = Unit {0}
+NamesNoK (OlderLeft get puts) = ⊥
 
 abbrev pub no_least_text : List LoggedCall → List Call → Evidence → List ℕ
 no_least_text logged h found = line (codes "no order") ++ reason_lines logged h found
 
--- There is evidence of the kinds 1, 2, 3 and 5, so no k has an order; it is told.
+-- There is evidence of another kind than 4 and 7, so no k has an order; it is told.
 pub record HasNoLeast (logged : List LoggedCall) (h : List Call) (text : List ℕ) (said : Outcome) : Type 0 where
   pub found : Evidence
   pub first : IsFirstForEachK h found
@@ -58,3 +60,5 @@ FollowsReason logged h (TakenTwice get) text = text ≡ []
 FollowsReason logged h (NotEmpty empty puts) text = text ≡ []
 FollowsReason logged h (TooYoung get puts) text = (said : Outcome) × IsLeastAnswer logged h text said
 FollowsReason logged h (TakenTooSoon get) text = text ≡ []
+FollowsReason logged h (ItemsLeft empty) text = text ≡ []
+FollowsReason logged h (OlderLeft get puts) text = (said : Outcome) × IsLeastAnswer logged h text said

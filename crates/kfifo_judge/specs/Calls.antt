@@ -2,28 +2,20 @@
 use Rattle.std.specs.Prelude.{ℕ, List, [], ◌++◌, Option, Some, None, codes, decimal, option_map, position, slice_get}
 use Rattle.std.specs.List.{flat_map}
 use Rattle.kfifo_model.specs.declared.calls.Call.{Call}
-use Rattle.kfifo_model.specs.Relaxed.{Effect, Adds, Takes, FindsNone, Refused, Wrong}
+use Rattle.kfifo_model.specs.declared.effects.Effect.{Effect}
+use Rattle.kfifo_model.specs.declared.effects.Effect.TheVariants.{Adds, Takes, FindsNone, Refused, Wrong}
 use Rattle.kfifo_model.specs.Histories.{call, does, effect_of}
 use Rattle.kfifo_model.specs.Overtaking.{takes}
 use Rattle.kfifo_import.specs.declared.log.LoggedCall.{LoggedCall}
 use Rattle.kfifo_judge.specs.Check.{line}
-use Rattle.kfifo_judge.specs.declared.calls.Action.{Action}
-use Rattle.kfifo_judge.specs.declared.calls.Action.TheVariants.{Put, Got, FoundNothing, Nothing}
 use Rattle.kfifo_judge.specs.declared.calls.Occurrence.{Occurrence}
 
--- what a call did to the items in the queue
-abbrev pub action : Effect → Action
-action (Adds x) = Put x
-action (Takes x) = Got x
-action FindsNone = FoundNothing
-action Refused = Nothing
-action Wrong = Nothing
-
-abbrev pub action_text : Action → List ℕ
-action_text (Put x) = codes "put " ++ decimal x
-action_text (Got x) = codes "got " ++ decimal x
-action_text FoundNothing = codes "found nothing"
-action_text Nothing = codes "changed nothing"
+abbrev pub effect_text : Effect → List ℕ
+effect_text (Adds x) = codes "put " ++ decimal x
+effect_text (Takes x) = codes "got " ++ decimal x
+effect_text FindsNone = codes "found nothing"
+effect_text Refused = codes "changed nothing"
+effect_text Wrong = codes "changed nothing"
 
 -- a call of a record was when its steps say
 abbrev pub in_record : Call → Occurrence
@@ -64,22 +56,23 @@ taker_part (Some get) = codes ", got by call " ++ decimal get
 taker_part None = codes ", never got"
 
 -- behind a put, which call got its item
-abbrev pub fate_part : List Call → Action → List ℕ
-fate_part h (Put x) = taker_part (taker h x)
-fate_part h (Got x) = []
-fate_part h FoundNothing = []
-fate_part h Nothing = []
+abbrev pub fate_part : List Call → Effect → List ℕ
+fate_part h (Adds x) = taker_part (taker h x)
+fate_part h (Takes x) = []
+fate_part h FindsNone = []
+fate_part h Refused = []
+fate_part h Wrong = []
 
 -- what a call did, when it did, and what became of the item that it put
-abbrev pub deed_text : List Call → ℕ → Action → Occurrence → List ℕ
-deed_text h thread a o = codes ": thread " ++ decimal thread ++ codes " " ++ action_text a ++ times_text o
-    ++ fate_part h a
+abbrev pub details_text : List Call → ℕ → Effect → Occurrence → List ℕ
+details_text h thread e o = codes ": thread " ++ decimal thread ++ codes " " ++ effect_text e ++ times_text o
+    ++ fate_part h e
 
 -- the line of a call
 abbrev pub call_line : List LoggedCall → List Call → ℕ → List ℕ
 call_line logged h n =
     line (name_text n (occurrence logged (call h n) n).line
-    ++ deed_text h (call h n).thread (action (does h n)) (occurrence logged (call h n) n))
+    ++ details_text h (call h n).thread (does h n) (occurrence logged (call h n) n))
 
 -- the lines of these calls
 abbrev pub call_lines : List LoggedCall → List Call → List ℕ → List ℕ

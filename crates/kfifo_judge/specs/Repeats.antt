@@ -1,15 +1,7 @@
 -- Whether the items of a history repeat.
 use Rattle.std.specs.Prelude.{ℕ, ◌≡◌, ◌⊎◌, List, [], codes}
 use Rattle.kfifo_model.specs.declared.calls.Call.{Call}
-use Rattle.kfifo_model.specs.declared.index.Kind.{Kind}
-use Rattle.kfifo_model.specs.declared.index.Kind.TheVariants as kinds
 use Rattle.kfifo_model.specs.Measures.{HasDistinctItems}
-use Rattle.kfifo_judge.specs.declared.repeats.Side.{Side}
-use Rattle.kfifo_judge.specs.declared.repeats.Side.TheVariants.{Puts, Gots}
-
-abbrev pub kind_of : Side → Kind
-kind_of Puts = kinds.Puts
-kind_of Gots = kinds.Gots
 
 -- what is said of a history where two calls put one item or two got one, and nothing elsewhere
 abbrev pub IsRepeatNote : List Call → List ℕ → Type 0

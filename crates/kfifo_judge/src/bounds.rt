@@ -16,8 +16,8 @@ fn names_no_k(found: &Evidence) -> bool
 {
     match found {
         Evidence::NeverPut(_) | Evidence::TakenTwice(_) | Evidence::NotEmpty { .. } => true,
-        Evidence::TooYoung { .. } => false,
-        Evidence::TakenTooSoon(_) => true,
+        Evidence::TooYoung { .. } | Evidence::OlderLeft { .. } => false,
+        Evidence::TakenTooSoon(_) | Evidence::ItemsLeft(_) => true,
     }
 }
 

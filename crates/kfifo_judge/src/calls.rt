@@ -2,11 +2,11 @@
 ghost use Rattle.std.specs.Prelude.{◌≡◌, ◌++◌, Bool, OnOk, string_bytes, take};
 ghost use Rattle.kfifo_model.specs.Histories.{call, does, effect_of};
 ghost use Rattle.kfifo_model.specs.Overtaking.{takes};
-ghost use Rattle.kfifo_judge.specs.Calls.{action, action_text, call_line, call_lines, deed_text, fate_part, in_log};
+ghost use Rattle.kfifo_judge.specs.Calls.{call_line, call_lines, details_text, effect_text, fate_part, in_log};
 ghost use Rattle.kfifo_judge.specs.Calls.{in_record, last_part, name_text, occurrence, taker, taker_part, times_text};
 
 use kfifo_import::LoggedCall;
-use kfifo_model::{Answer, Call, End, History, Op};
+use kfifo_model::{Call, Effect, History, Op};
 use std::alloc::AllocError;
 use std::fmt::Write;
 
@@ -20,19 +20,6 @@ const NO_CALL: Call = Call {
     first: 0,
     end: None,
 };
-
-/// What a call did to the items in the queue.
-#[derive(Clone, Copy)]
-pub(crate) enum Action {
-    /// It put this item in.
-    Put(u32),
-    /// It got this item out.
-    Got(u32),
-    /// It found no item.
-    FoundNothing,
-    /// It changed nothing.
-    Nothing,
-}
 
 /// When a call was, and where it stands in its log.
 #[derive(Clone, Copy)]
@@ -52,30 +39,11 @@ fn call_at(history: &History, number: usize) -> Call
     history.calls().get(number).copied().unwrap_or(NO_CALL)
 }
 
-/// What the call did.
-pub(crate) fn action_of(call: &Call) -> Action
-    ensures { result ≡ action (effect_of call.now) }
-{
-    match (call.op, call.end) {
-        (Op::Enqueue(item), None) => Action::Put(item),
-        (Op::Dequeue, None) => Action::Nothing,
-        (Op::Enqueue(item), Some(end)) => match end.answer {
-            Answer::Done => Action::Put(item),
-            _ => Action::Nothing,
-        },
-        (Op::Dequeue, Some(end)) => match end.answer {
-            Answer::Got(item) => Action::Got(item),
-            Answer::Empty => Action::FoundNothing,
-            _ => Action::Nothing,
-        },
-    }
-}
-
 /// What the call with this number did.
-pub(crate) fn action_at(history: &History, number: usize) -> Action
-    ensures { result ≡ action (does history.now number) }
+pub(crate) fn effect_at(history: &History, number: usize) -> Effect
+    ensures { result ≡ does history.now number }
 {
-    action_of(&call_at(history, number))
+    call_at(history, number).effect()
 }
 
 /// When a call of a record was.
@@ -114,16 +82,8 @@ fn occurrence_of(logged: &[LoggedCall], call: &Call, number: usize) -> Occurrenc
 fn takes(call: &Call, item: u32) -> bool
     ensures { result ≡ takes item (effect_of call.now) }
 {
-    match (call.op, call.end) {
-        (
-            Op::Dequeue,
-            Some(
-                End {
-                    answer: Answer::Got(got),
-                    ..
-                },
-            ),
-        ) => item == got,
+    match call.effect() {
+        Effect::Takes(got) => item == got,
         _ => false,
     }
 }
@@ -147,14 +107,14 @@ fn push_name(text: &mut String, number: usize, line: Option<u64>) -> Result<(), 
 }
 
 /// Adds what a call did.
-fn push_action(text: &mut String, action: Action) -> Result<(), AllocError>
-    ensures { OnOk result (string_bytes text.new ≡ string_bytes text.old ++ action_text action) }
+fn push_effect(text: &mut String, effect: Effect) -> Result<(), AllocError>
+    ensures { OnOk result (string_bytes text.new ≡ string_bytes text.old ++ effect_text effect) }
 {
-    match action {
-        Action::Put(item) => write!(text, "put {item}"),
-        Action::Got(item) => write!(text, "got {item}"),
-        Action::FoundNothing => text.push_str("found nothing"),
-        Action::Nothing => text.push_str("changed nothing"),
+    match effect {
+        Effect::Adds(item) => write!(text, "put {item}"),
+        Effect::Takes(item) => write!(text, "got {item}"),
+        Effect::FindsNone => text.push_str("found nothing"),
+        Effect::Refused | Effect::Wrong => text.push_str("changed nothing"),
     }
 }
 
@@ -171,10 +131,10 @@ fn push_times(text: &mut String, occurrence: Occurrence) -> Result<(), AllocErro
 }
 
 /// Adds, behind a put, which call got its item.
-fn push_fate(text: &mut String, history: &History, action: Action) -> Result<(), AllocError>
-    ensures { OnOk result (string_bytes text.new ≡ string_bytes text.old ++ fate_part history.now action) }
+fn push_fate(text: &mut String, history: &History, effect: Effect) -> Result<(), AllocError>
+    ensures { OnOk result (string_bytes text.new ≡ string_bytes text.old ++ fate_part history.now effect) }
 {
-    let Action::Put(item) = action else {
+    let Effect::Adds(item) = effect else {
         return Ok(());
     };
     match taker_of(history, item) {
@@ -184,20 +144,20 @@ fn push_fate(text: &mut String, history: &History, action: Action) -> Result<(),
 }
 
 /// Adds what a call did, when it did, and what became of the item that it put.
-fn push_deed(
+fn push_details(
     text: &mut String,
     history: &History,
     thread: u32,
-    action: Action,
+    effect: Effect,
     occurrence: Occurrence,
 ) -> Result<(), AllocError>
     ensures { OnOk result (string_bytes text.new
-        ≡ string_bytes text.old ++ deed_text history.now thread action occurrence) }
+        ≡ string_bytes text.old ++ details_text history.now thread effect occurrence) }
 {
     write!(text, ": thread {thread} ")?;
-    push_action(text, action)?;
+    push_effect(text, effect)?;
     push_times(text, occurrence)?;
-    push_fate(text, history, action)
+    push_fate(text, history, effect)
 }
 
 /// Adds the line of the call with this number.
@@ -213,7 +173,7 @@ pub(crate) fn push_call(
     let call = call_at(history, number);
     let occurrence = occurrence_of(logged, &call, number);
     push_name(text, number, occurrence.line)?;
-    push_deed(text, history, call.thread, action_of(&call), occurrence)?;
+    push_details(text, history, call.thread, call.effect(), occurrence)?;
     text.push('\n')
 }
 

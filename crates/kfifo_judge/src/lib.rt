@@ -11,7 +11,6 @@ mod numbers;
 mod outcome;
 mod reasons;
 mod record;
-mod repeats;
 mod streams;
 
 pub use bounds::least_text;
@@ -20,5 +19,6 @@ pub use judgement::judge_text;
 pub use measure::measure_stream;
 pub use numbers::push_numbers;
 pub use outcome::Outcome;
+pub use reasons::push_reason;
 pub use record::{StreamFault, read_record};
 pub use streams::{FromStd, MAX_BYTES, ReadFault, Sink, Source, read_all, write_all};

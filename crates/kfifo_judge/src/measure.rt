@@ -2,6 +2,7 @@
 ghost use Rattle.std.specs.Prelude.{ℕ, ◌≡◌, ◌≢◌, ◌<◌, ◌≤◌, ◌⊎◌, List, string_bytes, length, Err, IfOk, IfErr, IfSome};
 ghost use Rattle.std.specs.Prelude.{MatchResult};
 ghost use Rattle.std.specs.Io.KnownBytes.{Appends, Keeps};
+ghost use Rattle.kfifo_judge.specs.declared.streams.TheConstants.{MAX_BYTES};
 ghost use Rattle.kfifo_model.specs.declared.calls.Call.{Call};
 ghost use Rattle.kfifo_model.specs.Measures.{IsDoneEnqueue, HasDistinctItems};
 ghost use Rattle.kfifo_model.specs.Index.{measured};
@@ -95,12 +96,12 @@ pub fn measure_stream<R: Source, W: Sink>(
     ensures input { result ≡ Err StreamFault.Input →
         CountsOne (R.failed source.old) (R.failed source.new)
         ⊎ ((R.failed source.new ≡ R.failed source.old)
-        × IfSome (R.remaining source.old) (λ given. 16777216 < length given)) }
+        × IfSome (R.remaining source.old) (λ given. MAX_BYTES < length given)) }
     ensures faults { IfErr result (λ f. f ≢ StreamFault.Input → f ≢ StreamFault.Output → f ≢ StreamFault.Memory →
         (bytes : List ℕ) × IfSome (R.remaining source.old) (λ given. given ≡ bytes) × IsMeasuringFault bytes f) }
     // Every result but Input and Memory: all that the source had to give, no longer than the limit, was read.
     ensures short { result ≢ Err StreamFault.Input → result ≢ Err StreamFault.Memory
-        → IfSome (R.remaining source.old) (λ given. length given ≤ 16777216) }
+        → IfSome (R.remaining source.old) (λ given. length given ≤ MAX_BYTES) }
     // No call failed but the one that is reported.
     ensures source_calls { (result ≢ Err StreamFault.Input) → R.failed source.new ≡ R.failed source.old }
     ensures sink_calls { (result ≢ Err StreamFault.Output) → W.failed sink.new ≡ W.failed sink.old }

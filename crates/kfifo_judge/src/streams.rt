@@ -132,8 +132,8 @@ impl From<AllocError> for ReadFault {
 /// where over 16,777,216 bytes came; Memory where an allocation failed.
 pub fn read_all<R: Source>(alloc: Global, source: &mut R) -> Result<Vec<u8>, ReadFault>
     ensures read { IfOk result (λ v. IfSome (R.remaining source.old) (λ xs. xs ≡ v.items)) }
-    ensures small { IfOk result (λ v. length v.items ≤ 16777216) }
-    ensures too_long { result ≡ Err ReadFault.TooLong → IfSome (R.remaining source.old) (λ xs. 16777216 < length xs) }
+    ensures small { IfOk result (λ v. length v.items ≤ MAX_BYTES) }
+    ensures too_long { result ≡ Err ReadFault.TooLong → IfSome (R.remaining source.old) (λ xs. MAX_BYTES < length xs) }
     ensures failures { MatchResult result (λ _. R.failed source.new ≡ R.failed source.old)
         (λ f. IsReadCount f (R.failed source.old) (R.failed source.new)) }
 {

@@ -15,15 +15,11 @@ use Rattle.kfifo_linear.specs.Ledger.{Ledger, called, found_in, ledger_after, le
 use Rattle.kfifo_machine.specs.Machine.{World, begun, found, may_begin, moved, place_after, place_of, run, step, step_from, ticked, word_at}
 use Rattle.kfifo_machine.specs.Machine.{words_after}
 use Rattle.kfifo_machine.specs.Program.{access, accessed, advance}
-use Rattle.kfifo_machine.specs.declared.event.Begin.{Begin}
-use Rattle.kfifo_machine.specs.declared.event.Event.{Event}
+use Rattle.kfifo_linear.proofs.Types.{Begin, Event, Outcome, Running, Shape}
 use Rattle.kfifo_machine.specs.declared.event.NotEnabled.{NotEnabled}
-use Rattle.kfifo_machine.specs.declared.event.Outcome.{Outcome}
 use Rattle.kfifo_machine.specs.declared.place.Access.{Access}
 use Rattle.kfifo_machine.specs.declared.place.Access.TheVariants.{Exchange, Load}
-use Rattle.kfifo_machine.specs.declared.place.Running.{Running}
 use Rattle.kfifo_words.specs.Ring.{clock_at}
-use Rattle.kfifo_words.specs.declared.shape.Shape.{Shape}
 
 pub noted-same : {X : Type 0} (notes : ℕ → X) (i j : ℕ) (x : X) → j ≡ i → noted notes i x j ≡ x
 unfolding noted

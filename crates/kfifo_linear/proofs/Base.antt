@@ -15,17 +15,13 @@ use Rattle.kfifo_linear.specs.Ledger.{Ledger, blank, called, found_in, ledger_of
 use Rattle.kfifo_machine.proofs.Ring.{next-mod}
 use Rattle.kfifo_machine.specs.Machine.{World, begun, may_begin, opening, place_after, place_of, run, word_at}
 use Rattle.kfifo_machine.specs.Program.{access, accessed, advance, filled_with, scan_index}
-use Rattle.kfifo_machine.specs.declared.event.Begin.{Begin}
-use Rattle.kfifo_machine.specs.declared.event.Event.{Event}
+use Rattle.kfifo_linear.proofs.Types.{Begin, Event, Next, Running, Shape}
 use Rattle.kfifo_machine.specs.declared.place.DequeuePhase.{DequeuePhase}
 use Rattle.kfifo_machine.specs.declared.place.EnqueuePhase.{EnqueuePhase}
 use Rattle.kfifo_machine.specs.declared.place.Found.TheVariants.{Nothing, Slot}
-use Rattle.kfifo_machine.specs.declared.place.Next.{Next}
 use Rattle.kfifo_machine.specs.declared.place.Next.TheVariants.{Answers, Goes}
-use Rattle.kfifo_machine.specs.declared.place.Running.{Running}
 use Rattle.kfifo_words.specs.Ring.{clock_at, next_segment}
 use Rattle.kfifo_words.specs.Words.{head_of, tail_of, value_of, version_of}
-use Rattle.kfifo_words.specs.declared.shape.Shape.{Shape}
 use Rattle.kfifo_machine.specs.Places.{IsSlotIndex}
 use Rattle.kfifo_machine.proofs.NoWrap.{EndsOk, head_below, tail_below, same_end, other_end, full_ring, room_in_ring}
 use Rattle.kfifo_machine.proofs.Versions.{next_segment-below}

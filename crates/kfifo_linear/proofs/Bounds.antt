@@ -5,12 +5,11 @@ use Rattle.std.specs.List.{filter}
 use Rattle.std.proofs.lemmas.Bool.{cases_eq, cond-true, cond-false, and_parts, and_from, eqb-true, eq-eqb, ne_eqb, ltb-true, not-true}
 use Rattle.std.proofs.lemmas.Bool.{not_from_false, true_from_ne_false, false≢true}
 use Rattle.std.proofs.lemmas.List.{length-map}
-use Rattle.kfifo_model.specs.declared.calls.Call.{Call}
-use Rattle.kfifo_model.specs.declared.calls.End.{End}
+use Rattle.kfifo_linear.proofs.Types.{Call, Effect, End}
 use Rattle.kfifo_model.specs.declared.calls.Op.{Op}
 use Rattle.kfifo_model.specs.declared.calls.Op.TheVariants.{Enqueue, Dequeue}
 use Rattle.kfifo_model.specs.Lists.{IsIn, EachPair, place}
-use Rattle.kfifo_model.specs.Relaxed.{Effect, Adds, Takes, FindsNone, Refused, Wrong}
+use Rattle.kfifo_model.specs.declared.effects.Effect.TheVariants.{Adds, Takes, FindsNone, Refused, Wrong}
 use Rattle.kfifo_model.specs.Histories.{call, does, effect_at, IsFinished, HasEnd, EndsBelow}
 use Rattle.kfifo_model.specs.Overtaking.{some, adds, takes, overtakes_at, overtakes, overtaken_count, stands_before, ends_below, precedes}
 use Rattle.kfifo_model.specs.Overtaking.{numbers_of, overtaken_in, certainly_overtaken, AddsAreDistinct}

@@ -23,10 +23,8 @@ use Rattle.kfifo_machine.specs.declared.place.DequeuePhase.{DequeuePhase}
 use Rattle.kfifo_machine.specs.declared.place.EnqueuePhase.{EnqueuePhase}
 use Rattle.kfifo_machine.specs.declared.place.Found.TheVariants.{Nothing}
 use Rattle.kfifo_machine.specs.declared.place.Next.TheVariants.{Answers}
-use Rattle.kfifo_machine.specs.declared.place.Running.{Running}
-use Rattle.kfifo_model.specs.declared.calls.Answer.{Answer}
+use Rattle.kfifo_linear.proofs.Types.{Answer, Running, Shape}
 use Rattle.kfifo_words.specs.Words.{head_of, tail_of, value_of}
-use Rattle.kfifo_words.specs.declared.shape.Shape.{Shape}
 
 -- a step that takes the item of slot i
 pub record Takes (shape : Shape) (w : ℕ → ℕ) (l l' : Ledger) (t i : ℕ) : Type 0 where

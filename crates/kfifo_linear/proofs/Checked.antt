@@ -4,12 +4,9 @@ use Rattle.std.proofs.Common.{◌∙◌, arith}
 use Rattle.std.proofs.lemmas.Bool.{cases_eq, cases_lt}
 use Rattle.std.proofs.lemmas.Bool.Decides.{nat_tests}
 use Rattle.std.proofs.lemmas.Option.{none-some, same_Some}
-use Rattle.kfifo_words.specs.declared.shape.Shape.{Shape}
+use Rattle.kfifo_linear.proofs.Types.{Begin, Event, Running, Shape}
 use Rattle.kfifo_words.specs.Ring.{clock_at}
-use Rattle.kfifo_machine.specs.declared.event.Begin.{Begin}
-use Rattle.kfifo_machine.specs.declared.event.Event.{Event}
 use Rattle.kfifo_machine.specs.declared.place.EnqueuePhase.TheVariants as E
-use Rattle.kfifo_machine.specs.declared.place.Running.{Running}
 use Rattle.kfifo_machine.specs.declared.place.Running.TheVariants as R
 use Rattle.kfifo_machine.specs.Program.{access, advance}
 use Rattle.kfifo_machine.specs.Machine.{World, begun, may_begin, opening, place_after, place_of, run, word_at}

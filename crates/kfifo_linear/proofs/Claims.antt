@@ -16,10 +16,8 @@ use Rattle.kfifo_machine.proofs.Versions.{next_segment-below}
 use Rattle.kfifo_machine.specs.Program.{access, advance, scan_index}
 use Rattle.kfifo_machine.specs.declared.place.DequeuePhase.{DequeuePhase}
 use Rattle.kfifo_machine.specs.declared.place.EnqueuePhase.{EnqueuePhase}
-use Rattle.kfifo_machine.specs.declared.place.Next.{Next}
+use Rattle.kfifo_linear.proofs.Types.{Next, Running, Shape}
 use Rattle.kfifo_machine.specs.declared.place.Next.TheVariants.{Answers, Goes}
-use Rattle.kfifo_machine.specs.declared.place.Running.{Running}
-use Rattle.kfifo_words.specs.declared.shape.Shape.{Shape}
 
 -- the segment of a slot's index
 unfoldable pub segment_of : Shape → ℕ → ℕ

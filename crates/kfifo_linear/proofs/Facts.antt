@@ -13,11 +13,8 @@ use Rattle.kfifo_linear.specs.Ledger.{Gone, Inside, Ledger, Outside, Standing, S
 use Rattle.kfifo_linear.specs.Roles.{FindsNone, Gets, Puts, Refused, Role, Spot, refused_at, spot, spot_if, spot_of}
 use Rattle.kfifo_machine.specs.Machine.{World, opening, place_of, run, word_at}
 use Rattle.kfifo_machine.specs.Places.{IsSlotIndex}
-use Rattle.kfifo_machine.specs.declared.event.Event.{Event}
-use Rattle.kfifo_machine.specs.declared.place.Running.{Running}
-use Rattle.kfifo_model.specs.declared.calls.Answer.{Answer}
+use Rattle.kfifo_linear.proofs.Types.{Answer, Event, Running, Shape}
 use Rattle.kfifo_model.specs.declared.calls.Answer.TheVariants.{Busy, Done, Empty, Full, Got, Worn}
-use Rattle.kfifo_words.specs.declared.shape.Shape.{Shape}
 
 -- a call stands in the order with this role at this place
 abbrev pub Stands : Ledger → ℕ → Role → ℕ → Type 0

@@ -10,13 +10,10 @@ use Rattle.kfifo_linear.proofs.Claims.{HasLoaded, Round, at_load, segment_of}
 use Rattle.kfifo_linear.specs.Ledger.{Gone, Inside, Ledger, Outside, Standing, Stood, Took, item_of}
 use Rattle.kfifo_machine.specs.Places.{IsSlotIndex}
 use Rattle.kfifo_machine.specs.Program.{scan_index}
-use Rattle.kfifo_machine.specs.declared.event.Begin.{Begin}
+use Rattle.kfifo_linear.proofs.Types.{Answer, Begin, Running, Shape}
 use Rattle.kfifo_machine.specs.declared.place.Found.TheVariants.{Nothing, Slot}
-use Rattle.kfifo_machine.specs.declared.place.Running.{Running}
-use Rattle.kfifo_model.specs.declared.calls.Answer.{Answer}
 use Rattle.kfifo_model.specs.declared.calls.Answer.TheVariants.{Busy, Done, Empty, Full, Got, Worn}
 use Rattle.kfifo_words.specs.Words.{head_of, value_of}
-use Rattle.kfifo_words.specs.declared.shape.Shape.{Shape}
 
 -- the item of a standing was taken
 abbrev pub is_gone : Standing → Bool

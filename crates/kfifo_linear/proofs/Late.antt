@@ -23,13 +23,10 @@ use Rattle.kfifo_machine.proofs.Versions.{next_segment-below}
 use Rattle.kfifo_machine.specs.Machine.{World, begun, may_begin, opening, place_after, place_of, run, word_at}
 use Rattle.kfifo_machine.specs.Places.{IsSlotIndex}
 use Rattle.kfifo_machine.specs.Program.{access, advance, scan_index}
-use Rattle.kfifo_machine.specs.declared.event.Begin.{Begin}
-use Rattle.kfifo_machine.specs.declared.event.Event.{Event}
+use Rattle.kfifo_linear.proofs.Types.{Begin, Event, Running, Shape}
 use Rattle.kfifo_machine.specs.declared.place.Found.TheVariants.{Nothing}
-use Rattle.kfifo_machine.specs.declared.place.Running.{Running}
 use Rattle.kfifo_words.specs.Ring.{clock_at}
 use Rattle.kfifo_words.specs.Words.{head_of, value_of}
-use Rattle.kfifo_words.specs.declared.shape.Shape.{Shape}
 
 -- the slots that a scan of the head's segment saw: what stands in one was put while the head was here, as long as the ends stand
 abbrev pub Seen_empty : Shape → (ℕ → ℕ) → Ledger → ℕ → ℕ → ℕ → Type 0

@@ -1,9 +1,8 @@
 -- The laws of the calls in an order, from the facts about their points.
 use Rattle.std.proofs.Common.{◌≡◌, ℕ, ◌≤◌, true, List, Some, sym, ap, ◌∙◌, subst, inl, inr, arith}
 use Rattle.std.proofs.lemmas.Bool.{cases_lt}
-use Rattle.kfifo_model.specs.declared.calls.Call.{Call}
-use Rattle.kfifo_model.specs.declared.calls.End.{End}
-use Rattle.kfifo_model.specs.Relaxed.{FindsNone}
+use Rattle.kfifo_linear.proofs.Types.{Call, End}
+use Rattle.kfifo_model.specs.declared.effects.Effect.TheVariants.{FindsNone}
 use Rattle.kfifo_model.specs.Histories.{call, does, HasEnd}
 use Rattle.kfifo_linear.specs.Points.{Marks, PointsFit, StandsFit, IsNoLater}
 use Rattle.kfifo_linear.specs.Headline.{OrderLaws}

@@ -1,3 +1,4 @@
+pub mod Types
 pub mod Run
 pub mod Orders
 pub mod Bounds

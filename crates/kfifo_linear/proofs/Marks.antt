@@ -4,14 +4,10 @@ use Rattle.std.proofs.Math.Nat.{mod-lt}
 use Rattle.std.proofs.lemmas.Nat.{div-add-mod'}
 use Rattle.std.proofs.lemmas.Bool.{false≢true}
 use Rattle.std.proofs.lemmas.Option.{none-some, same_Some}
-use Rattle.kfifo_words.specs.declared.shape.Shape.{Shape}
-use Rattle.kfifo_model.specs.declared.calls.Answer.{Answer}
-use Rattle.kfifo_model.specs.declared.calls.End.{End}
-use Rattle.kfifo_model.specs.Relaxed as M
-use Rattle.kfifo_model.specs.Relaxed.{Effect}
+use Rattle.kfifo_linear.proofs.Types.{Answer, Effect, End, Running, Shape}
+use Rattle.kfifo_model.specs.declared.effects.Effect.TheVariants as M
 use Rattle.kfifo_model.specs.Histories.{call, does, HasEnd}
 use Rattle.kfifo_model.specs.Validity.{IsHistory}
-use Rattle.kfifo_machine.specs.declared.place.Running.{Running}
 use Rattle.kfifo_machine.specs.Calls.{Log}
 use Rattle.kfifo_linear.specs.Ledger.{Ledger, item_of}
 use Rattle.kfifo_linear.specs.Roles.{Role, Puts, Gets, FindsNone, Refused, Spot, spot}

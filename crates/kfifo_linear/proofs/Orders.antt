@@ -3,8 +3,7 @@ use Rattle.std.proofs.Common.{ℕ, zero, suc, ◌≡◌, ◌+◌, ◌<◌, ◌�
 use Rattle.std.specs.List.{filter, flat_map, range_with_len}
 use Rattle.std.proofs.lemmas.Bool.{cases_eq, cases_lt, and_parts, and_from, eqb-true, eq-eqb}
 use Rattle.std.proofs.lemmas.List.{get_or_past}
-use Rattle.kfifo_model.specs.declared.calls.Call.{Call}
-use Rattle.kfifo_model.specs.declared.calls.End.{End}
+use Rattle.kfifo_linear.proofs.Types.{Call, End}
 use Rattle.kfifo_model.specs.Lists.{IsIn, EachPair}
 use Rattle.kfifo_model.specs.Histories.{call, no_call, does, CanStand, Precedes, EndsBelow, IsOrder, IsLegal}
 use Rattle.kfifo_model.specs.Overtaking.{numbers_of}

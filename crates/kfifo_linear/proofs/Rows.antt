@@ -1,9 +1,8 @@
 -- The orders of the worked schedules, by computation.
 use Rattle.std.proofs.Common.{◌≡◌, ℕ, ◌^◌, ◌<◌, ◌≤◌, List, [], ◌∷◌, refl}
-use Rattle.kfifo_words.specs.declared.shape.Shape.{Shape}
+use Rattle.kfifo_linear.proofs.Types.{Event, Shape}
 use Rattle.kfifo_words.specs.Words.{slot_word, value_of, version_of, ends_word, head_of, tail_of}
 use Rattle.kfifo_words.specs.Ring.{next_segment, distance}
-use Rattle.kfifo_machine.specs.declared.event.Event.{Event}
 use Rattle.kfifo_machine.specs.Program.{scan_index}
 use Rattle.kfifo_machine.specs.Machine.{step, moved, found, opening, place_of, word_at}
 use Rattle.kfifo_linear.specs.Ledger.{ledger_after, called, stepped, took_point, gone_point, settle_point, settle_visit, noted, blank}

@@ -6,7 +6,9 @@ use Rattle.std.proofs.lemmas.Bool.{cases_lt}
 use Rattle.std.proofs.lemmas.List.{map_push, map-append, length-map, get_or_at}
 use Rattle.std.proofs.lemmas.Option.{slice_get-get_or}
 use Rattle.kfifo_model.specs.Lists.{IsIn, EachPair}
-use Rattle.kfifo_model.specs.Relaxed.{Effect, Adds, Takes, FindsNone, Refused, Wrong, Leaves, IsRun}
+use Rattle.kfifo_linear.proofs.Types.{Effect}
+use Rattle.kfifo_model.specs.declared.effects.Effect.TheVariants.{Adds, Takes, FindsNone, Refused, Wrong}
+use Rattle.kfifo_model.specs.Relaxed.{Leaves, IsRun}
 use Rattle.kfifo_linear.specs.Points.{Marks, IsAdd, IsTakeOf, PointsFit, IsEarlier, IsByPoint}
 use Rattle.kfifo_model.proofs.Lists.{in_append, in_left, in_right, IsParted, parted, each_at, pairs_front, pairs_back, pairs_across}
 use Rattle.kfifo_model.proofs.Lists.{pairs_push, in_less, in_more, pairs_less, pairs_weaker, pairs_map, in_map, at_most, Differ}

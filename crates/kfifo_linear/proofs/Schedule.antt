@@ -1,14 +1,12 @@
 -- Every schedule has a legal order.
 use Rattle.std.proofs.Common.{◌≡◌, ℕ, ◌+◌, ◌≤◌, List, length, Option, Some, None, refl, sym, ap, ◌∙◌, subst, arith}
 use Rattle.std.proofs.lemmas.List.{length-replicate}
-use Rattle.kfifo_words.specs.declared.shape.Shape.{Shape}
-use Rattle.kfifo_model.specs.declared.calls.End.{End}
+use Rattle.kfifo_linear.proofs.Types.{End, Event, Shape}
 use Rattle.kfifo_model.specs.declared.calls.Op.{Op}
 use Rattle.kfifo_model.specs.declared.calls.Op.TheVariants as O
-use Rattle.kfifo_model.specs.Relaxed.{Adds}
+use Rattle.kfifo_model.specs.declared.effects.Effect.TheVariants.{Adds}
 use Rattle.kfifo_model.specs.Histories.{call, effect_at, HasEnd}
 use Rattle.kfifo_model.specs.Measures.{EndsDone}
-use Rattle.kfifo_machine.specs.declared.event.Event.{Event}
 use Rattle.kfifo_machine.specs.Machine.{World, opening, after, place_of, word_at}
 use Rattle.kfifo_machine.specs.Calls.{history_of, log_of}
 use Rattle.kfifo_machine.specs.Calls as log

@@ -19,10 +19,9 @@ use Rattle.kfifo_linear.specs.Ledger.{Inside, Ledger, item_of, settle_point, set
 use Rattle.kfifo_machine.proofs.NoWrap.{EndsOk, full_ring, other_end}
 use Rattle.kfifo_machine.specs.Places.{IsSlotIndex}
 use Rattle.kfifo_machine.specs.Program.{access, emptied, filled_with, scan_index}
-use Rattle.kfifo_machine.specs.declared.place.Running.{Running}
+use Rattle.kfifo_linear.proofs.Types.{Running, Shape}
 use Rattle.kfifo_words.specs.Ring.{distance}
 use Rattle.kfifo_words.specs.Words.{head_of, tail_of, value_of, version_of}
-use Rattle.kfifo_words.specs.declared.shape.Shape.{Shape}
 
 filled_with-item : (item empty : ℕ) → item < 16777216 → value_of (filled_with item empty) ≡ item
 filled_with-item item empty h = value-slot_word item (version_of empty + 1) h

@@ -13,11 +13,10 @@ use Rattle.std.specs.List.Sorted.{IsPermutation, IsSortedBy}
 use Rattle.std.specs.Ordering.{is_lt, nat_cmp, ordering_then}
 use Rattle.std.specs.Cmp.{nat_cmp_is}
 use Rattle.std.proofs.Common.{Less, Equal}
-use Rattle.kfifo_words.specs.declared.shape.Shape.{Shape}
+use Rattle.kfifo_linear.proofs.Types.{Event, Shape}
 use Rattle.kfifo_model.specs.Lists.{IsIn, EachPair}
 use Rattle.kfifo_model.proofs.Lists.{in_append, in_left, in_right, pairs_push}
 use Rattle.kfifo_model.proofs.Places.{in_from_place, in_place, pairs_from_places, pairs_place}
-use Rattle.kfifo_machine.specs.declared.event.Event.{Event}
 use Rattle.kfifo_linear.specs.Ledger.{Gone, Inside, Ledger, Outside, Standing, Stood, Took}
 use Rattle.kfifo_linear.specs.Roles.{Spot, refused_at, spot, spot_if, spot_of}
 use Rattle.kfifo_linear.specs.Notes.{Notes, point_at, point_from, points_below, slot, with_point}

@@ -7,16 +7,12 @@ use Rattle.std.proofs.lemmas.Grind.{get_or-set_at}
 use Rattle.std.proofs.lemmas.List.{get_or-set_other, length-set}
 use Rattle.kfifo_words.specs.Ring.{distance}
 use Rattle.kfifo_words.specs.Words.{head_of}
-use Rattle.kfifo_words.specs.declared.shape.Shape.{Shape}
+use Rattle.kfifo_linear.proofs.Types.{Answer, Begin, Next, Running, Shape}
 use Rattle.kfifo_machine.specs.declared.event.Outcome.TheVariants.{Ended}
 use Rattle.kfifo_machine.specs.Machine.{outcome_of}
-use Rattle.kfifo_machine.specs.declared.event.Begin.{Begin}
 use Rattle.kfifo_machine.specs.declared.place.DequeuePhase.TheVariants as D
-use Rattle.kfifo_machine.specs.declared.place.Next.{Next}
 use Rattle.kfifo_machine.specs.declared.place.Next.TheVariants.{Answers, Goes}
 use Rattle.kfifo_machine.specs.declared.place.Running.TheVariants as R
-use Rattle.kfifo_machine.specs.declared.place.Running.{Running}
-use Rattle.kfifo_model.specs.declared.calls.Answer.{Answer}
 use Rattle.kfifo_linear.specs.declared.action.Action.{Action}
 use Rattle.kfifo_linear.specs.declared.action.Action.TheVariants.{HoldHead, LoadEnds, MoveHead, MoveTail, Unnoted, Put, Recheck}
 use Rattle.kfifo_linear.specs.declared.action.Action.TheVariants.{RecheckEmpty, ReloadEnds, Take, Undo}

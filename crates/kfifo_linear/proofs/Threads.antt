@@ -18,13 +18,10 @@ use Rattle.kfifo_machine.proofs.NoWrap.{EndsOk, other_end, same_end}
 use Rattle.kfifo_machine.specs.Machine.{place_after}
 use Rattle.kfifo_machine.specs.Places.{IsSlotIndex}
 use Rattle.kfifo_machine.specs.Program.{access, advance, scan_index}
-use Rattle.kfifo_machine.specs.declared.event.Begin.{Begin}
+use Rattle.kfifo_linear.proofs.Types.{Begin, Next, Running, Shape}
 use Rattle.kfifo_machine.specs.declared.place.Found.TheVariants.{Slot}
-use Rattle.kfifo_machine.specs.declared.place.Next.{Next}
 use Rattle.kfifo_machine.specs.declared.place.Next.TheVariants.{Answers, Goes}
-use Rattle.kfifo_machine.specs.declared.place.Running.{Running}
 use Rattle.kfifo_words.specs.Words.{head_of, value_of}
-use Rattle.kfifo_words.specs.declared.shape.Shape.{Shape}
 
 -- what holds of every slot, one fact at a time
 pub record Slots (shape : Shape) (w : ℕ → ℕ) (l : Ledger) : Type 0 where

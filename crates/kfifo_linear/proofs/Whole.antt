@@ -17,14 +17,10 @@ use Rattle.kfifo_machine.proofs.NoWrap.{EndsOk}
 use Rattle.kfifo_machine.specs.Machine.{World, begun, may_begin, opening, place_after, place_of, run, word_at}
 use Rattle.kfifo_machine.specs.Places.{IsSlotIndex}
 use Rattle.kfifo_machine.specs.Program.{access, accessed, advance}
-use Rattle.kfifo_machine.specs.declared.event.Begin.{Begin}
-use Rattle.kfifo_machine.specs.declared.event.Event.{Event}
-use Rattle.kfifo_machine.specs.declared.place.Running.{Running}
-use Rattle.kfifo_model.specs.declared.calls.Answer.{Answer}
+use Rattle.kfifo_linear.proofs.Types.{Answer, Begin, Event, Running, Shape}
 use Rattle.kfifo_model.specs.declared.calls.Answer.TheVariants.{Got}
 use Rattle.kfifo_words.specs.Ring.{clock_at}
 use Rattle.kfifo_words.specs.Words.{value_of}
-use Rattle.kfifo_words.specs.declared.shape.Shape.{Shape}
 
 -- a call's begin
 begun_thread : (shape : Shape) (w : ℕ → ℕ) (l : Ledger) (t : ℕ) (b : Begin) (r : Running) → begun b ≡ Some r

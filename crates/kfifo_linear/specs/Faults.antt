@@ -1,5 +1,6 @@
 -- Why there is no order.
 use Rattle.std.specs.Prelude.{ℕ, ◌≡◌, ◌<◌, ◌≤◌, ◌⊎◌, List}
+use Rattle.kfifo_model.specs.declared.calls.TheConstants.{MAX_THREADS}
 use Rattle.kfifo_words.specs.declared.shape.Shape.{Shape}
 use Rattle.kfifo_machine.specs.declared.event.Event.{Event}
 use Rattle.kfifo_machine.specs.Machine.{IsSchedule}
@@ -21,6 +22,6 @@ linear_fault_number Memory = 2
 -- what holds where events have no order: it is no schedule of 1 to 64 threads, or memory failed, after the number of
 -- threads was tested
 abbrev pub IsLinearFault : Shape → ℕ → List Event → LinearFault → Type 0
-IsLinearFault shape threads events NotASchedule = ((threads ≡ 0) ⊎ (64 < threads))
+IsLinearFault shape threads events NotASchedule = ((threads ≡ 0) ⊎ (MAX_THREADS < threads))
     ⊎ (IsSchedule shape threads events → ⊥)
-IsLinearFault shape threads events Memory = (0 < threads) × (threads ≤ 64)
+IsLinearFault shape threads events Memory = (0 < threads) × (threads ≤ MAX_THREADS)

@@ -4,7 +4,8 @@ use Rattle.std.specs.List.{filter, flat_map, range_with_len}
 use Rattle.kfifo_model.specs.declared.calls.Call.{Call}
 use Rattle.kfifo_model.specs.declared.calls.End.{End}
 use Rattle.kfifo_model.specs.Lists.{IsIn, EachPair}
-use Rattle.kfifo_model.specs.Relaxed.{Effect, Adds, Takes, FindsNone, Wrong}
+use Rattle.kfifo_model.specs.declared.effects.Effect.{Effect}
+use Rattle.kfifo_model.specs.declared.effects.Effect.TheVariants.{Adds, Takes, FindsNone, Wrong}
 use Rattle.kfifo_model.specs.Histories.{call, IsFinished, CanStand}
 use Rattle.kfifo_model.specs.Overtaking.{numbers_of}
 

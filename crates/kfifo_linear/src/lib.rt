@@ -8,10 +8,11 @@ mod linearizer;
 mod notes;
 
 ghost use Rattle.std.specs.Prelude.{ℕ, ◌≡◌, ◌<◌, ◌≤◌, List, true};
+ghost use Rattle.kfifo_model.specs.declared.calls.TheConstants.{MAX_THREADS};
 ghost use Rattle.kfifo_words.specs.declared.shape.Shape.{Shape};
 ghost use Rattle.kfifo_model.specs.declared.calls.Call.{Call};
 ghost use Rattle.kfifo_model.specs.Lists.{IsIn};
-ghost use Rattle.kfifo_model.specs.Relaxed.{Adds};
+ghost use Rattle.kfifo_model.specs.declared.effects.Effect.TheVariants.{Adds};
 ghost use Rattle.kfifo_model.specs.Histories.{does, IsFinished, IsLegal};
 ghost use Rattle.kfifo_model.specs.Overtaking.{numbers_of, overtaken_in, certainly_overtaken, AddsAreDistinct};
 ghost use Rattle.kfifo_linear.specs.Points.{Marks, PointsFit, StandsFit, by_point};
@@ -54,14 +55,14 @@ pub fn few_certainly_overtake()
 /// history alone at most k - 1 overtakings of the item of an enqueue that returned Done are certain, where its items
 /// are distinct.
 pub fn every_schedule_has_a_legal_order()
-    ensures points { (shape : Shape) (threads : ℕ) → threads ≤ 64 → PointsHold shape threads }
-    ensures legal { (shape : Shape) (threads : ℕ) → threads ≤ 64 → HasLegalOrder shape threads }
-    ensures overtaken { (shape : Shape) (threads : ℕ) → threads ≤ 64 → FewOvertake shape threads }
-    ensures certainly { (shape : Shape) (threads : ℕ) → threads ≤ 64 → FewCertainlyOvertake shape threads }
-    ensures laws { (shape : Shape) (threads : ℕ) → threads ≤ 64 → LawsHold shape threads }
-    ensures puts { (shape : Shape) (threads : ℕ) → threads ≤ 64 → PutsInVisit shape threads }
+    ensures points { (shape : Shape) (threads : ℕ) → threads ≤ MAX_THREADS → PointsHold shape threads }
+    ensures legal { (shape : Shape) (threads : ℕ) → threads ≤ MAX_THREADS → HasLegalOrder shape threads }
+    ensures overtaken { (shape : Shape) (threads : ℕ) → threads ≤ MAX_THREADS → FewOvertake shape threads }
+    ensures certainly { (shape : Shape) (threads : ℕ) → threads ≤ MAX_THREADS → FewCertainlyOvertake shape threads }
+    ensures laws { (shape : Shape) (threads : ℕ) → threads ≤ MAX_THREADS → LawsHold shape threads }
+    ensures puts { (shape : Shape) (threads : ℕ) → threads ≤ MAX_THREADS → PutsInVisit shape threads }
     ensures numbers { (shape : Shape) (threads : ℕ) → NumbersAgree shape threads }
-    ensures one { (shape : Shape) (threads : ℕ) → threads ≤ 64 → OneOrder shape threads }
+    ensures one { (shape : Shape) (threads : ℕ) → threads ≤ MAX_THREADS → OneOrder shape threads }
     ensures in_time { (shape : Shape) (threads : ℕ) → TakesInTime shape threads }
 {}
 

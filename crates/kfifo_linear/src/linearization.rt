@@ -1,5 +1,6 @@
 //! The linearization order of a whole schedule.
 ghost use Rattle.std.specs.Prelude.{◌≡◌, ◌<◌, ◌≤◌, map, IfOk, IfErr};
+ghost use Rattle.kfifo_model.specs.declared.calls.TheConstants.{MAX_THREADS};
 ghost use Rattle.kfifo_linear.specs.Faults.{IsLinearFault};
 ghost use Rattle.kfifo_machine.specs.Machine.{IsSchedule};
 ghost use Rattle.kfifo_linear.specs.Notes.{begins_call, calls_begun};
@@ -85,7 +86,7 @@ fn followed(
     threads: u32,
     events: &[Event],
 ) -> Result<Linearizer, LinearFault>
-    ensures followed { IfOk result (λ l. (l.shape ≡ shape) × (0 < threads) × (threads ≤ 64)
+    ensures followed { IfOk result (λ l. (l.shape ≡ shape) × (0 < threads) × (threads ≤ MAX_THREADS)
         × Follows threads (calls_begun events.now) events.now l) }
     ensures refused { IfErr result (IsLinearFault shape threads events.now) }
 {
@@ -106,7 +107,7 @@ fn order_events(
     threads: u32,
     events: &[Event],
 ) -> Result<Vec<usize>, LinearFault>
-    ensures order { IfOk result (λ order. (0 < threads) × (threads ≤ 64) × IsSchedule shape threads events.now
+    ensures order { IfOk result (λ order. (0 < threads) × (threads ≤ MAX_THREADS) × IsSchedule shape threads events.now
         × (order.items ≡ order_of shape threads events.now)) }
     ensures refused { IfErr result (IsLinearFault shape threads events.now) }
 {
@@ -134,14 +135,14 @@ pub fn linearize(
     threads: u32,
     events: &[Event],
 ) -> Result<Vec<usize>, LinearFault>
-    ensures order { IfOk result (λ order. (0 < threads) × (threads ≤ 64) × IsSchedule shape threads events.now
+    ensures order { IfOk result (λ order. (0 < threads) × (threads ≤ MAX_THREADS) × IsSchedule shape threads events.now
         × (order.items ≡ order_of shape threads events.now)) }
     ensures refused { IfErr result (IsLinearFault shape threads events.now) }
-    ensures legal { threads ≤ 64 → HasLegalOrder shape threads }
-    ensures overtaken { threads ≤ 64 → FewOvertake shape threads }
-    ensures certainly { threads ≤ 64 → FewCertainlyOvertake shape threads }
-    ensures laws { threads ≤ 64 → LawsHold shape threads }
-    ensures puts { threads ≤ 64 → PutsInVisit shape threads }
+    ensures legal { threads ≤ MAX_THREADS → HasLegalOrder shape threads }
+    ensures overtaken { threads ≤ MAX_THREADS → FewOvertake shape threads }
+    ensures certainly { threads ≤ MAX_THREADS → FewCertainlyOvertake shape threads }
+    ensures laws { threads ≤ MAX_THREADS → LawsHold shape threads }
+    ensures puts { threads ≤ MAX_THREADS → PutsInVisit shape threads }
 {
     order_events(alloc, shape, threads, events)
 }
@@ -156,7 +157,8 @@ pub fn linearization_points(
     threads: u32,
     events: &[Event],
 ) -> Result<Vec<u64>, LinearFault>
-    ensures points { IfOk result (λ points. (0 < threads) × (threads ≤ 64) × IsSchedule shape threads events.now
+    ensures points { IfOk result
+        (λ points. (0 < threads) × (threads ≤ MAX_THREADS) × IsSchedule shape threads events.now
         × (points.items ≡ map (point (ledger_after_all shape threads events.now))
         (order_of shape threads events.now))) }
     ensures refused { IfErr result (IsLinearFault shape threads events.now) }

@@ -1,6 +1,7 @@
 //! Following a schedule event by event.
 ghost use Rattle.std.specs.Prelude.{◌≡◌, ℕ, ◌+◌, ◌-◌, ◌^◌, ◌<◌, ◌≤◌, ◌⊎◌, ◌↔◌, List, [], ◌∷◌, ◌++◌, length, map, true};
 ghost use Rattle.std.specs.Prelude.{IfOk, IfErr, OnErr, Ok, Err};
+ghost use Rattle.kfifo_model.specs.declared.calls.TheConstants.{MAX_THREADS};
 ghost use Rattle.kfifo_machine.specs.Machine;
 ghost use Rattle.kfifo_machine.specs.Machine.{place_of};
 ghost use Rattle.kfifo_machine.specs.declared.event.Event.{Event};
@@ -61,8 +62,8 @@ impl Linearizer {
         calls: usize,
     ) -> Result<Linearizer, StartFault>
         ensures follows { IfOk result (λ l. (l.shape ≡ shape) × Follows threads calls [] l) }
-        ensures threads { (result ≡ Err StartFault.ThreadsOutOfRange) ↔ ((threads ≡ 0) ⊎ (64 < threads)) }
-        ensures few { IfOk result (λ _. (0 < threads) × (threads ≤ 64)) }
+        ensures threads { (result ≡ Err StartFault.ThreadsOutOfRange) ↔ ((threads ≡ 0) ⊎ (MAX_THREADS < threads)) }
+        ensures few { IfOk result (λ _. (0 < threads) × (threads ≤ MAX_THREADS)) }
     {
         let state = start(alloc, shape, threads)?;
         let notes = Notes::new(alloc, &shape, threads as usize, calls)?;
@@ -124,7 +125,7 @@ impl Linearizer {
     /// The calls that stand, each behind its point, by rising point and number.
     fn sorted(&self, alloc: Global) -> Result<Vec<(u64, usize)>, AllocError>
         ensures calls { IfOk result (λ placed. (threads room : ℕ) (events : List Event)
-            → Follows threads room events self.now → threads ≤ 64
+            → Follows threads room events self.now → threads ≤ MAX_THREADS
             → map (λ p. p.1) placed.items ≡ order_of self.now.shape threads events) }
         ensures points { IfOk result (λ placed. (threads room : ℕ) (events : List Event)
             → Follows threads room events self.now
@@ -140,7 +141,7 @@ impl Linearizer {
     /// events. Memory where an allocation failed.
     pub fn order(&self, alloc: Global) -> Result<Vec<usize>, AllocError>
         ensures { IfOk result (λ order. (threads room : ℕ) (events : List Event) → Follows threads room events self.now
-            → threads ≤ 64
+            → threads ≤ MAX_THREADS
             → order.items ≡ order_of self.now.shape threads events) }
     {
         let placed = self.sorted(alloc)?;
@@ -151,7 +152,7 @@ impl Linearizer {
     /// failed.
     pub fn points(&self, alloc: Global) -> Result<Vec<u64>, AllocError>
         ensures { IfOk result (λ points. (threads room : ℕ) (events : List Event) → Follows threads room events self.now
-            → threads ≤ 64
+            → threads ≤ MAX_THREADS
             → points.items ≡ map (point (ledger_after_all self.now.shape threads events))
             (order_of self.now.shape threads events)) }
     {

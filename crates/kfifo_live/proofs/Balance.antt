@@ -6,21 +6,16 @@ use Rattle.std.proofs.lemmas.Bool.{cases_eq}
 use Rattle.std.proofs.lemmas.Bool.Decides.{nat_tests}
 use Rattle.std.proofs.lemmas.Grind.{get_or-set_at}
 use Rattle.std.proofs.lemmas.List.{get_or-set_other}
-use Rattle.kfifo_words.specs.declared.shape.Shape.{Shape}
+use Rattle.kfifo_live.proofs.Types.{Begin, EnqueuePhase, Event, Next, Opening, Running, Shape}
 use Rattle.kfifo_words.specs.Words.{value_of}
 use Rattle.kfifo_words.specs.Ring.{clock_at}
-use Rattle.kfifo_machine.specs.declared.event.Begin.{Begin}
 use Rattle.kfifo_machine.specs.declared.event.Begin.TheVariants as B
-use Rattle.kfifo_machine.specs.declared.event.Event.{Event}
 use Rattle.kfifo_machine.specs.declared.event.Outcome.{Outcome}
 use Rattle.kfifo_machine.specs.declared.place.Found.TheVariants.{Slot}
-use Rattle.kfifo_machine.specs.declared.place.EnqueuePhase.{EnqueuePhase}
 use Rattle.kfifo_machine.specs.declared.place.EnqueuePhase.TheVariants as E
 use Rattle.kfifo_machine.specs.declared.place.DequeuePhase.{DequeuePhase}
 use Rattle.kfifo_machine.specs.declared.place.DequeuePhase.TheVariants as D
-use Rattle.kfifo_machine.specs.declared.place.Running.{Running}
 use Rattle.kfifo_machine.specs.declared.place.Running.TheVariants as R
-use Rattle.kfifo_machine.specs.declared.place.Next.{Next}
 use Rattle.kfifo_machine.specs.declared.place.Next.TheVariants.{Goes, Answers}
 use Rattle.kfifo_machine.specs.declared.place.Access.TheVariants.{Exchange}
 use Rattle.kfifo_machine.specs.Program.{access, accessed, advance, filled_with, emptied, head_moved, tail_moved, head_held}
@@ -32,7 +27,6 @@ use Rattle.kfifo_machine.specs.Laws.{counted, count}
 use Rattle.kfifo_machine.proofs.Tokens.{EnqueueKnows, value-emptied, value-filled_with}
 use Rattle.kfifo_machine.proofs.Schedules.{Some-injective, first_made, made_within, stepped}
 use Rattle.kfifo_machine.proofs.Sound.{IsSound, going_place, place_is, step_sound, opening_sound, sound}
-use Rattle.kfifo_live.specs.declared.view.Opening.{Opening}
 use Rattle.kfifo_live.specs.Schedule.{world_after}
 use Rattle.kfifo_live.specs.Left.{item_in, items_left}
 use Rattle.kfifo_live.specs.Balance.{times, puts_item, undoes_item, takes_item, puts, undos, takes}

@@ -8,7 +8,7 @@ use Rattle.kfifo_machine.specs.declared.place.EnqueuePhase.TheVariants as E
 use Rattle.kfifo_machine.specs.declared.place.DequeuePhase.TheVariants as D
 use Rattle.kfifo_machine.specs.declared.place.Found.{Found}
 use Rattle.kfifo_machine.specs.declared.place.Found.TheVariants.{Slot, Nothing}
-use Rattle.kfifo_machine.specs.declared.place.Next.{Next}
+use Rattle.kfifo_live.proofs.Types.{Next}
 use Rattle.kfifo_machine.specs.declared.place.Next.TheVariants.{Goes, Answers}
 use Rattle.kfifo_machine.specs.Program.{scan_index}
 use Rattle.kfifo_live.specs.declared.enqueue.Enqueue.{Enqueue}

@@ -10,19 +10,14 @@ use mathlib.Core.Option.{some, some-ne-none, some-injective}
 use lib.ListN.{get_elem?}
 use Rattle.atomic_table.specs.Table.{State, keeps, Me, Allows, Splits, Joins}
 use Rattle.atomic_table.proofs.Lists.{at_set}
-use Rattle.kfifo_machine.specs.declared.event.Event.{Event}
+use Rattle.kfifo_live.proofs.Types.{Event, Hand, Opening, Part, Running, View}
 use Rattle.kfifo_words.specs.Words.{value_of}
 use Rattle.kfifo_words.specs.Ring.{clock_at}
-use Rattle.kfifo_machine.specs.declared.place.Running.{Running}
 use Rattle.kfifo_machine.specs.Machine.{opening, word_at, place_of}
-use Rattle.kfifo_live.specs.declared.view.Opening.{Opening}
-use Rattle.kfifo_live.specs.declared.view.Part.{Part}
-use Rattle.kfifo_live.specs.declared.view.View.{View}
 use Rattle.kfifo_live.specs.Schedule.{part, view_of, count_up, first_hand, fresh, first_view, thread_of, seen_of, gifts_of, hand_of}
 use Rattle.kfifo_live.specs.Schedule.{with_seen, more_in, IsSeated, AllBegin, AllGiven, GiftsFit, AllHands, Owns, AreResting, Fits}
 use Rattle.kfifo_live.specs.Schedule.{OneSchedule, no_hand, FewTicks, both_parts}
 use Rattle.kfifo_live.specs.Hands.{Gifts, Homes, Where, Home, AllHome, CallFits, HandFits, SlotsFit}
-use Rattle.kfifo_live.specs.declared.view.Hand.{Hand}
 use Rattle.kfifo_live.specs.Step.{Looks}
 use Rattle.kfifo_live.proofs.Balance.{value-zero}
 use Rattle.kfifo_live.proofs.Keeps.{Tokens, adds, fits_set}

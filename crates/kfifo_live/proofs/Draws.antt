@@ -12,13 +12,8 @@ use Rattle.atomic_table.specs.Table.{State, takes, gives, put_back, rest, Me, Al
 use Rattle.atomic_table.proofs.Lists.{at_set, set_here, set_else}
 use Rattle.kfifo_words.specs.Words.{value_of}
 use Rattle.kfifo_words.specs.Ring.{clock_at}
-use Rattle.kfifo_machine.specs.declared.event.Event.{Event}
-use Rattle.kfifo_machine.specs.declared.place.Running.{Running}
+use Rattle.kfifo_live.proofs.Types.{Event, Hand, Opening, Part, Running, View}
 use Rattle.kfifo_machine.specs.Machine.{World, word_at, place_of}
-use Rattle.kfifo_live.specs.declared.view.Opening.{Opening}
-use Rattle.kfifo_live.specs.declared.view.Hand.{Hand}
-use Rattle.kfifo_live.specs.declared.view.Part.{Part}
-use Rattle.kfifo_live.specs.declared.view.View.{View}
 use Rattle.kfifo_live.specs.Schedule.{part, view_of, world_after, thread_of, seen_of, gifts_of, hand_of, with_seen, more_in, AllHands}
 use Rattle.kfifo_live.specs.Schedule.{IsResting, OneSchedule}
 use Rattle.kfifo_live.specs.Hands.{Gifts, Homes, Where, Home, Out, In, AllHome, CallFits, HandFits, SlotsFit}

@@ -6,11 +6,8 @@ use Rattle.atomic_table.specs.Table.{Me, State, Final, Seen}
 use Rattle.kfifo_words.specs.Words.{head_of}
 use Rattle.kfifo_machine.specs.Machine.{word_at}
 use Rattle.kfifo_machine.proofs.Sound.{sound_ends}
-use Rattle.kfifo_machine.specs.declared.event.Event.{Event}
+use Rattle.kfifo_live.proofs.Types.{Event, Opening, Part, View}
 use Rattle.kfifo_machine.specs.Runs.{Begins}
-use Rattle.kfifo_live.specs.declared.view.Opening.{Opening}
-use Rattle.kfifo_live.specs.declared.view.Part.{Part}
-use Rattle.kfifo_live.specs.declared.view.View.{View}
 use Rattle.kfifo_live.specs.Schedule.{world_after, seen_of, AllBegin, OneSchedule}
 use Rattle.kfifo_live.specs.Left.{items_left}
 use Rattle.kfifo_live.specs.Balance.{times, undos, takes}

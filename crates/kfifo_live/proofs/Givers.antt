@@ -6,23 +6,17 @@ use Rattle.std.specs.Prelude.{◌==◌}
 use Rattle.std.proofs.lemmas.Bool.{cases_eq}
 use Rattle.std.proofs.lemmas.Bool.Decides.{nat_tests}
 use Rattle.std.proofs.lemmas.List.{append-nil, map-append}
-use Rattle.kfifo_words.specs.declared.shape.Shape.{Shape}
+use Rattle.kfifo_live.proofs.Types.{Answer, Begin, EnqueuePhase, Event, Next, Opening, Running, Shape}
 use Rattle.kfifo_words.specs.Words.{value_of}
 use Rattle.kfifo_words.specs.Ring.{clock_at}
-use Rattle.kfifo_model.specs.declared.calls.Answer.{Answer}
 use Rattle.kfifo_model.specs.declared.calls.Answer.TheVariants.{Got}
-use Rattle.kfifo_machine.specs.declared.event.Begin.{Begin}
 use Rattle.kfifo_machine.specs.declared.event.Begin.TheVariants as B
-use Rattle.kfifo_machine.specs.declared.event.Event.{Event}
 use Rattle.kfifo_machine.specs.declared.event.Outcome.{Outcome}
 use Rattle.kfifo_machine.specs.declared.event.Outcome.TheVariants.{Went, Ended}
-use Rattle.kfifo_machine.specs.declared.place.EnqueuePhase.{EnqueuePhase}
 use Rattle.kfifo_machine.specs.declared.place.EnqueuePhase.TheVariants as E
 use Rattle.kfifo_machine.specs.declared.place.DequeuePhase.{DequeuePhase}
 use Rattle.kfifo_machine.specs.declared.place.DequeuePhase.TheVariants as D
-use Rattle.kfifo_machine.specs.declared.place.Running.{Running}
 use Rattle.kfifo_machine.specs.declared.place.Running.TheVariants as R
-use Rattle.kfifo_machine.specs.declared.place.Next.{Next}
 use Rattle.kfifo_machine.specs.declared.place.Next.TheVariants.{Goes, Answers}
 use Rattle.kfifo_machine.specs.declared.place.Access.TheVariants.{Exchange}
 use Rattle.kfifo_machine.specs.Program.{access, accessed, advance, emptied, enqueue_advance, filled_with}
@@ -39,7 +33,6 @@ use Rattle.kfifo_machine.proofs.Sound.{IsSound, going_place, place_is, sound}
 use Rattle.kfifo_machine.proofs.Undisturbed.{found-is}
 use Rattle.kfifo_machine.proofs.Tokens.{EnqueueKnows, value-emptied, value-filled_with}
 use Rattle.kfifo_machine.proofs.Versions.{one_word, won_word, word_rises}
-use Rattle.kfifo_live.specs.declared.view.Opening.{Opening}
 use Rattle.kfifo_live.specs.Schedule.{HolderLaw, world_after}
 use Rattle.kfifo_live.specs.Hands.{Gifts, InTurn, beside, item_begun, items_begun, last_gift, own_item, out_at, out_in}
 use Rattle.kfifo_live.specs.Payloads.{PayPassView, TakesAtLast, TookWhatWasPut, WasPutWith}

@@ -9,16 +9,13 @@ use lib.ListN.{get_elem?}
 use Rattle.atomic_table.specs.Table.{Valid, put_back, homes_after, carried_after}
 use Rattle.atomic_table.proofs.Lists.{set_here, set_else}
 use Rattle.std.proofs.lemmas.List.{length-set}
-use Rattle.kfifo_words.specs.declared.shape.Shape.{Shape}
+use Rattle.kfifo_live.proofs.Types.{EnqueuePhase, Hand, Next, Running, Shape}
 use Rattle.kfifo_words.specs.Words.{value_of, version_of}
 use Rattle.kfifo_words.specs.Ring.{clock_at}
-use Rattle.kfifo_machine.specs.declared.place.EnqueuePhase.{EnqueuePhase}
 use Rattle.kfifo_machine.specs.declared.place.EnqueuePhase.TheVariants as E
 use Rattle.kfifo_machine.specs.declared.place.DequeuePhase.{DequeuePhase}
 use Rattle.kfifo_machine.specs.declared.place.DequeuePhase.TheVariants as D
-use Rattle.kfifo_machine.specs.declared.place.Running.{Running}
 use Rattle.kfifo_machine.specs.declared.place.Running.TheVariants as R
-use Rattle.kfifo_machine.specs.declared.place.Next.{Next}
 use Rattle.kfifo_machine.specs.declared.place.Next.TheVariants.{Goes, Answers}
 use Rattle.kfifo_model.specs.declared.calls.Answer.TheVariants.{Got}
 use Rattle.kfifo_machine.specs.declared.place.Access.TheVariants.{Exchange}
@@ -28,7 +25,6 @@ use Rattle.kfifo_machine.specs.Places.{IsPlace}
 use Rattle.kfifo_machine.proofs.Alone.{slots_stay}
 use Rattle.kfifo_machine.proofs.Quiet.{words_by}
 use Rattle.kfifo_machine.proofs.Tokens.{EnqueueKnows, value-emptied, value-filled_with}
-use Rattle.kfifo_live.specs.declared.view.Hand.{Hand}
 use Rattle.kfifo_live.specs.Hands.{FitsOwn, Gifts, Homes, Where, Home, Out, In, Move, Stays, Lays, Lifts, Takes, move, out_in, out_at}
 use Rattle.kfifo_live.specs.Hands.{own_item, out_next, last_gift, beside, AllHome, PutFits, GiftFits, CallFits, HandFits, Leaves, SlotsFit}
 use Rattle.kfifo_live.specs.Hands.{where_after, hand_after, slot_of, act_of}

@@ -10,14 +10,11 @@ use lib.ListN.{get_elem?}
 use prog.Atomic.{either}
 use Rattle.atomic_table.specs.Table.{Act, State, Valid, homes_after, carried_after, keeps, Me, Allows}
 use Rattle.atomic_table.proofs.Lists.{at_set}
-use Rattle.kfifo_words.specs.declared.shape.Shape.{Shape}
+use Rattle.kfifo_live.proofs.Types.{Begin, Event, Hand, Opening, Part, Running, Shape, View}
 use Rattle.kfifo_words.specs.Ring.{clock_at}
-use Rattle.kfifo_machine.specs.declared.event.Begin.{Begin}
 use Rattle.kfifo_machine.specs.declared.event.Begin.TheVariants.{Tick}
 use Rattle.kfifo_machine.specs.declared.event.Outcome.TheVariants.{Went}
 use Rattle.kfifo_machine.specs.declared.event.NotEnabled.TheVariants.{NoSuchThread, ClockSpent}
-use Rattle.kfifo_machine.specs.declared.event.Event.{Event}
-use Rattle.kfifo_machine.specs.declared.place.Running.{Running}
 use Rattle.kfifo_machine.specs.declared.place.Access.{Access}
 use Rattle.kfifo_machine.specs.declared.place.Access.TheVariants.{Load, Exchange}
 use Rattle.kfifo_machine.specs.Program.{access, accessed}
@@ -25,14 +22,10 @@ use Rattle.kfifo_machine.specs.Machine.{World, opening, moved, ticked, found, wo
 use Rattle.kfifo_machine.specs.Machine.{run}
 use Rattle.kfifo_machine.specs.Runs.{event, own, going, Begins}
 use Rattle.kfifo_machine.proofs.Schedules.{run_on, own-append, same_place, still_threads, steps_on}
-use Rattle.kfifo_live.specs.declared.view.Opening.{Opening}
-use Rattle.kfifo_live.specs.declared.view.Part.{Part}
-use Rattle.kfifo_live.specs.declared.view.View.{View}
 use Rattle.kfifo_live.specs.Schedule.{part, view_of, world_after, AllBegin, AllGiven, GiftsFit, AllHands, Owns, IsResting, Fits}
 use Rattle.kfifo_live.specs.Schedule.{OneSchedule, FewTicks, IsSmall, ticks, thread_of, seen_of, gifts_of, hand_of, more_in, with_seen}
 use Rattle.kfifo_live.specs.Step.{IsAt, Steps, DrawsStamp}
 use Rattle.kfifo_live.specs.Hands.{Gifts, Homes, Where, beside, gift, move, hand_after, begun_hand, Carries, BeginsWith, HandFits, SlotsFit}
-use Rattle.kfifo_live.specs.declared.view.Hand.{Hand}
 use Rattle.kfifo_live.proofs.Hands.{home_step}
 use Rattle.kfifo_live.proofs.Holders.{begin_free_on, begins_free}
 use Rattle.kfifo_live.proofs.Turned.{same_home, turned}

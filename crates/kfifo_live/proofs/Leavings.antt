@@ -10,18 +10,13 @@ use mathlib.Core.Option.{some, some-ne-none, some-injective}
 use lib.ListN.{get_elem?}
 use Rattle.atomic_table.specs.Table.{Me, State, Final, Seen}
 use Rattle.atomic_table.specs.Seated.{TableId}
-use Rattle.kfifo_words.specs.declared.shape.Shape.{Shape}
+use Rattle.kfifo_live.proofs.Types.{Event, Opening, Part, Running, Shape, View}
 use Rattle.kfifo_words.specs.Words.{value_of, head_of}
 use Rattle.kfifo_words.specs.Ring.{clock_at, next_segment, slot_at}
 use Rattle.std.specs.List.{AllByRecursion}
-use Rattle.kfifo_machine.specs.declared.event.Event.{Event}
-use Rattle.kfifo_machine.specs.declared.place.Running.{Running}
 use Rattle.kfifo_machine.specs.Machine.{World, opening, run, word_at}
 use Rattle.kfifo_machine.specs.Runs.{Begins, own}
 use Rattle.kfifo_machine.proofs.Schedules.{first_made, made_within, own_none, run_on, still_threads}
-use Rattle.kfifo_live.specs.declared.view.Opening.{Opening}
-use Rattle.kfifo_live.specs.declared.view.Part.{Part}
-use Rattle.kfifo_live.specs.declared.view.View.{View}
 use Rattle.kfifo_live.specs.Balance.{times, undos, takes}
 use Rattle.kfifo_live.specs.Hands.{Gifts, In, beside}
 use Rattle.kfifo_live.specs.Left.{item_in, slots_left, segments_left, items_left}

@@ -1,3 +1,4 @@
+pub mod Types
 pub mod Hands
 pub mod Turned
 pub mod Ticks

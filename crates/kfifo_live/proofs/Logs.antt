@@ -6,17 +6,14 @@ use Rattle.std.proofs.Math.Seq.{drop-append_seam, get_or-append_seam}
 use Rattle.std.proofs.lemmas.Bool.{cases_eq, cases_lt}
 use Rattle.std.proofs.lemmas.List.{append-nil}
 use Rattle.kfifo_words.specs.Ring.{clock_at}
-use Rattle.kfifo_model.specs.declared.calls.Answer.{Answer}
+use Rattle.kfifo_live.proofs.Types.{Answer, Begin, Call, Event, Opening}
 use Rattle.kfifo_model.specs.declared.calls.Answer.TheVariants.{Busy}
-use Rattle.kfifo_model.specs.declared.calls.Call.{Call}
 use Rattle.kfifo_model.specs.declared.calls.End.{End}
 use Rattle.std.specs.List.{AllByRecursion}
 use Rattle.kfifo_model.specs.Lists.{EachPair}
 use Rattle.kfifo_model.specs.Histories.{call, no_call, EndsBelow}
 use Rattle.kfifo_model.proofs.Lists.{AllByRecursion-push, AllByRecursion-weaker}
-use Rattle.kfifo_machine.specs.declared.event.Begin.{Begin}
 use Rattle.kfifo_machine.specs.declared.event.Begin.TheVariants.{Tick}
-use Rattle.kfifo_machine.specs.declared.event.Event.{Event}
 use Rattle.kfifo_machine.specs.declared.event.Outcome.TheVariants.{Went}
 use Rattle.kfifo_machine.specs.Laws.{IsRefusal, most_events}
 use Rattle.kfifo_machine.specs.Machine.{World, opening, step, ticked, word_at}
@@ -24,7 +21,6 @@ use Rattle.kfifo_machine.specs.Calls.{op_asked}
 use Rattle.kfifo_machine.specs.Rounds.{turns_of}
 use Rattle.kfifo_machine.specs.Runs.{AllGoOn, CompleteExecution, event, own}
 use Rattle.kfifo_machine.proofs.Schedules.{own-append, run_before}
-use Rattle.kfifo_live.specs.declared.view.Opening.{Opening}
 use Rattle.kfifo_live.specs.Schedule.{begins_tick, ticks, world_after}
 use Rattle.kfifo_live.specs.Pass.{PassView, IsSamePass}
 use Rattle.kfifo_live.specs.Promise.{calls_of}

@@ -1,10 +1,8 @@
 -- A complete execution of a call has all that is said of one call.
 use Rattle.std.proofs.Common.{◌≡◌, ◌+◌, ◌≤◌, List, [], ◌∷◌, ◌++◌, length, drop, Some, sym, ap, ◌∙◌, subst, append_assoc}
 use Rattle.std.proofs.Math.Seq.{drop-append_seam}
-use Rattle.kfifo_model.specs.declared.calls.Answer.{Answer}
+use Rattle.kfifo_live.proofs.Types.{Answer, Begin, Event}
 use Rattle.kfifo_model.specs.declared.calls.Answer.TheVariants.{Done, Full, Got, Empty, Busy, Worn}
-use Rattle.kfifo_machine.specs.declared.event.Begin.{Begin}
-use Rattle.kfifo_machine.specs.declared.event.Event.{Event}
 use Rattle.kfifo_machine.specs.Runs.{own}
 use Rattle.kfifo_machine.specs.Laws.{IsRefusal, most_events}
 use Rattle.kfifo_machine.specs.Causes.{CauseOfFull, CauseOfWorn, looks, start_of}

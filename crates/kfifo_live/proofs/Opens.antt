@@ -4,10 +4,8 @@ use Rattle.std.proofs.Common.{sym, ap, ◌∙◌, subst, arith, All}
 use Rattle.std.proofs.lemmas.List.{length-replicate}
 use Rattle.std.proofs.lemmas.List.Elements.{All-map}
 use Rattle.atomic_table.specs.Table.{Me}
-use Rattle.kfifo_machine.specs.declared.place.Running.{Running}
+use Rattle.kfifo_live.proofs.Types.{Opening, Running, View}
 use Rattle.kfifo_machine.specs.Machine.{World, opening, place_of, word_at}
-use Rattle.kfifo_live.specs.declared.view.Opening.{Opening}
-use Rattle.kfifo_live.specs.declared.view.View.{View}
 use Rattle.kfifo_live.specs.Schedule.{IsSmall, part, view_of, fresh, first_hand, seen_of, gifts_of, hand_of, first_part, other_parts}
 use Rattle.kfifo_live.specs.Hands.{carrying}
 use Rattle.kfifo_live.specs.Step.{IsAt}

@@ -5,22 +5,14 @@ use Rattle.std.proofs.lemmas.List.{append-nil, length-replicate}
 use Rattle.atomic_table.specs.Table.{Me}
 use Rattle.atomic_table.specs.Seated.{TableId}
 use Rattle.atomic_table.specs.declared.shared.Seat.{Seat}
-use Rattle.kfifo_model.specs.declared.calls.Answer.{Answer}
-use Rattle.kfifo_words.specs.declared.shape.Shape.{Shape}
-use Rattle.kfifo_machine.specs.declared.event.Begin.{Begin}
+use Rattle.kfifo_live.proofs.Types.{Answer, Begin, Event, Hand, Opening, Part, Running, Shape, View}
 use Rattle.kfifo_machine.specs.declared.event.Begin.TheVariants.{Tick}
-use Rattle.kfifo_machine.specs.declared.event.Event.{Event}
 use Rattle.kfifo_machine.specs.declared.place.Next.TheVariants.{Answers}
-use Rattle.kfifo_machine.specs.declared.place.Running.{Running}
 use Rattle.kfifo_machine.specs.Machine.{World, opening, place_of, run, ticked, word_at, world_of}
 use Rattle.kfifo_machine.specs.Runs.{Begins, CompleteExecution, event, own}
 use Rattle.kfifo_machine.proofs.Budget.{tick_leaves}
 use Rattle.kfifo_machine.proofs.Schedules.{after-snoc, own-append, run_on, same_place, still_threads}
-use Rattle.kfifo_live.specs.declared.view.Opening.{Opening}
-use Rattle.kfifo_live.specs.declared.view.Part.{Part}
-use Rattle.kfifo_live.specs.declared.view.View.{View}
 use Rattle.kfifo_live.specs.Hands.{Gifts, carrying}
-use Rattle.kfifo_live.specs.declared.view.Hand.{Hand}
 use Rattle.kfifo_live.specs.Schedule.{gifts_of, hand_of, hand_in, stamped_opening, IsSmall, part, view_of, world_after, thread_in}
 use Rattle.kfifo_live.specs.Schedule.{thread_of, more_in, seen_of, with_seen, AllBegin, first_part, other_parts, no_part, both_parts}
 use Rattle.kfifo_live.specs.Step.{IsAt, DrawsStamp, Looks, Leads, Runs}

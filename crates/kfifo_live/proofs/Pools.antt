@@ -6,8 +6,7 @@ use Rattle.std.proofs.lemmas.List.{append-nil}
 use Rattle.atomic_table.specs.Perched.{Roost}
 use Rattle.atomic_table.specs.Table.{Me}
 use Rattle.atomic_table.specs.Seated.{TableId}
-use Rattle.kfifo_live.specs.declared.view.Opening.{Opening}
-use Rattle.kfifo_live.specs.declared.view.View.{View}
+use Rattle.kfifo_live.proofs.Types.{Opening, View}
 use Rattle.kfifo_live.specs.Schedule.{hand_of, resting_view, IsSeated, count_up, with_home, with_resting, less_next}
 use Rattle.kfifo_live.specs.Payloads.{IsPool, pool_for}
 

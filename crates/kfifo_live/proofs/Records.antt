@@ -9,16 +9,14 @@ use Rattle.std.specs.Iterator.{Yields}
 use Rattle.std.specs.Vec.Iter.{into_iter_items, into_iter_steps}
 use Rattle.std.specs.declared.vec.IntoIter.{IntoIter}
 use Rattle.std.proofs.lemmas.List.Elements.{All-head, All-tail}
-use Rattle.kfifo_model.specs.declared.calls.Call.{Call}
+use Rattle.kfifo_live.proofs.Types.{Call, Event, Opening}
 use Rattle.kfifo_model.specs.Lists.{EachPair}
-use Rattle.kfifo_machine.specs.declared.event.Event.{Event}
 use Rattle.kfifo_model.specs.Histories.{call, no_call}
 use Rattle.kfifo_model.specs.Validity.{IsHistory}
 use Rattle.kfifo_machine.specs.Machine.{World, opening}
 use Rattle.kfifo_machine.specs.Runs.{Begins, own}
 use Rattle.kfifo_machine.proofs.OwnCalls.{KeepsCalls, others_keep}
 use Rattle.kfifo_machine.proofs.Schedules.{run_before}
-use Rattle.kfifo_live.specs.declared.view.Opening.{Opening}
 use Rattle.kfifo_live.specs.Pass.{AllSeen, Closes, IsComplete, IsPassOf, PassView, OpenQueue, new_passes}
 use Rattle.kfifo_live.specs.Promise.{KeepsPromise, calls_of}
 use Rattle.kfifo_live.specs.Schedule.{ticks, world_after}

@@ -8,17 +8,11 @@ use mathlib.Core.Option.{some}
 use lib.ListN.{get_elem?}
 use Rattle.atomic_table.specs.Table.{State, keeps, Me, Allows, Splits, Joins}
 use Rattle.atomic_table.proofs.Lists.{at_set, set_again, set_here}
-use Rattle.kfifo_words.specs.declared.shape.Shape.{Shape}
+use Rattle.kfifo_live.proofs.Types.{Event, Hand, Opening, Part, Running, Shape, View}
 use Rattle.kfifo_words.specs.Ring.{clock_at}
-use Rattle.kfifo_machine.specs.declared.event.Event.{Event}
-use Rattle.kfifo_machine.specs.declared.place.Running.{Running}
 use Rattle.kfifo_machine.specs.Machine.{World, opening, word_at, place_of, run}
 use Rattle.kfifo_machine.specs.Runs.{own}
 use Rattle.kfifo_machine.proofs.Schedules.{first_made, made_within, same_threads}
-use Rattle.kfifo_live.specs.declared.view.Opening.{Opening}
-use Rattle.kfifo_live.specs.declared.view.Hand.{Hand}
-use Rattle.kfifo_live.specs.declared.view.Part.{Part}
-use Rattle.kfifo_live.specs.declared.view.View.{View}
 use Rattle.kfifo_live.specs.Schedule.{part, view_of, world_after, thread_of, seen_of, gifts_of, hand_of, with_seen, more_in, IsSeated}
 use Rattle.kfifo_live.specs.Schedule.{AllHands, Owns, AreResting, Fits, OneSchedule, no_hand, resting_hand, resting_view, next_of}
 use Rattle.kfifo_live.specs.Schedule.{less_next, resting_of, with_resting, with_home}

@@ -3,7 +3,7 @@ use Rattle.std.proofs.Common.{◌≡◌, ◌≢◌, ℕ, zero, suc, ◌+◌, ◌
 use Rattle.std.proofs.Common.{arith}
 use Rattle.std.proofs.lemmas.Bool.{cases_eq}
 use Rattle.std.proofs.lemmas.Bool.Decides.{nat_tests}
-use Rattle.kfifo_words.specs.declared.shape.Shape.{Shape}
+use Rattle.kfifo_live.proofs.Types.{Shape}
 use Rattle.kfifo_words.specs.Ring.{next_segment, slot_at}
 use Rattle.kfifo_words.specs.Words.{head_of}
 use Rattle.kfifo_live.specs.Left.{item_in, slots_left, segments_left, items_left}

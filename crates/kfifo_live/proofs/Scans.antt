@@ -4,7 +4,7 @@ use Rattle.std.proofs.Common.{cond, eq-eqb, ne_eqb}
 use Rattle.std.specs.Prelude.{◌==◌}
 use Rattle.std.proofs.lemmas.Bool.Decides.{nat_tests}
 use Rattle.std.proofs.Math.Nat.{mod-eq_of_lt, add-mod_left, mul-le-mul_right}
-use Rattle.kfifo_words.specs.declared.shape.Shape.{Shape}
+use Rattle.kfifo_live.proofs.Types.{Shape, View}
 use Rattle.kfifo_words.specs.Ring.{slot_at}
 use Rattle.kfifo_machine.specs.Program.{advance, scan_index}
 use Rattle.kfifo_machine.specs.declared.place.Found.{Found}
@@ -12,7 +12,6 @@ use Rattle.kfifo_machine.specs.declared.place.Found.TheVariants.{Slot, Nothing}
 use Rattle.kfifo_machine.specs.declared.place.Next.TheVariants.{Goes}
 use Rattle.atomic_table.specs.declared.shared.Seat.{Seat}
 use Rattle.kfifo_live.specs.declared.ring.Ring.{Ring}
-use Rattle.kfifo_live.specs.declared.view.View.{View}
 use Rattle.kfifo_live.specs.Step.{Stands, Onward}
 use Rattle.kfifo_live.specs.Scans.{Scan, Row, after_row}
 use Rattle.kfifo_live.proofs.Whole.{onward_here}

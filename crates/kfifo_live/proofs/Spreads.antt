@@ -2,7 +2,7 @@
 use Rattle.std.proofs.Common.{ℕ, ◌<◌, Option, subst}
 use Rattle.atomic_table.specs.Table.{Me}
 use Rattle.kfifo_machine.proofs.Sound.{sound_threads}
-use Rattle.kfifo_live.specs.declared.view.View.{View}
+use Rattle.kfifo_live.proofs.Types.{View}
 use Rattle.kfifo_live.specs.Schedule.{seen_of, thread_of}
 use Rattle.kfifo_live.specs.Pass.{IsPass}
 use Rattle.kfifo_live.proofs.Passes.{pass_thread}

@@ -9,8 +9,7 @@ use Rattle.std.proofs.lemmas.Bool.{cases_eq, cases_lt}
 use Rattle.std.proofs.lemmas.List.Elements.{All-append, All-from_get_or, All-get_or, All-nil, Contains-append_left, Contains-append_right}
 use Rattle.std.proofs.lemmas.List.Elements.{Contains-get_or, recursion_from_All}
 use Rattle.std.proofs.lemmas.List.Sorted.{All-permutation, Contains-permutation}
-use Rattle.kfifo_words.specs.declared.shape.Shape.{Shape}
-use Rattle.kfifo_model.specs.declared.calls.Call.{Call}
+use Rattle.kfifo_live.proofs.Types.{Call, Event, Opening, Shape}
 use Rattle.kfifo_model.specs.declared.calls.End.{End}
 use Rattle.kfifo_model.specs.declared.calls.Op.{Op}
 use Rattle.kfifo_model.specs.Lists.{EachPair}
@@ -18,13 +17,13 @@ use Rattle.kfifo_model.specs.Histories.{call, no_call, EndsBelow, IsLegal}
 use Rattle.kfifo_model.specs.Matching.{Matches}
 use Rattle.kfifo_model.specs.Measures.{HasDistinctItems, IsDoneEnqueue}
 use Rattle.kfifo_model.specs.Overtaking.{certainly_overtaken}
-use Rattle.kfifo_model.specs.Relaxed.{Wrong, effect}
+use Rattle.kfifo_model.specs.declared.effects.Effect.TheVariants.{Wrong}
+use Rattle.kfifo_model.specs.Relaxed.{effect}
 use Rattle.kfifo_model.specs.Validity.{Answers, EndInRange, EndsFrom, IsHistory, IsInRange, OpInRange}
 use Rattle.kfifo_model.proofs.Matching.{HasPartners, done_within, match_by, matched_distinct, matched_done, matched_legal}
 use Rattle.kfifo_model.proofs.Matching.{matched_overtaken}
 use Rattle.kfifo_model.proofs.Lists.{AllByRecursion-append}
 use Rattle.kfifo_machine.specs.declared.event.Begin.TheVariants.{Tick}
-use Rattle.kfifo_machine.specs.declared.event.Event.{Event}
 use Rattle.kfifo_machine.specs.Machine.{World, opening, run}
 use Rattle.kfifo_machine.specs.Runs.{event, own}
 use Rattle.kfifo_machine.proofs.Calls.{history_is}
@@ -33,7 +32,6 @@ use Rattle.kfifo_machine.proofs.Schedules.{first_made, made_within, own_none, sa
 use Rattle.kfifo_machine.proofs.Sound.{sound_threads}
 use Rattle.kfifo_linear.proofs.Schedule.{few_certainly, has_legal_order}
 use Rattle.kfifo_linear.specs.Order.{order_of}
-use Rattle.kfifo_live.specs.declared.view.Opening.{Opening}
 use Rattle.kfifo_live.specs.Schedule.{ticks, world_after}
 use Rattle.kfifo_live.specs.Promise.{calls_of}
 use Rattle.kfifo_live.specs.Stamps.{HasCalls, IsStamped, Logged, all_logs, passes_of}

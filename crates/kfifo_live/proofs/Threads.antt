@@ -5,7 +5,7 @@ use Rattle.std.specs.Prelude.{IsPermutation}
 use Rattle.std.specs.List.{All, AllByRecursion}
 use Rattle.std.proofs.lemmas.Bool.{cases_eq}
 use Rattle.std.proofs.lemmas.List.Sorted.{All-permutation, IsPermutation-sym}
-use Rattle.kfifo_model.specs.declared.calls.Call.{Call}
+use Rattle.kfifo_live.proofs.Types.{Call}
 use Rattle.kfifo_model.specs.Lists.{EachPair}
 use Rattle.kfifo_live.specs.Stamps.{Logged, all_logs, calls_by}
 use Rattle.kfifo_live.proofs.Stamping.{threads_of}

@@ -4,15 +4,12 @@ use Rattle.std.proofs.Common.{refl, sym, ap, ◌∙◌, subst, inl, inr, arith, 
 use Rattle.std.proofs.lemmas.Bool.{cases_eq}
 use Rattle.std.proofs.lemmas.List.{append-nil}
 use Rattle.atomic_table.specs.Table.{Act, keeps, Valid, homes_after, carried_after}
-use Rattle.kfifo_words.specs.declared.shape.Shape.{Shape}
+use Rattle.kfifo_live.proofs.Types.{Begin, Event, Hand, Opening, Running, Shape}
 use Rattle.kfifo_words.specs.Words.{version_of}
 use Rattle.kfifo_words.specs.Ring.{clock_at}
-use Rattle.kfifo_machine.specs.declared.event.Begin.{Begin}
 use Rattle.kfifo_machine.specs.declared.event.Begin.TheVariants as B
-use Rattle.kfifo_machine.specs.declared.event.Event.{Event}
 use Rattle.kfifo_machine.specs.declared.place.EnqueuePhase.TheVariants as E
 use Rattle.kfifo_machine.specs.declared.place.DequeuePhase.TheVariants as D
-use Rattle.kfifo_machine.specs.declared.place.Running.{Running}
 use Rattle.kfifo_machine.specs.declared.place.Running.TheVariants as R
 use Rattle.kfifo_machine.specs.Program.{access, accessed, advance}
 use Rattle.kfifo_machine.specs.Machine.{World, moved, found, word_at, place_of, place_after, outcome_of, begun, may_begin, step}
@@ -24,8 +21,6 @@ use Rattle.kfifo_machine.proofs.Schedules.{Some-injective, other_place, steps_on
 use Rattle.kfifo_machine.proofs.Sound.{IsSound, sound, going_place, place_is}
 use Rattle.kfifo_machine.proofs.Versions.{one_word}
 use Rattle.kfifo_machine.proofs.Budget.{own_place}
-use Rattle.kfifo_live.specs.declared.view.Opening.{Opening}
-use Rattle.kfifo_live.specs.declared.view.Hand.{Hand}
 use Rattle.kfifo_live.specs.Schedule.{world_after}
 use Rattle.kfifo_live.specs.Hands.{Gifts, Homes, Where, Out, Takes, move, gift, carried, beside, begun_hand, hand_after, slot_of, carrying}
 use Rattle.kfifo_live.specs.Hands.{Carries, BeginsWith, CallFits, HandFits, SlotsFit, AllHome, act_of, own_item, out_at, where_after}

@@ -1,6 +1,7 @@
 -- A queue of owned payloads and its passes, as callers see them, and what a call with a payload does.
 use Rattle.std.specs.Prelude.{Bool, true, false, ◌<◌, ◌≤◌, ◌≡◌, ◌≢◌, ℕ, zero, suc, ◌+◌, ◌-◌, ◌*◌, List, [], ◌∷◌, ◌++◌}
 use Rattle.std.specs.Prelude.{Option, Some, None, get_or, length, map, reverse}
+use Rattle.kfifo_live.specs.declared.payload_opening.TheConstants.{MAX_TOKENS}
 use Rattle.atomic_table.specs.Table.{Me}
 use Rattle.atomic_table.specs.Perched.{Roost}
 use Rattle.atomic_table.specs.Seated.{TableId}
@@ -57,7 +58,7 @@ pub record IsPayPass {T : Type 0} (thread : ℕ) (me : Me (Option T) (View T)) (
   pub pass : IsPass thread me
   pub stacked : (hand_of me.0).at_home ≡ reverse items
   pub some_tokens : 0 < me.0.opened.tokens
-  pub few_tokens : me.0.opened.tokens ≤ 1024
+  pub few_tokens : me.0.opened.tokens ≤ MAX_TOKENS
   pub has_room : me.0.opened.threads * me.0.opened.tokens ≤ room
   pub in_turn : GiftsFit me.0.opened (seen_of me.0) (gifts_of me.0)
 

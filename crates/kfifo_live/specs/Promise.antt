@@ -2,7 +2,7 @@
 use Rattle.std.specs.Prelude.{◌≡◌, ℕ, ◌<◌, List, Some}
 use Rattle.kfifo_model.specs.Lists.{IsIn}
 use Rattle.kfifo_model.specs.declared.calls.Call.{Call}
-use Rattle.kfifo_model.specs.Relaxed.{Adds}
+use Rattle.kfifo_model.specs.declared.effects.Effect.TheVariants.{Adds}
 use Rattle.kfifo_model.specs.Histories.{does, IsLegal}
 use Rattle.kfifo_model.specs.Measures.{IsDoneEnqueue, HasDistinctItems}
 use Rattle.kfifo_model.specs.Overtaking.{overtaken_in, certainly_overtaken, AddsAreDistinct}

@@ -2,6 +2,8 @@
 use Rattle.std.specs.Prelude.{◌≡◌, ℕ, zero, suc, ◌+◌, ◌-◌, ◌*◌, ◌<◌, ◌≤◌, Bool, true, false, List, [], ◌∷◌, Option}
 use Rattle.std.specs.Prelude.{Some, None, take, drop, length, filter, ◌++◌}
 use Rattle.std.proofs.Common.{lit<, lit≤}
+use Rattle.kfifo_model.specs.declared.calls.TheConstants.{MAX_THREADS}
+use Rattle.kfifo_live.specs.declared.recording.TheConstants.{MAX_STAMPED_CALLS}
 use mathlib.Core.Option.{some}
 use lib.ListN.{get_elem?}
 use Rattle.kfifo_words.specs.declared.shape.Shape.{Shape}
@@ -49,7 +51,7 @@ pub record GiftsFit {T : Type 0} (o : Opening) (all : List Event) (gifts : Gifts
 
 -- few enough threads and stamped calls
 abbrev pub IsSmall : Opening → Type 0
-IsSmall o = (o.threads ≤ 64) × (o.calls ≤ 1024)
+IsSmall o = (o.threads ≤ MAX_THREADS) × (o.calls ≤ MAX_STAMPED_CALLS)
 
 -- how many of these events are ticks of the clock
 abbrev pub begins_tick : Option Begin → Bool

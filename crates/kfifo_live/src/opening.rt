@@ -1,5 +1,6 @@
 //! Opening a queue.
 ghost use Rattle.std.specs.Prelude.{◌≡◌, ◌<◌, ◌≤◌, ◌+◌, ◌⊎◌, ◌↔◌, [], IfOk, IsErrOf, length, All};
+ghost use Rattle.kfifo_live.specs.declared.recording.TheConstants.{MAX_STAMPED_CALLS};
 ghost use Rattle.kfifo_linear.specs.Headline.{HasLegalOrder, FewOvertake, FewCertainlyOvertake};
 ghost use Rattle.kfifo_live.specs.Schedule.{IsSmall, opening, stamped_opening, fresh, view_of};
 ghost use Rattle.kfifo_live.specs.Pass.{IsZeroed, queue_of, new_passes, IsPassOf};
@@ -45,8 +46,8 @@ impl Queue {
         threads: u32,
         calls: u32,
     ) -> Result<(Queue, Vec<Pass>), AllocError>
-        requires threads { (0 < threads) × (threads ≤ 64) }
-        requires calls { calls ≤ 1024 }
+        requires threads { (0 < threads) × (threads ≤ MAX_THREADS) }
+        requires calls { calls ≤ MAX_STAMPED_CALLS }
         ensures { IfOk result (λ r. (r.0.opened ≡ stamped_opening shape threads calls)
             × (r.1.items ≡ new_passes r.0 0 threads)) }
     {
@@ -84,7 +85,7 @@ impl Queue {
     pub fn open(alloc: Global, shape: Shape, threads: u32) -> Result<(Queue, Vec<Pass>), OpenFault>
         ensures ok { IfOk result (λ r. (r.0.opened ≡ opening shape threads) × (r.1.items ≡ new_passes r.0 0 threads)) }
         ensures of { IfOk result (λ r. All (IsPassOf r.0) r.1.items) }
-        ensures threads { IsErrOf result ThreadsOutOfRange ↔ ((threads ≡ 0) ⊎ (64 < threads)) }
+        ensures threads { IsErrOf result ThreadsOutOfRange ↔ ((threads ≡ 0) ⊎ (MAX_THREADS < threads)) }
         ensures tokens { ¬ IsErrOf result TokensOutOfRange }
         ensures calls { ¬ IsErrOf result CallsOutOfRange }
         ensures zeroed { IfOk result (λ r. IsZeroed r.0.opened) }

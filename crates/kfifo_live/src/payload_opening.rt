@@ -24,8 +24,8 @@ pub const MAX_TOKENS: u32 = 1_024;
 
 /// The tokens of a thread, the first of them last, with room for so many.
 fn own_tokens(alloc: Global, thread: u32, tokens: u32, room: usize) -> Result<Vec<u32>, AllocError>
-    requires thread { thread < 64 }
-    requires tokens { (tokens ≤ 1024) × (tokens ≤ room) }
+    requires thread { thread < MAX_THREADS }
+    requires tokens { (tokens ≤ MAX_TOKENS) × (tokens ≤ room) }
     ensures { IfOk result (λ v. (reverse v.items ≡ count_up (thread * tokens + 1) tokens) × (room ≤ vec_capacity v)) }
 {
     let mut at_home = Vec::with_capacity(alloc, room)?;
@@ -47,7 +47,7 @@ fn deal_tokens<T: Drop>(
     pooled: u32,
 ) -> Result<(Vec<PayPass<T>>, Vec<PoolWord<T>>), AllocError>
     requires table { (seat.table_id ≡ shared.now.table_id) × (0 < shared.now.table_id.words) }
-    requires few { IsSmall seat.me.0.opened × (0 < tokens) × (tokens ≤ 1024) }
+    requires few { IsSmall seat.me.0.opened × (0 < tokens) × (tokens ≤ MAX_TOKENS) }
     requires pooled { (pooled ≡ 0) ⊎ (pooled ≡ tokens) }
     requires seat { (seat.me.1 ≡ []) × (seat.me.0
         ≡ view_of seat.me.0.opened (fresh seat.me.0.opened.tokens 0 threads)) }
@@ -84,8 +84,8 @@ impl<T: Drop> PayQueue<T> {
         tokens: u32,
         pooled: u32,
     ) -> Result<(PayQueue<T>, Vec<PayPass<T>>), AllocError>
-        requires threads { (0 < threads) × (threads ≤ 64) }
-        requires tokens { (0 < tokens) × (tokens ≤ 1024) }
+        requires threads { (0 < threads) × (threads ≤ MAX_THREADS) }
+        requires tokens { (0 < tokens) × (tokens ≤ MAX_TOKENS) }
         requires pooled { (pooled ≡ 0) ⊎ (pooled ≡ tokens) }
         ensures { IfOk result (λ r. (r.0.opened ≡ pay_opening shape threads tokens)
             × (r.1.items ≡ new_pay_passes r.0 0 threads)) }
@@ -123,9 +123,9 @@ impl<T: Drop> PayQueue<T> {
         ensures ok { IfOk result (λ r. (r.0.opened ≡ pay_opening shape threads tokens)
             × (r.1.items ≡ new_pay_passes r.0 0 threads)) }
         ensures of { IfOk result (λ r. All (λ p. IsPassOf r.0 p.pass) r.1.items) }
-        ensures threads { IsErrOf result ThreadsOutOfRange ↔ ((threads ≡ 0) ⊎ (64 < threads)) }
+        ensures threads { IsErrOf result ThreadsOutOfRange ↔ ((threads ≡ 0) ⊎ (MAX_THREADS < threads)) }
         ensures tokens { IsErrOf result TokensOutOfRange
-            ↔ ((1 ≤ threads) × (threads ≤ 64) × ((tokens ≡ 0) ⊎ (1024 < tokens))) }
+            ↔ ((1 ≤ threads) × (threads ≤ MAX_THREADS) × ((tokens ≡ 0) ⊎ (MAX_TOKENS < tokens))) }
         ensures calls { ¬ IsErrOf result CallsOutOfRange }
         ensures zeroed { IfOk result (λ r. IsZeroed r.0.opened) }
     {
@@ -157,9 +157,9 @@ impl<T: Drop> PayQueue<T> {
         ensures ok { IfOk result (λ r. (r.0.opened ≡ pay_opening shape threads tokens)
             × (r.1.items ≡ new_pay_passes r.0 0 threads)) }
         ensures of { IfOk result (λ r. All (λ p. IsPassOf r.0 p.pass) r.1.items) }
-        ensures threads { IsErrOf result ThreadsOutOfRange ↔ ((threads ≡ 0) ⊎ (64 < threads)) }
+        ensures threads { IsErrOf result ThreadsOutOfRange ↔ ((threads ≡ 0) ⊎ (MAX_THREADS < threads)) }
         ensures tokens { IsErrOf result TokensOutOfRange
-            ↔ ((1 ≤ threads) × (threads ≤ 64) × ((tokens ≡ 0) ⊎ (1024 < tokens))) }
+            ↔ ((1 ≤ threads) × (threads ≤ MAX_THREADS) × ((tokens ≡ 0) ⊎ (MAX_TOKENS < tokens))) }
         ensures calls { ¬ IsErrOf result CallsOutOfRange }
         ensures zeroed { IfOk result (λ r. IsZeroed r.0.opened) }
     {
@@ -177,9 +177,9 @@ impl<T: Drop> PayQueue<T> {
         ensures ok { IfOk result (λ r. (r.0.opened ≡ pay_opening shape threads tokens)
             × (r.1.items ≡ new_pay_passes r.0 0 threads)) }
         ensures of { IfOk result (λ r. All (λ p. IsPassOf r.0 p.pass) r.1.items) }
-        ensures threads { IsErrOf result ThreadsOutOfRange ↔ ((threads ≡ 0) ⊎ (64 < threads)) }
+        ensures threads { IsErrOf result ThreadsOutOfRange ↔ ((threads ≡ 0) ⊎ (MAX_THREADS < threads)) }
         ensures tokens { IsErrOf result TokensOutOfRange
-            ↔ ((1 ≤ threads) × (threads ≤ 64) × ((tokens ≡ 0) ⊎ (1024 < tokens))) }
+            ↔ ((1 ≤ threads) × (threads ≤ MAX_THREADS) × ((tokens ≡ 0) ⊎ (MAX_TOKENS < tokens))) }
         ensures calls { ¬ IsErrOf result CallsOutOfRange }
         ensures zeroed { IfOk result (λ r. IsZeroed r.0.opened) }
     {

@@ -1,5 +1,7 @@
 //! A running queue and its passes.
 ghost use Rattle.std.specs.Prelude.{◌≡◌, ◌<◌, ◌≤◌, ◌+◌, ◌*◌, ◌^◌};
+ghost use Rattle.kfifo_live.specs.declared.recording.TheConstants.{MAX_STAMPED_CALLS};
+ghost use Rattle.kfifo_model.specs.declared.calls.TheConstants.{MAX_THREADS};
 ghost use Rattle.kfifo_machine.specs.Laws.{IsRefusal};
 ghost use Rattle.kfifo_machine.specs.declared.event.Begin.TheVariants.{Enqueue, Dequeue};
 ghost use Rattle.kfifo_live.specs.Schedule.{stamped_opening};
@@ -36,7 +38,7 @@ impl Model for Queue {
     ghost invariant = { λ q. (q.table.shared.key ≡ stamped_opening q.shape q.threads q.calls)
         × (q.table.shared.table_id.words ≡ 2 + q.shape.n * q.shape.k) × (q.table.shared.table_id.slots ≡ 0)
         × (0 < q.threads)
-        × (q.threads ≤ 64) × (q.calls ≤ 1024) };
+        × (q.threads ≤ MAX_THREADS) × (q.calls ≤ MAX_STAMPED_CALLS) };
 }
 
 /// What a thread makes its calls with. It may go to another thread between two calls.

@@ -18,12 +18,12 @@ use kfifo_words::Shape;
 use std::alloc::{AllocError, Global};
 
 /// The greatest number of stamped calls of a pass.
-pub const MAX_STAMPED_CALLS: u32 = 1024;
+pub const MAX_STAMPED_CALLS: u32 = 1_024;
 
 /// Passes with room for so many calls in the log of each.
 fn add_logs(alloc: Global, queue: &Queue, passes: Vec<Pass>) -> Result<Vec<StampPass>, AllocError>
     requires passes { passes.items ≡ new_passes queue.now 0 queue.now.opened.threads }
-    requires few { queue.now.opened.threads ≤ 64 }
+    requires few { queue.now.opened.threads ≤ MAX_THREADS }
     ensures { IfOk result (λ ps. ps.items ≡ new_logs passes.items) }
 {
     let mut stamped = Vec::with_capacity(alloc, passes.len())?;
@@ -53,9 +53,9 @@ impl StampQueue {
         ensures ok { IfOk result (λ r. (r.0.opened ≡ stamped_opening shape threads calls)
             × (r.1.items ≡ new_logs (new_passes r.0 0 threads))) }
         ensures of { IfOk result (λ r. All (λ p. IsPassOf r.0 p.pass) r.1.items) }
-        ensures threads { IsErrOf result ThreadsOutOfRange ↔ ((threads ≡ 0) ⊎ (64 < threads)) }
+        ensures threads { IsErrOf result ThreadsOutOfRange ↔ ((threads ≡ 0) ⊎ (MAX_THREADS < threads)) }
         ensures calls { IsErrOf result CallsOutOfRange
-            ↔ ((0 < threads) × (threads ≤ 64) × ((calls ≡ 0) ⊎ (1024 < calls))) }
+            ↔ ((0 < threads) × (threads ≤ MAX_THREADS) × ((calls ≡ 0) ⊎ (MAX_STAMPED_CALLS < calls))) }
         ensures tokens { ¬ IsErrOf result TokensOutOfRange }
         ensures zeroed { IfOk result (λ r. IsZeroed r.0.opened) }
     {

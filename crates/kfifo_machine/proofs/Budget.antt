@@ -5,16 +5,11 @@ use Rattle.std.specs.Prelude.{◌==◌}
 use Rattle.std.proofs.lemmas.Bool.{eqb-true}
 use Rattle.std.proofs.lemmas.Bool.Decides.{nat_tests}
 use Rattle.std.proofs.lemmas.Grind.{get_or-set_at}
-use Rattle.kfifo_words.specs.declared.shape.Shape.{Shape}
-use Rattle.kfifo_machine.specs.declared.event.Begin.{Begin}
+use Rattle.kfifo_machine.proofs.Types.{Begin, Event, Next, Outcome, Running, Shape}
 use Rattle.kfifo_machine.specs.declared.event.Begin.TheVariants as B
-use Rattle.kfifo_machine.specs.declared.event.Event.{Event}
-use Rattle.kfifo_machine.specs.declared.event.Outcome.{Outcome}
 use Rattle.kfifo_machine.specs.declared.place.EnqueuePhase.TheVariants as E
 use Rattle.kfifo_machine.specs.declared.place.DequeuePhase.TheVariants as D
-use Rattle.kfifo_machine.specs.declared.place.Running.{Running}
 use Rattle.kfifo_machine.specs.declared.place.Running.TheVariants as R
-use Rattle.kfifo_machine.specs.declared.place.Next.{Next}
 use Rattle.kfifo_machine.specs.declared.place.Next.TheVariants.{Goes, Answers}
 use Rattle.kfifo_machine.specs.Program.{advance}
 use Rattle.kfifo_machine.specs.Machine.{World, opening, place_of, place_after, moved, ticked, found, may_begin, step, run}

@@ -5,22 +5,16 @@ use Rattle.std.specs.Prelude.{nat_lt}
 use Rattle.std.proofs.Math.Path.{fun_ext}
 use Rattle.std.proofs.lemmas.Bool.{cases_eq, cases_Bool}
 use Rattle.std.proofs.lemmas.Bool.Decides.{nat_tests}
-use Rattle.kfifo_words.specs.declared.shape.Shape.{Shape}
+use Rattle.kfifo_machine.proofs.Types.{Access, Begin, Event, Next, Outcome, Running, Shape}
 use Rattle.kfifo_words.specs.Words.{head_of, tail_of, value_of}
 use Rattle.kfifo_words.specs.Ring.{clock_at, distance}
 use Rattle.kfifo_model.specs.declared.calls.Answer.TheVariants as A
-use Rattle.kfifo_machine.specs.declared.event.Begin.{Begin}
 use Rattle.kfifo_machine.specs.declared.event.Begin.TheVariants as B
-use Rattle.kfifo_machine.specs.declared.event.Event.{Event}
-use Rattle.kfifo_machine.specs.declared.event.Outcome.{Outcome}
 use Rattle.kfifo_machine.specs.declared.event.Outcome.TheVariants.{Went, Ended}
-use Rattle.kfifo_machine.specs.declared.place.Running.{Running}
 use Rattle.kfifo_machine.specs.declared.place.Running.TheVariants as R
 use Rattle.kfifo_machine.specs.declared.place.EnqueuePhase.TheVariants as E
 use Rattle.kfifo_machine.specs.declared.place.DequeuePhase.TheVariants as D
-use Rattle.kfifo_machine.specs.declared.place.Access.{Access}
 use Rattle.kfifo_machine.specs.declared.place.Access.TheVariants.{Load, Exchange}
-use Rattle.kfifo_machine.specs.declared.place.Next.{Next}
 use Rattle.kfifo_machine.specs.declared.place.Next.TheVariants.{Goes, Answers}
 use Rattle.kfifo_machine.specs.Program.{access, accessed, advance}
 use Rattle.kfifo_machine.specs.Machine.{World, opening, word_at, place_of, place_after, outcome_of, moved, ticked, found, begun, may_begin}

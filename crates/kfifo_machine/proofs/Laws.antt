@@ -1,7 +1,6 @@
 -- The laws of every schedule that remain: as it goes on no word falls, and others leave a thread where it is.
 use Rattle.std.proofs.Common.{◌≡◌, ℕ, ◌≤◌, List, ◌++◌, Some, sym, ◌∙◌, arith}
-use Rattle.kfifo_words.specs.declared.shape.Shape.{Shape}
-use Rattle.kfifo_machine.specs.declared.event.Event.{Event}
+use Rattle.kfifo_machine.proofs.Types.{Event, Shape}
 use Rattle.kfifo_machine.specs.Machine.{World, opening, word_at, run, after}
 use Rattle.kfifo_machine.specs.Laws.{VersionsRise, NoneReturns, OthersLeave}
 use Rattle.kfifo_machine.proofs.Schedules.{run_on, same_place}

@@ -4,18 +4,12 @@ use Rattle.std.proofs.Common.{sym, ap, ◌∙◌, subst, inl, inr, arith, length
 use Rattle.std.proofs.lemmas.Bool.{cases_eq, cases_lt}
 use Rattle.std.proofs.lemmas.Grind.{get_or-set_at}
 use Rattle.std.proofs.lemmas.List.{get_or-set_other, length-set}
-use Rattle.kfifo_words.specs.declared.shape.Shape.{Shape}
-use Rattle.kfifo_model.specs.declared.calls.Answer.{Answer}
+use Rattle.kfifo_machine.proofs.Types.{Answer, Begin, Event, NotEnabled, Outcome, Running, Shape}
 use Rattle.kfifo_model.specs.declared.calls.Op.TheVariants as O
 use Rattle.kfifo_model.specs.declared.calls.Call.{Call}
 use Rattle.kfifo_model.specs.Histories.{call, no_call}
-use Rattle.kfifo_machine.specs.declared.event.Begin.{Begin}
 use Rattle.kfifo_machine.specs.declared.event.Begin.TheVariants as B
-use Rattle.kfifo_machine.specs.declared.event.Event.{Event}
-use Rattle.kfifo_machine.specs.declared.event.Outcome.{Outcome}
 use Rattle.kfifo_machine.specs.declared.event.Outcome.TheVariants.{Went, Ended}
-use Rattle.kfifo_machine.specs.declared.event.NotEnabled.{NotEnabled}
-use Rattle.kfifo_machine.specs.declared.place.Running.{Running}
 use Rattle.kfifo_machine.specs.Program.{advance}
 use Rattle.kfifo_machine.specs.Machine.{World, opening, place_of, place_after, found, step, world_of, run, after}
 use Rattle.kfifo_machine.specs.Runs.{event, own, going, AllGoOn, CompleteExecution}

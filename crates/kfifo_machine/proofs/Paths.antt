@@ -3,14 +3,8 @@ use Rattle.std.proofs.Common.{◌≡◌, ◌≢◌, ℕ, ◌+◌, ◌≤◌, Lis
 use Rattle.std.proofs.Common.{◌∙◌, subst, inl, inr, arith, cond, eq-eqb, eqb-true, length-append}
 use Rattle.std.specs.Prelude.{◌==◌}
 use Rattle.std.proofs.lemmas.List.{append_assoc}
-use Rattle.kfifo_words.specs.declared.shape.Shape.{Shape}
-use Rattle.kfifo_model.specs.declared.calls.Answer.{Answer}
-use Rattle.kfifo_machine.specs.declared.event.Begin.{Begin}
-use Rattle.kfifo_machine.specs.declared.event.Event.{Event}
-use Rattle.kfifo_machine.specs.declared.event.Outcome.{Outcome}
+use Rattle.kfifo_machine.proofs.Types.{Answer, Begin, Event, Next, Outcome, Running, Shape}
 use Rattle.kfifo_machine.specs.declared.event.Outcome.TheVariants.{Went, Ended}
-use Rattle.kfifo_machine.specs.declared.place.Running.{Running}
-use Rattle.kfifo_machine.specs.declared.place.Next.{Next}
 use Rattle.kfifo_machine.specs.declared.place.Next.TheVariants.{Goes, Answers}
 use Rattle.kfifo_machine.specs.Program.{advance}
 use Rattle.kfifo_machine.specs.Machine.{World, opening, place_of, place_after, outcome_of, found, begun, may_begin, step, world_of, run}

@@ -8,22 +8,17 @@ use Rattle.std.proofs.lemmas.Grind.{get_or-set_at}
 use Rattle.std.specs.List.{range_with_len}
 use Rattle.std.proofs.lemmas.Simd.{splat_is_map}
 use Rattle.std.proofs.lemmas.List.FromFn.{length-range_with_len}
-use Rattle.kfifo_machine.specs.declared.place.Access.{Access}
+use Rattle.kfifo_machine.proofs.Types.{Access, DequeuePhase, EnqueuePhase, Next, Running, Shape}
 use Rattle.kfifo_machine.specs.declared.place.Access.TheVariants.{Load, Exchange}
 use Rattle.std.proofs.lemmas.Bool.Decides.{nat_tests}
-use Rattle.kfifo_words.specs.declared.shape.Shape.{Shape}
 use Rattle.kfifo_words.specs.Words.{slot_word, value_of, version_of, ends_word, head_of, tail_of}
 use Rattle.kfifo_words.specs.Ring.{next_segment, clock_at}
 use Rattle.kfifo_machine.specs.Program.{access, accessed, advance, scan_index, filled_with, emptied}
 use Rattle.kfifo_machine.specs.Machine.{World, opening, moved, found, word_at, words_after, place_after, outcome_of}
 use Rattle.kfifo_machine.specs.Places.{IsSlotIndex, IsEnds, IsPlace, IsSlotWord, IsFoundBy, IsState}
-use Rattle.kfifo_machine.specs.declared.place.EnqueuePhase.{EnqueuePhase}
 use Rattle.kfifo_machine.specs.declared.place.EnqueuePhase.TheVariants as E
-use Rattle.kfifo_machine.specs.declared.place.DequeuePhase.{DequeuePhase}
 use Rattle.kfifo_machine.specs.declared.place.DequeuePhase.TheVariants as D
-use Rattle.kfifo_machine.specs.declared.place.Running.{Running}
 use Rattle.kfifo_machine.specs.declared.place.Running.TheVariants as R
-use Rattle.kfifo_machine.specs.declared.place.Next.{Next}
 use Rattle.kfifo_machine.specs.declared.place.Next.TheVariants.{Goes, Answers}
 
 abbrev pub NextIsPlace : Shape → Next → Type 0

@@ -3,6 +3,7 @@
 use Rattle.std.specs.Prelude.{◌≡◌, ℕ, ◌+◌, ◌*◌, ◌==◌, ◌&&◌, nat_lt, if◌then◌else◌, Bool, true, List, [], ◌∷◌, length}
 use Rattle.std.specs.Prelude.{get_or, set, replicate, Option, Some, None, Result, Ok, Err, IsTrue, is_some, take}
 use Rattle.std.specs.Prelude.{slice_get}
+use Rattle.kfifo_words.specs.declared.word.TheConstants.{VALUES}
 use Rattle.kfifo_words.specs.declared.shape.Shape.{Shape}
 use Rattle.kfifo_words.specs.Ring.{clock_at}
 use Rattle.kfifo_machine.specs.declared.place.EnqueuePhase.TheVariants as E
@@ -82,7 +83,7 @@ begun B.Tick = None
 -- a call has its start below k, at least one round, and an item in range
 abbrev pub may_begin : Shape → Begin → Bool
 may_begin shape (B.Enqueue item start turns) =
-    nat_lt start shape.k && nat_lt 0 turns && nat_lt 0 item && nat_lt item 16777216
+    nat_lt start shape.k && nat_lt 0 turns && nat_lt 0 item && nat_lt item VALUES
 may_begin shape (B.Dequeue start turns) = nat_lt start shape.k && nat_lt 0 turns
 may_begin shape B.Tick = true
 

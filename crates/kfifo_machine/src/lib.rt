@@ -12,7 +12,8 @@ mod steps;
 
 pub use event::{Begin, Event, NotEnabled, Outcome};
 pub use fault::{RunFault, StartFault};
+pub use kfifo_model::MAX_THREADS;
 pub use log::history;
 pub use place::{Access, DequeuePhase, EnqueuePhase, Found, Next, Running};
 pub use schedule::run;
-pub use state::{MAX_THREADS, State, start, step};
+pub use state::{State, start, step};

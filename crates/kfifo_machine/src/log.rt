@@ -1,5 +1,6 @@
 //! The calls of a schedule.
 ghost use Rattle.std.specs.Prelude.{◌≡◌, ℕ, ◌<◌, ◌⊎◌, ◌↔◌, length, get_or, None, IfOk, Err};
+ghost use Rattle.kfifo_model.specs.declared.calls.TheConstants.{MAX_THREADS};
 ghost use Rattle.kfifo_model.specs.declared.calls.Answer.{Answer};
 ghost use Rattle.kfifo_machine.specs.Machine.{IsSchedule, IsFirstRefused};
 ghost use Rattle.kfifo_machine.specs.Floor.{Floor};
@@ -105,7 +106,7 @@ fn log_events(
 ) -> Result<History, RunFault>
     ensures history { IfOk result (λ h. IsSchedule shape threads events.now
         × (h ≡ history_of shape threads events.now)) }
-    ensures threads { (result ≡ Err RunFault.ThreadsOutOfRange) ↔ ((threads ≡ 0) ⊎ (64 < threads)) }
+    ensures threads { (result ≡ Err RunFault.ThreadsOutOfRange) ↔ ((threads ≡ 0) ⊎ (MAX_THREADS < threads)) }
     ensures refused { (place : ℕ) → result ≡ Err (RunFault.NotASchedule place)
         → IsFirstRefused shape threads events.now place }
 {
@@ -141,7 +142,7 @@ pub fn history(
 ) -> Result<History, RunFault>
     ensures history { IfOk result (λ h. IsSchedule shape threads events.now
         × (h ≡ history_of shape threads events.now)) }
-    ensures threads { (result ≡ Err RunFault.ThreadsOutOfRange) ↔ ((threads ≡ 0) ⊎ (64 < threads)) }
+    ensures threads { (result ≡ Err RunFault.ThreadsOutOfRange) ↔ ((threads ≡ 0) ⊎ (MAX_THREADS < threads)) }
     ensures refused { (place : ℕ) → result ≡ Err (RunFault.NotASchedule place)
         → IsFirstRefused shape threads events.now place }
     ensures floor { Floor shape threads }

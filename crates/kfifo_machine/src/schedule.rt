@@ -1,5 +1,6 @@
 //! Whole schedules.
 ghost use Rattle.std.specs.Prelude.{◌≡◌, ℕ, ◌<◌, ◌⊎◌, ◌↔◌, Some, IfOk, IfErr, Err};
+ghost use Rattle.kfifo_model.specs.declared.calls.TheConstants.{MAX_THREADS};
 ghost use Rattle.kfifo_machine.specs.Machine.{after, IsFirstRefused};
 ghost use Rattle.kfifo_machine.specs.Causes.{FullHasCause, WornHasCause};
 ghost use Rattle.kfifo_machine.specs.Rounds.{BusyHasCause, BusyIsDisturbed};
@@ -19,7 +20,7 @@ fn run_events(
     events: &[Event],
 ) -> Result<State, RunFault>
     ensures state { IfOk result (λ s. (s.shape ≡ shape) × (after shape threads events.now ≡ Some s.world)) }
-    ensures threads { (result ≡ Err RunFault.ThreadsOutOfRange) ↔ ((threads ≡ 0) ⊎ (64 < threads)) }
+    ensures threads { (result ≡ Err RunFault.ThreadsOutOfRange) ↔ ((threads ≡ 0) ⊎ (MAX_THREADS < threads)) }
     ensures refused { (place : ℕ) → result ≡ Err (RunFault.NotASchedule place)
         → IsFirstRefused shape threads events.now place }
 {
@@ -46,7 +47,7 @@ fn run_events(
 /// returns.
 pub fn run(alloc: Global, shape: Shape, threads: u32, events: &[Event]) -> Result<State, RunFault>
     ensures state { IfOk result (λ s. (s.shape ≡ shape) × (after shape threads events.now ≡ Some s.world)) }
-    ensures threads { (result ≡ Err RunFault.ThreadsOutOfRange) ↔ ((threads ≡ 0) ⊎ (64 < threads)) }
+    ensures threads { (result ≡ Err RunFault.ThreadsOutOfRange) ↔ ((threads ≡ 0) ⊎ (MAX_THREADS < threads)) }
     ensures refused { (place : ℕ) → result ≡ Err (RunFault.NotASchedule place)
         → IsFirstRefused shape threads events.now place }
     ensures no_wrap { NoWrap shape threads }

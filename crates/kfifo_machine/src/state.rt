@@ -12,13 +12,10 @@ ghost use Rattle.kfifo_machine.specs.Laws.{OthersStay, NoneFalls, OneWord};
 use crate::fault::StartFault;
 use crate::place::idle_places;
 use crate::{Access, Begin, DequeuePhase, EnqueuePhase, Event, Next, NotEnabled, Outcome, Running};
-use kfifo_model::MAX_ITEM;
+use kfifo_model::{MAX_ITEM, MAX_THREADS};
 use kfifo_words::{Shape, Word};
 use std::alloc::Global;
 use std::marker::Model;
-
-/// The most threads of a machine.
-pub const MAX_THREADS: u32 = 64;
 
 /// The words of the table, and each thread's place in its call.
 #[derive(Drop)]
@@ -48,8 +45,8 @@ impl Model for State {
 /// Refuses: ThreadsOutOfRange where the number of threads is not 1 to 64; Memory where an allocation failed.
 pub fn start(alloc: Global, shape: Shape, threads: u32) -> Result<State, StartFault>
     ensures opening { IfOk result (λ s. (s.shape ≡ shape) × (s.world ≡ opening shape threads)) }
-    ensures threads { (result ≡ Err StartFault.ThreadsOutOfRange) ↔ ((threads ≡ 0) ⊎ (64 < threads)) }
-    ensures few { IfOk result (λ _. (0 < threads) × (threads ≤ 64)) }
+    ensures threads { (result ≡ Err StartFault.ThreadsOutOfRange) ↔ ((threads ≡ 0) ⊎ (MAX_THREADS < threads)) }
+    ensures few { IfOk result (λ _. (0 < threads) × (threads ≤ MAX_THREADS)) }
 {
     if threads == 0 || threads > MAX_THREADS {
         return Err(StartFault::ThreadsOutOfRange);

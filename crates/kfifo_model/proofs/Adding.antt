@@ -12,7 +12,7 @@ use Rattle.std.proofs.lemmas.List.Elements.{All-nil, All-cons, All-append, Conta
 use Rattle.std.proofs.lemmas.List.Elements.{Contains-append_cases}
 use Rattle.std.proofs.lemmas.List.Sorted.{Contains-permutation, IsPermutation-sym}
 use Rattle.std.specs.List.Sorted.{IsPermutation}
-use Rattle.kfifo_model.specs.declared.calls.Call.{Call}
+use Rattle.kfifo_model.proofs.Types.{Call}
 use Rattle.kfifo_model.specs.Reach.{Reach}
 use Rattle.kfifo_model.proofs.Resting.{opening, opening_sound, opening_complete, none_counted}
 use Rattle.kfifo_model.specs.Searching.{HasOrder, Extends, IsNoNext, IsFurther, IsAdded, IsLevel, IsNextLevel, done_count}

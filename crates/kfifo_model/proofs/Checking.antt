@@ -5,9 +5,9 @@ use Rattle.std.specs.List.{remove}
 use Rattle.std.proofs.lemmas.Bool.{cases_lt, cond-false, and_parts, ltb-true, false_from_ne_true}
 use Rattle.std.proofs.lemmas.Option.{get_or_from_slice_get}
 use Rattle.std.proofs.lemmas.List.{get_or_past, get_or_default, map_more, append-nil}
-use Rattle.kfifo_model.specs.declared.calls.Call.{Call}
-use Rattle.kfifo_model.specs.declared.calls.End.{End}
-use Rattle.kfifo_model.specs.Relaxed.{Effect, Takes, IsRun, next}
+use Rattle.kfifo_model.proofs.Types.{Call, Effect, End}
+use Rattle.kfifo_model.specs.declared.effects.Effect.TheVariants.{Takes}
+use Rattle.kfifo_model.specs.Relaxed.{IsRun, next}
 use Rattle.kfifo_model.specs.declared.orders.Tried.{Tried}
 use Rattle.kfifo_model.specs.declared.orders.Tried.TheVariants.{NotLegal, Went, Took}
 use Rattle.kfifo_model.specs.Lists.{place}

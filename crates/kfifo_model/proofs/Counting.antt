@@ -10,7 +10,7 @@ use Rattle.std.proofs.lemmas.List.Sums.{sum_by-append, sum_by-cons, count_by-le-
 use Rattle.std.proofs.lemmas.Grind.{flat_map-append}
 use Rattle.std.proofs.lemmas.Bool.Decides.{nat_tests}
 use Rattle.std.proofs.lemmas.List.{append-nil, take_more, length-append, take-append-drop}
-use Rattle.kfifo_model.specs.declared.index.Rival.{Rival}
+use Rattle.kfifo_model.proofs.Types.{Rival}
 use Rattle.kfifo_model.specs.Index.{is_beaten, ends_before}
 use Rattle.kfifo_model.specs.Blocks.{IsSpan}
 

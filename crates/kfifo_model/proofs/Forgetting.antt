@@ -3,7 +3,9 @@ use Rattle.std.proofs.Common.{ℕ, zero, suc, ◌≡◌, ◌<◌, ◌⊎◌, Lis
 use Rattle.std.proofs.Common.{Some, slice_get}
 use Rattle.std.specs.List.{remove}
 use Rattle.kfifo_model.specs.Lists.{IsIn}
-use Rattle.kfifo_model.specs.Relaxed.{Effect, Adds, Takes, FindsNone, Refused, Wrong, Leaves, IsRun}
+use Rattle.kfifo_model.proofs.Types.{Effect}
+use Rattle.kfifo_model.specs.declared.effects.Effect.TheVariants.{Adds, Takes, FindsNone, Refused, Wrong}
+use Rattle.kfifo_model.specs.Relaxed.{Leaves, IsRun}
 use Rattle.kfifo_model.specs.Searching.{IsIdle}
 
 -- the effect is among the effects

@@ -6,83 +6,81 @@ use Rattle.std.proofs.lemmas.Bool.{cases_lt, cases_eq, ne_eqb, false≢true}
 use Rattle.std.proofs.lemmas.Bool.{and_parts, eqb-true, eq-eqb, false_from_ne_true}
 use Rattle.std.proofs.lemmas.List.Sums.{sum_by-cons, sum_by-append}
 use Rattle.std.specs.List.{filter, range_with_len, count_by}
-use Rattle.kfifo_model.specs.declared.index.Rival.{Rival}
+use Rattle.kfifo_model.proofs.Types.{Call, Effect, End, Op, Rival}
 use Rattle.kfifo_model.specs.Overtaking.{some, adds, takes, ends_below, precedes, overtakes_at, overtakes, numbers_of, certainly_overtaken}
 use Rattle.kfifo_model.proofs.Ranges.{in_range, some_at, some_none, some_below}
 use Rattle.kfifo_model.proofs.Measuring.{below, listed, count_more, count_same}
 use Rattle.std.specs.Ordering.{nat_cmp, is_eq}
 use Rattle.std.specs.BTreeMap.{is_at}
 use Rattle.std.specs.declared.cmp.Ordering.TheVariants.{Less, Equal, Greater}
-use Rattle.kfifo_model.specs.declared.calls.Call.{Call}
-use Rattle.kfifo_model.specs.declared.index.Kind.{Kind}
-use Rattle.kfifo_model.specs.declared.index.Kind.TheVariants.{Puts, Gots}
-use Rattle.kfifo_model.specs.Relaxed.{Effect, Adds, Takes, FindsNone, Refused, Wrong, effect}
+use Rattle.kfifo_model.specs.declared.effects.Side.{Side}
+use Rattle.kfifo_model.specs.declared.effects.Side.TheVariants.{In, Out}
+use Rattle.kfifo_model.specs.declared.effects.Effect.TheVariants.{Adds, Takes, FindsNone, Refused, Wrong}
+use Rattle.kfifo_model.specs.Relaxed.{effect}
 use Rattle.kfifo_model.specs.Histories.{call, does, effect_at}
-use Rattle.kfifo_model.specs.Index.{kind_effect, HasTwo, IsIndex, last_of, rival_of, rivals_below, rival_at, ends_before, is_beaten}
+use Rattle.kfifo_model.specs.Index.{side_effect, HasTwo, IsIndex, last_of, rival_of, rivals_below, rival_at, ends_before, is_beaten}
 use Rattle.kfifo_model.specs.Index.{done_item_of, done_item, measure_of, measured}
 use Rattle.kfifo_model.specs.Measures.{HasDistinctItems, EndsDone, IsDoneEnqueue}
 use Rattle.kfifo_model.specs.declared.index.Overtaken.{Overtaken}
-use Rattle.kfifo_model.specs.declared.calls.Op.{Op}
 use Rattle.kfifo_model.specs.declared.calls.Op.TheVariants.{Enqueue, Dequeue}
 use Rattle.kfifo_model.specs.declared.calls.Answer.{Answer}
 use Rattle.kfifo_model.specs.declared.calls.Answer.TheVariants.{Done, Full, Got, Empty, Busy, Worn}
-use Rattle.kfifo_model.specs.declared.calls.End.{End}
 use Rattle.std.proofs.lemmas.List.{append-nil}
 
-abbrev Finds : List Call → Kind → ℕ → ℕ → Option ℕ → Type 0
-Finds h kind n x o = MatchOption o ((j : ℕ) → j < n → does h j ≡ kind_effect kind x → ⊥)
-    (λ f. (j : ℕ) × (j < n) × (does h j ≡ kind_effect kind x) × ((call h j).first ≡ f))
+abbrev Finds : List Call → Side → ℕ → ℕ → Option ℕ → Type 0
+Finds h side n x o = MatchOption o ((j : ℕ) → j < n → does h j ≡ side_effect side x → ⊥)
+    (λ f. (j : ℕ) × (j < n) × (does h j ≡ side_effect side x) × ((call h j).first ≡ f))
 
 at_below : (n j : ℕ) → j < n + 1 → (j < n) ⊎ (j ≡ n)
 at_below n j lt = elim (cases_lt j n) [ inl below ↦ inl below | inr le ↦ inr (omega arith) ]
 
-finds_skip : (h : List Call) (kind : Kind) (n x : ℕ) (o : Option ℕ) → Finds h kind n x o → (does h n ≡ kind_effect kind x → ⊥)
-    → Finds h kind (n + 1) x o
-finds_skip h kind n x None f g = λ j lt e. elim (at_below n j lt) [ inl below ↦ f j below e | inr s ↦ g (ap (does h) (sym s) ∙ e) ]
-finds_skip h kind n x (Some t) f g = (f.0, (let lt : f.0 < n = f.1 in omega arith), f.2, f.3)
+finds_skip : (h : List Call) (side : Side) (n x : ℕ) (o : Option ℕ) → Finds h side n x o → (does h n ≡ side_effect side x → ⊥)
+    → Finds h side (n + 1) x o
+finds_skip h side n x None f g = λ j lt e. elim (at_below n j lt) [ inl below ↦ f j below e | inr s ↦ g (ap (does h) (sym s) ∙ e) ]
+finds_skip h side n x (Some t) f g = (f.0, (let lt : f.0 < n = f.1 in omega arith), f.2, f.3)
 
-one_effect : (kind : Kind) (x y : ℕ) → kind_effect kind x ≡ kind_effect kind y → x ≡ y
-one_effect Puts x y e = cc
-one_effect Gots x y e = cc
+one_effect : (side : Side) (x y : ℕ) → side_effect side x ≡ side_effect side y → x ≡ y
+one_effect In x y e = cc
+one_effect Out x y e = cc
 
-once_more : (h : List Call) (kind : Kind) (n : ℕ)
-    → ((x i j : ℕ) → i < n → j < n → does h i ≡ kind_effect kind x → does h j ≡ kind_effect kind x → i ≡ j)
-    → ((x j : ℕ) → j < n → does h j ≡ kind_effect kind x → does h n ≡ kind_effect kind x → ⊥) → (x i j : ℕ) → i < n + 1 → j < n + 1
-    → does h i ≡ kind_effect kind x → does h j ≡ kind_effect kind x → i ≡ j
-once_more h kind n f g x i j li lj a b =
+once_more : (h : List Call) (side : Side) (n : ℕ)
+    → ((x i j : ℕ) → i < n → j < n → does h i ≡ side_effect side x → does h j ≡ side_effect side x → i ≡ j)
+    → ((x j : ℕ) → j < n → does h j ≡ side_effect side x → does h n ≡ side_effect side x → ⊥) → (x i j : ℕ) → i < n + 1 → j < n + 1
+    → does h i ≡ side_effect side x → does h j ≡ side_effect side x → i ≡ j
+once_more h side n f g x i j li lj a b =
     elim (at_below n i li) [
       | inl p ↦ elim (at_below n j lj) [ inl q ↦ f x i j p q a b | inr e ↦ absurd (g x i p a (ap (does h) (sym e) ∙ b)) ]
       | inr d ↦ elim (at_below n j lj) [ inl q ↦ absurd (g x j q b (ap (does h) (sym d) ∙ a)) | inr e ↦ d ∙ sym e ]
     ]
 
-pub index_skip : (h : List Call) (kind : Kind) (n : ℕ) (g : ℕ → Option ℕ) → IsIndex h kind n g
-    → ((x : ℕ) → does h n ≡ kind_effect kind x → ⊥) → IsIndex h kind (n + 1) g
-index_skip h kind n g i f = record {
-  finds = λ x. finds_skip h kind n x (g x) (i.finds x) (f x);
-  once = once_more h kind n i.once (λ x j lt a b. f x b);
+pub index_skip : (h : List Call) (side : Side) (n : ℕ) (g : ℕ → Option ℕ) → IsIndex h side n g
+    → ((x : ℕ) → does h n ≡ side_effect side x → ⊥) → IsIndex h side (n + 1) g
+index_skip h side n g i f = record {
+  finds = λ x. finds_skip h side n x (g x) (i.finds x) (f x);
+  once = once_more h side n i.once (λ x j lt a b. f x b);
 }
 
-found_none : (h : List Call) (kind : Kind) (n x : ℕ) (o : Option ℕ) → o ≡ None → Finds h kind n x o → (j : ℕ) → j < n
-    → does h j ≡ kind_effect kind x → ⊥
-found_none h kind n x None e f = f
-found_none h kind n x (Some t) e f = absurd (cc)
+found_none : (h : List Call) (side : Side) (n x : ℕ) (o : Option ℕ) → o ≡ None → Finds h side n x o → (j : ℕ) → j < n
+    → does h j ≡ side_effect side x → ⊥
+found_none h side n x None e f = f
+found_none h side n x (Some t) e f = absurd (cc)
 
-pub index_more : (h : List Call) (kind : Kind) (n x f : ℕ) (g k : ℕ → Option ℕ) → IsIndex h kind n g → g x ≡ None
-    → does h n ≡ kind_effect kind x → (call h n).first ≡ f → k x ≡ Some f → ((q : ℕ) → q ≢ x → k q ≡ g q) → IsIndex h kind (n + 1) k
-index_more h kind n x f g k i new e first here others = record {
+pub index_more : (h : List Call) (side : Side) (n x f : ℕ) (g k : ℕ → Option ℕ) → IsIndex h side n g → g x ≡ None
+    → does h n ≡ side_effect side x → (call h n).first ≡ f → k x ≡ Some f → ((q : ℕ) → q ≢ x → k q ≡ g q) → IsIndex h side (n + 1) k
+index_more h side n x f g k i new e first here others = record {
   finds = λ q. elim (cases_eq q x) [
     | inl s ↦ (
-        let P : Option ℕ → Type 0 = λ o. Finds h kind (n + 1) x o in
-        let Q : ℕ → Type 0 = λ w. Finds h kind (n + 1) w (k w) in
+        let P : Option ℕ → Type 0 = λ o. Finds h side (n + 1) x o in
+        let Q : ℕ → Type 0 = λ w. Finds h side (n + 1) w (k w) in
         subst Q (sym s) (subst P (sym here) (n, omega arith, e, first))
         )
     | inr ne ↦ (
-        let P : Option ℕ → Type 0 = λ o. Finds h kind (n + 1) q o in
-        subst P (sym (others q ne)) (finds_skip h kind n q (g q) (i.finds q) (λ d. ne (one_effect kind q x (sym d ∙ e))))
+        let P : Option ℕ → Type 0 = λ o. Finds h side (n + 1) q o in
+        subst P (sym (others q ne)) (finds_skip h side n q (g q) (i.finds q) (λ d. ne (one_effect side q x (sym d ∙ e))))
         )
   ];
-  once = once_more h kind n i.once (λ q j lt a b. let s = one_effect kind q x (sym b ∙ e) in let P : ℕ
-      → Type 0 = λ w. does h j ≡ kind_effect kind w in found_none h kind n x (g x) new (i.finds x) j lt (subst P s a));
+  once = once_more h side n i.once (λ q j lt a b. let s = one_effect side q x (sym b ∙ e) in let P : ℕ
+      → Type 0 = λ w. does h j ≡ side_effect side w in found_none h side n x (g x) new (i.finds x) j lt (subst P s a));
 }
 
 not_equal : (a b : Bool) → b ≡ false → is_eq (cond a Less (cond b Equal Greater)) ≡ false
@@ -161,7 +159,7 @@ twice true = refl
 twice false = refl
 
 -- the call that put y comes after one that ended at last
-put_after : (h : List Call) (last y : ℕ) (o : Option ℕ) → Finds h Puts (length h) y o
+put_after : (h : List Call) (last y : ℕ) (o : Option ℕ) → Finds h In (length h) y o
     → ((i j : ℕ) → i < length h → j < length h → does h i ≡ Adds y → does h j ≡ Adds y → i ≡ j)
     → some (λ e. adds y (does h e) && ltb last (call h e).first) (range_with_len 0 (length h)) ≡ option_test (ltb last) o
 put_after h last y None f once =
@@ -175,7 +173,7 @@ put_after h last y (Some t) f once =
     ∙ (ap (λ b. b && ltb last (call h f.0).first) (ap (adds y) f.2 ∙ eq-eqb y y refl) ∙ ap (ltb last) f.3)
 
 -- no call that got x begins by the step at which another ended
-got_after : (h : List Call) (last x : ℕ) (o : Option ℕ) → Finds h Gots (length h) x o
+got_after : (h : List Call) (last x : ℕ) (o : Option ℕ) → Finds h Out (length h) x o
     → ((i j : ℕ) → i < length h → j < length h → does h i ≡ Takes x → does h j ≡ Takes x → i ≡ j)
     → not (some (λ t. takes x (does h t) && not (ltb last (call h t).first)) (range_with_len 0 (length h))) ≡ ends_before last o
 got_after h last x None f once =
@@ -225,7 +223,7 @@ rival_test last got_last f g None = refl
 rival_test last got_last f g (Some t) = refl
 
 -- the call d, which has this effect
-by_effect : (h : List Call) (puts gots : ℕ → Option ℕ) → IsIndex h Puts (length h) puts → IsIndex h Gots (length h) gots → (c x last : ℕ)
+by_effect : (h : List Call) (puts gots : ℕ → Option ℕ) → IsIndex h In (length h) puts → IsIndex h Out (length h) gots → (c x last : ℕ)
     → ((s : ℕ) → ends_below (call h c).end s ≡ ltb last s) → (d : ℕ) (e : Effect) → does h d ≡ e
     → overtakes_at (does h) (precedes h) (numbers_of h) c d (Adds x) e
     ≡ test_of (is_beaten last (gots x)) (rival_of puts e (last_of (call h d).end))
@@ -246,7 +244,7 @@ by_effect h puts gots p g c x last ends d FindsNone q = refl
 by_effect h puts gots p g c x last ends d Refused q = refl
 by_effect h puts gots p g c x last ends d Wrong q = refl
 
-overtakes_is : (h : List Call) (puts gots : ℕ → Option ℕ) → IsIndex h Puts (length h) puts → IsIndex h Gots (length h) gots → (c x last : ℕ)
+overtakes_is : (h : List Call) (puts gots : ℕ → Option ℕ) → IsIndex h In (length h) puts → IsIndex h Out (length h) gots → (c x last : ℕ)
     → does h c ≡ Adds x → ((s : ℕ) → ends_below (call h c).end s ≡ ltb last s) → (d : ℕ)
     → overtakes (does h) (precedes h) (numbers_of h) c d ≡ test_of (is_beaten last (gots x)) (rival_at h puts d)
 overtakes_is h puts gots p g c x last adds ends d =
@@ -254,7 +252,7 @@ overtakes_is h puts gots p g c x last adds ends d =
     ∙ by_effect h puts gots p g c x last ends d (does h d) refl
 
 -- the overtakings that are certain, counted over the rivals
-pub count_is : (h : List Call) (puts gots : ℕ → Option ℕ) → IsIndex h Puts (length h) puts → IsIndex h Gots (length h) gots → (c x last : ℕ)
+pub count_is : (h : List Call) (puts gots : ℕ → Option ℕ) → IsIndex h In (length h) puts → IsIndex h Out (length h) gots → (c x last : ℕ)
     → does h c ≡ Adds x → ((s : ℕ) → ends_below (call h c).end s ≡ ltb last s)
     → count_by (λ r. is_beaten last (gots x) r) (rivals_below h puts (length h)) ≡ certainly_overtaken h c
 count_is h puts gots p g c x last adds ends =
@@ -273,7 +271,7 @@ measured_none h n found e q =
     e ∙ (sym (append-nil (measured h n)) ∙ (ap (λ o. measured h n ++ measure_of n (certainly_overtaken h n) o) (sym q)
     ∙ sym (next_measured h n)))
 
-pub measured_some : (h : List Call) (puts gots : ℕ → Option ℕ) → IsIndex h Puts (length h) puts → IsIndex h Gots (length h) gots
+pub measured_some : (h : List Call) (puts gots : ℕ → Option ℕ) → IsIndex h In (length h) puts → IsIndex h Out (length h) gots
     → (n : ℕ) (rivals : List Rival) (found more : List Overtaken) (o : Overtaken) → rivals ≡ rivals_below h puts (length h)
     → found ≡ measured h n → o.call ≡ n → done_item (call h n).op (call h n).end ≡ Some o.item
     → o.count ≡ count_by (λ r. is_beaten (last_of (call h n).end) (gots o.item) r) rivals → more ≡ found ++ o ∷ []
@@ -291,21 +289,21 @@ measured_some h puts gots p g n rivals found more o rs e number item count is =
 
 -- ---- the faults
 
-pub all_distinct : (h : List Call) (puts gots : ℕ → Option ℕ) → IsIndex h Puts (length h) puts → IsIndex h Gots (length h) gots
+pub all_distinct : (h : List Call) (puts gots : ℕ → Option ℕ) → IsIndex h In (length h) puts → IsIndex h Out (length h) gots
     → HasDistinctItems h
 all_distinct h puts gots p g = (
   λ x c d i j a b. p.once x c d (below h c i) (below h d j) a b,
   λ x c d i j a b. g.once x c d (below h c i) (below h d j) a b,
 )
 
-pub two_puts : (h : List Call) → HasTwo h Puts → HasDistinctItems h → ⊥
+pub two_puts : (h : List Call) → HasTwo h In → HasDistinctItems h → ⊥
 two_puts h t d =
     let i : t.1 < t.2 = t.3 in
     let j : t.2 < length h = t.4 in
     let e = d.0 t.0 t.1 t.2 (listed h t.1 (omega arith)) (listed h t.2 (omega arith)) t.5 t.6 in
     omega arith
 
-pub two_gots : (h : List Call) → HasTwo h Gots → HasDistinctItems h → ⊥
+pub two_gots : (h : List Call) → HasTwo h Out → HasDistinctItems h → ⊥
 two_gots h t d =
     let i : t.1 < t.2 = t.3 in
     let j : t.2 < length h = t.4 in

@@ -1,3 +1,4 @@
+pub mod Types
 pub mod Lists
 pub mod Places
 pub mod Greedy

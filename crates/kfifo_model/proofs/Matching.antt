@@ -6,12 +6,11 @@ use Rattle.std.specs.List.{filter}
 use Rattle.std.proofs.lemmas.Bool.{cases_lt, and_parts, and_from, not-true, not_from_false, false_from_ne_true, false≢true, ltb-true}
 use Rattle.std.proofs.lemmas.Bool.{lt-ltb}
 use Rattle.std.proofs.lemmas.List.{length-map}
-use Rattle.kfifo_model.specs.declared.calls.Op.{Op}
+use Rattle.kfifo_model.proofs.Types.{Call, Effect, End, Op}
 use Rattle.kfifo_model.specs.declared.calls.Op.TheVariants.{Enqueue, Dequeue}
-use Rattle.kfifo_model.specs.declared.calls.End.{End}
-use Rattle.kfifo_model.specs.declared.calls.Call.{Call}
 use Rattle.kfifo_model.specs.Lists.{IsIn, EachPair}
-use Rattle.kfifo_model.specs.Relaxed.{Effect, Adds, Takes, effect, IsRun}
+use Rattle.kfifo_model.specs.declared.effects.Effect.TheVariants.{Adds, Takes}
+use Rattle.kfifo_model.specs.Relaxed.{effect, IsRun}
 use Rattle.kfifo_model.specs.Histories.{call, does, effect_at, CanStand, HasEnd, IsFinished, EndsBelow, Precedes, HasOnlyCalls, IsOrder}
 use Rattle.kfifo_model.specs.Histories.{IsLegal}
 use Rattle.kfifo_model.specs.Overtaking.{some, adds, takes, overtakes_at, overtakes, ends_below, precedes, numbers_of, certainly_overtaken}

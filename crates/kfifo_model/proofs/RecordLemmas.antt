@@ -14,11 +14,11 @@ use Rattle.serde_json.specs.declared.value.Value.{Value}
 use Rattle.kfifo_model.specs.declared.calls.Op.TheVariants as ops
 use Rattle.kfifo_model.specs.declared.calls.Answer.{Answer}
 use Rattle.kfifo_model.specs.declared.calls.Answer.TheVariants as answers
-use Rattle.kfifo_model.specs.declared.calls.Call.{Call}
-use Rattle.kfifo_model.specs.declared.reading.OpWord.{OpWord}
-use Rattle.kfifo_model.specs.declared.reading.OpWord.TheVariants.{Enq, Deq}
-use Rattle.kfifo_model.specs.declared.reading.AnswerWord.{AnswerWord}
-use Rattle.kfifo_model.specs.declared.reading.AnswerWord.TheVariants.{Done, Full, Got, Empty, Busy, Worn, Other}
+use Rattle.kfifo_model.proofs.Types.{Call}
+use Rattle.kfifo_model.specs.declared.spellings.OpWord.{OpWord}
+use Rattle.kfifo_model.specs.declared.spellings.OpWord.TheVariants.{Enq, Deq}
+use Rattle.kfifo_model.specs.declared.spellings.AnswerWord.{AnswerWord}
+use Rattle.kfifo_model.specs.declared.spellings.AnswerWord.TheVariants.{Done, Full, Got, Empty, Busy, Worn, Other}
 use Rattle.kfifo_model.specs.declared.reading.Ending.{Ending}
 use Rattle.kfifo_model.specs.declared.reading.Entry.{Entry}
 use Rattle.kfifo_model.specs.declared.reading.Flaw.{Flaw}
@@ -30,7 +30,8 @@ use Rattle.kfifo_model.specs.Histories.{call}
 use Rattle.kfifo_model.specs.declared.history.RecordFault.{RecordFault}
 use Rattle.kfifo_model.specs.declared.history.RecordFault.TheVariants as faults
 use Rattle.kfifo_model.proofs.Watching.{before_last, the_last}
-use Rattle.kfifo_model.specs.Relaxed.{Wrong, effect}
+use Rattle.kfifo_model.specs.declared.effects.Effect.TheVariants.{Wrong}
+use Rattle.kfifo_model.specs.Relaxed.{effect}
 use Rattle.kfifo_model.specs.Validity.{IsHistory, IsItem, IsInRange, OpInRange, AnswerInRange, Answers}
 use Rattle.kfifo_model.specs.Records.{IsReadFault, IsMemberFault, is_key, are_keys, has_known_keys, members, at, AreRead, IsRead, IsReadTo}
 use Rattle.kfifo_model.specs.Records.{item_fits, is_item_number, is_in_range, answer_of, op_of, ending_of, with_ending, call_of, list_of}

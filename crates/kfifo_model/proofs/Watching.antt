@@ -1,4 +1,4 @@
--- The calls so far, as the progress of a record keeps them.
+-- The calls so far, as a reader of a record keeps them.
 use Rattle.std.proofs.Common.{ℕ, ◌≡◌, ◌≢◌, ◌+◌, ◌<◌, ◌≤◌, ◌↔◌, List, [], ◌∷◌, ◌++◌, length, get_or, set, sym, ◌∙◌, ap, subst, inl, inr}
 use Rattle.std.proofs.Common.{arith, refl, Option, Some, None, get_or-set_other, get_or-set_same, length-append}
 use Rattle.std.proofs.lemmas.Bool.{cases_lt, cases_eq}
@@ -6,25 +6,24 @@ use Rattle.std.proofs.lemmas.List.{get_or_default, get_or_append_left}
 use Rattle.std.proofs.Math.ListN.{length-set}
 use Rattle.std.proofs.Math.Seq.{get_or-append_seam}
 use Rattle.kfifo_model.specs.declared.history.RecordFault.TheVariants.{EndsEarly, OutOfOrder, Overlap}
-use Rattle.kfifo_model.specs.declared.calls.Call.{Call}
-use Rattle.kfifo_model.specs.declared.calls.End.{End}
-use Rattle.kfifo_model.specs.declared.progress.Progress.{Progress}
-use Rattle.kfifo_model.specs.declared.progress.ThreadState.{ThreadState}
-use Rattle.kfifo_model.specs.declared.progress.ThreadState.TheVariants.{Fresh}
+use Rattle.kfifo_model.proofs.Types.{Call, End}
+use Rattle.kfifo_model.specs.declared.so_far.CallsSoFar.{CallsSoFar}
+use Rattle.kfifo_model.specs.declared.so_far.ThreadState.{ThreadState}
+use Rattle.kfifo_model.specs.declared.so_far.ThreadState.TheVariants.{Fresh}
 use Rattle.kfifo_model.specs.Histories.{call, no_call, EndsBelow}
 use Rattle.kfifo_model.specs.Validity.{IsHistory, IsGoodBelow, IsFault, IsGood, IsInRange, Answers, EndsFrom, Rises, IsApart}
-use Rattle.kfifo_model.specs.Progress.{LetsBegin, RisesFrom, state_after}
+use Rattle.kfifo_model.specs.SoFar.{LetsBegin, RisesFrom, state_after}
 
 -- the calls before n, as a next call has to heed them
-pub record IsProgress (h : List Call) (n : ℕ) (p : Progress) : Type 0 where
+pub record AreSoFar (h : List Call) (n : ℕ) (p : CallsSoFar) : Type 0 where
   pub sized : length p.threads ≡ 64
   pub latest : (s : ℕ) → RisesFrom p.latest s ↔ ((j : ℕ) → j + 1 ≡ n → (call h j).first < s)
   pub threads : (t s : ℕ) (d : ThreadState) → t < 64
       → LetsBegin (get_or p.threads t d) s ↔ ((j : ℕ) → j < n → (call h j).thread ≡ t → EndsBelow (call h j).end s)
 
-pub no_progress : (h : List Call) (p : Progress) → length p.threads ≡ 64 → p.latest ≡ None
-    → ((t : ℕ) (d : ThreadState) → t < 64 → get_or p.threads t d ≡ Fresh) → IsProgress h 0 p
-no_progress h p sized none fresh = record {
+pub none_so_far : (h : List Call) (p : CallsSoFar) → length p.threads ≡ 64 → p.latest ≡ None
+    → ((t : ℕ) (d : ThreadState) → t < 64 → get_or p.threads t d ≡ Fresh) → AreSoFar h 0 p
+none_so_far h p sized none fresh = record {
   sized = sized;
   latest = λ s. (λ r j e. absurd (omega arith), λ f. let P : Option ℕ → Type 0 = λ o. RisesFrom o s in subst P (sym none) tt);
   threads = λ t s d lt. (
@@ -49,9 +48,9 @@ ends_through o None first s b e l = absurd l
 last_is : (j n : ℕ) → j < n + 1 → (j < n → ⊥) → j ≡ n
 last_is j n lt f = elim (cases_lt j n) [ inl below ↦ absurd (f below) | inr le ↦ omega arith ]
 
-pub more_progress : (h : List Call) (n : ℕ) (p q : Progress) → IsProgress h n p → IsGood h n → q.latest ≡ Some (call h n).first
-    → q.threads ≡ set p.threads (call h n).thread (state_after (call h n).end) → IsProgress h (n + 1) q
-more_progress h n p q was good latest threads =
+pub more_so_far : (h : List Call) (n : ℕ) (p q : CallsSoFar) → AreSoFar h n p → IsGood h n → q.latest ≡ Some (call h n).first
+    → q.threads ≡ set p.threads (call h n).thread (state_after (call h n).end) → AreSoFar h (n + 1) q
+more_so_far h n p q was good latest threads =
     let c = call h n in
     let small : c.thread < 64 = good.ranged.0 in
     record {
@@ -95,14 +94,14 @@ more_progress h n p q was good latest threads =
     }
 
 -- what a call has to keep to, as the code tests it
-pub record Tests (p : Progress) (c : Call) : Type 0 where
+pub record Tests (p : CallsSoFar) (c : Call) : Type 0 where
   pub ranged : IsInRange c
   pub answers : Answers c.op c.end
   pub ends : EndsFrom c.first c.end
   pub rises : RisesFrom p.latest c.first
   pub lets : (d : ThreadState) → LetsBegin (get_or p.threads c.thread d) c.first
 
-pub good_call : (h : List Call) (n : ℕ) (p : Progress) → IsProgress h n p → Tests p (call h n) → IsGood h n
+pub good_call : (h : List Call) (n : ℕ) (p : CallsSoFar) → AreSoFar h n p → Tests p (call h n) → IsGood h n
 good_call h n p was t =
     let small : (call h n).thread < 64 = t.ranged.0 in
     record {
@@ -113,10 +112,10 @@ good_call h n p was t =
       apart = (was.threads (call h n).thread (call h n).first Fresh small).0 (t.lets Fresh);
     }
 
-pub good_at : (h : List Call) (n : ℕ) (p : Progress) (d : Call) → n < length h → IsProgress h n p → Tests p (get_or h n d) → IsGood h n
+pub good_at : (h : List Call) (n : ℕ) (p : CallsSoFar) (d : Call) → n < length h → AreSoFar h n p → Tests p (get_or h n d) → IsGood h n
 good_at h n p d lt was t = let P : Call → Type 0 = λ w. Tests p w in good_call h n p was (subst P (get_or_default h n d no_call lt) t)
 
-pub not_apart : (h : List Call) (n : ℕ) (p : Progress) (d : Call) → n < length h → IsProgress h n p → (get_or h n d).thread < 64
+pub not_apart : (h : List Call) (n : ℕ) (p : CallsSoFar) (d : Call) → n < length h → AreSoFar h n p → (get_or h n d).thread < 64
     → ((e : ThreadState) → LetsBegin (get_or p.threads (get_or h n d).thread e) (get_or h n d).first → ⊥) → IsApart h n → ⊥
 not_apart h n p d lt was small f apart =
     let e = get_or_default h n d no_call lt in
@@ -125,13 +124,13 @@ not_apart h n p d lt was small f apart =
     q.1 Fresh ((was.threads (call h n).thread (call h n).first Fresh q.0).1 apart)
 
 -- one more good call
-pub more_calls : (h : List Call) (n : ℕ) (p q : Progress) (d : Call) → n < length h → IsProgress h n p → IsGood h n
+pub more_calls : (h : List Call) (n : ℕ) (p q : CallsSoFar) (d : Call) → n < length h → AreSoFar h n p → IsGood h n
     → q.latest ≡ Some (get_or h n d).first → q.threads ≡ set p.threads (get_or h n d).thread (state_after (get_or h n d).end)
-    → IsProgress h (n + 1) q
+    → AreSoFar h (n + 1) q
 more_calls h n p q d lt was good a b =
     let P : Call → Type 0 = λ w. (q.latest ≡ Some w.first) × (q.threads ≡ set p.threads w.thread (state_after w.end)) in
     let r = subst P (get_or_default h n d no_call lt) (a, b) in
-    more_progress h n p q was good r.0 r.1
+    more_so_far h n p q was good r.0 r.1
 
 pub good_more : (h : List Call) (n : ℕ) → ((j : ℕ) → j < n → IsGood h j) → IsGood h n → (j : ℕ) → j < n + 1 → IsGood h j
 good_more h n f g j lt =
@@ -152,7 +151,7 @@ pub ends_at : (h : List Call) (n : ℕ) (d : Call) → n < length h → EndsFrom
     → EndsFrom (call h n).first (call h n).end
 ends_at h n d lt t = let P : Call → Type 0 = λ w. EndsFrom w.first w.end in subst P (get_or_default h n d no_call lt) t
 
-pub rises_at : (h : List Call) (n : ℕ) (p : Progress) (d : Call) → n < length h → IsProgress h n p → RisesFrom p.latest (get_or h n d).first
+pub rises_at : (h : List Call) (n : ℕ) (p : CallsSoFar) (d : Call) → n < length h → AreSoFar h n p → RisesFrom p.latest (get_or h n d).first
     → Rises h n
 rises_at h n p d lt was t =
     let P : Call → Type 0 = λ w. RisesFrom p.latest w.first in
@@ -188,8 +187,8 @@ good_with h c n lt g =
           subst Q (e n lt) (subst P (e j lj) (g.apart j l (ap (λ w. w.thread) (e j lj) ∙ (t ∙ ap (λ w. w.thread) (sym (e n lt))))));
     }
 
-progress_with : (h : List Call) (c : Call) (n : ℕ) (p : Progress) → length h ≡ n → IsProgress h n p → IsProgress (h ++ c ∷ []) n p
-progress_with h c n p len was =
+so_far_with : (h : List Call) (c : Call) (n : ℕ) (p : CallsSoFar) → length h ≡ n → AreSoFar h n p → AreSoFar (h ++ c ∷ []) n p
+so_far_with h c n p len was =
     let e : (j : ℕ) → j < n → call h j ≡ call (h ++ c ∷ []) j = λ j l. sym (before_last h c j (omega arith)) in
     record {
       sized = was.sized;
@@ -223,7 +222,7 @@ fault_ends h c n len v r a f = (
   of_last h c n (λ w. EndsFrom w.first w.end → ⊥) len f,
 )
 
-pub fault_rises : (h : List Call) (c : Call) (n : ℕ) (p : Progress) → length h ≡ n → IsHistory h → IsProgress h n p → IsInRange c
+pub fault_rises : (h : List Call) (c : Call) (n : ℕ) (p : CallsSoFar) → length h ≡ n → IsHistory h → AreSoFar h n p → IsInRange c
     → Answers c.op c.end → EndsFrom c.first c.end → (RisesFrom p.latest c.first → ⊥) → IsFault (h ++ c ∷ []) (OutOfOrder n)
 fault_rises h c n p len v was r a e f = (
   good_below h c n len v,
@@ -231,10 +230,10 @@ fault_rises h c n p len v was r a e f = (
   of_last h c n (λ w. Answers w.op w.end) len a,
   of_last h c n (λ w. EndsFrom w.first w.end) len e,
   λ s. of_last h c n (λ w. RisesFrom p.latest w.first → ⊥) len f
-      (((progress_with h c n p len was).latest (call (h ++ c ∷ []) n).first).1 s),
+      (((so_far_with h c n p len was).latest (call (h ++ c ∷ []) n).first).1 s),
 )
 
-pub fault_lets : (h : List Call) (c : Call) (n : ℕ) (p : Progress) → length h ≡ n → IsHistory h → IsProgress h n p → IsInRange c
+pub fault_lets : (h : List Call) (c : Call) (n : ℕ) (p : CallsSoFar) → length h ≡ n → IsHistory h → AreSoFar h n p → IsInRange c
     → Answers c.op c.end → EndsFrom c.first c.end → RisesFrom p.latest c.first
     → ((d : ThreadState) → LetsBegin (get_or p.threads c.thread d) c.first → ⊥) → IsFault (h ++ c ∷ []) (Overlap n)
 fault_lets h c n p len v was r a e s f = (
@@ -242,23 +241,23 @@ fault_lets h c n p len v was r a e s f = (
   of_last h c n (λ w. IsInRange w) len r,
   of_last h c n (λ w. Answers w.op w.end) len a,
   of_last h c n (λ w. EndsFrom w.first w.end) len e,
-  ((progress_with h c n p len was).latest (call (h ++ c ∷ []) n).first).0 (of_last h c n (λ w. RisesFrom p.latest w.first) len s),
+  ((so_far_with h c n p len was).latest (call (h ++ c ∷ []) n).first).0 (of_last h c n (λ w. RisesFrom p.latest w.first) len s),
   λ apart. of_last h c n (λ w. LetsBegin (get_or p.threads w.thread Fresh) w.first → ⊥) len (f Fresh)
-      (((progress_with h c n p len was).threads (call (h ++ c ∷ []) n).thread (call (h ++ c ∷ []) n).first Fresh
+      (((so_far_with h c n p len was).threads (call (h ++ c ∷ []) n).thread (call (h ++ c ∷ []) n).first Fresh
       (of_last h c n (λ w. w.thread < 64) len r.0)).1 apart),
 )
 
-good_last : (h : List Call) (c : Call) (n : ℕ) (p : Progress) → length h ≡ n → IsProgress h n p → Tests p c → IsGood (h ++ c ∷ []) n
-good_last h c n p len was t = good_call (h ++ c ∷ []) n p (progress_with h c n p len was) (of_last h c n (λ w. Tests p w) len t)
+good_last : (h : List Call) (c : Call) (n : ℕ) (p : CallsSoFar) → length h ≡ n → AreSoFar h n p → Tests p c → IsGood (h ++ c ∷ []) n
+good_last h c n p len was t = good_call (h ++ c ∷ []) n p (so_far_with h c n p len was) (of_last h c n (λ w. Tests p w) len t)
 
-pub more_valid : (h : List Call) (c : Call) (n : ℕ) (p : Progress) → length h ≡ n → IsHistory h → IsProgress h n p → Tests p c
+pub more_valid : (h : List Call) (c : Call) (n : ℕ) (p : CallsSoFar) → length h ≡ n → IsHistory h → AreSoFar h n p → Tests p c
     → IsHistory (h ++ c ∷ [])
 more_valid h c n p len v was t j lt =
     let lj : j < n + 1 = (let e = length-append h (c ∷ []) in omega arith) in
     good_more (h ++ c ∷ []) n (good_below h c n len v).1 (good_last h c n p len was t) j lj
 
-pub more_noted : (h : List Call) (c : Call) (n : ℕ) (p q : Progress) → length h ≡ n → IsProgress h n p → Tests p c → q.latest ≡ Some c.first
-    → q.threads ≡ set p.threads c.thread (state_after c.end) → IsProgress (h ++ c ∷ []) (n + 1) q
+pub more_noted : (h : List Call) (c : Call) (n : ℕ) (p q : CallsSoFar) → length h ≡ n → AreSoFar h n p → Tests p c → q.latest ≡ Some c.first
+    → q.threads ≡ set p.threads c.thread (state_after c.end) → AreSoFar (h ++ c ∷ []) (n + 1) q
 more_noted h c n p q len was t a b =
     let m = of_last h c n (λ w. (q.latest ≡ Some w.first) × (q.threads ≡ set p.threads w.thread (state_after w.end))) len (a, b) in
-    more_progress (h ++ c ∷ []) n p q (progress_with h c n p len was) (good_last h c n p len was t) m.0 m.1
+    more_so_far (h ++ c ∷ []) n p q (so_far_with h c n p len was) (good_last h c n p len was t) m.0 m.1

@@ -8,7 +8,9 @@ use Rattle.kfifo_model.specs.declared.calls.End.{End}
 use Rattle.kfifo_model.specs.declared.calls.Call.{Call}
 use Rattle.std.specs.List.{AllByRecursion}
 use Rattle.kfifo_model.specs.Lists.{IsIn, EachPair}
-use Rattle.kfifo_model.specs.Relaxed.{Effect, Adds, Wrong, effect, IsRun}
+use Rattle.kfifo_model.specs.declared.effects.Effect.{Effect}
+use Rattle.kfifo_model.specs.declared.effects.Effect.TheVariants.{Adds, Wrong}
+use Rattle.kfifo_model.specs.Relaxed.{effect, IsRun}
 
 -- an unfinished enqueue is taken as Done; an unfinished dequeue stands in no order
 abbrev pub effect_unfinished : Op → Effect

@@ -8,31 +8,32 @@ use Rattle.kfifo_model.specs.declared.calls.Answer.{Answer}
 use Rattle.kfifo_model.specs.declared.calls.Answer.TheVariants.{Done, Full, Got, Empty, Busy, Worn}
 use Rattle.kfifo_model.specs.declared.calls.End.{End}
 use Rattle.kfifo_model.specs.declared.calls.Call.{Call}
-use Rattle.kfifo_model.specs.declared.index.Kind.{Kind}
-use Rattle.kfifo_model.specs.declared.index.Kind.TheVariants.{Puts, Gots}
+use Rattle.kfifo_model.specs.declared.effects.Side.{Side}
+use Rattle.kfifo_model.specs.declared.effects.Side.TheVariants.{In, Out}
 use Rattle.kfifo_model.specs.declared.index.Overtaken.{Overtaken}
 use Rattle.kfifo_model.specs.declared.index.Rival.{Rival}
 use Rattle.kfifo_model.specs.declared.index.MeasureFault.{MeasureFault}
 use Rattle.kfifo_model.specs.declared.index.MeasureFault.TheVariants.{RepeatedItem, Memory}
-use Rattle.kfifo_model.specs.Relaxed.{Effect, Adds, Takes, FindsNone, Refused, Wrong}
+use Rattle.kfifo_model.specs.declared.effects.Effect.{Effect}
+use Rattle.kfifo_model.specs.declared.effects.Effect.TheVariants.{Adds, Takes, FindsNone, Refused, Wrong}
 use Rattle.kfifo_model.specs.Histories.{call, does}
 use Rattle.kfifo_model.specs.Overtaking.{certainly_overtaken}
 use Rattle.kfifo_model.specs.Measures.{IsDoneEnqueue, HasDistinctItems}
 
-abbrev pub kind_effect : Kind → ℕ → Effect
-kind_effect Puts x = Adds x
-kind_effect Gots x = Takes x
+abbrev pub side_effect : Side → ℕ → Effect
+side_effect In x = Adds x
+side_effect Out x = Takes x
 
--- two calls of the kind have one item
-abbrev pub HasTwo : List Call → Kind → Type 0
-HasTwo h kind = (x : ℕ) × (i : ℕ) × (j : ℕ) × (i < j) × (j < length h) × (does h i ≡ kind_effect kind x)
-    × (does h j ≡ kind_effect kind x)
+-- two calls of the side have one item
+abbrev pub HasTwo : List Call → Side → Type 0
+HasTwo h side = (x : ℕ) × (i : ℕ) × (j : ℕ) × (i < j) × (j < length h) × (does h i ≡ side_effect side x)
+    × (does h j ≡ side_effect side x)
 
--- The first step of each item's call of the kind, of the first n calls, which have each item once.
-pub record IsIndex (h : List Call) (kind : Kind) (n : ℕ) (first_of : ℕ → Option ℕ) : Type 0 where
-  pub finds : (x : ℕ) → MatchOption (first_of x) ((j : ℕ) → j < n → does h j ≡ kind_effect kind x → ⊥)
-      (λ f. (j : ℕ) × (j < n) × (does h j ≡ kind_effect kind x) × ((call h j).first ≡ f))
-  pub once : (x i j : ℕ) → i < n → j < n → does h i ≡ kind_effect kind x → does h j ≡ kind_effect kind x → i ≡ j
+-- The first step of each item's call of the side, of the first n calls, which have each item once.
+pub record IsIndex (h : List Call) (side : Side) (n : ℕ) (first_of : ℕ → Option ℕ) : Type 0 where
+  pub finds : (x : ℕ) → MatchOption (first_of x) ((j : ℕ) → j < n → does h j ≡ side_effect side x → ⊥)
+      (λ f. (j : ℕ) × (j < n) × (does h j ≡ side_effect side x) × ((call h j).first ≡ f))
+  pub once : (x i j : ℕ) → i < n → j < n → does h i ≡ side_effect side x → does h j ≡ side_effect side x → i ≡ j
 
 abbrev pub last_of : Option End → ℕ
 last_of (Some end) = end.last

@@ -4,7 +4,7 @@ pub mod Histories
 pub mod Overtaking
 pub mod Ranks
 pub mod Verdicts
-pub mod Progress
+pub mod SoFar
 pub mod Validity
 pub mod FaultNumbers
 pub mod Measures

@@ -9,7 +9,8 @@ use Rattle.kfifo_model.specs.declared.measures.RankFault.{RankFault}
 use Rattle.kfifo_model.specs.declared.measures.RankFault.TheVariants.{NotLegal, Memory}
 use Rattle.kfifo_model.specs.declared.measures.OvertakenFault.{OvertakenFault}
 use Rattle.kfifo_model.specs.declared.measures.OvertakenFault.TheVariants.{NotAnEnqueue, RepeatedItem}
-use Rattle.kfifo_model.specs.Relaxed.{Effect, Adds, Takes}
+use Rattle.kfifo_model.specs.declared.effects.Effect.{Effect}
+use Rattle.kfifo_model.specs.declared.effects.Effect.TheVariants.{Adds, Takes}
 use Rattle.kfifo_model.specs.Histories.{call, does, IsLegal}
 use Rattle.kfifo_model.specs.Overtaking.{numbers_of, AddsAreDistinct, TakesAreDistinct}
 

@@ -6,7 +6,8 @@ use Rattle.std.specs.List.{filter, range_with_len}
 use Rattle.kfifo_model.specs.declared.calls.End.{End}
 use Rattle.kfifo_model.specs.declared.calls.Call.{Call}
 use Rattle.kfifo_model.specs.Lists.{IsIn, place}
-use Rattle.kfifo_model.specs.Relaxed.{Effect, Adds, Takes}
+use Rattle.kfifo_model.specs.declared.effects.Effect.{Effect}
+use Rattle.kfifo_model.specs.declared.effects.Effect.TheVariants.{Adds, Takes}
 use Rattle.kfifo_model.specs.Histories.{call, does}
 
 -- the test passes some number

@@ -4,6 +4,8 @@ use Rattle.std.specs.Prelude.{List, [], ◌∷◌, ◌++◌, Option, Some, None,
 use Rattle.std.specs.Prelude.{option_and_then}
 use Rattle.std.specs.Option.{option_map}
 use Rattle.std.specs.Str.{bytes_eq}
+use Rattle.kfifo_model.specs.declared.calls.TheConstants.{MAX_THREADS}
+use Rattle.kfifo_model.specs.declared.reading.TheConstants.{MAX_CALLS}
 use Rattle.serde_json.specs.Data.{Data, null, boolean, number, string, array, object, Items, no_items, item, Members}
 use Rattle.serde_json.specs.Data.{no_members, member}
 use Rattle.serde_json.specs.Find.{get, as_number, as_u64, as_str, as_array}
@@ -15,17 +17,17 @@ use Rattle.kfifo_model.specs.declared.calls.End.{End}
 use Rattle.kfifo_model.specs.declared.calls.Call.{Call}
 use Rattle.kfifo_model.specs.declared.history.RecordFault.{RecordFault}
 use Rattle.kfifo_model.specs.declared.history.RecordFault.TheVariants as faults
-use Rattle.kfifo_model.specs.declared.reading.OpWord.{OpWord}
-use Rattle.kfifo_model.specs.declared.reading.OpWord.TheVariants.{Enq, Deq}
-use Rattle.kfifo_model.specs.declared.reading.AnswerWord.{AnswerWord}
-use Rattle.kfifo_model.specs.declared.reading.AnswerWord.TheVariants.{Done, Full, Got, Empty, Busy, Worn, Other}
+use Rattle.kfifo_model.specs.declared.spellings.OpWord.{OpWord}
+use Rattle.kfifo_model.specs.declared.spellings.OpWord.TheVariants.{Enq, Deq}
+use Rattle.kfifo_model.specs.declared.spellings.AnswerWord.{AnswerWord}
+use Rattle.kfifo_model.specs.declared.spellings.AnswerWord.TheVariants.{Done, Full, Got, Empty, Busy, Worn, Other}
 use Rattle.kfifo_model.specs.declared.reading.Ending.{Ending}
 use Rattle.kfifo_model.specs.declared.reading.Entry.{Entry}
 use Rattle.kfifo_model.specs.declared.reading.Flaw.{Flaw}
 use Rattle.kfifo_model.specs.declared.reading.Flaw.TheVariants as flaws
 use Rattle.kfifo_model.specs.Histories.{call}
 use Rattle.kfifo_model.specs.Validity.{IsHistory, IsFault}
-use Rattle.kfifo_model.specs.Words.{answer_word, op_word}
+use Rattle.kfifo_model.specs.Words.{IsAnswerWord, op_text}
 
 -- ---- one object
 
@@ -60,25 +62,8 @@ abbrev pub HasNumber : List ℕ → Data → Option ℕ → Type 0
 HasNumber key d None = get key d ≡ None
 HasNumber key d (Some n) = number_at key d ≡ Some n
 
-abbrev pub op_text : OpWord → List ℕ
-op_text Enq = op_word (ops.Enqueue 0)
-op_text Deq = op_word ops.Dequeue
-
 abbrev pub HasOp : Data → OpWord → Type 0
 HasOp d w = text_at (codes "op") d ≡ Some (op_text w)
-
-abbrev pub IsAnswerWord : List ℕ → AnswerWord → Type 0
-IsAnswerWord t Done = t ≡ answer_word answers.Done
-IsAnswerWord t Full = t ≡ answer_word answers.Full
-IsAnswerWord t Got = t ≡ answer_word (answers.Got 0)
-IsAnswerWord t Empty = t ≡ answer_word answers.Empty
-IsAnswerWord t Busy = t ≡ answer_word answers.Busy
-IsAnswerWord t Worn = t ≡ answer_word answers.Worn
-IsAnswerWord t Other = (t ≢ answer_word answers.Done) × (t ≢ answer_word answers.Full)
-    × (t ≢ answer_word (answers.Got 0))
-    × (t ≢ answer_word answers.Empty)
-    × (t ≢ answer_word answers.Busy)
-    × (t ≢ answer_word answers.Worn)
 
 -- `last` and `answer` stand both or neither
 abbrev pub HasEnding : Data → Option Ending → Type 0
@@ -123,7 +108,7 @@ is_item_number None = true
 is_item_number (Some x) = nat_lt 0 x && nat_lt x (2 ^ 24)
 
 abbrev pub is_in_range : Entry → Bool
-is_in_range e = nat_lt e.thread 64 && is_item_number e.item
+is_in_range e = nat_lt e.thread MAX_THREADS && is_item_number e.item
 
 -- the answer, where it is one of the operation's
 abbrev pub answer_of : OpWord → AnswerWord → Option ℕ → Option Answer
@@ -212,10 +197,11 @@ IsMemberFault ds faults.Memory = Unit {0}
 
 -- the record is one of these calls
 abbrev pub IsRecordOf : Data → List Call → Type 0
-IsRecordOf d h = (ds : List Data) × (members d ≡ Some ds) × (length ds ≤ 65536) × (length h ≡ length ds) × AreRead ds h
+IsRecordOf d h = (ds : List Data) × (members d ≡ Some ds) × (length ds ≤ MAX_CALLS) × (length h ≡ length ds)
+    × AreRead ds h
 
 -- the record's first fault. Memory may be refused wherever there are members to keep
 abbrev pub IsReadFault : Data → RecordFault → Type 0
 IsReadFault d faults.NotAList = members d ≡ None
-IsReadFault d faults.TooMany = (ds : List Data) × (members d ≡ Some ds) × (65536 < length ds)
-IsReadFault d f = (ds : List Data) × (members d ≡ Some ds) × (length ds ≤ 65536) × IsMemberFault ds f
+IsReadFault d faults.TooMany = (ds : List Data) × (members d ≡ Some ds) × (MAX_CALLS < length ds)
+IsReadFault d f = (ds : List Data) × (members d ≡ Some ds) × (length ds ≤ MAX_CALLS) × IsMemberFault ds f

@@ -4,20 +4,14 @@
 use Rattle.std.specs.Prelude.{ℕ, ◌≡◌, ◌<◌, ◌&&◌, cond, ltb, length, List, [], ◌∷◌, ◌++◌, Option, Some, None, slice_get}
 use Rattle.std.specs.List.{remove}
 use Rattle.kfifo_model.specs.Lists.{place}
+use Rattle.kfifo_model.specs.declared.effects.Effect.{Effect}
+use Rattle.kfifo_model.specs.declared.effects.Effect.TheVariants.{Adds, Takes, FindsNone, Refused, Wrong}
 use Rattle.kfifo_model.specs.declared.calls.Op.{Op}
 use Rattle.kfifo_model.specs.declared.calls.Op.TheVariants.{Enqueue, Dequeue}
 use Rattle.kfifo_model.specs.declared.calls.Answer.{Answer}
 use Rattle.kfifo_model.specs.declared.calls.Answer.TheVariants.{Done, Full, Got, Empty, Busy, Worn}
 
--- what a call with its answer does to the queue
-pub data Effect : Type 0 where
-  Adds : ℕ → Effect
-  Takes : ℕ → Effect
-  FindsNone : Effect
-  Refused : Effect
-  Wrong : Effect
-
--- an answer of the other operation is wrong
+-- what a call with its answer does to the list; an answer of the other operation is wrong
 abbrev pub effect : Op → Answer → Effect
 effect (Enqueue x) Done = Adds x
 effect (Enqueue x) Full = Refused

@@ -5,7 +5,9 @@ use Rattle.kfifo_model.specs.declared.calls.Call.{Call}
 use Rattle.kfifo_model.specs.declared.search.SearchFault.{SearchFault}
 use Rattle.kfifo_model.specs.declared.search.SearchFault.TheVariants.{TooLong, Memory}
 use Rattle.kfifo_model.specs.Lists.{IsIn}
-use Rattle.kfifo_model.specs.Relaxed.{Effect, Adds, Takes, FindsNone, Refused, Wrong, IsRun}
+use Rattle.kfifo_model.specs.declared.effects.Effect.{Effect}
+use Rattle.kfifo_model.specs.declared.effects.Effect.TheVariants.{Adds, Takes, FindsNone, Refused, Wrong}
+use Rattle.kfifo_model.specs.Relaxed.{IsRun}
 use Rattle.kfifo_model.specs.Histories.{call, does, CanStand, IsFinished, Precedes, HasNoRepeats, HasOnlyCalls}
 use Rattle.kfifo_model.specs.Histories.{KeepsBefore, IsLegal}
 use Rattle.kfifo_model.specs.Reach.{Reach}

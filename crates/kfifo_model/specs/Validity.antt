@@ -1,5 +1,6 @@
 -- Which lists of calls are histories, and the first fault of those that are none.
 use Rattle.std.specs.Prelude.{ℕ, ◌≡◌, ◌≢◌, ◌+◌, ◌^◌, ◌<◌, ◌≤◌, List, Option, Some, None, length}
+use Rattle.kfifo_model.specs.declared.calls.TheConstants.{MAX_THREADS}
 use Rattle.kfifo_model.specs.declared.calls.Op.{Op}
 use Rattle.kfifo_model.specs.declared.calls.Op.TheVariants.{Enqueue, Dequeue}
 use Rattle.kfifo_model.specs.declared.calls.Answer.{Answer}
@@ -10,7 +11,8 @@ use Rattle.kfifo_model.specs.declared.history.RecordFault.{RecordFault}
 use Rattle.kfifo_model.specs.declared.history.RecordFault.TheVariants.{NotAList, TooMany, NotACall, NumberOutOfRange}
 use Rattle.kfifo_model.specs.declared.history.RecordFault.TheVariants.{WrongAnswer, EndsEarly, OutOfOrder, Overlap}
 use Rattle.kfifo_model.specs.declared.history.RecordFault.TheVariants.{Memory}
-use Rattle.kfifo_model.specs.Relaxed.{Wrong, effect}
+use Rattle.kfifo_model.specs.declared.effects.Effect.TheVariants.{Wrong}
+use Rattle.kfifo_model.specs.Relaxed.{effect}
 use Rattle.kfifo_model.specs.Histories.{call, EndsBelow}
 
 abbrev pub IsItem : ℕ → Type 0
@@ -30,7 +32,7 @@ EndInRange None = Unit {0}
 
 -- thread and items
 abbrev pub IsInRange : Call → Type 0
-IsInRange c = (c.thread < 64) × OpInRange c.op × EndInRange c.end
+IsInRange c = (c.thread < MAX_THREADS) × OpInRange c.op × EndInRange c.end
 
 -- the answer is one of the operation's
 abbrev pub Answers : Op → Option End → Type 0

@@ -6,7 +6,8 @@ use Rattle.kfifo_model.specs.declared.orders.Verdict.TheVariants.{Legal, Repeats
 use Rattle.kfifo_model.specs.declared.orders.Verdict.TheVariants.{NotARun}
 use Rattle.kfifo_model.specs.declared.orders.Tried.{Tried}
 use Rattle.kfifo_model.specs.declared.orders.Tried.TheVariants.{NotLegal, Went, Took}
-use Rattle.kfifo_model.specs.Relaxed.{Effect, IsRun, next}
+use Rattle.kfifo_model.specs.declared.effects.Effect.{Effect}
+use Rattle.kfifo_model.specs.Relaxed.{IsRun, next}
 use Rattle.kfifo_model.specs.Ranks.{rank}
 use Rattle.kfifo_model.specs.Histories.{does, HasNoRepeats, HasOnlyCalls, HasEachFinished, KeepsBefore, IsOrder}
 use Rattle.kfifo_model.specs.Histories.{IsLegal}

@@ -1,6 +1,12 @@
 //! A call of a queue, and what it returned.
 ghost use Rattle.std.specs.Prelude.{◌≡◌};
+ghost use Rattle.kfifo_model.specs.Histories.{effect_of};
 ghost use Rattle.kfifo_model.specs.Words.{answer_word, op_word};
+
+use crate::effects::Effect;
+
+/// The most threads, numbered from 0.
+pub const MAX_THREADS: u32 = 64;
 
 /// The greatest item; the least is 1.
 pub const MAX_ITEM: u32 = 16_777_215;
@@ -93,4 +99,20 @@ pub struct Call {
     pub first: u64,
     /// The last step and the answer, where the call is finished.
     pub end: Option<End>,
+}
+
+impl Call {
+    /// Returns what the call does to the list of items. An unfinished enqueue puts its item in.
+    pub fn effect(&self) -> Effect
+        ensures { result ≡ effect_of self.now }
+    {
+        match (self.op, self.end.map(|end| end.answer)) {
+            (Op::Enqueue(item), None | Some(Answer::Done)) => Effect::Adds(item),
+            (Op::Dequeue, Some(Answer::Got(item))) => Effect::Takes(item),
+            (Op::Dequeue, Some(Answer::Empty)) => Effect::FindsNone,
+            (Op::Enqueue(_), Some(Answer::Full)) => Effect::Refused,
+            (_, Some(Answer::Busy | Answer::Worn)) => Effect::Refused,
+            _ => Effect::Wrong,
+        }
+    }
 }

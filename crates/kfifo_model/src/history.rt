@@ -3,8 +3,8 @@ ghost use Rattle.std.specs.Prelude.{ℕ, ◌≡◌, ◌<◌, ◌↔◌, Option, 
 ghost use Rattle.kfifo_model.specs.Validity.{IsItem, IsInRange, Answers, EndsFrom, IsHistory, IsFault};
 ghost use Rattle.kfifo_model.specs.FaultNumbers.{fault_number, fault_call};
 
-use crate::calls::{Answer, Call, End, MAX_ITEM, Op};
-use crate::progress::Progress;
+use crate::calls::{Answer, Call, End, MAX_ITEM, MAX_THREADS, Op};
+use crate::so_far::CallsSoFar;
 use std::alloc::{AllocError, AllocFailed};
 use std::marker::Model;
 use thiserror::Error;
@@ -137,7 +137,7 @@ fn is_in_range(call: &Call) -> bool
         ) => is_item(x),
         _ => true,
     };
-    call.thread < 64 && op && end
+    call.thread < MAX_THREADS && op && end
 }
 
 /// Whether the answer is one of the operation's.
@@ -171,7 +171,7 @@ pub(crate) fn ends_from(call: &Call) -> bool
 fn first_fault(calls: &[Call]) -> Option<RecordFault>
     ensures { MatchOption result (IsHistory calls.now) (IsFault calls.now) }
 {
-    let mut progress = Progress::new();
+    let mut so_far = CallsSoFar::new();
     for (n, call) in calls.iter().enumerate() {
         if !is_in_range(call) {
             return Some(RecordFault::NumberOutOfRange(n));
@@ -182,13 +182,13 @@ fn first_fault(calls: &[Call]) -> Option<RecordFault>
         if !ends_from(call) {
             return Some(RecordFault::EndsEarly(n));
         }
-        if !progress.rises(call) {
+        if !so_far.rises(call) {
             return Some(RecordFault::OutOfOrder(n));
         }
-        if !progress.lets(call) {
+        if !so_far.lets(call) {
             return Some(RecordFault::Overlap(n));
         }
-        progress.note(call);
+        so_far.note(call);
     }
     None
 }

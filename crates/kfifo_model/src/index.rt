@@ -6,15 +6,16 @@ ghost use Rattle.std.specs.List.{filter_map, flat_map, range_with_len};
 ghost use Rattle.std.specs.Ordering.{nat_cmp};
 ghost use Rattle.std.specs.BTreeMap.{get};
 ghost use Rattle.kfifo_model.specs.Histories.{call, does, effect_of};
-ghost use Rattle.kfifo_model.specs.Relaxed.{Adds, Takes};
+ghost use Rattle.kfifo_model.specs.declared.effects.Effect.TheVariants.{Adds, Takes};
 ghost use Rattle.kfifo_model.specs.Overtaking.{certainly_overtaken, numbers_of};
 ghost use Rattle.kfifo_model.specs.Measures.{IsDoneEnqueue, HasDistinctItems};
-ghost use Rattle.kfifo_model.specs.Index.{kind_effect, IsIndex, HasTwo, rival_of, rivals_below, last_of, is_beaten};
+ghost use Rattle.kfifo_model.specs.Index.{IsIndex, HasTwo, rival_of, rivals_below, last_of, is_beaten};
 ghost use Rattle.kfifo_model.specs.Index.{done_item};
 ghost use Rattle.kfifo_model.specs.Index.{measured, IsMeasureFault, measure_fault_number};
 
 use crate::blocks::{Block, blocks_of, count_in};
 use crate::calls::{Answer, Call, Op};
+use crate::effects::Side;
 use crate::history::History;
 use crate::measures::{added, taken};
 use std::alloc::{AllocError, Global};
@@ -74,38 +75,18 @@ pub struct Rival {
     pub got_last: u64,
 }
 
-/// Which calls an index lists.
-#[derive(Clone, Copy)]
-pub enum Kind {
-    /// Those that put an item.
-    Puts,
-    /// Those that got one.
-    Gots,
-}
-
-/// The item of a call of this kind.
-pub(crate) fn item_of(kind: Kind, call: &Call) -> Option<u32>
-    ensures { MatchOption result ((x : ℕ) → effect_of call.now ≡ kind_effect kind x → ⊥)
-        (λ x. effect_of call.now ≡ kind_effect kind x) }
-{
-    match kind {
-        Kind::Puts => added(call),
-        Kind::Gots => taken(call),
-    }
-}
-
-/// The first step of each item's call of this kind, or none where an item has two.
+/// The first step of each item's call of this side, or none where an item has two.
 fn index_of(
     alloc: Global,
     calls: &[Call],
-    kind: Kind,
+    side: Side,
 ) -> Result<Option<BTreeMap<u32, u64>>, AllocError>
-    ensures { IfOk result (λ o. MatchOption o (HasTwo calls.now kind)
-        (λ m. IsIndex calls.now kind (length calls.now) (λ x. get nat_cmp m x))) }
+    ensures { IfOk result (λ o. MatchOption o (HasTwo calls.now side)
+        (λ m. IsIndex calls.now side (length calls.now) (λ x. get nat_cmp m x))) }
 {
     let mut firsts = BTreeMap::new(alloc);
     for call in calls {
-        if let Some(item) = item_of(kind, call) {
+        if let Some(item) = side.item_of(call) {
             if firsts.insert(item, call.first)?.is_some() {
                 return Ok(None);
             }
@@ -199,8 +180,8 @@ fn measure_calls(
     puts: &BTreeMap<u32, u64>,
     gots: &BTreeMap<u32, u64>,
 ) -> Result<Vec<Overtaken>, AllocError>
-    requires puts { IsIndex calls.now Kind.Puts (length calls.now) (λ x. get nat_cmp puts.now x) }
-    requires gots { IsIndex calls.now Kind.Gots (length calls.now) (λ x. get nat_cmp gots.now x) }
+    requires puts { IsIndex calls.now Side.In (length calls.now) (λ x. get nat_cmp puts.now x) }
+    requires gots { IsIndex calls.now Side.Out (length calls.now) (λ x. get nat_cmp gots.now x) }
     ensures { IfOk result (λ v. v.items ≡ measured calls.now (length calls.now)) }
 {
     let mut rivals = rivals(alloc, calls, puts)?;
@@ -262,11 +243,28 @@ fn measure_among(alloc: Global, calls: &[Call]) -> Result<Vec<Overtaken>, Measur
     if !has_done(calls) {
         return Ok(Vec::new(alloc));
     }
-    let Some(puts) = index_of(alloc, calls, Kind::Puts)? else {
+    let Some(puts) = index_of(alloc, calls, Side::In)? else {
         return Err(MeasureFault::RepeatedItem);
     };
-    let Some(gots) = index_of(alloc, calls, Kind::Gots)? else {
+    let Some(gots) = index_of(alloc, calls, Side::Out)? else {
         return Err(MeasureFault::RepeatedItem);
     };
     Ok(measure_calls(alloc, calls, &puts, &gots)?)
+}
+
+/// Returns whether two calls of the history put one item, or two got one. An unfinished enqueue puts its item.
+///
+/// Fails if an allocation fails.
+pub fn items_repeat(alloc: Global, history: &History) -> Result<bool, AllocError>
+    ensures { IfOk result (λ repeat. MatchBool repeat (HasDistinctItems history.now → ⊥)
+        (HasDistinctItems history.now)) }
+{
+    let calls = history.calls();
+    let Some(_puts) = index_of(alloc, calls, Side::In)? else {
+        return Ok(true);
+    };
+    let Some(_gets) = index_of(alloc, calls, Side::Out)? else {
+        return Ok(true);
+    };
+    Ok(false)
 }

@@ -4,18 +4,22 @@
 
 mod blocks;
 mod calls;
+mod effects;
 mod history;
 mod index;
 mod measures;
 mod orders;
-mod progress;
 mod reading;
 mod search;
+mod so_far;
+mod spellings;
 
-pub use calls::{Answer, Call, End, MAX_ITEM, Op};
+pub use calls::{Answer, Call, End, MAX_ITEM, MAX_THREADS, Op};
+pub use effects::{Effect, Side};
 pub use history::{History, RecordFault};
-pub use index::{MeasureFault, Overtaken, measure};
+pub use index::{MeasureFault, Overtaken, items_repeat, measure};
 pub use measures::{OvertakenFault, RankFault, overtaken, ranks};
 pub use orders::{Verdict, check_order};
 pub use reading::{MAX_CALLS, read_history};
 pub use search::{MAX_SEARCHED, SearchFault, has_order};
+pub use spellings::{AnswerWord, OpWord};

@@ -2,7 +2,8 @@
 ghost use Rattle.std.specs.Prelude.{ℕ, ◌≡◌, ◌≤◌, ◌<◌, ◌+◌, ◌&&◌, ◌↔◌, not, List, [], ◌∷◌, map, length, IsTrue, IfOk};
 ghost use Rattle.std.specs.Prelude.{MatchOption};
 ghost use Rattle.std.specs.Prelude.{MatchResult};
-ghost use Rattle.kfifo_model.specs.Relaxed.{Adds, Takes, IsRun};
+ghost use Rattle.kfifo_model.specs.declared.effects.Effect.TheVariants.{Adds, Takes};
+ghost use Rattle.kfifo_model.specs.Relaxed.{IsRun};
 ghost use Rattle.kfifo_model.specs.Histories.{effect_of, does, HasOnlyCalls, IsLegal};
 ghost use Rattle.kfifo_model.specs.Overtaking.{adds, takes, some, precedes, ends_below, overtakes, numbers_of};
 ghost use Rattle.kfifo_model.specs.Overtaking.{certainly_overtaken};
@@ -11,7 +12,8 @@ ghost use Rattle.kfifo_model.specs.Measures.{IsRankFault, IsDoneEnqueue, HasDist
 ghost use Rattle.kfifo_model.specs.Measures.{RepeatsEarlier};
 ghost use Rattle.kfifo_model.specs.Measures.{IsOvertakenFault, rank_fault_number, overtaken_fault_number};
 
-use crate::calls::{Answer, Call, End, Op};
+use crate::calls::{Answer, Call, Op};
+use crate::effects::Effect;
 use crate::history::History;
 use crate::orders::{Tried, Verdict, judge, try_number};
 use std::alloc::{AllocError, Global};
@@ -78,16 +80,9 @@ impl OvertakenFault {
 pub(crate) fn added(call: &Call) -> Option<u32>
     ensures { MatchOption result ((x : ℕ) → effect_of call.now ≡ Adds x → ⊥) (λ x. effect_of call.now ≡ Adds x) }
 {
-    match (call.op, call.end) {
-        (Op::Enqueue(x), None) => Some(x),
-        (Op::Enqueue(x), Some(end)) => match end.answer {
-            Answer::Done => Some(x),
-            _ => None,
-        },
-        (Op::Dequeue, Some(end)) => match end.answer {
-            _ => None,
-        },
-        (Op::Dequeue, None) => None,
+    match call.effect() {
+        Effect::Adds(item) => Some(item),
+        _ => None,
     }
 }
 
@@ -95,16 +90,8 @@ pub(crate) fn added(call: &Call) -> Option<u32>
 pub(crate) fn taken(call: &Call) -> Option<u32>
     ensures { MatchOption result ((x : ℕ) → effect_of call.now ≡ Takes x → ⊥) (λ x. effect_of call.now ≡ Takes x) }
 {
-    match (call.op, call.end) {
-        (
-            Op::Dequeue,
-            Some(
-                End {
-                    answer: Answer::Got(x),
-                    ..
-                },
-            ),
-        ) => Some(x),
+    match call.effect() {
+        Effect::Takes(item) => Some(item),
         _ => None,
     }
 }

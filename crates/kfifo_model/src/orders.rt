@@ -4,12 +4,14 @@ ghost use Rattle.std.specs.Prelude.{Some, None};
 ghost use Rattle.std.specs.BTreeSet.{contains};
 ghost use Rattle.std.specs.Ordering.{nat_cmp};
 ghost use Rattle.kfifo_model.specs.Lists.{IsIn, place};
-ghost use Rattle.kfifo_model.specs.Relaxed.{IsRun, next, Takes};
+ghost use Rattle.kfifo_model.specs.declared.effects.Effect.TheVariants.{Takes};
+ghost use Rattle.kfifo_model.specs.Relaxed.{IsRun, next};
 ghost use Rattle.kfifo_model.specs.Histories.{does, effect_of, HasNoRepeats, HasOnlyCalls, HasEachFinished};
 ghost use Rattle.kfifo_model.specs.Histories.{KeepsBefore};
 ghost use Rattle.kfifo_model.specs.Verdicts.{IsVerdict, IsTried, verdict_number};
 
-use crate::calls::{Answer, Call, Op};
+use crate::calls::{Call, Op};
+use crate::effects::Effect;
 use crate::history::History;
 use std::alloc::{AllocError, Global};
 use std::collections::{BTreeSet, VecDeque};
@@ -151,26 +153,15 @@ fn take_out(items: &mut VecDeque<u32>, k: usize, item: u32) -> Tried
 fn try_call(items: &mut VecDeque<u32>, k: usize, call: &Call) -> Result<Tried, AllocError>
     ensures { IfOk result (IsTried k items.old.items items.new.items (effect_of call.now)) }
 {
-    match (call.op, call.end) {
-        (Op::Enqueue(item), None) => {
+    match call.effect() {
+        Effect::Adds(item) => {
             items.push_back(item)?;
             Ok(Tried::Went)
         }
-        (Op::Dequeue, None) => Ok(Tried::NotLegal),
-        (Op::Enqueue(item), Some(end)) => match end.answer {
-            Answer::Done => {
-                items.push_back(item)?;
-                Ok(Tried::Went)
-            }
-            Answer::Full | Answer::Busy | Answer::Worn => Ok(Tried::Went),
-            Answer::Got(_) | Answer::Empty => Ok(Tried::NotLegal),
-        },
-        (Op::Dequeue, Some(end)) => match end.answer {
-            Answer::Got(item) => Ok(take_out(items, k, item)),
-            Answer::Empty if items.is_empty() => Ok(Tried::Went),
-            Answer::Busy | Answer::Worn => Ok(Tried::Went),
-            Answer::Done | Answer::Full | Answer::Empty => Ok(Tried::NotLegal),
-        },
+        Effect::Takes(item) => Ok(take_out(items, k, item)),
+        Effect::FindsNone if items.is_empty() => Ok(Tried::Went),
+        Effect::Refused => Ok(Tried::Went),
+        Effect::FindsNone | Effect::Wrong => Ok(Tried::NotLegal),
     }
 }
 

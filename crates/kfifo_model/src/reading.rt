@@ -6,52 +6,25 @@ ghost use Rattle.std.specs.List.{list_all};
 ghost use Rattle.std.specs.BTreeMap.{keys};
 ghost use Rattle.serde_json.specs.Data.{Data};
 ghost use Rattle.serde_json.specs.View.{view};
-ghost use Rattle.kfifo_model.specs.declared.reading.OpWord.{OpWord};
+ghost use Rattle.kfifo_model.specs.declared.spellings.OpWord.{OpWord};
 ghost use Rattle.kfifo_model.specs.declared.reading.Ending.{Ending as EndingData};
 ghost use Rattle.kfifo_model.specs.declared.reading.Entry.{Entry as EntryData};
 ghost use Rattle.kfifo_model.specs.Histories.{call};
 ghost use Rattle.kfifo_model.specs.Validity.{IsInRange, Answers, IsHistory};
-ghost use Rattle.kfifo_model.specs.Records.{is_key, has_known_keys, number_at, text_at, HasNumber, HasOp, IsAnswerWord};
+ghost use Rattle.kfifo_model.specs.Records.{is_key, has_known_keys, number_at, text_at, HasNumber, HasOp};
 ghost use Rattle.kfifo_model.specs.Records.{HasEnding, item_fits, IsEntry, is_in_range, answer_of, ending_of, op_of};
 ghost use Rattle.kfifo_model.specs.Records.{call_of};
 ghost use Rattle.kfifo_model.specs.Records.{IsRead, AreRead, IsMemberFault, IsRecordOf, IsReadFault};
 
-use crate::calls::{Answer, Call, End, MAX_ITEM, Op};
+use crate::calls::{Answer, Call, End, MAX_ITEM, MAX_THREADS, Op};
 use crate::history::{History, RecordFault, ends_from, is_item};
-use crate::progress::Progress;
+use crate::so_far::CallsSoFar;
+use crate::spellings::{AnswerWord, OpWord};
 use serde_json::{Map, Value};
 use std::alloc::Global;
 
 /// The most calls of a record.
 pub const MAX_CALLS: usize = 65_536;
-
-/// The operation that a record names.
-#[derive(Clone, Copy)]
-pub enum OpWord {
-    /// `enq`
-    Enq,
-    /// `deq`
-    Deq,
-}
-
-/// The answer that a record names.
-#[derive(Clone, Copy)]
-pub enum AnswerWord {
-    /// `done`
-    Done,
-    /// `full`
-    Full,
-    /// `got`
-    Got,
-    /// `empty`
-    Empty,
-    /// `busy`
-    Busy,
-    /// `worn`
-    Worn,
-    /// Any other text.
-    Other,
-}
 
 /// The last step and the answer of a call's object.
 #[derive(Clone, Copy)]
@@ -143,37 +116,8 @@ fn op_word(value: &Value) -> Option<OpWord>
     ensures { MatchOption result ((w : OpWord) → HasOp (view value.now) w → ⊥) (HasOp (view value.now)) }
 {
     match value.get("op").and_then(Value::as_str) {
-        Some(text) => {
-            if text == Op::Enqueue(0).word() {
-                Some(OpWord::Enq)
-            } else if text == Op::Dequeue.word() {
-                Some(OpWord::Deq)
-            } else {
-                None
-            }
-        }
+        Some(text) => OpWord::of(text.as_bytes()),
         None => None,
-    }
-}
-
-/// The answer that a text names.
-fn answer_word(text: &str) -> AnswerWord
-    ensures { IsAnswerWord text.now result }
-{
-    if text == Answer::Done.word() {
-        AnswerWord::Done
-    } else if text == Answer::Full.word() {
-        AnswerWord::Full
-    } else if text == Answer::Got(0).word() {
-        AnswerWord::Got
-    } else if text == Answer::Empty.word() {
-        AnswerWord::Empty
-    } else if text == Answer::Busy.word() {
-        AnswerWord::Busy
-    } else if text == Answer::Worn.word() {
-        AnswerWord::Worn
-    } else {
-        AnswerWord::Other
     }
 }
 
@@ -190,7 +134,7 @@ fn read_ending(value: &Value) -> Option<Option<Ending>>
     };
     match value.get("answer").and_then(Value::as_str) {
         Some(text) => {
-            let answer = answer_word(text);
+            let answer = AnswerWord::of(text.as_bytes());
             Some(Some(Ending { last, answer }))
         }
         None => None,
@@ -253,7 +197,7 @@ fn is_entry_in_range(entry: &Entry) -> bool
         Some(x) => 0 < x && x <= MAX_ITEM as u64,
         None => true,
     };
-    entry.thread < 64 && item
+    entry.thread < u64::from(MAX_THREADS) && item
 }
 
 /// The answer, if it is one of the operation's.
@@ -339,7 +283,7 @@ fn read_members(alloc: Global, members: &[Value]) -> Result<Vec<Call>, RecordFau
         MatchResult result (λ v. (length v.items ≡ length ds) × AreRead ds v.items × IsHistory v.items)
         (IsMemberFault ds) }
 {
-    let mut progress = Progress::new();
+    let mut so_far = CallsSoFar::new();
     let mut calls = Vec::new(alloc);
     calls.reserve_exact(members.len())?;
     for (n, member) in members.iter().enumerate() {
@@ -352,13 +296,13 @@ fn read_members(alloc: Global, members: &[Value]) -> Result<Vec<Call>, RecordFau
         if !ends_from(&call) {
             return Err(RecordFault::EndsEarly(n));
         }
-        if !progress.rises(&call) {
+        if !so_far.rises(&call) {
             return Err(RecordFault::OutOfOrder(n));
         }
-        if !progress.lets(&call) {
+        if !so_far.lets(&call) {
             return Err(RecordFault::Overlap(n));
         }
-        progress.note(&call);
+        so_far.note(&call);
         calls.push(call)?;
     }
     Ok(calls)

@@ -9,21 +9,22 @@ ghost use Rattle.std.specs.Prelude.{◌∷◌};
 ghost use Rattle.std.specs.Prelude.{length, All, Contains, Any, IsTrue, IsSome, IfSome, IfOk, OnOk, MatchOption};
 ghost use Rattle.std.specs.Prelude.{MatchResult};
 ghost use Rattle.kfifo_model.specs.Lists.{IsIn};
-ghost use Rattle.kfifo_model.specs.Relaxed.{Adds, Takes, next};
+ghost use Rattle.kfifo_model.specs.declared.effects.Effect.TheVariants.{Adds, Takes};
+ghost use Rattle.kfifo_model.specs.Relaxed.{next};
 ghost use Rattle.std.specs.Option.{option_map};
 ghost use Rattle.kfifo_model.specs.Histories.{effect_of, does, CanStand, EndsBelow};
 ghost use Rattle.kfifo_model.specs.Validity.{IsHistory};
 ghost use Rattle.kfifo_model.specs.Reach.{Reach, reach};
-ghost use Rattle.kfifo_model.specs.Index.{kind_effect};
+ghost use Rattle.kfifo_model.specs.Index.{side_effect};
 ghost use Rattle.kfifo_model.specs.Searching.{HasOrder, IsSearchFault, search_fault_number, IsDone, IsComplete};
 ghost use Rattle.kfifo_model.specs.Searching.{IsReady, IsFree};
 ghost use Rattle.kfifo_model.specs.Searching.{Extends, IsNoNext, IsLeft, IsWanted, IsComing, IsIdle, IsAsGood};
 ghost use Rattle.kfifo_model.specs.Searching.{AreAsGood};
 ghost use Rattle.kfifo_model.specs.Searching.{done_count, IsFurther, LeadsTo, IsAdded, IsNextLevel};
 
-use crate::calls::{Answer, Call, Op};
+use crate::calls::{Call, Op};
+use crate::effects::{Effect, Side};
 use crate::history::History;
-use crate::index::{Kind, item_of};
 use crate::measures::taken;
 use crate::orders::{Tried, try_number};
 use std::alloc::{AllocError, Global};
@@ -145,17 +146,10 @@ fn is_free(calls: &[Call], done: &[bool], n: usize) -> bool
 fn is_idle(call: &Call, items: &[u32]) -> bool
     ensures { IsTrue result ↔ IsIdle items.now (effect_of call.now) }
 {
-    match (call.op, call.end) {
-        (_, None) => false,
-        (Op::Enqueue(_), Some(end)) => match end.answer {
-            Answer::Full | Answer::Busy | Answer::Worn => true,
-            Answer::Done | Answer::Got(_) | Answer::Empty => false,
-        },
-        (Op::Dequeue, Some(end)) => match end.answer {
-            Answer::Empty => items.is_empty(),
-            Answer::Busy | Answer::Worn => true,
-            Answer::Done | Answer::Full | Answer::Got(_) => false,
-        },
+    match call.effect() {
+        Effect::Refused => true,
+        Effect::FindsNone => items.is_empty(),
+        Effect::Adds(_) | Effect::Takes(_) | Effect::Wrong => false,
     }
 }
 
@@ -171,12 +165,12 @@ fn idle_call(calls: &[Call], done: &[bool], items: &[u32]) -> Option<usize>
     None
 }
 
-/// Whether a call of this kind that is not done has the item.
-fn is_left(calls: &[Call], done: &[bool], kind: Kind, item: u32) -> bool
-    ensures { IsTrue result ↔ IsLeft calls.now done.now (kind_effect kind item) }
+/// Whether a call of this side that is not done has the item.
+fn is_left(calls: &[Call], done: &[bool], side: Side, item: u32) -> bool
+    ensures { IsTrue result ↔ IsLeft calls.now done.now (side_effect side item) }
 {
     for (n, call) in calls.iter().enumerate() {
-        if let Some(x) = item_of(kind, call) {
+        if let Some(x) = side.item_of(call) {
             if x == item && !is_done(done, n) {
                 return true;
             }
@@ -204,7 +198,7 @@ fn can_finish(calls: &[Call], done: &[bool], items: &[u32]) -> bool
 {
     for (n, call) in calls.iter().enumerate() {
         if let Some(x) = taken(call) {
-            if !is_done(done, n) && !has(items, x) && !is_left(calls, done, Kind::Puts, x) {
+            if !is_done(done, n) && !has(items, x) && !is_left(calls, done, Side::In, x) {
                 return false;
             }
         }
@@ -225,7 +219,7 @@ fn remembered(
     let mut kept = Vec::with_capacity(alloc, items.len())?;
     for i in 0..items.len() {
         let item = items[i];
-        let as_good = if is_left(calls, done, Kind::Gots, item) {
+        let as_good = if is_left(calls, done, Side::Out, item) {
             item
         } else {
             0

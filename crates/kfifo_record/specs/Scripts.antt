@@ -1,6 +1,7 @@
 -- Scripts that threads run on a stamped queue, and the record of the run.
 use Rattle.std.specs.Prelude.{◌≡◌, ℕ, ◌^◌, ◌<◌, ◌≤◌, List, [], ◌∷◌, length, map, max, All, get_or, IsSome, Vec}
 use Rattle.std.specs.List.{fold, AllByRecursion}
+use Rattle.kfifo_live.specs.declared.recording.TheConstants.{MAX_STAMPED_CALLS}
 use Rattle.kfifo_words.specs.declared.shape.Shape.{Shape}
 use Rattle.kfifo_model.specs.declared.calls.Answer.{Answer}
 use Rattle.kfifo_model.specs.declared.calls.Call.{Call}
@@ -66,7 +67,7 @@ pub record MayRun (queue : OpenQueue) (scripts : List (List Begin)) (pass : Logg
   pub has_script : pass.pass.thread < length scripts
   pub calls : All (IsCall queue.opened.shape) (script_of scripts pass.pass.thread)
   pub room : length (script_of scripts pass.pass.thread) ≤ queue.opened.calls
-  pub few : queue.opened.calls ≤ 1024
+  pub few : queue.opened.calls ≤ MAX_STAMPED_CALLS
 
 -- What the run of scripts came to: of one queue pass t made the calls of script t in turn, each between two stamps. The
 -- history has them by rising first stamps, all of them ended. The calls of thread t are script t in its order, and no

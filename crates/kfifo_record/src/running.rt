@@ -1,5 +1,8 @@
 //! Running scripts, each on a thread of its own, and gathering the record of the run.
 ghost use Rattle.std.specs.Prelude.{◌≡◌, ◌<◌, ◌≤◌, ◌⊎◌, ◌↔◌, ◌^◌, ◌-◌, [], min, All, IfOk, IsErrOf, length};
+ghost use Rattle.kfifo_model.specs.declared.calls.TheConstants.{MAX_THREADS};
+ghost use Rattle.kfifo_model.specs.declared.reading.TheConstants.{MAX_CALLS};
+ghost use Rattle.kfifo_live.specs.declared.recording.TheConstants.{MAX_STAMPED_CALLS};
 ghost use Rattle.kfifo_live.specs.declared.fault.OpenFault.TheVariants.{CallsOutOfRange, ThreadsOutOfRange};
 ghost use Rattle.kfifo_live.specs.declared.fault.OpenFault.TheVariants.{TokensOutOfRange};
 ghost use Rattle.kfifo_live.specs.Pass.{IsPassOf};
@@ -36,10 +39,11 @@ pub fn record_scripts<R: Threads + Sync, G: Gate + Sync>(
 ) -> Result<History, OpenFault>
     requires { AreScripts shape (scripts_in scripts.now) }
     ensures ok { IfOk result (λ history. IsRecord shape (scripts_in scripts.now) history) }
-    ensures few { IfOk result (λ history. length history ≤ 65536) }
-    ensures threads { IsErrOf result ThreadsOutOfRange ↔ ((length scripts.now ≡ 0) ⊎ (64 < length scripts.now)) }
-    ensures calls { IsErrOf result CallsOutOfRange ↔ ((0 < length scripts.now) × (length scripts.now ≤ 64)
-        × (1024 < longest (scripts_in scripts.now))) }
+    ensures few { IfOk result (λ history. length history ≤ MAX_CALLS) }
+    ensures threads { IsErrOf result ThreadsOutOfRange
+        ↔ ((length scripts.now ≡ 0) ⊎ (MAX_THREADS < length scripts.now)) }
+    ensures calls { IsErrOf result CallsOutOfRange ↔ ((0 < length scripts.now) × (length scripts.now ≤ MAX_THREADS)
+        × (MAX_STAMPED_CALLS < longest (scripts_in scripts.now))) }
     ensures tokens { ¬ IsErrOf result TokensOutOfRange }
 {
     let (queue, passes) = open(alloc, shape, scripts)?;
@@ -77,9 +81,10 @@ fn open(
     requires { AreScripts shape (scripts_in scripts.now) }
     ensures ok { IfOk result (λ r. IsOpenFor shape (scripts_in scripts.now) r.0 r.1.items) }
     ensures may_run { IfOk result (λ r. All (MayRun r.0 (scripts_in scripts.now)) r.1.items) }
-    ensures threads { IsErrOf result ThreadsOutOfRange ↔ ((length scripts.now ≡ 0) ⊎ (64 < length scripts.now)) }
-    ensures calls { IsErrOf result CallsOutOfRange ↔ ((0 < length scripts.now) × (length scripts.now ≤ 64)
-        × (1024 < longest (scripts_in scripts.now))) }
+    ensures threads { IsErrOf result ThreadsOutOfRange
+        ↔ ((length scripts.now ≡ 0) ⊎ (MAX_THREADS < length scripts.now)) }
+    ensures calls { IsErrOf result CallsOutOfRange ↔ ((0 < length scripts.now) × (length scripts.now ≤ MAX_THREADS)
+        × (MAX_STAMPED_CALLS < longest (scripts_in scripts.now))) }
     ensures tokens { ¬ IsErrOf result TokensOutOfRange }
 {
     let threads = capped(scripts.len());
@@ -125,7 +130,7 @@ fn run_script<G: Gate>(queue: &StampQueue, pass: &mut StampPass, script: &[Begin
     requires fresh { pass.old.log ≡ [] }
     requires calls { All (IsCall queue.now.opened.shape) script.now }
     requires room { length script.now ≤ queue.now.opened.calls }
-    requires few { queue.now.opened.calls ≤ 1024 }
+    requires few { queue.now.opened.calls ≤ MAX_STAMPED_CALLS }
     ensures { MakesInTurn script.now pass.old pass.new }
 {
     let thread = pass.thread();

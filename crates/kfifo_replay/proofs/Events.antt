@@ -4,10 +4,7 @@ use Rattle.std.proofs.Common.{◌∙◌, ap, inl, inr, zero-add, eq-eqb, arith}
 use Rattle.std.specs.Prelude.{◌==◌, ◌&&◌, is_some}
 use Rattle.std.proofs.lemmas.Bool.{ne_eqb}
 use Rattle.std.proofs.lemmas.List.Sums.{sum_by-append}
-use Rattle.kfifo_words.specs.declared.shape.Shape.{Shape}
-use Rattle.kfifo_machine.specs.declared.event.Begin.{Begin}
-use Rattle.kfifo_machine.specs.declared.event.Event.{Event}
-use Rattle.kfifo_machine.specs.declared.place.Running.{Running}
+use Rattle.kfifo_replay.proofs.Types.{Begin, Event, Running, Shape}
 use Rattle.kfifo_machine.specs.Machine.{World, place_of, after}
 use Rattle.kfifo_machine.specs.Runs.{event}
 use Rattle.kfifo_machine.proofs.Schedules.{Some-injective}

@@ -4,8 +4,7 @@ use Rattle.std.specs.Prelude.{sum_by}
 use Rattle.std.proofs.lemmas.List.Folds.{fold-map}
 use Rattle.std.proofs.lemmas.List.Sums.{sum_by-le}
 use Rattle.std.proofs.lemmas.List.{length-replicate}
-use Rattle.kfifo_words.specs.declared.shape.Shape.{Shape}
-use Rattle.kfifo_machine.specs.declared.event.Begin.{Begin}
+use Rattle.kfifo_replay.proofs.Types.{Begin, Shape}
 use Rattle.kfifo_machine.specs.Calls.{blank}
 use Rattle.kfifo_linear.specs.Following.{Follows}
 use Rattle.kfifo_linear.proofs.Base.{get_or_replicate}

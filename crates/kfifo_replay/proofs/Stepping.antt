@@ -3,10 +3,7 @@ use Rattle.std.proofs.Common.{◌≡◌, ℕ, suc, ◌<◌, ◌≤◌, List, [],
 use Rattle.std.proofs.Common.{inl, inr, arith, length-append}
 use Rattle.std.proofs.lemmas.Bool.{cases_lt}
 use Rattle.std.proofs.lemmas.List.{length-take-le, take_all, take-append-le}
-use Rattle.kfifo_words.specs.declared.shape.Shape.{Shape}
-use Rattle.kfifo_machine.specs.declared.event.Begin.{Begin}
-use Rattle.kfifo_machine.specs.declared.event.Event.{Event}
-use Rattle.kfifo_machine.specs.declared.place.Running.{Running}
+use Rattle.kfifo_replay.proofs.Types.{Begin, Event, Running, Shape}
 use Rattle.kfifo_machine.specs.Machine.{World, begun, run, step, world_of}
 use Rattle.kfifo_machine.specs.Runs.{going}
 use Rattle.kfifo_machine.proofs.Paths.{begins_from}

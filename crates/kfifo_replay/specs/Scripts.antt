@@ -1,5 +1,7 @@
 -- What threads are to call: for each thread a script, its calls in turn.
 use Rattle.std.specs.Prelude.{ℕ, ◌^◌, ◌<◌, ◌≤◌, List, length, All, sum_by}
+use Rattle.kfifo_replay.specs.declared.player.TheConstants.{MAX_SCRIPT_CALLS}
+use Rattle.kfifo_model.specs.declared.calls.TheConstants.{MAX_THREADS}
 use Rattle.kfifo_words.specs.declared.shape.Shape.{Shape}
 use Rattle.kfifo_machine.specs.declared.event.Begin.{Begin}
 use Rattle.kfifo_machine.specs.declared.event.Begin.TheVariants as B
@@ -13,13 +15,13 @@ IsCall shape B.Tick = ⊥
 
 -- one script of at most 64 calls
 pub record IsScript (shape : Shape) (script : List Begin) : Type 0 where
-  pub short : length script ≤ 64
+  pub short : length script ≤ MAX_SCRIPT_CALLS
   pub calls : All (IsCall shape) script
 
 -- 1 to 64 scripts
 pub record AreScripts (shape : Shape) (scripts : List (List Begin)) : Type 0 where
   pub some : 0 < length scripts
-  pub few : length scripts ≤ 64
+  pub few : length scripts ≤ MAX_THREADS
   pub each : All (IsScript shape) scripts
 
 -- the number of their calls

@@ -1,5 +1,6 @@
 -- What a tracer keeps, and what a trace says of picks.
 use Rattle.std.specs.Prelude.{◌≡◌, ℕ, ◌≤◌, ◌++◌, List, length, take, Some}
+use Rattle.kfifo_replay.specs.declared.tracer.TheConstants.{MAX_STEPS}
 use Rattle.kfifo_words.specs.declared.shape.Shape.{Shape}
 use Rattle.kfifo_machine.specs.declared.event.Begin.{Begin}
 use Rattle.kfifo_machine.specs.declared.event.Event.{Event}
@@ -12,7 +13,7 @@ use Rattle.kfifo_replay.specs.Steps.{AreSteps}
 
 -- the most steps that a trace keeps
 abbrev pub max_steps : ℕ
-max_steps = 65536
+max_steps = MAX_STEPS
 
 -- a replay, a machine that makes the same events, the steps so far, and for how many there is room
 pub record Tracing : Type 0 where

@@ -4,11 +4,10 @@ use Rattle.std.proofs.Common.{length-append}
 use Rattle.std.proofs.lemmas.Bool.{cases_lt}
 use Rattle.std.proofs.lemmas.List.{get_or_append_left}
 use Rattle.std.proofs.Math.Seq.{get_or-append_seam}
-use Rattle.kfifo_model.specs.declared.calls.Call.{Call}
-use Rattle.kfifo_model.specs.Relaxed.{Adds}
+use Rattle.kfifo_verdict.proofs.Types.{Call, Presence}
+use Rattle.kfifo_model.specs.declared.effects.Effect.TheVariants.{Adds}
 use Rattle.kfifo_model.specs.Histories.{call, Precedes}
 use Rattle.kfifo_model.specs.Validity.{IsHistory}
-use Rattle.kfifo_verdict.specs.declared.presences.Presence.{Presence}
 use Rattle.kfifo_verdict.specs.Evidence.{Puts, Gets, IsSingle, IsCertainlyThere, IsOlder}
 use Rattle.kfifo_verdict.specs.Finding.{first_of, IsStart, IsKnown, IsPresence, ArePresences, no_presence}
 use Rattle.kfifo_verdict.proofs.Moments.{sooner, ends_later}

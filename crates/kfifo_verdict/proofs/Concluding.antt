@@ -4,14 +4,17 @@ use Rattle.std.proofs.Common.{Err}
 use Rattle.std.specs.Result.{IfOk}
 use Rattle.std.specs.Option.{MatchOption, OnSome}
 use Rattle.std.proofs.lemmas.Bool.{cases_lt}
-use Rattle.kfifo_model.specs.declared.calls.Call.{Call}
+use Rattle.kfifo_verdict.proofs.Types.{Call}
 use Rattle.kfifo_model.specs.Validity.{IsHistory}
 use Rattle.kfifo_model.specs.Searching.{HasOrder}
 use Rattle.kfifo_verdict.specs.declared.verdicts.Evidence.{Evidence}
 use Rattle.kfifo_verdict.specs.declared.verdicts.Evidence.TheVariants.{NeverPut, TakenTwice, NotEmpty, TooYoung, TakenTooSoon}
+use Rattle.kfifo_verdict.specs.declared.verdicts.Evidence.TheVariants.{ItemsLeft, OlderLeft}
 use Rattle.kfifo_verdict.specs.Judging.{HasNoEvidence, IsFirstEvidence, HasNoneForEachK, IsFirstForEachK, IsFirstTo3, GotTooYoung}
 use Rattle.kfifo_verdict.specs.Judging.{IsLowerBound}
 use Rattle.kfifo_verdict.proofs.Refuting.{never_put_refutes, taken_twice_refutes, not_empty_refutes, too_young_refutes, too_soon_refutes}
+use Rattle.kfifo_verdict.proofs.Passing.{older_left_refutes}
+use Rattle.kfifo_verdict.proofs.Remaining.{items_left_refutes}
 use Rattle.kfifo_verdict.proofs.Telling.{got_inside}
 
 pub first_refutes : (k : ℕ) (h : List Call) (v : Evidence) → IsHistory h → IsFirstEvidence k h v → HasOrder k h → ⊥
@@ -20,6 +23,8 @@ first_refutes k h (TakenTwice get) v f = taken_twice_refutes k h get f.1
 first_refutes k h (NotEmpty empty puts) v f = not_empty_refutes k h empty puts.items v f.2
 first_refutes k h (TooYoung get puts) v f = too_young_refutes k k h get puts.items v (omega arith) f.3
 first_refutes k h (TakenTooSoon get) v f = too_soon_refutes k h get f.4
+first_refutes k h (ItemsLeft empty) v f = items_left_refutes k h empty v f.5
+first_refutes k h (OlderLeft get puts) v f = older_left_refutes k h get puts.items v f.6
 
 option_refutes : (k : ℕ) (h : List Call) (o : Option Evidence) → IsHistory h → MatchOption o (HasNoEvidence k h) (IsFirstEvidence k h)
     → OnSome o (HasOrder k h → ⊥)
@@ -40,6 +45,8 @@ to_3_first k h (TakenTwice get) f = f
 to_3_first k h (NotEmpty empty puts) f = f
 to_3_first k h (TooYoung get puts) f = absurd f
 to_3_first k h (TakenTooSoon get) f = absurd f
+to_3_first k h (ItemsLeft empty) f = absurd f
+to_3_first k h (OlderLeft get puts) f = absurd f
 
 pub to_3_for_each : (h : List Call) (v : Evidence) → IsFirstTo3 h v → IsFirstForEachK h v
 to_3_for_each h (NeverPut get) f = f
@@ -47,6 +54,8 @@ to_3_for_each h (TakenTwice get) f = f
 to_3_for_each h (NotEmpty empty puts) f = f
 to_3_for_each h (TooYoung get puts) f = absurd f
 to_3_for_each h (TakenTooSoon get) f = absurd f
+to_3_for_each h (ItemsLeft empty) f = absurd f
+to_3_for_each h (OlderLeft get puts) f = absurd f
 
 pub each_refutes : (k : ℕ) (h : List Call) (v : Evidence) → IsHistory h → IsFirstForEachK h v → HasOrder k h → ⊥
 each_refutes k h (NeverPut get) v f = never_put_refutes k h get f.0
@@ -54,6 +63,8 @@ each_refutes k h (TakenTwice get) v f = taken_twice_refutes k h get f.1
 each_refutes k h (NotEmpty empty puts) v f = not_empty_refutes k h empty puts.items v f.2
 each_refutes k h (TooYoung get puts) v f = absurd f
 each_refutes k h (TakenTooSoon get) v f = too_soon_refutes k h get f.3
+each_refutes k h (ItemsLeft empty) v f = items_left_refutes k h empty v f.4
+each_refutes k h (OlderLeft get puts) v f = absurd f
 
 option_refutes_each : (h : List Call) (o : Option Evidence) → IsHistory h → MatchOption o (HasNoneForEachK h) (IsFirstForEachK h)
     → OnSome o ((k : ℕ) → HasOrder k h → ⊥)

@@ -1,13 +1,12 @@
 -- A chain of items of which one is certainly there at each moment of a call.
 use Rattle.std.proofs.Common.{ℕ, ◌≡◌, ◌≢◌, ◌<◌, ◌≤◌, List, [], ◌∷◌, ◌++◌, length, get_or, refl, sym, subst, inl, inr, arith}
 use Rattle.std.proofs.lemmas.Bool.{cases_lt}
-use Rattle.kfifo_model.specs.declared.calls.Call.{Call}
+use Rattle.kfifo_verdict.proofs.Types.{Call, Stay}
 use Rattle.std.specs.List.{AllByRecursion}
 use Rattle.kfifo_model.specs.Lists.{IsIn}
 use Rattle.kfifo_model.specs.Histories.{call, EndsBelow, HasNoRepeats}
 use Rattle.kfifo_model.specs.Validity.{IsHistory}
 use Rattle.kfifo_model.proofs.Lists.{in_left, in_right, each_at, each_from, pairs_push, AllByRecursion-push}
-use Rattle.kfifo_verdict.specs.declared.finding.Stay.{Stay}
 use Rattle.kfifo_verdict.specs.Evidence.{IsCertainlyThere, IsMomentOf}
 use Rattle.kfifo_verdict.specs.Finding.{first_of, IsStay, no_stay, AreStays}
 use Rattle.kfifo_verdict.specs.Judging.{FoundNotEmpty}

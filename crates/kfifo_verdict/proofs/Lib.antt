@@ -1,3 +1,4 @@
+pub mod Types
 pub mod Counting
 pub mod Runs
 pub mod Refuting
@@ -14,3 +15,7 @@ pub mod Queueing
 pub mod Turning
 pub mod Lining
 pub mod Stepping
+pub mod Remaining
+pub mod Leaving
+pub mod Passing
+pub mod Ageing

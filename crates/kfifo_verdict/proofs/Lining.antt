@@ -10,19 +10,13 @@ use Rattle.std.proofs.Math.Seq.{get_or-append_seam}
 use Rattle.std.specs.List.{All}
 use Rattle.std.proofs.lemmas.List.Sorted.{All-permutation, Contains-permutation}
 use Rattle.std.specs.List.Sorted.{IsPermutation, IsPartitionPoint, IsNonDecreasingBy}
-use Rattle.kfifo_model.specs.declared.calls.Call.{Call}
-use Rattle.kfifo_model.specs.declared.calls.End.{End}
-use Rattle.kfifo_model.specs.Relaxed.{Effect, Adds, Takes, FindsNone}
+use Rattle.kfifo_verdict.proofs.Types.{Call, Effect, End, Presence, Stay, Turn}
+use Rattle.kfifo_model.specs.declared.effects.Effect.TheVariants.{Adds, Takes, FindsNone}
 use Rattle.kfifo_model.specs.Histories.{call, does, HasEnd, IsFinished}
 use Rattle.kfifo_model.specs.Validity.{IsHistory}
-use Rattle.kfifo_verdict.specs.declared.deeds.Deed.{Deed}
-use Rattle.kfifo_verdict.specs.declared.deeds.Deed.TheVariants.{PutIn, TookOut, FoundNone, Nothing}
 use Rattle.kfifo_verdict.specs.declared.finding.Covered.TheVariants.{Gap}
-use Rattle.kfifo_verdict.specs.declared.presences.Presence.{Presence}
-use Rattle.kfifo_verdict.specs.declared.finding.Stay.{Stay}
-use Rattle.kfifo_verdict.specs.declared.turns.Turn.{Turn}
 use Rattle.kfifo_verdict.specs.Evidence.{Puts, Gets, IsSingle}
-use Rattle.kfifo_verdict.specs.Finding.{IsDeed, first_of, ArePresences, IsKnown, no_stay, AreLongest, IsCovered}
+use Rattle.kfifo_verdict.specs.Finding.{first_of, ArePresences, IsKnown, no_stay, AreLongest, IsCovered}
 use Rattle.kfifo_verdict.specs.Judging.{IsPlain}
 use Rattle.kfifo_verdict.specs.Plain.{presence, IsDue, place, IsPlace, ArePlaces, IsLine, no_turn, turn, IsIdleTurn, AreIdle, IsLatest}
 use Rattle.kfifo_verdict.specs.Plain.{IsItemTurn, AreTurns, AreNumbered, IsPlainBelow}
@@ -342,12 +336,6 @@ no_items h ps line ts idle = record {
 }
 
 -- ---- what the code has at hand
-
-pub put_deed : (x : ℕ) (e : Effect) (d : Deed) → IsDeed e d → e ≡ Adds x → d ≡ PutIn x
-put_deed x e (PutIn y) i q = let r : Adds y ≡ Adds x = sym i ∙ q in let s : y ≡ x = cc in ap (λ w. PutIn w) s
-put_deed x e (TookOut y) i q = let r : Takes y ≡ Adds x = sym i ∙ q in absurd (cc)
-put_deed x e FoundNone i q = let r : FindsNone ≡ Adds x = sym i ∙ q in absurd (cc)
-put_deed x e Nothing i q = absurd (i.0 x q)
 
 pub start_within : (h : List Call) (ps : List Presence) (x p : ℕ) → IsPlain h → ArePresences h (length h) ps → Puts h x p
     → (presence ps p).start ≤ length ps

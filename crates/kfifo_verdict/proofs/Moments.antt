@@ -4,8 +4,7 @@ use Rattle.std.proofs.Common.{Some, None}
 use Rattle.std.specs.List.Sorted.{IsNonDecreasingBy, IsPartitionPoint}
 use Rattle.std.proofs.lemmas.Bool.{cases_lt, leb-true, leb-false}
 use Rattle.std.proofs.lemmas.List.{get_or_default}
-use Rattle.kfifo_model.specs.declared.calls.Call.{Call}
-use Rattle.kfifo_model.specs.declared.calls.End.{End}
+use Rattle.kfifo_verdict.proofs.Types.{Call, End}
 use Rattle.kfifo_model.specs.Histories.{call, no_call, EndsBelow, Precedes}
 use Rattle.kfifo_model.specs.Validity.{IsHistory, EndsFrom}
 use Rattle.kfifo_verdict.specs.Finding.{first_of, IsStart}

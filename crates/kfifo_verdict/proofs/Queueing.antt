@@ -11,7 +11,7 @@ use Rattle.std.specs.Ordering.{is_lt, nat_cmp, ordering_then}
 use Rattle.std.specs.Cmp.{nat_cmp_is}
 use Rattle.kfifo_model.specs.Lists.{IsIn}
 use Rattle.kfifo_model.proofs.Places.{in_from_place, in_place, pairs_from_places}
-use Rattle.kfifo_verdict.specs.declared.turns.Turn.{Turn}
+use Rattle.kfifo_verdict.proofs.Types.{Turn}
 use Rattle.kfifo_verdict.specs.Plain.{lower, place, turn, AreNumbered, IsBefore, IsByTurns}
 
 -- it is not higher

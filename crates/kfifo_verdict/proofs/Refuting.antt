@@ -4,12 +4,12 @@ use Rattle.std.proofs.Common.{refl, sym, ◌∙◌, ap, subst, inl, inr, arith, 
 use Rattle.std.proofs.lemmas.Bool.{cases_lt, eqb-true, leb-true, le-leb, and_parts, and_from}
 use Rattle.std.proofs.lemmas.List.{map-append}
 use Rattle.std.proofs.lemmas.List.Sums.{sum_by-append}
-use Rattle.kfifo_model.specs.declared.calls.Call.{Call}
-use Rattle.kfifo_model.specs.declared.calls.End.{End}
+use Rattle.kfifo_verdict.proofs.Types.{Call, Effect, End}
 use Rattle.kfifo_model.specs.declared.calls.Op.{Op}
 use Rattle.kfifo_model.specs.declared.calls.Op.TheVariants.{Enqueue, Dequeue}
 use Rattle.kfifo_model.specs.Lists.{IsIn, EachPair}
-use Rattle.kfifo_model.specs.Relaxed.{Effect, Adds, Takes, FindsNone, Refused, Wrong, Leaves, IsRun}
+use Rattle.kfifo_model.specs.declared.effects.Effect.TheVariants.{Adds, Takes, FindsNone, Refused, Wrong}
+use Rattle.kfifo_model.specs.Relaxed.{Leaves, IsRun}
 use Rattle.kfifo_model.specs.Histories.{HasNoRepeats, call, does, effect_at, HasEnd, CanStand, IsFinished, EndsBelow, Precedes, IsLegal}
 use Rattle.kfifo_model.specs.Overtaking.{adds, takes}
 use Rattle.kfifo_model.specs.Validity.{IsHistory, EndsFrom}
@@ -136,7 +136,7 @@ never_put_refutes k h g n o =
 
 -- ---- 2: taken twice
 
-times_map : (h : List Call) (t : Effect → Bool) (l : List ℕ) → times t (map (does h) l) ≡ count_by (λ c. t (does h c)) l
+pub times_map : (h : List Call) (t : Effect → Bool) (l : List ℕ) → times t (map (does h) l) ≡ count_by (λ c. t (does h c)) l
 times_map h t [] = refl
 times_map h t (c ∷ l) = let on = times_map h t l in let p = count_cons (λ c. t (does h c)) c l in omega (arith, on, p)
 
@@ -171,7 +171,7 @@ taken_twice_refutes k h g n o =
 -- ---- 3: not empty
 
 -- the greatest value of f on x and the list
-greatest : (f : ℕ → ℕ) (x : ℕ) (l : List ℕ) → (m : ℕ) × ((m ≡ x) ⊎ IsIn m l) × (f x ≤ f m) × ((y : ℕ) → IsIn y l → f y ≤ f m)
+pub greatest : (f : ℕ → ℕ) (x : ℕ) (l : List ℕ) → (m : ℕ) × ((m ≡ x) ⊎ IsIn m l) × (f x ≤ f m) × ((y : ℕ) → IsIn y l → f y ≤ f m)
 greatest f x [] = (x, inl refl, omega arith, λ y i. absurd i)
 greatest f x (z ∷ l) =
     let on = greatest f x l in
@@ -322,7 +322,7 @@ too_young_refutes k n h g puts v le t o =
 
 -- ---- 5: taken too soon
 
-from_last : (o : Option End) (s : ℕ) → HasEnd o → EndsFrom s o → s ≤ last_step o
+pub from_last : (o : Option End) (s : ℕ) → HasEnd o → EndsFrom s o → s ≤ last_step o
 from_last (Some end) s ended f = f
 from_last None s ended f = absurd ended
 

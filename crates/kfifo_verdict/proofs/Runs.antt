@@ -2,9 +2,10 @@
 use Rattle.std.proofs.Common.{ℕ, zero, suc, ◌≡◌, ◌≢◌, ◌+◌, ◌≤◌, ◌⊎◌, Bool, cond, eqb, List, [], ◌∷◌, ◌++◌, length, map, refl, sym, ◌∙◌, ap}
 use Rattle.std.proofs.Common.{subst, inl, inr, arith, Some, slice_get, append_assoc}
 use Rattle.std.specs.List.{remove}
-use Rattle.kfifo_model.specs.declared.calls.Call.{Call}
+use Rattle.kfifo_verdict.proofs.Types.{Call, Effect}
 use Rattle.kfifo_model.specs.Lists.{IsIn}
-use Rattle.kfifo_model.specs.Relaxed.{Effect, Adds, Takes, FindsNone, Refused, Wrong, Leaves, IsRun}
+use Rattle.kfifo_model.specs.declared.effects.Effect.TheVariants.{Adds, Takes, FindsNone, Refused, Wrong}
+use Rattle.kfifo_model.specs.Relaxed.{Leaves, IsRun}
 use Rattle.kfifo_model.specs.Histories.{does}
 use Rattle.kfifo_model.specs.Overtaking.{adds, takes}
 use Rattle.kfifo_model.proofs.Forgetting.{Has}
@@ -188,11 +189,11 @@ abbrev pub copies : ℕ → List ℕ → ℕ
 copies x [] = 0
 copies x (y ∷ l) = cond (eqb x y) 1 0 + copies x l
 
-copies_push : (x y : ℕ) (l : List ℕ) → copies x (l ++ y ∷ []) ≡ copies x l + cond (eqb x y) 1 0
+pub copies_push : (x y : ℕ) (l : List ℕ) → copies x (l ++ y ∷ []) ≡ copies x l + cond (eqb x y) 1 0
 copies_push x y [] = omega arith
 copies_push x y (z ∷ l) = let on = copies_push x y l in omega (arith, on)
 
-copies_remove : (x y : ℕ) (l : List ℕ) (i : ℕ) → slice_get l i ≡ Some y → copies x l ≡ cond (eqb x y) 1 0 + copies x (remove l i)
+pub copies_remove : (x y : ℕ) (l : List ℕ) (i : ℕ) → slice_get l i ≡ Some y → copies x l ≡ cond (eqb x y) 1 0 + copies x (remove l i)
 copies_remove x y [] i e = absurd (cc)
 copies_remove x y (z ∷ l) zero e = let q : z ≡ y = cc in ap (λ w. cond (eqb x w) 1 0 + copies x l) q
 copies_remove x y (z ∷ l) (suc i) e = let on = copies_remove x y l i e in omega (arith, on)

@@ -3,12 +3,12 @@ use Rattle.std.proofs.Common.{ℕ, ◌≡◌, ◌≢◌, ◌<◌, ◌⊎◌, Lis
 use Rattle.std.proofs.Common.{Some, None}
 use Rattle.std.proofs.lemmas.Bool.{cases_eq}
 use Rattle.std.proofs.lemmas.List.{map_push}
-use Rattle.kfifo_model.specs.declared.calls.Call.{Call}
+use Rattle.kfifo_verdict.proofs.Types.{Call, Effect, End}
 use Rattle.kfifo_model.specs.declared.calls.Op.{Op}
-use Rattle.kfifo_model.specs.declared.calls.End.{End}
 use Rattle.std.specs.List.{AllByRecursion}
 use Rattle.kfifo_model.specs.Lists.{IsIn, EachPair}
-use Rattle.kfifo_model.specs.Relaxed.{Effect, Adds, Takes, FindsNone, Refused, Wrong, Leaves, IsRun}
+use Rattle.kfifo_model.specs.declared.effects.Effect.TheVariants.{Adds, Takes, FindsNone, Refused, Wrong}
+use Rattle.kfifo_model.specs.Relaxed.{Leaves, IsRun}
 use Rattle.kfifo_model.specs.Histories.{call, does, HasEnd, CanStand, IsFinished, Precedes, IsLegal}
 use Rattle.kfifo_model.proofs.Lists.{in_append, in_left, in_right, each_at, each_from, pairs_push, pairs_weaker}
 use Rattle.kfifo_verdict.specs.Evidence.{Puts, Gets}

@@ -1,7 +1,7 @@
 -- Items that are gone are passed over.
 use Rattle.std.proofs.Common.{ℕ, zero, suc, ◌≡◌, ◌+◌, ◌<◌, ◌≤◌, Bool, false, cond, leb, List, length, get_or, sym, ap, inl, inr, arith}
 use Rattle.std.proofs.lemmas.Bool.{cases_lt, lt-leb, and_right}
-use Rattle.kfifo_verdict.specs.declared.presences.Presence.{Presence}
+use Rattle.kfifo_verdict.proofs.Types.{Presence}
 use Rattle.kfifo_verdict.specs.Evidence.{count_below}
 use Rattle.kfifo_verdict.specs.Finding.{no_presence, lasts_at, AreSkips}
 

@@ -5,10 +5,8 @@ use Rattle.std.proofs.lemmas.Bool.{cases_lt, cases_eq}
 use Rattle.std.proofs.lemmas.List.{get_or_append_left}
 use Rattle.std.proofs.Math.ListN.{length-set}
 use Rattle.std.proofs.Math.Seq.{get_or-append_seam}
-use Rattle.kfifo_model.specs.declared.calls.Call.{Call}
+use Rattle.kfifo_verdict.proofs.Types.{Call, Presence, Stay}
 use Rattle.kfifo_model.specs.Validity.{IsHistory}
-use Rattle.kfifo_verdict.specs.declared.presences.Presence.{Presence}
-use Rattle.kfifo_verdict.specs.declared.finding.Stay.{Stay}
 use Rattle.kfifo_verdict.specs.Finding.{IsPresence, ArePresences, no_presence, IsStay, no_stay, AreStays, AreLongest, IsBucketed}
 use Rattle.kfifo_verdict.proofs.Refuting.{put_inside}
 use Rattle.kfifo_verdict.proofs.Moments.{not_falling}

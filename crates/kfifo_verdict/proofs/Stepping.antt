@@ -7,12 +7,13 @@ use Rattle.std.proofs.lemmas.List.{get_or_default}
 use Rattle.std.proofs.lemmas.List.Sums.{sum_by-cons}
 use Rattle.std.proofs.lemmas.List.Sorted.{sum_by-IsPermutation}
 use Rattle.std.specs.List.Sorted.{IsPermutation, IsSortedBy, IsNonDecreasingBy, IsPartitionedBy}
-use Rattle.kfifo_model.specs.declared.calls.Call.{Call}
+use Rattle.kfifo_verdict.proofs.Types.{Call}
 use Rattle.kfifo_model.specs.Histories.{call, does}
-use Rattle.kfifo_verdict.specs.declared.deeds.Side.{Side}
-use Rattle.kfifo_verdict.specs.declared.deeds.Side.TheVariants.{In, Out}
+use Rattle.kfifo_model.specs.declared.effects.Side.{Side}
+use Rattle.kfifo_model.specs.declared.effects.Side.TheVariants.{In, Out}
 use Rattle.kfifo_verdict.specs.Evidence.{Gets, last_step, puts_begun, gets_ended, IsOverdrawn, IsTakenTooSoon}
-use Rattle.kfifo_verdict.specs.Finding.{has_item, side_effect}
+use Rattle.kfifo_model.specs.Index.{side_effect}
+use Rattle.kfifo_verdict.specs.Finding.{has_item}
 use Rattle.kfifo_verdict.specs.Plain.{lower, place}
 use Rattle.kfifo_verdict.specs.Soon.{side_step, has_by, is_by, is_below, is_until, AreSteps, AreSorted}
 use Rattle.kfifo_verdict.proofs.Counting.{count_push, below_more}

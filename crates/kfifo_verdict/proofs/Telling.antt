@@ -2,17 +2,15 @@
 use Rattle.std.proofs.Common.{ℕ, ◌≡◌, ◌≢◌, ◌+◌, ◌<◌, ◌≤◌, Bool, true, false, cond, eqb, List, length, add-one, refl, sym, ◌∙◌, ap, subst}
 use Rattle.std.proofs.Common.{inl, inr, arith}
 use Rattle.std.proofs.lemmas.Bool.{cases_lt, cases_eq, eq-eqb, ne_eqb, false≢true, false_from_ne_true}
-use Rattle.kfifo_model.specs.declared.calls.Call.{Call}
-use Rattle.kfifo_model.specs.Relaxed.{Effect, Adds, Takes, FindsNone}
+use Rattle.kfifo_verdict.proofs.Types.{Call, Effect, Tally}
+use Rattle.kfifo_model.specs.declared.effects.Effect.TheVariants.{Adds, Takes, FindsNone}
 use Rattle.kfifo_model.specs.Overtaking.{adds, takes}
 use Rattle.kfifo_model.specs.Histories.{does}
-use Rattle.kfifo_verdict.specs.declared.deeds.Deed.{Deed}
-use Rattle.kfifo_verdict.specs.declared.deeds.Deed.TheVariants.{PutIn, TookOut, FoundNone, Nothing}
-use Rattle.kfifo_verdict.specs.declared.deeds.Side.{Side}
-use Rattle.kfifo_verdict.specs.declared.deeds.Side.TheVariants.{In, Out}
-use Rattle.kfifo_verdict.specs.declared.tallies.Tally.{Tally}
+use Rattle.kfifo_model.specs.declared.effects.Side.{Side}
+use Rattle.kfifo_model.specs.declared.effects.Side.TheVariants.{In, Out}
 use Rattle.kfifo_verdict.specs.Evidence.{Puts, Gets, count_below, puts_of, gets_of, IsSingle, IsTakenTwice}
-use Rattle.kfifo_verdict.specs.Finding.{IsDeed, has_item, side_effect, first_of, IsTally, IsTallied}
+use Rattle.kfifo_model.specs.Index.{side_effect}
+use Rattle.kfifo_verdict.specs.Finding.{has_item, first_of, IsTally, IsTallied}
 use Rattle.kfifo_verdict.proofs.Refuting.{put_inside, got_ended, ended_inside, takes_is, adds_is}
 
 pub puts_pass : (h : List Call) (x c : ℕ) → Puts h x c → has_item In h x c ≡ true
@@ -176,10 +174,3 @@ twice_tells h x g put got ps gs is t =
     let b = gs.count in
     let more = u.1 in
     (omega (arith, upper, lower), omega (arith, a, b, more))
-
--- what finds no item is told so
-pub found_deed : (e : Effect) (d : Deed) → IsDeed e d → e ≡ FindsNone → d ≡ FoundNone
-found_deed e (PutIn x) i q = let r : Adds x ≡ FindsNone = sym i ∙ q in absurd (cc)
-found_deed e (TookOut x) i q = let r : Takes x ≡ FindsNone = sym i ∙ q in absurd (cc)
-found_deed e FoundNone i q = refl
-found_deed e Nothing i q = absurd (i.2 q)

@@ -3,15 +3,12 @@ use Rattle.std.proofs.Common.{ℕ, zero, suc, ◌≡◌, ◌≢◌, ◌+◌, ◌
 use Rattle.std.proofs.Common.{arith, Option, Some, None}
 use Rattle.std.proofs.lemmas.Bool.{cases_lt, cases_Bool, false≢true}
 use Rattle.std.proofs.lemmas.List.{get_or_default}
-use Rattle.kfifo_model.specs.declared.calls.Call.{Call}
-use Rattle.kfifo_model.specs.declared.calls.End.{End}
+use Rattle.kfifo_verdict.proofs.Types.{Call, Effect, End, Presence, Turn}
 use Rattle.kfifo_model.specs.declared.calls.Op.{Op}
 use Rattle.kfifo_model.specs.Overtaking.{adds}
-use Rattle.kfifo_model.specs.Relaxed.{Effect, Adds, Takes, FindsNone, Refused, Wrong}
+use Rattle.kfifo_model.specs.declared.effects.Effect.TheVariants.{Adds, Takes, FindsNone, Refused, Wrong}
 use Rattle.kfifo_model.specs.Histories.{call, does, effect_at, HasEnd, Precedes, IsLegal}
 use Rattle.kfifo_model.specs.Validity.{IsHistory, Answers}
-use Rattle.kfifo_verdict.specs.declared.presences.Presence.{Presence}
-use Rattle.kfifo_verdict.specs.declared.turns.Turn.{Turn}
 use Rattle.kfifo_verdict.specs.Evidence.{Puts, Gets}
 use Rattle.kfifo_verdict.specs.Finding.{first_of, IsStart, ArePresences, IsKnown}
 use Rattle.kfifo_verdict.specs.Judging.{HasNoEvidence, IsPlain}

@@ -2,13 +2,12 @@
 use Rattle.std.proofs.Common.{ℕ, zero, suc, ◌≡◌, ◌+◌, ◌<◌, ◌≤◌, ◌↔◌, Bool, true, false, cond, count_by, leb, List, [], ◌∷◌, ◌++◌, length}
 use Rattle.std.proofs.Common.{get_or, add-one, refl, sym, ◌∙◌, ap, subst, inl, inr, arith, length-append}
 use Rattle.std.proofs.lemmas.Bool.{cases_lt, cases_Bool, and_parts, and_from, leb-true, le-leb}
-use Rattle.kfifo_model.specs.declared.calls.Call.{Call}
+use Rattle.kfifo_verdict.proofs.Types.{Call, Presence}
 use Rattle.std.specs.List.{AllByRecursion}
 use Rattle.kfifo_model.specs.Lists.{IsIn}
 use Rattle.kfifo_model.specs.Histories.{call}
 use Rattle.kfifo_model.specs.Validity.{IsHistory}
 use Rattle.kfifo_model.proofs.Lists.{in_append, each_at, each_from, pairs_push}
-use Rattle.kfifo_verdict.specs.declared.presences.Presence.{Presence}
 use Rattle.kfifo_verdict.specs.Evidence.{Gets, count_below, IsSingle, IsOlder, IsTooYoung, Rise}
 use Rattle.kfifo_verdict.specs.Finding.{IsStart, ArePresences, no_presence, lasts_at, IsCountedTo, AreFirst}
 use Rattle.kfifo_verdict.specs.Judging.{GotTooYoung}
@@ -36,7 +35,7 @@ count_no test n fails =
     let none : ◌≡◌ {A = ℕ} (cond (test n) 1 0) 0 = ap (λ b. cond b 1 0) fails in
     ap (count_below test) (add-one n) ∙ omega (arith, none)
 
-count_all : (test : ℕ → Bool) (l : List ℕ) → AllByRecursion (λ p. test p ≡ true) l → count_by test l ≡ length l
+pub count_all : (test : ℕ → Bool) (l : List ℕ) → AllByRecursion (λ p. test p ≡ true) l → count_by test l ≡ length l
 count_all test [] a = refl
 count_all test (x ∷ l) a =
     let on = count_all test l a.1 in

@@ -1,13 +1,13 @@
 -- Evidence that a history has no legal order: a few of its calls that make each order fail. The kinds 1 to 4 are
 -- those by which Henzinger, Sezgin and Vafeiadis part the ways in which a queue can fail ("Aspect-oriented
--- linearizability proofs", CONCUR 2013), with k older items in place of one. Kind 5 is for items that repeat.
+-- linearizability proofs", CONCUR 2013), with k older items in place of one. The kinds 5 to 7 are for items that repeat.
 use Rattle.std.specs.Prelude.{ℕ, zero, suc, ◌≡◌, ◌+◌, ◌<◌, ◌≤◌, ◌&&◌, leb, Bool, cond, List, Option, Some, None, length}
 use Rattle.kfifo_model.specs.declared.calls.Call.{Call}
 use Rattle.kfifo_model.specs.declared.calls.End.{End}
 use Rattle.std.specs.List.{AllByRecursion}
 use Rattle.kfifo_model.specs.Lists.{EachPair, IsIn}
-use Rattle.kfifo_model.specs.Relaxed.{Adds, Takes, FindsNone}
-use Rattle.kfifo_model.specs.Overtaking.{adds, takes}
+use Rattle.kfifo_model.specs.declared.effects.Effect.TheVariants.{Adds, Takes, FindsNone}
+use Rattle.kfifo_model.specs.Overtaking.{adds, takes, ends_below}
 use Rattle.kfifo_model.specs.Histories.{call, does, EndsBelow, Precedes, HasNoRepeats}
 use Rattle.kfifo_model.specs.Validity.{EndsFrom}
 
@@ -106,3 +106,44 @@ IsOverdrawn h x step = puts_begun h x step < gets_ended h x step
 -- 5: a call gets x, and by its end more gets of x have ended than puts of x have begun
 abbrev pub IsTakenTooSoon : List Call → ℕ → Type 0
 IsTakenTooSoon h get = (x : ℕ) × Gets h x get × IsOverdrawn h x (last_step (call h get).end)
+
+-- how many puts of x have ended before a step
+abbrev pub puts_ended : List Call → ℕ → ℕ → ℕ
+puts_ended h x step = count_below (λ c. adds x (does h c) && ends_below (call h c).end step) (length h)
+
+-- how many gets of x have begun by a step
+abbrev pub gets_begun : List Call → ℕ → ℕ → ℕ
+gets_begun h x step = count_below (λ c. takes x (does h c) && leb (call h c).first step) (length h)
+
+-- an x is certainly left at a step: more puts of x have ended before it than gets of x have begun by it
+abbrev pub IsLeft : List Call → ℕ → ℕ → Type 0
+IsLeft h x step = gets_begun h x step < puts_ended h x step
+
+-- 6: A call returned Empty, and as it began, and as each call began meanwhile, some item was certainly left.
+pub record HasItemsLeft (h : List Call) (c : ℕ) : Type 0 where
+  pub empty : does h c ≡ FindsNone
+  pub left : (b : ℕ) → b < length h → IsMomentOf h c (call h b).first → (x : ℕ) × IsLeft h x (call h b).first
+
+-- how many gets of x precede a call
+abbrev pub gets_before : List Call → ℕ → ℕ → ℕ
+gets_before h x d = count_below (λ c. takes x (does h c) && ends_below (call h c).end (call h d).first) (length h)
+
+-- What p puts is certainly older than what `put` puts, and left at the call `get`: p precedes `put`, and no more gets of
+-- the item have begun by the end of `get` than puts of it ended before p did.
+pub record IsOlderCopy (h : List Call) (get put p : ℕ) : Type 0 where
+  pub item : ℕ
+  pub puts : Puts h item p
+  pub before : Precedes h p put
+  pub kept : gets_begun h item (last_step (call h get).end) ≤ puts_ended h item (last_step (call h p).end)
+
+-- 7: A call gets x, and some call puts x, before which as many puts of x begin as gets of x precede the call. What
+-- these k calls put, by rising number, is certainly older than what that one puts, and left.
+pub record IsOlderLeft (k : ℕ) (h : List Call) (get : ℕ) (puts : List ℕ) : Type 0 where
+  pub item : ℕ
+  pub put : ℕ
+  pub gets : Gets h item get
+  pub adds_it : Puts h item put
+  pub few : count_below (λ c. adds item (does h c)) put ≡ gets_before h item get
+  pub older : AllByRecursion (IsOlderCopy h get put) puts
+  pub rising : Rise puts
+  pub count : length puts ≡ k

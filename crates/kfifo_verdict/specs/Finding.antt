@@ -5,14 +5,13 @@ use Rattle.std.specs.Ordering.{nat_cmp}
 use Rattle.std.specs.BTreeMap.{BTreeMap, get}
 use Rattle.kfifo_model.specs.declared.calls.Call.{Call}
 use Rattle.kfifo_model.specs.declared.calls.End.{End}
-use Rattle.kfifo_model.specs.Relaxed.{Effect, Adds, Takes, FindsNone}
+use Rattle.kfifo_model.specs.declared.effects.Effect.{Effect}
+use Rattle.kfifo_model.specs.declared.effects.Effect.TheVariants.{Adds, Takes, FindsNone}
 use Rattle.kfifo_model.specs.Overtaking.{adds, takes}
 use Rattle.std.specs.List.{AllByRecursion}
 use Rattle.kfifo_model.specs.Histories.{call, does, EndsBelow}
-use Rattle.kfifo_verdict.specs.declared.deeds.Deed.{Deed}
-use Rattle.kfifo_verdict.specs.declared.deeds.Deed.TheVariants.{PutIn, TookOut, FoundNone, Nothing}
-use Rattle.kfifo_verdict.specs.declared.deeds.Side.{Side}
-use Rattle.kfifo_verdict.specs.declared.deeds.Side.TheVariants.{In, Out}
+use Rattle.kfifo_model.specs.declared.effects.Side.{Side}
+use Rattle.kfifo_model.specs.declared.effects.Side.TheVariants.{In, Out}
 use Rattle.kfifo_verdict.specs.declared.tallies.Tally.{Tally}
 use Rattle.kfifo_verdict.specs.declared.presences.Presence.{Presence}
 use Rattle.kfifo_verdict.specs.declared.presences.Items.{Items}
@@ -21,16 +20,6 @@ use Rattle.kfifo_verdict.specs.declared.finding.Covered.{Covered}
 use Rattle.kfifo_verdict.specs.declared.finding.Covered.TheVariants.{Whole, Gap}
 use Rattle.kfifo_verdict.specs.Evidence.{Puts, Gets, count_below, IsSingle, IsCertainlyThere, IsNotEmpty, IsOlder, Rise}
 use Rattle.kfifo_verdict.specs.Judging.{FoundNotEmpty}
-
-abbrev pub IsDeed : Effect → Deed → Type 0
-IsDeed e (PutIn x) = e ≡ Adds x
-IsDeed e (TookOut x) = e ≡ Takes x
-IsDeed e FoundNone = e ≡ FindsNone
-IsDeed e Nothing = ((x : ℕ) → e ≡ Adds x → ⊥) × ((x : ℕ) → e ≡ Takes x → ⊥) × (e ≡ FindsNone → ⊥)
-
-abbrev pub side_effect : Side → ℕ → Effect
-side_effect In x = Adds x
-side_effect Out x = Takes x
 
 -- whether call c is one of the side that has item x
 abbrev pub has_item : Side → List Call → ℕ → ℕ → Bool

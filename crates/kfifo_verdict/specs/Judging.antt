@@ -5,12 +5,12 @@ use Rattle.kfifo_model.specs.Histories.{IsFinished, IsLegal}
 use Rattle.kfifo_model.specs.Searching.{HasOrder}
 use Rattle.kfifo_verdict.specs.declared.verdicts.Evidence.{Evidence}
 use Rattle.kfifo_verdict.specs.declared.verdicts.Evidence.TheVariants.{NeverPut, TakenTwice, NotEmpty, TooYoung}
-use Rattle.kfifo_verdict.specs.declared.verdicts.Evidence.TheVariants.{TakenTooSoon}
+use Rattle.kfifo_verdict.specs.declared.verdicts.Evidence.TheVariants.{TakenTooSoon, ItemsLeft, OlderLeft}
 use Rattle.kfifo_verdict.specs.declared.verdicts.Judgement.{Judgement}
 use Rattle.kfifo_verdict.specs.declared.verdicts.Judgement.TheVariants.{Legal, NoOrder, Undecided}
 use Rattle.kfifo_verdict.specs.declared.verdicts.Bounds.{Bounds}
 use Rattle.kfifo_verdict.specs.Evidence.{Puts, IsSingle, IsNeverPut, IsTakenTwice, IsNotEmpty, IsTooYoung}
-use Rattle.kfifo_verdict.specs.Evidence.{IsTakenTooSoon}
+use Rattle.kfifo_verdict.specs.Evidence.{IsTakenTooSoon, HasItemsLeft, IsOlderLeft}
 
 -- some puts show it of this call
 abbrev pub FoundNotEmpty : List Call → ℕ → Type 0
@@ -18,6 +18,9 @@ FoundNotEmpty h c = (puts : List ℕ) × IsNotEmpty h c puts
 
 abbrev pub GotTooYoung : ℕ → List Call → ℕ → Type 0
 GotTooYoung k h c = (puts : List ℕ) × IsTooYoung k h c puts
+
+abbrev pub GotOlderLeft : ℕ → List Call → ℕ → Type 0
+GotOlderLeft k h c = (puts : List ℕ) × IsOlderLeft k h c puts
 
 -- no call has it
 abbrev pub Never : (ℕ → Type 0) → Type 0
@@ -27,10 +30,10 @@ Never P = (c : ℕ) → P c → ⊥
 abbrev pub NeverBefore : (ℕ → Type 0) → ℕ → Type 0
 NeverBefore P n = (c : ℕ) → c < n → P c → ⊥
 
--- there is none of the five kinds of evidence
+-- there is none of the seven kinds of evidence
 abbrev pub HasNoEvidence : ℕ → List Call → Type 0
 HasNoEvidence k h = Never (IsNeverPut h) × Never (IsTakenTwice h) × Never (FoundNotEmpty h) × Never (GotTooYoung k h)
-    × Never (IsTakenTooSoon h)
+    × Never (IsTakenTooSoon h) × Never (HasItemsLeft h) × Never (GotOlderLeft k h)
 
 -- there is none of the kinds 1 to 3
 abbrev pub HasNoneTo3 : List Call → Type 0
@@ -44,6 +47,8 @@ IsFirstTo3 h (NotEmpty empty puts) =
     Never (IsNeverPut h) × Never (IsTakenTwice h) × IsNotEmpty h empty puts.items × NeverBefore (FoundNotEmpty h) empty
 IsFirstTo3 h (TooYoung get puts) = ⊥
 IsFirstTo3 h (TakenTooSoon get) = ⊥
+IsFirstTo3 h (ItemsLeft empty) = ⊥
+IsFirstTo3 h (OlderLeft get puts) = ⊥
 
 -- evidence of the least number that is there, and of that number the one with the least call
 abbrev pub IsFirstEvidence : ℕ → List Call → Evidence → Type 0
@@ -54,18 +59,29 @@ IsFirstEvidence k h (TakenTooSoon get) =
     Never (IsNeverPut h) × Never (IsTakenTwice h) × Never (FoundNotEmpty h) × Never (GotTooYoung k h)
     × IsTakenTooSoon h get
     × NeverBefore (IsTakenTooSoon h) get
+IsFirstEvidence k h (ItemsLeft empty) =
+    Never (IsNeverPut h) × Never (IsTakenTwice h) × Never (FoundNotEmpty h) × Never (GotTooYoung k h)
+    × Never (IsTakenTooSoon h) × HasItemsLeft h empty × NeverBefore (HasItemsLeft h) empty
+IsFirstEvidence k h (OlderLeft get puts) =
+    Never (IsNeverPut h) × Never (IsTakenTwice h) × Never (FoundNotEmpty h) × Never (GotTooYoung k h)
+    × Never (IsTakenTooSoon h) × Never (HasItemsLeft h)
+    × IsOlderLeft k h get puts.items × NeverBefore (GotOlderLeft k h) get
 IsFirstEvidence k h found = IsFirstTo3 h found
 
--- there is no evidence but of kind 4, the only one that is about one k
+-- there is no evidence but of the kinds 4 and 7, which are about one k
 abbrev pub HasNoneForEachK : List Call → Type 0
 HasNoneForEachK h = Never (IsNeverPut h) × Never (IsTakenTwice h) × Never (FoundNotEmpty h) × Never (IsTakenTooSoon h)
+    × Never (HasItemsLeft h)
 
--- evidence of the kinds 1, 2, 3 and 5: of the least number that is there, and of that number the one with the least
+-- evidence of another kind than 4 and 7: of the least number that is there, and of that number the one with the least
 -- call
 abbrev pub IsFirstForEachK : List Call → Evidence → Type 0
 IsFirstForEachK h (TakenTooSoon get) =
     Never (IsNeverPut h) × Never (IsTakenTwice h) × Never (FoundNotEmpty h) × IsTakenTooSoon h get
     × NeverBefore (IsTakenTooSoon h) get
+IsFirstForEachK h (ItemsLeft empty) =
+    Never (IsNeverPut h) × Never (IsTakenTwice h) × Never (FoundNotEmpty h) × Never (IsTakenTooSoon h)
+    × HasItemsLeft h empty × NeverBefore (HasItemsLeft h) empty
 IsFirstForEachK h found = IsFirstTo3 h found
 
 -- each item that is put is single, and each call has ended

@@ -3,3 +3,5 @@ pub mod Finding
 pub mod Judging
 pub mod Plain
 pub mod Soon
+pub mod Left
+pub mod Older

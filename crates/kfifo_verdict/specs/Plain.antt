@@ -5,7 +5,7 @@ use Rattle.std.specs.List.{All, Contains}
 use Rattle.std.specs.List.Sorted.{IsSortedBy}
 use Rattle.std.specs.Ordering.{is_lt, nat_cmp, ordering_then}
 use Rattle.kfifo_model.specs.declared.calls.Call.{Call}
-use Rattle.kfifo_model.specs.Relaxed.{FindsNone}
+use Rattle.kfifo_model.specs.declared.effects.Effect.TheVariants.{FindsNone}
 use Rattle.kfifo_model.specs.Lists.{IsIn, EachPair}
 use Rattle.kfifo_model.specs.Histories.{call, does, EndsBelow, IsFinished}
 use Rattle.kfifo_verdict.specs.declared.presences.Presence.{Presence}

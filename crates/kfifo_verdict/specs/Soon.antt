@@ -4,8 +4,8 @@ use Rattle.std.specs.List.{count_by}
 use Rattle.std.specs.List.Sorted.{IsSortedBy}
 use Rattle.kfifo_model.specs.declared.calls.Call.{Call}
 use Rattle.kfifo_model.specs.Histories.{call}
-use Rattle.kfifo_verdict.specs.declared.deeds.Side.{Side}
-use Rattle.kfifo_verdict.specs.declared.deeds.Side.TheVariants.{In, Out}
+use Rattle.kfifo_model.specs.declared.effects.Side.{Side}
+use Rattle.kfifo_model.specs.declared.effects.Side.TheVariants.{In, Out}
 use Rattle.kfifo_verdict.specs.Evidence.{count_below, last_step}
 use Rattle.kfifo_verdict.specs.Finding.{has_item}
 use Rattle.kfifo_verdict.specs.Plain.{lower}

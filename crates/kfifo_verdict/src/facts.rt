@@ -1,7 +1,6 @@
 //! What the search for an order knows of a history from the beginning.
 
-use crate::deeds::{Deed, deed_of};
-use kfifo_model::Call;
+use kfifo_model::{Call, Effect};
 use std::alloc::{AllocError, Global};
 use std::collections::BTreeMap;
 
@@ -9,7 +8,7 @@ use std::collections::BTreeMap;
 #[derive(Clone, Copy)]
 pub(crate) struct Fact {
     /// What it does to the list of items.
-    pub deed: Deed,
+    pub effect: Effect,
     /// The number of its item, from 0 on in the order in which items first occur, or 0 where it has none.
     pub item: usize,
     /// Its first step.
@@ -22,7 +21,7 @@ pub(crate) struct Fact {
 
 /// What is known of no call.
 const NO_FACT: Fact = Fact {
-    deed: Deed::Nothing,
+    effect: Effect::Refused,
     item: 0,
     first: u64::MAX,
     last: u64::MAX,
@@ -52,17 +51,17 @@ fn number_of(numbers: &mut BTreeMap<u32, usize>, item: u32) -> Result<usize, All
 
 /// What is known of a call.
 fn fact_of(call: &Call, numbers: &mut BTreeMap<u32, usize>) -> Result<Fact, AllocError> {
-    let deed = deed_of(call);
-    let item = match deed {
-        Deed::PutIn(item) | Deed::TookOut(item) => number_of(numbers, item)?,
-        Deed::FoundNone | Deed::Nothing => 0,
+    let effect = call.effect();
+    let item = match effect {
+        Effect::Adds(item) | Effect::Takes(item) => number_of(numbers, item)?,
+        Effect::FindsNone | Effect::Refused | Effect::Wrong => 0,
     };
     let last = match call.end {
         Some(end) => end.last,
         None => u64::MAX,
     };
     Ok(Fact {
-        deed,
+        effect,
         item,
         first: call.first,
         last,

@@ -2,7 +2,7 @@
 ghost use Rattle.std.specs.Prelude.{ℕ, ◌≡◌, ◌+◌, ◌^◌, ◌<◌, ◌≤◌, ◌↔◌, ◌⊎◌, IsTrue, List, length, slice_index_or, IfOk};
 ghost use Rattle.std.specs.Prelude.{OnSome, MatchOption};
 ghost use Rattle.kfifo_model.specs.Histories.{call, effect_of, does, EndsBelow};
-ghost use Rattle.kfifo_model.specs.Relaxed.{Takes, FindsNone};
+ghost use Rattle.kfifo_model.specs.declared.effects.Effect.TheVariants.{Takes, FindsNone};
 ghost use Rattle.kfifo_model.specs.Validity.{IsHistory};
 ghost use Rattle.kfifo_model.specs.Searching.{HasOrder};
 ghost use Rattle.kfifo_verdict.specs.Evidence.{IsNeverPut, IsTakenTwice, IsNotEmpty, IsTooYoung, IsSingle, Gets};
@@ -14,12 +14,14 @@ ghost use Rattle.kfifo_verdict.specs.Judging.{FoundNotEmpty, GotTooYoung, Never,
 ghost use Rattle.kfifo_verdict.specs.Judging.{IsFirstEvidence};
 ghost use Rattle.kfifo_verdict.specs.Judging.{HasNoneTo3, IsFirstTo3, HasNoneForEachK, IsFirstForEachK};
 
-use crate::deeds::{Deed, deed_of, ends_before, first_after};
+use crate::left::items_left;
+use crate::older::older_left;
+use crate::precedence::{ends_before, first_after};
 use crate::presences::{Items, Presence};
 use crate::soon::taken_too_soon;
 use crate::tallies::{Tallies, tally_of};
 use crate::verdicts::Evidence;
-use kfifo_model::{Call, History};
+use kfifo_model::{Call, Effect, History};
 use std::alloc::{AllocError, Global};
 
 /// The put whose item stays longest, and the call until which it does.
@@ -48,7 +50,7 @@ fn is_never_put(calls: &[Call], n: usize, puts: &Tallies) -> bool
     ensures { IsTrue result ↔ IsNeverPut calls.now n }
 {
     let call = &calls[n];
-    let Deed::TookOut(item) = deed_of(call) else {
+    let Effect::Takes(item) = call.effect() else {
         return false;
     };
     let put = tally_of(puts, item);
@@ -76,7 +78,7 @@ fn is_taken_twice(calls: &[Call], n: usize, puts: &Tallies, gets: &Tallies) -> b
     requires gets { AreGets calls.now gets.now }
     ensures { IsTrue result ↔ IsTakenTwice calls.now n }
 {
-    let Deed::TookOut(item) = deed_of(&calls[n]) else {
+    let Effect::Takes(item) = calls[n].effect() else {
         return false;
     };
     let got = tally_of(gets, item);
@@ -145,7 +147,7 @@ pub(crate) fn longest_stays(
 }
 
 /// Whether call n is there and begins before a call ends.
-fn reaches(calls: &[Call], from: usize, n: usize) -> bool
+pub(crate) fn reaches(calls: &[Call], from: usize, n: usize) -> bool
     requires { from < length calls.now }
     ensures { IsTrue result ↔ ((n < length calls.now)
         × (EndsBelow (call calls.now from).end (first_of calls.now n) → ⊥)) }
@@ -200,7 +202,7 @@ fn not_empty(
         (λ e. IsNotEmpty calls.now e.0 e.1.items × NeverBefore (FoundNotEmpty calls.now) e.0)) }
 {
     for n in 0..calls.len() {
-        if let Deed::FoundNone = deed_of(&calls[n]) {
+        if let Effect::FindsNone = calls[n].effect() {
             if let Covered::Whole(puts) = cover(alloc, calls, stays, n)? {
                 return Ok(Some((n, puts)));
             }
@@ -231,7 +233,7 @@ pub(crate) fn no_skips(alloc: Global, count: usize) -> Result<Vec<usize>, AllocE
 
 /// How many items are certainly there from call `put` on and got by no call below `after`, or `limit` if they are no
 /// fewer. Items that are gone at call n are passed over from then on.
-fn count_older(
+pub(crate) fn count_older(
     presences: &[Presence],
     skips: &mut Vec<usize>,
     n: usize,
@@ -267,7 +269,7 @@ fn count_older(
 }
 
 /// The puts of the first k of them.
-fn first_older(
+pub(crate) fn first_older(
     alloc: Global,
     presences: &[Presence],
     put: usize,
@@ -293,7 +295,7 @@ fn single_put(calls: &[Call], items: &Items, n: usize) -> Option<usize>
     ensures { MatchOption result ((x p : ℕ) → IsSingle calls.now x p → Gets calls.now x n → ⊥)
         (λ p. (x : ℕ) × IsSingle calls.now x p × Gets calls.now x n × (p < length calls.now)) }
 {
-    let Deed::TookOut(item) = deed_of(&calls[n]) else {
+    let Effect::Takes(item) = calls[n].effect() else {
         return None;
     };
     let put = tally_of(&items.puts, item);
@@ -414,6 +416,12 @@ fn evidence_among(alloc: Global, calls: &[Call], k: usize) -> Result<Option<Evid
     if let Some(get) = taken_too_soon(alloc, calls)? {
         return Ok(Some(Evidence::TakenTooSoon(get)));
     }
+    if let Some(empty) = items_left(alloc, calls)? {
+        return Ok(Some(Evidence::ItemsLeft(empty)));
+    }
+    if let Some((get, puts)) = older_left(alloc, calls, k)? {
+        return Ok(Some(Evidence::OlderLeft { get, puts }));
+    }
     Ok(None)
 }
 
@@ -429,12 +437,15 @@ fn evidence_for_all(alloc: Global, calls: &[Call]) -> Result<Option<Evidence>, A
     if let Some(get) = taken_too_soon(alloc, calls)? {
         return Ok(Some(Evidence::TakenTooSoon(get)));
     }
+    if let Some(empty) = items_left(alloc, calls)? {
+        return Ok(Some(Evidence::ItemsLeft(empty)));
+    }
     Ok(None)
 }
 
 /// Returns the evidence that a history has no legal order for a queue that may give any of its k oldest items: of the
 /// numbers that are there the least, and of that number the one with the least call. None exactly where there is none
-/// of the five kinds.
+/// of the seven kinds.
 pub fn evidence(alloc: Global, history: &History, k: u32) -> Result<Option<Evidence>, AllocError>
     requires { (1 ≤ k) × (k ≤ 64) }
     ensures first { IfOk result (λ found.
@@ -444,8 +455,8 @@ pub fn evidence(alloc: Global, history: &History, k: u32) -> Result<Option<Evide
     evidence_among(alloc, history.calls(), k as usize)
 }
 
-/// Returns the evidence that a history has a legal order for no k: as `evidence`, but for number 4, which is about one
-/// k.
+/// Returns the evidence that a history has a legal order for no k: as `evidence`, but for the numbers 4 and 7, which are
+/// about one k.
 pub fn evidence_for_each_k(alloc: Global, history: &History) -> Result<Option<Evidence>, AllocError>
     ensures first { IfOk result (λ found.
         MatchOption found (HasNoneForEachK history.now) (IsFirstForEachK history.now)) }

@@ -1,11 +1,13 @@
 //! Verdicts on histories of any length: a legal order, or evidence that there is none.
 #![tactic(auto)]
 
-mod deeds;
 mod facts;
 mod finding;
 mod judging;
+mod left;
+mod older;
 mod picks;
+mod precedence;
 mod presences;
 mod rings;
 mod seen;

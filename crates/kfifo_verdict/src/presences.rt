@@ -3,9 +3,9 @@ ghost use Rattle.std.specs.Prelude.{ℕ, ◌≡◌, ◌<◌, length, IfOk};
 ghost use Rattle.kfifo_model.specs.Validity.{IsHistory};
 ghost use Rattle.kfifo_verdict.specs.Finding.{ArePuts, AreGets, IsPresence, ArePresences, IsIndexed};
 
-use crate::deeds::{Deed, Side, deed_of, first_after};
+use crate::precedence::first_after;
 use crate::tallies::{Tallies, tallies, tally_of};
-use kfifo_model::Call;
+use kfifo_model::{Call, Effect, Side};
 use std::alloc::{AllocError, Global};
 
 /// The calls that begin while the item of a put is certainly there: from number `start` on, below number `gone`.
@@ -40,7 +40,7 @@ fn presence_of(calls: &[Call], puts: &Tallies, gets: &Tallies, p: usize) -> Pres
         start: calls.len(),
         gone: 0,
     };
-    let Deed::PutIn(item) = deed_of(&calls[p]) else {
+    let Effect::Adds(item) = calls[p].effect() else {
         return never;
     };
     let got = tally_of(gets, item);

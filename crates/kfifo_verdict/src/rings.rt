@@ -1,7 +1,7 @@
 //! Rings of calls, from which a call is taken out and put back again in no time.
 
-use crate::deeds::Deed;
 use crate::facts::Facts;
+use kfifo_model::Effect;
 use std::alloc::{AllocError, Global};
 
 /// Rings of numbers. What was taken out last is put back first: then each ring is again as it was.
@@ -88,13 +88,13 @@ impl Loose {
         let mut by_end = Rings::new(alloc, count.saturating_add(1))?;
         let mut by_item = Rings::new(alloc, count.saturating_add(facts.items))?;
         for n in &facts.due {
-            if let Deed::PutIn(_) = facts.at(*n).deed {
+            if let Effect::Adds(_) = facts.at(*n).effect {
                 by_end.add(count, *n);
             }
         }
         for n in 0..count {
             let fact = facts.at(n);
-            if let Deed::PutIn(_) = fact.deed {
+            if let Effect::Adds(_) = fact.effect {
                 by_item.add(count.saturating_add(fact.item), n);
                 if !fact.ended {
                     by_end.add(count, n);

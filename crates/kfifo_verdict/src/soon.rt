@@ -6,14 +6,13 @@ ghost use Rattle.kfifo_verdict.specs.Evidence.{last_step, IsTakenTooSoon};
 ghost use Rattle.kfifo_verdict.specs.Judging.{Never, NeverBefore};
 ghost use Rattle.kfifo_verdict.specs.Plain.{lower};
 ghost use Rattle.kfifo_verdict.specs.Soon.{side_step, AreSteps, AreSorted, is_below, is_until, is_by};
-ghost use Rattle.kfifo_verdict.specs.declared.deeds.Side.TheVariants.{In, Out};
+ghost use Rattle.kfifo_model.specs.declared.effects.Side.TheVariants.{In, Out};
 
-use crate::deeds::{Deed, Side, deed_of, item_of};
-use kfifo_model::Call;
+use kfifo_model::{Call, Effect, Side};
 use std::alloc::{AllocError, Global};
 
 /// A call of an item: the item, the step of the call that counts, and the number of the call.
-type Step = (u32, u64, usize);
+pub(crate) type Step = (u32, u64, usize);
 
 /// The last step of a call, or 0 where it has not ended.
 fn last_step(call: &Call) -> u64
@@ -41,7 +40,7 @@ fn steps_of(alloc: Global, calls: &[Call], side: Side) -> Result<Vec<Step>, Allo
 {
     let mut steps = Vec::new(alloc);
     for (n, call) in calls.iter().enumerate() {
-        if let Some(item) = item_of(side, call) {
+        if let Some(item) = side.item_of(call) {
             steps.push((item, side_step(side, call), n))?;
         }
     }
@@ -49,7 +48,11 @@ fn steps_of(alloc: Global, calls: &[Call], side: Side) -> Result<Vec<Step>, Allo
 }
 
 /// The calls of a side by their items, and those of an item by their steps.
-fn sorted_steps(alloc: Global, calls: &[Call], side: Side) -> Result<Vec<Step>, AllocError>
+pub(crate) fn sorted_steps(
+    alloc: Global,
+    calls: &[Call],
+    side: Side,
+) -> Result<Vec<Step>, AllocError>
     ensures { IfOk result (λ steps. AreSorted calls.now side steps.items) }
 {
     let mut steps = steps_of(alloc, calls, side)?;
@@ -72,7 +75,7 @@ fn is_until(entry: &Step, item: u32, step: u64) -> bool
 }
 
 /// How many of the calls are of lower items.
-fn count_below(steps: &[Step], item: u32) -> usize
+pub(crate) fn count_below(steps: &[Step], item: u32) -> usize
     requires { IsSortedBy lower steps.now }
     ensures { result ≡ count_by (is_below item) steps.now }
 {
@@ -105,7 +108,7 @@ fn is_taken_too_soon(calls: &[Call], n: usize, begun: &[Step], ended: &[Step]) -
     ensures { IsTrue result ↔ IsTakenTooSoon calls.now n }
 {
     let call = &calls[n];
-    let Deed::TookOut(item) = deed_of(call) else {
+    let Effect::Takes(item) = call.effect() else {
         return false;
     };
     let end = last_step(call);

@@ -1,9 +1,9 @@
 //! How far the search for an order is.
 
-use crate::deeds::Deed;
 use crate::facts::{Fact, Facts};
 use crate::rings::Loose;
 use crate::seen::scattered;
+use kfifo_model::Effect;
 use std::alloc::{AllocError, Global};
 
 /// A put in the order of the puts.
@@ -235,7 +235,7 @@ impl State {
     /// The first waiting Empty.
     pub(crate) fn empty_that_waits(&self, facts: &Facts) -> Option<usize> {
         for n in &self.waiting {
-            if let Deed::FoundNone = facts.at(*n).deed {
+            if let Effect::FindsNone = facts.at(*n).effect {
                 return Some(*n);
             }
         }
@@ -256,18 +256,18 @@ impl State {
 
     /// A call begins. One that changes nothing goes at once, and an Empty where it may at no cost.
     fn begin_one(&mut self, facts: &Facts, n: usize, fact: Fact) -> Result<(), AllocError> {
-        match fact.deed {
-            Deed::PutIn(_) => Ok(()),
-            Deed::TookOut(_) => Ok(self.waiting.push(n)?),
-            Deed::FoundNone => {
+        match fact.effect {
+            Effect::Adds(_) => Ok(()),
+            Effect::Takes(_) => Ok(self.waiting.push(n)?),
+            Effect::FindsNone => {
                 self.waiting.push(n)?;
                 if self.is_free(facts, fact.first) {
                     self.find_none(facts, fact.first)?;
                 }
                 Ok(())
             }
-            Deed::Nothing if fact.ended => self.go(n, fact.first),
-            Deed::Nothing => Ok(()),
+            Effect::Refused | Effect::Wrong if fact.ended => self.go(n, fact.first),
+            Effect::Refused | Effect::Wrong => Ok(()),
         }
     }
 
@@ -291,7 +291,7 @@ impl State {
         let mut soonest = u64::MAX;
         for n in &self.waiting {
             let fact = facts.at(*n);
-            if let Deed::TookOut(_) = fact.deed {
+            if let Effect::Takes(_) = fact.effect {
                 if fact.item == item && *n != but && fact.last < soonest {
                     best = Some(*n);
                     soonest = fact.last;

@@ -2,8 +2,7 @@
 ghost use Rattle.std.specs.Prelude.{ℕ, ◌≡◌, ◌<◌, ◌+◌, ◌≤◌, ◌^◌, Bool, true, length, IfOk};
 ghost use Rattle.kfifo_verdict.specs.Finding.{IsTally, IsTallied, tally_in};
 
-use crate::deeds::{Side, item_of};
-use kfifo_model::Call;
+use kfifo_model::{Call, Side};
 use std::alloc::{AllocError, Global};
 use std::collections::BTreeMap;
 
@@ -60,7 +59,7 @@ pub(crate) fn tallies(alloc: Global, calls: &[Call], side: Side) -> Result<Talli
 {
     let mut tallies = BTreeMap::new(alloc);
     for (n, call) in calls.iter().enumerate() {
-        if let Some(item) = item_of(side, call) {
+        if let Some(item) = side.item_of(call) {
             let tally = with(tally_of(&tallies, item), n, call.first);
             tallies.insert(item, tally)?;
         }

@@ -13,11 +13,11 @@ ghost use Rattle.kfifo_verdict.specs.Judging.{HasNoEvidence, IsPlain};
 ghost use Rattle.kfifo_verdict.specs.Plain.{presence, IsLate, IsDue, ArePlaces, IsLine, AreIdle, AreTurns, AreNumbered};
 ghost use Rattle.kfifo_verdict.specs.Plain.{IsByTurns};
 
-use crate::deeds::{Deed, deed_of, first_after};
 use crate::finding::{Covered, Stay, cover, longest_stays};
+use crate::precedence::first_after;
 use crate::presences::{Items, Presence};
 use crate::tallies::tally_of;
-use kfifo_model::Call;
+use kfifo_model::{Call, Effect};
 use std::alloc::{AllocError, Global};
 
 /// The place of an item in the line: by when it has to be in, by when out, and its put.
@@ -79,7 +79,7 @@ fn places(
 {
     let mut places = Vec::new(alloc);
     for p in 0..calls.len() {
-        if let Deed::PutIn(_) = deed_of(&calls[p]) {
+        if let Effect::Adds(_) = calls[p].effect() {
             let late = late_of(calls, gone_of(presences, p));
             places.push((due_of(presences, stays, p, late), late, p))?;
         }
@@ -124,7 +124,7 @@ fn idle_turns(
     let mut turns = Vec::with_capacity(alloc, calls.len())?;
     for n in 0..calls.len() {
         let mut moment = n;
-        if let Deed::FoundNone = deed_of(&calls[n]) {
+        if let Effect::FindsNone = calls[n].effect() {
             if let Covered::Gap(gap) = cover(alloc, calls, stays, n)? {
                 moment = gap;
             }
@@ -202,7 +202,7 @@ fn is_plain(calls: &[Call], items: &Items) -> bool
         if calls[n].end.is_none() {
             return false;
         }
-        if let Deed::PutIn(item) = deed_of(&calls[n]) {
+        if let Effect::Adds(item) = calls[n].effect() {
             if tally_of(&items.puts, item).count != 1 || tally_of(&items.gets, item).count > 1 {
                 return false;
             }

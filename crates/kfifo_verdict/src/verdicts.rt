@@ -23,6 +23,16 @@ pub enum Evidence {
     },
     /// 5: this call got an item, and by its end more gets of that item had ended than puts had begun.
     TakenTooSoon(usize),
+    /// 6: this call returned Empty, and as it began, and as each call began meanwhile, more puts of some item had ended
+    /// than gets of it had begun.
+    ItemsLeft(usize),
+    /// 7: this call got an item while k older ones were left.
+    OlderLeft {
+        /// The call.
+        get: usize,
+        /// The puts of k of them, by rising number.
+        puts: Vec<usize>,
+    },
 }
 
 /// Why the search for an order found none.
@@ -41,7 +51,7 @@ pub enum Judgement {
     Legal(Vec<usize>),
     /// No order is legal, because of this.
     NoOrder(Evidence),
-    /// There is none of the five kinds of evidence, and no order was found, for this reason: there may be one all the
+    /// There is none of the seven kinds of evidence, and no order was found, for this reason: there may be one all the
     /// same.
     Undecided(Stuck),
 }

@@ -12,13 +12,12 @@
 ghost use Rattle.std.specs.Prelude.{◌≤◌, IfOk, IfSome};
 ghost use Rattle.kfifo_model.specs.Histories.{IsLegal};
 
-use crate::deeds::Deed;
 use crate::facts::Facts;
 use crate::picks::{Picks, next_pick};
 use crate::seen::Seen;
 use crate::state::{Mark, State};
 use crate::verdicts::Stuck;
-use kfifo_model::{Call, History, Verdict, check_order};
+use kfifo_model::{Call, Effect, History, Verdict, check_order};
 use std::alloc::{AllocError, Global};
 
 /// A choice that can still be changed.
@@ -283,20 +282,20 @@ impl Walk {
 
     /// A call is due. What it needs is done in this way.
     fn attempt(&mut self, n: usize, step: u64, way: usize) -> Result<Outcome, AllocError> {
-        match self.facts.at(n).deed {
-            Deed::PutIn(_) => self.end_put(n, step, way),
-            Deed::TookOut(_) => {
+        match self.facts.at(n).effect {
+            Effect::Adds(_) => self.end_put(n, step, way),
+            Effect::Takes(_) => {
                 let outcome = self.serve(n, step, way)?;
                 if outcome.went && self.state.is_free(&self.facts, step) {
                     self.state.find_none(&self.facts, step)?;
                 }
                 Ok(outcome)
             }
-            Deed::FoundNone => {
+            Effect::FindsNone => {
                 let went = self.empty_out(step)?;
                 Ok(Outcome { went, next: None })
             }
-            Deed::Nothing => Ok(Outcome {
+            Effect::Refused | Effect::Wrong => Ok(Outcome {
                 went: true,
                 next: None,
             }),

@@ -1,5 +1,7 @@
 -- Which sizes a shape may have, and which fault is reported where it may not.
 use Rattle.std.specs.Prelude.{ℕ, ◌&&◌, nat_le, if◌then◌else◌, Bool, not, Option, Some, None}
+use Rattle.kfifo_words.specs.declared.shape.TheConstants.{MAX_K, MAX_SEGMENTS}
+use Rattle.kfifo_words.specs.declared.word.TheConstants.{MAX_VERSION}
 use Rattle.kfifo_words.specs.declared.fault.ShapeFault.{ShapeFault}
 use Rattle.kfifo_words.specs.declared.fault.ShapeFault.TheVariants.{KOutOfRange, SegmentsOutOfRange, LastOutOfRange}
 use Rattle.kfifo_words.specs.declared.fault.ShapeFault.TheVariants.{ProbesOutOfRange}
@@ -11,9 +13,9 @@ within least most a = nat_le least a && nat_le a most
 -- the first fault of these sizes
 abbrev pub fault_of : ℕ → ℕ → ℕ → ℕ → Option ShapeFault
 fault_of k n last probes =
-    if not (within 1 64 k) then Some KOutOfRange
-    else if not (within 2 1024 n) then Some SegmentsOutOfRange
-    else if not (within 2 1099511627775 last) then Some LastOutOfRange
+    if not (within 1 MAX_K k) then Some KOutOfRange
+    else if not (within 2 MAX_SEGMENTS n) then Some SegmentsOutOfRange
+    else if not (within 2 MAX_VERSION last) then Some LastOutOfRange
     else if not (within 1 k probes) then Some ProbesOutOfRange
     else None
 

@@ -2,11 +2,14 @@
 ghost use Rattle.std.specs.Prelude.{◌≡◌, ◌^◌, ◌<◌};
 ghost use Rattle.kfifo_words.specs.Words.{ends_word, head_of, tail_of, version_of};
 
-use crate::Word;
+use crate::word::{VALUES, Word};
 use std::marker::Model;
 
 /// The index of the ends word in the table.
 pub const ENDS_INDEX: usize = 0;
+
+/// The number of segment numbers that a word can have: 12 bits.
+pub const SEGMENT_NUMBERS: u64 = 4_096;
 
 /// The ends word: head and tail, segment numbers below 4,096, under one version below 2^40.
 ///
@@ -30,8 +33,8 @@ impl Ends {
     /// The ends word with this head, this tail and this version.
     #[tactic(auto, unfolding(crate::specs::Words::ends_word, crate::specs::Words::head_of, crate::specs::Words::tail_of, crate::specs::Words::version_of))]
     pub fn pack(head: u32, tail: u32, version: u64) -> Ends
-        requires head_fits { head < 4096 }
-        requires tail_fits { tail < 4096 }
+        requires head_fits { head < SEGMENT_NUMBERS }
+        requires tail_fits { tail < SEGMENT_NUMBERS }
         requires version_fits { version < 2 ^ 40 }
         ensures word { result ≡ ends_word head tail version }
         ensures head_again { head_of result ≡ head }
@@ -39,7 +42,7 @@ impl Ends {
         ensures version_again { version_of result ≡ version }
     {
         Ends {
-            bits: version * 16_777_216 + (u64::from(head) * 4096 + u64::from(tail)),
+            bits: version * VALUES + (u64::from(head) * SEGMENT_NUMBERS + u64::from(tail)),
         }
     }
 
@@ -47,18 +50,18 @@ impl Ends {
     #[tactic(auto, unfolding(crate::specs::Words::head_of))]
     pub fn head(self) -> u32
         ensures value { result ≡ head_of self }
-        ensures fits { result < 4096 }
+        ensures fits { result < SEGMENT_NUMBERS }
     {
-        (self.bits / 4096 % 4096) as u32
+        (self.bits / SEGMENT_NUMBERS % SEGMENT_NUMBERS) as u32
     }
 
     /// The tail's segment.
     #[tactic(auto, unfolding(crate::specs::Words::tail_of))]
     pub fn tail(self) -> u32
         ensures value { result ≡ tail_of self }
-        ensures fits { result < 4096 }
+        ensures fits { result < SEGMENT_NUMBERS }
     {
-        (self.bits % 4096) as u32
+        (self.bits % SEGMENT_NUMBERS) as u32
     }
 
     /// The version that head and tail share.
@@ -67,7 +70,7 @@ impl Ends {
         ensures value { result ≡ version_of self }
         ensures fits { result < 2 ^ 40 }
     {
-        self.bits / 16_777_216
+        self.bits / VALUES
     }
 
     /// The 64 bits. `pack` makes the same of the head, the tail and the version.

@@ -1,5 +1,6 @@
 //! The shape of a ring.
 ghost use Rattle.std.specs.Prelude.{◌≡◌, ℕ, ◌+◌, ◌*◌, ◌^◌, ◌<◌, ◌≤◌, Some, None, MatchResult};
+ghost use Rattle.kfifo_words.specs.declared.shape.TheConstants.{MAX_K, MAX_SEGMENTS};
 
 use crate::{MAX_VERSION, ShapeFault};
 
@@ -7,7 +8,7 @@ use crate::{MAX_VERSION, ShapeFault};
 pub const MAX_K: u32 = 64;
 
 /// The most segments of a ring.
-pub const MAX_SEGMENTS: u32 = 1024;
+pub const MAX_SEGMENTS: u32 = 1_024;
 
 /// The sizes of a ring: n segments of k slots, the greatest version, and how many slots an enqueue looks at.
 ///
@@ -24,9 +25,9 @@ pub struct Shape {
     /// Slots of a segment that an enqueue probes from its start, 1 to k.
     pub probes: u32,
     pub ghost some_slot: { 1 ≤ k },
-    pub ghost few_slots: { k ≤ 64 },
+    pub ghost few_slots: { k ≤ MAX_K },
     pub ghost some_segments: { 2 ≤ n },
-    pub ghost few_segments: { n ≤ 1024 },
+    pub ghost few_segments: { n ≤ MAX_SEGMENTS },
     pub ghost some_versions: { 2 ≤ last },
     pub ghost few_versions: { last < 2 ^ 40 },
     pub ghost some_probe: { 1 ≤ probes },

@@ -4,6 +4,9 @@ ghost use Rattle.kfifo_words.specs.Words.{slot_word, value_of, version_of};
 
 use std::marker::Model;
 
+/// The number of values that a word can have: the low 24 bits.
+pub const VALUES: u64 = 16_777_216;
+
 /// The greatest value of a word.
 pub const MAX_VALUE: u32 = 16_777_215;
 
@@ -40,7 +43,7 @@ impl Word {
         ensures version_again { version_of result ≡ version }
     {
         Word {
-            bits: version * 16_777_216 + u64::from(value),
+            bits: version * VALUES + u64::from(value),
         }
     }
 
@@ -50,7 +53,7 @@ impl Word {
         ensures value { result ≡ value_of self }
         ensures fits { result < 2 ^ 24 }
     {
-        (self.bits % 16_777_216) as u32
+        (self.bits % VALUES) as u32
     }
 
     /// The version.
@@ -59,7 +62,7 @@ impl Word {
         ensures value { result ≡ version_of self }
         ensures fits { result < 2 ^ 40 }
     {
-        self.bits / 16_777_216
+        self.bits / VALUES
     }
 
     /// The 64 bits. `pack` makes the same of the value and the version.

@@ -32,6 +32,10 @@ impl Progress for Notes {
     fn ended(&mut self) {
         self.endings = self.endings.saturating_add(1);
     }
+
+    fn refused(&mut self, _alloc: Global, _log: &[u8]) {}
+
+    fn fault_written(&mut self) {}
 }
 
 /// So many rounds of 64 threads, in which each is picked once, and a pick more.

@@ -54,6 +54,22 @@ fn shows_the_progress_once_a_second_has_gone_by(rt: HostRuntime) -> Result<(), F
     Ok(())
 }
 
+/// A log whose second call has an operation that there is not, and what is shown of it.
+const LOG: &str = "thread,op,item,first,last,answer\n0,enq,5,0,1,done\n0,push,6,2,3,done\n";
+
+const WRONG: &str = "line 3: op is \"push\", allowed are enq and deq\n";
+
+#[test]
+fn shows_the_wrong_field_of_a_log(rt: HostRuntime) -> Result<(), Fail> {
+    let mut shown = Vec::new(rt.alloc());
+    let mut progress = Showing::new(&Still(2), None, Some(&mut shown));
+    progress.refused(rt.alloc(), LOG.as_bytes());
+    progress.fault_written();
+    drop(progress);
+    assert_eq!(rt; shown.as_slice(), WRONG.as_bytes());
+    Ok(())
+}
+
 #[test]
 fn shows_nothing_before_a_second_has_gone_by(rt: HostRuntime) -> Result<(), Fail> {
     let mut shown = Vec::new(rt.alloc());

@@ -15,6 +15,7 @@
 //! | `judge`, `least` | what is said of the record, and then its outcome; or its fault |
 //! | `evidence`, `witness`, `verdict`, `bounds` | what `evidence`, `witness`, `judge` and `least_k` return |
 //! | `import` | the calls of a log, or its fault |
+//! | `wrong` | what is said of the field that makes a line of a log no call, or `none` |
 //! | `draw`, `svg` | the picture in characters, or as SVG; or its fault |
 //! | `form` | whether the picture as SVG is well formed |
 //! | `text` | whether the input is well formed, so that a row can show what is not |
@@ -224,6 +225,14 @@ fn add_log(alloc: Global, input: &str, lines: &mut Vec<String>) -> Result<(), Al
     }
 }
 
+/// The line of the field of a log that is wrong.
+fn wrong_line(alloc: Global, input: &str) -> Result<String, AllocError> {
+    match plain::wrong_field(alloc, input.as_bytes())? {
+        Some(wrong) => wrong.to_string(alloc),
+        None => "none".to_string(alloc),
+    }
+}
+
 /// Adds a line for each call.
 fn add_calls(alloc: Global, history: &History, lines: &mut Vec<String>) -> Result<(), AllocError> {
     for call in history.calls() {
@@ -252,6 +261,8 @@ fn add_answer(
         add_of_record(alloc, input, ask, lines)
     } else if name == "import" {
         add_log(alloc, input, lines)
+    } else if name == "wrong" {
+        Ok(lines.push(wrong_line(alloc, input)?)?)
     } else if name == "text" {
         Ok(lines.push(form_line(alloc, input)?)?)
     } else {

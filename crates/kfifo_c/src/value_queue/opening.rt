@@ -1,6 +1,8 @@
 //! Opening a queue of values.
 ghost use Rattle.std.specs.Prelude.{◌≡◌, ◌≢◌, ◌<◌, ◌≤◌, ◌⊎◌, ◌↔◌, None, Some, IfSome, IfOk, IsErrOf, All, length, map};
 ghost use Rattle.std.specs.Prelude.{reverse};
+ghost use Rattle.kfifo_model.specs.declared.calls.TheConstants.{MAX_THREADS};
+ghost use Rattle.kfifo_live.specs.declared.payload_opening.TheConstants.{MAX_TOKENS};
 ghost use denote.RawPtr.{Ptr};
 ghost use Rattle.kfifo_words.specs.Sizes.{fault_of};
 ghost use Rattle.kfifo_live.specs.Pass.{IsPassOf};
@@ -49,9 +51,9 @@ fn open_seats(
 ) -> Result<Vec<Box<ValueSeat, Global>>, OpenFault>
     ensures ok { IfOk result (λ seats. OpensValues shape threads tokens
         (reverse (map (λ seat. seat.value) seats.items))) }
-    ensures threads { IsErrOf result ThreadsOutOfRange ↔ ((threads ≡ 0) ⊎ (64 < threads)) }
+    ensures threads { IsErrOf result ThreadsOutOfRange ↔ ((threads ≡ 0) ⊎ (MAX_THREADS < threads)) }
     ensures tokens { IsErrOf result TokensOutOfRange
-        ↔ ((1 ≤ threads) × (threads ≤ 64) × ((tokens ≡ 0) ⊎ (1024 < tokens))) }
+        ↔ ((1 ≤ threads) × (threads ≤ MAX_THREADS) × ((tokens ≡ 0) ⊎ (MAX_TOKENS < tokens))) }
 {
     let (queue, passes) = PayQueue::open_with_pool(alloc, shape, threads, tokens)?;
     let seats = seat_all(alloc, queue, passes, threads)?;
@@ -98,12 +100,13 @@ pub extern "C" fn kfifo_c_open_values(
     ensures address { result ≡ 0 → (address : Ptr) × All (λ pass. pass.address ≡ address) passes.new }
     ensures refused { result ≢ 0 → passes.new ≡ passes.old }
     ensures shape { IfSome (fault_of k segments last probes) (λ fault. result ≡ shape_number fault) }
-    ensures threads { fault_of k segments last probes ≡ None → (length passes.old ≡ 0) ⊎ (64 < length passes.old)
+    ensures threads { fault_of k segments last probes ≡ None → (length passes.old ≡ 0)
+        ⊎ (MAX_THREADS < length passes.old)
         → result ≡ 8 }
-    ensures tokens { fault_of k segments last probes ≡ None → 1 ≤ length passes.old → length passes.old ≤ 64
-        → (tokens ≡ 0) ⊎ (1024 < tokens) → result ≡ 15 }
-    ensures memory { fault_of k segments last probes ≡ None → 1 ≤ length passes.old → length passes.old ≤ 64
-        → 1 ≤ tokens → tokens ≤ 1024
+    ensures tokens { fault_of k segments last probes ≡ None → 1 ≤ length passes.old → length passes.old ≤ MAX_THREADS
+        → (tokens ≡ 0) ⊎ (MAX_TOKENS < tokens) → result ≡ 15 }
+    ensures memory { fault_of k segments last probes ≡ None → 1 ≤ length passes.old → length passes.old ≤ MAX_THREADS
+        → 1 ≤ tokens → tokens ≤ MAX_TOKENS
         → (result ≡ 0) ⊎ (result ≡ 7) }
 {
     let shape = match Shape::with_probes(k, segments, last, probes) {

@@ -600,9 +600,17 @@ To do: look for a dequeue that takes an item which another one takes, too; or fo
 ",
     },
     Topic {
+        words: "call # found nothing, while some",
+        help: JUDGE,
+        line: "  call <N> found nothing, while some",
+        advice: "\
+To do: look for a dequeue that says empty too early; give each item a number of its own to see which items were there.
+",
+    },
+    Topic {
         words: "call # found nothing,",
         help: JUDGE,
-        line: "  call <N> found nothing, while",
+        line: "  call <N> found nothing, while there",
         advice: "\
 To do: see behind each put whether its item was got later: then the queue said empty too early; or never: then it was
 lost, or was left inside at the end of the log. Drain the queue until it answers empty before the log ends.
@@ -782,6 +790,14 @@ To do: nothing: in a plain queue it is 0.
 
 /// Further faults and answers.
 const LAST_TOPICS: &[Topic] = &[
+    Topic {
+        words: "call # got item #, though",
+        help: JUDGE,
+        line: "  call <N> got item <X>, though",
+        advice: "\
+To do: see below for which k there may be an order; give each item a number of its own to see which calls got the others.
+",
+    },
     Topic {
         words: "enqueue #: done",
         help: RUN,

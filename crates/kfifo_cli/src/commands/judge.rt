@@ -45,6 +45,12 @@ The answer is one of these:
   call <N> got item <X>, when more gets of it had ended than puts had begun
                               an item too soon: X is put more than once, but by the end of call N more calls
                               had got it than had begun to put it
+  call <N> found nothing, while some item had been put more often than taken
+                              an Empty too early: as call N began, and as each call began during it, more
+                              calls had put some item than had begun to get it
+  call <N> got item <X>, though <K> older items were left: calls <CALLS>
+                              an overtaking where items repeat: the items of these puts stood before each X
+                              that call N may have got
   Then come the calls that are named, the first 32 of them, each in a line:
   call <N>: thread <T> put <X> from <FIRST> to <LAST>
                               what call N did, and when; or `got <X>`, or `found nothing`

@@ -8,22 +8,25 @@ ghost use Rattle.kfifo_draw.specs.Drawing.{AreFew, AreMany, IsInPart};
 use crate::cut::{Cut, cut_of, is_of_lines, part_of};
 use crate::input::{read_calls, read_input};
 use crate::options::DrawOptions;
+use crate::progress::Progress;
 use kfifo_cli_texts::{Fault, order_of};
 use kfifo_draw::{DrawFault, Drawing, Marking, Part, Style, draw};
 use kfifo_import::LoggedCall;
-use kfifo_judge::Source;
-use kfifo_model::{Answer, Call, End, History};
+use kfifo_judge::{Source, push_reason};
+use kfifo_model::History;
 use kfifo_verdict::{Evidence, evidence};
 use std::alloc::{AllocError, Global};
 use std::fmt::Write;
 use std::rt::Files;
 
-/// The picture of the record or the log of the input, or of the part of it that the options ask for.
-pub fn answer<H: Files, S: Source>(
+/// The picture of the record or the log of the input, or of the part of it that the options ask for. If a line of a log
+/// is no call, the progress is told.
+pub fn answer<H: Files, S: Source, P: Progress>(
     alloc: Global,
     files: &H,
     options: DrawOptions<'_>,
     input: &mut S,
+    progress: &mut P,
 ) -> Result<String, Fault>
     ensures ok { IfOk result (λ _. IsDraw options.entry (S.remaining input.old)) }
     ensures err { IfErr result (IsDrawRefusal options.entry (S.remaining input.old) (S.failed input.old)
@@ -34,7 +37,7 @@ pub fn answer<H: Files, S: Source>(
     let cut = cut_of(options)?;
     let order = order_given(alloc, files, options)?;
     let bytes = read_input(alloc, input)?;
-    picture(alloc, bytes.as_slice(), options, cut, &order)
+    picture(alloc, bytes.as_slice(), options, cut, &order, progress)
 }
 
 /// The order that is to be drawn too, where one is given.
@@ -64,17 +67,18 @@ fn style_of(options: DrawOptions<'_>) -> Style {
 }
 
 /// The picture of these calls of an input, with this order.
-fn picture(
+fn picture<P: Progress>(
     alloc: Global,
     bytes: &[u8],
     options: DrawOptions<'_>,
     cut: Cut,
     order: &Option<Vec<usize>>,
+    progress: &mut P,
 ) -> Result<String, Fault>
     ensures { MatchResult result (λ _. IsPicture options.entry.check.k options.entry.evidence cut bytes.now)
         (IsNoPicture options.entry.check.k options.entry.evidence cut bytes.now) }
 {
-    let calls = read_calls(alloc, bytes)?;
+    let calls = read_calls(alloc, bytes, progress)?;
     let history = &calls.history;
     if let Some(logged) = &calls.logged {
         return Ok(picture_of(alloc, history, logged.as_slice(), options, cut, order)?);
@@ -203,6 +207,7 @@ fn named_calls(alloc: Global, found: &Evidence) -> Result<Vec<usize>, AllocError
     match found {
         Evidence::NeverPut(get) | Evidence::TakenTwice(get) => calls.push(*get)?,
         Evidence::TakenTooSoon(get) => calls.push(*get)?,
+        Evidence::ItemsLeft(empty) => calls.push(*empty)?,
         Evidence::NotEmpty { empty, puts } => {
             calls.push(*empty)?;
             calls.extend_from_slice(puts.as_slice())?;
@@ -211,26 +216,12 @@ fn named_calls(alloc: Global, found: &Evidence) -> Result<Vec<usize>, AllocError
             calls.push(*get)?;
             calls.extend_from_slice(puts.as_slice())?;
         }
+        Evidence::OlderLeft { get, puts } => {
+            calls.push(*get)?;
+            calls.extend_from_slice(puts.as_slice())?;
+        }
     }
     Ok(calls)
-}
-
-/// The item that the call with this number got, 0 where it got none.
-fn item_got(history: &History, number: usize) -> u32 {
-    match history.calls().get(number) {
-        Some(
-            Call {
-                end: Some(
-                    End {
-                        answer: Answer::Got(item),
-                        ..
-                    },
-                ),
-                ..
-            },
-        ) => *item,
-        _ => 0,
-    }
 }
 
 /// Why the calls of the evidence are marked, in a line.
@@ -249,41 +240,4 @@ fn reason_of(
         None => write!(text, "no evidence for k = {k}")?,
     }
     Ok(text)
-}
-
-/// Adds what the evidence says, but for the puts that it names.
-fn push_reason(text: &mut String, history: &History, found: &Evidence) -> Result<(), AllocError> {
-    match found {
-        Evidence::NeverPut(get) => {
-            let item = item_got(history, *get);
-            write!(
-                text,
-                "call {get} got item {item}, which no call before its end put"
-            )
-        }
-        Evidence::TakenTwice(get) => {
-            let item = item_got(history, *get);
-            write!(
-                text,
-                "call {get} got item {item}, which was taken more often than put"
-            )
-        }
-        Evidence::NotEmpty { empty, .. } => {
-            write!(text, "call {empty} found nothing, while there were items")
-        }
-        Evidence::TooYoung { get, puts } => {
-            let (item, count) = (item_got(history, *get), puts.len());
-            write!(
-                text,
-                "call {get} got item {item}, while {count} older items were there"
-            )
-        }
-        Evidence::TakenTooSoon(get) => {
-            let item = item_got(history, *get);
-            write!(
-                text,
-                "call {get} got item {item}, when more gets of it had ended than puts had begun"
-            )
-        }
-    }
 }

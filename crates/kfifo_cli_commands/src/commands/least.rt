@@ -7,16 +7,18 @@ ghost use Rattle.kfifo_cli_commands.specs.Verdicts.{IsLeast, IsBounded, IsVerdic
 
 use crate::input::{read_calls, read_input};
 use crate::options::LeastOptions;
+use crate::progress::Progress;
 use crate::status::{Status, status_of};
 use kfifo_cli_texts::Fault;
 use kfifo_judge::{Source, least_text};
 use std::alloc::Global;
 
-/// The lines for the calls of the input, and the status.
-pub fn answer<S: Source>(
+/// The lines for the calls of the input, and the status. If a line of a log is no call, the progress is told.
+pub fn answer<S: Source, P: Progress>(
     alloc: Global,
     options: LeastOptions,
     input: &mut S,
+    progress: &mut P,
 ) -> Result<(String, Status), Fault>
     ensures ok { IfOk result (λ a. IsLeast (S.remaining input.old) (string_bytes a.0) (status_number a.1)) }
     ensures status { IfOk result (λ a. (a.1 ≡ Status.Answered) ⊎ (a.1 ≡ Status.Unordered)) }
@@ -25,17 +27,22 @@ pub fn answer<S: Source>(
     ensures reads { ReadsWell result (S.failed input.old) (S.failed input.new) }
 {
     let bytes = read_input(alloc, input)?;
-    let (text, status) = text_of(alloc, options, bytes.as_slice())?;
+    let (text, status) = text_of(alloc, options, bytes.as_slice(), progress)?;
     Ok((text, status))
 }
 
 /// The lines for the calls of these bytes, and the status.
-fn text_of(alloc: Global, options: LeastOptions, bytes: &[u8]) -> Result<(String, Status), Fault>
+fn text_of<P: Progress>(
+    alloc: Global,
+    options: LeastOptions,
+    bytes: &[u8],
+    progress: &mut P,
+) -> Result<(String, Status), Fault>
     ensures said { MatchResult result (λ a. IsBounded bytes.now (string_bytes a.0) (status_number a.1))
         (IsNoCalls bytes.now) }
     ensures status { IfOk result (λ a. (a.1 ≡ Status.Answered) ⊎ (a.1 ≡ Status.Unordered)) }
 {
-    let calls = read_calls(alloc, bytes)?;
+    let calls = read_calls(alloc, bytes, progress)?;
     let tries = options.tries;
     let (text, said) = least_text(alloc, &calls.history, calls.logged(), tries)?;
     Ok((text, status_of(said)))

@@ -1,5 +1,5 @@
 use Rattle.std.proofs.Common.{ap, inl, inr, rules, subst, sym}
-use Rattle.kfifo_cli_texts.specs.declared.fault.Fault.{Fault}
+use Rattle.kfifo_cli_commands.proofs.Types.{Fault}
 use Rattle.kfifo_cli_commands.specs.Cuts.{IsCutFault, given}
 use Rattle.kfifo_cli_commands.proofs.cut.cut_of.Goals as goal
 

@@ -14,16 +14,16 @@ returns-in-Err g c =
     let before = g.S.Source.failed c.args.input.now in
     let after = g.S.Source.failed c.answer.new.input in
     let on_output = OnPrinter g.W.Write.contents c.args.output.now c.answer.new.output in
-    let on_faults = OnPrinter g.F.Write.contents c.args.faults.now c.end_with_fault.new.faults in
+    let on_faults = OnPrinter g.F.Write.contents c.args.faults.now c.end_with_fault-status.new.faults in
     let ends : Ends (IsAnswered c.args.request input before after) (IsRefused c.args.request input before after) ⊥ on_output on_faults 1 =
     ends_with
     (IsAnswered c.args.request input before after) (IsRefused c.args.request input before after) on_output on_faults fault
-    (λ is. c.end_with_fault.ensures.silent is)
+    (λ is. c.end_with_fault-status.ensures.silent is)
     (λ is.
     let w = c.in-Err.ensures.broken is in
     let answered : IsAnswered c.args.request input before after w.0 w.1 = (w.2, c.in-Err.ensures.reads (output_no_input fault is)) in
     (w.0, w.1, answered, w.3))
-    (λ not. (c.in-Err.ensures.refused not).1) (λ not. (c.in-Err.ensures.refused not).0) (λ not. c.end_with_fault.ensures.told not) in
+    (λ not. (c.in-Err.ensures.refused not).1) (λ not. (c.in-Err.ensures.refused not).0) (λ not. c.end_with_fault-status.ensures.told not) in
     subst (λ (s : Status). Ends (IsAnswered c.args.request input before after) (IsRefused c.args.request input before after) ⊥ on_output
     on_faults (status_number s))
-    (sym c.end_with_fault.ensures.status) ends
+    (sym c.end_with_fault-status.ensures.status) ends

@@ -2,7 +2,7 @@ use Rattle.std.proofs.Common.{◌≡◌, ◌++◌, List, arith, get_or, subst, t
 use Rattle.std.proofs.lemmas.List.{take_all}
 use Rattle.std.proofs.lemmas.List.Sums.{sum_by_more, sum_by_more_le}
 use Rattle.kfifo_replay.specs.Traces.{Traces}
-use Rattle.kfifo_cli_texts.specs.declared.picks.Group.{Group}
+use Rattle.kfifo_cli_commands.proofs.Types.{Group}
 use Rattle.kfifo_cli_texts.specs.Picks.{picks_of}
 use Rattle.kfifo_cli_commands.proofs.Feeding.{no_group, one_more, place_within, stops_on}
 use Rattle.kfifo_cli_commands.proofs.tracing.feed.Goals as goal

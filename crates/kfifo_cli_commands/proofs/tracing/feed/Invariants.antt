@@ -1,6 +1,5 @@
 use Rattle.std.proofs.Common.{◌≡◌, ℕ, List, ◌++◌, take}
-use Rattle.kfifo_words.specs.declared.shape.Shape.{Shape}
-use Rattle.kfifo_machine.specs.declared.event.Begin.{Begin}
+use Rattle.kfifo_cli_commands.proofs.Types.{Begin, Shape}
 use Rattle.kfifo_replay.specs.Traces.{Traces}
 use Rattle.kfifo_cli_texts.specs.Picks.{count_of, picks_of}
 use Rattle.kfifo_cli_commands.proofs.tracing.feed.Given as goal

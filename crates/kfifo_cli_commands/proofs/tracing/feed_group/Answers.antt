@@ -1,6 +1,6 @@
 use Rattle.std.proofs.Common.{◌≡◌, ◌+◌, ◌≤◌, ◌++◌, arith, replicate, subst}
 use Rattle.kfifo_replay.specs.Traces.{Traces}
-use Rattle.kfifo_cli_texts.specs.declared.picks.Group.{Group}
+use Rattle.kfifo_cli_commands.proofs.Types.{Group}
 use Rattle.kfifo_cli_commands.proofs.Feeding.{piece_more, piece_stops, place_within}
 use Rattle.kfifo_cli_commands.proofs.tracing.feed_group.Goals as goal
 

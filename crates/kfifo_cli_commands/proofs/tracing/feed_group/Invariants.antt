@@ -1,6 +1,5 @@
 use Rattle.std.proofs.Common.{ℕ, List, ◌++◌, replicate}
-use Rattle.kfifo_words.specs.declared.shape.Shape.{Shape}
-use Rattle.kfifo_machine.specs.declared.event.Begin.{Begin}
+use Rattle.kfifo_cli_commands.proofs.Types.{Begin, Shape}
 use Rattle.kfifo_replay.specs.Traces.{Traces}
 use Rattle.kfifo_cli_commands.proofs.tracing.feed_group.Given as goal
 

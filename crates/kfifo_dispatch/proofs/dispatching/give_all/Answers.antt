@@ -3,7 +3,7 @@ use Rattle.std.proofs.Common.{arith, ap, subst, ◌∙◌, ◌≡◌, ◌+◌, �
 use Rattle.std.proofs.Math.Seq.{take-length}
 use Rattle.std.proofs.lemmas.List.{get_or_default}
 use Rattle.kfifo_dispatch.specs.declared.task.Task.{Task}
-use Rattle.kfifo_dispatch.specs.Jobs.{Progress}
+use Rattle.kfifo_dispatch.specs.Jobs.{JobView}
 use Rattle.kfifo_dispatch.specs.Running.{GivesAll, begun, kept_after}
 use Rattle.kfifo_dispatch.proofs.Running.{gives_more, same_trans}
 use Rattle.kfifo_dispatch.proofs.dispatching.give_all.Goals as goal
@@ -13,9 +13,9 @@ loop-place-preserved g c =
     let less : c.loop-place.place < length c.args.tasks.now = omega (arith, c.loop-place-test.true) in
     let task = get_or c.args.tasks.now c.loop-place.place (record { id = 0; left = 0; sum = 0 }) in
     let job : c.new-job.result ≡ begun c.loop-place.place task = c.new-job.ensures in
-    let more : map (λ (d : Progress). d.place) c.keep.new.kept.items
-    ≡ map (λ (d : Progress). d.place) c.loop-place.returned.items ++ kept_after c.give-given.result =
-    c.in_ok-keep.ensures ∙ ap (λ (ns : List ℕ). map (λ (d : Progress). d.place) c.loop-place.returned.items ++ ns)
+    let more : map (λ (d : JobView). d.place) c.keep.new.kept.items
+    ≡ map (λ (d : JobView). d.place) c.loop-place.returned.items ++ kept_after c.give-given.result =
+    c.in_ok-keep.ensures ∙ ap (λ (ns : List ℕ). map (λ (d : JobView). d.place) c.loop-place.returned.items ++ ns)
     c.work_off_refused.ensures in
     record {
       same =
@@ -32,5 +32,5 @@ returns-clause-gives g c =
     let whole : take c.loop-place.place c.args.tasks.now ≡ c.args.tasks.now =
     ap (λ n. take n c.args.tasks.now) all ∙ take-length c.args.tasks.now in
     subst (λ (ts : List Task). GivesAll g.P.Station.gives (c.args.shape.n + 2) 0 ts c.args.pass.now c.loop-place.pass
-    (map (λ (d : Progress). d.place) c.loop-place.returned.items))
+    (map (λ (d : JobView). d.place) c.loop-place.returned.items))
     whole c.loop-place.invariant.gives

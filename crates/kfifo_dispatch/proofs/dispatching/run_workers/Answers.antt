@@ -1,7 +1,7 @@
 -- Each worker came back from its run.
 use Rattle.std.proofs.Common.{arith, length, get_or, map, sym, subst, ◌≡◌, IfOk}
 use Rattle.kfifo_live.specs.Payloads.{PayPassView}
-use Rattle.kfifo_dispatch.specs.Jobs.{Progress}
+use Rattle.kfifo_dispatch.specs.Jobs.{JobView}
 use Rattle.kfifo_dispatch.specs.Working.{PassRuns}
 use Rattle.kfifo_dispatch.proofs.Running.{are_each}
 use Rattle.kfifo_dispatch.proofs.dispatching.run_workers.Goals as goal
@@ -14,8 +14,8 @@ returns-clause-run g c =
     let back = get_or c.in_ok-backs.backs.items i b in
     let call = given.call in
     let ran : IfOk back.kept (λ kept. PassRuns (g.G.Gate.passed c.args.gate.now) c.args.shape c.args.seed given.job back.pass
-    (map (λ (d : Progress). d.place) kept.items)) = search call in
-    subst (λ (p : PayPassView Progress). IfOk back.kept
+    (map (λ (d : JobView). d.place) kept.items)) = search call in
+    subst (λ (p : PayPassView JobView). IfOk back.kept
     (λ kept. PassRuns (g.G.Gate.passed c.args.gate.now) c.args.shape c.args.seed p back.pass
-    (map (λ (d : Progress). d.place) kept.items)))
+    (map (λ (d : JobView). d.place) kept.items)))
     (sym (given.job_is a)) ran)

@@ -1,11 +1,11 @@
-use Rattle.std.proofs.Common.{◌≡◌, ◌∙◌, Bor, List, ℕ, Option, Some, ap, drop, length, rules, subst, sym}
+use Rattle.std.proofs.Common.{◌≡◌, ◌∙◌, Bor, List, ℕ, Option, Some, ap, drop, rules, subst, sym}
 use Rattle.csv.specs.Reading.{strip_bom}
 use Rattle.csv.specs.Records.{fields_of}
 use Rattle.kfifo_import.specs.Rows.{IsNextRow, behind_ends, first_row}
 use Rattle.kfifo_import.specs.Tables.{IsTextFault}
 use Rattle.kfifo_import.specs.Taking.{row_at}
 use Rattle.kfifo_import.proofs.Fronts.{behind_same}
-use Rattle.kfifo_import.proofs.Readings.{next_row, not_taken, read_fault, stands_next, takes_few, width_same}
+use Rattle.kfifo_import.proofs.Readings.{IsBehind, next_row, not_taken, read_fault, row_behind, stands_next, takes_few, width_same}
 use Rattle.kfifo_import.proofs.Rows.{Holds, takes_row}
 use Rattle.kfifo_import.proofs.table.lines_of.Goals as goal
 
@@ -57,10 +57,10 @@ returns-in_err-take-in-Ok-clause-err c =
     let next : IsNextRow plain inv.3 (row_at front.line fields) =
     next_row rem plain inv.3 a b front fields inv.4 c.row_front-front.ensures.is at step.0 in
     let width = width_same rem a b inv.3 fields inv.4 step.0 in
-    let refused : IsTextFault (strip_bom c.args.text.now) c.in_err-take-in-Ok.field-0.0 =
-    subst (λ t. IsTextFault t c.in_err-take-in-Ok.field-0.0) inv.1
-    (not_taken plain inv.3 table.columns table.lines.items a.expected front.line fields c.in_err-take-in-Ok.field-0.0 next width.1 inv.2
-    inv.7 c.in_err-take-in-Ok.ensures.err) in
+    let refused : IsTextFault (strip_bom c.args.text.now) c.in_err-take-in-Ok.field-0.0.fault =
+    subst (λ t. IsTextFault t c.in_err-take-in-Ok.field-0.0.fault) inv.1
+    (not_taken plain inv.3 table.columns table.lines.items a.expected front.line fields c.in_err-take-in-Ok.field-0.0.fault next width.1
+    inv.2 inv.7 c.in_err-take-in-Ok.ensures.err) in
     search rules
 
 pub returns-in-Err-clause-err : goal.returns-in-Err-clause-err
@@ -73,6 +73,27 @@ returns-in-Err-clause-err c =
     let front = c.row_front-front.result in
     let step = rw (c.in-Some.is, c.in-Err.is) at ((c.next.ensures.steps inv.0 inv.4.trim).0 inv.4.ready) in
     let at : drop front.at plain ≡ behind_ends inv.3 = c.row_front-front.ensures.rest ∙ ap behind_ends inv.6 in
-    subst (λ t. IsTextFault t c.fault_of.result) inv.1
+    rw c.from.ensures.0 (subst (λ t. IsTextFault t c.fault_of.result) inv.1
     (read_fault rem plain inv.3 a b table.columns table.lines.items front c.in-Err.error.kind c.fault_of.result inv.4
-    c.row_front-front.ensures.is at inv.7 step (rw c.kind.ensures at c.fault_of.ensures))
+    c.row_front-front.ensures.is at inv.7 step (rw c.kind.ensures at c.fault_of.ensures)))
+
+pub returns-in_err-take-in-Ok-clause-row : goal.returns-in_err-take-in-Ok-clause-row
+returns-in_err-take-in-Ok-clause-row c =
+    let inv = c.loop-row.invariant in
+    let plain = c.without_mark-plain.result.now in
+    let table = c.loop-row.table in
+    let a = c.loop-row.row-iterator.rdr in
+    let b = c.next.new.self.rdr in
+    let fields = fields_of c.in-Ok.row in
+    let front = c.row_front-front.result in
+    let refusal = c.in_err-take-in-Ok.field-0.0 in
+    let step = rw (c.in-Some.is, c.in-Ok.is) at ((c.next.ensures.steps inv.0 inv.4.trim).0 inv.4.ready) in
+    let at : drop front.at plain ≡ behind_ends inv.3 = c.row_front-front.ensures.rest ∙ ap behind_ends inv.6 in
+    let next : IsNextRow plain inv.3 (row_at front.line fields) =
+    next_row rem plain inv.3 a b front fields inv.4 c.row_front-front.ensures.is at step.0 in
+    let width = width_same rem a b inv.3 fields inv.4 step.0 in
+    let behind : IsBehind (strip_bom c.args.text.now) refusal.refused =
+    subst (λ t. IsBehind t refusal.refused) inv.1
+    (row_behind plain inv.3 table.columns table.lines.items a.expected front.line fields refusal.fault refusal.refused next width.1
+    inv.7 c.in_err-take-in-Ok.ensures.row) in
+    search rules

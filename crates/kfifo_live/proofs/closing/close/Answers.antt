@@ -5,7 +5,7 @@ use Rattle.core.specs.Mem.Slots.{slots_items}
 use Rattle.kfifo_live.specs.Left.{items_left}
 use Rattle.std.proofs.Common.{ℕ, get_or}
 use Rattle.kfifo_words.specs.Words.{head_of}
-use Rattle.kfifo_live.specs.declared.view.Opening.{Opening}
+use Rattle.kfifo_live.proofs.Types.{Opening}
 use Rattle.kfifo_live.proofs.Gathered.{closes, pass_begins, final_head}
 use Rattle.kfifo_live.proofs.closing.close.Goals as goal
 

@@ -1,6 +1,6 @@
 use Rattle.std.proofs.Common.{Some, List, ap, sym, ◌∙◌, subst}
 use Rattle.std.proofs.lemmas.List.Elements.{All-pop}
-use Rattle.kfifo_live.specs.declared.view.Part.{Part}
+use Rattle.kfifo_live.proofs.Types.{Part}
 use Rattle.kfifo_live.specs.Schedule.{AllBegin}
 use Rattle.kfifo_live.specs.Pass.{PassView, queue_of, AllSeen, IsPassOf}
 use Rattle.kfifo_live.proofs.Gathered.{all_seen_push, all_begin_parts, pass_begins}

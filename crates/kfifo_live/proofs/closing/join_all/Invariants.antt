@@ -1,5 +1,5 @@
 use Rattle.std.proofs.Common.{◌≡◌, All, List, vec_len}
-use Rattle.kfifo_machine.specs.declared.event.Event.{Event}
+use Rattle.kfifo_live.proofs.Types.{Event}
 use Rattle.kfifo_live.specs.Schedule.{AllBegin}
 use Rattle.kfifo_live.specs.Pass.{queue_of, AllSeen, IsPassOf}
 use Rattle.kfifo_live.proofs.closing.join_all.Given as goal

@@ -1,7 +1,7 @@
 -- The pass is of a thread of the queue.
 use Rattle.std.proofs.Common.{◌<◌, ◌∙◌, ap, sym, subst}
 use Rattle.kfifo_live.specs.Pass.{PassView, OpenQueue}
-use Rattle.kfifo_live.specs.declared.view.Opening.{Opening}
+use Rattle.kfifo_live.proofs.Types.{Opening}
 use Rattle.kfifo_live.proofs.Spreads.{thread_within}
 use Rattle.kfifo_live.proofs.handle.starts_of.Goals as goal
 

@@ -2,7 +2,7 @@ use Rattle.std.proofs.Common.{◌≡◌, ◌∙◌, sym, ap, subst}
 use Rattle.kfifo_machine.specs.Runs.{own}
 use Rattle.kfifo_live.specs.Pass.{PassView, IsPass, StartsWith, pass_view}
 use Rattle.kfifo_live.specs.Schedule.{both_parts}
-use Rattle.kfifo_live.specs.declared.view.View.{View}
+use Rattle.kfifo_live.proofs.Types.{View}
 use Rattle.kfifo_live.proofs.Passes.{met, returned, both_begin, exactly_own, promised}
 use Rattle.kfifo_live.proofs.meeting.meet.Goals as goal
 

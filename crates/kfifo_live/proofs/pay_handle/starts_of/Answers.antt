@@ -2,7 +2,7 @@
 use Rattle.std.proofs.Common.{◌<◌, ◌∙◌, ap, sym, subst}
 use Rattle.kfifo_live.specs.Pass.{OpenQueue}
 use Rattle.kfifo_live.specs.Payloads.{PayPassView}
-use Rattle.kfifo_live.specs.declared.view.Opening.{Opening}
+use Rattle.kfifo_live.proofs.Types.{Opening}
 use Rattle.kfifo_live.proofs.Spreads.{thread_within}
 use Rattle.kfifo_live.proofs.pay_handle.starts_of.Goals as goal
 

@@ -1,7 +1,6 @@
 use Rattle.std.proofs.Common.{◌≡◌, ◌<◌, ◌≤◌, ◌+◌, ◌*◌, ◌++◌, [], ◌∷◌, ap, refl, subst, sym, ◌∙◌, arith, mul-le-mul_right, vec_capacity}
 use Rattle.std.proofs.Common.{length}
-use Rattle.kfifo_live.specs.declared.view.Opening.{Opening}
-use Rattle.kfifo_live.specs.declared.view.View.{View}
+use Rattle.kfifo_live.proofs.Types.{Opening, View}
 use Rattle.kfifo_live.specs.Schedule.{GiftsFit, seen_of, gifts_of, hand_of, more_in, count_up, first_part, other_parts}
 use Rattle.kfifo_live.specs.Pass.{queue_of}
 use Rattle.kfifo_live.specs.Payloads.{IsPool, IsPayPass, pay_pass_view, pool_for}

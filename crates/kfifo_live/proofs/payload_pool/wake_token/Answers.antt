@@ -1,6 +1,6 @@
 use Rattle.std.proofs.Common.{◌≡◌, ◌+◌, ◌∙◌, [], IfSome, ap, arith, subst}
 use Rattle.atomic_table.specs.Seated.{TableId}
-use Rattle.kfifo_live.specs.declared.view.View.{View}
+use Rattle.kfifo_live.proofs.Types.{View}
 use Rattle.kfifo_live.specs.Schedule.{resting_view}
 use Rattle.kfifo_live.proofs.Pools.{pool_at}
 use Rattle.kfifo_live.proofs.payload_pool.wake_token.Goals as goal

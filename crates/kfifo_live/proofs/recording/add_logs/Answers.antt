@@ -1,7 +1,7 @@
 -- A pass of an opening has made no call.
 use Rattle.std.proofs.Common.{◌≡◌, ◌≤◌, [], ◌∷◌, ◌++◌, ◌∙◌, ap, sym, subst, arith}
 use Rattle.std.specs.Vec.Iter.{into_iter_items}
-use Rattle.kfifo_live.specs.declared.view.Opening.{Opening}
+use Rattle.kfifo_live.proofs.Types.{Opening}
 use Rattle.kfifo_live.specs.Pass.{OpenQueue, new_passes}
 use Rattle.kfifo_live.specs.Stamps.{IsLog, logged_by}
 use Rattle.kfifo_live.proofs.Records.{is_new, new_log, new_logs-snoc, new_promise, taken_front}

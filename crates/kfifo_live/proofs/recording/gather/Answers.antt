@@ -3,7 +3,7 @@ use Rattle.std.proofs.Common.{◌≡◌, ℕ, ◌≤◌, All, List, ◌∙◌, a
 use Rattle.std.specs.List.Sorted.{IsNonDecreasingBy}
 use Rattle.std.proofs.lemmas.List.Elements.{All-map}
 use Rattle.std.proofs.lemmas.List.Sorted.{IsNonDecreasingBy-from_sort_by_key}
-use Rattle.kfifo_model.specs.declared.calls.Call.{Call}
+use Rattle.kfifo_live.proofs.Types.{Call}
 use Rattle.kfifo_machine.proofs.Calls.{no_fault}
 use Rattle.kfifo_live.specs.Pass.{Closes, IsComplete, IsPassOf, PassView, OpenQueue}
 use Rattle.kfifo_live.specs.Stamps.{Gathers, Logged, passes_of}

@@ -1,7 +1,6 @@
 -- The first step of a call that may begin.
 use Rattle.std.proofs.Common.{◌≡◌, ◌<◌, Some, None, Result, Ok, length, get_or, sym, ap, ◌∙◌, subst, arith}
-use Rattle.kfifo_machine.specs.declared.event.NotEnabled.{NotEnabled}
-use Rattle.kfifo_machine.specs.declared.event.Outcome.{Outcome}
+use Rattle.kfifo_machine.proofs.Types.{NotEnabled, Outcome}
 use Rattle.kfifo_machine.specs.Machine.{Machine, World, place_of}
 use Rattle.kfifo_machine.specs.Places.{IsState}
 use Rattle.kfifo_machine.specs.Runs.{going}

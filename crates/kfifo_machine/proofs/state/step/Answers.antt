@@ -1,9 +1,6 @@
 -- An event moves its thread alone, and changes one word at most, which rises.
 use Rattle.std.proofs.Common.{◌≡◌, Result, Ok, Err, IfOk, OnErr, ap}
-use Rattle.kfifo_words.specs.declared.shape.Shape.{Shape}
-use Rattle.kfifo_machine.specs.declared.event.Event.{Event}
-use Rattle.kfifo_machine.specs.declared.event.Outcome.{Outcome}
-use Rattle.kfifo_machine.specs.declared.event.NotEnabled.{NotEnabled}
+use Rattle.kfifo_machine.proofs.Types.{Event, NotEnabled, Outcome, Shape}
 use Rattle.kfifo_machine.specs.Machine.{Machine, place_of, step}
 use Rattle.kfifo_machine.specs.Laws.{OthersStay, NoneFalls, OneWord}
 use Rattle.kfifo_machine.proofs.Schedules.{other_place}

@@ -2,7 +2,7 @@ use Rattle.std.proofs.Common.{◌≡◌, ◌∙◌, ◌+◌, ◌++◌, List, [],
 use Rattle.std.specs.List.{flat_map}
 use Rattle.std.proofs.lemmas.Grind.{flat_map-append}
 use Rattle.std.proofs.lemmas.List.{append-nil}
-use Rattle.kfifo_model.specs.declared.index.Rival.{Rival}
+use Rattle.kfifo_model.proofs.Types.{Rival}
 use Rattle.kfifo_model.proofs.Counting.{range_next}
 use Rattle.kfifo_model.proofs.blocks.blocks_of.Goals as goal
 

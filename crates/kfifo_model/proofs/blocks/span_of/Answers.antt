@@ -1,7 +1,7 @@
 use Rattle.std.proofs.Common.{◌≡◌, min, take, get_or, sym, subst, arith}
 use Rattle.std.proofs.lemmas.List.{take_all, take_more}
 use Rattle.std.specs.Ordering.{nat_cmp, ord_max}
-use Rattle.kfifo_model.specs.declared.index.Rival.{Rival}
+use Rattle.kfifo_model.proofs.Types.{Rival}
 use Rattle.kfifo_model.specs.Blocks.{IsSpan}
 use Rattle.kfifo_model.proofs.Counting.{span_more, from_max}
 use Rattle.kfifo_model.proofs.blocks.span_of.Goals as goal

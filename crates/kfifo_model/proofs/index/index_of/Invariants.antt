@@ -4,4 +4,4 @@ use Rattle.kfifo_model.specs.Index.{IsIndex}
 use Rattle.kfifo_model.proofs.index.index_of.Given as goal
 
 abbrev pub invariant-loop-call : goal.invariant-loop-call
-invariant-loop-call l = IsIndex l.calls l.kind l.call-index (λ x. get nat_cmp l.firsts x)
+invariant-loop-call l = IsIndex l.calls l.side l.call-index (λ x. get nat_cmp l.firsts x)

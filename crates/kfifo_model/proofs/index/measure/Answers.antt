@@ -1,6 +1,6 @@
 use Rattle.std.proofs.Common.{ℕ, ◌≡◌, List, length, subst}
 use Rattle.std.specs.Result.{MatchResult}
-use Rattle.kfifo_model.specs.declared.calls.Call.{Call}
+use Rattle.kfifo_model.proofs.Types.{Call}
 use Rattle.kfifo_model.specs.Measures.{IsDoneEnqueue, HasDistinctItems}
 use Rattle.kfifo_model.specs.Index.{measured, IsMeasureFault}
 use Rattle.kfifo_model.proofs.index.measure.Goals as goal

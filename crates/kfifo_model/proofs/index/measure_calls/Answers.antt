@@ -2,9 +2,8 @@ use Rattle.std.proofs.Common.{◌≡◌, ◌+◌, Bool, List, length, refl, sym,
 use Rattle.std.specs.List.{count_by, flat_map}
 use Rattle.std.specs.BTreeMap.{get}
 use Rattle.std.specs.Ordering.{nat_cmp}
-use Rattle.kfifo_model.specs.declared.calls.Call.{Call}
+use Rattle.kfifo_model.proofs.Types.{Call, Rival}
 use Rattle.kfifo_model.specs.declared.index.Overtaken.{Overtaken}
-use Rattle.kfifo_model.specs.declared.index.Rival.{Rival}
 use Rattle.kfifo_model.specs.Histories.{call}
 use Rattle.kfifo_model.specs.Index.{measured, rivals_below, done_item, last_of, is_beaten}
 use Rattle.kfifo_model.proofs.Checking.{read}

@@ -1,5 +1,5 @@
 use Rattle.std.proofs.Common.{[], length, ap, ◌∙◌, List}
-use Rattle.kfifo_model.specs.declared.calls.Call.{Call}
+use Rattle.kfifo_model.proofs.Types.{Call}
 use Rattle.kfifo_model.specs.Histories.{IsLegal}
 use Rattle.kfifo_model.specs.Ranks.{gots_in}
 use Rattle.kfifo_model.proofs.Measuring.{length-ranks_at}

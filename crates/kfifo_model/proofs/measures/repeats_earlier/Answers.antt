@@ -3,7 +3,7 @@ use Rattle.kfifo_model.specs.declared.calls.Op.TheVariants.{Enqueue}
 use Rattle.std.proofs.lemmas.Bool.{false≢true}
 use Rattle.kfifo_model.specs.Histories.{does, effect_of}
 use Rattle.kfifo_model.specs.Measures.{SharesItem}
-use Rattle.kfifo_model.specs.declared.calls.Call.{Call}
+use Rattle.kfifo_model.proofs.Types.{Call}
 use Rattle.kfifo_model.proofs.Checking.{read}
 use Rattle.kfifo_model.proofs.Measuring.{no_more}
 use Rattle.kfifo_model.proofs.measures.repeats_earlier.Goals as goal

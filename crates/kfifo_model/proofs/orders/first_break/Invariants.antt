@@ -1,5 +1,6 @@
 use Rattle.std.proofs.Common.{List, [], ◌++◌, ◌↔◌, map, take}
-use Rattle.kfifo_model.specs.Relaxed.{Effect, IsRun}
+use Rattle.kfifo_model.proofs.Types.{Effect}
+use Rattle.kfifo_model.specs.Relaxed.{IsRun}
 use Rattle.kfifo_model.specs.Histories.{does}
 use Rattle.kfifo_model.proofs.orders.first_break.Given as goal
 

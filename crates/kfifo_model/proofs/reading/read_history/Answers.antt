@@ -1,7 +1,7 @@
 use Rattle.std.proofs.Common.{◌≤◌, List, length, map, sym, subst, arith}
 use Rattle.std.proofs.lemmas.List.{length-map}
 use Rattle.serde_json.specs.View.{view}
-use Rattle.kfifo_model.specs.declared.calls.Call.{Call}
+use Rattle.kfifo_model.proofs.Types.{Call}
 use Rattle.kfifo_model.specs.Validity.{IsHistory}
 use Rattle.kfifo_model.specs.Records.{IsRecordOf}
 use Rattle.kfifo_model.proofs.RecordLemmas.{is_array, too_many, member_fault}

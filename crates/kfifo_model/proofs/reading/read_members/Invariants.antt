@@ -2,7 +2,7 @@ use Rattle.std.proofs.Common.{◌≡◌, length, map}
 use Rattle.serde_json.specs.View.{view}
 use Rattle.kfifo_model.specs.Validity.{IsHistory}
 use Rattle.kfifo_model.specs.Records.{AreRead}
-use Rattle.kfifo_model.proofs.Watching.{IsProgress}
+use Rattle.kfifo_model.proofs.Watching.{AreSoFar}
 use Rattle.kfifo_model.proofs.reading.read_members.Given as goal
 
 abbrev pub invariant-loop-n : goal.invariant-loop-n
@@ -10,5 +10,5 @@ invariant-loop-n l = record {
   sized : length l.calls.items ≡ l.n;
   valid : IsHistory l.calls.items;
   read : AreRead (map view l.members) l.calls.items;
-  seen : IsProgress l.calls.items l.n l.progress;
+  seen : AreSoFar l.calls.items l.n l.so_far;
 }

@@ -1,6 +1,6 @@
 -- The scripts so far were copied.
 use Rattle.std.proofs.Common.{◌≡◌, map, take, Vec, Global}
-use Rattle.kfifo_machine.specs.declared.event.Begin.{Begin}
+use Rattle.kfifo_replay.proofs.Types.{Begin}
 use Rattle.kfifo_replay.proofs.player.copy_scripts.Given as goal
 
 abbrev pub invariant-loop-script : goal.invariant-loop-script

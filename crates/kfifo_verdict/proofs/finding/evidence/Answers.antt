@@ -1,7 +1,7 @@
 use Rattle.std.proofs.Common.{List, subst}
 use Rattle.std.specs.Result.{IfOk}
 use Rattle.std.specs.Option.{MatchOption}
-use Rattle.kfifo_model.specs.declared.calls.Call.{Call}
+use Rattle.kfifo_verdict.proofs.Types.{Call}
 use Rattle.kfifo_verdict.specs.Judging.{HasNoEvidence, IsFirstEvidence}
 use Rattle.kfifo_verdict.proofs.Concluding.{found_refutes}
 use Rattle.kfifo_verdict.proofs.finding.evidence.Goals as goal

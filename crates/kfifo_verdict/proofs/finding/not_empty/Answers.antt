@@ -4,18 +4,17 @@ use Rattle.kfifo_model.proofs.Checking.{read}
 use Rattle.kfifo_model.proofs.Measuring.{no_more}
 use Rattle.kfifo_verdict.specs.Judging.{FoundNotEmpty}
 use Rattle.kfifo_verdict.proofs.Refuting.{found_ended, ended_inside}
-use Rattle.kfifo_verdict.proofs.Telling.{found_deed}
 use Rattle.kfifo_verdict.proofs.finding.not_empty.Goals as goal
-use Rattle.kfifo_verdict.proofs.finding.not_empty.Goals.{in-FoundNone+in_ok-puts+in_default-2, in_default}
+use Rattle.kfifo_verdict.proofs.finding.not_empty.Goals.{in-FindsNone+in_ok-puts+in_default-2, in_default}
 
 pub loop-n-preserved : goal.loop-n-preserved
 loop-n-preserved c =
     let h = c.args.calls.now in
     let n = c.loop-n.n in
-    no_more (FoundNotEmpty h) n c.loop-n.invariant (λ f. elim c.match-deed_of.branch [
-      | in-FoundNone+in_ok-puts+in_default-2 w ↦ (let gap = rw w.in_default-2.is at w.in_ok-puts.ensures in gap.0 f)
-      | in_default w ↦ w.in_default.not-FoundNone
-          (found_deed _ c.deed_of.result c.deed_of.ensures (ap effect_of (read h n _ c.loop-n-test.true) ∙ f.1.empty))
+    no_more (FoundNotEmpty h) n c.loop-n.invariant (λ f. elim c.match-effect.branch [
+      | in-FindsNone+in_ok-puts+in_default-2 w ↦ (let gap = rw w.in_default-2.is at w.in_ok-puts.ensures in gap.0 f)
+      | in_default w ↦ w.in_default.not-FindsNone
+          (c.effect.ensures ∙ ap effect_of (read h n _ c.loop-n-test.true) ∙ f.1.empty)
     ])
 
 pub returns : goal.returns

@@ -1,7 +1,6 @@
 use Rattle.std.proofs.Common.{List, length, sym, subst}
-use Rattle.kfifo_model.specs.declared.calls.Call.{Call}
+use Rattle.kfifo_verdict.proofs.Types.{Call, Presence}
 use Rattle.kfifo_model.proofs.Checking.{read}
-use Rattle.kfifo_verdict.specs.declared.presences.Presence.{Presence}
 use Rattle.kfifo_verdict.specs.Finding.{IsStart, ArePresences}
 use Rattle.kfifo_verdict.proofs.Younger.{young_count}
 use Rattle.kfifo_verdict.proofs.finding.older_at.Goals as goal

@@ -1,8 +1,8 @@
 use Rattle.std.proofs.Common.{ℕ, length, sym, ◌∙◌, ap, subst, arith}
 use Rattle.kfifo_model.specs.Histories.{effect_of}
 use Rattle.kfifo_model.proofs.Checking.{read}
-use Rattle.kfifo_verdict.specs.declared.deeds.Side.TheVariants.{In, Out}
-use Rattle.kfifo_verdict.specs.declared.tallies.Tally.{Tally}
+use Rattle.kfifo_model.specs.declared.effects.Side.TheVariants.{In, Out}
+use Rattle.kfifo_verdict.proofs.Types.{Tally}
 use Rattle.kfifo_verdict.specs.Evidence.{IsSingle}
 use Rattle.kfifo_verdict.specs.Finding.{IsTally, has_item, first_of}
 use Rattle.kfifo_verdict.proofs.Refuting.{put_inside}
@@ -14,8 +14,8 @@ pub returns-then-tally_of-eq1 : goal.returns-then-tally_of-eq1
 returns-then-tally_of-eq1 c =
     let h = c.args.calls.now in
     let n = c.args.n in
-    let item = c.in-TookOut.item in
-    let is = ap effect_of (sym (read h n _ c.requires.inside)) ∙ c.in-TookOut.ensures in
+    let item = c.in-Takes.item in
+    let is = ap effect_of (sym (read h n _ c.requires.inside)) ∙ sym c.in-Takes.ensures in
     let P : Tally → Type 0 = λ t. IsTally (has_item In h item) (first_of h) (length h) t in
     let G : Tally → Type 0 = λ t. IsTally (has_item Out h item) (first_of h) (length h) t in
     let put = subst P (sym c.tally_of-put.ensures) (c.requires.items.puts item) in
@@ -33,8 +33,8 @@ pub returns-else-put-eq1 : goal.returns-else-put-eq1
 returns-else-put-eq1 c = λ x p s gets.
     let h = c.args.calls.now in
     let n = c.args.n in
-    let item = c.in-TookOut.item in
-    let is = ap effect_of (sym (read h n _ c.requires.inside)) ∙ c.in-TookOut.ensures in
+    let item = c.in-Takes.item in
+    let is = ap effect_of (sym (read h n _ c.requires.inside)) ∙ sym c.in-Takes.ensures in
     let P : Tally → Type 0 = λ t. IsTally (has_item In h item) (first_of h) (length h) t in
     let G : Tally → Type 0 = λ t. IsTally (has_item Out h item) (first_of h) (length h) t in
     let put = subst P (sym c.tally_of-put.ensures) (c.requires.items.puts item) in

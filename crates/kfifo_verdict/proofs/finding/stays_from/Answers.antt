@@ -1,6 +1,6 @@
 use Rattle.std.proofs.Common.{ℕ, List, ◌<◌, ◌≤◌, ◌+◌, length, get_or, sym, ◌∙◌, ap, subst, refl, arith}
 use Rattle.std.proofs.lemmas.List.{get_or_default}
-use Rattle.kfifo_verdict.specs.declared.finding.Stay.{Stay}
+use Rattle.kfifo_verdict.proofs.Types.{Stay}
 use Rattle.kfifo_verdict.specs.Finding.{IsBucketed, no_presence, no_stay}
 use Rattle.kfifo_verdict.proofs.Staying.{bucketed_skip, bucketed_more}
 use Rattle.kfifo_verdict.proofs.finding.stays_from.Goals as goal

@@ -1,6 +1,6 @@
 use Rattle.std.proofs.Common.{ℕ, List, sym, subst}
 use Rattle.std.proofs.lemmas.Bool.{false≢true}
-use Rattle.kfifo_model.specs.declared.calls.Call.{Call}
+use Rattle.kfifo_verdict.proofs.Types.{Call}
 use Rattle.kfifo_verdict.specs.Judging.{HasNoEvidence, IsPlain}
 use Rattle.kfifo_verdict.proofs.judging.judge.Goals as goal
 use Rattle.kfifo_verdict.proofs.judging.judge.Goals.{then-k-eq1+in_ok-order+in_default-2, else-k-eq1}

@@ -1,5 +1,5 @@
 use Rattle.std.proofs.Common.{List, ◌≤◌, subst, arith}
-use Rattle.kfifo_model.specs.declared.calls.Call.{Call}
+use Rattle.kfifo_verdict.proofs.Types.{Call}
 use Rattle.kfifo_verdict.specs.Judging.{IsLowerBound}
 use Rattle.kfifo_verdict.proofs.Concluding.{bound_refutes}
 use Rattle.kfifo_verdict.proofs.judging.least_k.Goals as goal

@@ -1,9 +1,8 @@
 use Rattle.std.proofs.Common.{ℕ, length, sym, ◌∙◌, ap, subst, refl, inl, inr, arith}
-use Rattle.kfifo_model.specs.declared.calls.Call.{Call}
+use Rattle.kfifo_verdict.proofs.Types.{Call, Tally}
 use Rattle.kfifo_model.specs.Histories.{effect_of}
 use Rattle.kfifo_model.proofs.Checking.{read}
-use Rattle.kfifo_verdict.specs.declared.deeds.Side.TheVariants.{In, Out}
-use Rattle.kfifo_verdict.specs.declared.tallies.Tally.{Tally}
+use Rattle.kfifo_model.specs.declared.effects.Side.TheVariants.{In, Out}
 use Rattle.kfifo_verdict.specs.Evidence.{IsSingle}
 use Rattle.kfifo_verdict.specs.Finding.{IsTally, IsStart, has_item, first_of}
 use Rattle.kfifo_verdict.proofs.Telling.{single_from, single_put_once, single_got_once, got_last, got_none}
@@ -16,8 +15,8 @@ pub returns-then-tally_of-ne1 : goal.returns-then-tally_of-ne1
 returns-then-tally_of-ne1 c =
     let h = c.args.calls.now in
     let p = c.args.p in
-    let item = c.in-PutIn.item in
-    let is = ap effect_of (sym (read h p _ c.requires.inside)) ∙ c.in-PutIn.ensures in
+    let item = c.in-Adds.item in
+    let is = ap effect_of (sym (read h p _ c.requires.inside)) ∙ sym c.in-Adds.ensures in
     let P : Tally → Type 0 = λ t. IsTally (has_item In h item) (first_of h) (length h) t in
     let G : Tally → Type 0 = λ t. IsTally (has_item Out h item) (first_of h) (length h) t in
     let put = subst P (sym c.tally_of.ensures) (c.requires.puts item) in
@@ -38,9 +37,9 @@ pub returns-then-got-eq0 : goal.returns-then-got-eq0
 returns-then-got-eq0 c =
     let h = c.args.calls.now in
     let p = c.args.p in
-    let item = c.in-PutIn.item in
+    let item = c.in-Adds.item in
     let same = read h p _ c.requires.inside in
-    let is = ap effect_of (sym same) ∙ c.in-PutIn.ensures in
+    let is = ap effect_of (sym same) ∙ sym c.in-Adds.ensures in
     let P : Tally → Type 0 = λ t. IsTally (has_item In h item) (first_of h) (length h) t in
     let G : Tally → Type 0 = λ t. IsTally (has_item Out h item) (first_of h) (length h) t in
     let put = subst P (sym c.tally_of.ensures) (c.requires.puts item) in
@@ -57,9 +56,9 @@ pub returns-else-got-eq0 : goal.returns-else-got-eq0
 returns-else-got-eq0 c =
     let h = c.args.calls.now in
     let p = c.args.p in
-    let item = c.in-PutIn.item in
+    let item = c.in-Adds.item in
     let same = read h p _ c.requires.inside in
-    let is = ap effect_of (sym same) ∙ c.in-PutIn.ensures in
+    let is = ap effect_of (sym same) ∙ sym c.in-Adds.ensures in
     let P : Tally → Type 0 = λ t. IsTally (has_item In h item) (first_of h) (length h) t in
     let G : Tally → Type 0 = λ t. IsTally (has_item Out h item) (first_of h) (length h) t in
     let put = subst P (sym c.tally_of.ensures) (c.requires.puts item) in

@@ -3,7 +3,7 @@ use Rattle.std.specs.Option.{unwrap_or}
 use Rattle.kfifo_model.specs.Histories.{effect_of}
 use Rattle.kfifo_model.proofs.Checking.{read}
 use Rattle.kfifo_model.proofs.Indexing.{differs}
-use Rattle.kfifo_verdict.specs.declared.tallies.Tally.{Tally}
+use Rattle.kfifo_verdict.proofs.Types.{Tally}
 use Rattle.kfifo_verdict.specs.Finding.{IsTally, IsTallied, tally_in, no_tally, has_item, first_of}
 use Rattle.kfifo_verdict.proofs.Telling.{tallied_skip, tallied_more, side_here}
 use Rattle.kfifo_verdict.proofs.tallies.tallies.Goals as goal

@@ -1,26 +1,25 @@
 use Rattle.std.proofs.Common.{ℕ, length, sym, ◌∙◌, ap, subst, refl, arith, Option}
 use Rattle.std.proofs.lemmas.Bool.{false≢true}
-use Rattle.kfifo_model.specs.declared.calls.End.{End}
+use Rattle.kfifo_verdict.proofs.Types.{End, Tally}
 use Rattle.kfifo_model.specs.Histories.{effect_of, HasEnd}
 use Rattle.kfifo_model.proofs.Checking.{read}
-use Rattle.kfifo_verdict.specs.declared.deeds.Side.TheVariants.{In, Out}
-use Rattle.kfifo_verdict.specs.declared.tallies.Tally.{Tally}
+use Rattle.kfifo_model.specs.declared.effects.Side.TheVariants.{In, Out}
 use Rattle.kfifo_verdict.specs.Evidence.{IsSingle}
 use Rattle.kfifo_verdict.specs.Finding.{IsTally, has_item, first_of}
 use Rattle.kfifo_verdict.proofs.Being.{same_put}
 use Rattle.kfifo_verdict.proofs.Telling.{single_from, single_put_once, single_got_once}
-use Rattle.kfifo_verdict.proofs.Lining.{put_deed, has_end, plain_more, plain_all}
+use Rattle.kfifo_verdict.proofs.Lining.{has_end, plain_more, plain_all}
 use Rattle.kfifo_verdict.proofs.turns.is_plain.Goals as goal
 use Rattle.kfifo_verdict.proofs.turns.is_plain.Goals.{then-tally_of-ne1-via-then-tally_of-ne1}
 use Rattle.kfifo_verdict.proofs.turns.is_plain.Goals.{then-tally_of-ne1-via-else-tally_of-ne1+then-tally_of-gt1}
-use Rattle.kfifo_verdict.proofs.turns.is_plain.Goals.{in-PutIn+else-tally_of-ne1+else-tally_of-gt1, in_default}
+use Rattle.kfifo_verdict.proofs.turns.is_plain.Goals.{in-Adds+else-tally_of-ne1+else-tally_of-gt1, in_default}
 
 pub returns-then-tally_of-ne1 : goal.returns-then-tally_of-ne1
 returns-then-tally_of-ne1 c =
     let h = c.args.calls.now in
     let n = c.loop-n.n in
-    let item = c.in-PutIn.item in
-    let is = ap effect_of (sym (read h n _ c.loop-n-test.true)) ∙ c.in-PutIn.ensures in
+    let item = c.in-Adds.item in
+    let is = ap effect_of (sym (read h n _ c.loop-n-test.true)) ∙ sym c.in-Adds.ensures in
     let P : Tally → Type 0 = λ t. IsTally (has_item In h item) (first_of h) (length h) t in
     let G : Tally → Type 0 = λ t. IsTally (has_item Out h item) (first_of h) (length h) t in
     let put = subst P (sym c.tally_of.ensures) (c.requires.puts item) in (
@@ -44,10 +43,10 @@ loop-n-preserved c =
     let same = ap effect_of (sym (read h n _ c.loop-n-test.true)) in
     plain_more h n c.loop-n.invariant (let E : Option End
     → Type 0 = λ o. HasEnd o in subst E (ap (λ w. w.end) (read h n _ c.loop-n-test.true))
-    (has_end _ c.is_none.result c.is_none.ensures c.if-is_none.false)) (λ x a. elim c.match-deed_of.branch [
-      | in-PutIn+else-tally_of-ne1+else-tally_of-gt1 w ↦ (
-          let item = w.in-PutIn.item in
-          let is = same ∙ w.in-PutIn.ensures in
+    (has_end _ c.is_none.result c.is_none.ensures c.if-is_none.false)) (λ x a. elim c.match-effect.branch [
+      | in-Adds+else-tally_of-ne1+else-tally_of-gt1 w ↦ (
+          let item = w.in-Adds.item in
+          let is = same ∙ sym w.in-Adds.ensures in
           let P : Tally → Type 0 = λ t. IsTally (has_item In h item) (first_of h) (length h) t in
           let G : Tally → Type 0 = λ t. IsTally (has_item Out h item) (first_of h) (length h) t in
           let put = subst P (sym w.tally_of.ensures) (c.requires.puts item) in
@@ -56,7 +55,7 @@ loop-n-preserved c =
           subst S (same_put h item x n is a) (single_from h item n w.tally_of.result w.tally_of-else-tally_of-ne1.result put got is
           w.if-tally_of-ne1.false w.if-tally_of-gt1.false)
           )
-      | in_default w ↦ absurd (w.in_default.not-PutIn x (put_deed x _ c.deed_of.result c.deed_of.ensures (sym same ∙ a)))
+      | in_default w ↦ absurd (w.in_default.not-Adds x (c.effect.ensures ∙ sym same ∙ a))
     ])
 
 pub returns : goal.returns

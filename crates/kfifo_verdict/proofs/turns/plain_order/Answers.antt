@@ -1,7 +1,6 @@
 use Rattle.std.proofs.Common.{ℕ, List, length, sym, subst}
 use Rattle.std.proofs.lemmas.Result.{IfOk-weaker}
-use Rattle.kfifo_verdict.specs.declared.presences.Presence.{Presence}
-use Rattle.kfifo_verdict.specs.declared.turns.Turn.{Turn}
+use Rattle.kfifo_verdict.proofs.Types.{Presence, Turn}
 use Rattle.kfifo_verdict.specs.Finding.{ArePresences}
 use Rattle.kfifo_verdict.specs.Plain.{IsLine, AreTurns}
 use Rattle.kfifo_verdict.proofs.Turning.{IsScene, legal_by_turns}

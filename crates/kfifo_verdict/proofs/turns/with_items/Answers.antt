@@ -1,7 +1,7 @@
 use Rattle.std.proofs.Common.{ℕ, ◌+◌, length, set, ap, subst, refl, inl, inr, arith}
 use Rattle.std.proofs.lemmas.Grind.{common_steps}
 use Rattle.std.proofs.Math.ListN.{length-set}
-use Rattle.kfifo_verdict.specs.declared.turns.Turn.{Turn}
+use Rattle.kfifo_verdict.proofs.Types.{Turn}
 use Rattle.kfifo_verdict.specs.Plain.{place}
 use Rattle.kfifo_verdict.proofs.Refuting.{put_inside}
 use Rattle.kfifo_verdict.proofs.Lining.{IsSet, turns_more, turns_all, latest_more, so_far}

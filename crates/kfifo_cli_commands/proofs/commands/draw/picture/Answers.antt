@@ -9,7 +9,7 @@ use Rattle.kfifo_cli_commands.proofs.Picturing.{no_drawing}
 use Rattle.kfifo_cli_commands.proofs.commands.draw.picture.Goals as goal
 
 pub returns-in_err-picture_of : goal.returns-in_err-picture_of
-returns-in_err-picture_of c =
+returns-in_err-picture_of g c =
     let k = c.args.options.check.k in
     let asked = c.args.options.evidence in
     let history = c.in_ok-calls.calls.history in

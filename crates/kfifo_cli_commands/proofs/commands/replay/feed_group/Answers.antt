@@ -1,7 +1,7 @@
 use Rattle.std.proofs.Common.{◌+◌, ◌-◌, ◌≤◌, arith, subst}
 use Rattle.std.proofs.Math.Nat.{min-le_right}
 use Rattle.kfifo_replay.specs.Player.{StandsFor}
-use Rattle.kfifo_cli_texts.specs.declared.picks.Group.{Group}
+use Rattle.kfifo_cli_commands.proofs.Types.{Group}
 use Rattle.kfifo_cli_commands.proofs.Feeding.{piece_more, piece_stops, place_within}
 use Rattle.kfifo_cli_commands.proofs.commands.replay.feed_group.Goals as goal
 

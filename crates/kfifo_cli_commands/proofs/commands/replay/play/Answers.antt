@@ -1,5 +1,5 @@
 use Rattle.std.proofs.Common.{refl, map, ◌<◌, List, ◌++◌, length, subst}
-use Rattle.kfifo_machine.specs.declared.event.Begin.{Begin}
+use Rattle.kfifo_cli_commands.proofs.Types.{Begin}
 use Rattle.kfifo_cli_texts.specs.Picks.{picks_of}
 use Rattle.kfifo_cli_commands.proofs.commands.replay.play.Goals as goal
 

@@ -1,6 +1,6 @@
 use Rattle.std.proofs.Common.{◌≡◌, map}
 use Rattle.kfifo_live.specs.Pass.{IsSamePass}
-use Rattle.kfifo_dispatch.specs.Jobs.{Progress}
+use Rattle.kfifo_dispatch.specs.Jobs.{JobView}
 use Rattle.kfifo_dispatch.specs.Working.{MayWork}
 use Rattle.kfifo_dispatch.proofs.Running.{Ends}
 use Rattle.kfifo_dispatch.proofs.worker.Worker.work.Given as goal
@@ -12,5 +12,5 @@ invariant-loop-call g l = record {
   turns : l.self.turns ≡ l.fn.self.turns;
   ends : Ends (g.P.Station.passes l.gate) g.P.Station.takes g.P.Station.gives l.fn.self.turns 65536 l.fn.self.pass l.fn.self.starts l.call
       l.self.pass l.self.starts
-      (map (λ (d : Progress). d.place) l.kept.items);
+      (map (λ (d : JobView). d.place) l.kept.items);
 }

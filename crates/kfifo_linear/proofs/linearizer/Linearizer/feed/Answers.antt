@@ -1,6 +1,6 @@
 -- The linearizer has then followed the schedule with this event.
 use Rattle.std.proofs.Common.{◌≡◌, ℕ, List, ◌∷◌, ◌++◌, [], true, subst, sym, ap, ◌∙◌, ◌<◌, length}
-use Rattle.kfifo_machine.specs.declared.event.Event.{Event}
+use Rattle.kfifo_linear.proofs.Types.{Event}
 use Rattle.kfifo_machine.specs.Machine.{place_of, word_at}
 use Rattle.kfifo_linear.specs.Notes.{begins_call, action_at, fed, noted_event}
 use Rattle.kfifo_linear.specs.Following.{Follower, Follows, follower}

@@ -1,6 +1,6 @@
 -- The pass takes, and lays a token down where it then has more than it was opened with.
 use Rattle.std.proofs.Common.{◌≡◌, ℕ, ◌<◌, ◌≤◌, length, refl, sym, ap, ◌∙◌, subst, arith}
-use Rattle.kfifo_live.specs.declared.view.Opening.{Opening}
+use Rattle.kfifo_live.proofs.Types.{Opening}
 use Rattle.kfifo_live.specs.Pass.{OpenQueue}
 use Rattle.kfifo_live.specs.Payloads.{TakesOut}
 use Rattle.kfifo_live.specs.Handles.{PayHeld, enough_turns, one_more}

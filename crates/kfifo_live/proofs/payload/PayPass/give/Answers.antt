@@ -1,12 +1,10 @@
 -- The payload goes into the slot of the next token, and an enqueue puts the token; a refusal takes both back.
 use Rattle.std.proofs.Common.{◌≡◌, ℕ, ◌<◌, ◌*◌, ap, sym, subst, refl, ◌∙◌, arith}
-use Rattle.kfifo_model.specs.declared.calls.Answer.{Answer}
+use Rattle.kfifo_live.proofs.Types.{Answer, Opening, View}
 use Rattle.kfifo_model.specs.declared.calls.Answer.TheVariants as A
 use Rattle.kfifo_machine.specs.declared.place.Next.TheVariants.{Answers}
 use Rattle.kfifo_live.specs.declared.payload.Given.{Given}
 use Rattle.kfifo_live.specs.declared.payload.Given.TheVariants as G
-use Rattle.kfifo_live.specs.declared.view.View.{View}
-use Rattle.kfifo_live.specs.declared.view.Opening.{Opening}
 use Rattle.kfifo_live.specs.Hands.{FitsOwn}
 use Rattle.kfifo_live.specs.Pass.{OpenQueue}
 use Rattle.kfifo_live.specs.Payloads.{PayPassView, Gives, pay_pass_view, pay_opening}

@@ -1,6 +1,6 @@
 -- A dequeue, and the payload of the token that was taken.
 use Rattle.std.proofs.Common.{◌≡◌, ℕ, ap, subst, refl, arith}
-use Rattle.kfifo_model.specs.declared.calls.Answer.{Answer}
+use Rattle.kfifo_live.proofs.Types.{Answer}
 use Rattle.kfifo_model.specs.declared.calls.Answer.TheVariants as A
 use Rattle.kfifo_machine.specs.declared.place.Next.TheVariants.{Answers}
 use Rattle.kfifo_live.specs.declared.payload.Taken.TheVariants as K

@@ -3,8 +3,7 @@ use Rattle.std.proofs.Common.{◌≡◌, ◌<◌, ◌∙◌, List, Option, ap, g
 use Rattle.core.specs.Mem.Slots.{slots_items}
 use Rattle.atomic_table.specs.Table.{Final, Seen, State}
 use Rattle.kfifo_words.specs.Words.{head_of}
-use Rattle.kfifo_live.specs.declared.view.Opening.{Opening}
-use Rattle.kfifo_live.specs.declared.view.View.{View}
+use Rattle.kfifo_live.proofs.Types.{Opening, View}
 use Rattle.kfifo_live.specs.Left.{items_left}
 use Rattle.kfifo_live.specs.Pass.{OpenQueue}
 use Rattle.kfifo_live.specs.Payloads.{HavePayloads, PayCloses, PayPassView, in_slot}

@@ -1,7 +1,7 @@
 use Rattle.std.proofs.Common.{vec_capacity, ◌∙◌, sym, ap, subst}
 use Rattle.kfifo_live.specs.Payloads.{GivesOn, PayPassView, IsPayPass, pay_pass_view}
 use Rattle.kfifo_live.specs.Schedule.{both_parts}
-use Rattle.kfifo_live.specs.declared.view.View.{View}
+use Rattle.kfifo_live.proofs.Types.{View}
 use Rattle.kfifo_live.proofs.Passes.{returned, promised}
 use Rattle.kfifo_live.proofs.Pays.{met_pass, met_gives, met_gives_from}
 use Rattle.kfifo_live.proofs.payload.PayQueue.meet.Goals as goal

@@ -2,7 +2,7 @@
 use Rattle.std.proofs.Common.{◌≡◌, ℕ, ◌<◌, ◌*◌, ◌∙◌, ap, sym, subst, arith}
 use Rattle.kfifo_words.specs.Ring.{clock_at}
 use Rattle.kfifo_machine.specs.Runs.{own}
-use Rattle.kfifo_live.specs.declared.view.Opening.{Opening}
+use Rattle.kfifo_live.proofs.Types.{Opening}
 use Rattle.kfifo_live.specs.Schedule.{IsSmall, ticks, thread_of, seen_of, stamped_opening}
 use Rattle.kfifo_live.specs.Pass.{PassView, OpenQueue}
 use Rattle.kfifo_live.proofs.Keeps.{draws}

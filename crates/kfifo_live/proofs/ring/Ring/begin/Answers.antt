@@ -1,5 +1,5 @@
 use Rattle.std.proofs.Common.{None, Some, refl, sym, ap, subst, ◌∙◌, arith}
-use Rattle.kfifo_machine.specs.declared.event.Begin.{Begin}
+use Rattle.kfifo_live.proofs.Types.{Begin}
 use Rattle.kfifo_live.specs.Hands.{BeginsWith}
 use Rattle.kfifo_live.specs.Schedule.{hand_of}
 use Rattle.kfifo_machine.specs.Runs.{going}

@@ -1,7 +1,6 @@
 -- So many picks were made.
 use Rattle.std.proofs.Common.{ℕ, List, ◌++◌, replicate}
-use Rattle.kfifo_words.specs.declared.shape.Shape.{Shape}
-use Rattle.kfifo_machine.specs.declared.event.Begin.{Begin}
+use Rattle.kfifo_replay.proofs.Types.{Begin, Shape}
 use Rattle.kfifo_replay.specs.Player.{StandsFor}
 use Rattle.kfifo_replay.proofs.player.Replay.feed_many.Given as goal
 

@@ -1,7 +1,6 @@
 -- The threads below the next one went to the ends of their scripts.
 use Rattle.std.proofs.Common.{ℕ, List}
-use Rattle.kfifo_words.specs.declared.shape.Shape.{Shape}
-use Rattle.kfifo_machine.specs.declared.event.Begin.{Begin}
+use Rattle.kfifo_replay.proofs.Types.{Begin, Shape}
 use Rattle.kfifo_replay.specs.Player.{StandsFor}
 use Rattle.kfifo_replay.specs.Finishing.{Finished}
 use Rattle.kfifo_replay.proofs.player.Replay.finish.Given as goal

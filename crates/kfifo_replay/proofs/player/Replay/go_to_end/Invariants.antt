@@ -1,7 +1,6 @@
 -- The thread made so many picks, and there is an end of them, since each is an event more.
 use Rattle.std.proofs.Common.{ℕ, ◌^◌, ◌-◌, List, ◌++◌, replicate}
-use Rattle.kfifo_words.specs.declared.shape.Shape.{Shape}
-use Rattle.kfifo_machine.specs.declared.event.Begin.{Begin}
+use Rattle.kfifo_replay.proofs.Types.{Begin, Shape}
 use Rattle.kfifo_replay.specs.Player.{StandsFor}
 use Rattle.kfifo_replay.proofs.player.Replay.go_to_end.Given as goal
 

@@ -1,7 +1,7 @@
 -- A new replay stands for no pick.
 use Rattle.std.proofs.Common.{◌≡◌, ◌≤◌, List, [], length, map, replicate, Vec, Global, refl, sym, ◌∙◌, ap, subst, arith}
 use Rattle.std.proofs.lemmas.List.{length-map}
-use Rattle.kfifo_machine.specs.declared.event.Begin.{Begin}
+use Rattle.kfifo_replay.proofs.Types.{Begin}
 use Rattle.kfifo_machine.specs.Calls.{blank}
 use Rattle.kfifo_linear.specs.contracts.linearizer.Linearizer.{the_view}
 use Rattle.kfifo_linear.specs.Following.{Follower, Follows}

@@ -4,10 +4,7 @@ use Rattle.std.proofs.Common.{sym, ◌∙◌, ap, subst, arith, length-append}
 use Rattle.std.specs.Prelude.{slice_get, is_some}
 use Rattle.std.specs.Int.{from_bool}
 use Rattle.std.proofs.lemmas.Grind.{get_or_default_zero}
-use Rattle.kfifo_words.specs.declared.shape.Shape.{Shape}
-use Rattle.kfifo_machine.specs.declared.event.Begin.{Begin}
-use Rattle.kfifo_machine.specs.declared.event.Event.{Event}
-use Rattle.kfifo_machine.specs.declared.place.Running.{Running}
+use Rattle.kfifo_replay.proofs.Types.{Begin, Event, Running, Shape}
 use Rattle.kfifo_machine.specs.Machine.{place_of}
 use Rattle.kfifo_machine.specs.Calls.{logged}
 use Rattle.kfifo_linear.specs.Following.{Follows}

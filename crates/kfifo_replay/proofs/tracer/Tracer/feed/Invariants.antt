@@ -1,7 +1,6 @@
 -- The picks up to the next place were made.
 use Rattle.std.proofs.Common.{ℕ, List, ◌++◌, take}
-use Rattle.kfifo_words.specs.declared.shape.Shape.{Shape}
-use Rattle.kfifo_machine.specs.declared.event.Begin.{Begin}
+use Rattle.kfifo_replay.proofs.Types.{Begin, Shape}
 use Rattle.kfifo_replay.specs.Traces.{Traces}
 use Rattle.kfifo_replay.proofs.tracer.Tracer.feed.Given as goal
 

@@ -1,8 +1,7 @@
 -- One thread more goes to the end of its script, unless it is the stopped one.
 use Rattle.std.proofs.Common.{◌≡◌, ℕ, suc, ◌+◌, List, [], ◌++◌, length, refl, sym, ◌∙◌, ap, subst, inl, inr, arith}
 use Rattle.std.proofs.lemmas.List.{append-nil, append_assoc}
-use Rattle.kfifo_words.specs.declared.shape.Shape.{Shape}
-use Rattle.kfifo_machine.specs.declared.event.Begin.{Begin}
+use Rattle.kfifo_replay.proofs.Types.{Begin, Shape}
 use Rattle.kfifo_replay.specs.Player.{Player}
 use Rattle.kfifo_replay.specs.Finishing.{Finishes, GoesUnless}
 use Rattle.kfifo_replay.specs.Traces.{EndTraced, FinishTraced, Traces, Tracing}

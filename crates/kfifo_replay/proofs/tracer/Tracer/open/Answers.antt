@@ -1,6 +1,6 @@
 -- A new tracer traces no pick.
 use Rattle.std.proofs.Common.{List, [], length, map, vec_capacity, Vec, Global, sym, ◌∙◌, ap, subst}
-use Rattle.kfifo_machine.specs.declared.event.Begin.{Begin}
+use Rattle.kfifo_replay.proofs.Types.{Begin}
 use Rattle.kfifo_replay.specs.Player.{Player, StandsFor}
 use Rattle.kfifo_replay.specs.Traces.{Traces}
 use Rattle.kfifo_replay.specs.contracts.player.Replay.{the_view}

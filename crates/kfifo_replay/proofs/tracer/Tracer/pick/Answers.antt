@@ -1,7 +1,6 @@
 -- A pick makes its event, and the tracer traces one pick more.
 use Rattle.std.proofs.Common.{◌≡◌, ℕ, List, [], ◌∷◌, ◌++◌, vec_capacity, Some, None, sym, ◌∙◌, ap, subst, arith}
-use Rattle.kfifo_words.specs.declared.shape.Shape.{Shape}
-use Rattle.kfifo_machine.specs.declared.event.Begin.{Begin}
+use Rattle.kfifo_replay.proofs.Types.{Begin, Shape}
 use Rattle.kfifo_replay.specs.Traces.{Traces, Tracing}
 use Rattle.kfifo_replay.specs.contracts.tracer.Tracer.{the_view}
 use Rattle.kfifo_replay.proofs.Picking.{few_steps, is_refused}

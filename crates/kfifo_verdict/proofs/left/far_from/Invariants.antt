@@ -1,0 +1,5 @@
+use Rattle.kfifo_verdict.proofs.Leaving.{IsMostBelow}
+use Rattle.kfifo_verdict.proofs.left.far_from.Given as goal
+
+abbrev pub invariant-loop-n : goal.invariant-loop-n
+invariant-loop-n l = IsMostBelow l.calls l.ends.items l.far.items l.most l.n

@@ -1,0 +1,17 @@
+use Rattle.std.proofs.Common.{sym, rules}
+use Rattle.std.proofs.lemmas.List.Sorted.{IsPartitionPoint-from_clause}
+use Rattle.kfifo_model.specs.declared.effects.Side.TheVariants.{In}
+use Rattle.kfifo_verdict.specs.Left.{is_up_to}
+use Rattle.kfifo_verdict.proofs.Counting.{count_at}
+use Rattle.kfifo_verdict.proofs.Ageing.{up_to_parts}
+use Rattle.kfifo_verdict.proofs.older.count_until.Goals as goal
+
+pub returns : goal.returns
+returns c =
+    let steps = c.args.steps.now in
+    let x = c.args.item in
+    let t = c.args.step in
+    let at = c.partition_point.result in
+    sym (count_at (is_up_to In x t) steps at c.partition_point.ensures.bound
+    (IsPartitionPoint-from_clause (is_up_to In x t) steps at c.partition_point.ensures.partitioned (up_to_parts In x t steps c.requires)
+    (λ a r q k. search rules)))
