@@ -9,13 +9,11 @@ use Rattle.kfifo_model.specs.declared.calls.Answer.{Answer}
 use Rattle.kfifo_model.specs.declared.calls.Answer.TheVariants.{Done, Full, Got, Empty, Busy, Worn}
 use Rattle.kfifo_machine.specs.declared.event.Begin.{Begin}
 use Rattle.kfifo_machine.specs.declared.event.Begin.TheVariants.{Enqueue, Dequeue}
-use Rattle.kfifo_machine.specs.Laws.{IsRefusal}
-use Rattle.kfifo_machine.specs.Rounds.{turns_of}
 use Rattle.kfifo_linear.specs.Headline.{HasLegalOrder, FewOvertake, FewCertainlyOvertake}
 use Rattle.kfifo_live.specs.Schedule.{opening}
 use Rattle.kfifo_live.specs.declared.fault.OpenFault.{OpenFault}
 use Rattle.kfifo_live.specs.declared.fault.OpenFault.TheVariants.{ThreadsOutOfRange, TokensOutOfRange}
-use Rattle.kfifo_live.specs.Calls.{Makes, TakesFewSteps, HasCause, IsDisturbed, LeavesNoItem}
+use Rattle.kfifo_live.specs.Calls.{MakesCall, IsDisturbed}
 use Rattle.kfifo_live.specs.Promise.{KeepsPromise}
 use Rattle.kfifo_live.specs.Pass.{OpenQueue, PassView, IsPassOf, IsSamePass, Finds, IsZeroed, new_passes, IsComplete}
 use Rattle.kfifo_live.specs.Pass.{Closes}
@@ -69,19 +67,15 @@ pub record MayPut (item : ℕ) (seat : Seated) : Type 0 where
   pub small_item : item < 2 ^ 24
 
 -- the pass made this call, and was given this answer: all that the running queue says of its calls
-pub record Called (call : Begin) (answer : Answer) (old new : Seated) : Type 0 where
+pub record Called (begin : Begin) (answer : Answer) (old new : Seated) : Type 0 where
   pub queue : new.queue ≡ old.queue
   pub same : IsSamePass old.pass new.pass
-  pub run : Makes call answer old.pass new.pass
-  pub few_steps : TakesFewSteps call old.pass new.pass
-  pub cause : HasCause call answer old.pass new.pass
-  pub disturbed : answer ≡ Busy → old.pass.opened.shape.n + 2 ≤ turns_of call → IsDisturbed old.pass new.pass
-  pub leaves_none : IsRefusal answer → LeavesNoItem old.pass new.pass
+  pub call : MakesCall begin answer old.pass new.pass
   pub promise : KeepsPromise new.pass.opened new.pass.seen
 
 -- the call that chooses its own start, and leaves the handle's as they are
-pub record CalledFrom (call : Begin) (answer : Answer) (old new : Seated) : Type 0 where
-  pub called : Called call answer old new
+pub record CalledFrom (begin : Begin) (answer : Answer) (old new : Seated) : Type 0 where
+  pub called : Called begin answer old new
   pub same_put : new.put_start ≡ old.put_start
   pub same_get : new.get_start ≡ old.get_start
 

@@ -1,6 +1,7 @@
 -- What the command `dispatch` comes to.
 use Rattle.std.specs.Prelude.{◌≡◌, ℕ, ◌+◌, ◌<◌, ◌≤◌, ◌⊎◌, List, flat_map, length}
 use Rattle.kfifo_words.specs.declared.shape.Shape.{Shape}
+use Rattle.kfifo_dispatch.specs.declared.dispatching.TheConstants.{MAX_TASKS, MAX_WORKERS}
 use Rattle.kfifo_dispatch.specs.declared.fault.DispatchFault.{DispatchFault}
 use Rattle.kfifo_dispatch.specs.declared.fault.DispatchFault.TheVariants as refusals
 use Rattle.kfifo_dispatch.specs.declared.task.Task.{Task}
@@ -19,11 +20,11 @@ pub record GivesTasks (options : DispatchOptions) (shape : Shape) (tasks : List 
 
 -- why tasks are refused with so many workers
 abbrev pub IsTasksFault : List Task → ℕ → DispatchFault → Type 0
-IsTasksFault tasks workers refusals.TooManyTasks = 1024 < length tasks
-IsTasksFault tasks workers refusals.RepeatedId = (length tasks ≤ 1024) × HasRepeatedId tasks
+IsTasksFault tasks workers refusals.TooManyTasks = MAX_TASKS < length tasks
+IsTasksFault tasks workers refusals.RepeatedId = (length tasks ≤ MAX_TASKS) × HasRepeatedId tasks
 IsTasksFault tasks workers refusals.Memory = Unit {0}
-IsTasksFault tasks workers refusals.WorkersOutOfRange = (length tasks ≤ 1024) × ¬ (HasRepeatedId tasks)
-    × ((workers ≡ 0) ⊎ (63 < workers))
+IsTasksFault tasks workers refusals.WorkersOutOfRange = (length tasks ≤ MAX_TASKS) × ¬ (HasRepeatedId tasks)
+    × ((workers ≡ 0) ⊎ (MAX_WORKERS < workers))
 
 -- The answer: the lines of the tasks, each finished and once, by rising id. Only an allocation that fails refuses them
 pub record IsDispatch (options : DispatchOptions) (text : List ℕ) : Type 0 where

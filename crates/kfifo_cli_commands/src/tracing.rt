@@ -4,6 +4,7 @@ ghost use Rattle.kfifo_words.specs.declared.shape.Shape.{Shape as ShapeData};
 ghost use Rattle.kfifo_machine.specs.declared.event.Begin.{Begin as BeginData};
 ghost use Rattle.kfifo_replay.specs.Player.{Stops};
 ghost use Rattle.kfifo_replay.specs.Traces.{OfTracedPicks, Traces};
+ghost use Rattle.kfifo_cli_texts.specs.declared.picks.TheConstants.{MAX_PICKS};
 ghost use Rattle.kfifo_cli_texts.specs.Picks.{count_of, picks_of};
 ghost use Rattle.kfifo_cli_commands.specs.Replays.{IsLong, IsRefusal, IsTracedText, Makes};
 
@@ -25,7 +26,7 @@ pub(crate) fn play<P: Progress>(
     stopped: Option<u32>,
     progress: &mut P,
 ) -> Result<Tracer, ReplayFault>
-    requires { count_of groups.now ≤ 16777216 }
+    requires { count_of groups.now ≤ MAX_PICKS }
     ensures ok { let own = map (λ script. script.items) scripts.now in
         IfOk result (λ tracer. (made : List ℕ) × Makes stopped shape own (picks_of groups.now) made
         × Traces shape own made tracer) }
@@ -50,7 +51,7 @@ fn feed<P: Progress>(
     groups: &[Group],
     meter: &mut Meter<'_, P>,
 ) -> Result<(), ReplayFault>
-    requires few { count_of groups.now ≤ 16777216 }
+    requires few { count_of groups.now ≤ MAX_PICKS }
     requires traces { (shape : ShapeData) × (scripts : List (List BeginData)) × (earlier : List ℕ)
         × Traces shape scripts earlier tracer.old }
     ensures made { OnOk result (OfTracedPicks tracer.old (λ shape scripts earlier.
@@ -74,7 +75,7 @@ fn feed_group<P: Progress>(
     group: Group,
     meter: &mut Meter<'_, P>,
 ) -> Result<(), ReplayFault>
-    requires few { group.count ≤ 16777216 }
+    requires few { group.count ≤ MAX_PICKS }
     requires traces { (shape : ShapeData) × (scripts : List (List BeginData)) × (earlier : List ℕ)
         × Traces shape scripts earlier tracer.old }
     ensures made { OnOk result (OfTracedPicks tracer.old (λ shape scripts earlier.

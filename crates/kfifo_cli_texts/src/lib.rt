@@ -14,7 +14,7 @@ mod trace;
 mod words;
 
 pub use fault::Fault;
-pub use picks::{Group, read_picks};
+pub use picks::{Group, MAX_PICKS, read_picks};
 pub use printing::Printer;
 pub use recording::{record_line, record_text};
 pub use report::{push_dequeue, push_ends, push_enqueue, push_slot};

@@ -10,7 +10,7 @@ use crate::words::read_within;
 use std::alloc::{AllocError, Global};
 
 /// The most picks of a command line.
-const MAX_PICKS: u32 = 16_777_216;
+pub const MAX_PICKS: u32 = 16_777_216;
 
 /// One thread is picked so many times in a row, at least once.
 #[derive(Clone, Copy, PartialEq, Eq, Debug)]

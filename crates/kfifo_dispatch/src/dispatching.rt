@@ -24,10 +24,10 @@ use std::marker::Brand;
 use std::thread::{Threads, map_vec};
 
 /// The greatest number of tasks of a dispatch.
-const MAX_TASKS: usize = 1_024;
+pub const MAX_TASKS: usize = 1_024;
 
 /// The greatest number of workers of a dispatch.
-const MAX_WORKERS: u32 = 63;
+pub const MAX_WORKERS: u32 = 63;
 
 /// Runs the tasks on worker threads that share one queue of this shape, and returns the finished list: each task once,
 /// by rising id, with its sum and all its work added up. One thread would return the same list, whatever the threads

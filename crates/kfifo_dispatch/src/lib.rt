@@ -12,7 +12,7 @@ mod station;
 mod task;
 mod worker;
 
-pub use dispatching::dispatch;
+pub use dispatching::{MAX_TASKS, MAX_WORKERS, dispatch};
 pub use fault::DispatchFault;
 pub use gate::{Gate, OpenGate};
 pub use starts::Starts;

@@ -7,7 +7,6 @@ use Rattle.std.proofs.lemmas.Bool.{cases_eq, cases_lt}
 use Rattle.std.proofs.lemmas.List.{append-nil}
 use Rattle.kfifo_words.specs.Ring.{clock_at}
 use Rattle.kfifo_live.proofs.Types.{Answer, Begin, Call, Event, Opening}
-use Rattle.kfifo_model.specs.declared.calls.Answer.TheVariants.{Busy}
 use Rattle.kfifo_model.specs.declared.calls.End.{End}
 use Rattle.std.specs.List.{AllByRecursion}
 use Rattle.kfifo_model.specs.Lists.{EachPair}
@@ -15,17 +14,17 @@ use Rattle.kfifo_model.specs.Histories.{call, no_call, EndsBelow}
 use Rattle.kfifo_model.proofs.Lists.{AllByRecursion-push, AllByRecursion-weaker}
 use Rattle.kfifo_machine.specs.declared.event.Begin.TheVariants.{Tick}
 use Rattle.kfifo_machine.specs.declared.event.Outcome.TheVariants.{Went}
-use Rattle.kfifo_machine.specs.Laws.{IsRefusal, most_events}
+use Rattle.kfifo_machine.specs.Laws.{most_events}
 use Rattle.kfifo_machine.specs.Machine.{World, opening, step, ticked, word_at}
 use Rattle.kfifo_machine.specs.Calls.{op_asked}
-use Rattle.kfifo_machine.specs.Rounds.{turns_of}
 use Rattle.kfifo_machine.specs.Runs.{AllGoOn, CompleteExecution, event, own}
 use Rattle.kfifo_machine.proofs.Schedules.{own-append, run_before}
 use Rattle.kfifo_live.specs.Schedule.{begins_tick, ticks, world_after}
 use Rattle.kfifo_live.specs.Pass.{PassView, IsSamePass}
 use Rattle.kfifo_live.specs.Promise.{calls_of}
-use Rattle.kfifo_live.specs.Calls.{HasCause, IsDisturbed, LeavesNoItem, Makes, added}
-use Rattle.kfifo_live.specs.Stamps.{Draws, HasCalls, IsLog, IsLogIn, IsStamped, MakesStamped, logged_by, stamped_call}
+use Rattle.kfifo_live.specs.Calls.{Makes, MakesCall, added}
+use Rattle.kfifo_live.specs.Stamps.{Draws, HasCalls, IsLog, IsLogIn, IsStamped, MakesStamped, TakesFewStampedSteps, logged_by}
+use Rattle.kfifo_live.specs.Stamps.{stamped_call}
 use Rattle.kfifo_live.proofs.Keeps.{own_same}
 use Rattle.kfifo_live.proofs.Ticks.{clock_is, ticks-append, ticks_of_one}
 use Rattle.kfifo_machine.proofs.OwnCalls.{AddsCall, KeepsCalls, RunAdds, keeps_trans, others_keep, run_adds, tick_keeps}
@@ -405,11 +404,20 @@ pub record StampedRun (p q r u : PassView) (begin : Begin) (answer : Answer) (fi
   pub few : p.opened.threads ≤ 64
   pub draws_first : Draws first p q
   pub same : IsSamePass q r
-  pub makes : Makes begin answer q r
+  pub call : MakesCall begin answer q r
   pub draws_last : Draws last r u
 
 module _ {p q r u : PassView} {begin : Begin} {answer : Answer} {first last : ℕ} {log : List Call}
     (s : StampedRun p q r u begin answer first last log) where
+  -- its own events are those of the run and two ticks
+  few_steps_more : TakesFewStampedSteps begin p u
+  few_steps_more =
+      let two = two_more p q r u begin answer first last log s.is s.room s.no_tick s.draws_first s.same s.call.run s.few s.draws_last in
+      let few : length (own q.thread (added q r)) ≤ most_events q.opened.shape begin = s.call.few_steps in
+      let shape : most_events q.opened.shape begin ≡ most_events p.opened.shape begin =
+      ap (λ (o : Opening). most_events o.shape begin) s.draws_first.same.1 in
+      omega arith
+
   -- where its call was logged under the pass's own number, the log is one
   module _ (thread : ℕ) (items : List Call) (mine : thread ≡ u.thread)
       (logged : items ≡ log ++ stamped_call thread (op_asked begin) first last answer ∷ []) where
@@ -419,34 +427,22 @@ module _ {p q r u : PassView} {begin : Begin} {answer : Answer} {first last : �
 
     pub log_grows : IsLog u items
     log_grows = subst (IsLog u) (sym added_call)
-        (logs_more p q r u begin answer first last log s.is s.room s.no_tick s.draws_first s.same s.makes s.few s.draws_last)
+        (logs_more p q r u begin answer first last log s.is s.room s.no_tick s.draws_first s.same s.call.run s.few s.draws_last)
 
-    pub makes_stamped : HasCause begin answer q r → (answer ≡ Busy → q.opened.shape.n + 2 ≤ turns_of begin → IsDisturbed q r)
-        → (IsRefusal answer → LeavesNoItem q r)
-        → MakesStamped begin answer (logged_by p log) (logged_by u items)
-    makes_stamped cause disturbed leaves = record {
+    pub makes_stamped : MakesStamped begin answer (logged_by p log) (logged_by u items)
+    makes_stamped = record {
       room = s.room;
       begun = q;
       ended = r;
       first = first;
       last = last;
       draws_first = s.draws_first;
-      makes = s.makes;
-      cause = cause;
-      disturbed = disturbed;
-      leaves_none = leaves;
+      call = s.call;
       draws_last = s.draws_last;
+      few_steps = few_steps_more;
       log_is = added_call;
     }
 
-  -- the pass may make as many calls as before, and its own events are those of the run and two ticks
+  -- the pass may make as many calls as before
   pub calls_same : u.opened.calls ≡ p.opened.calls
   calls_same = ap (λ (o : Opening). o.calls) (s.draws_last.same.1 ∙ s.same.1 ∙ s.draws_first.same.1)
-
-  pub few_steps_more : length (own q.thread (added q r)) ≤ most_events q.opened.shape begin
-      → length (own p.thread (added p u)) ≤ most_events p.opened.shape begin + 2
-  few_steps_more few =
-      let two = two_more p q r u begin answer first last log s.is s.room s.no_tick s.draws_first s.same s.makes s.few s.draws_last in
-      let shape : most_events q.opened.shape begin ≡ most_events p.opened.shape begin =
-      ap (λ (o : Opening). most_events o.shape begin) s.draws_first.same.1 in
-      omega arith

@@ -17,7 +17,7 @@ use Rattle.kfifo_machine.proofs.Losses.{busy_has_cause}
 use Rattle.kfifo_machine.proofs.Undisturbed.{busy_is_disturbed}
 use Rattle.kfifo_live.specs.Pass.{PassView}
 use Rattle.kfifo_live.specs.Schedule.{world_after}
-use Rattle.kfifo_live.specs.Calls.{added, Makes, TakesFewSteps, HasCause, IsDisturbed, LeavesNoItem}
+use Rattle.kfifo_live.specs.Calls.{added, Makes, MakesCall, TakesFewSteps, HasCause, IsDisturbed, LeavesNoItem}
 
 -- what it added
 added-made : (call : Begin) (answer : Answer) (old new : PassView) → (run : Makes call answer old new)
@@ -26,7 +26,7 @@ added-made call answer old new run =
     ap (drop (length old.seen)) (run.new_is ∙ append_assoc old.seen run.between (run.last ∷ []))
     ∙ drop-append_seam old.seen (run.between ++ run.last ∷ [])
 
-pub takes_few_steps : (call : Begin) (answer : Answer) (old new : PassView) → Makes call answer old new → TakesFewSteps call old new
+takes_few_steps : (call : Begin) (answer : Answer) (old new : PassView) → Makes call answer old new → TakesFewSteps call old new
 takes_few_steps call answer old new run =
     let here : world_after old.opened (old.seen ++ (run.between ++ run.last ∷ [])) ≡ Some run.world =
     ap (world_after old.opened) (sym (append_assoc old.seen run.between (run.last ∷ [])))
@@ -36,7 +36,7 @@ takes_few_steps call answer old new run =
     subst (λ (es : List Event). length (own old.thread es) ≤ most_events old.opened.shape call) (sym (added-made call answer old new run))
     few
 
-pub has_cause : (call : Begin) (answer : Answer) (old new : PassView) → Makes call answer old new → HasCause call answer old new
+has_cause : (call : Begin) (answer : Answer) (old new : PassView) → Makes call answer old new → HasCause call answer old new
 has_cause call Full old new run =
     subst (λ (es : List Event). CauseOfFull old.opened.shape (start_of call)
     (looks old.opened.shape old.thread (world_after old.opened old.seen) es)) (sym (added-made call Full old new run))
@@ -52,14 +52,23 @@ has_cause call Done old new run = tt
 has_cause call (Got item) old new run = tt
 has_cause call Empty old new run = tt
 
-pub is_disturbed : (call : Begin) (answer : Answer) (old new : PassView) → Makes call answer old new → answer ≡ Busy
+is_disturbed : (call : Begin) (answer : Answer) (old new : PassView) → Makes call answer old new → answer ≡ Busy
     → old.opened.shape.n + 2 ≤ turns_of call → IsDisturbed old new
 is_disturbed call answer old new run busy enough here reached =
     let run' = subst (λ (a : Answer). Makes call a old new) busy run in
     subst (λ (es : List Event). OtherWins old.opened.shape old.thread here es) (sym (added-made call Busy old new run'))
     (busy_is_disturbed old.opened.shape old.opened.threads old.thread call old.seen new.seen run' here reached enough)
 
-pub leaves_none : (call : Begin) (answer : Answer) (old new : PassView) → Makes call answer old new → IsRefusal answer
+leaves_none : (call : Begin) (answer : Answer) (old new : PassView) → Makes call answer old new → IsRefusal answer
     → LeavesNoItem old new
 leaves_none call answer old new run refusal =
     Refusals.leaves_none old.opened.shape old.opened.threads old.thread call answer old.seen new.seen run refusal
+
+pub makes_call : (call : Begin) (answer : Answer) (old new : PassView) → Makes call answer old new → MakesCall call answer old new
+makes_call call answer old new run = record {
+  run = run;
+  few_steps = takes_few_steps call answer old new run;
+  cause = has_cause call answer old new run;
+  disturbed = is_disturbed call answer old new run;
+  leaves_none = leaves_none call answer old new run;
+}

@@ -16,11 +16,11 @@ use Rattle.kfifo_live.specs.Schedule.{AllGiven, GiftsFit, IsSmall, count_up, par
 use Rattle.kfifo_live.specs.Schedule.{thread_of, seen_of, gifts_of, hand_of, with_seen}
 use Rattle.kfifo_live.specs.Step.{IsAt, DrawsToken, Leads, Looks}
 use Rattle.kfifo_live.specs.Pass.{PassView, OpenQueue, pass_view}
-use Rattle.kfifo_live.specs.Calls.{Makes}
-use Rattle.kfifo_live.specs.Payloads.{new_pay_passes, pay_pass_view, IsPayPass, MakesCall, GivesOn, EnqueuesWith, DequeuesWith, Refuses}
+use Rattle.kfifo_live.specs.Calls.{MakesCall}
+use Rattle.kfifo_live.specs.Payloads.{new_pay_passes, pay_pass_view, IsPayPass, GivesOn, EnqueuesWith, DequeuesWith, Refuses}
 use Rattle.kfifo_live.specs.Payloads.{Gives, TakesOut}
 use Rattle.kfifo_live.proofs.Givers.{took_what_was_put}
-use Rattle.kfifo_live.proofs.Made.{takes_few_steps, has_cause, is_disturbed, leaves_none}
+use Rattle.kfifo_live.proofs.Made.{makes_call}
 use Rattle.kfifo_live.proofs.Opens.{no_slot}
 use Rattle.kfifo_live.proofs.Passes.{met}
 use Rattle.kfifo_live.proofs.Turns.{in_turn_before}
@@ -155,16 +155,9 @@ module _ {T : Type 0} where
       → MakesCall begin answer (pass_view table thread old.0) (pass_view table_now thread new.0)
   is_call begin answer thread table table_now old new alone leads =
       let o = old.0.opened in
-      let run : Makes begin answer (pass_view table thread old.0) (pass_view table_now thread new.0) =
-      subst (λ (t : ℕ). CompleteExecution o.shape o.threads t begin answer (seen_of old.0) (seen_of new.0)) (ap thread_in alone)
-      (whole begin old new answer leads) in
-      record {
-        run = run;
-        few_steps = takes_few_steps begin answer (pass_view table thread old.0) (pass_view table_now thread new.0) run;
-        cause = has_cause begin answer (pass_view table thread old.0) (pass_view table_now thread new.0) run;
-        disturbed = is_disturbed begin answer (pass_view table thread old.0) (pass_view table_now thread new.0) run;
-        leaves_none = leaves_none begin answer (pass_view table thread old.0) (pass_view table_now thread new.0) run;
-      }
+      makes_call begin answer (pass_view table thread old.0) (pass_view table_now thread new.0)
+      (subst (λ (t : ℕ). CompleteExecution o.shape o.threads t begin answer (seen_of old.0) (seen_of new.0)) (ap thread_in alone)
+      (whole begin old new answer leads))
 
   -- gifts of a view of which no more is known
   fit_now : (thread : ℕ) (table : TableId) (now fin : View T) → pass_view table thread now ≡ pass_view table thread fin

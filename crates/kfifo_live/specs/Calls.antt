@@ -1,13 +1,13 @@
 -- What one call of a pass came to: the events that it added to what the pass had seen, and what its answer says of
 -- them.
-use Rattle.std.specs.Prelude.{◌≡◌, ◌≢◌, ℕ, ◌≤◌, List, ◌∷◌, ◌++◌, length, drop, Some}
+use Rattle.std.specs.Prelude.{◌≡◌, ◌≢◌, ℕ, ◌+◌, ◌≤◌, List, ◌∷◌, ◌++◌, length, drop, Some}
 use Rattle.kfifo_model.specs.declared.calls.Answer.{Answer}
 use Rattle.kfifo_model.specs.declared.calls.Answer.TheVariants.{Full, Busy, Worn}
 use Rattle.kfifo_machine.specs.declared.event.Begin.{Begin}
 use Rattle.kfifo_machine.specs.declared.event.Event.{Event}
 use Rattle.kfifo_machine.specs.Machine.{World, word_at}
 use Rattle.kfifo_machine.specs.Runs.{CompleteExecution, own}
-use Rattle.kfifo_machine.specs.Laws.{PutsNext, most_events}
+use Rattle.kfifo_machine.specs.Laws.{IsRefusal, PutsNext, most_events}
 use Rattle.kfifo_machine.specs.Causes.{CauseOfFull, CauseOfWorn, looks, start_of}
 use Rattle.kfifo_machine.specs.Rounds.{LosesAll, OtherWins, turns_of}
 use Rattle.kfifo_live.specs.Pass.{PassView}
@@ -49,3 +49,12 @@ LeavesNoItem old new = (before after : List Event) (e : Event) (index word : ℕ
     → PutsNext old.opened.shape old.opened.threads (old.seen ++ before) old.thread index word
     → (later : List Event) (here : World) → world_after old.opened (new.seen ++ later) ≡ Some here
     → word_at here index ≢ word
+
+-- A call of a pass with this answer: one complete execution of the queue's program, and what is so of each of them.
+-- Busy after n + 2 rounds or more is another thread's doing
+pub record MakesCall (begin : Begin) (answer : Answer) (old new : PassView) : Type 0 where
+  pub run : Makes begin answer old new
+  pub few_steps : TakesFewSteps begin old new
+  pub cause : HasCause begin answer old new
+  pub disturbed : answer ≡ Busy → old.opened.shape.n + 2 ≤ turns_of begin → IsDisturbed old new
+  pub leaves_none : IsRefusal answer → LeavesNoItem old new

@@ -15,10 +15,9 @@ use Rattle.kfifo_machine.specs.declared.event.Begin.TheVariants as B
 use Rattle.kfifo_machine.specs.declared.event.Event.{Event}
 use Rattle.kfifo_machine.specs.declared.place.DequeuePhase.TheVariants as D
 use Rattle.kfifo_machine.specs.declared.place.Running.TheVariants as R
-use Rattle.kfifo_machine.specs.Laws.{IsRefusal, PutsNext}
+use Rattle.kfifo_machine.specs.Laws.{PutsNext}
 use Rattle.kfifo_machine.specs.Machine.{World, place_of, word_at}
 use Rattle.kfifo_machine.specs.Runs.{AllGoOn, Begins, event, own}
-use Rattle.kfifo_machine.specs.Rounds.{turns_of}
 use Rattle.kfifo_live.specs.declared.view.Opening.{Opening}
 use Rattle.kfifo_live.specs.declared.view.View.{View}
 use Rattle.kfifo_live.specs.declared.payload.Given.{Given}
@@ -32,7 +31,7 @@ use Rattle.kfifo_live.specs.Promise.{KeepsPromise}
 use Rattle.kfifo_live.specs.Schedule.{GiftsFit, HolderLaw, count_up, seen_of, gifts_of, hand_of, world_after}
 use Rattle.kfifo_live.specs.Schedule.{resting_view}
 use Rattle.kfifo_live.specs.Pass.{PassView, OpenQueue, IsPass, pass_view}
-use Rattle.kfifo_live.specs.Calls.{Makes, TakesFewSteps, HasCause, IsDisturbed, LeavesNoItem}
+use Rattle.kfifo_live.specs.Calls.{MakesCall}
 
 -- the opening of a payload queue with so many tokens a pass
 abbrev pub pay_opening : Shape → ℕ → ℕ → Opening
@@ -73,15 +72,6 @@ new_pay_passes q first (suc count) =
       gifts = [];
     }
     ∷ new_pay_passes q (suc first) count
-
--- A call of a pass is one complete execution of the queue's program with this answer. The laws of all such runs stand
--- beside it
-pub record MakesCall (begin : Begin) (answer : Answer) (old new : PassView) : Type 0 where
-  pub run : Makes begin answer old new
-  pub few_steps : TakesFewSteps begin old new
-  pub cause : HasCause begin answer old new
-  pub disturbed : answer ≡ A.Busy → old.opened.shape.n + 2 ≤ turns_of begin → IsDisturbed old new
-  pub leaves_none : IsRefusal answer → LeavesNoItem old new
 
 -- with the last event of this schedule a thread takes this word from this index
 pub record TakesAtLast (o : Opening) (thread index word : ℕ) (seen : List Event) : Type 0 where

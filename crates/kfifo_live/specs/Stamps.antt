@@ -4,7 +4,6 @@ use Rattle.std.specs.Prelude.{◌≡◌, ◌==◌, ◌+◌, filter, map, ℕ, �
 use Rattle.std.specs.Prelude.{IsPermutation}
 use Rattle.kfifo_words.specs.Ring.{clock_at}
 use Rattle.kfifo_model.specs.declared.calls.Answer.{Answer}
-use Rattle.kfifo_model.specs.declared.calls.Answer.TheVariants.{Busy}
 use Rattle.kfifo_model.specs.declared.calls.Call.{Call}
 use Rattle.kfifo_model.specs.declared.calls.Op.{Op}
 use Rattle.std.specs.List.{AllByRecursion}
@@ -18,14 +17,13 @@ use Rattle.kfifo_machine.specs.declared.event.Event.{Event}
 use Rattle.kfifo_machine.specs.declared.event.Outcome.TheVariants.{Went}
 use Rattle.kfifo_machine.specs.Machine.{World, step, ticked, word_at}
 use Rattle.kfifo_machine.specs.Calls.{op_asked}
-use Rattle.kfifo_machine.specs.Laws.{IsRefusal, most_events}
-use Rattle.kfifo_machine.specs.Rounds.{turns_of}
+use Rattle.kfifo_machine.specs.Laws.{most_events}
 use Rattle.kfifo_machine.specs.Runs.{event, own}
 use Rattle.kfifo_live.specs.declared.view.Opening.{Opening}
 use Rattle.kfifo_live.specs.Schedule.{ticks, world_after}
 use Rattle.kfifo_live.specs.Promise.{calls_of}
 use Rattle.kfifo_live.specs.Pass.{PassView, IsSamePass}
-use Rattle.kfifo_live.specs.Calls.{Makes, HasCause, IsDisturbed, LeavesNoItem, added}
+use Rattle.kfifo_live.specs.Calls.{MakesCall, added}
 
 -- a pass, and the calls that it has logged
 pub record Logged : Type 0 where
@@ -64,8 +62,12 @@ abbrev pub stamped_call : ℕ → Op → ℕ → ℕ → Answer → Call
 stamped_call thread op first last answer =
     record { thread = thread; op = op; first = first; end = Some (record { last = last; answer = answer }) }
 
--- A stamped call: a tick, one complete execution of this call with this answer, and a tick; the log has one call more,
--- whose first and last are what the ticks drew. What is promised of a call is so of its run
+-- its own events are at most `turns * (2k + 9)`, and the two ticks
+abbrev pub TakesFewStampedSteps : Begin → PassView → PassView → Type 0
+TakesFewStampedSteps begin old new = length (own old.thread (added old new)) ≤ most_events old.opened.shape begin + 2
+
+-- A stamped call: a tick, a call of the pass with this answer, and a tick; the log has one call more, whose first and
+-- last are what the ticks drew
 pub record MakesStamped (begin : Begin) (answer : Answer) (old new : Logged) : Type 0 where
   pub room : length old.log < old.pass.opened.calls
   pub begun : PassView
@@ -73,16 +75,10 @@ pub record MakesStamped (begin : Begin) (answer : Answer) (old new : Logged) : T
   pub first : ℕ
   pub last : ℕ
   pub draws_first : Draws first old.pass begun
-  pub makes : Makes begin answer begun ended
-  pub cause : HasCause begin answer begun ended
-  pub disturbed : answer ≡ Busy → begun.opened.shape.n + 2 ≤ turns_of begin → IsDisturbed begun ended
-  pub leaves_none : IsRefusal answer → LeavesNoItem begun ended
+  pub call : MakesCall begin answer begun ended
   pub draws_last : Draws last ended new.pass
+  pub few_steps : TakesFewStampedSteps begin old.pass new.pass
   pub log_is : new.log ≡ old.log ++ stamped_call old.pass.thread (op_asked begin) first last answer ∷ []
-
--- its own events are at most `turns * (2k + 9)`, and the two ticks
-abbrev pub TakesFewStampedSteps : Begin → PassView → PassView → Type 0
-TakesFewStampedSteps begin old new = length (own old.thread (added old new)) ≤ most_events old.opened.shape begin + 2
 
 -- A logged call is a call of the schedule under other stamps: its first is what a tick drew that stands before the
 -- first event of the call, with no event of the thread between; its last is what a tick drew that stands after the last

@@ -1,10 +1,9 @@
 //! Calls of the running queue with nothing to choose.
 ghost use Rattle.std.specs.Prelude.{◌≡◌, ◌<◌, ◌≤◌, ◌+◌, ◌^◌};
 ghost use Rattle.kfifo_machine.specs.declared.event.Begin.TheVariants.{Enqueue, Dequeue};
-ghost use Rattle.kfifo_live.specs.Calls.{IsDisturbed};
 ghost use Rattle.kfifo_live.specs.Promise.{KeepsPromise};
 ghost use Rattle.kfifo_live.specs.Pass.{IsPassOf, IsSamePass};
-ghost use Rattle.kfifo_live.specs.Payloads.{MakesCall};
+ghost use Rattle.kfifo_live.specs.Calls.{IsDisturbed, MakesCall};
 ghost use Rattle.kfifo_live.specs.Handles.{Held, enough_turns, first_of, further};
 
 use crate::queue::{Pass, Queue};

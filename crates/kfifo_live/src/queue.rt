@@ -2,10 +2,9 @@
 ghost use Rattle.std.specs.Prelude.{◌≡◌, ◌<◌, ◌≤◌, ◌+◌, ◌*◌, ◌^◌};
 ghost use Rattle.kfifo_live.specs.declared.recording.TheConstants.{MAX_STAMPED_CALLS};
 ghost use Rattle.kfifo_model.specs.declared.calls.TheConstants.{MAX_THREADS};
-ghost use Rattle.kfifo_machine.specs.Laws.{IsRefusal};
 ghost use Rattle.kfifo_machine.specs.declared.event.Begin.TheVariants.{Enqueue, Dequeue};
 ghost use Rattle.kfifo_live.specs.Schedule.{stamped_opening};
-ghost use Rattle.kfifo_live.specs.Calls.{Makes, TakesFewSteps, HasCause, IsDisturbed, LeavesNoItem};
+ghost use Rattle.kfifo_live.specs.Calls.{MakesCall};
 ghost use Rattle.kfifo_live.specs.Promise.{KeepsPromise};
 ghost use Rattle.kfifo_live.specs.Pass.{OpenQueue, PassView, queue_of, pass_view, IsPass, IsPassOf, IsSamePass, Finds};
 
@@ -102,11 +101,7 @@ impl Pass {
         requires start { start < queue.now.opened.shape.k }
         requires turns { 1 ≤ turns }
         ensures same { IsSamePass self.old self.new }
-        ensures run { Makes (Enqueue item start turns) result self.old self.new }
-        ensures few_steps { TakesFewSteps (Enqueue item start turns) self.old self.new }
-        ensures cause { HasCause (Enqueue item start turns) result self.old self.new }
-        ensures disturbed { result ≡ Answer.Busy → self.old.opened.shape.n + 2 ≤ turns → IsDisturbed self.old self.new }
-        ensures leaves_none { IsRefusal result → LeavesNoItem self.old self.new }
+        ensures call { MakesCall (Enqueue item start turns) result self.old self.new }
         ensures promise { KeepsPromise self.new.opened self.new.seen }
     {
         let ring = Ring {
@@ -137,11 +132,7 @@ impl Pass {
         requires start { start < queue.now.opened.shape.k }
         requires turns { 1 ≤ turns }
         ensures same { IsSamePass self.old self.new }
-        ensures run { Makes (Dequeue start turns) result self.old self.new }
-        ensures few_steps { TakesFewSteps (Dequeue start turns) self.old self.new }
-        ensures cause { HasCause (Dequeue start turns) result self.old self.new }
-        ensures disturbed { result ≡ Answer.Busy → self.old.opened.shape.n + 2 ≤ turns → IsDisturbed self.old self.new }
-        ensures leaves_none { IsRefusal result → LeavesNoItem self.old self.new }
+        ensures call { MakesCall (Dequeue start turns) result self.old self.new }
         ensures promise { KeepsPromise self.new.opened self.new.seen }
     {
         let ring = Ring {

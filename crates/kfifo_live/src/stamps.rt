@@ -8,7 +8,7 @@ ghost use Rattle.kfifo_machine.specs.Runs.{own};
 ghost use Rattle.kfifo_live.specs.Schedule.{IsSmall, ticks};
 ghost use Rattle.kfifo_live.specs.Pass.{OpenQueue, IsPassOf, IsSamePass};
 ghost use Rattle.kfifo_live.specs.Promise.{KeepsPromise};
-ghost use Rattle.kfifo_live.specs.Stamps.{Draws, IsLog, Logged, MakesStamped, TakesFewStampedSteps, logged_by};
+ghost use Rattle.kfifo_live.specs.Stamps.{Draws, IsLog, Logged, MakesStamped, logged_by};
 
 use crate::queue::{Pass, Queue};
 use crate::rule::DrawStamp;
@@ -120,8 +120,6 @@ impl StampPass {
         ensures same { IsSamePass self.old.pass self.new.pass }
         ensures none { IfNone result ((length self.old.log ≡ self.old.pass.opened.calls) × (self.new ≡ self.old)) }
         ensures some { IfSome result (λ answer. MakesStamped (B.Enqueue item start turns) answer self.old self.new) }
-        ensures few_steps { IfSome result (λ answer.
-            TakesFewStampedSteps (B.Enqueue item start turns) self.old.pass self.new.pass) }
         ensures promise { KeepsPromise self.new.pass.opened self.new.pass.seen }
     {
         if self.is_full(queue) {
@@ -152,8 +150,6 @@ impl StampPass {
         ensures same { IsSamePass self.old.pass self.new.pass }
         ensures none { IfNone result ((length self.old.log ≡ self.old.pass.opened.calls) × (self.new ≡ self.old)) }
         ensures some { IfSome result (λ answer. MakesStamped (B.Dequeue start turns) answer self.old self.new) }
-        ensures few_steps { IfSome result (λ answer.
-            TakesFewStampedSteps (B.Dequeue start turns) self.old.pass self.new.pass) }
         ensures promise { KeepsPromise self.new.pass.opened self.new.pass.seen }
     {
         if self.is_full(queue) {

@@ -26,9 +26,11 @@ use Rattle.kfifo_model.specs.Index.{side_effect}
 use Rattle.kfifo_verdict.specs.Finding.{has_item, IsStart, no_presence, lasts_at, IsCountedTo, AreFirst}
 use Rattle.kfifo_verdict.specs.Judging.{GotOlderLeft}
 use Rattle.kfifo_verdict.specs.Plain.{lower, place}
-use Rattle.kfifo_verdict.specs.Soon.{is_below, is_by, has_by, AreSorted}
+use Rattle.kfifo_verdict.specs.declared.steps.Key.TheVariants.{Outer, Number}
+use Rattle.kfifo_verdict.specs.Soon.{is_by, has_by}
+use Rattle.kfifo_verdict.specs.Steps.{AreSorted, is_below}
 use Rattle.kfifo_verdict.specs.Left.{is_at, is_up_to, rank}
-use Rattle.kfifo_verdict.specs.Older.{AreNumbers, IsNth, IsCopy, AreCopies, IsPutOfGet}
+use Rattle.kfifo_verdict.specs.Older.{IsNth, IsCopy, AreCopies, IsPutOfGet}
 use Rattle.kfifo_verdict.proofs.Counting.{count_push, below_more, count_within}
 use Rattle.kfifo_verdict.proofs.Telling.{side_passes, side_is, same_item, puts_pass}
 use Rattle.kfifo_verdict.proofs.Being.{same_put}
@@ -84,32 +86,7 @@ count_prefix t m (suc n) le =
     with_true true b e = e
     with_true false b e = refl
 
--- ---- numbers, call by call
-
-pub numbers_skip : (h : List Call) (side : Side) (n : ℕ) (steps : List (ℕ × ℕ × ℕ)) → AreNumbers h side n steps
-    → ((x : ℕ) → does h n ≡ side_effect side x → ⊥) → AreNumbers h side (n + 1) steps
-numbers_skip h side n steps was none y m =
-    let on = was y m in
-    let next = below_more (λ c. has_item side h y c && ltb c m) n in
-    let fails = and_left (has_item side h y n) (ltb n m)
-    (false_from_ne_true (has_item side h y n) (λ q. none y (side_is side h y n q))) in
-    let zero_ : ◌≡◌ {A = ℕ} (cond (has_item side h y n && ltb n m) 1 0) 0 = ap (λ b. cond b 1 0) fails in
-    omega (arith, on, next, zero_)
-
-pub numbers_more : (h : List Call) (side : Side) (n x : ℕ) (steps more : List (ℕ × ℕ × ℕ)) → AreNumbers h side n steps
-    → does h n ≡ side_effect side x → more ≡ steps ++ (x, n, n) ∷ [] → AreNumbers h side (n + 1) more
-numbers_more h side n x steps more was is grown y m =
-    let on = was y m in
-    let next = below_more (λ c. has_item side h y c && ltb c m) n in
-    let push = ap (count_by (is_at In y m)) grown ∙ count_push (is_at In y m) steps (x, n, n) in
-    let same : is_at In y m (x, n, n) ≡ (has_item side h y n && ltb n m) = ap (λ b. b && ltb n m) (sym (side_passes side h x n is y)) in
-    let one : ◌≡◌ {A = ℕ} (cond (is_at In y m (x, n, n)) 1 0) (cond (has_item side h y n && ltb n m) 1 0) = ap (λ b. cond b 1 0) same in
-    omega (arith, on, next, push, one)
-
-pub numbers_moved : (h : List Call) (side : Side) (n : ℕ) (steps sorted : List (ℕ × ℕ × ℕ)) → IsPermutation steps sorted
-    → AreNumbers h side n steps → AreNumbers h side n sorted
-numbers_moved h side n steps sorted moved was y m =
-    sum_by-IsPermutation (λ e. cond (is_at In y m e) 1 0) steps sorted moved ∙ was y m
+-- ---- in a sorted list
 
 pub up_to_parts : (side : Side) (x t : ℕ) (steps : List (ℕ × ℕ × ℕ)) → IsSortedBy lower steps → IsPartitionedBy (is_up_to side x t) steps
 up_to_parts side x t steps up i j d le lt holds =
@@ -119,21 +96,21 @@ up_to_parts side x t steps up i j d le lt holds =
 
 -- ---- the nth call of an item
 
-pub nth_found : (h : List Call) (side : Side) (x count i : ℕ) (steps : List (ℕ × ℕ × ℕ)) → AreNumbers h side (length h) steps
-    → IsSortedBy lower steps → i < length steps → (place steps i).0 ≡ x → i ≡ count_by (is_below x) steps + count
+pub nth_found : (h : List Call) (side : Side) (x count i : ℕ) (steps : List (ℕ × ℕ × ℕ)) → AreSorted Number h side steps
+    → i < length steps → (place steps i).0 ≡ x → i ≡ count_by (is_below x) steps + count
     → IsNth h side x count (Some (place steps i).1)
-nth_found h side x count i steps are up inside is at =
+nth_found h side x count i steps are inside is at =
     let d : ℕ = (place steps i).1 in
     let t : ℕ → Bool = has_item side h x in
     let below = ap (λ w. count_by (is_below w) steps) is in
     let all : (m : ℕ) → count_by (is_at In (place steps i).0 m) steps ≡ count_below (λ c. t c && ltb c m) (length h) =
-    λ m. ap (λ w. count_by (is_at In w m) steps) is ∙ are x m in
-    let later = (rank_counts In steps up i (suc d) inside).0 (lt-ltb d (suc d) (omega arith)) in
+    λ m. ap (λ w. count_by (is_at In w m) steps) is ∙ are.counted x m in
+    let later = (rank_counts In steps are.sorted i (suc d) inside).0 (lt-ltb d (suc d) (omega arith)) in
     let more = all (suc d) in
     let few = all d in
     let upto : count_below (λ c. t c && ltb c d) (length h) ≤ count = elim
     (cases_lt (rank steps i) (count_by (is_at In (place steps i).0 d) steps)) [
-      | inl lt ↦ (let self = ltb-true d d ((rank_counts In steps up i d inside).1 lt) in absurd (omega (arith, self)))
+      | inl lt ↦ (let self = ltb-true d d ((rank_counts In steps are.sorted i d inside).1 lt) in absurd (omega (arith, self)))
       | inr le ↦ omega (arith, le, few, at, below)
     ] in
     let over : count < count_below (λ c. t c && ltb c (suc d)) (length h) = omega (arith, later, more, at, below) in
@@ -159,19 +136,18 @@ nth_found h side x count i steps are up inside is at =
       | inr no_ ↦ (let none : ◌≡◌ {A = ℕ} (cond (t d) 1 0) 0 = ap (λ b. cond b 1 0) no_ in absurd (omega (arith, a, b, upto, over, none)))
     ]
 
-pub nth_none : (h : List Call) (side : Side) (x count : ℕ) (steps : List (ℕ × ℕ × ℕ)) → AreNumbers h side (length h) steps
-    → IsSortedBy lower steps
+pub nth_none : (h : List Call) (side : Side) (x count : ℕ) (steps : List (ℕ × ℕ × ℕ)) → AreSorted Number h side steps
     → (count_by (is_below x) steps + count < length steps → (place steps (count_by (is_below x) steps + count)).0 ≡ x → ⊥)
     → IsNth h side x count None
-nth_none h side x count steps are up never m le =
+nth_none h side x count steps are never m le =
     let t : ℕ → Bool = has_item side h x in
-    let all = are x m ∙ count_prefix t m (length h) le in
+    let all = are.counted x m ∙ count_prefix t m (length h) le in
     elim (cases_lt count (count_below t m)) [
       | inl lt ↦ (
-          let r = ranked In x m count steps up (omega (arith, lt, all)) in
+          let r = ranked In x m count steps are.sorted (omega (arith, lt, all)) in
           let inside = r.1 in
           let e = ap (λ w. count_by (is_below w) steps) r.2 in
-          let before = lower_before steps up r.0 inside in
+          let before = lower_before steps are.sorted r.0 inside in
           let rk = r.3 in
           let at : r.0 ≡ count_by (is_below x) steps + count = omega (arith, e, before, rk) in
           let P : ℕ → Type 0 = λ w. (w < length steps) × ((place steps w).0 ≡ x) in
@@ -267,7 +243,7 @@ never_zero : (o : Option End) → ends_below o 0 ≡ false
 never_zero (Some end) = false_from_ne_true (ltb end.last 0) (λ q. let lt = ltb-true end.last 0 q in absurd (omega (arith, lt)))
 never_zero None = refl
 
-pub before_is : (h : List Call) (x t : ℕ) (ended : List (ℕ × ℕ × ℕ)) → AreSorted h Out ended
+pub before_is : (h : List Call) (x t : ℕ) (ended : List (ℕ × ℕ × ℕ)) → AreSorted Outer h Out ended
     → count_by (is_at In x t) ended ≡ count_below (λ c. takes x (does h c) && ends_below (call h c).end t) (length h)
 before_is h x zero ended are =
     list_same (is_at In x 0) (λ e. false) ended (λ e. and_right (eqb x e.0) (ltb e.1 0)

@@ -23,49 +23,15 @@ use Rattle.kfifo_verdict.specs.Evidence.{HasItemsLeft, gets_begun}
 use Rattle.kfifo_model.specs.Index.{side_effect}
 use Rattle.kfifo_verdict.specs.Finding.{has_item, first_of}
 use Rattle.kfifo_verdict.specs.Plain.{lower, place}
-use Rattle.kfifo_verdict.specs.Soon.{is_below}
-use Rattle.kfifo_verdict.specs.Left.{counts_at, has_at, passes, is_at, is_up_to, IsSureStep, AreSure, AreInOrder, rank, IsSpan, HasSpan}
+use Rattle.kfifo_verdict.specs.declared.steps.Key.TheVariants.{Inner}
+use Rattle.kfifo_verdict.specs.Steps.{passes, AreSorted, is_below}
+use Rattle.kfifo_verdict.specs.Left.{has_at, is_at, is_up_to, rank, IsSpan, HasSpan}
 use Rattle.kfifo_verdict.specs.Left.{IsKept, AreEnds, IsSomeLeft, AreFar}
 use Rattle.kfifo_verdict.proofs.Counting.{count_push, below_more}
 use Rattle.kfifo_verdict.proofs.Queueing.{Lex, line_rises}
 use Rattle.kfifo_verdict.proofs.Telling.{side_passes, side_is}
 use Rattle.kfifo_verdict.proofs.Covering.{moment_here}
 use Rattle.kfifo_verdict.proofs.Moments.{rising, not_falling, reached}
-
--- ---- call by call
-
-pub sure_skip : (h : List Call) (side : Side) (n : ℕ) (steps : List (ℕ × ℕ × ℕ)) → AreSure h side n steps
-    → ((x t : ℕ) → has_at side h x t n ≡ false) → AreSure h side (n + 1) steps
-sure_skip h side n steps was none y t =
-    let on = was y t in
-    let next = below_more (has_at side h y t) n in
-    let zero_ : ◌≡◌ {A = ℕ} (cond (has_at side h y t n) 1 0) 0 = ap (λ b. cond b 1 0) (none y t) in
-    omega (arith, on, next, zero_)
-
-pub of_no_item : (h : List Call) (side : Side) (n : ℕ) → ((x : ℕ) → does h n ≡ side_effect side x → ⊥) → (x t : ℕ)
-    → has_at side h x t n ≡ false
-of_no_item h side n none x t =
-    and_left (has_item side h x n) (counts_at side (call h n) t)
-    (false_from_ne_true (has_item side h x n) (λ q. none x (side_is side h x n q)))
-
-pub at_no_step : (h : List Call) (side : Side) (n : ℕ) → IsSureStep side (call h n) None → (x t : ℕ) → has_at side h x t n ≡ false
-at_no_step h side n never x t = and_right (has_item side h x n) (counts_at side (call h n) t) (never t)
-
-pub sure_more : (h : List Call) (side : Side) (n x s : ℕ) (steps more : List (ℕ × ℕ × ℕ)) → AreSure h side n steps
-    → does h n ≡ side_effect side x → IsSureStep side (call h n) (Some s) → more ≡ steps ++ (x, s, n) ∷ [] → AreSure h side (n + 1) more
-sure_more h side n x s steps more was is at grown y t =
-    let on = was y t in
-    let next = below_more (has_at side h y t) n in
-    let push = ap (count_by (is_at side y t)) grown ∙ count_push (is_at side y t) steps (x, s, n) in
-    let same : is_at side y t (x, s, n) ≡ has_at side h y t n =
-    ap (λ b. b && passes side s t) (sym (side_passes side h x n is y)) ∙ ap (λ b. has_item side h y n && b) (sym (at t)) in
-    let one : ◌≡◌ {A = ℕ} (cond (is_at side y t (x, s, n)) 1 0) (cond (has_at side h y t n) 1 0) = ap (λ b. cond b 1 0) same in
-    omega (arith, on, next, push, one)
-
-pub sure_moved : (h : List Call) (side : Side) (n : ℕ) (steps sorted : List (ℕ × ℕ × ℕ)) → IsPermutation steps sorted
-    → AreSure h side n steps → AreSure h side n sorted
-sure_moved h side n steps sorted moved was y t =
-    sum_by-IsPermutation (λ e. cond (is_at side y t e) 1 0) steps sorted moved ∙ was y t
 
 -- ---- in a sorted list
 
@@ -288,8 +254,8 @@ none_gone x at t gets up behind none =
       | inr past ↦ (let most = count_by-le-length (is_up_to Out x t) gets in omega (arith, past, most))
     ]
 
-pub span_is : (h : List Call) (puts gets : List (ℕ × ℕ × ℕ)) (i at : ℕ) (s : Presence) → i < length puts → AreInOrder h In puts
-    → AreInOrder h Out gets → at ≡ count_by (is_below (place puts i).0) gets + rank puts i
+pub span_is : (h : List Call) (puts gets : List (ℕ × ℕ × ℕ)) (i at : ℕ) (s : Presence) → i < length puts → AreSorted Inner h In puts
+    → AreSorted Inner h Out gets → at ≡ count_by (is_below (place puts i).0) gets + rank puts i
     → ((c : ℕ) → c < length h → (c < s.start) ↔ (first_of h c ≤ (place puts i).1))
     → ((c : ℕ) → c < length h → (c < s.gone) ↔ (count_by (is_up_to Out (place puts i).0 (first_of h c)) gets ≤ at))
     → IsSpan h (place puts i).0 (rank puts i) s
@@ -449,7 +415,7 @@ most_more h puts m ends far more most next n are inside high e was =
       ];
     }
 
-pub far_all : (h : List Call) (puts : List (ℕ × ℕ × ℕ)) (ends far : List ℕ) (most n : ℕ) → AreInOrder h In puts
+pub far_all : (h : List Call) (puts : List (ℕ × ℕ × ℕ)) (ends far : List ℕ) (most n : ℕ) → AreSorted Inner h In puts
     → AreEnds h puts (length puts) ends → n ≡ length h → IsMostBelow h ends far most n → AreFar h far
 far_all h puts ends far most n ps are all m = record {
   sized = m.sized ∙ all;

@@ -14,6 +14,7 @@ pub mod Serving
 pub mod Queueing
 pub mod Turning
 pub mod Lining
+pub mod Listing
 pub mod Stepping
 pub mod Remaining
 pub mod Leaving

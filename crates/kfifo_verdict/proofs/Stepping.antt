@@ -1,52 +1,21 @@
 -- The calls of each item, counted by their steps in a sorted list.
-use Rattle.std.proofs.Common.{ℕ, ◌≡◌, ◌≢◌, ◌+◌, ◌<◌, ◌≤◌, ◌⊎◌, ◌↔◌, ◌&&◌, ◌||◌, true, false, cond, count_by, eqb, leb, ltb, List, [], ◌∷◌}
-use Rattle.std.proofs.Common.{◌++◌, refl, sym, ◌∙◌, ap, subst, inl, inr, arith}
+use Rattle.std.proofs.Common.{ℕ, ◌≡◌, ◌≢◌, ◌+◌, ◌<◌, ◌≤◌, ◌⊎◌, ◌↔◌, ◌||◌, true, false, cond, count_by, eqb, leb, ltb, List, [], ◌∷◌}
+use Rattle.std.proofs.Common.{refl, sym, ◌∙◌, ap, subst, inl, inr, arith}
 use Rattle.std.proofs.lemmas.Bool.{cases_Bool, eq-eqb, ne_eqb, eqb-true, lt-ltb, ltb-true, leb-true, le-leb, and_from, and_parts, and_left}
 use Rattle.std.proofs.lemmas.Bool.{or_left, or_right}
 use Rattle.std.proofs.lemmas.List.{get_or_default}
 use Rattle.std.proofs.lemmas.List.Sums.{sum_by-cons}
-use Rattle.std.proofs.lemmas.List.Sorted.{sum_by-IsPermutation}
-use Rattle.std.specs.List.Sorted.{IsPermutation, IsSortedBy, IsNonDecreasingBy, IsPartitionedBy}
+use Rattle.std.specs.List.Sorted.{IsSortedBy, IsNonDecreasingBy, IsPartitionedBy}
 use Rattle.kfifo_verdict.proofs.Types.{Call}
-use Rattle.kfifo_model.specs.Histories.{call, does}
-use Rattle.kfifo_model.specs.declared.effects.Side.{Side}
+use Rattle.kfifo_model.specs.Histories.{call}
 use Rattle.kfifo_model.specs.declared.effects.Side.TheVariants.{In, Out}
 use Rattle.kfifo_verdict.specs.Evidence.{Gets, last_step, puts_begun, gets_ended, IsOverdrawn, IsTakenTooSoon}
-use Rattle.kfifo_model.specs.Index.{side_effect}
-use Rattle.kfifo_verdict.specs.Finding.{has_item}
 use Rattle.kfifo_verdict.specs.Plain.{lower, place}
-use Rattle.kfifo_verdict.specs.Soon.{side_step, has_by, is_by, is_below, is_until, AreSteps, AreSorted}
-use Rattle.kfifo_verdict.proofs.Counting.{count_push, below_more}
+use Rattle.kfifo_verdict.specs.declared.steps.Key.TheVariants.{Outer}
+use Rattle.kfifo_verdict.specs.Soon.{is_by, is_until}
+use Rattle.kfifo_verdict.specs.Steps.{AreSorted, is_below}
 use Rattle.kfifo_verdict.proofs.Queueing.{Lex, line_rises}
-use Rattle.kfifo_verdict.proofs.Telling.{side_passes, side_is, same_item}
-
--- ---- call by call
-
-pub steps_skip : (h : List Call) (side : Side) (n : ℕ) (steps : List (ℕ × ℕ × ℕ)) → AreSteps h side n steps
-    → ((x : ℕ) → does h n ≡ side_effect side x → ⊥) → AreSteps h side (n + 1) steps
-steps_skip h side n steps was none y t =
-    let on = was y t in
-    let next = below_more (has_by side h y t) n in
-    let zero : ◌≡◌ {A = ℕ} (cond (has_by side h y t n) 1 0) 0 = elim (cases_Bool (has_by side h y t n)) [
-      | inl holds ↦ absurd (none y (side_is side h y n (and_parts (has_item side h y n) (leb (side_step side (call h n)) t) holds).0))
-      | inr fails ↦ ap (λ b. cond b 1 0) fails
-    ] in
-    omega (arith, on, next, zero)
-
-pub steps_more : (h : List Call) (side : Side) (n x s : ℕ) (steps more : List (ℕ × ℕ × ℕ)) → AreSteps h side n steps
-    → does h n ≡ side_effect side x → s ≡ side_step side (call h n) → more ≡ steps ++ (x, s, n) ∷ [] → AreSteps h side (n + 1) more
-steps_more h side n x s steps more was is at grown y t =
-    let on = was y t in
-    let next = below_more (has_by side h y t) n in
-    let push = ap (count_by (is_by y t)) grown ∙ count_push (is_by y t) steps (x, s, n) in
-    let same : is_by y t (x, s, n) ≡ has_by side h y t n =
-    ap (λ b. b && leb s t) (sym (side_passes side h x n is y)) ∙ ap (λ w. has_item side h y n && leb w t) at in
-    let one : ◌≡◌ {A = ℕ} (cond (is_by y t (x, s, n)) 1 0) (cond (has_by side h y t n) 1 0) = ap (λ b. cond b 1 0) same in
-    omega (arith, on, next, push, one)
-
-pub steps_moved : (h : List Call) (side : Side) (n : ℕ) (steps sorted : List (ℕ × ℕ × ℕ)) → IsPermutation steps sorted
-    → AreSteps h side n steps → AreSteps h side n sorted
-steps_moved h side n steps sorted moved was y t = sum_by-IsPermutation (λ e. cond (is_by y t e) 1 0) steps sorted moved ∙ was y t
+use Rattle.kfifo_verdict.proofs.Telling.{same_item}
 
 -- ---- in a sorted list
 
@@ -127,7 +96,7 @@ count_untils x t (e ∷ steps) =
 -- ---- what the counts tell of a get
 
 pub too_soon_both_ways : (h : List Call) (x g end put got : ℕ) (begun ended : List (ℕ × ℕ × ℕ)) → Gets h x g
-    → end ≡ last_step (call h g).end → AreSorted h In begun → AreSorted h Out ended
+    → end ≡ last_step (call h g).end → AreSorted Outer h In begun → AreSorted Outer h Out ended
     → put ≡ count_by (is_by x end) begun → got ≡ count_by (is_by x end) ended → (ltb put got ≡ true) ↔ IsTakenTooSoon h g
 too_soon_both_ways h x g end put got begun ended gets at ins outs e f =
     let Q : ℕ → Type 0 = λ w. IsOverdrawn h x w in

@@ -2,8 +2,8 @@
 use Rattle.std.proofs.Common.{ℕ, ◌≡◌, ◌≢◌, ◌+◌, ◌<◌, ◌≤◌, Bool, true, false, cond, eqb, List, length, add-one, refl, sym, ◌∙◌, ap, subst}
 use Rattle.std.proofs.Common.{inl, inr, arith}
 use Rattle.std.proofs.lemmas.Bool.{cases_lt, cases_eq, eq-eqb, ne_eqb, false≢true, false_from_ne_true}
-use Rattle.kfifo_verdict.proofs.Types.{Call, Effect, Tally}
-use Rattle.kfifo_model.specs.declared.effects.Effect.TheVariants.{Adds, Takes, FindsNone}
+use Rattle.kfifo_verdict.proofs.Types.{Call, Tally}
+use Rattle.kfifo_model.specs.declared.effects.Effect.TheVariants.{Takes}
 use Rattle.kfifo_model.specs.Overtaking.{adds, takes}
 use Rattle.kfifo_model.specs.Histories.{does}
 use Rattle.kfifo_model.specs.declared.effects.Side.{Side}

@@ -5,8 +5,6 @@ use Rattle.std.specs.Ordering.{nat_cmp}
 use Rattle.std.specs.BTreeMap.{BTreeMap, get}
 use Rattle.kfifo_model.specs.declared.calls.Call.{Call}
 use Rattle.kfifo_model.specs.declared.calls.End.{End}
-use Rattle.kfifo_model.specs.declared.effects.Effect.{Effect}
-use Rattle.kfifo_model.specs.declared.effects.Effect.TheVariants.{Adds, Takes, FindsNone}
 use Rattle.kfifo_model.specs.Overtaking.{adds, takes}
 use Rattle.std.specs.List.{AllByRecursion}
 use Rattle.kfifo_model.specs.Histories.{call, does, EndsBelow}

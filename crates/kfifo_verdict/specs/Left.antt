@@ -13,43 +13,19 @@ use Rattle.kfifo_verdict.specs.declared.presences.Presence.{Presence}
 use Rattle.kfifo_verdict.specs.Evidence.{count_below, puts_ended, gets_begun, IsLeft}
 use Rattle.kfifo_verdict.specs.Finding.{has_item, first_of}
 use Rattle.kfifo_verdict.specs.Plain.{lower, place}
-use Rattle.kfifo_verdict.specs.Soon.{is_below}
-
--- whether a call counts at a step: a put that ended before it, a get that began by it
-abbrev pub counts_at : Side → Call → ℕ → Bool
-counts_at In c step = ends_below c.end step
-counts_at Out c step = leb c.first step
+use Rattle.kfifo_verdict.specs.Steps.{counts_at, passes, is_below}
 
 -- whether call c is one of the side that has item x, and counts at a step
 abbrev pub has_at : Side → List Call → ℕ → ℕ → ℕ → Bool
 has_at side h x step c = has_item side h x c && counts_at side (call h c) step
 
--- whether the step of a call is before another step, of a get also at it
-abbrev pub passes : Side → ℕ → ℕ → Bool
-passes In s step = ltb s step
-passes Out s step = leb s step
-
--- whether an entry is of this item, and counts at a step: an item, the step of a call that has it, and its number
+-- whether an entry is of this item, and counts at a step
 abbrev pub is_at : Side → ℕ → ℕ → ℕ × ℕ × ℕ → Bool
 is_at side x step e = eqb x e.0 && passes side e.1 step
 
 -- whether an entry is of a lower item, or of this one and counts at a step
 abbrev pub is_up_to : Side → ℕ → ℕ → ℕ × ℕ × ℕ → Bool
 is_up_to side x step e = ltb e.0 x || is_at side x step e
-
--- what is known of a call's step: at which steps the call counts, or that it never does
-abbrev pub IsSureStep : Side → Call → Option ℕ → Type 0
-IsSureStep side c (Some s) = (step : ℕ) → counts_at side c step ≡ passes side s step
-IsSureStep side c None = (step : ℕ) → counts_at side c step ≡ false
-
--- among the entries as many of each item count at each step as among the calls below n
-abbrev pub AreSure : List Call → Side → ℕ → List (ℕ × ℕ × ℕ) → Type 0
-AreSure h side n steps = (x step : ℕ) → count_by (is_at side x step) steps ≡ count_below (has_at side h x step) n
-
--- the entries of all calls of a side, sorted
-pub record AreInOrder (h : List Call) (side : Side) (steps : List (ℕ × ℕ × ℕ)) : Type 0 where
-  pub counted : AreSure h side (length h) steps
-  pub sorted : IsSortedBy lower steps
 
 -- the number of entries of the same item that stand before the one at place i
 abbrev pub rank : List (ℕ × ℕ × ℕ) → ℕ → ℕ

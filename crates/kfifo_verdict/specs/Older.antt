@@ -1,7 +1,5 @@
 -- What is left at a get, where items repeat: puts and gets of each item by their numbers, and how many ended sooner.
-use Rattle.std.specs.Prelude.{ℕ, ◌≡◌, ◌<◌, ◌≤◌, ◌↔◌, ◌&&◌, ltb, true, List, Option, Some, None, length, slice_index_or}
-use Rattle.std.specs.List.{count_by}
-use Rattle.std.specs.List.Sorted.{IsSortedBy}
+use Rattle.std.specs.Prelude.{ℕ, ◌≡◌, ◌<◌, ◌≤◌, ◌↔◌, true, List, Option, Some, None, length, slice_index_or}
 use Rattle.kfifo_model.specs.declared.calls.Call.{Call}
 use Rattle.kfifo_model.specs.Overtaking.{adds}
 use Rattle.kfifo_model.specs.Histories.{call, does, IsFinished}
@@ -11,23 +9,15 @@ use Rattle.kfifo_verdict.specs.declared.presences.Presence.{Presence}
 use Rattle.kfifo_verdict.specs.declared.older.Listed.{Listed}
 use Rattle.kfifo_verdict.specs.Evidence.{Puts, Gets, count_below, gets_before, IsOlderCopy}
 use Rattle.kfifo_verdict.specs.Finding.{has_item, IsStart, no_presence}
-use Rattle.kfifo_verdict.specs.Plain.{lower}
-use Rattle.kfifo_verdict.specs.Soon.{AreSorted}
-use Rattle.kfifo_verdict.specs.Left.{is_at, AreInOrder}
-
--- as many entries of each item are below each number as calls of the side
-abbrev pub AreNumbers : List Call → Side → ℕ → List (ℕ × ℕ × ℕ) → Type 0
-AreNumbers h side n steps =
-    (x m : ℕ) → count_by (is_at In x m) steps ≡ count_below (λ c. has_item side h x c && ltb c m) n
+use Rattle.kfifo_verdict.specs.declared.steps.Key.TheVariants.{Outer, Inner, Number}
+use Rattle.kfifo_verdict.specs.Steps.{AreSorted}
 
 -- The calls of a history by their items.
 pub record AreListed (h : List Call) (l : Listed) : Type 0 where
-  pub puts : AreNumbers h In (length h) l.puts.items
-  pub puts_sorted : IsSortedBy lower l.puts.items
-  pub gets : AreNumbers h Out (length h) l.gets.items
-  pub gets_sorted : IsSortedBy lower l.gets.items
-  pub ended_puts : AreInOrder h In l.ended_puts.items
-  pub ended_gets : AreSorted h Out l.ended_gets.items
+  pub puts : AreSorted Number h In l.puts.items
+  pub gets : AreSorted Number h Out l.gets.items
+  pub ended_puts : AreSorted Inner h In l.ended_puts.items
+  pub ended_gets : AreSorted Outer h Out l.ended_gets.items
 
 -- the call of a side that has item x and before which so many of them begin
 abbrev pub IsNth : List Call → Side → ℕ → ℕ → Option ℕ → Type 0

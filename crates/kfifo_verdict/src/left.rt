@@ -8,54 +8,16 @@ ghost use Rattle.kfifo_verdict.specs.Evidence.{HasItemsLeft};
 ghost use Rattle.kfifo_verdict.specs.Finding.{first_of};
 ghost use Rattle.kfifo_verdict.specs.Judging.{Never, NeverBefore};
 ghost use Rattle.kfifo_verdict.specs.Plain.{place};
-ghost use Rattle.kfifo_verdict.specs.Soon.{is_below};
-ghost use Rattle.kfifo_verdict.specs.Left.{IsSureStep, AreSure, AreInOrder, is_up_to, rank, IsSpan, AreEnds, AreFar};
+ghost use Rattle.kfifo_verdict.specs.Steps.{AreSorted, is_below};
+ghost use Rattle.kfifo_verdict.specs.Left.{is_up_to, rank, IsSpan, AreEnds, AreFar};
+ghost use Rattle.kfifo_verdict.specs.declared.steps.Key.TheVariants.{Inner};
 ghost use Rattle.kfifo_model.specs.declared.effects.Side.TheVariants.{In, Out};
 
 use crate::finding::reaches;
 use crate::presences::Presence;
-use crate::soon::{Step, count_below};
+use crate::steps::{Key, Step, count_below, sorted};
 use kfifo_model::{Call, Effect, Side};
 use std::alloc::{AllocError, Global};
-
-/// The step from which on a call counts: of a put its last, which has to be before, of a get its first.
-fn sure_step(side: Side, call: &Call) -> Option<u64>
-    ensures { IsSureStep side call.now result }
-{
-    match (side, call.end) {
-        (Side::In, Some(end)) => Some(end.last),
-        (Side::In, None) => None,
-        (Side::Out, _) => Some(call.first),
-    }
-}
-
-/// The puts that have ended, or the gets.
-fn steps_of(alloc: Global, calls: &[Call], side: Side) -> Result<Vec<Step>, AllocError>
-    ensures { IfOk result (λ steps. AreSure calls.now side (length calls.now) steps.items) }
-{
-    let mut steps = Vec::new(alloc);
-    for (n, call) in calls.iter().enumerate() {
-        if let Some(item) = side.item_of(call) {
-            if let Some(step) = sure_step(side, call) {
-                steps.push((item, step, n))?;
-            }
-        }
-    }
-    Ok(steps)
-}
-
-/// The puts that have ended, or the gets, by their items, and those of an item by their steps.
-pub(crate) fn sorted_steps(
-    alloc: Global,
-    calls: &[Call],
-    side: Side,
-) -> Result<Vec<Step>, AllocError>
-    ensures { IfOk result (λ steps. AreInOrder calls.now side steps.items) }
-{
-    let mut steps = steps_of(alloc, calls, side)?;
-    steps.sort_unstable();
-    Ok(steps)
-}
 
 /// How many calls begin by a step.
 fn begun_by(calls: &[Call], step: u64) -> usize
@@ -76,7 +38,7 @@ fn begun_before(calls: &[Call], step: u64) -> usize
 /// The call at whose beginning the get at this place, if it is of this item, has begun, or the number of calls.
 fn gone_at(calls: &[Call], gets: &[Step], item: u32, at: usize) -> usize
     requires history { IsHistory calls.now }
-    requires gets { AreInOrder calls.now Out gets.now }
+    requires gets { AreSorted Inner calls.now Out gets.now }
     requires behind { count_by (is_below item) gets.now ≤ at }
     ensures { (c : ℕ) → c < length calls.now
         → (c < result) ↔ (count_by (is_up_to Out item (first_of calls.now c)) gets.now ≤ at) }
@@ -92,8 +54,8 @@ fn gone_at(calls: &[Call], gets: &[Step], item: u32, at: usize) -> usize
 fn span_of(calls: &[Call], puts: &[Step], gets: &[Step], i: usize) -> Presence
     requires history { IsHistory calls.now }
     requires inside { i < length puts.now }
-    requires puts { AreInOrder calls.now In puts.now }
-    requires gets { AreInOrder calls.now Out gets.now }
+    requires puts { AreSorted Inner calls.now In puts.now }
+    requires gets { AreSorted Inner calls.now Out gets.now }
     ensures { IsSpan calls.now (place puts.now i).0 (rank puts.now i) result }
 {
     let (item, last, _) = puts[i];
@@ -113,8 +75,8 @@ fn ends_of(
     gets: &[Step],
 ) -> Result<Vec<usize>, AllocError>
     requires history { IsHistory calls.now }
-    requires puts { AreInOrder calls.now In puts.now }
-    requires gets { AreInOrder calls.now Out gets.now }
+    requires puts { AreSorted Inner calls.now In puts.now }
+    requires gets { AreSorted Inner calls.now Out gets.now }
     ensures { IfOk result (λ far. AreEnds calls.now puts.now (length puts.now) far.items) }
 {
     let mut far: Vec<usize> = vec![in alloc; 0; calls.len()]?;
@@ -133,8 +95,8 @@ fn far_from(alloc: Global, calls: &[Call]) -> Result<Vec<usize>, AllocError>
     requires { IsHistory calls.now }
     ensures { IfOk result (λ far. AreFar calls.now far.items) }
 {
-    let puts = sorted_steps(alloc, calls, Side::In)?;
-    let gets = sorted_steps(alloc, calls, Side::Out)?;
+    let puts = sorted(alloc, calls, Side::In, Key::Inner)?;
+    let gets = sorted(alloc, calls, Side::Out, Key::Inner)?;
     let ends = ends_of(alloc, calls, &puts, &gets)?;
     let mut far = Vec::with_capacity(alloc, ends.len())?;
     let mut most: usize = 0;

@@ -13,6 +13,7 @@ mod rings;
 mod seen;
 mod soon;
 mod state;
+mod steps;
 mod tallies;
 mod turns;
 mod verdicts;

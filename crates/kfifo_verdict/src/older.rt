@@ -7,16 +7,16 @@ ghost use Rattle.kfifo_verdict.specs.Evidence.{Gets, IsOlderLeft, gets_before};
 ghost use Rattle.kfifo_verdict.specs.Finding.{AreSkips, has_item};
 ghost use Rattle.kfifo_verdict.specs.Judging.{GotOlderLeft, NeverBefore, Never};
 ghost use Rattle.kfifo_verdict.specs.Plain.{lower};
-ghost use Rattle.kfifo_verdict.specs.Soon.{AreSorted};
-ghost use Rattle.kfifo_verdict.specs.Left.{AreInOrder, is_up_to, is_at};
-ghost use Rattle.kfifo_verdict.specs.Older.{AreNumbers, AreListed, IsNth, IsCopy, AreCopies, IsPutOfGet};
+ghost use Rattle.kfifo_verdict.specs.Steps.{AreSorted};
+ghost use Rattle.kfifo_verdict.specs.Left.{is_up_to, is_at};
+ghost use Rattle.kfifo_verdict.specs.declared.steps.Key.TheVariants.{Number};
+ghost use Rattle.kfifo_verdict.specs.Older.{AreListed, IsNth, IsCopy, AreCopies, IsPutOfGet};
 ghost use Rattle.kfifo_model.specs.declared.effects.Side.TheVariants.{In, Out};
 
 use crate::finding::{count_older, first_older, no_skips};
-use crate::left;
 use crate::precedence::first_after;
 use crate::presences::Presence;
-use crate::soon::{self, Step, count_below};
+use crate::steps::{Key, Step, count_below, sorted};
 use kfifo_model::{Call, Effect, Side};
 use std::alloc::{AllocError, Global};
 
@@ -33,39 +33,16 @@ pub(crate) struct Listed {
     ended_gets: Vec<Step>,
 }
 
-/// The calls of a side with their numbers.
-fn numbers_of(alloc: Global, calls: &[Call], side: Side) -> Result<Vec<Step>, AllocError>
-    ensures { IfOk result (λ steps. AreNumbers calls.now side (length calls.now) steps.items) }
-{
-    let mut steps = Vec::new(alloc);
-    for (n, call) in calls.iter().enumerate() {
-        if let Some(item) = side.item_of(call) {
-            steps.push((item, n as u64, n))?;
-        }
-    }
-    Ok(steps)
-}
-
-/// The calls of a side by their items, and those of an item by their numbers.
-fn sorted_numbers(alloc: Global, calls: &[Call], side: Side) -> Result<Vec<Step>, AllocError>
-    ensures numbers { IfOk result (λ steps. AreNumbers calls.now side (length calls.now) steps.items) }
-    ensures sorted { IfOk result (λ steps. IsSortedBy lower steps.items) }
-{
-    let mut steps = numbers_of(alloc, calls, side)?;
-    steps.sort_unstable();
-    Ok(steps)
-}
-
 impl Listed {
     /// The calls of a history by their items.
     fn of(alloc: Global, calls: &[Call]) -> Result<Listed, AllocError>
         ensures { IfOk result (AreListed calls.now) }
     {
         Ok(Listed {
-            puts: sorted_numbers(alloc, calls, Side::In)?,
-            gets: sorted_numbers(alloc, calls, Side::Out)?,
-            ended_puts: left::sorted_steps(alloc, calls, Side::In)?,
-            ended_gets: soon::sorted_steps(alloc, calls, Side::Out)?,
+            puts: sorted(alloc, calls, Side::In, Key::Number)?,
+            gets: sorted(alloc, calls, Side::Out, Key::Number)?,
+            ended_puts: sorted(alloc, calls, Side::In, Key::Inner)?,
+            ended_gets: sorted(alloc, calls, Side::Out, Key::Outer)?,
         })
     }
 }
@@ -97,8 +74,7 @@ fn count_before(steps: &[Step], item: u32, step: u64) -> usize
 
 /// The call of a side that has this item and before which so many of them begin.
 fn nth(calls: &[Call], side: Side, numbers: &[Step], item: u32, count: usize) -> Option<usize>
-    requires numbers { AreNumbers calls.now side (length calls.now) numbers.now }
-    requires sorted { IsSortedBy lower numbers.now }
+    requires { AreSorted Number calls.now side numbers.now }
     ensures { IsNth calls.now side item count result }
 {
     let below = count_below(numbers, item);

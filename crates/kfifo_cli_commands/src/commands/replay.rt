@@ -4,6 +4,7 @@ ghost use Rattle.std.specs.Prelude.{string_bytes};
 ghost use Rattle.kfifo_words.specs.declared.shape.Shape.{Shape as ShapeData};
 ghost use Rattle.kfifo_machine.specs.declared.event.Begin.{Begin as BeginData};
 ghost use Rattle.kfifo_replay.specs.Player.{OfItsPicks, StandsFor, Stops};
+ghost use Rattle.kfifo_cli_texts.specs.declared.picks.TheConstants.{MAX_PICKS};
 ghost use Rattle.kfifo_cli_texts.specs.Picks as picks;
 ghost use Rattle.kfifo_cli_texts.specs.Picks.{count_of, picks_of};
 ghost use Rattle.kfifo_cli_commands.specs.Replays.{IsPlainText, IsPointsLine, IsRecordLine, IsRefusal, IsReplayAnswer};
@@ -54,7 +55,7 @@ fn played<P: Progress>(
     groups: &[Group],
     progress: &mut P,
 ) -> Result<String, Fault>
-    requires { count_of groups.now ≤ 16777216 }
+    requires { count_of groups.now ≤ MAX_PICKS }
     ensures ok { let own = map (λ script. script.items) scripts.now in
         let o = options.now in IfOk result
         (λ text. (made : List ℕ) × Makes o.stopped shape own (picks_of groups.now) made
@@ -87,7 +88,7 @@ fn play<P: Progress>(
     stopped: Option<u32>,
     progress: &mut P,
 ) -> Result<Replay, ReplayFault>
-    requires { count_of groups.now ≤ 16777216 }
+    requires { count_of groups.now ≤ MAX_PICKS }
     ensures ok { let own = map (λ script. script.items) scripts.now in
         IfOk result (λ replay. (made : List ℕ) × Makes stopped shape own (picks_of groups.now) made
         × StandsFor shape own made replay) }
@@ -108,7 +109,7 @@ fn play<P: Progress>(
 
 /// How many picks the groups are.
 pub(crate) fn count_picks(groups: &[Group]) -> u64
-    requires { count_of groups.now ≤ 16777216 }
+    requires { count_of groups.now ≤ MAX_PICKS }
     ensures { result ≡ count_of groups.now }
 {
     groups.iter().map(|group| u64::from(group.count)).sum()
@@ -120,7 +121,7 @@ fn feed<P: Progress>(
     groups: &[Group],
     meter: &mut Meter<'_, P>,
 ) -> Result<(), ReplayFault>
-    requires few { count_of groups.now ≤ 16777216 }
+    requires few { count_of groups.now ≤ MAX_PICKS }
     requires stands { (shape : ShapeData) × (scripts : List (List BeginData)) × (earlier : List ℕ)
         × StandsFor shape scripts earlier replay.old }
     ensures made { OnOk result (OfItsPicks replay.old (λ shape scripts earlier.
@@ -144,7 +145,7 @@ fn feed_group<P: Progress>(
     group: Group,
     meter: &mut Meter<'_, P>,
 ) -> Result<(), ReplayFault>
-    requires few { group.count ≤ 16777216 }
+    requires few { group.count ≤ MAX_PICKS }
     requires stands { (shape : ShapeData) × (scripts : List (List BeginData)) × (earlier : List ℕ)
         × StandsFor shape scripts earlier replay.old }
     ensures made { OnOk result (OfItsPicks replay.old (λ shape scripts earlier.
@@ -166,7 +167,7 @@ fn feed_group<P: Progress>(
 
 /// The fault of picks that stand behind so many.
 pub(crate) fn behind(made: usize, fault: ReplayFault) -> ReplayFault
-    requires { (place : ℕ) → fault ≡ ReplayFault.BadPick place → made + place ≤ 16777216 }
+    requires { (place : ℕ) → fault ≡ ReplayFault.BadPick place → made + place ≤ MAX_PICKS }
     ensures { result ≡ picks.behind made fault }
 {
     match fault {

@@ -10,14 +10,14 @@ returns-then-numbers-below c =
     let below = c.count_below-below.ensures in
     let test = c.if-count-numbers.true in
     nth_found c.args.calls.now c.args.side c.args.item c.args.count (c.count_below-below.result + c.args.count) c.args.numbers.now
-    c.requires.numbers c.requires.sorted (omega (arith, test)) c.if-numbers-below.true (omega (arith, below))
+    c.requires (omega (arith, test)) c.if-numbers-below.true (omega (arith, below))
 
 pub returns-else-count-numbers : goal.returns-else-count-numbers
 returns-else-count-numbers c =
     let numbers = c.args.numbers.now in
     let x = c.args.item in
     let below = c.count_below-below.ensures in
-    nth_none c.args.calls.now c.args.side x c.args.count numbers c.requires.numbers c.requires.sorted (λ lt is.
+    nth_none c.args.calls.now c.args.side x c.args.count numbers c.requires (λ lt is.
     elim c.else-count-numbers.branch [
       | else-count-numbers-via-then-count-numbers+else-numbers-below w ↦ (
           let P : ℕ → Type 0 = λ v. (place numbers (v + c.args.count)).0 ≡ x in

@@ -23,11 +23,7 @@ returns c =
         called = record {
           queue = refl;
           same = c.dequeue.ensures.same;
-          run = c.dequeue.ensures.run;
-          few_steps = c.dequeue.ensures.few_steps;
-          cause = c.dequeue.ensures.cause;
-          disturbed = c.dequeue.ensures.disturbed;
-          leaves_none = c.dequeue.ensures.leaves_none;
+          call = c.dequeue.ensures.call;
           promise = c.dequeue.ensures.promise;
         };
         same_put = refl;

@@ -25,11 +25,7 @@ returns c =
         called = record {
           queue = refl;
           same = c.enqueue.ensures.same;
-          run = c.enqueue.ensures.run;
-          few_steps = c.enqueue.ensures.few_steps;
-          cause = c.enqueue.ensures.cause;
-          disturbed = c.enqueue.ensures.disturbed;
-          leaves_none = c.enqueue.ensures.leaves_none;
+          call = c.enqueue.ensures.call;
           promise = c.enqueue.ensures.promise;
         };
         same_put = refl;

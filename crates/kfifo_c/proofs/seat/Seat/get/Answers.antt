@@ -21,17 +21,13 @@ returns c =
     let made : Called (Dequeue c.next-start.result i.turns) c.dequeue.result before after = record {
       queue = refl;
       same = e.same;
-      run = e.run;
-      few_steps = e.few_steps;
-      cause = e.cause;
-      disturbed = e.disturbed;
-      leaves_none = e.leaves_none;
+      call = e.call;
       promise = e.promise;
     } in
     subst (λ (s : Seated). Gets c.dequeue.result s after) c.self.view_is (record {
       called = subst (λ (x : ℕ × ℕ). Called (Dequeue x.0 x.1) c.dequeue.result before after) (λ j. (c.next-start.ensures.start j, turns j))
           made;
-      busy = λ is. e.disturbed is (omega (arith, turns));
+      busy = λ is. e.call.disturbed is (omega (arith, turns));
       next_get = ap (λ r. r.start) c.next-start.ensures.moves
           ∙ ap (λ (k : ℕ). start_after k i.gets.start) (v.3 ∙ ap (λ (o : Opening). o.shape.k) (sym v.0.1));
       same_put = refl;

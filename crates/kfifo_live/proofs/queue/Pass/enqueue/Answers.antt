@@ -1,7 +1,7 @@
 -- After the call the pass is in no call, and what is new to it is one complete execution.
 use Rattle.kfifo_machine.specs.declared.event.Begin.TheVariants as B
 use Rattle.kfifo_live.specs.Pass.{pass_view}
-use Rattle.kfifo_live.proofs.Made.{takes_few_steps, has_cause, is_disturbed, leaves_none}
+use Rattle.kfifo_live.proofs.Made.{makes_call}
 use Rattle.kfifo_live.proofs.Passes.{called, made, no_tokens, promised}
 use Rattle.kfifo_live.proofs.queue.Pass.enqueue.Goals as goal
 
@@ -14,22 +14,7 @@ returns-clause-promise c = promised _ c.enqueue.new.seat.me
     (called _ _ _ c.self.inside.seat.me c.enqueue.new.seat.me c.self.invariant
     (no_tokens c.self.inside.seat.me.0 c.self.view_is c.requires.of.1 c.queue.view_is) c.enqueue.ensures.leads)
 
-pub returns-clause-few_steps : goal.returns-clause-few_steps
-returns-clause-few_steps c = takes_few_steps (B.Enqueue c.args.item c.args.start c.args.turns) c.enqueue.result c.args.self.now
-    (pass_view c.enqueue.new.seat.table_id c.self.inside.thread c.enqueue.new.seat.me.0)
-    (made _ _ _ c.self.inside.seat c.enqueue.new.seat _ c.self.invariant c.self.view_is c.enqueue.ensures)
-
-pub returns-clause-cause : goal.returns-clause-cause
-returns-clause-cause c = has_cause (B.Enqueue c.args.item c.args.start c.args.turns) c.enqueue.result c.args.self.now
-    (pass_view c.enqueue.new.seat.table_id c.self.inside.thread c.enqueue.new.seat.me.0)
-    (made _ _ _ c.self.inside.seat c.enqueue.new.seat _ c.self.invariant c.self.view_is c.enqueue.ensures)
-
-pub returns-clause-disturbed : goal.returns-clause-disturbed
-returns-clause-disturbed c = is_disturbed (B.Enqueue c.args.item c.args.start c.args.turns) c.enqueue.result c.args.self.now
-    (pass_view c.enqueue.new.seat.table_id c.self.inside.thread c.enqueue.new.seat.me.0)
-    (made _ _ _ c.self.inside.seat c.enqueue.new.seat _ c.self.invariant c.self.view_is c.enqueue.ensures)
-
-pub returns-clause-leaves_none : goal.returns-clause-leaves_none
-returns-clause-leaves_none c = leaves_none (B.Enqueue c.args.item c.args.start c.args.turns) c.enqueue.result c.args.self.now
+pub returns-clause-call : goal.returns-clause-call
+returns-clause-call c = makes_call (B.Enqueue c.args.item c.args.start c.args.turns) c.enqueue.result c.args.self.now
     (pass_view c.enqueue.new.seat.table_id c.self.inside.thread c.enqueue.new.seat.me.0)
     (made _ _ _ c.self.inside.seat c.enqueue.new.seat _ c.self.invariant c.self.view_is c.enqueue.ensures)

@@ -2,8 +2,8 @@
 use Rattle.std.proofs.Common.{◌<◌, length, refl, sym, subst, arith}
 use Rattle.kfifo_machine.specs.declared.event.Begin.TheVariants as B
 use Rattle.kfifo_live.specs.Promise.{KeepsPromise}
-use Rattle.kfifo_live.specs.Stamps.{Logged, MakesStamped, TakesFewStampedSteps, logged_by}
-use Rattle.kfifo_live.proofs.Logs.{StampedRun, calls_same, few_steps_more, log_grows, makes_stamped, room_left}
+use Rattle.kfifo_live.specs.Stamps.{Logged, MakesStamped, logged_by}
+use Rattle.kfifo_live.proofs.Logs.{StampedRun, calls_same, log_grows, makes_stamped, room_left}
 use Rattle.kfifo_live.proofs.stamps.StampPass.dequeue.Goals as goal
 
 pub returns-then-is_full-clause-promise : goal.returns-then-is_full-clause-promise
@@ -15,7 +15,7 @@ draw_stamp-last-requires-clause-room c =
     (c.is_full.ensures.room c.if-is_full.false) in
     room_left c.self.inside.pass c.draw_stamp-first.new.self c.dequeue-answer.new.self c.dequeue-answer.new.self
     (B.Dequeue c.args.start c.args.turns) c.dequeue-answer.result c.draw_stamp-first.result 0 c.self.inside.log.items
-    c.self.invariant.0 room refl c.draw_stamp-first.ensures.draws c.dequeue-answer.ensures.same c.dequeue-answer.ensures.run
+    c.self.invariant.0 room refl c.draw_stamp-first.ensures.draws c.dequeue-answer.ensures.same c.dequeue-answer.ensures.call.run
 
 stamped : (c : goal.After-push_reserved)
     → StampedRun c.self.inside.pass c.draw_stamp-first.new.self c.dequeue-answer.new.self c.draw_stamp-last.new.self
@@ -28,7 +28,7 @@ stamped c = record {
   few = c.draw_stamp-first.ensures.small.0;
   draws_first = c.draw_stamp-first.ensures.draws;
   same = c.dequeue-answer.ensures.same;
-  makes = c.dequeue-answer.ensures.run;
+  call = c.dequeue-answer.ensures.call;
   draws_last = c.draw_stamp-last.ensures.draws;
 }
 
@@ -39,15 +39,9 @@ invariant_of-self c =
 
 pub returns-clause-some : goal.returns-clause-some
 returns-clause-some c =
-    let made = makes_stamped (stamped c) c.thread.result c.push_reserved.new.self.items c.thread.ensures c.push_reserved.ensures.items
-    c.dequeue-answer.ensures.cause c.dequeue-answer.ensures.disturbed c.dequeue-answer.ensures.leaves_none in
+    let made = makes_stamped (stamped c) c.thread.result c.push_reserved.new.self.items c.thread.ensures c.push_reserved.ensures.items in
     subst (λ (x : Logged). MakesStamped (B.Dequeue c.args.start c.args.turns) c.dequeue-answer.result x
     (logged_by c.draw_stamp-last.new.self c.push_reserved.new.self.items)) c.self.view_is made
-
-pub returns-clause-few_steps : goal.returns-clause-few_steps
-returns-clause-few_steps c =
-    subst (λ (x : Logged). TakesFewStampedSteps (B.Dequeue c.args.start c.args.turns) x.pass c.draw_stamp-last.new.self) c.self.view_is
-    (few_steps_more (stamped c) c.dequeue-answer.ensures.few_steps)
 
 pub returns-clause-promise : goal.returns-clause-promise
 returns-clause-promise c = c.draw_stamp-last.ensures.promise

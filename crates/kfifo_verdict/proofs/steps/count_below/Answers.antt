@@ -1,9 +1,9 @@
 use Rattle.std.proofs.Common.{sym, rules}
 use Rattle.std.proofs.lemmas.List.Sorted.{IsPartitionPoint-from_clause, IsPartitionedBy-ltb}
-use Rattle.kfifo_verdict.specs.Soon.{is_below}
+use Rattle.kfifo_verdict.specs.Steps.{is_below}
 use Rattle.kfifo_verdict.proofs.Counting.{count_at}
 use Rattle.kfifo_verdict.proofs.Stepping.{items_rise}
-use Rattle.kfifo_verdict.proofs.soon.count_below.Goals as goal
+use Rattle.kfifo_verdict.proofs.steps.count_below.Goals as goal
 
 pub returns : goal.returns
 returns c =
