@@ -5,5 +5,6 @@ mod commands;
 mod entry;
 mod mistakes;
 mod options;
+mod topics;
 
 pub use entry::{program, program_showing};

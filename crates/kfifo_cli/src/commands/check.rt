@@ -20,7 +20,7 @@ Examples:
   kfifo check < record.json                     look for a legal order
   kfifo check -k 1 --order 0,2,1 < record.json  judge this order for a plain queue";
 
-pub(super) const DETAILS: &str = "\
+pub(crate) const DETAILS: &str = "\
 The record is a JSON array on standard input, with an object for each call, by rising first step:
   {\"thread\":0,\"op\":\"enq\",\"item\":7,\"first\":0,\"last\":8,\"answer\":\"done\"}
   {\"thread\":1,\"op\":\"deq\",\"first\":9,\"last\":13,\"answer\":\"got\",\"item\":7}

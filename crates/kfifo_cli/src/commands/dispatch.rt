@@ -29,7 +29,7 @@ Examples:
   kfifo dispatch --workers 8 -k 4 --segments 16 1:65535:0 2:65535:0 3:65535:0
                                         three long tasks, worked off by eight threads";
 
-pub(super) const DETAILS: &str = "\
+pub(crate) const DETAILS: &str = "\
 Each TASK is <ID>:<LEFT>:<SUM>, three numbers of 1 to 10 decimal digits and no sign:
   ID    its number, 0 to 4294967295, which no other task has
   LEFT  how many units of work are left of it, 0 to 65535

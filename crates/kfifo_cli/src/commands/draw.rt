@@ -31,7 +31,7 @@ Examples:
   kfifo draw --text --calls 100-140 < record.json  a part, for the terminal
   kfifo draw --order 0,2,1 < record.json           with an order, for a plain queue";
 
-pub(super) const DETAILS: &str = "\
+pub(crate) const DETAILS: &str = "\
 The input is a record, as `kfifo check --help` says, or a log, as `kfifo import --help` says: a record
 where its first byte that is no white space is `[`. It has at most 16777216 bytes, and at most 4096
 calls are drawn.

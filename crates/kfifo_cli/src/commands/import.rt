@@ -13,7 +13,7 @@ Examples:
   kfifo import < log.csv > record.json
   kfifo import < log.csv | kfifo judge -k 4";
 
-pub(super) const DETAILS: &str = "\
+pub(crate) const DETAILS: &str = "\
 The log is CSV on standard input, of at most 16777216 bytes. Its first line names the fields, in any
 order, and each line behind it is one call, in any order of lines:
   thread,op,item,first,last,answer

@@ -19,7 +19,7 @@ Examples:
   kfifo judge < log.csv                  is this the log of a plain queue, and why not?
   kfifo judge -k 4 --show < record.json  print an order, too";
 
-pub(super) const DETAILS: &str = "\
+pub(crate) const DETAILS: &str = "\
 Standard input has a record, as `kfifo check --help` says, or a log in CSV, as `kfifo import --help`
 says: a record begins with `[`. It has at most 16777216 bytes and 65536 calls. `check` decides records
 of at most 12 calls; this command takes any, and gives a reason.

@@ -16,7 +16,7 @@ const EXAMPLES: &str = "\
 Example:
   kfifo least < log.csv";
 
-pub(super) const DETAILS: &str = "\
+pub(crate) const DETAILS: &str = "\
 Standard input has a record, as `kfifo check --help` says, or a log in CSV, as `kfifo import --help`
 says: a record begins with `[`. It has at most 16777216 bytes and 65536 calls. k says how far a queue
 may stray from first in, first out: a dequeue takes one of the k oldest items. With k = 1 it is a plain

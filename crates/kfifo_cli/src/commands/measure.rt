@@ -12,7 +12,7 @@ const EXAMPLES: &str = "\
 Example:
   kfifo measure < record.json";
 
-pub(super) const DETAILS: &str = "\
+pub(crate) const DETAILS: &str = "\
 The record is one as `kfifo check --help` says, on standard input: at most 16777216 bytes and 65536
 calls, in which no two enqueues that are done or unfinished carry one item, and no two dequeues got
 one.

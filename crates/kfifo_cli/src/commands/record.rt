@@ -26,7 +26,7 @@ Examples:
   kfifo record -k 4 --repeat 100 e1,d e2,d e3,d | kfifo measure
                                        how often items were certainly overtaken, at most 3 times";
 
-pub(super) const DETAILS: &str = "\
+pub(crate) const DETAILS: &str = "\
 Each SCRIPT is what one thread calls, in turn: words joined by commas. The first script is that of thread 0.
   e<ITEM>          put ITEM, 1 to 16777215, into the queue
   e<ITEM>:<START>  the same, looking at the slots of a segment from START on, 0 to k - 1

@@ -32,7 +32,7 @@ Examples:
                            the first thread stops within its call, the other goes on to its end
   kfifo replay --picks 0x57 --record e1,e2,e3,e4,d:1,d:1,d:1,d:1 | kfifo check --order 0,1,2,3,4,5,6,7";
 
-pub(super) const DETAILS: &str = "\
+pub(crate) const DETAILS: &str = "\
 Each SCRIPT is what one thread calls, in turn: words joined by commas. The first script is that of thread 0.
   e<ITEM>          put ITEM, 1 to 16777215, into the queue
   e<ITEM>:<START>  the same, looking at the slots of a segment from START on, 0 to k - 1
@@ -116,7 +116,7 @@ pub fn command<'a>(alloc: Global) -> Result<Command<'a>, AllocError>
         "Print the step at which each call takes its place in the order, too",
     );
     let trace = options::flag(alloc, TRACE).help(
-        "Print what each step does, too: the word that it reads or exchanges, and what comes of it",
+        "Print what each step does, too: the word that it reads or exchanges, and its result",
     );
     let record = options::flag(alloc, RECORD).help(
         "Print the record of the calls, for `check` and `measure`, in place of all that",

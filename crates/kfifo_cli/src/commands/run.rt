@@ -21,7 +21,7 @@ Examples:
                                        a plain queue of two slots: 9 finds it full
   kfifo run -k 4 e1:2 e2:2 d:2         look from slot 2 on";
 
-pub(super) const DETAILS: &str = "\
+pub(crate) const DETAILS: &str = "\
 Each WORD is a call:
   e<ITEM>          put ITEM, 1 to 16777215, into the queue
   e<ITEM>:<START>  the same, looking at the slots of a segment from START on, 0 to k - 1

@@ -1,0 +1,216 @@
+//! The answers of `judge` and `least`.
+
+use crate::topics::{JUDGE, LEAST};
+use kfifo_cli_texts::Topic;
+
+/// If two begin alike, the longer one comes first.
+const TOPICS: &[Topic] = &[
+    Topic {
+        words: "no order for",
+        help: JUDGE,
+        line: "  no order for k = <K>",
+        advice: "\
+To do: read the line below it: it names the calls because of which no order is legal.
+",
+    },
+    Topic {
+        words: "legal for",
+        help: JUDGE,
+        line: "  legal for k = <K>",
+        advice: "\
+To do: nothing: the calls may be those of a queue that gives any of its k oldest items. `--show` prints the order.
+",
+    },
+    Topic {
+        words: "undecided",
+        help: JUDGE,
+        line: "  undecided for k = <K>",
+        advice: "\
+To do: read the line below it: it says why the search stopped.
+",
+    },
+    Topic {
+        words: "the tries ran",
+        help: JUDGE,
+        line: "  the tries ran out",
+        advice: "\
+Allowed: --tries from 0 to 4294967295, by default 1000000.
+To do: give more --tries, or judge a shorter run.
+",
+    },
+    Topic {
+        words: "nothing is left",
+        help: JUDGE,
+        line: "  nothing is left to try",
+        advice: "\
+To do: give each item a number of its own, let each call end, and judge a shorter run.
+",
+    },
+    Topic {
+        words: "items repeat",
+        help: JUDGE,
+        line: "  ; items repeat",
+        advice: "\
+To do: give each item a number of its own: then k = 1 is always decided if each call ends.
+",
+    },
+    Topic {
+        words: "; items repeat",
+        help: JUDGE,
+        line: "  ; items repeat",
+        advice: "\
+To do: give each item a number of its own: then k = 1 is always decided if each call ends.
+",
+    },
+    Topic {
+        words: "no order",
+        help: LEAST,
+        line: "  no order ",
+        advice: "\
+To do: of `check`, use `kfifo judge`, which says why; of `least`, read the line below it.
+",
+    },
+    Topic {
+        words: "call # got item #, which no",
+        help: JUDGE,
+        line: "  call <N> got item <X>, which no",
+        advice: "\
+To do: look for a dequeue that returns what was not put, or too soon; or for a call that is missing in the log.
+",
+    },
+    Topic {
+        words: "call # got item #, which was",
+        help: JUDGE,
+        line: "  call <N> got item <X>, which was",
+        advice: "\
+To do: look for a dequeue that takes an item which another one takes, too; or for a put that is missing in the log.
+",
+    },
+    Topic {
+        words: "call # found nothing, while some",
+        help: JUDGE,
+        line: "  call <N> found nothing, while some",
+        advice: "\
+To do: look for a dequeue that says empty too early; give each item a number of its own to see which items were there.
+",
+    },
+    Topic {
+        words: "call # found nothing,",
+        help: JUDGE,
+        line: "  call <N> found nothing, while there",
+        advice: "\
+To do: see behind each put whether its item was got later: then the queue said empty too early; or never: then it was
+lost, or was left inside at the end of the log. Drain the queue until it answers empty before the log ends.
+",
+    },
+    Topic {
+        words: "call # got item #, while",
+        help: JUDGE,
+        line: "  call <N> got item <X>, while",
+        advice: "\
+To do: see below for which k there may be an order: for those the queue is a k-relaxed one.
+",
+    },
+    Topic {
+        words: "call # got item #, when",
+        help: JUDGE,
+        line: "  call <N> got item <X>, when",
+        advice: "\
+To do: look for a dequeue that takes an item which another one takes, too; give each item a number of its own to see
+which one.
+",
+    },
+    Topic {
+        words: "call # got item #, though",
+        help: JUDGE,
+        line: "  call <N> got item <X>, though",
+        advice: "\
+To do: see below for which k there may be an order; give each item a number of its own to see which calls got the others.
+",
+    },
+    Topic {
+        words: "call #: thread",
+        help: JUDGE,
+        line: "  call <N>: thread",
+        advice: "\
+To do: compare its stamps with those of the other calls that are named.
+",
+    },
+    Topic {
+        words: "call #, line #:",
+        help: JUDGE,
+        line: "  call <N>, line <L>: thread",
+        advice: "\
+To do: see this line of the log, counted from 1.
+",
+    },
+    Topic {
+        words: ", got by call",
+        help: JUDGE,
+        line: "  , got by call",
+        advice: "\
+To do: see call M: it got the item after the call that found nothing, or after one that got a younger item.
+",
+    },
+    Topic {
+        words: "got by call",
+        help: JUDGE,
+        line: "  , got by call",
+        advice: "\
+To do: see call M: it got the item after the call that found nothing, or after one that got a younger item.
+",
+    },
+    Topic {
+        words: ", never got",
+        help: JUDGE,
+        line: "  , never got",
+        advice: "\
+To do: drain the queue until it answers empty before the log ends: what is never got then is lost.
+",
+    },
+    Topic {
+        words: "never got",
+        help: JUDGE,
+        line: "  , never got",
+        advice: "\
+To do: drain the queue until it answers empty before the log ends: what is never got then is lost.
+",
+    },
+    Topic {
+        words: "k at least",
+        help: LEAST,
+        line: "  k at least",
+        advice: "\
+To do: nothing: it is a bound that is proved.
+",
+    },
+    Topic {
+        words: "k at most",
+        help: LEAST,
+        line: "  k at most",
+        advice: "\
+To do: nothing: an order is legal for this k. A greater --tries may find one for a lesser k.
+",
+    },
+    Topic {
+        words: "k unknown",
+        help: LEAST,
+        line: "  k unknown",
+        advice: "\
+To do: give a greater --tries, if the bound is at most 64.
+",
+    },
+    Topic {
+        words: "worst rank",
+        help: JUDGE,
+        line: "  worst rank",
+        advice: "\
+To do: nothing: it is at most k - 1, and 0 in a plain queue.
+",
+    },
+];
+
+/// The answers of `judge` and `least`.
+pub(crate) fn topics() -> &'static [Topic] {
+    TOPICS
+}
