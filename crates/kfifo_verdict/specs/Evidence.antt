@@ -1,6 +1,7 @@
 -- Evidence that a history has no legal order: a few of its calls that make each order fail. The kinds 1 to 4 are
 -- those by which Henzinger, Sezgin and Vafeiadis part the ways in which a queue can fail ("Aspect-oriented
--- linearizability proofs", CONCUR 2013), with k older items in place of one. The kinds 5 to 7 are for items that repeat.
+-- linearizability proofs", CONCUR 2013), with k older items in place of one. The kinds 5 to 7 are for items that
+-- repeat.
 use Rattle.std.specs.Prelude.{ℕ, zero, suc, ◌≡◌, ◌+◌, ◌<◌, ◌≤◌, ◌&&◌, leb, Bool, cond, List, Option, Some, None, length}
 use Rattle.kfifo_model.specs.declared.calls.Call.{Call}
 use Rattle.kfifo_model.specs.declared.calls.End.{End}
@@ -128,8 +129,8 @@ pub record HasItemsLeft (h : List Call) (c : ℕ) : Type 0 where
 abbrev pub gets_before : List Call → ℕ → ℕ → ℕ
 gets_before h x d = count_below (λ c. takes x (does h c) && ends_below (call h c).end (call h d).first) (length h)
 
--- What p puts is certainly older than what `put` puts, and left at the call `get`: p precedes `put`, and no more gets of
--- the item have begun by the end of `get` than puts of it ended before p did.
+-- What p puts is certainly older than what `put` puts, and left at the call `get`: p precedes `put`, and no more gets
+-- of the item have begun by the end of `get` than puts of it ended before p did.
 pub record IsOlderCopy (h : List Call) (get put p : ℕ) : Type 0 where
   pub item : ℕ
   pub puts : Puts h item p

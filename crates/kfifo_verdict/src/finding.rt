@@ -455,8 +455,8 @@ pub fn evidence(alloc: Global, history: &History, k: u32) -> Result<Option<Evide
     evidence_among(alloc, history.calls(), k as usize)
 }
 
-/// Returns the evidence that a history has a legal order for no k: as `evidence`, but for the numbers 4 and 7, which are
-/// about one k.
+/// Returns the evidence that a history has a legal order for no k: as `evidence`, but for the numbers 4 and 7, which
+/// are about one k.
 pub fn evidence_for_each_k(alloc: Global, history: &History) -> Result<Option<Evidence>, AllocError>
     ensures first { IfOk result (λ found.
         MatchOption found (HasNoneForEachK history.now) (IsFirstForEachK history.now)) }

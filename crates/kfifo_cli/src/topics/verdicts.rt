@@ -125,7 +125,7 @@ which one.
         help: JUDGE,
         line: "  call <N> got item <X>, though",
         advice: "\
-To do: see below for which k there may be an order; give each item a number of its own to see which calls got the others.
+To do: see below for which k there may be an order; give each item its own number to see which calls got the others.
 ",
     },
     Topic {
