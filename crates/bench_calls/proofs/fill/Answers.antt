@@ -11,11 +11,11 @@ loop-item-preserved c =
     let now = c.enqueue.ensures.same in
     let more : calls c.args.pass.now.thread c.enqueue.new.self.seen ≡ calls c.args.pass.now.thread c.loop-item.pass.seen + 1 =
     subst (λ t. calls t c.enqueue.new.self.seen ≡ calls t c.loop-item.pass.seen + 1) same.2
-    (one_more _ _ _ _ _ _ _ c.enqueue.ensures.run) in
+    (one_more _ _ _ _ _ _ _ c.enqueue.ensures.call.run) in
     let one : items_put c.args.pass.now.thread c.enqueue.new.self.seen
     ≡ items_put c.args.pass.now.thread c.loop-item.pass.seen ++ c.loop-item.item ∷ [] =
     subst (λ t. items_put t c.enqueue.new.self.seen ≡ items_put t c.loop-item.pass.seen ++ c.loop-item.item ∷ []) same.2
-    (item_more _ _ _ _ _ _ _ _ _ c.enqueue.ensures.run) in
+    (item_more _ _ _ _ _ _ _ _ _ c.enqueue.ensures.call.run) in
     record {
       same = (now.0 ∙ same.0, now.1 ∙ same.1, now.2 ∙ same.2);
       made = omega (arith, more, c.loop-item.invariant.made);

@@ -11,7 +11,7 @@ loop-call-preserved c =
     let now = c.dequeue.ensures.same in
     let more : calls c.args.pass.now.thread c.dequeue.new.self.seen ≡ calls c.args.pass.now.thread c.loop-call.pass.seen + 1 =
     subst (λ t. calls t c.dequeue.new.self.seen ≡ calls t c.loop-call.pass.seen + 1) same.2
-    (one_more _ _ _ _ _ _ _ c.dequeue.ensures.run) in
+    (one_more _ _ _ _ _ _ _ c.dequeue.ensures.call.run) in
     record {
       same = (now.0 ∙ same.0, now.1 ∙ same.1, now.2 ∙ same.2);
       made = omega (arith, more, c.loop-call.invariant.made);
