@@ -1,4 +1,1 @@
-pub mod Numbers
-pub mod Parsing
 pub mod Printed
-pub mod Rules

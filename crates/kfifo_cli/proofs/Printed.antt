@@ -1,7 +1,7 @@
 -- How the program ends, by how its parts end.
 use Rattle.std.proofs.Common.{◌≡◌, ◌∙◌, ℕ, List, Option, ap, inl, inr, sym}
 use Rattle.clap.specs.Words.{Text}
-use Rattle.kfifo_cli.specs.Requests.{IsMisuse}
+use Rattle.kfifo_cli.specs.Outcomes.{IsMisuse}
 use Rattle.kfifo_cli_texts.specs.declared.fault.Fault.{Fault}
 use Rattle.kfifo_cli_texts.specs.declared.printing.Printer.{Printer}
 use Rattle.kfifo_cli_texts.specs.Faults.{fault_line}

@@ -1,21 +1,17 @@
 //! The whole program over any reader and writers.
-ghost use Rattle.std.specs.Prelude.{◌≡◌, ◌≢◌, ℕ, List, None, IfOk, IfSome, map, string_bytes};
-ghost use Rattle.clap.specs.Kinds.{FailsBy};
-ghost use Rattle.clap.specs.Words.{kind_of, subcommand_rows_of};
-ghost use Rattle.kfifo_cli.specs.CommandLine.{IsCommand, NamesNone, kfifo, kinds, named};
-ghost use Rattle.kfifo_cli.specs.Requests.{IsFault, IsMisuse, IsPrinted, Requests, Shows};
+ghost use Rattle.std.specs.Prelude.{◌≡◌, ◌≢◌, ℕ, List, map, string_bytes};
+ghost use Rattle.clap.specs.Words.{kind_of};
+ghost use Rattle.kfifo_cli.specs.Outcomes.{IsFault, IsMisuse, IsPrinted};
+ghost use Rattle.kfifo_cli_arguments.specs.Requests.{Shows};
 ghost use Rattle.kfifo_cli_commands.specs.Endings.{Ends};
 ghost use Rattle.kfifo_cli_texts.specs.Printing.{OnPrinter, OnWriter, Tells};
 ghost use Rattle.kfifo_cli_commands.specs.Statuses.{status_number};
 
-use crate::commands::{
-    check, dispatch, draw, explain, import, judge, least, measure, record, replay, run,
-};
-use crate::mistakes::mistake;
+use clap::Error;
 use clap::error::ErrorKind;
-use clap::{ArgMatches, Command, Error};
+use kfifo_cli_arguments::{mistake, parse, request_of};
 use kfifo_cli_commands::{
-    Notice, Progress, Request, Silent, Status, carry_out, end_with_fault, end_with_text,
+    Notice, Progress, Silent, Status, carry_out, end_with_fault, end_with_text,
 };
 use kfifo_cli_texts::{Fault, Printer};
 use kfifo_judge::{FromStd, Source};
@@ -23,37 +19,6 @@ use std::alloc::{AllocError, Global};
 use std::io::{Read, Write};
 use std::rt::Files;
 use std::thread::Threads;
-
-/// The version of the program.
-const VERSION: &str = "0.1.0";
-
-const EXAMPLES: &str = "\
-Examples:
-  kfifo run e7 e8 d   puts 7 and 8 into a queue, takes one, and prints the words of the queue
-  kfifo check < record.json
-                      says whether a recorded run of a queue has a legal order
-  kfifo judge < log.csv
-                      says of a log of your own queue whether it is that of a plain queue, and why not
-  kfifo import < log.csv > record.json
-                      makes a record of such a log
-  kfifo draw < record.json > run.svg
-                      draws a record, a lane for each thread
-  kfifo replay --picks 0x6,1x7,0x2 --turns 1 e5 e6:1
-                      runs two threads step by step in this order
-  kfifo record e1,e2,d e3,d,d | kfifo check
-                      runs two real threads, and says whether the record has a legal order
-  kfifo dispatch --workers 4 1:1000:0 2:2000:0
-                      works off two tasks by four real threads
-  kfifo run --help    says how a script is written, and what its options and faults are
-  kfifo explain record fault 3
-                      says what this fault means, what is allowed, and what to do
-
-Exit status: 0 for an answer; 1 for a fault of the data, a size, the memory, reading or writing; 2 for
-a fault of the command line; 3 where a record has no order, or its order is not legal; 4 where `judge`
-cannot say.
-
-The documents, where this program comes from: README.md begins; docs/PROGRAM.md is about the commands,
-docs/JUDGE.md about records and orders, docs/QUEUE.md about the queue.";
 
 /// Does all that the program does with `words`, the arguments after the program's name, and returns the exit status. It
 /// is 0 for an answer; 1 for a fault of the data, a size, the memory, reading or writing; 2 for a fault of the command
@@ -160,80 +125,4 @@ fn end_with_error<W: Write, F: Write>(
             Err(AllocError) => end_with_fault(Fault::Memory, faults),
         },
     }
-}
-
-/// What the command that was named is asked to do.
-fn request_of<'a>(matches: &'a ArgMatches<'_>) -> Option<Request<'a>>
-    ensures some { IfSome result (Requests (subcommand_rows_of matches.now)) }
-    ensures none { result ≡ None → NamesNone (subcommand_rows_of matches.now) }
-{
-    if let Some(options) = matches.subcommand_matches(run::NAME) {
-        return Some(Request::Run(run::options_of(options)));
-    }
-    if let Some(options) = matches.subcommand_matches(check::NAME) {
-        return Some(Request::Check(check::options_of(options)));
-    }
-    if let Some(_) = matches.subcommand_matches(measure::NAME) {
-        return Some(Request::Measure);
-    }
-    if let Some(options) = matches.subcommand_matches(replay::NAME) {
-        return Some(Request::Replay(replay::options_of(options)));
-    }
-    if let Some(options) = matches.subcommand_matches(judge::NAME) {
-        return Some(Request::Judge(judge::options_of(options)));
-    }
-    if let Some(options) = matches.subcommand_matches(least::NAME) {
-        return Some(Request::Least(least::options_of(options)));
-    }
-    if let Some(options) = matches.subcommand_matches(record::NAME) {
-        return Some(Request::Record(record::options_of(options)));
-    }
-    if let Some(_) = matches.subcommand_matches(import::NAME) {
-        return Some(Request::Import);
-    }
-    if let Some(options) = matches.subcommand_matches(draw::NAME) {
-        return Some(Request::Draw(draw::options_of(options)));
-    }
-    if let Some(options) = matches.subcommand_matches(dispatch::NAME) {
-        return Some(Request::Dispatch(dispatch::options_of(options)));
-    }
-    if let Some(options) = matches.subcommand_matches(explain::NAME) {
-        return Some(Request::Explain(explain::options_of(options)));
-    }
-    None
-}
-
-/// What the command line names.
-fn parse<'a>(alloc: Global, words: &'a [String]) -> Result<ArgMatches<'a>, Error>
-    ensures named { IfOk result (λ m. subcommand_rows_of m ≡ named (map (λ w. string_bytes w) words.entry.now)) }
-    ensures kinds { FailsBy (kinds (map (λ w. string_bytes w) words.entry.now)) result }
-{
-    command(alloc)?.try_get_matches_from(words)
-}
-
-/// How the command line is written, and its help.
-fn command<'a>(alloc: Global) -> Result<Command<'a>, AllocError>
-    ensures { IfOk result (IsCommand kfifo) }
-{
-    Command::new(alloc, "kfifo")
-        .bin_name("kfifo")?
-        .no_binary_name(true)
-        .version(VERSION)
-        .about(
-            "A bounded-size lock-free k-FIFO queue: a dequeue may take any of the k oldest items",
-        )
-        .after_help(EXAMPLES)
-        .subcommand_required(true)
-        .arg_required_else_help(true)
-        .subcommand(run::command(alloc)?)?
-        .subcommand(check::command(alloc)?)?
-        .subcommand(measure::command(alloc)?)?
-        .subcommand(replay::command(alloc)?)?
-        .subcommand(judge::command(alloc)?)?
-        .subcommand(least::command(alloc)?)?
-        .subcommand(record::command(alloc)?)?
-        .subcommand(import::command(alloc)?)?
-        .subcommand(draw::command(alloc)?)?
-        .subcommand(dispatch::command(alloc)?)?
-        .subcommand(explain::command(alloc)?)
 }

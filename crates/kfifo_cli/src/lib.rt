@@ -1,10 +1,6 @@
-//! The command line of `kfifo`: how it is written, its help, and all that the program does with it.
+//! All that the program `kfifo` does with its command line, its input and its outputs.
 #![tactic(auto)]
 
-mod commands;
 mod entry;
-mod mistakes;
-mod options;
-mod topics;
 
 pub use entry::{program, program_showing};

@@ -1,22 +1,13 @@
 -- What the command `run` comes to.
-use Rattle.std.specs.Prelude.{◌≡◌, ℕ, ◌+◌, List, Some, unwrap_or}
+use Rattle.std.specs.Prelude.{◌≡◌, ℕ, ◌+◌, List}
 use Rattle.kfifo_words.specs.declared.shape.Shape.{Shape}
-use Rattle.kfifo_words.specs.declared.fault.ShapeFault.{ShapeFault}
-use Rattle.kfifo_words.specs.Sizes.{fault_of}
 use Rattle.kfifo_machine.specs.declared.event.Begin.{Begin}
 use Rattle.kfifo_cli_texts.specs.declared.fault.Fault.{Fault}
 use Rattle.kfifo_cli_texts.specs.declared.fault.Fault.TheVariants.{Shape as AtShape, Word, Memory}
-use Rattle.kfifo_cli_commands.specs.declared.options.RunOptions.{RunOptions}
-use Rattle.kfifo_cli_commands.specs.declared.sizes.Sizes.{Sizes}
+use Rattle.kfifo_cli_texts.specs.declared.requests.RunOptions.{RunOptions}
+use Rattle.kfifo_cli_texts.specs.Sizes.{IsShapeFault, IsShapeOf}
 use Rattle.kfifo_cli_commands.specs.Reports.{IsReport}
 use Rattle.kfifo_cli_texts.specs.Words.{IsFirstUnread, WritesCalls}
-
--- the shape has these sizes, and k probes where none are given
-pub record IsShapeOf (sizes : Sizes) (shape : Shape) : Type 0 where
-  pub k_is : shape.k ≡ sizes.k
-  pub n_is : shape.n ≡ sizes.segments
-  pub last_is : shape.last ≡ sizes.last
-  pub probes_is : shape.probes ≡ unwrap_or sizes.probes sizes.k
 
 -- the answer: the report of the calls that the words write
 pub record IsRunAnswer (options : RunOptions) (text : List ℕ) : Type 0 where
@@ -25,10 +16,6 @@ pub record IsRunAnswer (options : RunOptions) (text : List ℕ) : Type 0 where
   pub calls : List Begin
   pub written : WritesCalls shape.k options.turns options.words.now calls
   pub report : IsReport shape calls text
-
--- the sizes make no shape, and this is their first fault
-abbrev pub IsShapeFault : Sizes → ShapeFault → Type 0
-IsShapeFault sizes fault = fault_of sizes.k sizes.segments sizes.last (unwrap_or sizes.probes sizes.k) ≡ Some fault
 
 -- the sizes make a shape, and the word with this number is the first that writes no call
 pub record IsWordFault (options : RunOptions) (number : ℕ) : Type 0 where

@@ -9,10 +9,9 @@ ghost use Rattle.kfifo_cli_commands.specs.Statuses.{status_number};
 use crate::commands::{
     check, dispatch, draw, explain, import, judge, least, measure, record, replay, run,
 };
-use crate::options::Request;
 use crate::progress::Progress;
 use crate::status::Status;
-use kfifo_cli_texts::{Fault, Printer};
+use kfifo_cli_texts::{Fault, Printer, Request};
 use kfifo_judge::Source;
 use std::alloc::Global;
 use std::fmt::Display;

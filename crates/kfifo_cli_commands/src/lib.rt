@@ -1,24 +1,17 @@
 //! What the program `kfifo` does: its commands over plain options, their answers and statuses. No command line is read
-//! here; `kfifo_cli_texts` has how words, lines and faults are written.
+//! here; `kfifo_cli_texts` has the options, and how words, lines and faults are written.
 #![tactic(auto)]
 
 mod commands;
 mod cut;
 mod ending;
 mod input;
-mod options;
 mod progress;
-mod sizes;
 mod start;
 mod status;
 mod tracing;
 
 pub use ending::{Notice, carry_out, end_with_fault, end_with_text};
-pub use options::{
-    CheckOptions, DispatchOptions, DrawOptions, ExplainOptions, JudgeOptions, LeastOptions,
-    RecordOptions, ReplayOptions, Request, RunOptions,
-};
 pub use progress::{Progress, Silent};
-pub use sizes::Sizes;
 pub use start::{Prompting, Showing, Started, start as start_program};
 pub use status::Status;

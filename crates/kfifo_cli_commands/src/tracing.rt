@@ -9,9 +9,8 @@ ghost use Rattle.kfifo_cli_texts.specs.Picks.{count_of, picks_of};
 ghost use Rattle.kfifo_cli_commands.specs.Replays.{IsLong, IsRefusal, IsTracedText, Makes};
 
 use crate::commands::replay::{behind, count_picks, report_of};
-use crate::options::ReplayOptions;
 use crate::progress::{Meter, Progress};
-use kfifo_cli_texts::{Fault, Group, push_trace};
+use kfifo_cli_texts::{Fault, Group, ReplayOptions, push_trace};
 use kfifo_machine::Begin;
 use kfifo_replay::{MAX_STEPS, ReplayFault, Tracer};
 use kfifo_words::Shape;

@@ -1,5 +1,6 @@
-//! How the program `kfifo` reads its words and writes its lines: numbers, calls, orders, picks and tasks, the records
-//! of histories, the lines of calls, of traces and of faults, and the printer that all of it goes to.
+//! What a command of the program `kfifo` is asked to do, and how the program reads its words and writes its lines:
+//! numbers, calls, orders, picks and tasks, the records of histories, the lines of calls, of traces and of faults, and
+//! the printer that all of it goes to.
 #![tactic(auto)]
 
 mod fault;
@@ -7,6 +8,8 @@ mod picks;
 mod printing;
 mod recording;
 mod report;
+mod requests;
+mod sizes;
 mod stretch;
 mod tasks;
 mod topics;
@@ -18,6 +21,11 @@ pub use picks::{Group, MAX_PICKS, read_picks};
 pub use printing::Printer;
 pub use recording::{record_line, record_text};
 pub use report::{push_dequeue, push_ends, push_enqueue, push_slot};
+pub use requests::{
+    CheckOptions, DispatchOptions, DrawOptions, ExplainOptions, JudgeOptions, LeastOptions,
+    RecordOptions, ReplayOptions, Request, RunOptions,
+};
+pub use sizes::Sizes;
 pub use stretch::{Stretch, read_stretch};
 pub use tasks::{finished_lines, read_tasks};
 pub use topics::{Topic, explanation};

@@ -1,7 +1,7 @@
 //! What a replay tells of how far it has come.
 
-use kfifo_cli_commands::{Progress, ReplayOptions, Request, Sizes, Status, carry_out};
-use kfifo_cli_texts::Printer;
+use kfifo_cli_commands::{Progress, Status, carry_out};
+use kfifo_cli_texts::{Printer, ReplayOptions, Request, Sizes};
 use kfifo_judge::FromStd;
 use kfifo_words::MAX_VERSION;
 use std::alloc::{AllocError, Global};

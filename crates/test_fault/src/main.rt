@@ -2,8 +2,8 @@
 //! written to standard output, and that the exit status is the one that was returned.
 #![tactic(auto)]
 
-use kfifo_cli_commands::{Request, RunOptions, Sizes, Started, carry_out, start_program};
-use kfifo_cli_texts::Printer;
+use kfifo_cli_commands::{Started, carry_out, start_program};
+use kfifo_cli_texts::{Printer, Request, RunOptions, Sizes};
 use kfifo_judge::FromStd;
 use std::process::ExitCode;
 

@@ -6,9 +6,8 @@ ghost use Rattle.kfifo_cli_texts.specs.Faults.{stream_fault};
 ghost use Rattle.kfifo_cli_commands.specs.Records.{IsCheck, IsCheckRefusal, IsInput, IsStreamFault, ReadsWell};
 ghost use Rattle.kfifo_cli_commands.specs.Statuses.{status_number};
 
-use crate::options::CheckOptions;
 use crate::status::Status;
-use kfifo_cli_texts::{Fault, order_of};
+use kfifo_cli_texts::{CheckOptions, Fault, order_of};
 use kfifo_judge::{FromStd, Source, check_stream};
 use std::alloc::Global;
 use std::rt::Files;

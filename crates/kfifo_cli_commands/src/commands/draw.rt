@@ -7,9 +7,8 @@ ghost use Rattle.kfifo_draw.specs.Drawing.{AreFew, AreMany, IsInPart};
 
 use crate::cut::{Cut, cut_of, is_of_lines, part_of};
 use crate::input::{read_calls, read_input};
-use crate::options::DrawOptions;
 use crate::progress::Progress;
-use kfifo_cli_texts::{Fault, order_of};
+use kfifo_cli_texts::{DrawOptions, Fault, order_of};
 use kfifo_draw::{DrawFault, Drawing, Marking, Part, Style, draw};
 use kfifo_import::LoggedCall;
 use kfifo_judge::{Source, push_reason};

@@ -6,10 +6,9 @@ ghost use Rattle.kfifo_cli_commands.specs.Statuses.{status_number};
 ghost use Rattle.kfifo_cli_commands.specs.Verdicts.{IsJudge, IsJudged, IsVerdictRefusal};
 
 use crate::input::{read_calls, read_input};
-use crate::options::JudgeOptions;
 use crate::progress::Progress;
 use crate::status::{Status, status_of};
-use kfifo_cli_texts::Fault;
+use kfifo_cli_texts::{Fault, JudgeOptions};
 use kfifo_judge::{Source, judge_text};
 use std::alloc::Global;
 

@@ -6,10 +6,9 @@ ghost use Rattle.kfifo_cli_commands.specs.Statuses.{status_number};
 ghost use Rattle.kfifo_cli_commands.specs.Verdicts.{IsLeast, IsBounded, IsVerdictRefusal};
 
 use crate::input::{read_calls, read_input};
-use crate::options::LeastOptions;
 use crate::progress::Progress;
 use crate::status::{Status, status_of};
-use kfifo_cli_texts::Fault;
+use kfifo_cli_texts::{Fault, LeastOptions};
 use kfifo_judge::{Source, least_text};
 use std::alloc::Global;
 

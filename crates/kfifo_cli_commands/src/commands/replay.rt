@@ -11,10 +11,9 @@ ghost use Rattle.kfifo_cli_commands.specs.Replays.{IsPlainText, IsPointsLine, Is
 ghost use Rattle.kfifo_cli_commands.specs.Replays.{IsReplayRefusal, IsReplayText, IsReportText, IsUnplayed, Makes};
 ghost use Rattle.kfifo_cli_commands.specs.Replays.{first_lines, last_lines, traces};
 
-use crate::options::ReplayOptions;
 use crate::progress::{Meter, Progress};
 use crate::tracing;
-use kfifo_cli_texts::{Fault, Group, read_picks, read_scripts, record_text};
+use kfifo_cli_texts::{Fault, Group, ReplayOptions, read_picks, read_scripts, record_text};
 use kfifo_judge::push_numbers;
 use kfifo_machine::Begin;
 use kfifo_replay::{Replay, ReplayFault, Report};

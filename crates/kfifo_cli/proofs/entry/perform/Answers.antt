@@ -1,6 +1,6 @@
 use Rattle.std.proofs.Common.{inl, inr, refl, subst}
-use Rattle.kfifo_cli.specs.Requests.{Requests}
-use Rattle.kfifo_cli.proofs.Parsing.{at_fault, help_asked}
+use Rattle.kfifo_cli_arguments.specs.Requests.{Requests}
+use Rattle.kfifo_cli_arguments.proofs.Parsing.{at_fault, help_asked}
 use Rattle.kfifo_cli.proofs.Printed.{ends_as}
 use Rattle.kfifo_cli.proofs.entry.perform.Goals as goal
 

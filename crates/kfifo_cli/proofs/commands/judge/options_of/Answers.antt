@@ -1,8 +1,0 @@
-use Rattle.kfifo_cli.proofs.commands.judge.options_of.Goals as goal
-
-pub returns : goal.returns
-returns c = record {
-  k = c.places_of.ensures.given;
-  tries = c.tries_of.ensures;
-  show = (c.get_flag.ensures.none, c.get_flag.ensures.value, c.get_flag.ensures.other);
-}

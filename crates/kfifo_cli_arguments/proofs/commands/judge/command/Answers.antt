@@ -1,0 +1,17 @@
+use Rattle.std.proofs.Common.{ap, codes, ◌∙◌}
+use Rattle.std.proofs.lemmas.Result.{IfOk-weaker}
+use Rattle.kfifo_cli_arguments.specs.CommandLine.{with_places, with_tries}
+use Rattle.kfifo_cli_arguments.proofs.Rules.{adds, bare_command, help_rule}
+use Rattle.kfifo_cli_arguments.proofs.commands.judge.command.Goals as goal
+
+pub returns : goal.returns
+returns c =
+    let show = help_rule c.flag.result c.help-show.result _ _ (c.flag.ensures.rule, c.flag.ensures.own) c.help-show.ensures in
+    let bare = bare_command c.new.result c.about.result c.after_help.result c.after_long_help-command.result (codes "judge") _ _ _
+    c.new.ensures.app c.new.ensures.local
+    c.about.ensures c.after_help.ensures c.after_long_help-command.ensures in
+    let placed = c.in_ok-command.ensures.0 ∙ ap (with_places (codes "1")) bare.0 in
+    let tried = c.in_ok-with_tries.ensures.0 ∙ ap with_tries placed in
+    IfOk-weaker c.arg.result _ _ (λ r h.
+    let all = adds _ r c.help-show.result _ _ tried show h in
+    (all.0, all.1 ∙ (c.in_ok-with_tries.ensures.1 ∙ (c.in_ok-command.ensures.1 ∙ bare.1)))) c.arg.ensures

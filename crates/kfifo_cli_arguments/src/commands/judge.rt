@@ -1,0 +1,118 @@
+//! The command `judge`: a verdict on a record or a log of any length.
+ghost use Rattle.std.specs.Prelude.{IfOk};
+ghost use Rattle.clap.specs.Words.{found_of};
+ghost use Rattle.kfifo_cli_arguments.specs.CommandLine.{IsCommand, judge_command};
+ghost use Rattle.kfifo_cli_arguments.specs.Options.{GivesJudge};
+
+use crate::options;
+use clap::{ArgMatches, Command};
+use kfifo_cli_texts::JudgeOptions;
+use std::alloc::{AllocError, Global};
+
+/// The name of the command.
+pub const NAME: &str = "judge";
+
+const SHOW: &str = "show";
+
+const EXAMPLES: &str = "\
+Examples:
+  kfifo judge < log.csv                  is this the log of a plain queue, and why not?
+  kfifo judge -k 4 --show < record.json  print an order, too";
+
+pub(crate) const DETAILS: &str = "\
+Standard input has a record, as `kfifo check --help` says, or a log in CSV, as `kfifo import --help`
+says: a record begins with `[`. It has at most 16777216 bytes and 65536 calls. `check` decides records
+of at most 12 calls; this command takes any, and gives a reason.
+
+Drain the queue until it answers empty before the log ends, or a loss cannot be seen. Give each item a
+number of its own: repeated ones may leave even k = 1 undecided.
+
+The answer is one of these:
+  legal for k = <K>           an order of the calls is legal, and
+  worst rank <N>              in it, N is the most older items that a dequeue passed over
+  order <CALLS>               with --show: the order, which `kfifo check --order` takes
+
+  no order for k = <K>        no order is legal, because of one of these:
+  call <N> got item <X>, which no call before its end put
+                              an item from nowhere: no call put X, or each that did began after call N
+  call <N> got item <X>, which was taken more often than put
+                              an item twice: more calls got X than put it, and call N is the last of them
+  call <N> found nothing, while there were items: calls <CALLS>
+                              at each moment of call N an item of one of these puts was in the queue
+  call <N> got item <X>, while <K> older items were there: calls <CALLS>
+                              an overtaking: the items of these puts stood before X, so X was not one of
+                              the k oldest
+  call <N> got item <X>, when more gets of it had ended than puts had begun
+                              an item too soon: X is put more than once, but by the end of call N more calls
+                              had got it than had begun to put it
+  call <N> found nothing, while some item had been put more often than taken
+                              an Empty too early: as call N began, and as each call began during it, more
+                              calls had put some item than had begun to get it
+  call <N> got item <X>, though <K> older items were left: calls <CALLS>
+                              an overtaking where items repeat: the items of these puts stood before each X
+                              that call N may have got
+  Then come the calls that are named, the first 32 of them, each in a line:
+  call <N>: thread <T> put <X> from <FIRST> to <LAST>
+                              what call N did, and when; or `got <X>`, or `found nothing`
+  call <N>, line <L>: thread <T> put <X> from <FIRST> to <LAST>
+                              the same of a log, with the line and the times of the log
+  , got by call <M>           behind a put: its item was got by call M. An Empty that names it came too early
+  , never got                 behind a put: its item was lost, or was left inside at the end of the log
+  and behind an overtaking the lines of `kfifo least`: for which k there may be an order.
+
+  undecided for k = <K>       neither an order nor a reason was found:
+  the tries ran out           as many choices were undone as --tries allows; more of them may find an order
+  nothing is left to try      the search saw nothing that it could do otherwise; more tries do not help
+  ; items repeat              behind either: an item is put or got more than once. Give each its own number
+
+Call numbers are places in the array, from 0; those of a log are by rising first time.
+
+Faults, each one line on standard error; `kfifo explain` says more of each:
+  kfifo: input                reading failed, or over 16777216 bytes came
+  kfifo: no input             no byte came; in a pipe the command before has probably failed, and said why
+  kfifo: not json             a record is no JSON text, or is not UTF-8
+  kfifo: record fault <F>     record faults 1, 2 and 9, as `kfifo check --help` lists them
+  kfifo: record fault <F> at call <N>   record faults 3 to 8 of a record
+  kfifo: record fault <F> at line <N>   the same of a log, as `kfifo import --help` lists them
+  kfifo: csv fault at line <N>          the first line of a log lacks a field, or line N does not have
+                                        as many fields as it
+  kfifo: memory               an allocation failed
+
+Exit status:
+  0  `legal` was printed
+  1  there was a fault of this list, or standard output could not be written
+  2  the command line is at fault
+  3  `no order` was printed
+  4  `undecided` was printed
+
+Examples:
+  kfifo judge < log.csv                  is this the log of a plain queue, and why not?
+  kfifo judge -k 4 --show < record.json  print an order, too
+
+docs/JUDGE.md and docs/PROGRAM.md, where this program comes from, say more.";
+
+/// How the command is written, and its help.
+pub fn command<'a>(alloc: Global) -> Result<Command<'a>, AllocError>
+    ensures { IfOk result (IsCommand judge_command) }
+{
+    let show = options::flag(alloc, SHOW).help("Print the order that was found, too");
+    let command = Command::new(alloc, NAME)
+        .about(
+            "Reads a record or a log of any length, and says whether an order of its calls is legal, and why",
+        )
+        .after_help(EXAMPLES)
+        .after_long_help(DETAILS);
+    let command = options::with_places(alloc, command, "1")?;
+    options::with_tries(alloc, command)?.arg(show)
+}
+
+/// What the options give.
+pub fn options_of(matches: &ArgMatches<'_>) -> JudgeOptions
+    ensures { GivesJudge (found_of matches.now) result }
+{
+    JudgeOptions {
+        k: options::places_of(matches, 1),
+        tries: options::tries_of(matches),
+        show: matches.get_flag(SHOW),
+    }
+}

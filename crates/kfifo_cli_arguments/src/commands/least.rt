@@ -1,0 +1,74 @@
+//! The command `least`: between which bounds the least k of a record or a log lies.
+ghost use Rattle.std.specs.Prelude.{IfOk};
+ghost use Rattle.clap.specs.Words.{found_of};
+ghost use Rattle.kfifo_cli_arguments.specs.CommandLine.{IsCommand, least_command};
+ghost use Rattle.kfifo_cli_arguments.specs.Options.{GivesTries};
+
+use crate::options;
+use clap::{ArgMatches, Command};
+use kfifo_cli_texts::LeastOptions;
+use std::alloc::{AllocError, Global};
+
+/// The name of the command.
+pub const NAME: &str = "least";
+
+const EXAMPLES: &str = "\
+Example:
+  kfifo least < log.csv";
+
+pub(crate) const DETAILS: &str = "\
+Standard input has a record, as `kfifo check --help` says, or a log in CSV, as `kfifo import --help`
+says: a record begins with `[`. It has at most 16777216 bytes and 65536 calls. k says how far a queue
+may stray from first in, first out: a dequeue takes one of the k oldest items. With k = 1 it is a plain
+queue.
+
+The answer is
+  k at least <N>              for no k below N is an order of the calls legal
+  k at most <N>               for N one is; or, where none was found up to 64,
+  k unknown                   no order was found for any k from the bound up to 64
+or, where no k at all would do,
+  no order                    with the reason and the calls that it names, as `kfifo judge --help` says
+
+Faults, each one line on standard error; `kfifo explain` says more of each:
+  kfifo: input                reading failed, or over 16777216 bytes came
+  kfifo: no input             no byte came; in a pipe the command before has probably failed, and said why
+  kfifo: not json             a record is no JSON text, or is not UTF-8
+  kfifo: record fault <F>     record faults 1, 2 and 9, as `kfifo check --help` lists them
+  kfifo: record fault <F> at call <N>   record faults 3 to 8 of a record
+  kfifo: record fault <F> at line <N>   the same of a log, as `kfifo import --help` lists them
+  kfifo: csv fault at line <N>          the first line of a log lacks a field, or line N does not have
+                                        as many fields as it
+  kfifo: memory               an allocation failed
+
+Exit status:
+  0  the bounds were printed
+  1  there was a fault of this list, or standard output could not be written
+  2  the command line is at fault
+  3  `no order` was printed
+
+Example:
+  kfifo least < log.csv
+
+docs/JUDGE.md and docs/PROGRAM.md, where this program comes from, say more.";
+
+/// How the command is written, and its help.
+pub fn command<'a>(alloc: Global) -> Result<Command<'a>, AllocError>
+    ensures { IfOk result (IsCommand least_command) }
+{
+    let command = Command::new(alloc, NAME)
+        .about(
+            "Reads a record or a log of any length, and says between which bounds its least k lies",
+        )
+        .after_help(EXAMPLES)
+        .after_long_help(DETAILS);
+    options::with_tries(alloc, command)
+}
+
+/// What the options give.
+pub fn options_of(matches: &ArgMatches<'_>) -> LeastOptions
+    ensures { GivesTries (found_of matches.now) result.tries }
+{
+    LeastOptions {
+        tries: options::tries_of(matches),
+    }
+}

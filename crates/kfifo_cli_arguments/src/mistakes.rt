@@ -1,0 +1,52 @@
+//! What is wrong with a command line.
+
+use crate::commands::{check, draw, import, judge, least, measure};
+use clap::Error;
+use std::alloc::{AllocError, Global};
+use std::fmt::Write;
+
+/// Whether the command reads standard input.
+fn reads_input(command: &str) -> bool {
+    let names = [
+        check::NAME,
+        measure::NAME,
+        judge::NAME,
+        least::NAME,
+        import::NAME,
+        draw::NAME,
+    ];
+    names.contains(&command)
+}
+
+/// Adds what to do where a word is refused that is no option: it names a file, which is read from standard input.
+fn push_advice(
+    alloc: Global,
+    text: &mut String,
+    command: &str,
+    words: &[String],
+) -> Result<(), AllocError> {
+    for word in words {
+        let word = word.as_str();
+        let refused = format!(in alloc; "unexpected argument '{word}' found")?;
+        if !word.starts_with('-') && text.as_str().contains(refused.as_str()) {
+            return writeln!(
+                text,
+                "\nread it from standard input: kfifo {command} < {word}"
+            );
+        }
+    }
+    Ok(())
+}
+
+/// What is wrong, and what to do where a command that reads standard input is given the name of a file.
+pub fn mistake(alloc: Global, words: &[String], error: Error) -> Result<String, AllocError> {
+    let mut text = error.to_string(alloc)?;
+    let Some((command, words)) = words.split_first() else {
+        return Ok(text);
+    };
+    let command = command.as_str();
+    if reads_input(command) {
+        push_advice(alloc, &mut text, command, words)?;
+    }
+    Ok(text)
+}
