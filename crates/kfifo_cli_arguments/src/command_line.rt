@@ -43,7 +43,7 @@ cannot say.
 The documents, where this program comes from: README.md begins; docs/PROGRAM.md is about the commands,
 docs/JUDGE.md about records and orders, docs/QUEUE.md about the queue.";
 
-/// What the command that was named is asked to do.
+/// Returns the request of the command that was named, with what its options were given; None where none was named.
 pub fn request_of<'a>(matches: &'a ArgMatches<'_>) -> Option<Request<'a>>
     ensures some { IfSome result (Requests (subcommand_rows_of matches.now)) }
     ensures none { result ≡ None → NamesNone (subcommand_rows_of matches.now) }
@@ -84,7 +84,8 @@ pub fn request_of<'a>(matches: &'a ArgMatches<'_>) -> Option<Request<'a>>
     None
 }
 
-/// What the command line names.
+/// Reads `words`, the arguments after the program's name, and returns the command that they name, with its options. The
+/// error says what is wrong with them, holds the help or the version that they ask for, or says that memory was refused.
 pub fn parse<'a>(alloc: Global, words: &'a [String]) -> Result<ArgMatches<'a>, Error>
     ensures named { IfOk result (λ m. subcommand_rows_of m ≡ named (map (λ w. string_bytes w) words.entry.now)) }
     ensures kinds { FailsBy (kinds (map (λ w. string_bytes w) words.entry.now)) result }

@@ -38,7 +38,8 @@ fn push_advice(
     Ok(())
 }
 
-/// What is wrong, and what to do where a command that reads standard input is given the name of a file.
+/// Returns what is wrong with `words`, of which a parse gave this error, and what to do where a command that reads
+/// standard input is given the name of a file. It fails where memory is refused.
 pub fn mistake(alloc: Global, words: &[String], error: Error) -> Result<String, AllocError> {
     let mut text = error.to_string(alloc)?;
     let Some((command, words)) = words.split_first() else {
