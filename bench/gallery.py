@@ -28,8 +28,8 @@ PROGRAM = HERE.parent / "crates/kfifo/out/kfifo"
 THREADS, TURNS = 4, 8000
 # How many items come before the threads begin, in a queue that is k-relaxed: among few items none can be passed over.
 BEFORE = 512
-LEGAL = r"legal for k = \d+\nworst rank \d+\n"
-OVERTAKEN = r"no order for k = 1\ncall \d+ got item \d+, while 1 older items were there: calls \d+\n(?s:.*)"
+LEGAL = r"legal for k = \d+\nworst rank \d+\ncalls \d+, items left \d+\n"
+OVERTAKEN = r"no order for k = 1\ncall \d+ got item \d+, while 1 older item was there: calls \d+\n(?s:.*)"
 TOO_EARLY = r"no order for k = 1\ncall \d+ found nothing, while there were items: calls (?s:.*)"
 PLAIN = r"k at least 1\nk at most 1\n"
 

@@ -55,7 +55,7 @@ struct NothingAttached {
     ~NothingAttached() {}
 };
 
-// This repository's queue. The calls choose their starts themselves, each one slot further than the last.
+// This repository's queue. The calls choose their starts themselves, each a stride further than the last.
 struct Kfifo {
     using Attached = NothingAttached;
     kfifo::Queue queue;
@@ -232,7 +232,8 @@ struct KfifoValues {
     kfifo::ValueQueue<Value> queue;
     std::vector<kfifo::ValueQueue<Value>::Handle> handles;
 
-    KfifoValues(std::uint32_t k, std::size_t capacity, std::size_t threads) : queue(k, std::uint32_t(capacity) / k, threads) {
+    KfifoValues(std::uint32_t k, std::size_t capacity, std::size_t threads)
+        : queue(k, std::uint32_t(capacity) / k, threads) {
         for (std::size_t i = 0; i < threads; i++) handles.push_back(queue.handle());
     }
     bool push(std::size_t thread, std::uint32_t item) { return handles[thread].give(Value(item)) == kfifo::Put::done; }
@@ -248,11 +249,59 @@ struct KfifoWords {
     kfifo::ValueQueue<std::uint64_t> queue;
     std::vector<kfifo::ValueQueue<std::uint64_t>::Handle> handles;
 
-    KfifoWords(std::uint32_t k, std::size_t capacity, std::size_t threads) : queue(k, std::uint32_t(capacity) / k, threads) {
+    KfifoWords(std::uint32_t k, std::size_t capacity, std::size_t threads)
+        : queue(k, std::uint32_t(capacity) / k, threads) {
         for (std::size_t i = 0; i < threads; i++) handles.push_back(queue.handle());
     }
-    bool push(std::size_t thread, std::uint32_t item) { return handles[thread].give(std::uint64_t(item)) == kfifo::Put::done; }
+    bool push(std::size_t thread, std::uint32_t item) {
+        return handles[thread].give(std::uint64_t(item)) == kfifo::Put::done;
+    }
     std::uint32_t pop(std::size_t thread) { return std::uint32_t(handles[thread].take().value.value_or(0)); }
+};
+
+// This repository's queues by their calls for C: items or values, by the calls that look for threads that wait, or by
+// the plain ones.
+template <typename Pass, bool looks> struct KfifoInC {
+    using Attached = NothingAttached;
+    std::vector<Pass> passes;
+    kfifo_waits waits{};
+
+    KfifoInC(std::uint32_t k, std::size_t capacity, std::size_t threads) : passes(threads) {
+        auto segments = std::uint32_t(capacity) / k;
+        kfifo_status status;
+        if constexpr (of_items)
+            status = kfifo_open(k, segments, k, KFIFO_LAST, passes.data(), threads);
+        else
+            status = kfifo_open_values(k, segments, KFIFO_MAX_TOKENS, passes.data(), threads);
+        if (status != KFIFO_DONE) throw std::runtime_error(kfifo_status_text(status));
+    }
+    ~KfifoInC() {
+        if constexpr (of_items)
+            kfifo_abandon(passes.data(), passes.size());
+        else
+            kfifo_abandon_values(passes.data(), passes.size());
+    }
+    bool push(std::size_t thread, std::uint32_t item) {
+        Pass *pass = &passes[thread];
+        if constexpr (of_items)
+            return (looks ? kfifo_try_put(pass, &waits, item) : kfifo_put(pass, item)) == KFIFO_DONE;
+        else
+            return (looks ? kfifo_try_give(pass, &waits, item) : kfifo_give(pass, item)) == KFIFO_DONE;
+    }
+    std::uint32_t pop(std::size_t thread) {
+        Pass *pass = &passes[thread];
+        Value value = 0;
+        kfifo_status status;
+        if constexpr (of_items)
+            status = looks ? kfifo_try_get(pass, &waits, &value) : kfifo_get(pass, &value);
+        else
+            status = looks ? kfifo_try_take(pass, &waits, &value) : kfifo_take(pass, &value);
+        return status == KFIFO_GOT ? std::uint32_t(value) : 0;
+    }
+
+  private:
+    static constexpr bool of_items = std::is_same_v<Pass, kfifo_pass>;
+    using Value = std::conditional_t<of_items, std::uint32_t, std::uint64_t>;
 };
 
 // crossbeam's ArrayQueue of values of 16 bytes, which it holds itself.
@@ -268,8 +317,8 @@ struct ArrayValues {
     }
 };
 
-// Calls use(queue) with the queue of this name, and returns what it returns; 2 where there is no such queue. k is that of
-// kfifo, and the quasi factor of segmented.
+// Calls use(queue) with the queue of this name, and returns what it returns; 2 where there is no such queue. k is that
+// of kfifo, and the quasi factor of segmented.
 template <typename Use>
 int with_queue(const std::string &name, std::uint32_t k, std::size_t capacity, std::size_t threads, Use use) {
     auto with = [&](auto queue) { return use(*queue); };
@@ -282,6 +331,12 @@ int with_queue(const std::string &name, std::uint32_t k, std::size_t capacity, s
     if (name == "mutex") return with(std::make_unique<Mutex<std::uint32_t>>(capacity));
     if (name == "kfifo-values") return with(std::make_unique<KfifoValues>(k, capacity, threads));
     if (name == "kfifo-words") return with(std::make_unique<KfifoWords>(k, capacity, threads));
+    if (name == "kfifo-in-c") return with(std::make_unique<KfifoInC<kfifo_pass, false>>(k, capacity, threads));
+    if (name == "kfifo-in-c-looking") return with(std::make_unique<KfifoInC<kfifo_pass, true>>(k, capacity, threads));
+    if (name == "kfifo-words-in-c")
+        return with(std::make_unique<KfifoInC<kfifo_value_pass, false>>(k, capacity, threads));
+    if (name == "kfifo-words-in-c-looking")
+        return with(std::make_unique<KfifoInC<kfifo_value_pass, true>>(k, capacity, threads));
     if (name == "array-values") return with(std::make_unique<ArrayValues>(capacity));
     if (name == "mutex-values") return with(std::make_unique<Mutex<Value>>(capacity));
     if (name == "ms") return with(std::make_unique<CdsMs>());

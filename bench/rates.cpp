@@ -1,7 +1,7 @@
-// One run of one queue: threads put and take for some time, and what went in has to come out. The arguments are the queue (a name of
-// queues.hpp), k (of kfifo and segmented alone), the capacity, the threads that put only, those that take only, those that do both in
-// turn, the nanoseconds of work between two calls, and how many milliseconds the run lasts. It prints the calls that put or took an
-// item, a second; status 1 where an item is missing or double.
+// One run of one queue: threads put and take for some time, and what went in has to come out. The arguments are the
+// queue (a name of queues.hpp), k (of kfifo and segmented alone), the capacity, the threads that put only, those that
+// take only, those that do both in turn, the nanoseconds of work between two calls, and how many milliseconds the run
+// lasts. It prints the calls that put or took an item, a second; status 1 where an item is missing or double.
 #include "queues.hpp"
 
 #include <atomic>
@@ -25,6 +25,10 @@ struct alignas(128) Tally {
         takes++;
         taken_sum += item;
         taken_squares += std::uint64_t(item) * item;
+    }
+    void add(const Tally &other) {
+        puts += other.puts, put_sum += other.put_sum, put_squares += other.put_squares;
+        takes += other.takes, taken_sum += other.taken_sum, taken_squares += other.taken_squares;
     }
 };
 
@@ -83,8 +87,7 @@ template <typename Queue> int run(Queue &queue, const Plan &plan, std::size_t ca
                     plan.work();
                 }
             }
-            tallies[thread].puts += tally.puts, tallies[thread].put_sum += tally.put_sum, tallies[thread].put_squares += tally.put_squares;
-            tallies[thread].takes = tally.takes, tallies[thread].taken_sum = tally.taken_sum, tallies[thread].taken_squares = tally.taken_squares;
+            tallies[thread].add(tally);
         });
     auto began = std::chrono::steady_clock::now();
     go.store(true, std::memory_order_release);
@@ -95,10 +98,7 @@ template <typename Queue> int run(Queue &queue, const Plan &plan, std::size_t ca
 
     Tally all;
     std::uint64_t calls = 0;
-    for (const Tally &tally : tallies) {
-        all.puts += tally.puts, all.put_sum += tally.put_sum, all.put_squares += tally.put_squares;
-        all.takes += tally.takes, all.taken_sum += tally.taken_sum, all.taken_squares += tally.taken_squares;
-    }
+    for (const Tally &tally : tallies) all.add(tally);
     calls = all.puts - before + all.takes;
     while (std::uint32_t taken = queue.pop(0)) all.take(taken);
     if (all.puts != all.takes || all.put_sum != all.taken_sum || all.put_squares != all.taken_squares) {
@@ -117,5 +117,6 @@ int main(int count, char **words) {
     auto number = [&](int place) { return std::size_t(std::strtoull(words[place], nullptr, 10)); };
     std::size_t capacity = number(3);
     Plan plan{number(4), number(5), number(6), Work(number(7)), int(number(8))};
-    return bench::with_queue(which, std::uint32_t(number(2)), capacity, plan.threads(), [&](auto &queue) { return run(queue, plan, capacity); });
+    return bench::with_queue(which, std::uint32_t(number(2)), capacity, plan.threads(),
+                             [&](auto &queue) { return run(queue, plan, capacity); });
 }

@@ -4,12 +4,14 @@
 Each round runs all queues one after the other, and begins with another one than the round before. A ratio compares two
 rates of one round; the table has the median of these ratios over the rounds, with the quartiles. Each run checks that what
 went in came out. The table begins with two overviews, a row for each workload. Some workloads are an application: threads
-that share one queue of vertices find a spanning tree of a random graph. The last ones are queues of values of 16 bytes.
+that share one queue of vertices find a spanning tree of a random graph. Then come queues of values of 16 bytes, and this
+repository's queues with calls that look for threads that wait, beside the plain ones. Last comes a table of its own, of how
+long a hand-over to a thread that sleeps takes.
 
     bench/run.py [--rounds N] [--milliseconds M] [--only WORD] [--out FOLDER]
 
 It needs rt, a C and a C++ compiler, cargo, and Debian's libboost-dev, libtbb-dev, libck-dev, libcds-dev,
-libconcurrentqueue-dev and librust-crossbeam-queue-dev.
+libconcurrentqueue-dev, librust-crossbeam-queue-dev and librust-crossbeam-channel-dev.
 """
 import argparse
 import dataclasses
@@ -21,12 +23,14 @@ import sys
 
 HERE = os.path.dirname(os.path.abspath(__file__))
 OUT = f"{HERE}/out"
-PROGRAMS = ["rates", "spanning_tree"]
+PROGRAMS = ["rates", "spanning_tree", "waking"]
 # name, producers, consumers, threads that do both in turn
 CALLS = [
     ("one thread", 0, 0, 1),
     ("1 producer, 1 consumer", 1, 1, 0),
     ("2 producers, 2 consumers", 2, 2, 0),
+    ("1 producer, 3 consumers", 1, 3, 0),
+    ("3 producers, 1 consumer", 3, 1, 0),
     ("4 threads in turn", 0, 0, 4),
     ("8 threads in turn", 0, 0, 8),
 ]
@@ -53,8 +57,17 @@ NAMES = {
     "mutex-values": "mutex and deque of 16 bytes",
     "kfifo-values": "kfifo, a cell for each value",
     "kfifo-words": "kfifo, values of 8 bytes",
+    "kfifo-in-c": "plain calls",
+    "kfifo-in-c-looking": "calls that look for waiting threads",
+    "kfifo-words-in-c": "plain calls of values",
+    "kfifo-words-in-c-looking": "calls of values that look",
 }
 OURS = [("kfifo", 1), ("kfifo", 4), ("kfifo", 16), ("kfifo", 64), ("kfifo-at-random", 16), ("kfifo-at-random", 64)]
+# Calls that look for threads that wait, each behind the plain ones that it is compared with.
+LOOKING = [[(name, 16), (f"{name}-looking", 16)] for name in ("kfifo-in-c", "kfifo-words-in-c")]
+# Hand-overs to a thread that sleeps: how many in a round, and the microseconds between two.
+WAKING_TITLE = "waking a thread that sleeps"
+HAND_OVERS, REST = 2000, 100
 # The queues of values; ArrayQueue comes first here too.
 VALUES = [("array-values", 0), ("mutex-values", 0)]
 VALUES += [(name, k) for name in ("kfifo-values", "kfifo-words") for k in (4, 16, 64)]
@@ -72,20 +85,31 @@ class Workload:
     words: list
 
 
+def between(work):
+    """The end of a title: the work that a thread does between two calls, if any."""
+    return f", {work} ns of work between calls" if work else ""
+
+
 def workloads(milliseconds):
     """All workloads, calls alone first."""
     made = []
     for capacity in CAPACITIES:
         for name, *threads in CALLS:
             for work in WORK:
-                title = f"{name}, capacity {capacity:,}" + (f", {work} ns of work between calls" if work else "")
+                title = f"{name}, capacity {capacity:,}" + between(work)
                 made.append(Workload(title, queues(capacity), capacity, "rates", [*threads, work, milliseconds]))
     for threads in TREES:
         title = f"spanning tree by {threads} threads, capacity {TREE_CAPACITY:,}"
         made.append(Workload(title, queues(TREE_CAPACITY), TREE_CAPACITY, "spanning_tree", [threads, VERTICES, EDGES]))
     for name, *threads in CALLS:
-        title = f"values, {name}, capacity {VALUES_CAPACITY:,}"
-        made.append(Workload(title, VALUES, VALUES_CAPACITY, "rates", [*threads, 0, milliseconds]))
+        for work in WORK:
+            title = f"values, {name}, capacity {VALUES_CAPACITY:,}" + between(work)
+            made.append(Workload(title, VALUES, VALUES_CAPACITY, "rates", [*threads, work, milliseconds]))
+    for pair in LOOKING:
+        for name, *threads in CALLS:
+            kind = "values" if "words" in pair[0][0] else "items"
+            title = f"looking for waiting threads, {kind}, {name}, capacity {VALUES_CAPACITY:,}"
+            made.append(Workload(title, pair, VALUES_CAPACITY, "rates", [*threads, 0, milliseconds]))
     return made
 
 
@@ -152,7 +176,7 @@ def ratios(rates):
 
 def table(title, rates):
     unit = "vertices" if title.startswith("spanning") else "calls"
-    head = f"| Queue | Million {unit} a second | Ratio to ArrayQueue | Quartiles |"
+    head = f"| Queue | Million {unit} a second | Ratio to {label(next(iter(rates)))} | Quartiles |"
     lines = [f"### {title}", "", head, "|---|---|---|---|"]
     for queue, its_ratios in ratios(rates).items():
         first, middle, third = quartiles(its_ratios)
@@ -162,11 +186,11 @@ def table(title, rates):
 
 
 def overview(all_rates):
-    """A row for each workload, with each queue's median ratio to ArrayQueue; those of values in a table of their own."""
-    parts = [{}, {}]
+    """A row for each workload, with each queue's median ratio to the first; a table for each first queue."""
+    parts = {}
     for title, rates in all_rates.items():
-        parts[title.startswith("values")][title] = ratios(rates)
-    return "\n".join(overview_of(part) for part in parts if part)
+        parts.setdefault(next(iter(rates)), {})[title] = ratios(rates)
+    return "\n".join(overview_of(part) for part in parts.values())
 
 
 def overview_of(all_ratios):
@@ -178,6 +202,12 @@ def overview_of(all_ratios):
     return "\n".join(lines) + "\n"
 
 
+def waking(rounds):
+    """The table of hand-overs to a thread that sleeps."""
+    ran = subprocess.run([f"{OUT}/waking", str(HAND_OVERS), str(REST), str(rounds)], check=True, capture_output=True, text=True)
+    return f"### {WAKING_TITLE}\n\n{ran.stdout}"
+
+
 def plot(title, rates):
     """A bar for each queue's ratio to ArrayQueue, with a line from quartile to quartile."""
     bars = {queue: quartiles(its_ratios) for queue, its_ratios in ratios(rates).items()}
@@ -186,7 +216,7 @@ def plot(title, rates):
     across = lambda ratio: left + ratio / most * (width - left - 60)
     height = 50 + bar * len(bars)
     parts = [f'<svg xmlns="http://www.w3.org/2000/svg" width="{width}" height="{height}" font-family="sans-serif" font-size="12">']
-    parts.append(f'<rect width="{width}" height="{height}" fill="white"/><text x="10" y="20" font-size="14">{title}: rate beside ArrayQueue</text>')
+    parts.append(f'<rect width="{width}" height="{height}" fill="white"/><text x="10" y="20" font-size="14">{title}: rate beside {label(next(iter(rates)))}</text>')
     for place, (queue, (first, middle, third)) in enumerate(bars.items()):
         top = 36 + bar * place
         color = "#3b6fb6" if queue[0].startswith("kfifo") else "#b0b0b0"
@@ -233,6 +263,9 @@ def main():
         with open(f"{words.out}/{file}.svg", "w") as plotted:
             plotted.write(plot(title, rates))
     print(overview(all_rates))
+    if words.only in WAKING_TITLE:
+        tables.append(waking(words.rounds))
+        print(tables[-1])
     with open(f"{words.out}/table.md", "w") as written:
         written.write("\n".join([about, overview(all_rates), *tables]))
 

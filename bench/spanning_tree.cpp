@@ -1,8 +1,8 @@
 // A spanning tree of a random graph, by threads that share one queue of vertices. A thread takes a vertex, claims each
-// neighbour that nobody has claimed yet, and puts it into the queue; where the queue refuses it, the thread goes on with
-// that vertex itself. The arguments are the queue (a name of queues.hpp), k (of kfifo and segmented alone), the capacity,
-// the threads, the vertices and the edges. It prints the vertices that were reached, a second; status 1 where the tree is
-// none.
+// neighbour that nobody has claimed yet, and puts it into the queue; where the queue refuses it, the thread goes on
+// with that vertex itself. The arguments are the queue (a name of queues.hpp), k (of kfifo and segmented alone), the
+// capacity, the threads, the vertices and the edges. It prints the vertices that were reached, a second; status 1 where
+// the tree is none.
 #include "queues.hpp"
 
 #include <algorithm>

@@ -1,8 +1,9 @@
-// A producer and a consumer of messages of a type of their own. With k = 1 they come out in the order in which they were given.
+// A producer and a consumer of messages of a type of their own; who finds no room or no message sleeps. With k = 1 they
+// come out in the order in which they were given.
 #include "kfifo.hpp"
 
-#include <atomic>
 #include <cstdio>
+#include <exception>
 #include <string>
 #include <thread>
 
@@ -14,34 +15,32 @@ struct Message {
 int main() {
     constexpr int messages = 20000;
     kfifo::ValueQueue<Message> queue(1, 1024, 2); // k, segments, threads
-    std::atomic<bool> all_given{false};
+    auto put = kfifo::Put::done;
     bool in_order = true;
     int read = 0;
 
     std::thread producer([&, handle = queue.handle()]() mutable {
         for (int number = 1; number <= messages; number++) {
             Message message{number, "message " + std::to_string(number)};
-            while (handle.give(std::move(message)) != kfifo::Put::done) std::this_thread::yield(); // refused: the message is still ours
+            put = handle.give_wait(std::move(message));
+            if (put != kfifo::Put::done) break; // worn: the message is still ours
         }
-        all_given = true;
+        handle.finish();
     });
     std::thread consumer([&, handle = queue.handle()]() mutable {
-        for (;;) {
-            bool last = all_given; // read before the take: only then is an empty queue the end
-            auto taken = handle.take();
-            if (taken.value) {
+        try {
+            for (Message message : handle.values()) { // until the queue is finished and empty
                 read++;
-                in_order = in_order && taken.value->number == read && taken.value->text == "message " + std::to_string(read);
-            } else if (last && taken.why == kfifo::Miss::empty) {
-                return;
-            } else {
-                std::this_thread::yield();
+                in_order = in_order && message.number == read && message.text == "message " + std::to_string(read);
             }
+        } catch (const std::exception &error) {
+            std::fprintf(stderr, "the consumer ended: %s\n", error.what());
         }
     });
     producer.join();
     consumer.join();
 
+    if (put != kfifo::Put::done) std::fprintf(stderr, "the producer ended: %s\n", kfifo::text(put));
     bool is_empty = queue.close().empty();
     std::printf("%d messages were read%s\n", read, in_order ? " in their order" : ", and not in their order");
     return in_order && is_empty && read == messages ? 0 : 1;

@@ -9,35 +9,52 @@
 extern "C" {
 #endif
 
+/* The version of this header and its library. The number is for comparisons: 10000 * major + 100 * minor + patch. */
+#define KFIFO_VERSION "0.3.0"
+#define KFIFO_VERSION_NUMBER 300
+
 /* What a call returns. */
 typedef enum kfifo_status {
     KFIFO_DONE = 0,          /* done; of a put: the item is in the queue, or was already taken */
     KFIFO_FULL = 1,          /* the ring was seen full; the item is not in it */
     KFIFO_GOT = 2,           /* an item or a value was taken */
     KFIFO_EMPTY = 3,         /* the queue was empty */
-    KFIFO_BUSY = 4,          /* each round was lost to other threads; nothing was put or taken */
+    KFIFO_BUSY = 4,          /* each round was lost to a step of another thread or its own; nothing was done */
     KFIFO_WORN = 5,          /* a version would pass the greatest one; close this queue and open another */
-    KFIFO_BAD_CALL = 6,      /* a pointer is null, an argument out of range, a handle closed or missing; nothing was done */
+    KFIFO_BAD_CALL = 6,      /* a null pointer, an argument out of range, a handle closed or missing; nothing done */
     KFIFO_NO_MEMORY = 7,     /* an allocation failed; nothing was done */
-    KFIFO_BAD_THREADS = 8,   /* the number of threads is not 1 to 64 */
-    KFIFO_LOST = 9,          /* of a close: an allocation failed; the queue is closed and what was left in it is lost */
-    KFIFO_NO_TOKEN = 10,     /* of a give: the handle has no token and found none in the pool; the value is not in the queue */
+    KFIFO_BAD_THREADS = 8,   /* the number of threads is not 1 to 64; nothing was done */
+    KFIFO_LOST = 9,          /* of a close: an allocation failed; the queue is closed, what was left in it is lost */
+    KFIFO_NO_TOKEN = 10,     /* of a give: the handle has no token, and the pool none; the value is not in the queue */
     KFIFO_BAD_K = 11,        /* k is not 1 to 64 */
     KFIFO_BAD_SEGMENTS = 12, /* the number of segments is not 2 to 1,024 */
     KFIFO_BAD_LAST = 13,     /* the greatest version is not 2 to 2^40 - 1 */
     KFIFO_BAD_PROBES = 14,   /* the number of probes is not 1 to k */
-    KFIFO_BAD_TOKENS = 15    /* the number of tokens a thread is not 1 to 1,024 */
+    KFIFO_BAD_TOKENS = 15,   /* the number of tokens a thread is not 1 to 1,024 */
+    KFIFO_TIMED_OUT = 16,    /* of a call that waits: its time was up; nothing was put or taken */
+    KFIFO_FINISHED = 17      /* of a queue whose threads wait: it was finished; nothing was put, or it was empty then */
 } kfifo_status;
 
-/* A line of text for a status, as "the queue was empty". */
+/* The name of a status, as "KFIFO_EMPTY". */
+static inline const char *kfifo_status_name(kfifo_status status) {
+    static const char *const names[] = {
+        "KFIFO_DONE",       "KFIFO_FULL",      "KFIFO_GOT",          "KFIFO_EMPTY",       "KFIFO_BUSY",
+        "KFIFO_WORN",       "KFIFO_BAD_CALL",  "KFIFO_NO_MEMORY",    "KFIFO_BAD_THREADS", "KFIFO_LOST",
+        "KFIFO_NO_TOKEN",   "KFIFO_BAD_K",     "KFIFO_BAD_SEGMENTS", "KFIFO_BAD_LAST",    "KFIFO_BAD_PROBES",
+        "KFIFO_BAD_TOKENS", "KFIFO_TIMED_OUT", "KFIFO_FINISHED",
+    };
+    return (size_t)status < sizeof names / sizeof names[0] ? names[status] : "no status of this library";
+}
+
+/* A line of text for a status, as "the queue was empty". kfifo_bad_call_text says which cause a BAD_CALL had. */
 static inline const char *kfifo_status_text(kfifo_status status) {
     switch (status) {
     case KFIFO_DONE: return "done";
     case KFIFO_FULL: return "the ring was full";
     case KFIFO_GOT: return "an item was taken";
     case KFIFO_EMPTY: return "the queue was empty";
-    case KFIFO_BUSY: return "each round was lost to other threads";
-    case KFIFO_WORN: return "the versions of the queue are used up";
+    case KFIFO_BUSY: return "the call used up its rounds";
+    case KFIFO_WORN: return "the versions of the queue are used up: close it and open another";
     case KFIFO_BAD_CALL: return "a pointer is null, an argument is out of range, or a handle is closed or missing";
     case KFIFO_NO_MEMORY: return "an allocation failed, and nothing was done";
     case KFIFO_BAD_THREADS: return "the number of threads is not 1 to 64";
@@ -48,19 +65,29 @@ static inline const char *kfifo_status_text(kfifo_status status) {
     case KFIFO_BAD_LAST: return "the greatest version is not 2 to 2^40 - 1";
     case KFIFO_BAD_PROBES: return "the number of probes is not 1 to k";
     case KFIFO_BAD_TOKENS: return "the number of tokens a thread is not 1 to 1,024";
+    case KFIFO_TIMED_OUT: return "the time was up";
+    case KFIFO_FINISHED: return "the queue is finished";
     }
     return "no status of this library";
 }
 
+/* Whether a later call may do better: true of FULL, EMPTY, BUSY and NO_TOKEN. A loop that retries another status never
+   ends. */
+static inline int kfifo_may_retry(kfifo_status status) {
+    return status == KFIFO_FULL || status == KFIFO_EMPTY || status == KFIFO_BUSY || status == KFIFO_NO_TOKEN;
+}
+
 /* The greatest version that a word can have, 2^40 - 1: what `last` should be. */
 #define KFIFO_LAST UINT64_C(1099511627775)
+/* The greatest number of threads of a queue. The least is 1. */
+#define KFIFO_MAX_THREADS ((size_t)64)
 /* The greatest item, 2^24 - 1. The least is 1. */
 #define KFIFO_MAX_ITEM UINT32_C(16777215)
 /* The greatest number of tokens a thread. */
 #define KFIFO_MAX_TOKENS UINT32_C(1024)
 
-/* A handle of a queue of items, one for each thread. All bytes 0 is a closed one. What it holds is the library's: neither read it nor write
-   it, and never copy it and use both. */
+/* A handle of a queue of items, one for each thread. All bytes 0 is a closed one. What it holds is the library's:
+   neither read it nor write it, and never copy it and use both. */
 typedef struct kfifo_pass {
     void *inside;
     void *address;
@@ -74,8 +101,10 @@ typedef struct kfifo_value_pass {
     uint32_t starts;
 } kfifo_value_pass;
 
-/* The exports of the library, which test all but null pointers, and at a close that the handles are of one queue. Call those below. */
-uint32_t kfifo_c_open(uint32_t k, uint32_t segments, uint32_t probes, uint64_t last, kfifo_pass *passes, size_t threads);
+/* The exports of the library, which test all but null pointers, and at a close that the handles are of one queue. Call
+   those below. */
+uint32_t kfifo_c_open(uint32_t k, uint32_t segments, uint32_t probes, uint64_t last, kfifo_pass *passes,
+                      size_t threads);
 uint32_t kfifo_c_put(kfifo_pass *pass, uint32_t item);
 uint32_t kfifo_c_get(kfifo_pass *pass, uint32_t *item);
 uint32_t kfifo_c_enqueue(kfifo_pass *pass, uint32_t item, uint32_t start, uint16_t turns);
@@ -83,15 +112,15 @@ uint32_t kfifo_c_dequeue(kfifo_pass *pass, uint32_t *item, uint32_t start, uint1
 uint32_t kfifo_c_word(kfifo_pass *pass, size_t index, uint64_t *word);
 uint32_t kfifo_c_close(kfifo_pass *passes, size_t threads, uint32_t *items, size_t room, size_t *count);
 void kfifo_c_abandon(kfifo_pass *passes, size_t threads);
-uint32_t kfifo_c_open_values(uint32_t k, uint32_t segments, uint32_t probes, uint64_t last, uint32_t tokens, kfifo_value_pass *passes,
-                             size_t threads);
+uint32_t kfifo_c_open_values(uint32_t k, uint32_t segments, uint32_t probes, uint64_t last, uint32_t tokens,
+                             kfifo_value_pass *passes, size_t threads);
 uint32_t kfifo_c_give(kfifo_value_pass *pass, uint64_t value);
 uint32_t kfifo_c_take(kfifo_value_pass *pass, uint64_t *value);
 uint32_t kfifo_c_close_values(kfifo_value_pass *passes, size_t threads, uint64_t *values, size_t room, size_t *count);
 void kfifo_c_abandon_values(kfifo_value_pass *passes, size_t threads);
 
-/* ThreadSanitizer does not see into the library. So the calls below tell it what the queue ensures: what a thread wrote before it put an
-   item is seen by whoever takes that item. Without the sanitizer these are nothing. */
+/* ThreadSanitizer does not see into the library. So the calls below tell it what the queue ensures: what a thread wrote
+   before it put an item is seen by whoever takes that item. Without the sanitizer these are nothing. */
 #if defined(__SANITIZE_THREAD__)
 #define KFIFO_TSAN 1
 #elif defined(__has_feature)
@@ -109,21 +138,43 @@ void __tsan_release(void *address);
 #define KFIFO_AFTER_GOT(pass, status) ((void)0)
 #endif
 
+/* A number of threads for the library, which refuses 65 as it does any more, and reads no handle then. */
+static inline size_t kfifo_at_most_one_over(size_t threads) {
+    return threads <= KFIFO_MAX_THREADS ? threads : KFIFO_MAX_THREADS + 1;
+}
+
 /* ---- A queue of items, which are numbers from 1 to KFIFO_MAX_ITEM ---- */
 
-/* Opens a queue of `segments` segments of k slots, and writes a handle for each thread into the array `passes`, whose old contents are lost.
-   DONE; BAD_CALL of a null pointer; BAD_K, BAD_SEGMENTS, BAD_LAST, BAD_PROBES, BAD_THREADS, NO_MEMORY, and all handles are then closed. */
-static inline kfifo_status kfifo_open(uint32_t k, uint32_t segments, uint32_t probes, uint64_t last, kfifo_pass *passes, size_t threads) {
+/* Opens a queue of `segments` segments of k slots, and writes a handle for each thread into the array `passes`, whose
+   old contents are lost. DONE; BAD_CALL of a null pointer; BAD_K, BAD_SEGMENTS, BAD_LAST, BAD_PROBES, BAD_THREADS,
+   NO_MEMORY, and all handles are then closed, at most the first 64. */
+static inline kfifo_status kfifo_open(uint32_t k, uint32_t segments, uint32_t probes, uint64_t last, kfifo_pass *passes,
+                                      size_t threads) {
     if (!passes) return KFIFO_BAD_CALL;
-    for (size_t i = 0; i < threads; i++) {
+    /* More than 64 handles are refused, so nothing beyond them is touched: a number that is wrong says nothing about
+       the array. */
+    for (size_t i = 0; i < threads && i < KFIFO_MAX_THREADS; i++) {
         passes[i].inside = NULL;
         passes[i].address = NULL;
         passes[i].starts = 0;
     }
-    return (kfifo_status)kfifo_c_open(k, segments, probes, last, passes, threads);
+    return (kfifo_status)kfifo_c_open(k, segments, probes, last, passes, kfifo_at_most_one_over(threads));
 }
 
-/* Puts an item, 1 to KFIFO_MAX_ITEM: DONE, FULL, BUSY, WORN or BAD_CALL. BUSY comes only where another thread won a step in the meantime. */
+/* Why a put, get, enqueue or dequeue with these arguments returns BAD_CALL: the first cause that holds, or NULL where
+   none does. Of a call without an item hand over item 1, of one without a start and turns 0 and 1. */
+static inline const char *kfifo_bad_call_text(const kfifo_pass *pass, uint32_t item, uint32_t start, uint16_t turns) {
+    if (!pass) return "the pointer to the handle is null";
+    if (pass->starts == 0) return "the handle is closed";
+    if (item < 1 || item > KFIFO_MAX_ITEM) return "the item is not 1 to 16,777,215";
+    if (start >= pass->starts) return "the start is not below k";
+    if (turns == 0) return "turns is not 1 to 65,535";
+    return NULL;
+}
+
+/* Puts an item, 1 to KFIFO_MAX_ITEM: DONE, FULL, BUSY, WORN or BAD_CALL. The call makes segments + 2 rounds, so BUSY
+   comes only where another thread changed the queue in the meantime. kfifo_may_retry says after which statuses to call
+   again. */
 static inline kfifo_status kfifo_put(kfifo_pass *pass, uint32_t item) {
     if (!pass) return KFIFO_BAD_CALL;
     KFIFO_BEFORE_PUT(pass);
@@ -138,7 +189,9 @@ static inline kfifo_status kfifo_get(kfifo_pass *pass, uint32_t *item) {
     return status;
 }
 
-/* As kfifo_put, with a start and turns of your own: the scan begins at slot `start`, below k, and the call makes at most `turns` rounds. */
+/* As kfifo_put, with a start and turns of your own: the scan begins at slot `start`, below k, and the call makes at
+   most `turns` rounds, at least 1. With fewer than segments + 2 a thread may get BUSY by moves of its own, without any
+   other. */
 static inline kfifo_status kfifo_enqueue(kfifo_pass *pass, uint32_t item, uint32_t start, uint16_t turns) {
     if (!pass) return KFIFO_BAD_CALL;
     KFIFO_BEFORE_PUT(pass);
@@ -153,48 +206,58 @@ static inline kfifo_status kfifo_dequeue(kfifo_pass *pass, uint32_t *item, uint3
     return status;
 }
 
-/* Reads a word of the queue: 0 is the ends word, then come the slots, segment by segment, and last the clock. DONE, and writes it; else
-   BAD_CALL, and *word stays. */
+/* Reads a word of the queue: 0 is the ends word, then come the slots, segment by segment, and last the clock. DONE, and
+   writes it; else BAD_CALL, and *word stays. */
 static inline kfifo_status kfifo_word(kfifo_pass *pass, size_t index, uint64_t *word) {
     if (!pass || !word) return KFIFO_BAD_CALL;
     return (kfifo_status)kfifo_c_word(pass, index, word);
 }
 
-/* Closes a queue by the handles of all its passes, in any order, and writes the items that are left, and how many: DONE. There has to be
-   room for an item of each slot, k * segments. BAD_CALL, also where they are of several queues, or NO_MEMORY: nothing was done.
-   LOST: an allocation failed; the queue is closed, and the items are lost. To be sure of them, take them all before. */
-static inline kfifo_status kfifo_close(kfifo_pass *passes, size_t threads, uint32_t *items, size_t room, size_t *count) {
+/* Closes a queue by the handles of all its passes, in any order, and writes the items that are left, and how many:
+   DONE. There has to be room for an item of each slot, k * segments. BAD_CALL, also where they are of several queues,
+   BAD_THREADS of more than 64, or NO_MEMORY: nothing was done. LOST: an allocation failed; the queue is closed, and the
+   items are lost. To be sure of them, take them all before. */
+static inline kfifo_status kfifo_close(kfifo_pass *passes, size_t threads, uint32_t *items, size_t room,
+                                       size_t *count) {
     if (!passes || !items || !count) return KFIFO_BAD_CALL;
+    if (threads > KFIFO_MAX_THREADS) return KFIFO_BAD_THREADS;
     /* `address` is that of the queue, which stays as long as a handle of it is open. */
     for (size_t i = 1; i < threads; i++)
         if (passes[i].address != passes[0].address) return KFIFO_BAD_CALL;
     return (kfifo_status)kfifo_c_close(passes, threads, items, room, count);
 }
 
-/* Closes these handles. With the last open handle of a queue the queue goes, and the items that are left in it. */
+/* Closes these handles, at most 64: DONE; BAD_CALL of a null pointer, or BAD_THREADS, and nothing was done. With the
+   last open handle of a queue the queue goes, and the items that are left in it. */
 static inline kfifo_status kfifo_abandon(kfifo_pass *passes, size_t threads) {
     if (!passes) return KFIFO_BAD_CALL;
+    if (threads > KFIFO_MAX_THREADS) return KFIFO_BAD_THREADS;
     kfifo_c_abandon(passes, threads);
     return KFIFO_DONE;
 }
 
 /* ---- A queue of values, which are 64-bit numbers or pointers ---- */
 
-/* Opens a queue of values. Each thread begins with so many tokens, 1 to KFIFO_MAX_TOKENS. A value in the queue has one; the thread that takes
-   the value gets it, and lays it down for others where it then has more than it began with. So the values that a thread has given and nobody
-   has taken are about `tokens` at most. DONE; BAD_CALL of a null pointer; BAD_K, BAD_SEGMENTS, BAD_THREADS, BAD_TOKENS, NO_MEMORY, and all
-   handles are then closed. */
-static inline kfifo_status kfifo_open_values(uint32_t k, uint32_t segments, uint32_t tokens, kfifo_value_pass *passes, size_t threads) {
+/* Opens a queue of values. Each thread begins with so many tokens, 1 to KFIFO_MAX_TOKENS. A value in the queue has one,
+   which the thread that takes the value gets. With a batch more than it began with, 16 or tokens / threads at most, it
+   lays a batch down for others. So the values that a thread has given and nobody has taken are about `tokens` at most.
+   DONE; BAD_CALL of a null pointer; BAD_K, BAD_SEGMENTS, BAD_THREADS, BAD_TOKENS, NO_MEMORY, and all handles are then
+   closed, at most the first 64. */
+static inline kfifo_status kfifo_open_values(uint32_t k, uint32_t segments, uint32_t tokens, kfifo_value_pass *passes,
+                                             size_t threads) {
     if (!passes) return KFIFO_BAD_CALL;
-    for (size_t i = 0; i < threads; i++) {
+    /* More than 64 handles are refused, so nothing beyond them is touched: a number that is wrong says nothing about
+       the array. */
+    for (size_t i = 0; i < threads && i < KFIFO_MAX_THREADS; i++) {
         passes[i].inside = NULL;
         passes[i].address = NULL;
         passes[i].starts = 0;
     }
-    return (kfifo_status)kfifo_c_open_values(k, segments, k, KFIFO_LAST, tokens, passes, threads);
+    return (kfifo_status)kfifo_c_open_values(k, segments, k, KFIFO_LAST, tokens, passes,
+                                             kfifo_at_most_one_over(threads));
 }
 
-/* Gives any value to the queue: DONE; else FULL, BUSY, WORN, NO_TOKEN or BAD_CALL, and the value is still the caller's. */
+/* Gives any value to the queue: DONE; else FULL, BUSY, WORN, NO_TOKEN or BAD_CALL, and the value stays the caller's. */
 static inline kfifo_status kfifo_give(kfifo_value_pass *pass, uint64_t value) {
     if (!pass) return KFIFO_BAD_CALL;
     KFIFO_BEFORE_PUT(pass);
@@ -223,8 +286,10 @@ static inline kfifo_status kfifo_take_pointer(kfifo_value_pass *pass, void **poi
 }
 
 /* Closes a queue of values, as kfifo_close does. */
-static inline kfifo_status kfifo_close_values(kfifo_value_pass *passes, size_t threads, uint64_t *values, size_t room, size_t *count) {
+static inline kfifo_status kfifo_close_values(kfifo_value_pass *passes, size_t threads, uint64_t *values, size_t room,
+                                              size_t *count) {
     if (!passes || !values || !count) return KFIFO_BAD_CALL;
+    if (threads > KFIFO_MAX_THREADS) return KFIFO_BAD_THREADS;
     for (size_t i = 1; i < threads; i++)
         if (passes[i].address != passes[0].address) return KFIFO_BAD_CALL;
     return (kfifo_status)kfifo_c_close_values(passes, threads, values, room, count);
@@ -233,6 +298,7 @@ static inline kfifo_status kfifo_close_values(kfifo_value_pass *passes, size_t t
 /* Closes these handles, as kfifo_abandon does. Values that are pointers are not freed. */
 static inline kfifo_status kfifo_abandon_values(kfifo_value_pass *passes, size_t threads) {
     if (!passes) return KFIFO_BAD_CALL;
+    if (threads > KFIFO_MAX_THREADS) return KFIFO_BAD_THREADS;
     kfifo_c_abandon_values(passes, threads);
     return KFIFO_DONE;
 }

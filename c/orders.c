@@ -1,9 +1,7 @@
-/* Producers and consumers with a struct of their own: two threads make orders and two work on them, each order on the heap. */
-#include "kfifo.h"
+/* Producers and consumers with a struct of their own: two threads make orders and two work on them, each order on the
+   heap. Who finds no room or no order sleeps. */
+#include "kfifo_wait.h"
 #include <pthread.h>
-#include <sched.h>
-#include <stdatomic.h>
-#include <stdbool.h>
 #include <stdio.h>
 #include <stdlib.h>
 
@@ -14,12 +12,13 @@ struct order {
     double price;
 };
 
-static atomic_uint producing = PRODUCERS; /* producers that have not ended */
+static kfifo_waits waits; /* what all these threads wait by */
 
 struct side {
     kfifo_value_pass *pass;
     uint32_t number, orders;
     double total;
+    kfifo_status end; /* why the thread ended */
 };
 
 static void *produce(void *argument) {
@@ -27,32 +26,28 @@ static void *produce(void *argument) {
     for (uint32_t i = 0; i < EACH; i++) {
         struct order *order = malloc(sizeof *order);
         if (!order) abort();
-        *order = (struct order){.customer = self->number, .price = 0.25 * i};
-        self->total += order->price;
-        /* Full, or out of tokens: the consumers are behind. The order is still ours. */
-        while (kfifo_give_pointer(self->pass, order) != KFIFO_DONE) sched_yield();
+        double price = 0.25 * i;
+        *order = (struct order){.customer = self->number, .price = price};
+        self->end = kfifo_give_pointer_wait(self->pass, &waits, order, KFIFO_FOREVER);
+        if (self->end != KFIFO_DONE) {
+            free(order); /* the queue takes no more, and the order is still ours */
+            break;
+        }
+        self->total += price; /* the order itself may be gone by now */
         self->orders++;
     }
-    atomic_fetch_sub(&producing, 1);
     return NULL;
 }
 
 static void *consume(void *argument) {
     struct side *self = argument;
-    for (;;) {
-        bool last = atomic_load(&producing) == 0; /* read before the take: only then is an empty queue the end */
-        void *order = NULL;
-        kfifo_status status = kfifo_take_pointer(self->pass, &order);
-        if (status == KFIFO_GOT) {
-            self->total += ((struct order *)order)->price;
-            self->orders++;
-            free(order);
-        } else if (status == KFIFO_EMPTY && last) {
-            return NULL;
-        } else {
-            sched_yield();
-        }
+    void *order = NULL;
+    while ((self->end = kfifo_take_pointer_wait(self->pass, &waits, &order, KFIFO_FOREVER)) == KFIFO_GOT) {
+        self->total += ((struct order *)order)->price;
+        self->orders++;
+        free(order);
     }
+    return NULL;
 }
 
 int main(void) {
@@ -72,11 +67,17 @@ int main(void) {
     uint32_t made = 0, done = 0;
     double owed = 0, paid = 0;
     for (uint32_t i = 0; i < THREADS; i++) {
+        if (i == PRODUCERS) kfifo_finish(&waits); /* all producers have ended */
         pthread_join(threads[i], NULL);
+        if (sides[i].end != (i < PRODUCERS ? KFIFO_DONE : KFIFO_FINISHED))
+            fprintf(stderr, "thread %u ended: %s\n", (unsigned)i, kfifo_status_text(sides[i].end));
         *(i < PRODUCERS ? &made : &done) += sides[i].orders;
         *(i < PRODUCERS ? &owed : &paid) += sides[i].total;
     }
-    kfifo_abandon_values(passes, THREADS); /* the queue is empty, so no order is lost */
-    printf("%u orders were made and %u done, for %.2f\n", made, done, paid);
+    static uint64_t left[K * SEGMENTS];
+    size_t count = 0;
+    if (kfifo_close_values(passes, THREADS, left, K * SEGMENTS, &count) != KFIFO_DONE) return 1;
+    for (size_t i = 0; i < count; i++) free((void *)(uintptr_t)left[i]);
+    printf("%u orders were made and %u done, for %.2f\n", (unsigned)made, (unsigned)done, paid);
     return made == PRODUCERS * EACH && done == made && owed == paid ? 0 : 1;
 }

@@ -1,72 +1,69 @@
-/* A pool of worker threads: four threads take jobs out of one queue while main puts them. An item is the index, from 1, of a job in an array. */
-#include "kfifo.h"
+/* A pool of worker threads: four threads take jobs out of one queue while main puts them. A worker sleeps while there
+   is no job, main while there is no room. An item is the index, from 1, of a job in an array. */
+#include "kfifo_wait.h"
 #include <pthread.h>
-#include <sched.h>
-#include <stdatomic.h>
-#include <stdbool.h>
 #include <stdio.h>
 
 enum { WORKERS = 4, JOBS = 10000, K = 4, SEGMENTS = 256 };
 
 static uint64_t numbers[JOBS + 1]; /* the jobs; numbers[0] is never used */
-static atomic_bool all_put;        /* main puts no more */
+static kfifo_waits waits;          /* what all these threads wait by */
 
 struct worker {
     kfifo_pass *pass;
     uint64_t sum;
     uint32_t jobs;
+    kfifo_status end; /* why the worker ended */
 };
 
 static void *work(void *argument) {
     struct worker *self = argument;
-    for (;;) {
-        bool last = atomic_load(&all_put); /* read before the get: only then is an empty queue the end */
-        uint32_t item = 0;
-        kfifo_status status = kfifo_get(self->pass, &item);
-        if (status == KFIFO_GOT) {
-            self->sum += numbers[item];
-            self->jobs++;
-        } else if (status == KFIFO_EMPTY && last) {
-            return NULL;
-        } else {
-            sched_yield();
-        }
+    uint32_t item = 0;
+    while ((self->end = kfifo_get_wait(self->pass, &waits, &item, KFIFO_FOREVER)) == KFIFO_GOT) {
+        self->sum += numbers[item];
+        self->jobs++;
     }
+    return NULL;
 }
 
 int main(void) {
     kfifo_pass passes[WORKERS + 1]; /* the last one is main's */
     struct worker workers[WORKERS];
     pthread_t threads[WORKERS];
-    if (kfifo_open(K, SEGMENTS, K, KFIFO_LAST, passes, WORKERS + 1) != KFIFO_DONE) return 1;
+    kfifo_status status = kfifo_open(K, SEGMENTS, K, KFIFO_LAST, passes, WORKERS + 1);
+    if (status != KFIFO_DONE) {
+        fprintf(stderr, "no queue: %s\n", kfifo_status_text(status));
+        return 1;
+    }
     for (uint32_t i = 0; i < WORKERS; i++) {
         workers[i] = (struct worker){.pass = &passes[i]};
         if (pthread_create(&threads[i], NULL, work, &workers[i])) return 1;
     }
-    uint32_t put = 0, full = 0;
+    uint32_t put = 0;
     uint64_t sum = 0;
     for (uint32_t job = 1; job <= JOBS; job++) {
         numbers[job] = (uint64_t)job * job;
-        kfifo_status status;
-        while ((status = kfifo_put(&passes[WORKERS], job)) == KFIFO_FULL || status == KFIFO_BUSY) {
-            full += status == KFIFO_FULL;
-            sched_yield();
+        status = kfifo_put_wait(&passes[WORKERS], &waits, job, KFIFO_FOREVER);
+        if (status != KFIFO_DONE) {
+            fprintf(stderr, "job %u was not put: %s\n", (unsigned)job, kfifo_status_text(status));
+            break;
         }
-        if (status != KFIFO_DONE) break;
         put++;
         sum += numbers[job];
     }
-    atomic_store(&all_put, true);
+    kfifo_finish(&waits); /* a worker ends when it then finds the queue empty */
     uint32_t jobs = 0;
     uint64_t total = 0;
     for (uint32_t i = 0; i < WORKERS; i++) {
         pthread_join(threads[i], NULL);
+        if (workers[i].end != KFIFO_FINISHED)
+            fprintf(stderr, "worker %u ended: %s\n", (unsigned)i, kfifo_status_text(workers[i].end));
         jobs += workers[i].jobs;
         total += workers[i].sum;
     }
     static uint32_t left[K * SEGMENTS];
     size_t count = 1;
     if (kfifo_close(passes, WORKERS + 1, left, K * SEGMENTS, &count) != KFIFO_DONE) return 1;
-    printf("%u jobs were put and %u done, %zu are left, and %s\n", put, jobs, count, full ? "the queue was full at times" : "the queue was never full");
+    printf("%u jobs were put and %u done, %zu are left\n", (unsigned)put, (unsigned)jobs, count);
     return put == JOBS && jobs == JOBS && sum == total && count == 0 ? 0 : 1;
 }

@@ -1,4 +1,5 @@
-/* Threads put and take over many shapes; each item that went in has to come out once, and each refusal comes at its cause. */
+/* Threads put and take over many shapes; each item that went in has to come out once, and each refusal comes at its
+   cause. */
 #include "kfifo.h"
 #include <pthread.h>
 #include <stdio.h>
@@ -33,7 +34,8 @@ struct side {
 /* Every second call chooses its start and turns itself. */
 static void take(struct side *self, uint32_t index) {
     uint32_t item = 0;
-    int status = index % 4 < 2 ? kfifo_get(self->pass, &item) : kfifo_dequeue(self->pass, &item, index % self->k, self->turns);
+    int status =
+        index % 4 < 2 ? kfifo_get(self->pass, &item) : kfifo_dequeue(self->pass, &item, index % self->k, self->turns);
     if (status == KFIFO_GOT) {
         self->out[item]++;
         self->got++;
@@ -69,7 +71,11 @@ static void run(uint32_t k, uint32_t segments, uint32_t probes, uint32_t threads
     int status;
     expect(kfifo_open(k, segments, probes, KFIFO_LAST, passes, threads), KFIFO_DONE, "open");
     for (uint32_t i = 0; i < threads; i++) {
-        sides[i] = (struct side){.pass = &passes[i], .k = k, .first = 1 + i * EACH, .turns = (uint16_t)(segments + 2), .out = calloc(items + 1, 1)};
+        sides[i] = (struct side){.pass = &passes[i],
+                                 .k = k,
+                                 .first = 1 + i * EACH,
+                                 .turns = (uint16_t)(segments + 2),
+                                 .out = calloc(items + 1, 1)};
         if (!sides[i].out || pthread_create(&ids[i], NULL, work, &sides[i])) abort();
     }
     for (uint32_t i = 0; i < threads; i++) pthread_join(ids[i], NULL);
@@ -94,7 +100,8 @@ static void run(uint32_t k, uint32_t segments, uint32_t probes, uint32_t threads
     expect(kfifo_enqueue(&passes[threads - 1], 2, 0, (uint16_t)(segments + 2)), KFIFO_DONE, "another");
     size_t count = 77;
     expect(kfifo_close(passes, threads, left, k * segments - 1, &count), KFIFO_BAD_CALL, "too little room");
-    if (threads > 1) expect(kfifo_close(passes, threads - 1, left, k * segments, &count), KFIFO_BAD_CALL, "a missing pass");
+    if (threads > 1)
+        expect(kfifo_close(passes, threads - 1, left, k * segments, &count), KFIFO_BAD_CALL, "a missing pass");
     expect((int)count, 77, "the count of a close that did nothing");
     expect(kfifo_close(passes, threads, left, k * segments, &count), KFIFO_DONE, "close");
     expect((int)count, 2, "items left");
@@ -185,6 +192,78 @@ static void most_handles(void) {
     expect((int)(sum + left[0]), THREADS * (THREADS + 1) / 2, "the sum of the items");
 }
 
+/* More handles than a queue has are refused by each call that takes a number, which then touches nothing beyond the
+   first 64. The arrays are on the heap and have just 64 handles, so that the address sanitizer sees a touch. */
+static void too_many_threads(void) {
+    static const size_t counts[] = {65, 200, SIZE_MAX};
+    enum { THREADS = 64 };
+    kfifo_pass *all = malloc(THREADS * sizeof *all);
+    uint32_t item = 0;
+    size_t count = 77;
+    if (!all) abort();
+    for (size_t i = 0; i < sizeof counts / sizeof counts[0]; i++) {
+        memset(all, 0xff, THREADS * sizeof *all);
+        expect(kfifo_open(1, 2, 1, KFIFO_LAST, all, counts[i]), KFIFO_BAD_THREADS, "an open for too many threads");
+        expect(kfifo_put(&all[0], 1), KFIFO_BAD_CALL, "the first handle of an open for too many threads");
+        expect(kfifo_put(&all[THREADS - 1], 1), KFIFO_BAD_CALL, "the last handle of an open for too many threads");
+        expect(kfifo_open(0, 2, 1, KFIFO_LAST, all, counts[i]), KFIFO_BAD_K, "k is tested before the threads");
+        expect(kfifo_open(1, 2, 1, KFIFO_LAST, all, THREADS), KFIFO_DONE, "an open for 64 threads");
+        expect(kfifo_put(&all[0], 5), KFIFO_DONE, "an item");
+        expect(kfifo_close(all, counts[i], left, 2, &count), KFIFO_BAD_THREADS, "a close by too many handles");
+        expect((int)count, 77, "the count of a close by too many handles");
+        expect(kfifo_abandon(all, counts[i]), KFIFO_BAD_THREADS, "an abandon of too many handles");
+        expect(kfifo_get(&all[THREADS - 1], &item), KFIFO_GOT, "a get after calls with too many handles");
+        expect(kfifo_abandon(all, THREADS), KFIFO_DONE, "an abandon of 64 handles");
+        expect(kfifo_put(&all[THREADS - 1], 1), KFIFO_BAD_CALL, "an abandoned handle");
+    }
+    free(all);
+}
+
+/* Each cause of BAD_CALL has a text of its own, which comes exactly where the call is refused. */
+static void texts_of_bad_calls(void) {
+    kfifo_pass pass, closed = {0};
+    uint32_t item = 0;
+    expect(kfifo_open(4, 2, 4, KFIFO_LAST, &pass, 1), KFIFO_DONE, "open for texts");
+    const struct {
+        kfifo_pass *pass;
+        uint32_t item, start;
+        uint16_t turns;
+        const char *text;
+    } rows[] = {
+        {NULL, 1, 0, 1, "pointer"}, {&closed, 1, 0, 1, "closed"},
+        {&pass, 0, 0, 1, "item"},   {&pass, KFIFO_MAX_ITEM + 1, 0, 1, "item"},
+        {&pass, 1, 4, 1, "start"},  {&pass, 1, 0, 0, "turns"},
+        {&pass, 1, 3, 1, NULL},     {&pass, KFIFO_MAX_ITEM, 0, 65535, NULL},
+    };
+    for (size_t i = 0; i < sizeof rows / sizeof rows[0]; i++) {
+        const char *text = kfifo_bad_call_text(rows[i].pass, rows[i].item, rows[i].start, rows[i].turns);
+        int refused = kfifo_enqueue(rows[i].pass, rows[i].item, rows[i].start, rows[i].turns) == KFIFO_BAD_CALL;
+        expect(text != NULL, rows[i].text != NULL, "whether a call may not be made, by its text");
+        expect(refused, rows[i].text != NULL, "whether a call may not be made");
+        expect(text && rows[i].text && !strstr(text, rows[i].text), 0, "the text names the cause");
+        if (!refused) expect(kfifo_get(&pass, &item), KFIFO_GOT, "the item of a call that was made");
+    }
+    kfifo_abandon(&pass, 1);
+}
+
+/* Fifty queues at once: all handles of one have one address, and no two have the same. */
+static void addresses(void) {
+    enum { QUEUES = 50 };
+    static kfifo_pass all[QUEUES][3];
+    for (int i = 0; i < QUEUES; i++) {
+        expect(kfifo_open(2, 4, 2, KFIFO_LAST, all[i], 3), KFIFO_DONE, "open one of fifty");
+        expect(all[i][0].address == all[i][1].address && all[i][1].address == all[i][2].address, 1,
+               "the address of a queue's handles");
+        for (int j = 0; j < i; j++) expect(all[i][0].address != all[j][2].address, 1, "the addresses of two queues");
+    }
+    for (int i = 0; i < QUEUES; i++) {
+        kfifo_abandon(all[i], 2);
+        for (int j = 0; j < i; j++)
+            expect(all[i][2].address != all[j][2].address, 1, "an address while a handle is left");
+    }
+    for (int i = 0; i < QUEUES; i++) kfifo_abandon(&all[i][2], 1);
+}
+
 static void refusals(void) {
     kfifo_pass pass, many[65];
     uint32_t item = 77;
@@ -241,7 +320,8 @@ static void refusals(void) {
     expect(kfifo_dequeue(&pass, &item, 0, 4), KFIFO_BAD_CALL, "a closed handle");
     expect(kfifo_open(1, 2, 1, 2, &pass, 1), KFIFO_DONE, "open for few versions");
     int status = KFIFO_DONE;
-    for (int i = 0; i < 100 && status != KFIFO_WORN; i++) status = i % 2 ? kfifo_dequeue(&pass, &item, 0, 4) : kfifo_enqueue(&pass, 1, 0, 4);
+    for (int i = 0; i < 100 && status != KFIFO_WORN; i++)
+        status = i % 2 ? kfifo_dequeue(&pass, &item, 0, 4) : kfifo_enqueue(&pass, 1, 0, 4);
     expect(status, KFIFO_WORN, "worn");
     expect(kfifo_close(&pass, 1, left, 2, &count), KFIFO_DONE, "close a worn queue");
     kfifo_pass two[2];
@@ -258,11 +338,23 @@ int main(void) {
     mixtures();
     starts();
     most_handles();
-    for (int status = KFIFO_DONE; status <= KFIFO_BAD_TOKENS; status++)
-        expect(strcmp(kfifo_status_text((kfifo_status)status), kfifo_status_text((kfifo_status)99)) != 0, 1, "the text of a status");
+    too_many_threads();
+    texts_of_bad_calls();
+    addresses();
+    for (int status = KFIFO_DONE; status <= KFIFO_FINISHED; status++) {
+        expect(strcmp(kfifo_status_text((kfifo_status)status), kfifo_status_text((kfifo_status)99)) != 0, 1,
+               "the text of a status");
+        expect(strncmp(kfifo_status_name((kfifo_status)status), "KFIFO_", 6), 0, "the name of a status");
+        for (int other = KFIFO_DONE; other < status; other++)
+            expect(strcmp(kfifo_status_name((kfifo_status)status), kfifo_status_name((kfifo_status)other)) != 0, 1,
+                   "the names of two");
+    }
+    expect(strcmp(kfifo_status_name(KFIFO_FINISHED), "KFIFO_FINISHED"), 0, "the last name");
+    expect(strcmp(kfifo_status_name(KFIFO_BUSY), "KFIFO_BUSY"), 0, "a name in the middle");
     for (size_t k = 0; k < 4; k++)
         for (size_t n = 0; n < 4; n++)
-            for (uint32_t threads = 1; threads <= MOST; threads *= 2) run(ks[k], rings[n], threads == 2 ? 1 : ks[k], threads);
+            for (uint32_t threads = 1; threads <= MOST; threads *= 2)
+                run(ks[k], rings[n], threads == 2 ? 1 : ks[k], threads);
     printf("%s\n", failed ? "the queue for C fails" : "16 shapes, 1, 2 and 4 threads: each item came out once");
     return failed;
 }

@@ -1,4 +1,5 @@
-// A queue of values in C++: values that own memory come out once and whole, each is destroyed once, and each refusal hands its value back.
+// A queue of values in C++: values that own memory come out once and whole, each is destroyed once, and each refusal
+// hands its value back.
 #include "kfifo.hpp"
 
 #include <atomic>
@@ -48,10 +49,16 @@ std::atomic<long> Parcel::alive{0};
 
 void refusals() {
     using Values = kfifo::ValueQueue<std::string>;
-    expect(refuses(KFIFO_BAD_K, [] { Values(0, 2, 1); }) && refuses(KFIFO_BAD_K, [] { Values(65, 2, 1); }), "k out of range");
-    expect(refuses(KFIFO_BAD_SEGMENTS, [] { Values(1, 1, 1); }) && refuses(KFIFO_BAD_SEGMENTS, [] { Values(1, 1025, 1); }), "segments out of range");
-    expect(refuses(KFIFO_BAD_THREADS, [] { Values(1, 2, 0); }) && refuses(KFIFO_BAD_THREADS, [] { Values(1, 2, 65); }), "threads out of range");
-    expect(refuses(KFIFO_BAD_TOKENS, [] { Values(1, 2, 1, 0); }) && refuses(KFIFO_BAD_TOKENS, [] { Values(1, 2, 1, 1025); }), "tokens out of range");
+    expect(refuses(KFIFO_BAD_K, [] { Values(0, 2, 1); }) && refuses(KFIFO_BAD_K, [] { Values(65, 2, 1); }),
+           "k out of range");
+    expect(refuses(KFIFO_BAD_SEGMENTS, [] { Values(1, 1, 1); }) &&
+               refuses(KFIFO_BAD_SEGMENTS, [] { Values(1, 1025, 1); }),
+           "segments out of range");
+    expect(refuses(KFIFO_BAD_THREADS, [] { Values(1, 2, 0); }) && refuses(KFIFO_BAD_THREADS, [] { Values(1, 2, 65); }),
+           "threads out of range");
+    expect(refuses(KFIFO_BAD_TOKENS, [] { Values(1, 2, 1, 0); }) &&
+               refuses(KFIFO_BAD_TOKENS, [] { Values(1, 2, 1, 1025); }),
+           "tokens out of range");
     Values queue(1, 2, 2, 2);
     Values::Handle first = queue.handle();
     {
@@ -64,9 +71,11 @@ void refusals() {
     expect(first.give(std::move(word)) == kfifo::Put::done, "a first value");
     word = std::string(100, 'b');
     expect(first.give(word) == kfifo::Put::done && word == std::string(100, 'b'), "a copy is given");
-    expect(first.give(std::move(word)) == kfifo::Put::no_token && word == std::string(100, 'b'), "without a token the value comes back");
+    expect(first.give(std::move(word)) == kfifo::Put::no_token && word == std::string(100, 'b'),
+           "without a token the value comes back");
     Values::Handle second = queue.handle();
-    expect(second.give(std::move(word)) == kfifo::Put::full && word == std::string(100, 'b'), "of a full ring the value comes back");
+    expect(second.give(std::move(word)) == kfifo::Put::full && word == std::string(100, 'b'),
+           "of a full ring the value comes back");
     expect(second.take().value == std::string(100, 'a'), "the oldest value");
     Values::Handle moved = std::move(second);
     expect(refuses(KFIFO_BAD_CALL, [&] { second.take(); }), "a handle that was moved from");
@@ -74,7 +83,8 @@ void refusals() {
         Values::Handle one = std::move(first), other = std::move(moved);
     }
     expect(queue.close() == std::vector<std::string>{std::string(100, 'b')}, "what is left");
-    expect(refuses(KFIFO_BAD_CALL, [&] { queue.close(); }) && refuses(KFIFO_BAD_CALL, [&] { queue.handle(); }), "a closed queue");
+    expect(refuses(KFIFO_BAD_CALL, [&] { queue.close(); }) && refuses(KFIFO_BAD_CALL, [&] { queue.handle(); }),
+           "a closed queue");
 }
 
 // Values that fit in 64 bits, and values that need a cell of their own.
@@ -157,6 +167,7 @@ int main() {
     sizes();
     ends();
     for (std::size_t pairs = 1; pairs <= 4; pairs *= 2) threads(pairs);
-    std::puts(failures ? "the queue of values fails in C++" : "1, 2 and 4 producers in C++: each value came out whole, and was destroyed once");
+    std::puts(failures ? "the queue of values fails in C++"
+                       : "1, 2 and 4 producers in C++: each value came out whole, and was destroyed once");
     return failures;
 }

@@ -1,10 +1,12 @@
-/* A queue of values: 1, 2 and 4 producers and as many consumers, and each value comes out once; each refusal comes at its cause. */
+/* A queue of values: 1, 2 and 4 producers and as many consumers, and each value comes out once; each refusal comes at
+   its cause. */
 #include "kfifo.h"
 #include <pthread.h>
 #include <sched.h>
 #include <stdatomic.h>
 #include <stdio.h>
 #include <stdlib.h>
+#include <string.h>
 
 /* How many values each producer gives. */
 #ifdef FEWER
@@ -21,6 +23,12 @@ static void expect(uint64_t is, uint64_t wanted, const char *what) {
         fprintf(stderr, "%s: %llu, and not %llu\n", what, (unsigned long long)is, (unsigned long long)wanted);
         failed = 1;
     }
+}
+
+/* Ends the test: what a call answered will not change. */
+static void stopped(kfifo_status status) {
+    fprintf(stderr, "a thread stops: %s\n", kfifo_status_text(status));
+    exit(1);
 }
 
 struct side {
@@ -41,9 +49,11 @@ static void *produce(void *argument) {
         if (status == KFIFO_DONE) {
             self->count++;
             i++;
-        } else {
-            if (status == KFIFO_NO_TOKEN) self->tokens_missed++;
+        } else if (status == KFIFO_FULL || status == KFIFO_BUSY || status == KFIFO_NO_TOKEN) {
+            self->tokens_missed += status == KFIFO_NO_TOKEN;
             sched_yield();
+        } else {
+            stopped(status);
         }
     }
     atomic_fetch_sub(&still_giving, 1);
@@ -61,8 +71,10 @@ static void *consume(void *argument) {
             self->count++;
         } else if (status == KFIFO_EMPTY && last) {
             return NULL;
-        } else {
+        } else if (status == KFIFO_EMPTY || status == KFIFO_BUSY) {
             sched_yield();
+        } else {
+            stopped(status);
         }
     }
 }
@@ -92,7 +104,8 @@ static void run(uint32_t pairs) {
     /* What is given now is what a close gives back. */
     static uint64_t left[K * SEGMENTS];
     size_t count = 77;
-    for (uint32_t i = 0; i < 2 * pairs; i++) expect(kfifo_give(&passes[i], UINT64_MAX - i), KFIFO_DONE, "a value to be left");
+    for (uint32_t i = 0; i < 2 * pairs; i++)
+        expect(kfifo_give(&passes[i], UINT64_MAX - i), KFIFO_DONE, "a value to be left");
     expect(kfifo_close_values(passes, 2 * pairs, left, K * SEGMENTS - 1, &count), KFIFO_BAD_CALL, "too little room");
     expect(kfifo_close_values(passes, 2 * pairs - 1, left, K * SEGMENTS, &count), KFIFO_BAD_CALL, "a missing pass");
     expect(count, 77, "the count of a close that did nothing");
@@ -113,13 +126,51 @@ static void tokens(void) {
     for (uint64_t round = 0; round < 1000; round++) {
         for (uint64_t i = 0; i < 3; i++) expect(kfifo_give(&two[0], round), KFIFO_DONE, "a give with a token");
         expect(kfifo_give(&two[0], 1), KFIFO_NO_TOKEN, "a give without one");
-        for (uint64_t i = 0; i < 3; i++) expect(kfifo_take(&two[1], &value), KFIFO_GOT, "a take that lays a token down");
+        for (uint64_t i = 0; i < 3; i++)
+            expect(kfifo_take(&two[1], &value), KFIFO_GOT, "a take that lays a token down");
         expect(value, round, "the value that was given");
     }
     value = 77;
     expect(kfifo_take(&two[1], &value), KFIFO_EMPTY, "an empty queue");
     expect(value, 77, "the value of a take that got none");
     kfifo_abandon_values(two, 2);
+}
+
+/* More handles than a queue has: as of a queue of items. The array is on the heap and has just 64 handles. */
+static void too_many_threads(void) {
+    static const size_t counts[] = {65, 200, SIZE_MAX};
+    enum { THREADS = 64 };
+    kfifo_value_pass *all = malloc(THREADS * sizeof *all);
+    uint64_t left[2] = {0}, value = 0;
+    size_t count = 77;
+    if (!all) abort();
+    for (size_t i = 0; i < sizeof counts / sizeof counts[0]; i++) {
+        memset(all, 0xff, THREADS * sizeof *all);
+        expect(kfifo_open_values(1, 2, 4, all, counts[i]), KFIFO_BAD_THREADS, "an open for too many threads");
+        expect(kfifo_give(&all[0], 1), KFIFO_BAD_CALL, "the first handle of an open for too many threads");
+        expect(kfifo_give(&all[THREADS - 1], 1), KFIFO_BAD_CALL, "the last handle of an open for too many threads");
+        expect(kfifo_open_values(1, 2, 4, all, THREADS), KFIFO_DONE, "an open for 64 threads");
+        expect(kfifo_give(&all[0], 5), KFIFO_DONE, "a value");
+        expect(kfifo_close_values(all, counts[i], left, 2, &count), KFIFO_BAD_THREADS, "a close by too many handles");
+        expect(count, 77, "the count of a close by too many handles");
+        expect(kfifo_abandon_values(all, counts[i]), KFIFO_BAD_THREADS, "an abandon of too many handles");
+        expect(kfifo_take(&all[THREADS - 1], &value), KFIFO_GOT, "a take after calls with too many handles");
+        expect(kfifo_abandon_values(all, THREADS), KFIFO_DONE, "an abandon of 64 handles");
+        expect(kfifo_give(&all[THREADS - 1], 1), KFIFO_BAD_CALL, "an abandoned handle");
+    }
+    free(all);
+}
+
+/* Fifty queues at once: all handles of one have one address, and no two have the same. */
+static void addresses(void) {
+    enum { QUEUES = 50 };
+    static kfifo_value_pass all[QUEUES][2];
+    for (int i = 0; i < QUEUES; i++) {
+        expect(kfifo_open_values(2, 4, 3, all[i], 2), KFIFO_DONE, "open one of fifty");
+        expect(all[i][0].address == all[i][1].address, 1, "the address of a queue's handles");
+        for (int j = 0; j < i; j++) expect(all[i][0].address != all[j][1].address, 1, "the addresses of two queues");
+    }
+    for (int i = 0; i < QUEUES; i++) kfifo_abandon_values(all[i], 2);
 }
 
 static void refusals(void) {
@@ -171,7 +222,8 @@ static void ends(void) {
     size_t count = 77;
     kfifo_status status = KFIFO_DONE;
     expect(kfifo_c_open_values(1, 2, 1, 2, 4, &one, 1), KFIFO_DONE, "open for few versions");
-    for (int i = 0; i < 100 && status != KFIFO_WORN; i++) status = i % 3 == 2 ? kfifo_take(&one, &value) : kfifo_give(&one, (uint64_t)i);
+    for (int i = 0; i < 100 && status != KFIFO_WORN; i++)
+        status = i % 3 == 2 ? kfifo_take(&one, &value) : kfifo_give(&one, (uint64_t)i);
     expect(status, KFIFO_WORN, "worn");
     expect(kfifo_close_values(&one, 1, left, 2, &count), KFIFO_DONE, "close a worn queue");
     expect(kfifo_open_values(1, 2, 1, first, 2), KFIFO_DONE, "open the first");
@@ -193,9 +245,12 @@ static void ends(void) {
 
 int main(void) {
     refusals();
+    too_many_threads();
+    addresses();
     tokens();
     ends();
     for (uint32_t pairs = 1; pairs <= MOST; pairs *= 2) run(pairs);
-    printf("%s\n", failed ? "the queue of values fails" : "1, 2 and 4 producers and as many consumers: each value came out once");
+    printf("%s\n", failed ? "the queue of values fails"
+                          : "1, 2 and 4 producers and as many consumers: each value came out once");
     return failed;
 }

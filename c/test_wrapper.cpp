@@ -16,15 +16,18 @@ void expect(bool holds, const char *what) {
     }
 }
 
-// Whether a call throws an Error with this status, whose text says so.
-template <typename Call> bool refuses(Call call, kfifo_status status = KFIFO_BAD_CALL) {
+// Whether a call throws an Error with this status, whose text has this word.
+template <typename Call> bool refuses(Call call, kfifo_status status = KFIFO_BAD_CALL, const char *word = "") {
     try {
         call();
     } catch (const kfifo::Error &error) {
-        return error.status() == status && std::string(error.what()).size() > sizeof("kfifo: ");
+        std::string text = error.what();
+        return error.status() == status && text.size() > sizeof("kfifo: ") && text.find(word) != text.npos;
     }
     return false;
 }
+
+template <typename Call> bool refuses(Call call, const char *word) { return refuses(call, KFIFO_BAD_CALL, word); }
 
 void one_thread() {
     kfifo::Queue queue(1, 2, 1);
@@ -34,24 +37,43 @@ void one_thread() {
     expect(pass.enqueue(6, 0, 4) == kfifo::Put::done, "the second item");
     expect(pass.enqueue(7, 0, 4) == kfifo::Put::full, "a full ring");
     expect(pass.dequeue(0, 4).item == 5U, "the oldest item");
-    expect((pass.word(2) & KFIFO_MAX_ITEM) == 6 && refuses([&] { pass.word(4); }), "words");
-    expect(refuses([&] { pass.enqueue(0, 0, 4); }) && refuses([&] { pass.enqueue(1, 1, 4); }), "an item and a start out of range");
-    expect(refuses([&] { pass.dequeue(0, 0); }), "no turns");
-    expect(refuses([&] { pass.enqueue(0); }) && refuses([&] { pass.enqueue(KFIFO_MAX_ITEM + 1); }), "an item out of range");
+    expect((pass.word(2) & KFIFO_MAX_ITEM) == 6 && refuses([&] { pass.word(4); }, "word"), "words");
+    expect(refuses([&] { pass.enqueue(0, 0, 4); }, "item") && refuses([&] { pass.enqueue(1, 1, 4); }, "start"),
+           "an item and a start out of range");
+    expect(refuses([&] { pass.dequeue(0, 0); }, "turns") && refuses([&] { pass.dequeue(1, 4); }, "start"),
+           "no turns, and a start out of range");
+    expect(refuses([&] { pass.enqueue(0); }, "item") && refuses([&] { pass.enqueue(KFIFO_MAX_ITEM + 1); }, "item"),
+           "an item out of range");
+    expect(refuses([&] { queue.pass(1); }, "thread") && refuses([&] { queue.pass(SIZE_MAX); }, "0 to 0"),
+           "a pass that the queue has not");
     expect(pass.enqueue(8) == kfifo::Put::done && pass.enqueue(9) == kfifo::Put::full, "a put with nothing to choose");
     expect(pass.dequeue().item == 6U && pass.dequeue().item == 8U, "gets with nothing to choose");
     expect(!pass.dequeue().item && pass.dequeue().why == kfifo::Miss::empty, "an empty queue");
     expect(pass.enqueue(6) == kfifo::Put::done, "an item to be left");
     kfifo::Queue moved(std::move(queue));
     expect(moved.close() == std::vector<std::uint32_t>{6}, "what is left");
-    expect(refuses([&] { moved.close(); }) && refuses([&] { pass.dequeue(0, 4); }), "a closed queue");
+    expect(refuses([&] { moved.close(); }, "closed") && refuses([&] { pass.dequeue(0, 4); }, "closed"),
+           "a closed queue");
+    expect(refuses([&] { queue.pass(0); }, "moved") && refuses([&] { queue.close(); }, "moved"),
+           "a queue that was moved from");
+    expect(refuses([&] { pass.word(0); }, "closed"), "a word of a closed queue");
+    expect(kfifo::may_retry(kfifo::Put::full) && !kfifo::may_retry(kfifo::Put::worn), "which puts are tried again");
+    expect(kfifo::may_retry(kfifo::Miss::busy) && !kfifo::may_retry(kfifo::Miss::worn), "which takes are tried again");
+    expect(std::string(kfifo::text(kfifo::Put::full)) == "the ring was full", "the text of an answer");
 }
 
 void refusals() {
-    expect(refuses([] { kfifo::Queue(0, 2, 1); }, KFIFO_BAD_K) && refuses([] { kfifo::Queue(65, 2, 1); }, KFIFO_BAD_K), "k out of range");
-    expect(refuses([] { kfifo::Queue(1, 1, 1); }, KFIFO_BAD_SEGMENTS) && refuses([] { kfifo::Queue(1, 1025, 1); }, KFIFO_BAD_SEGMENTS), "segments out of range");
-    expect(refuses([] { kfifo::Queue(1, 2, 0); }, KFIFO_BAD_THREADS) && refuses([] { kfifo::Queue(1, 2, 65); }, KFIFO_BAD_THREADS), "threads out of range");
-    expect(refuses([] { kfifo::Queue(1, 2, 2, 9, 1); }, KFIFO_BAD_PROBES) && refuses([] { kfifo::Queue(1, 2, 1, 1, 1); }, KFIFO_BAD_LAST), "probes and last out of range");
+    expect(refuses([] { kfifo::Queue(0, 2, 1); }, KFIFO_BAD_K) && refuses([] { kfifo::Queue(65, 2, 1); }, KFIFO_BAD_K),
+           "k out of range");
+    expect(refuses([] { kfifo::Queue(1, 1, 1); }, KFIFO_BAD_SEGMENTS) &&
+               refuses([] { kfifo::Queue(1, 1025, 1); }, KFIFO_BAD_SEGMENTS),
+           "segments out of range");
+    expect(refuses([] { kfifo::Queue(1, 2, 0); }, KFIFO_BAD_THREADS) &&
+               refuses([] { kfifo::Queue(1, 2, 65); }, KFIFO_BAD_THREADS),
+           "threads out of range");
+    expect(refuses([] { kfifo::Queue(1, 2, 2, 9, 1); }, KFIFO_BAD_PROBES) &&
+               refuses([] { kfifo::Queue(1, 2, 1, 1, 1); }, KFIFO_BAD_LAST),
+           "probes and last out of range");
 }
 
 void two_threads() {

@@ -17,6 +17,8 @@ How to use it:
     see that an item is lost.
  6. `kfifo_log.write(logs, sys.stdout)`, and then:
     `python3 my_test.py > log.csv && kfifo judge < log.csv`
+    Look at the line `calls <number>, items left <number>` too: 0 calls are no test, and items left are lost ones if the
+    log ends in a dequeue that found the queue empty.
 
 A log that is full takes no more calls, and `write` refuses it: calls that are missing would make the verdict wrong.
 `kfifo` takes 65,536 calls in all. Each log is its thread's alone: there is no lock, and its arrays are made before

@@ -14,6 +14,8 @@
 //!    can see that an item is lost.
 //! 6. `kfifo_log::write(&logs, std::io::stdout())?`, and then:
 //!    `my_test > log.csv && kfifo judge < log.csv`
+//!    Look at the line `calls <number>, items left <number>` too: 0 calls are no test, and items left are lost ones if
+//!    the log ends in a dequeue that found the queue empty.
 //!
 //! A log that is full takes no more calls, and `write` refuses it: calls that are missing would make the verdict
 //! wrong. `kfifo` takes 65,536 calls in all. Each log is its thread's alone: there is no lock, and memory is taken by

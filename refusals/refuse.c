@@ -1,6 +1,7 @@
 /*
- * Preloaded into a program, this refuses it one request for memory, or one start of a thread: that of the number in the variable
- * REFUSED_REQUEST, or REFUSED_THREAD, from 1. When it has done so it makes the file that the variable REFUSAL_TOLD names.
+ * Preloaded into a program, this refuses it one request for memory, or one start of a thread: that of the number in the
+ * variable REFUSED_REQUEST, or REFUSED_THREAD, from 1. When it has done so it makes the file that the variable
+ * REFUSAL_TOLD names.
  */
 #define _GNU_SOURCE
 #include <dlfcn.h>
@@ -54,9 +55,11 @@ void *realloc(void *block, size_t size) {
 }
 
 int pthread_create(pthread_t *thread, const pthread_attr_t *how, void *(*start)(void *), void *argument) {
-    static int (*real)(pthread_t *, const pthread_attr_t *, void *(*)(void *), void *);
-    if (!real) real = (int (*)(pthread_t *, const pthread_attr_t *, void *(*)(void *), void *))dlsym(RTLD_NEXT, "pthread_create");
-    if (refused_thread == 0 || atomic_fetch_add(&threads, 1) + 1 != refused_thread) return real(thread, how, start, argument);
+    typedef int (*create)(pthread_t *, const pthread_attr_t *, void *(*)(void *), void *);
+    static create real;
+    if (!real) real = (create)dlsym(RTLD_NEXT, "pthread_create");
+    if (refused_thread == 0 || atomic_fetch_add(&threads, 1) + 1 != refused_thread)
+        return real(thread, how, start, argument);
     tell();
     return EAGAIN;
 }

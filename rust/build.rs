@@ -1,4 +1,5 @@
-//! Finds the static library `libkfifo.a`, which `make -C c` of this repository builds, and links it.
+//! Finds the static library `libkfifo.a` and links it. It lies beside this crate in a release, `make -C c` of the repository builds it, or it
+//! is installed.
 use std::env;
 use std::path::{Path, PathBuf};
 use std::process::{Command, exit};
@@ -13,15 +14,28 @@ fn installed() -> Option<PathBuf> {
     Some(PathBuf::from(folder.trim()))
 }
 
+/// The folder of the repository where `make -C c` puts the library for a processor; for ARM it is `make -C c aarch64`.
+fn built_for(processor: &str) -> &'static str {
+    match processor {
+        "aarch64" => "../c/out/aarch64-linux-gnu",
+        _ => "../c/out",
+    }
+}
+
 fn main() {
     println!("cargo:rerun-if-env-changed=KFIFO_LIB_DIR");
     let here = env::var("CARGO_MANIFEST_DIR").unwrap_or_default();
+    let target = env::var("CARGO_CFG_TARGET_ARCH").unwrap_or_default();
     let folder = match env::var_os("KFIFO_LIB_DIR") {
         Some(folder) => Some(PathBuf::from(folder)),
-        None => [Some(Path::new(&here).join("../c/out")), installed()]
-            .into_iter()
-            .flatten()
-            .find(|it| it.join("libkfifo.a").exists()),
+        None => [
+            Some(Path::new(&here).join(built_for(&target))),
+            Some(Path::new(&here).join("../../../lib")),
+            installed(),
+        ]
+        .into_iter()
+        .flatten()
+        .find(|it| it.join("libkfifo.a").exists()),
     };
     match folder {
         Some(folder) if folder.join("libkfifo.a").exists() => {
@@ -34,7 +48,7 @@ fn main() {
         }
         _ => {
             eprintln!(
-                "libkfifo.a was not found. Build it with `make -C c` in the kfifo repository, or install it with `make -C c install`,"
+                "libkfifo.a was not found. It lies in the lib/ of a release; in the repository `make -C c` builds it and `make -C c install` installs it,"
             );
             eprintln!("or set KFIFO_LIB_DIR to the folder that holds it.");
             exit(1);

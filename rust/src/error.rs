@@ -54,12 +54,18 @@ impl Error for OpenError {}
 pub enum PushError<T> {
     /// The ring was seen full.
     Full(T),
-    /// Each round of the call was lost to other threads.
+    /// The call used up its rounds. It makes two more than there are segments, so another thread changed the queue
+    /// meanwhile.
     Busy(T),
     /// The versions of the queue's words are used up. Open another queue.
     Worn(T),
-    /// The handle has no token, and none was there to be picked up: its values, as many as it has tokens, are all still in the queue.
+    /// The handle has no token, and none was there to be picked up: its values, as many as it has tokens, are all still
+    /// in the queue.
     NoToken(T),
+    /// The time of a call that waits was up.
+    TimedOut(T),
+    /// [`Queue::finish`](crate::Queue::finish) was called before.
+    Finished(T),
 }
 
 impl<T> PushError<T> {
@@ -73,16 +79,35 @@ impl<T> PushError<T> {
             PushError::Full(value)
             | PushError::Busy(value)
             | PushError::Worn(value)
-            | PushError::NoToken(value) => value,
+            | PushError::NoToken(value)
+            | PushError::TimedOut(value)
+            | PushError::Finished(value) => value,
+        }
+    }
+
+    /// Whether a later call may do better. A loop that retries another refusal never ends.
+    ///
+    /// ```
+    /// use kfifo::PushError;
+    ///
+    /// assert!(PushError::Full(7).may_retry());
+    /// assert!(!PushError::Worn(7).may_retry());
+    /// ```
+    pub fn may_retry(&self) -> bool {
+        match self {
+            PushError::Full(_) | PushError::Busy(_) | PushError::NoToken(_) => true,
+            PushError::Worn(_) | PushError::TimedOut(_) | PushError::Finished(_) => false,
         }
     }
 
     fn text(&self) -> &'static str {
         match self {
             PushError::Full(_) => "the queue was full",
-            PushError::Busy(_) => "each round was lost to other threads",
+            PushError::Busy(_) => "the call used up its rounds",
             PushError::Worn(_) => "the versions of the queue are used up",
             PushError::NoToken(_) => "the handle has no token",
+            PushError::TimedOut(_) => "the time was up",
+            PushError::Finished(_) => "the queue is finished",
         }
     }
 }
@@ -95,6 +120,8 @@ impl<T> Debug for PushError<T> {
             PushError::Busy(_) => "Busy(..)",
             PushError::Worn(_) => "Worn(..)",
             PushError::NoToken(_) => "NoToken(..)",
+            PushError::TimedOut(_) => "TimedOut(..)",
+            PushError::Finished(_) => "Finished(..)",
         })
     }
 }
@@ -121,18 +148,42 @@ impl<T> Error for PushError<T> {}
 pub enum PopError {
     /// The queue was empty.
     Empty,
-    /// Each round of the call was lost to other threads.
+    /// The call used up its rounds. It makes two more than there are segments, so another thread changed the queue
+    /// meanwhile.
     Busy,
     /// The versions of the queue's words are used up. `Queue::into_values` gives back what is left.
     Worn,
+    /// The time of a call that waits was up.
+    TimedOut,
+    /// [`Queue::finish`](crate::Queue::finish) was called, and the queue was empty then.
+    Finished,
+}
+
+impl PopError {
+    /// Whether a later call may do better. A loop that retries another answer never ends.
+    ///
+    /// ```
+    /// use kfifo::PopError;
+    ///
+    /// assert!(PopError::Empty.may_retry());
+    /// assert!(!PopError::Worn.may_retry());
+    /// ```
+    pub fn may_retry(&self) -> bool {
+        match self {
+            PopError::Empty | PopError::Busy => true,
+            PopError::Worn | PopError::TimedOut | PopError::Finished => false,
+        }
+    }
 }
 
 impl Display for PopError {
     fn fmt(&self, f: &mut Formatter<'_>) -> fmt::Result {
         f.write_str(match self {
             PopError::Empty => "the queue was empty",
-            PopError::Busy => "each round was lost to other threads",
+            PopError::Busy => "the call used up its rounds",
             PopError::Worn => "the versions of the queue are used up",
+            PopError::TimedOut => "the time was up",
+            PopError::Finished => "the queue is finished",
         })
     }
 }

@@ -1,5 +1,6 @@
-//! The calls of the library that this crate uses, as `c/kfifo.h` declares them.
-use std::ffi::c_void;
+//! The calls of the library that this crate uses, as `c/kfifo.h` and `c/kfifo_wait.h` declare them.
+use std::ffi::{c_int, c_void};
+use std::sync::atomic::AtomicU32;
 
 pub(crate) const DONE: u32 = 0;
 pub(crate) const FULL: u32 = 1;
@@ -14,6 +15,78 @@ pub(crate) const BAD_SEGMENTS: u32 = 12;
 pub(crate) const BAD_LAST: u32 = 13;
 pub(crate) const BAD_PROBES: u32 = 14;
 pub(crate) const BAD_TOKENS: u32 = 15;
+pub(crate) const TIMED_OUT: u32 = 16;
+pub(crate) const FINISHED: u32 = 17;
+
+/// A time that never ends, in nanoseconds.
+pub(crate) const FOREVER: u64 = u64::MAX;
+
+/// The parts of `Waits::state`: whether the queue is finished, one of the takers that wait, and one of the givers.
+pub(crate) const IS_FINISHED: u32 = 1;
+pub(crate) const TAKER: u32 = 2;
+pub(crate) const GIVER: u32 = 0x1_0000;
+
+/// What the threads of a queue wait by: `kfifo_waits`. The library changes it by atomic steps alone.
+#[repr(C)]
+pub(crate) struct Waits {
+    before: [u8; 64],
+    pub(crate) state: AtomicU32,
+    between: [u8; 124],
+    filled: AtomicU32,
+    emptied: AtomicU32,
+    tokenless: AtomicU32,
+    after: [u8; 116],
+}
+
+// As in `c/wait.c`.
+const _: () = assert!(size_of::<Waits>() == 320 && size_of::<Waiter>() == 48);
+
+impl Waits {
+    pub(crate) const fn open() -> Waits {
+        Waits {
+            before: [0; 64],
+            state: AtomicU32::new(0),
+            between: [0; 124],
+            filled: AtomicU32::new(0),
+            emptied: AtomicU32::new(0),
+            tokenless: AtomicU32::new(0),
+            after: [0; 116],
+        }
+    }
+}
+
+/// A call that waits: `kfifo_waiter`.
+#[repr(C)]
+pub(crate) struct Waiter {
+    waits: *const Waits,
+    nanoseconds: u64,
+    deadline: u64,
+    spins_until: u64,
+    kind: u32,
+    seen: u32,
+    pauses: u32,
+    has_begun: u8,
+    is_announced: u8,
+    was_announced: u8,
+}
+
+impl Waiter {
+    /// A waiter that has looked once. The waits outlive it.
+    pub(crate) fn new(waits: &Waits, kind: u32, nanoseconds: u64) -> Waiter {
+        Waiter {
+            waits,
+            nanoseconds,
+            deadline: 0,
+            spins_until: 0,
+            kind,
+            seen: 0,
+            pauses: 1,
+            has_begun: 0,
+            is_announced: 0,
+            was_announced: 0,
+        }
+    }
+}
 
 /// A handle of C's. All bytes 0 is a closed one.
 #[repr(C)]
@@ -53,4 +126,8 @@ unsafe extern "C" {
         count: *mut usize,
     ) -> u32;
     pub(crate) fn kfifo_c_abandon_values(passes: *mut Pass, threads: usize);
+    pub(crate) fn kfifo_wait_again(waiter: *mut Waiter, status: *mut u32) -> c_int;
+    pub(crate) fn kfifo_wait_given(waits: *const Waits, status: u32) -> u32;
+    pub(crate) fn kfifo_wait_taken(waits: *const Waits, status: u32) -> u32;
+    pub(crate) fn kfifo_wait_finished(waits: *const Waits);
 }

@@ -1,7 +1,7 @@
 //! A bounded lock-free k-FIFO queue of values, for many threads: a value that is taken is one of the k oldest.
 //!
-//! The queue itself is proved, down to its atomic words. This crate is a wrapper around its C library and is not proved; its README says
-//! what rests on what.
+//! The queue itself is proved, down to its atomic words. This crate is a wrapper around its C library and is not
+//! proved; its README says what rests on what.
 //!
 //! ```
 //! use kfifo::Queue;
@@ -37,6 +37,7 @@ use std::cell::Cell;
 use std::fmt::{self, Debug, Formatter};
 use std::marker::PhantomData;
 use std::sync::Arc;
+use std::time::Duration;
 
 /// The greatest number of tokens a handle.
 ///
@@ -48,8 +49,8 @@ pub const MAX_TOKENS: u32 = 1024;
 
 /// A queue of values.
 ///
-/// Each thread makes its calls by a [`Handle`] of its own. The queue goes with the last of the `Queue` and its handles, and the values that
-/// are left in it are dropped then.
+/// Each thread makes its calls by a [`Handle`] of its own. The queue goes with the last of the `Queue` and its handles,
+/// and the values that are left in it are dropped then.
 ///
 /// ```
 /// use kfifo::Queue;
@@ -85,8 +86,9 @@ impl<T> Queue<T> {
 
     /// As [`Queue::new`], with a number of tokens a handle, 1 to 1,024.
     ///
-    /// A value in the queue has a token. The handle that takes the value gets the token, and lays it down for the others where it then has
-    /// more than it began with. So the values that one handle has put and nobody has taken are about `tokens` at most.
+    /// A value in the queue has a token. The handle that takes the value gets the token, and lays it down for the
+    /// others where it then has more than it began with. So the values that one handle has put and nobody has taken are
+    /// about `tokens` at most.
     ///
     /// ```
     /// use kfifo::{PushError, Queue};
@@ -126,6 +128,28 @@ impl<T> Queue<T> {
             number,
             not_sync: PhantomData,
         })
+    }
+
+    /// Says that no more values will come, and wakes all that wait. Any thread may call it, and again.
+    ///
+    /// A push that begins after it returns `Finished` with its value; a pop does so once the queue is empty. A push
+    /// that it meets halfway may still put its value in. So call it when the producers have ended, or have what is left
+    /// by [`Queue::into_values`].
+    ///
+    /// ```
+    /// use kfifo::{PopError, PushError, Queue};
+    ///
+    /// let queue = Queue::new(4, 64, 1)?;
+    /// let handle = queue.handle().expect("a handle is free");
+    /// handle.push(1).expect("there is room");
+    /// queue.finish();
+    /// assert_eq!(handle.push(2), Err(PushError::Finished(2)));
+    /// assert_eq!(handle.pop(), Ok(1));
+    /// assert_eq!(handle.pop(), Err(PopError::Finished));
+    /// # Ok::<(), kfifo::OpenError>(())
+    /// ```
+    pub fn finish(&self) {
+        self.shared.finish();
     }
 
     /// Closes the queue and gives back the values that are left. The queue comes back where a handle is still in use.
@@ -189,15 +213,59 @@ impl<T> Handle<T> {
     /// let handle = queue.handle().expect("a handle is free");
     /// let mut value = vec![1, 2, 3];
     /// while let Err(refused) = handle.push(value) {
+    ///     assert!(refused.may_retry(), "the queue takes no more: {refused}");
     ///     value = refused.into_inner();
     ///     std::thread::yield_now();
     /// }
     /// # Ok::<(), kfifo::OpenError>(())
     /// ```
     pub fn push(&self, value: T) -> Result<(), PushError<T>> {
-        // SAFETY: this handle alone has its pass, and as it is not `Sync`, no other thread is in a call by it. Nor is this one: no call
-        // runs code of the caller's while it uses the pass.
-        unsafe { self.shared.push(self.number, value) }
+        // SAFETY: this handle alone has its pass, and as it is not `Sync`, no other thread is in a call by it. Nor is
+        // this one: no call runs code of the caller's while it uses the pass.
+        unsafe { self.shared.push(self.number, value, None) }
+    }
+
+    /// Puts a value, and sleeps while there is no room for it: refused is `Finished` or `Worn` alone.
+    ///
+    /// ```
+    /// let queue = kfifo::Queue::new(1, 2, 2)?;
+    /// let producer = queue.handle().expect("a handle is free");
+    /// let consumer = queue.handle().expect("a handle is free");
+    /// std::thread::scope(|scope| {
+    ///     scope.spawn(move || {
+    ///         for number in 0..1000 {
+    ///             producer.push_wait(number).expect("the queue is not finished");
+    ///         }
+    ///         producer.finish();
+    ///     });
+    ///     assert!(consumer.values().eq(0..1000));
+    /// });
+    /// # Ok::<(), kfifo::OpenError>(())
+    /// ```
+    pub fn push_wait(&self, value: T) -> Result<(), PushError<T>> {
+        // SAFETY: as in `push`.
+        unsafe { self.shared.push(self.number, value, Some(ffi::FOREVER)) }
+    }
+
+    /// As [`Handle::push_wait`], for so long at most: then it is refused as `TimedOut`. With no time it does not sleep.
+    ///
+    /// ```
+    /// use kfifo::PushError;
+    /// use std::time::Duration;
+    ///
+    /// let queue = kfifo::Queue::new(1, 2, 1)?;
+    /// let handle = queue.handle().expect("a handle is free");
+    /// handle.push('a').expect("there is room");
+    /// handle.push('b').expect("there is room");
+    /// assert_eq!(handle.push_timeout('c', Duration::from_millis(1)), Err(PushError::TimedOut('c')));
+    /// # Ok::<(), kfifo::OpenError>(())
+    /// ```
+    pub fn push_timeout(&self, value: T, time: Duration) -> Result<(), PushError<T>> {
+        // SAFETY: as in `push`.
+        unsafe {
+            self.shared
+                .push(self.number, value, Some(nanoseconds_of(time)))
+        }
     }
 
     /// Takes one of the k oldest values. It never waits or locks.
@@ -211,7 +279,88 @@ impl<T> Handle<T> {
     /// ```
     pub fn pop(&self) -> Result<T, PopError> {
         // SAFETY: as in `push`.
-        unsafe { self.shared.pop(self.number) }
+        unsafe { self.shared.pop(self.number, None) }
+    }
+
+    /// Takes a value, and sleeps while there is none: an error is `Finished` or `Worn` alone.
+    ///
+    /// ```
+    /// let queue = kfifo::Queue::new(4, 64, 2)?;
+    /// let producer = queue.handle().expect("a handle is free");
+    /// let consumer = queue.handle().expect("a handle is free");
+    /// std::thread::scope(|scope| {
+    ///     scope.spawn(move || assert_eq!(consumer.pop_wait(), Ok(7)));
+    ///     producer.push(7).expect("there is room");
+    /// });
+    /// # Ok::<(), kfifo::OpenError>(())
+    /// ```
+    pub fn pop_wait(&self) -> Result<T, PopError> {
+        // SAFETY: as in `push`.
+        unsafe { self.shared.pop(self.number, Some(ffi::FOREVER)) }
+    }
+
+    /// As [`Handle::pop_wait`], for so long at most: then the error is `TimedOut`. With no time it does not sleep.
+    ///
+    /// ```
+    /// use std::time::Duration;
+    ///
+    /// let queue = kfifo::Queue::<u64>::new(4, 64, 1)?;
+    /// let handle = queue.handle().expect("a handle is free");
+    /// assert_eq!(handle.pop_timeout(Duration::from_millis(1)), Err(kfifo::PopError::TimedOut));
+    /// # Ok::<(), kfifo::OpenError>(())
+    /// ```
+    pub fn pop_timeout(&self, time: Duration) -> Result<T, PopError> {
+        // SAFETY: as in `push`.
+        unsafe { self.shared.pop(self.number, Some(nanoseconds_of(time))) }
+    }
+
+    /// The values that come, until the queue is finished and empty; it sleeps while there is none.
+    ///
+    /// It ends also where the queue is worn out: [`Handle::pop`] then says which of the two it was.
+    ///
+    /// ```
+    /// let queue = kfifo::Queue::new(1, 64, 1)?;
+    /// let handle = queue.handle().expect("a handle is free");
+    /// handle.push("a").expect("there is room");
+    /// handle.push("b").expect("there is room");
+    /// queue.finish();
+    /// assert_eq!(handle.values().collect::<Vec<_>>(), ["a", "b"]);
+    /// # Ok::<(), kfifo::OpenError>(())
+    /// ```
+    pub fn values(&self) -> Values<'_, T> {
+        Values { handle: self }
+    }
+
+    /// As [`Queue::finish`].
+    ///
+    /// ```
+    /// let queue = kfifo::Queue::<u64>::new(4, 64, 1)?;
+    /// let handle = queue.handle().expect("a handle is free");
+    /// handle.finish();
+    /// assert_eq!(handle.pop_wait(), Err(kfifo::PopError::Finished));
+    /// # Ok::<(), kfifo::OpenError>(())
+    /// ```
+    pub fn finish(&self) {
+        self.shared.finish();
+    }
+}
+
+/// A time in nanoseconds. One beyond the clock, some 584 years, is for ever.
+fn nanoseconds_of(time: Duration) -> u64 {
+    u64::try_from(time.as_nanos()).unwrap_or(ffi::FOREVER)
+}
+
+/// The values that come out of a queue until its end: [`Handle::values`].
+#[derive(Debug)]
+pub struct Values<'a, T> {
+    handle: &'a Handle<T>,
+}
+
+impl<T> Iterator for Values<'_, T> {
+    type Item = T;
+
+    fn next(&mut self) -> Option<T> {
+        self.handle.pop_wait().ok()
     }
 }
 
@@ -220,11 +369,6 @@ impl<T> Drop for Handle<T> {
         self.shared.return_pass(self.number);
     }
 }
-
-// So that the example of the README is a test too.
-#[cfg(doctest)]
-#[doc = include_str!("../README.md")]
-struct Readme;
 
 impl<T> Debug for Handle<T> {
     fn fmt(&self, f: &mut Formatter<'_>) -> fmt::Result {

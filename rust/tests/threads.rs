@@ -30,7 +30,7 @@ fn push_all(handle: &Handle<Counted>, numbers: std::ops::Range<usize>, alive: &A
     for number in numbers {
         let mut value = Counted::new(number, alive);
         while let Err(refused) = handle.push(value) {
-            assert!(!matches!(refused, PushError::Worn(_)));
+            assert!(refused.may_retry(), "{refused}");
             value = refused.into_inner();
             thread::yield_now();
         }
@@ -45,7 +45,10 @@ fn pop_all(handle: &Handle<Counted>, still_pushing: &AtomicUsize) -> Vec<usize> 
         match handle.pop() {
             Ok(value) => numbers.push(value.number),
             Err(PopError::Empty) if last => return numbers,
-            Err(_) => thread::yield_now(),
+            Err(error) => {
+                assert!(error.may_retry(), "{error}");
+                thread::yield_now();
+            }
         }
     }
 }

@@ -1,4 +1,4 @@
-//! crossbeam's ArrayQueue behind C calls, so that one program measures all queues with the same loops.
+//! crossbeam's ArrayQueue and channel behind C calls, so that one program measures all queues with the same loops.
 use crossbeam_queue::ArrayQueue;
 
 #[no_mangle]
@@ -60,4 +60,34 @@ pub unsafe extern "C" fn array_values_pop(queue: *const ArrayQueue<Value>, halve
 #[no_mangle]
 pub unsafe extern "C" fn array_values_free(queue: *mut ArrayQueue<Value>) {
     drop(Box::from_raw(queue));
+}
+
+/// Both ends of a bounded channel of crossbeam's.
+pub struct Channel(crossbeam_channel::Sender<u64>, crossbeam_channel::Receiver<u64>);
+
+#[no_mangle]
+pub extern "C" fn channel_new(capacity: usize) -> *mut Channel {
+    let (sender, receiver) = crossbeam_channel::bounded(capacity);
+    Box::into_raw(Box::new(Channel(sender, receiver)))
+}
+
+/// # Safety
+/// The channel is one of `channel_new` that was not freed.
+#[no_mangle]
+pub unsafe extern "C" fn channel_send(channel: *const Channel, value: u64) -> bool {
+    (*channel).0.send(value).is_ok()
+}
+
+/// # Safety
+/// As of `channel_send`. Values are not 0, which says that there is none.
+#[no_mangle]
+pub unsafe extern "C" fn channel_receive(channel: *const Channel) -> u64 {
+    (*channel).1.recv().unwrap_or(0)
+}
+
+/// # Safety
+/// As of `channel_send`; nobody uses the channel any more.
+#[no_mangle]
+pub unsafe extern "C" fn channel_free(channel: *mut Channel) {
+    drop(Box::from_raw(channel));
 }

@@ -1,4 +1,4 @@
-//! The same calls by a handle, whose starts go one slot further at each call.
+//! The same calls by a handle, whose starts go a stride further at each call.
 ghost use Rattle.std.specs.Prelude.{◌≤◌, ◌*◌};
 ghost use Rattle.kfifo_live.specs.Pass.{IsPassOf, IsSamePass};
 

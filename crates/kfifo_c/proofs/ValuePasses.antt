@@ -7,12 +7,13 @@ use Rattle.std.proofs.lemmas.List.{append_assoc, take_more, take_more_set, map-a
 use Rattle.std.proofs.lemmas.List.Elements.{All-cons, All-head, All-nil, All-tail}
 use Rattle.std.proofs.Math.ListN.{set, get_or-map as get_or_map}
 use Rattle.std.proofs.Math.Seq.{map-set_same}
-use Rattle.kfifo_live.specs.Pass.{OpenQueue}
+use Rattle.kfifo_live.specs.Pass.{OpenQueue, IsPassOf}
 use Rattle.kfifo_live.specs.Payloads.{PayPassView, new_pay_passes, PayCloses}
 use Rattle.kfifo_c.specs.declared.value_queue.handle.ValueHandle.{ValueHandle}
 use Rattle.kfifo_c.specs.ValueHandles.{values_behind, value_addresses}
 use Rattle.kfifo_c.specs.ValueSeats.{ValueSeated, value_seated, value_starts_of}
-use Rattle.kfifo_c.specs.Values.{value_seats_of, ValuesBeginWith, IsOpen, IsOpenOfValues, MayCloseValues, last_from, last_seat}
+use Rattle.kfifo_c.specs.Values.{value_seats_of, AreTheirValues, ValuesBeginWith, IsOpen, IsOpenOfValues, MayCloseValues, last_from}
+use Rattle.kfifo_c.specs.Values.{last_seat, value_passes_in}
 use Rattle.kfifo_c.proofs.Passes.{reverse_mapped}
 use Rattle.kfifo_c.proofs.Closings.{few_left}
 
@@ -131,11 +132,37 @@ begun q [] begins = absurd begins
 begun q (o ∷ os) begins = omega arith
 
 -- at most as many values are left as there are slots
-pub few_closed : (q : OpenQueue) (p : PayPassView ℕ) (values : List ℕ) → PayCloses q p values
+pub few_closed : (q : OpenQueue) (p : PayPassView ℕ) (others : List (PayPassView ℕ)) (values : List ℕ) → PayCloses q p others values
     → length values ≤ q.opened.shape.n * q.opened.shape.k
-few_closed q p values closes =
+few_closed q p others values closes =
     let many = sym (length-map values Some) ∙ ap length closes.payloads_are ∙ length-map closes.tokens _ ∙ ap length closes.tokens_are in
     let few = few_left q.opened.shape closes.world.words in omega (arith, many, few)
+
+pub passes_more : (os : List (Option ValueSeated)) (s : ValueSeated) → value_passes_in (os ++ Some s ∷ []) ≡ value_passes_in os ++ s.held.pass ∷ []
+passes_more [] s = refl
+passes_more (None ∷ os) s = passes_more os s
+passes_more (Some x ∷ os) s = ap (λ l. x.held.pass ∷ l) (passes_more os s)
+
+pub passes_same : (os : List (Option ValueSeated)) → value_passes_in (os ++ None ∷ []) ≡ value_passes_in os
+passes_same [] = refl
+passes_same (None ∷ os) = passes_same os
+passes_same (Some x ∷ os) = ap (λ l. x.held.pass ∷ l) (passes_same os)
+
+pub theirs_more : (os : List (Option ValueSeated)) (o : Option ValueSeated) → AreTheirValues os
+    → IfSome o (λ s. IsPassOf s.queue s.held.pass.pass) → AreTheirValues (os ++ o ∷ [])
+theirs_more [] None all is = tt
+theirs_more [] (Some s) all is = (is, tt)
+theirs_more (None ∷ os) o all is = theirs_more os o all is
+theirs_more (Some s ∷ os) o all is = (all.0, theirs_more os o all.1 is)
+
+-- the passes of open handles of one queue
+pub theirs_of : (q : OpenQueue) (os : List (Option ValueSeated)) → All (IsOpenOfValues q) os → AreTheirValues os
+    → All (λ (p : PayPassView ℕ). IsPassOf q p.pass) (value_passes_in os)
+theirs_of q [] each all = All-nil (λ (p : PayPassView ℕ). IsPassOf q p.pass)
+theirs_of q (None ∷ os) each all = absurd (All-head (IsOpenOfValues q) None os each)
+theirs_of q (Some s ∷ os) each all = All-cons (λ (p : PayPassView ℕ). IsPassOf q p.pass) s.held.pass (value_passes_in os)
+    (subst (λ (q' : OpenQueue). IsPassOf q' s.held.pass.pass) (All-head (IsOpenOfValues q) (Some s) os each) all.0)
+    (theirs_of q os (All-tail (IsOpenOfValues q) (Some s) os each) all.1)
 
 -- the last seat of a longer list
 pub last_more : (last : Option ValueSeated) (os : List (Option ValueSeated)) (s : ValueSeated) → last_from last (os ++ Some s ∷ []) ≡ Some s

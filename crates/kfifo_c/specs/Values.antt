@@ -9,7 +9,7 @@ use Rattle.kfifo_live.specs.declared.payload.Taken.{Taken}
 use Rattle.kfifo_live.specs.declared.payload.Taken.TheVariants as K
 use Rattle.kfifo_live.specs.Calls.{IsDisturbed}
 use Rattle.kfifo_live.specs.Promise.{KeepsPromise}
-use Rattle.kfifo_live.specs.Pass.{OpenQueue, IsSamePass, IsZeroed}
+use Rattle.kfifo_live.specs.Pass.{OpenQueue, IsPassOf, IsSamePass, IsZeroed}
 use Rattle.kfifo_live.specs.Payloads.{PayPassView, pay_opening, new_pay_passes, PayCloses}
 use Rattle.kfifo_live.specs.Handles.{PicksUpAndGives, TakesAndLaysDown, further}
 use Rattle.kfifo_c.specs.ValueSeats.{ValueSeated, value_seated}
@@ -118,14 +118,27 @@ pub record MayCloseValues (queue : OpenQueue) (handles : List (Option ValueSeate
   pub count : length handles ≡ queue.opened.threads
   pub room_is : queue.opened.shape.n * queue.opened.shape.k ≤ room
 
+-- the passes behind the open ones of these handles
+abbrev pub value_passes_in : List (Option ValueSeated) → List (PayPassView ℕ)
+value_passes_in [] = []
+value_passes_in (None ∷ handles) = value_passes_in handles
+value_passes_in (Some seat ∷ handles) = seat.held.pass ∷ value_passes_in handles
+
+-- each of these passes is of the queue that stands beside it
+abbrev pub AreTheirValues : List (Option ValueSeated) → Type 0
+AreTheirValues [] = ⊤
+AreTheirValues (None ∷ handles) = AreTheirValues handles
+AreTheirValues (Some seat ∷ handles) = IsPassOf seat.queue seat.held.pass.pass × AreTheirValues handles
+
 -- A queue was closed by these handles, and the values that were left were written, and their number: all that the
--- running queue says of a close by the pass of the last one
+-- running queue says of a close by the passes of all of them
 pub record ClosesValues (handles : List (Option ValueSeated)) (old new : List ℕ) (count : ℕ) : Type 0 where
   pub queue : OpenQueue
   pub each_open : All (IsOpenOfValues queue) handles
-  pub seat : ValueSeated
-  pub is_last : last_seat handles ≡ Some seat
+  pub others : List (PayPassView ℕ)
+  pub last : PayPassView ℕ
+  pub passes_are : value_passes_in handles ≡ others ++ last ∷ []
   pub left : List ℕ
-  pub closes : PayCloses seat.queue seat.held.pass left
+  pub closes : PayCloses queue last others left
   pub count_is : count ≡ length left
   pub written : new ≡ left ++ drop (length left) old

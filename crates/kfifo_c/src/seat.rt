@@ -1,6 +1,7 @@
 //! What a handle stands for.
 ghost use Rattle.std.specs.Prelude.{◌≡◌, ◌<◌, ◌≤◌, ◌^◌, ◌+◌, ◌*◌, MatchOption, IfOk};
 ghost use Rattle.kfifo_machine.specs.declared.event.Begin.TheVariants.{Enqueue, Dequeue};
+ghost use Rattle.kfifo_live.specs.Handles.{cycle_at};
 ghost use Rattle.kfifo_live.specs.Pass.{IsPassOf};
 ghost use Rattle.kfifo_c.specs.Seats.{Seated, seated, IsOpenPassOf};
 ghost use Rattle.kfifo_c.specs.Exports.{MayEnqueue, MayDequeue, MayRead, CalledFrom, Puts, Gets, HasRead};
@@ -37,7 +38,7 @@ impl Model for Seat {
     } };
 
     ghost invariant = { λ s. IsPassOf s.queue.value s.pass × (s.threads ≡ s.queue.value.opened.threads)
-        × (s.puts.k ≡ s.queue.value.opened.shape.k) × (s.gets.k ≡ s.queue.value.opened.shape.k)
+        × (s.puts ≡ cycle_at s.pass s.puts.start) × (s.gets ≡ cycle_at s.pass s.gets.start)
         × (s.turns ≡ s.queue.value.opened.shape.n + 2) };
 }
 

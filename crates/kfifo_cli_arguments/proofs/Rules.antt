@@ -6,7 +6,7 @@ use Rattle.clap.specs.Lexer.{usize_max}
 use Rattle.clap.specs.Simple.{app_of_fields, on_top}
 use Rattle.clap.specs.Words.{AddsArg, AddsSubcommand, App, Rule, Shape, Text, app_of, new_app, new_rule, rule_of, with_rule}
 use Rattle.clap.specs.Words.{with_subcommand}
-use Rattle.clap.specs.declared.builder.action.ArgAction.TheVariants.{Append}
+use Rattle.clap.specs.declared.builder.action.ArgAction.TheVariants.{Append, Set}
 use Rattle.clap.specs.declared.builder.arg.Arg.{Arg}
 use Rattle.clap.specs.declared.builder.command.Command.{Command}
 use Rattle.clap.specs.declared.builder.command.Command.TheOpen.{Command-F}
@@ -14,7 +14,7 @@ use Rattle.clap.specs.declared.builder.command.Command.TheViews.{out-Command as 
 use Rattle.clap.specs.declared.builder.range.ValueRange.{ValueRange}
 use Rattle.clap.specs.declared.builder.texts.Texts.TheVariants.{One}
 use Rattle.clap.specs.declared.builder.value_parser.ValueParser.{ValueParser}
-use Rattle.kfifo_cli_arguments.specs.CommandLine.{IsCommand, any_words, bare_program, default_option, number_option}
+use Rattle.kfifo_cli_arguments.specs.CommandLine.{IsCommand, any_words, bare_program, default_option, file_rule, number_option}
 use Rattle.kfifo_cli_arguments.specs.CommandLine.{option, places_option, script, small_numbers, text_option}
 
 -- a parse reads this of the option, and it is not global
@@ -74,6 +74,14 @@ words_rule n v a m word ne ve ae me range = (
   ap (λ (x : Arg). x.global) me ∙ (ap (λ (x : Arg). x.global) ae ∙ (ap (λ (x : Arg). x.global) ve ∙ ne.1)),
 )
 
+-- the argument that names a file
+pub file_rule_is : (n v a : Arg) (word : Bor (List ℕ)) → IsArg (new_rule (codes "file")) n → v ≡ record n { val_names = One word }
+    → a ≡ record v { action = Some Set } → IsArg file_rule a
+file_rule_is n v a word ne ve ae = (
+  ap rule_of ae ∙ ap (λ (x : Rule). record x { action = Some Set }) (ap rule_of ve ∙ ap (λ (x : Rule). record x { value_names = 1 }) ne.0),
+  ap (λ (x : Arg). x.global) ae ∙ (ap (λ (x : Arg). x.global) ve ∙ ne.1),
+)
+
 -- the words of a script
 pub script_rule : (n v a m r : Arg) (word : Bor (List ℕ)) → IsArg (new_rule (codes "words")) n → v ≡ record n { val_names = One word }
     → a ≡ record v { action = Some Append }
@@ -108,25 +116,27 @@ bare_command n a h l name about after details ne own ae he le = (
 )
 
 -- the program before its commands
-pub bare_program_is : (n b w v a h s r : Command) (version : Bor (List ℕ)) (about after : Option (Bor (List ℕ)))
+pub bare_program_is : (n b w v a h l s r : Command) (version : Bor (List ℕ)) (about after details : Option (Bor (List ℕ)))
     → app_of n ≡ new_app (codes "kfifo") → (fields_of n).has_globals ≡ false
     → fields_of b ≡ record (fields_of n) { bin_name = (fields_of b).bin_name }
     → fields_of w ≡ record (fields_of b) { no_binary_name = true } → fields_of v ≡ record (fields_of w) { version = Some version }
     → fields_of a ≡ record (fields_of v) { about = about }
-    → fields_of h ≡ record (fields_of a) { after_help = after } → fields_of s ≡ record (fields_of h) { subcommand_required = true }
+    → fields_of h ≡ record (fields_of a) { after_help = after } → fields_of l ≡ record (fields_of h) { after_long_help = details }
+    → fields_of s ≡ record (fields_of l) { subcommand_required = true }
     → fields_of r ≡ record (fields_of s) { arg_required_else_help = true }
     → IsCommand bare_program r
-bare_program_is n b w v a h s r version about after ne own be we ve ae he se re = (
+bare_program_is n b w v a h l s r version about after details ne own be we ve ae he le se re = (
   ap app_of_fields re ∙ ap (on_top (λ (x : Shape). record x { arg_required_else_help = true }))
       (ap app_of_fields se ∙ ap (on_top (λ (x : Shape). record x { subcommand_required = true }))
-      (ap app_of_fields he ∙ (ap app_of_fields ae
+      (ap app_of_fields le ∙ (ap app_of_fields he ∙ (ap app_of_fields ae
       ∙ (ap app_of_fields ve ∙ ap (on_top (λ (x : Shape). record x { has_version = true }))
-      (ap app_of_fields we ∙ ap (on_top (λ (x : Shape). record x { no_binary_name = true })) (ap app_of_fields be ∙ ne)))))),
+      (ap app_of_fields we ∙ ap (on_top (λ (x : Shape). record x { no_binary_name = true })) (ap app_of_fields be ∙ ne))))))),
   ap (λ (f : Command-F Command). f.has_globals) re
-      ∙ (ap (λ (f : Command-F Command). f.has_globals) se ∙ (ap (λ (f : Command-F Command). f.has_globals) he
+      ∙ (ap (λ (f : Command-F Command). f.has_globals) se ∙ (ap (λ (f : Command-F Command). f.has_globals) le
+      ∙ (ap (λ (f : Command-F Command). f.has_globals) he
       ∙ (ap (λ (f : Command-F Command). f.has_globals) ae
       ∙ (ap (λ (f : Command-F Command). f.has_globals) ve
-      ∙ (ap (λ (f : Command-F Command). f.has_globals) we ∙ (ap (λ (f : Command-F Command). f.has_globals) be ∙ own)))))),
+      ∙ (ap (λ (f : Command-F Command). f.has_globals) we ∙ (ap (λ (f : Command-F Command). f.has_globals) be ∙ own))))))),
 )
 
 -- one more command

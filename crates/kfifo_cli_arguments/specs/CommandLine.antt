@@ -67,6 +67,13 @@ with_places default app = with_rule app (places_option 1 64 default)
 abbrev pub with_tries : App → App
 with_tries app = with_rule app (default_option (codes "tries") (small_numbers 0 4294967295) (codes "1000000"))
 
+-- the argument that names the file to be read, which may be left out
+abbrev pub file_rule : Rule
+file_rule = record (new_rule (codes "file")) { value_names = 1; action = Some Set }
+
+abbrev pub with_file : App → App
+with_file app = with_rule app file_rule
+
 -- words, or none
 abbrev pub any_words : Rule
 any_words = record (new_rule (codes "words")) {
@@ -104,11 +111,12 @@ replay_command = with_rule (with_rule
 
 -- the command `judge`
 abbrev pub judge_command : App
-judge_command = with_rule (with_tries (with_places (codes "1") (new_app (codes "judge")))) (flag (codes "show"))
+judge_command = with_file (with_rule (with_tries (with_places (codes "1") (new_app (codes "judge"))))
+    (flag (codes "show")))
 
 -- the command `least`
 abbrev pub least_command : App
-least_command = with_tries (new_app (codes "least"))
+least_command = with_file (with_tries (new_app (codes "least")))
 
 -- the command `record`
 abbrev pub record_command : App
@@ -118,7 +126,12 @@ record_command = with_rule (with_rule (with_turns (with_sizes (new_app (codes "r
 
 -- the command `import`
 abbrev pub import_command : App
-import_command = new_app (codes "import")
+import_command = with_file (new_app (codes "import"))
+
+-- the options of `draw` that say what a picture is made of
+abbrev pub with_style_options : App → App
+with_style_options app = with_rule (with_rule app (flag (codes "text")))
+    (number_option (codes "width") (small_numbers 200 16000))
 
 -- the options of `draw` on evidence
 abbrev pub with_evidence_options : App → App
@@ -131,9 +144,8 @@ with_stretch_options app = with_rule (with_rule app (text_option (codes "calls")
 
 -- the command `draw`
 abbrev pub draw_command : App
-draw_command = with_stretch_options (with_evidence_options
-    (with_rule (with_rule (with_places (codes "1") (new_app (codes "draw"))) (text_option (codes "order")))
-    (flag (codes "text"))))
+draw_command = with_file (with_stretch_options (with_evidence_options (with_style_options
+    (with_rule (with_places (codes "1") (new_app (codes "draw"))) (text_option (codes "order"))))))
 
 -- the command `explain`
 abbrev pub explain_command : App

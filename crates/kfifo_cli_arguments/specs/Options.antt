@@ -2,6 +2,7 @@
 use Rattle.std.specs.Prelude.{◌≡◌, ℕ, ◌^◌, ◌<◌, ◌≤◌, Bool, true, false, List, [], length, Option, Some, None}
 use Rattle.std.specs.Prelude.{MatchOption, codes, map, max, min, option_map, unwrap_or}
 use Rattle.std.specs.Str.Parse.{digits_value}
+use denote.Ref.{Bor}
 use Rattle.clap.specs.declared.parser.matches.Found.{Found}
 use Rattle.clap.specs.Words.{first_value, matched_of, one_text, raw_values}
 use Rattle.kfifo_cli_texts.specs.declared.requests.CheckOptions.{CheckOptions}
@@ -9,6 +10,7 @@ use Rattle.kfifo_cli_texts.specs.declared.requests.DispatchOptions.{DispatchOpti
 use Rattle.kfifo_cli_texts.specs.declared.requests.DrawOptions.{DrawOptions}
 use Rattle.kfifo_cli_texts.specs.declared.requests.ExplainOptions.{ExplainOptions}
 use Rattle.kfifo_cli_texts.specs.declared.requests.JudgeOptions.{JudgeOptions}
+use Rattle.kfifo_cli_texts.specs.declared.requests.LeastOptions.{LeastOptions}
 use Rattle.kfifo_cli_texts.specs.declared.requests.RecordOptions.{RecordOptions}
 use Rattle.kfifo_cli_texts.specs.declared.requests.ReplayOptions.{ReplayOptions}
 use Rattle.kfifo_cli_texts.specs.declared.requests.RunOptions.{RunOptions}
@@ -84,11 +86,21 @@ GivesPlaces found default k = (given : ℕ) × GivesOr 32 (one_text found (codes
 abbrev pub GivesTries : Found → ℕ → Type 0
 GivesTries found tries = GivesOr 32 (one_text found (codes "tries")) 1000000 tries
 
+-- the path of the file to be read, where one is named
+abbrev pub GivesFile : Found → Option (Bor (List ℕ)) → Type 0
+GivesFile found file = option_map (λ path. path.now) file ≡ first_value found (codes "file")
+
+-- the options of `least`
+pub record GivesLeast (found : Found) (options : LeastOptions) : Type 0 where
+  pub tries : GivesTries found options.tries
+  pub file : GivesFile found options.file
+
 -- the options of `judge`
 pub record GivesJudge (found : Found) (options : JudgeOptions) : Type 0 where
   pub k : GivesPlaces found 1 options.k
   pub tries : GivesTries found options.tries
   pub show : GivesFlag (one_text found (codes "show")) options.show
+  pub file : GivesFile found options.file
 
 -- the options of `check`
 pub record GivesCheck (found : Found) (options : CheckOptions) : Type 0 where
@@ -100,10 +112,12 @@ pub record GivesDraw (found : Found) (options : DrawOptions) : Type 0 where
   pub k : GivesPlaces found 1 options.check.k
   pub order : option_map (λ text. text.now) options.check.order ≡ first_value found (codes "order")
   pub text : GivesFlag (one_text found (codes "text")) options.text
+  pub width : GivesNumber 32 (one_text found (codes "width")) options.width
   pub evidence : GivesFlag (one_text found (codes "evidence")) options.evidence
   pub around : GivesNumber 32 (one_text found (codes "around")) options.around
   pub calls : option_map (λ text. text.now) options.calls ≡ first_value found (codes "calls")
   pub lines : option_map (λ text. text.now) options.lines ≡ first_value found (codes "lines")
+  pub file : GivesFile found options.file
 
 -- the words of `explain`
 abbrev pub GivesExplain : Found → ExplainOptions → Type 0

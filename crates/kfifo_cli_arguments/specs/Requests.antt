@@ -9,8 +9,8 @@ use Rattle.kfifo_cli_texts.specs.declared.requests.Request.{Request}
 use Rattle.kfifo_cli_texts.specs.declared.requests.Request.TheVariants.{Run, Check, Measure, Replay, Judge, Least}
 use Rattle.kfifo_cli_texts.specs.declared.requests.Request.TheVariants.{Record, Import, Draw, Dispatch, Explain}
 use Rattle.kfifo_cli_arguments.specs.CommandLine.{Names, kinds, named}
-use Rattle.kfifo_cli_arguments.specs.Options.{GivesCheck, GivesDispatch, GivesDraw, GivesExplain, GivesJudge}
-use Rattle.kfifo_cli_arguments.specs.Options.{GivesRecord, GivesReplay, GivesRun, GivesTries}
+use Rattle.kfifo_cli_arguments.specs.Options.{GivesCheck, GivesDispatch, GivesDraw, GivesExplain, GivesFile}
+use Rattle.kfifo_cli_arguments.specs.Options.{GivesJudge, GivesLeast, GivesRecord, GivesReplay, GivesRun}
 
 -- the command that was named, with what its options were given, makes this request
 abbrev pub Requests : Option (Text × List Row) → Request → Type 0
@@ -20,9 +20,10 @@ Requests command Measure = (found : Found) × Names command (codes "measure") fo
 Requests command (Replay options) = (found : Found) × Names command (codes "replay") found × GivesReplay found options
 Requests command (Judge options) = (found : Found) × Names command (codes "judge") found × GivesJudge found options
 Requests command (Least options) = (found : Found) × Names command (codes "least") found
-    × GivesTries found options.tries
+    × GivesLeast found options
 Requests command (Record options) = (found : Found) × Names command (codes "record") found × GivesRecord found options
-Requests command Import = (found : Found) × Names command (codes "import") found
+Requests command (Import options) = (found : Found) × Names command (codes "import") found
+    × GivesFile found options.file
 Requests command (Draw options) = (found : Found) × Names command (codes "draw") found × GivesDraw found options
 Requests command (Dispatch options) = (found : Found) × Names command (codes "dispatch") found
     × GivesDispatch found options

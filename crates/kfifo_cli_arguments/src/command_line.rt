@@ -13,35 +13,50 @@ use kfifo_cli_texts::Request;
 use std::alloc::{AllocError, Global};
 
 /// The version of the program.
-const VERSION: &str = "0.1.0";
+const VERSION: &str = "0.3.0";
 
 const EXAMPLES: &str = "\
 Examples:
-  kfifo run e7 e8 d   puts 7 and 8 into a queue, takes one, and prints the words of the queue
+  kfifo judge log.csv  says of a log of your own queue whether it is that of a
+                       plain queue, and why not
+  kfifo run e7 e8 d    puts 7 and 8 into a queue, takes one, and prints the
+                       words of the queue
+  kfifo run --help     says all about a command
+
+`kfifo --help` has an example of each command, and the exit statuses.";
+
+const DETAILS: &str = "\
+Examples:
+  kfifo run e7 e8 d   puts 7 and 8 into a queue, takes one, and prints the words
+                      of the queue
   kfifo check < record.json
                       says whether a recorded run of a queue has a legal order
-  kfifo judge < log.csv
-                      says of a log of your own queue whether it is that of a plain queue, and why not
-  kfifo import < log.csv > record.json
+  kfifo judge log.csv
+                      says of a log of your own queue whether it is that of a
+                      plain queue, and why not
+  kfifo import log.csv > record.json
                       makes a record of such a log
-  kfifo draw < record.json > run.svg
-                      draws a record, a lane for each thread
+  kfifo draw log.csv > run.svg
+                      draws such a log, a lane for each thread
   kfifo replay --picks 0x6,1x7,0x2 --turns 1 e5 e6:1
                       runs two threads step by step in this order
   kfifo record e1,e2,d e3,d,d | kfifo check
-                      runs two real threads, and says whether the record has a legal order
+                      runs two real threads, and says whether the record has a
+                      legal order
   kfifo dispatch --workers 4 1:1000:0 2:2000:0
                       works off two tasks by four real threads
-  kfifo run --help    says how a script is written, and what its options and faults are
+  kfifo run --help    says how a script is written, and what its options and
+                      faults are
   kfifo explain record fault 3
-                      says what this fault means, what is allowed, and what to do
+                      says what this fault means, and what to do
 
-Exit status: 0 for an answer; 1 for a fault of the data, a size, the memory, reading or writing; 2 for
-a fault of the command line; 3 where a record has no order, or its order is not legal; 4 where `judge`
-cannot say.
+Exit status: 0 for an answer; 1 for a fault of the data, a size, the memory,
+reading or writing; 2 for a fault of the command line; 3 where a record has no
+order, or its order is not legal; 4 where `judge` cannot say.
 
-The documents, where this program comes from: README.md begins; docs/PROGRAM.md is about the commands,
-docs/JUDGE.md about records and orders, docs/QUEUE.md about the queue.";
+The documents, where this program comes from: README.md begins; docs/PROGRAM.md
+is about the commands, docs/JUDGE.md about records and orders, docs/QUEUE.md
+about the queue.";
 
 /// Returns the request of the command that was named, with what its options were given; None where none was named.
 pub fn request_of<'a>(matches: &'a ArgMatches<'_>) -> Option<Request<'a>>
@@ -69,8 +84,8 @@ pub fn request_of<'a>(matches: &'a ArgMatches<'_>) -> Option<Request<'a>>
     if let Some(options) = matches.subcommand_matches(record::NAME) {
         return Some(Request::Record(record::options_of(options)));
     }
-    if let Some(_) = matches.subcommand_matches(import::NAME) {
-        return Some(Request::Import);
+    if let Some(options) = matches.subcommand_matches(import::NAME) {
+        return Some(Request::Import(import::options_of(options)));
     }
     if let Some(options) = matches.subcommand_matches(draw::NAME) {
         return Some(Request::Draw(draw::options_of(options)));
@@ -84,8 +99,9 @@ pub fn request_of<'a>(matches: &'a ArgMatches<'_>) -> Option<Request<'a>>
     None
 }
 
-/// Reads `words`, the arguments after the program's name, and returns the command that they name, with its options. The
-/// error says what is wrong with them, holds the help or the version that they ask for, or says that memory was refused.
+/// Reads `words`, the arguments after the program's name, and returns the command that they name, with its options.
+/// The error says what is wrong with them, holds the help or the version that they ask for, or says that memory was
+/// refused.
 pub fn parse<'a>(alloc: Global, words: &'a [String]) -> Result<ArgMatches<'a>, Error>
     ensures named { IfOk result (λ m. subcommand_rows_of m ≡ named (map (λ w. string_bytes w) words.entry.now)) }
     ensures kinds { FailsBy (kinds (map (λ w. string_bytes w) words.entry.now)) result }
@@ -101,10 +117,9 @@ fn command<'a>(alloc: Global) -> Result<Command<'a>, AllocError>
         .bin_name("kfifo")?
         .no_binary_name(true)
         .version(VERSION)
-        .about(
-            "A bounded-size lock-free k-FIFO queue: a dequeue may take any of the k oldest items",
-        )
+        .about("A bounded lock-free k-FIFO queue: a dequeue takes any of the k oldest items")
         .after_help(EXAMPLES)
+        .after_long_help(DETAILS)
         .subcommand_required(true)
         .arg_required_else_help(true)
         .subcommand(run::command(alloc)?)?

@@ -1,21 +1,13 @@
 //! What is wrong with a command line.
 
-use crate::commands::{check, draw, import, judge, least, measure};
+use crate::commands::{check, measure};
 use clap::Error;
 use std::alloc::{AllocError, Global};
 use std::fmt::Write;
 
-/// Whether the command reads standard input.
-fn reads_input(command: &str) -> bool {
-    let names = [
-        check::NAME,
-        measure::NAME,
-        judge::NAME,
-        least::NAME,
-        import::NAME,
-        draw::NAME,
-    ];
-    names.contains(&command)
+/// Whether the command reads standard input alone, and takes no file.
+fn takes_no_file(command: &str) -> bool {
+    [check::NAME, measure::NAME].contains(&command)
 }
 
 /// Adds what to do where a word is refused that is no option: it names a file, which is read from standard input.
@@ -39,14 +31,14 @@ fn push_advice(
 }
 
 /// Returns what is wrong with `words`, of which a parse gave this error, and what to do where a command that reads
-/// standard input is given the name of a file. It fails where memory is refused.
+/// standard input alone is given the name of a file. It fails where memory is refused.
 pub fn mistake(alloc: Global, words: &[String], error: Error) -> Result<String, AllocError> {
     let mut text = error.to_string(alloc)?;
     let Some((command, words)) = words.split_first() else {
         return Ok(text);
     };
     let command = command.as_str();
-    if reads_input(command) {
+    if takes_no_file(command) {
         push_advice(alloc, &mut text, command, words)?;
     }
     Ok(text)

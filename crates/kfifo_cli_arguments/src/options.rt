@@ -3,7 +3,8 @@ ghost use Rattle.std.specs.Prelude.{◌≡◌, ◌≤◌, false, IfOk};
 ghost use Rattle.clap.specs.Words.{app_of, found_of, one_text, rule_of};
 ghost use Rattle.clap.specs.declared.builder.command.Command.TheViews.{out-Command as fields_of};
 ghost use Rattle.kfifo_cli_arguments.specs.CommandLine as line;
-ghost use Rattle.kfifo_cli_arguments.specs.Options.{GivesOr, GivesPlaces, GivesSizes, GivesTries, GivesTurns};
+ghost use Rattle.kfifo_cli_arguments.specs.Options.{GivesFile, GivesOr, GivesPlaces, GivesSizes, GivesTries};
+ghost use Rattle.kfifo_cli_arguments.specs.Options.{GivesTurns};
 
 use clap::{Arg, ArgAction, ArgMatches, Command, value_parser};
 use kfifo_cli_texts::Sizes;
@@ -21,6 +22,8 @@ const PROBES: &str = "probes";
 const TURNS: &str = "turns";
 
 const TRIES: &str = "tries";
+
+const FILE: &str = "file";
 
 const DEFAULT_K: u32 = 2;
 
@@ -59,7 +62,7 @@ pub fn with_sizes<'a>(alloc: Global, command: Command<'a>) -> Result<Command<'a>
         .value_parser(value_parser!(u32))
         .default_value("2")
         .short('k')
-        .help("Slots in a segment, 1 to 64: a dequeue takes one of the k oldest items");
+        .help("Slots in a segment, 1 to 64: a dequeue takes one of\nthe k oldest items");
     let segments = option(alloc, SEGMENTS)
         .value_name("NUMBER")
         .value_parser(value_parser!(u32))
@@ -69,11 +72,11 @@ pub fn with_sizes<'a>(alloc: Global, command: Command<'a>) -> Result<Command<'a>
         .value_name("VERSION")
         .value_parser(value_parser!(u64).range(0..=1_099_511_627_775))
         .default_value("1099511627775")
-        .help("The greatest version of a word, at least 2");
+        .help("The greatest version of a word,\nat least 2");
     let probes = option(alloc, PROBES)
         .value_name("SLOTS")
         .value_parser(value_parser!(u32))
-        .help("Slots of a segment that an enqueue looks at, 1 to k [default: k]");
+        .help("Slots of a segment that an enqueue looks at,\n1 to k [default: k]");
     command.arg(k)?.arg(segments)?.arg(last)?.arg(probes)
 }
 
@@ -87,7 +90,7 @@ pub fn with_turns<'a>(alloc: Global, command: Command<'a>) -> Result<Command<'a>
         .value_parser(value_parser!(u16).range(1..))
         .default_value("2")
         .help(
-            "Rounds that a call makes before it returns busy, 1 to 65535; segments plus 2 are enough for a call that no other disturbs",
+            "Rounds that a call makes before it returns busy,\n1 to 65535; segments plus 2 are enough for a call\nthat no other disturbs",
         );
     command.arg(turns)
 }
@@ -114,7 +117,7 @@ pub fn with_places<'a>(
         .value_parser(value_parser!(u32).range(1..=64))
         .default_value(default)
         .short('k')
-        .help("A dequeue takes one of the k oldest items, 1 to 64");
+        .help("A dequeue takes one of the k oldest items,\n1 to 64");
     command.arg(k)
 }
 
@@ -135,7 +138,7 @@ pub fn with_tries<'a>(alloc: Global, command: Command<'a>) -> Result<Command<'a>
         .value_name("NUMBER")
         .value_parser(value_parser!(u32))
         .default_value("1000000")
-        .help("How many choices the search for an order may undo before it gives up");
+        .help("How many choices the search for an order may undo\nbefore it gives up");
     command.arg(tries)
 }
 
@@ -144,6 +147,25 @@ pub fn tries_of(matches: &ArgMatches<'_>) -> u64
     ensures { GivesTries (found_of matches.now) result }
 {
     u64::from(count_of(matches, TRIES, DEFAULT_TRIES))
+}
+
+/// Adds the argument `[FILE]`.
+pub fn with_file<'a>(alloc: Global, command: Command<'a>) -> Result<Command<'a>, AllocError>
+    ensures { IfOk result (λ c. (app_of c ≡ line.with_file (app_of command.entry))
+        × ((fields_of c).has_globals ≡ (fields_of command.entry).has_globals)) }
+{
+    let file = Arg::new(alloc, FILE)
+        .value_name("FILE")
+        .action(ArgAction::Set)
+        .help("The file to read; standard input if none is named");
+    command.arg(file)
+}
+
+/// The path of the file that is read, where one is named.
+pub fn file_of<'a>(matches: &'a ArgMatches<'_>) -> Option<&'a str>
+    ensures { GivesFile (found_of matches.now) result }
+{
+    matches.get_str(FILE)
 }
 
 /// The option `--name`, which takes no value.

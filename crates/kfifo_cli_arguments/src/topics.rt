@@ -1,11 +1,12 @@
 //! What `kfifo explain` says of each fault and answer.
 //!
-//! The topics stand in four constants, each behind a function: what borrows more at once takes the check of borrows too
+//! The topics stand in five constants, each behind a function: what borrows more at once takes the check of borrows too
 //! many steps.
 
 pub(crate) mod answers;
 pub(crate) mod arguments;
 pub(crate) mod inputs;
+pub(crate) mod statuses;
 pub(crate) mod verdicts;
 
 use crate::commands::{

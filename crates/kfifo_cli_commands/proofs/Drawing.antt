@@ -4,7 +4,7 @@ use Rattle.std.proofs.Common.{MatchResult}
 use Rattle.kfifo_cli_commands.proofs.Types.{Fault}
 use Rattle.kfifo_cli_texts.specs.declared.fault.Fault.TheVariants.{Shape, Word, Order, Picks, Replay, Trace, Open, Dispatch, Input, NoInput}
 use Rattle.kfifo_cli_texts.specs.declared.fault.Fault.TheVariants.{NotJson, Record, Search, RepeatedItem, Import, TooManyDrawn}
-use Rattle.kfifo_cli_texts.specs.declared.fault.Fault.TheVariants.{Contradiction, Stretch, NoLines, Unexplained, Memory, Output}
+use Rattle.kfifo_cli_texts.specs.declared.fault.Fault.TheVariants.{Contradiction, Stretch, NoLines, NoEvidence, Unexplained, Memory, Output}
 use Rattle.kfifo_cli_commands.specs.declared.cut.Cut.{Cut}
 use Rattle.kfifo_cli_texts.specs.declared.requests.DrawOptions.{DrawOptions}
 use Rattle.kfifo_cli_commands.specs.Cuts.{AsksFor, IsCutFault}
@@ -33,6 +33,7 @@ module _ (input : Option (List ℕ)) (before after : ℕ) (options : DrawOptions
   cut_refused (Import fault) u = absurd u
   cut_refused TooManyDrawn u = absurd u
   cut_refused NoLines u = absurd u
+  cut_refused NoEvidence u = absurd u
   cut_refused Unexplained u = absurd u
   cut_refused Memory u = absurd u
   cut_refused Output u = absurd u
@@ -75,6 +76,7 @@ module _ (input : Option (List ℕ)) (before after : ℕ) (options : DrawOptions
     picture_refused (Import fault) u = undrawn (Import fault) u
     picture_refused TooManyDrawn u = undrawn TooManyDrawn u
     picture_refused NoLines u = undrawn NoLines u
+    picture_refused NoEvidence u = undrawn NoEvidence u
     picture_refused Unexplained u = absurd u
     picture_refused Memory u = tt
     picture_refused Output u = absurd u

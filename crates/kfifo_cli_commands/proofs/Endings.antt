@@ -3,7 +3,7 @@ use Rattle.std.proofs.Common.{◌≡◌, ◌≢◌, ◌⊎◌, inl, inr, ℕ, Li
 use Rattle.kfifo_cli_commands.proofs.Types.{Fault}
 use Rattle.kfifo_cli_texts.specs.declared.fault.Fault.TheVariants.{Shape, Word, Order, Picks, Replay, Trace, Open, Dispatch, Input, NoInput}
 use Rattle.kfifo_cli_texts.specs.declared.fault.Fault.TheVariants.{NotJson, Record, Search, RepeatedItem, Import, TooManyDrawn}
-use Rattle.kfifo_cli_texts.specs.declared.fault.Fault.TheVariants.{Contradiction, Stretch, NoLines, Unexplained, Memory, Output}
+use Rattle.kfifo_cli_texts.specs.declared.fault.Fault.TheVariants.{Contradiction, Stretch, NoLines, NoEvidence, Unexplained, Memory, Output}
 use Rattle.kfifo_cli_texts.specs.Faults.{fault_line}
 use Rattle.kfifo_cli_texts.specs.Printing.{Nothing, Part, Tells, Written}
 use Rattle.kfifo_cli_commands.specs.Endings.{Ends}
@@ -29,6 +29,7 @@ is_output TooManyDrawn = inr (λ e. cc)
 is_output Contradiction = inr (λ e. cc)
 is_output Stretch = inr (λ e. cc)
 is_output NoLines = inr (λ e. cc)
+is_output NoEvidence = inr (λ e. cc)
 is_output Unexplained = inr (λ e. cc)
 is_output Memory = inr (λ e. cc)
 is_output Output = inl refl

@@ -1,7 +1,9 @@
 -- Which calls `draw` is asked to draw, by its options.
-use Rattle.std.specs.Prelude.{ℕ, ◌≡◌, ◌≤◌, ◌⊎◌, true, false, List, [], ◌∷◌, Option, Some, None, IsSome, option_map}
-use Rattle.std.specs.Prelude.{unwrap_or}
+use Rattle.std.specs.Prelude.{ℕ, ◌≡◌, ◌≤◌, ◌⊎◌, true, false, Bool, List, [], ◌∷◌, Option, Some, None, IsSome}
+use Rattle.std.specs.Prelude.{option_map, take, unwrap_or}
 use denote.Ref.{Bor}
+use Rattle.kfifo_model.specs.declared.calls.Call.{Call}
+use Rattle.kfifo_judge.specs.Reasons.{others}
 use Rattle.kfifo_verdict.specs.declared.verdicts.Evidence.{Evidence}
 use Rattle.kfifo_verdict.specs.declared.verdicts.Evidence.TheVariants.{NeverPut, TakenTwice, NotEmpty, TooYoung}
 use Rattle.kfifo_verdict.specs.declared.verdicts.Evidence.TheVariants.{TakenTooSoon, ItemsLeft, OlderLeft}
@@ -15,11 +17,12 @@ use Rattle.kfifo_cli_texts.specs.declared.requests.DrawOptions.{DrawOptions}
 use Rattle.kfifo_cli_commands.specs.declared.cut.Cut.{Cut}
 use Rattle.kfifo_cli_commands.specs.declared.cut.Cut.TheVariants as cuts
 
--- The options contradict each other: `--evidence` and `--order`, `--around` with no `--evidence`, or `--calls` and
--- `--lines`.
+-- The options contradict each other: `--evidence` and `--order`, `--around` with no `--evidence`, `--text` and
+-- `--width`, or `--calls` and `--lines`.
 abbrev pub Contradict : DrawOptions → Type 0
 Contradict options = ((options.evidence ≡ true) × IsSome options.check.order)
     ⊎ ((options.evidence ≡ false) × IsSome options.around)
+    ⊎ ((options.text ≡ true) × IsSome options.width)
     ⊎ (IsSome options.calls × IsSome options.lines)
 
 -- what an option gives, where it is given
@@ -52,21 +55,27 @@ IsOfLines _ = ⊥
 abbrev pub AsksFor : DrawOptions → Cut → Type 0
 AsksFor options cut = ¬ (Contradict options) × AsksForCut options cut
 
+-- evidence is asked for and would say which calls are drawn, and there is none
+abbrev pub LacksEvidence : Bool → Option Evidence → Cut → Type 0
+LacksEvidence true None (cuts.Evidence around) = Unit {0}
+LacksEvidence _ _ _ = ⊥
+
 -- why the options ask for no calls
 abbrev pub IsCutFault : DrawOptions → Fault → Type 0
 IsCutFault options faults.Contradiction = Contradict options
 IsCutFault options faults.Stretch = GivesNoStretch (given options.calls) ⊎ GivesNoStretch (given options.lines)
 IsCutFault options _ = ⊥
 
--- the calls that evidence names: the one that got an item or found none, and then the puts
-abbrev pub named_by : Evidence → List ℕ
-named_by (NeverPut get) = get ∷ []
-named_by (TakenTwice get) = get ∷ []
-named_by (NotEmpty empty puts) = empty ∷ puts.items
-named_by (TooYoung get puts) = get ∷ puts.items
-named_by (TakenTooSoon get) = get ∷ []
-named_by (ItemsLeft empty) = empty ∷ []
-named_by (OlderLeft get puts) = get ∷ puts.items
+-- the calls that evidence names: the one that got an item or found none, and then the puts, or of an item that was taken
+-- too often or too soon the first 31 others that put or got it
+abbrev pub named_by : List Call → Evidence → List ℕ
+named_by h (NeverPut get) = get ∷ []
+named_by h (TakenTwice get) = get ∷ take 31 (others h get)
+named_by h (NotEmpty empty puts) = empty ∷ puts.items
+named_by h (TooYoung get puts) = get ∷ puts.items
+named_by h (TakenTooSoon get) = get ∷ take 31 (others h get)
+named_by h (ItemsLeft empty) = empty ∷ []
+named_by h (OlderLeft get puts) = get ∷ puts.items
 
 -- the part of a history that is to be drawn, where the evidence names these calls: all where there is no evidence
 abbrev pub IsPartOf : Option (List ℕ) → Cut → Part → Type 0

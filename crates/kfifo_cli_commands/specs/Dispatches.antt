@@ -1,12 +1,12 @@
 -- What the command `dispatch` comes to.
 use Rattle.std.specs.Prelude.{◌≡◌, ℕ, ◌+◌, ◌<◌, ◌≤◌, ◌⊎◌, List, flat_map, length}
 use Rattle.kfifo_words.specs.declared.shape.Shape.{Shape}
-use Rattle.kfifo_dispatch.specs.declared.dispatching.TheConstants.{MAX_TASKS, MAX_WORKERS}
 use Rattle.kfifo_dispatch.specs.declared.fault.DispatchFault.{DispatchFault}
 use Rattle.kfifo_dispatch.specs.declared.fault.DispatchFault.TheVariants as refusals
 use Rattle.kfifo_dispatch.specs.declared.task.Task.{Task}
 use Rattle.kfifo_dispatch.specs.declared.task.Finished.{Finished}
 use Rattle.kfifo_dispatch.specs.Tasks.{HasRepeatedId, IsFinishedList}
+use Rattle.kfifo_dispatch.specs.Working.{HasRun, SaysNothing}
 use Rattle.kfifo_cli_texts.specs.declared.fault.Fault.{Fault}
 use Rattle.kfifo_cli_texts.specs.declared.fault.Fault.TheVariants as faults
 use Rattle.kfifo_cli_texts.specs.declared.requests.DispatchOptions.{DispatchOptions}
@@ -20,13 +20,14 @@ pub record GivesTasks (options : DispatchOptions) (shape : Shape) (tasks : List 
 
 -- why tasks are refused with so many workers
 abbrev pub IsTasksFault : List Task → ℕ → DispatchFault → Type 0
-IsTasksFault tasks workers refusals.TooManyTasks = MAX_TASKS < length tasks
-IsTasksFault tasks workers refusals.RepeatedId = (length tasks ≤ MAX_TASKS) × HasRepeatedId tasks
+IsTasksFault tasks workers refusals.TooManyTasks = 1024 < length tasks
+IsTasksFault tasks workers refusals.RepeatedId = (length tasks ≤ 1024) × HasRepeatedId tasks
 IsTasksFault tasks workers refusals.Memory = Unit {0}
-IsTasksFault tasks workers refusals.WorkersOutOfRange = (length tasks ≤ MAX_TASKS) × ¬ (HasRepeatedId tasks)
-    × ((workers ≡ 0) ⊎ (MAX_WORKERS < workers))
+IsTasksFault tasks workers refusals.WorkersOutOfRange = (length tasks ≤ 1024) × ¬ (HasRepeatedId tasks)
+    × ((workers ≡ 0) ⊎ (63 < workers))
 
--- The answer: the lines of the tasks, each finished and once, by rising id. Only an allocation that fails refuses them
+-- The answer: the lines of the tasks, each finished and once, by rising id. As many workers as the options say have
+-- done the work, with starts from the seed that they say. Only an allocation that fails refuses them
 pub record IsDispatch (options : DispatchOptions) (text : List ℕ) : Type 0 where
   pub shape : Shape
   pub tasks : List Task
@@ -34,6 +35,7 @@ pub record IsDispatch (options : DispatchOptions) (text : List ℕ) : Type 0 whe
   pub admitted : (fault : DispatchFault) → IsTasksFault tasks options.workers fault → fault ≡ refusals.Memory
   pub list : List Finished
   pub list_is : IsFinishedList tasks list
+  pub run : HasRun SaysNothing SaysNothing shape options.workers options.seed tasks
   pub text_is : text ≡ flat_map finished_line list
 
 -- the sizes make a shape, and the word with this number is the first that writes no task

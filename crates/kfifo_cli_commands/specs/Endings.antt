@@ -10,6 +10,7 @@ use Rattle.kfifo_cli_texts.specs.Faults.{fault_line}
 use Rattle.kfifo_cli_texts.specs.Printing.{Nothing, Part, Tells, Whole, Written}
 use Rattle.kfifo_cli_commands.specs.Explanations.{IsExplainRefusal}
 use Rattle.kfifo_cli_commands.specs.Imports.{IsImport, IsImportRefusal}
+use Rattle.kfifo_cli_commands.specs.Inputs.{read_from}
 use Rattle.kfifo_cli_commands.specs.Pictures.{IsDraw, IsDrawRefusal}
 use Rattle.kfifo_cli_commands.specs.Records.{IsCheck, IsCheckRefusal, IsMeasure, IsMeasureRefusal}
 use Rattle.kfifo_cli_commands.specs.RealRuns.{IsRealRun, IsRealRunRefusal}
@@ -23,11 +24,11 @@ Answers (Run options) input text status = IsRunAnswer options text × (status �
 Answers (Check options) input text status = IsCheck options input text status
 Answers Measure input text status = IsMeasure input text × (status ≡ 0)
 Answers (Replay options) input text status = IsReplayAnswer options text × (status ≡ 0)
-Answers (Judge options) input text status = IsJudge options input text status
-Answers (Least options) input text status = IsLeast input text status
+Answers (Judge options) input text status = IsJudge options (read_from options.file input) text status
+Answers (Least options) input text status = IsLeast (read_from options.file input) text status
 Answers (Record options) input text status = IsRealRun options text × (status ≡ 0)
-Answers Import input text status = IsImport input text × (status ≡ 0)
-Answers (Draw options) input text status = IsDraw options input × (status ≡ 0)
+Answers (Import options) input text status = IsImport (read_from options.file input) text × (status ≡ 0)
+Answers (Draw options) input text status = IsDraw options (read_from options.file input) × (status ≡ 0)
 Answers (Dispatch options) input text status = IsDispatch options text × (status ≡ 0)
 Answers (Explain options) input text status = status ≡ 0
 
@@ -41,11 +42,12 @@ IsCause (Run options) input before after fault = IsRunRefusal options fault
 IsCause (Check options) input before after fault = IsCheckRefusal options input before after fault
 IsCause Measure input before after fault = IsMeasureRefusal input before after fault
 IsCause (Replay options) input before after fault = IsReplayRefusal options fault
-IsCause (Judge options) input before after fault = IsVerdictRefusal input before after fault
-IsCause (Least options) input before after fault = IsVerdictRefusal input before after fault
+IsCause (Judge options) input before after fault = IsVerdictRefusal (read_from options.file input) before after fault
+IsCause (Least options) input before after fault = IsVerdictRefusal (read_from options.file input) before after fault
 IsCause (Record options) input before after fault = IsRealRunRefusal options fault
-IsCause Import input before after fault = IsImportRefusal input before after fault
-IsCause (Draw options) input before after fault = IsDrawRefusal options input before after fault
+IsCause (Import options) input before after fault = IsImportRefusal (read_from options.file input) before after fault
+IsCause (Draw options) input before after fault = IsDrawRefusal options (read_from options.file input) before after
+    fault
 IsCause (Dispatch options) input before after fault = IsDispatchRefusal options fault
 IsCause (Explain options) input before after fault = IsExplainRefusal fault
 

@@ -1,15 +1,21 @@
--- What the commands `judge`, `least` and `draw` read: a record in JSON, or a log in CSV.
+-- What the commands `judge`, `least`, `import` and `draw` read, and the calls of it: a record in JSON, or a log in CSV.
 use Rattle.std.specs.Prelude.{◌≡◌, ◌≢◌, ◌⊎◌, ◌<◌, ℕ, List, [], Option, Some, None, length, slice_index}
+use denote.Ref.{Bor}
 use Rattle.kfifo_model.specs.declared.calls.Call.{Call}
 use Rattle.kfifo_model.specs.declared.history.RecordFault.{RecordFault}
 use Rattle.kfifo_import.specs.declared.log.ImportFault.{ImportFault}
 use Rattle.kfifo_import.specs.declared.log.LoggedCall.{LoggedCall}
-use Rattle.kfifo_import.specs.Tables.{IsReadLog, IsUnimported}
+use Rattle.kfifo_import.specs.Foreign.{IsJudgedLog, IsUnjudged}
 use Rattle.kfifo_judge.specs.declared.record.StreamFault.TheVariants as streams
 use Rattle.kfifo_judge.specs.Inputs.{IsRecordText}
 use Rattle.kfifo_judge.specs.TextFaults.{IsTextFault}
 use Rattle.kfifo_cli_texts.specs.declared.fault.Fault.{Fault}
 use Rattle.kfifo_cli_texts.specs.declared.fault.Fault.TheVariants.{Import, NoInput, NotJson, Record, Memory}
+
+-- What the commands read: the bytes of a file, of which nothing is known, where one is named; else the input.
+abbrev pub read_from : Option (Bor (List ℕ)) → Option (List ℕ) → Option (List ℕ)
+read_from None input = input
+read_from (Some path) input = None
 
 -- a space, a tab, a line feed or a carriage return
 abbrev pub IsSpace : ℕ → Type 0
@@ -26,7 +32,7 @@ pub record BeginsRecord (bytes : List ℕ) : Type 0 where
 -- The calls of an input: the record's, or the log's with what the log says of each beside them.
 abbrev pub IsCalls : List ℕ → List Call → Option (List LoggedCall) → Type 0
 IsCalls bytes history None = BeginsRecord bytes × IsRecordText bytes history
-IsCalls bytes history (Some calls) = ¬ (BeginsRecord bytes) × IsReadLog bytes history calls
+IsCalls bytes history (Some calls) = ¬ (BeginsRecord bytes) × IsJudgedLog bytes history calls
     × (length calls ≡ length history)
 
 -- what the log says of each call, and nothing of a record
@@ -39,6 +45,6 @@ abbrev pub IsNoCalls : List ℕ → Fault → Type 0
 IsNoCalls bytes NoInput = bytes ≡ []
 IsNoCalls bytes NotJson = BeginsRecord bytes × IsTextFault bytes streams.NotJson
 IsNoCalls bytes (Record fault) = BeginsRecord bytes × IsTextFault bytes (streams.Record fault)
-IsNoCalls bytes (Import fault) = (bytes ≢ []) × ¬ (BeginsRecord bytes) × IsUnimported bytes fault
+IsNoCalls bytes (Import fault) = (bytes ≢ []) × ¬ (BeginsRecord bytes) × IsUnjudged bytes fault
 IsNoCalls bytes Memory = Unit {0}
 IsNoCalls bytes _ = ⊥

@@ -10,10 +10,10 @@ use Rattle.kfifo_draw.specs.declared.part.Part.{Part}
 use Rattle.kfifo_cli_texts.specs.declared.fault.Fault.{Fault}
 use Rattle.kfifo_cli_texts.specs.declared.fault.Fault.TheVariants.{Order, Input, NoInput, NotJson, Record, Import}
 use Rattle.kfifo_cli_texts.specs.declared.fault.Fault.TheVariants.{TooManyDrawn, Contradiction, Stretch, NoLines}
-use Rattle.kfifo_cli_texts.specs.declared.fault.Fault.TheVariants.{Memory}
+use Rattle.kfifo_cli_texts.specs.declared.fault.Fault.TheVariants.{NoEvidence, Memory}
 use Rattle.kfifo_cli_texts.specs.declared.requests.DrawOptions.{DrawOptions}
 use Rattle.kfifo_cli_commands.specs.declared.cut.Cut.{Cut}
-use Rattle.kfifo_cli_commands.specs.Cuts.{AsksFor, IsCutFault, IsOfLines, IsPartOf, named_by}
+use Rattle.kfifo_cli_commands.specs.Cuts.{AsksFor, IsCutFault, IsOfLines, IsPartOf, LacksEvidence, named_by}
 use Rattle.kfifo_cli_commands.specs.Inputs.{BeginsRecord, IsCalls, IsNoCalls, logged_calls}
 use Rattle.kfifo_cli_commands.specs.Records.{IsInput, IsOrder, IsOrderFault, IsUnread}
 
@@ -22,18 +22,37 @@ abbrev pub IsSought : Bool → ℕ → List Call → Option Evidence → Type 0
 IsSought true k h found = MatchOption found (HasNoEvidence k h) (IsFirstEvidence k h)
 IsSought false k h found = found ≡ None
 
--- The number of the calls to be drawn: `Has` says of a fact and of how many calls there are whether it holds of few or
--- of many.
-pub record IsPictureOf (Has : (ℕ → Type 0) → ℕ → Type 0) (k : ℕ) (asked : Bool) (cut : Cut) (h : List Call)
-    (logged : List LoggedCall) : Type 0 where
+-- a picture has the calls for which P holds
+abbrev pub HasFew : Option Evidence → (ℕ → Type 0) → ℕ → Type 0
+HasFew found P n = AreFew P n
+
+-- P holds of too many calls, and they are those that are asked for
+abbrev pub HasMany : Bool → Cut → Option Evidence → (ℕ → Type 0) → ℕ → Type 0
+HasMany asked cut found P n = AreMany P n × ¬ (LacksEvidence asked found cut)
+
+-- P holds of too many calls, since no evidence says which of them are asked for
+abbrev pub HasAll : Bool → Cut → Option Evidence → (ℕ → Type 0) → ℕ → Type 0
+HasAll asked cut found P n = AreMany P n × LacksEvidence asked found cut
+
+-- The number of the calls to be drawn: `Has` says of the evidence, of a fact and of how many calls there are whether it
+-- holds of few or of many.
+pub record IsPictureOf (Has : Option Evidence → (ℕ → Type 0) → ℕ → Type 0) (k : ℕ) (asked : Bool) (cut : Cut)
+    (h : List Call) (logged : List LoggedCall) : Type 0 where
   pub found : Option Evidence
   pub sought : IsSought asked k h found
   pub part : Part
-  pub cut_to : IsPartOf (option_map named_by found) cut part
-  pub drawn : Has (IsInPart h logged part) (length h)
+  pub cut_to : IsPartOf (option_map (named_by h) found) cut part
+  pub drawn : Has found (IsInPart h logged part) (length h)
+
+-- why these calls of a history are not drawn
+abbrev pub IsNotDrawn : ℕ → Bool → Cut → List Call → List LoggedCall → Fault → Type 0
+IsNotDrawn k asked cut h logged TooManyDrawn = IsPictureOf (HasMany asked cut) k asked cut h logged
+IsNotDrawn k asked cut h logged NoEvidence = IsPictureOf (HasAll asked cut) k asked cut h logged
+IsNotDrawn k asked cut h logged Memory = Unit {0}
+IsNotDrawn k asked cut h logged _ = ⊥
 
 -- the calls of an input, few or many of them to be drawn
-pub record AreCallsOf (Has : (ℕ → Type 0) → ℕ → Type 0) (k : ℕ) (asked : Bool) (cut : Cut)
+pub record AreCallsOf (Has : Option Evidence → (ℕ → Type 0) → ℕ → Type 0) (k : ℕ) (asked : Bool) (cut : Cut)
     (bytes : List ℕ) : Type 0 where
   pub history : List Call
   pub logged : Option (List LoggedCall)
@@ -43,7 +62,7 @@ pub record AreCallsOf (Has : (ℕ → Type 0) → ℕ → Type 0) (k : ℕ) (ask
 
 -- there is a picture of these calls of an input
 abbrev pub IsPicture : ℕ → Bool → Cut → List ℕ → Type 0
-IsPicture k asked cut bytes = AreCallsOf AreFew k asked cut bytes
+IsPicture k asked cut bytes = AreCallsOf HasFew k asked cut bytes
 
 -- why there is no picture of these calls of an input
 abbrev pub IsNoPicture : ℕ → Bool → Cut → List ℕ → Fault → Type 0
@@ -52,7 +71,8 @@ IsNoPicture k asked cut bytes NotJson = IsNoCalls bytes NotJson
 IsNoPicture k asked cut bytes (Record fault) = IsNoCalls bytes (Record fault)
 IsNoPicture k asked cut bytes (Import fault) = IsNoCalls bytes (Import fault)
 IsNoPicture k asked cut bytes NoLines = IsOfLines cut × BeginsRecord bytes
-IsNoPicture k asked cut bytes TooManyDrawn = AreCallsOf AreMany k asked cut bytes
+IsNoPicture k asked cut bytes TooManyDrawn = AreCallsOf (HasMany asked cut) k asked cut bytes
+IsNoPicture k asked cut bytes NoEvidence = AreCallsOf (HasAll asked cut) k asked cut bytes
 IsNoPicture k asked cut bytes Memory = Unit {0}
 IsNoPicture k asked cut bytes _ = ⊥
 

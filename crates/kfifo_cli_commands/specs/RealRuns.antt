@@ -1,12 +1,11 @@
 -- What the command `record` comes to.
 use Rattle.std.specs.Prelude.{◌≡◌, ℕ, ◌+◌, ◌<◌, ◌≤◌, ◌⊎◌, List, length}
-use Rattle.kfifo_model.specs.declared.calls.TheConstants.{MAX_THREADS}
-use Rattle.kfifo_live.specs.declared.recording.TheConstants.{MAX_STAMPED_CALLS}
 use Rattle.kfifo_words.specs.declared.shape.Shape.{Shape}
 use Rattle.kfifo_model.specs.declared.calls.Call.{Call}
 use Rattle.kfifo_machine.specs.declared.event.Begin.{Begin}
 use Rattle.kfifo_live.specs.declared.fault.OpenFault.{OpenFault}
 use Rattle.kfifo_live.specs.declared.fault.OpenFault.TheVariants as opens
+use Rattle.kfifo_dispatch.specs.Working.{SaysNothing}
 use Rattle.kfifo_record.specs.Repeats.{IsFirstOver, all_repeated, last_shift}
 use Rattle.kfifo_record.specs.Scripts.{IsRecord, longest}
 use Rattle.kfifo_judge.specs.Inputs.{IsRecordText}
@@ -30,7 +29,7 @@ pub record IsRealRun (options : RecordOptions) (text : List ℕ) : Type 0 where
   pub scripts : List (List Begin)
   pub given : GivesScripts options shape scripts
   pub history : List Call
-  pub recorded : IsRecord shape (all_repeated options.repeat scripts) history
+  pub recorded : IsRecord SaysNothing shape (all_repeated options.repeat scripts) history
   pub text_is : text ≡ line (record_text history)
   pub read_back : IsRecordText (record_text history) history
 
@@ -54,11 +53,11 @@ pub record IsScriptOver (options : RecordOptions) (number : ℕ) : Type 0 where
 
 -- why a queue for these scripts is refused
 abbrev pub IsQueueFault : List (List Begin) → OpenFault → Type 0
-IsQueueFault scripts opens.ThreadsOutOfRange = (length scripts ≡ 0) ⊎ (MAX_THREADS < length scripts)
+IsQueueFault scripts opens.ThreadsOutOfRange = (length scripts ≡ 0) ⊎ (64 < length scripts)
 IsQueueFault scripts opens.Memory = Unit {0}
 IsQueueFault scripts opens.TokensOutOfRange = ⊥
-IsQueueFault scripts opens.CallsOutOfRange = (0 < length scripts) × (length scripts ≤ MAX_THREADS)
-    × (MAX_STAMPED_CALLS < longest scripts)
+IsQueueFault scripts opens.CallsOutOfRange = (0 < length scripts) × (length scripts ≤ 64)
+    × (1024 < longest scripts)
 
 -- the run that the options give is refused its queue
 pub record IsQueueRefused (options : RecordOptions) (fault : OpenFault) : Type 0 where

@@ -45,6 +45,9 @@ fn contradict(options: DrawOptions<'_>) -> bool
     } else if options.around.is_some() {
         return true;
     }
+    if options.text && options.width.is_some() {
+        return true;
+    }
     options.calls.is_some() && options.lines.is_some()
 }
 

@@ -9,6 +9,7 @@ ghost use Rattle.kfifo_cli_commands.specs.Statuses.{status_number};
 use crate::commands::{
     check, dispatch, draw, explain, import, judge, least, measure, record, replay, run,
 };
+use crate::explaining::reads_calls;
 use crate::progress::Progress;
 use crate::status::Status;
 use kfifo_cli_texts::{Fault, Printer, Request};
@@ -28,9 +29,10 @@ pub enum Notice {
     Misuse,
 }
 
-/// Does what is requested, and writes its answer or the line of its fault. The order of `check` and `draw` may stand in
-/// a file, and `record` and `dispatch` start threads: `rt` may do both. `replay` tells the progress how far it has
-/// come, and that it has ended before anything is written; a command that reads a log tells it of one that is refused.
+/// Does what is requested, and writes its answer or the line of its fault. Files may be named,
+/// and `record` and `dispatch` start threads: `rt` may do both. `replay` tells the progress how far it has
+/// come, and that it has ended before anything is written; `judge`, `least`, `import` and `draw` tell it behind the line
+/// of a fault what is wrong.
 pub fn carry_out<H: Threads + Files + Sync, S: Source, W: Write, F: Write, P: Progress>(
     alloc: Global,
     rt: &H,
@@ -45,13 +47,21 @@ pub fn carry_out<H: Threads + Files + Sync, S: Source, W: Write, F: Write, P: Pr
         (OnPrinter W.contents output.old output.new) (OnPrinter F.contents faults.old faults.new)
         (status_number result) }
 {
+    let explains = reads_calls(&request);
     match answer(alloc, rt, request, input, output, progress) {
         Ok(status) => status,
         Err(fault) => {
             let status = end_with_fault(fault, faults);
-            progress.fault_written();
+            explain(explains, fault, progress);
             status
         }
+    }
+}
+
+/// Tells the progress of a fault, if the command is one whose faults are explained.
+fn explain<P: Progress>(explains: bool, fault: Fault, progress: &mut P) {
+    if explains {
+        progress.explained(fault);
     }
 }
 
@@ -142,12 +152,12 @@ fn answer<H: Threads + Files + Sync, S: Source, W: Write, P: Progress>(
             Ok(Status::Answered)
         }
         Request::Judge(options) => {
-            let (text, status) = judge::answer(alloc, options, input, progress)?;
+            let (text, status) = judge::answer(alloc, rt, options, input, progress)?;
             output.print(text.as_bytes())?;
             Ok(status)
         }
         Request::Least(options) => {
-            let (text, status) = least::answer(alloc, options, input, progress)?;
+            let (text, status) = least::answer(alloc, rt, options, input, progress)?;
             output.print(text.as_bytes())?;
             Ok(status)
         }
@@ -156,8 +166,8 @@ fn answer<H: Threads + Files + Sync, S: Source, W: Write, P: Progress>(
             output.print(text.as_bytes())?;
             Ok(Status::Answered)
         }
-        Request::Import => {
-            let text = import::answer(alloc, input, progress)?;
+        Request::Import(options) => {
+            let text = import::answer(alloc, rt, options, input, progress)?;
             output.print(text.as_bytes())?;
             Ok(Status::Answered)
         }

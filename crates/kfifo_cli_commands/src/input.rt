@@ -1,16 +1,19 @@
 //! What the commands read.
-ghost use Rattle.std.specs.Prelude.{◌≡◌, ◌≤◌, ◌⊎◌, ◌↔◌, IfErr, IfOk, IsTrue, MatchResult, length, option_map};
+ghost use Rattle.std.specs.Prelude.{◌≡◌, ◌≤◌, ◌⊎◌, ◌↔◌, IfErr, IfOk, IsSome, IsTrue, MatchResult};
+ghost use Rattle.std.specs.Prelude.{length, option_map};
 ghost use Rattle.kfifo_model.specs.declared.reading.TheConstants.{MAX_CALLS};
-ghost use Rattle.kfifo_import.specs.Tables.{IsReadLog, IsUnimported};
-ghost use Rattle.kfifo_cli_commands.specs.Inputs.{BeginsRecord, IsCalls, IsNoCalls, IsSpace, logged_calls};
+ghost use Rattle.kfifo_import.specs.Foreign.{IsJudgedLog, IsUnjudged};
+ghost use Rattle.kfifo_import.specs.Tables.{IsImported, IsUnimported};
+ghost use Rattle.kfifo_cli_commands.specs.Inputs.{BeginsRecord, IsCalls, IsNoCalls, IsSpace, logged_calls, read_from};
 ghost use Rattle.kfifo_cli_commands.specs.Records.{IsInput, IsUnread, ReadsWell};
 
 use crate::progress::Progress;
-use kfifo_cli_texts::Fault;
-use kfifo_import::{ImportFault, Log, LoggedCall, read_log};
+use kfifo_cli_texts::{Fault, read_file};
+use kfifo_import::{ImportFault, Log, LoggedCall, import_text, read_log_to_judge};
 use kfifo_judge::{ReadFault, Source, read_all, read_record};
 use kfifo_model::History;
 use std::alloc::Global;
+use std::rt::Files;
 
 /// The calls of an input.
 #[derive(Drop)]
@@ -46,6 +49,38 @@ pub fn read_input<S: Source>(alloc: Global, input: &mut S) -> Result<Vec<u8>, Fa
     }
 }
 
+/// All bytes of the file, or of the input where no file is named, at most 16,777,216. A file that cannot be read is the
+/// fault Input.
+pub fn read_given<H: Files, S: Source>(
+    alloc: Global,
+    files: &H,
+    file: Option<&str>,
+    input: &mut S,
+) -> Result<Vec<u8>, Fault>
+    ensures ok { IfOk result (λ bytes. IsInput (read_from file.entry (S.remaining input.old)) bytes.items) }
+    ensures err { IfErr result (λ fault. (fault ≡ Fault.Memory) ⊎ ((fault ≡ Fault.Input)
+        × IsUnread (read_from file.entry (S.remaining input.old)) (S.failed input.old) (S.failed input.new))) }
+    ensures reads { ReadsWell result (S.failed input.old) (S.failed input.new) }
+    ensures aside { IsSome file.entry → input.new ≡ input.old }
+{
+    match file {
+        Some(path) => read_named(alloc, files, path),
+        None => read_input(alloc, input),
+    }
+}
+
+/// All bytes of the file with this path.
+fn read_named<H: Files>(alloc: Global, files: &H, path: &str) -> Result<Vec<u8>, Fault>
+    ensures { IfErr result (λ fault. (fault ≡ Fault.Memory) ⊎ (fault ≡ Fault.Input)) }
+{
+    match read_file(alloc, files, path) {
+        Ok(bytes) => Ok(bytes),
+        Err(ReadFault::Memory) => Err(Fault::Memory),
+        Err(ReadFault::Failed) => Err(Fault::Input),
+        Err(ReadFault::TooLong) => Err(Fault::Input),
+    }
+}
+
 /// Whether a byte is a space, a tab, a line feed or a carriage return.
 fn is_space(byte: u8) -> bool
     ensures { IsTrue result ↔ IsSpace byte }
@@ -65,17 +100,33 @@ fn begins_record(bytes: &[u8]) -> bool
     false
 }
 
-/// The log that these bytes are. If a line is no call, the progress is told.
-pub(crate) fn read_log_telling<P: Progress>(
+/// The log that these bytes are, to be judged. If a line is no call, the progress is told.
+fn read_log_telling<P: Progress>(
     alloc: Global,
     bytes: &[u8],
     progress: &mut P,
 ) -> Result<Log, ImportFault>
-    ensures read { MatchResult result (λ log. IsReadLog bytes.now log.history log.calls.items)
-        (IsUnimported bytes.now) }
-    ensures few { IfOk result (λ log. length log.history ≤ MAX_CALLS) }
+    ensures read { MatchResult result (λ log. IsJudgedLog bytes.now log.history log.calls.items)
+        (IsUnjudged bytes.now) }
+    ensures each { IfOk result (λ log. length log.calls.items ≡ length log.history) }
 {
-    let found = read_log(alloc, bytes);
+    let found = read_log_to_judge(alloc, bytes);
+    if let Err(ImportFault::NotACall(_)) = &found {
+        progress.refused(alloc, bytes);
+    }
+    found
+}
+
+/// The record of the log that these bytes are. If a line is no call, the progress is told.
+pub(crate) fn import_telling<P: Progress>(
+    alloc: Global,
+    bytes: &[u8],
+    progress: &mut P,
+) -> Result<History, ImportFault>
+    ensures read { MatchResult result (IsImported bytes.now) (IsUnimported bytes.now) }
+    ensures few { IfOk result (λ history. length history ≤ MAX_CALLS) }
+{
+    let found = import_text(alloc, bytes);
     if let Err(ImportFault::NotACall(_)) = &found {
         progress.refused(alloc, bytes);
     }
@@ -83,7 +134,8 @@ pub(crate) fn read_log_telling<P: Progress>(
 }
 
 /// The calls of an input. Where its first byte that is no white space is `[` it is a record in JSON, read as `check`
-/// reads it and with its faults; else it is a log in CSV, read as `import` reads it and with its faults. An input of
+/// reads it and with its faults; else it is a log in CSV, read as `import` reads it and with its faults, except that a get
+/// of an item that no call can put is none. An input of
 /// white space alone is a log that lacks its header. One with no byte is neither: the command before it in a pipe has
 /// probably failed. If a line of a log is no call, the progress is told.
 pub(crate) fn read_calls<P: Progress>(

@@ -5,6 +5,7 @@
 mod commands;
 mod cut;
 mod ending;
+mod explaining;
 mod input;
 mod progress;
 mod start;

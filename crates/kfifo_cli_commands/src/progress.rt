@@ -1,10 +1,10 @@
-//! Where long work tells how far it has come, and a log which of its lines is no call.
+//! Where long work tells how far it has come, and a command what is wrong with its input.
 ghost use Rattle.std.specs.Prelude.{◌≤◌};
 
+use kfifo_cli_texts::Fault;
 use std::alloc::Global;
 
-/// Gets told how far a piece of work has come, and of a log that is refused. No answer depends on what it does with
-/// that.
+/// Gets told how far a piece of work has come, and why calls are refused. No answer depends on what it does with that.
 pub trait Progress {
     /// So many steps of so many in all are made.
     fn told(&mut self, made: u64, all: u64);
@@ -15,8 +15,8 @@ pub trait Progress {
     /// A line of this log is no call. The line of that fault is still to be written.
     fn refused(&mut self, alloc: Global, log: &[u8]);
 
-    /// The line of a fault is written.
-    fn fault_written(&mut self);
+    /// The line of this fault is written. What is wrong follows in words.
+    fn explained(&mut self, fault: Fault);
 }
 
 /// Tells nobody.
@@ -30,7 +30,7 @@ impl Progress for Silent {
 
     fn refused(&mut self, _alloc: Global, _log: &[u8]) {}
 
-    fn fault_written(&mut self) {}
+    fn explained(&mut self, _fault: Fault) {}
 }
 
 /// The steps that are made between two calls of a progress.

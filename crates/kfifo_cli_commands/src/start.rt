@@ -4,6 +4,7 @@ ghost use Rattle.kfifo_cli_texts.specs.Faults.{fault_line};
 ghost use Rattle.kfifo_cli_texts.specs.Printing.{OnPrinter, Tells};
 
 use crate::ending::end_with_fault;
+use crate::explaining::write_words;
 use crate::progress::Progress;
 use crate::status::Status;
 use kfifo_cli_texts::{Fault, Printer};
@@ -32,8 +33,8 @@ pub struct Started<'a> {
     pub output: Stdout,
     /// Standard error.
     pub faults: Stderr,
-    /// Shows on standard error, if that is a terminal, how far work of over a second has come, and which field of a log
-    /// is wrong.
+    /// Shows on standard error how far work of over a second has come, if that is a terminal, and what is wrong with calls
+    /// that are refused.
     pub progress: Showing<'a, HostRuntime, Stderr>,
 }
 
@@ -54,7 +55,12 @@ pub fn start(streams: &HostRuntime) -> Result<Started<'_>, u8> {
         input: Prompting::new(reader, hint),
         output: streams.stdout(),
         faults,
-        progress: Showing::new(streams, Instant::now(streams).ok(), screen),
+        progress: Showing::new(
+            streams,
+            Instant::now(streams).ok(),
+            screen,
+            streams.stderr(),
+        ),
     })
 }
 
@@ -106,23 +112,31 @@ impl<R: Read, W: Write + Drop> Read for Prompting<R, W> {
 }
 
 /// Shows how far work has come, on a line of its own that is written anew each time, where there is a screen and a
-/// second has gone by. Of a log that is refused it shows the wrong field, on a line behind that of the fault.
+/// second has gone by. Of calls that are refused it says what is wrong, on a line behind that of the fault.
 #[derive(Drop)]
 pub struct Showing<'a, C, W> {
     clock: &'a C,
     begun: Option<Instant>,
     screen: Option<W>,
+    notes: W,
     shown: bool,
     wrong: Option<WrongField>,
 }
 
 impl<'a, C: Clock, W: Write> Showing<'a, C, W> {
-    /// For work that began then. If the clock could not tell when, nothing is shown.
-    pub fn new(clock: &'a C, begun: Option<Instant>, screen: Option<W>) -> Showing<'a, C, W> {
+    /// For work that began then. If the clock could not tell when, no progress is shown. What is wrong goes to the
+    /// notes.
+    pub fn new(
+        clock: &'a C,
+        begun: Option<Instant>,
+        screen: Option<W>,
+        notes: W,
+    ) -> Showing<'a, C, W> {
         Showing {
             clock,
             begun,
             screen,
+            notes,
             shown: false,
             wrong: None,
         }
@@ -164,16 +178,11 @@ impl<C: Clock, W: Write> Progress for Showing<'_, C, W> {
     }
 
     fn refused(&mut self, alloc: Global, log: &[u8]) {
-        if self.screen.is_some() {
-            // Where memory is short the fault is told without the field.
-            self.wrong = wrong_field(alloc, log).unwrap_or(None);
-        }
+        // Where memory is short the fault is told without the field.
+        self.wrong = wrong_field(alloc, log).unwrap_or(None);
     }
 
-    fn fault_written(&mut self) {
-        if let (Some(screen), Some(wrong)) = (&mut self.screen, &self.wrong) {
-            // A line that cannot be written changes nothing.
-            let _ = writeln!(screen, "{wrong}");
-        }
+    fn explained(&mut self, fault: Fault) {
+        write_words(&mut self.notes, fault, &self.wrong);
     }
 }

@@ -62,6 +62,8 @@ pub enum Fault {
     Stretch,
     /// Lines of a log are to be drawn, and the input is a record.
     NoLines,
+    /// There are more calls than a picture may have, and no evidence says which of them to draw.
+    NoEvidence,
     /// No fault and no answer has the words that are to be explained.
     Unexplained,
     /// A growth was refused.
@@ -119,6 +121,7 @@ impl Fault {
             Fault::Contradiction => Line::plain("draw fault 2"),
             Fault::Stretch => Line::plain("draw fault 3"),
             Fault::NoLines => Line::plain("draw fault 4"),
+            Fault::NoEvidence => Line::plain("draw fault 5"),
             Fault::Unexplained => Line::plain("explain fault 1"),
             Fault::Memory => Line::plain("memory"),
             Fault::Output => Line::plain("output"),

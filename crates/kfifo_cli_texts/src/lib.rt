@@ -4,6 +4,7 @@
 #![tactic(auto)]
 
 mod fault;
+mod files;
 mod picks;
 mod printing;
 mod recording;
@@ -17,13 +18,14 @@ mod trace;
 mod words;
 
 pub use fault::Fault;
+pub use files::read_file;
 pub use picks::{Group, MAX_PICKS, read_picks};
 pub use printing::Printer;
 pub use recording::{record_line, record_text};
 pub use report::{push_dequeue, push_ends, push_enqueue, push_slot};
 pub use requests::{
-    CheckOptions, DispatchOptions, DrawOptions, ExplainOptions, JudgeOptions, LeastOptions,
-    RecordOptions, ReplayOptions, Request, RunOptions,
+    CheckOptions, DispatchOptions, DrawOptions, ExplainOptions, ImportOptions, JudgeOptions,
+    LeastOptions, RecordOptions, ReplayOptions, Request, RunOptions,
 };
 pub use sizes::Sizes;
 pub use stretch::{Stretch, read_stretch};

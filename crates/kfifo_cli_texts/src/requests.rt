@@ -51,22 +51,33 @@ pub struct ReplayOptions<'a> {
 
 /// What `judge` is given.
 #[derive(Clone, Copy)]
-pub struct JudgeOptions {
+pub struct JudgeOptions<'a> {
     /// A dequeue takes one of the k oldest items, 1 to 64.
     pub k: u32,
     /// How many choices the search for an order may undo.
     pub tries: u64,
     /// Whether the order that was found is printed too.
     pub show: bool,
+    /// The path of the file that is read; none to read standard input.
+    pub file: Option<&'a str>,
     pub ghost some_places: { 1 ≤ k },
     pub ghost few_places: { k ≤ 64 },
 }
 
 /// What `least` is given.
 #[derive(Clone, Copy)]
-pub struct LeastOptions {
+pub struct LeastOptions<'a> {
     /// How many choices each search for an order may undo.
     pub tries: u64,
+    /// The path of the file that is read; none to read standard input.
+    pub file: Option<&'a str>,
+}
+
+/// What `import` is given.
+#[derive(Clone, Copy)]
+pub struct ImportOptions<'a> {
+    /// The path of the file that is read; none to read standard input.
+    pub file: Option<&'a str>,
 }
 
 /// What `draw` is given.
@@ -77,6 +88,8 @@ pub struct DrawOptions<'a> {
     pub check: CheckOptions<'a>,
     /// Whether the picture is one of characters.
     pub text: bool,
+    /// The greatest width of a picture in SVG, in pixels; 1,600 where it is left out.
+    pub width: Option<u32>,
     /// Whether the calls that the evidence names are marked.
     pub evidence: bool,
     /// Within how many calls of a named one further calls are drawn, with `evidence` alone; 8 where it is left out.
@@ -85,6 +98,8 @@ pub struct DrawOptions<'a> {
     pub calls: Option<&'a str>,
     /// The lines of the log whose calls are drawn, as they are written.
     pub lines: Option<&'a str>,
+    /// The path of the file that is read; none to read standard input.
+    pub file: Option<&'a str>,
 }
 
 /// What `record` is given.
@@ -120,12 +135,14 @@ pub struct DispatchOptions<'a> {
 pub struct ExplainOptions<'a> {
     /// The words of a fault or an answer, as they were printed.
     pub words: &'a [&'a str],
-    /// The faults and answers that are known, in four parts.
+    /// The faults, the answers and the names that are known, in five parts.
     pub first_topics: &'a [Topic],
     /// The second part.
     pub second_topics: &'a [Topic],
     /// The third part.
     pub third_topics: &'a [Topic],
+    /// The fourth part.
+    pub fourth_topics: &'a [Topic],
     /// The last part.
     pub last_topics: &'a [Topic],
     /// The helps of the commands, which say what they mean.
@@ -144,13 +161,13 @@ pub enum Request<'a> {
     /// Runs scripts on the machine in the order of given picks.
     Replay(ReplayOptions<'a>),
     /// Gives a verdict on a record of any length.
-    Judge(JudgeOptions),
+    Judge(JudgeOptions<'a>),
     /// Says between which bounds the least k of a record lies.
-    Least(LeastOptions),
+    Least(LeastOptions<'a>),
     /// Runs each script on a thread of its own, and records the calls.
     Record(RecordOptions<'a>),
     /// Gives the record of a log in CSV.
-    Import,
+    Import(ImportOptions<'a>),
     /// Draws a record.
     Draw(DrawOptions<'a>),
     /// Runs tasks on worker threads.

@@ -10,11 +10,11 @@ ghost use Rattle.kfifo_cli_texts.specs.Scripts.{IsFirstUnreadScript, WriteScript
 ghost use Rattle.kfifo_machine.specs.declared.event.Begin.{Begin};
 
 use crate::fault::Fault;
-use kfifo_judge::{FromStd, ReadFault, read_all};
+use crate::files::read_file;
+use kfifo_judge::ReadFault;
 use kfifo_machine::Begin;
 use kfifo_model::MAX_ITEM;
 use std::alloc::{AllocError, Global};
-use std::fs;
 use std::rt::Files;
 
 /// Whether each byte is a decimal digit.
@@ -172,23 +172,19 @@ pub fn order_of<R: Files>(alloc: Global, files: &R, text: &str) -> Result<Vec<us
 {
     match text.strip_prefix('@') {
         Some(path) => {
-            let bytes = read_file(alloc, files, path)?;
+            let bytes = order_file(alloc, files, path)?;
             read_spaced_order(alloc, bytes.as_slice())
         }
         None => read_order(alloc, text),
     }
 }
 
-/// The bytes of a file, at most 16,777,216.
-fn read_file<R: Files>(alloc: Global, files: &R, path: &str) -> Result<Vec<u8>, Fault>
+/// The bytes of the file that holds an order.
+fn order_file<R: Files>(alloc: Global, files: &R, path: &str) -> Result<Vec<u8>, Fault>
     ensures few { IfOk result (λ bytes. length bytes.items ≤ MAX_BYTES) }
     ensures fault { IfErr result (λ fault. (fault ≡ Fault.Memory) ⊎ (fault ≡ Fault.Order)) }
 {
-    let Ok(file) = fs::open(files, path) else {
-        return Err(Fault::Order);
-    };
-    let mut source = FromStd::new(file);
-    match read_all(alloc, &mut source) {
+    match read_file(alloc, files, path) {
         Ok(bytes) => Ok(bytes),
         Err(ReadFault::Memory) => Err(Fault::Memory),
         Err(ReadFault::Failed) => Err(Fault::Order),

@@ -1,7 +1,6 @@
 -- What a worker does, call by call.
 use Rattle.std.specs.Prelude.{◌≡◌, ◌≤◌, ◌<◌, ◌⊎◌, ℕ, zero, suc, ◌+◌, ◌-◌, ◌%◌, ◌^◌, List, [], ◌∷◌, ◌++◌, Option, Some}
 use Rattle.std.specs.Prelude.{None}
-use Rattle.kfifo_dispatch.specs.declared.worker.TheConstants.{MAX_TAKES}
 use Rattle.rand_pcg.specs.Pcg.{pcg32}
 use Rattle.kfifo_live.specs.declared.payload.Given.{Given}
 use Rattle.kfifo_live.specs.declared.payload.Given.TheVariants as G
@@ -46,16 +45,25 @@ kept_after (G.Busy back) = back.place ∷ []
 kept_after (G.Worn back) = back.place ∷ []
 kept_after (G.NoToken back) = back.place ∷ []
 
--- What a worker does, by what its calls do: a call Passes s c t takes it from the state s to t, and so on
-module _ {S : Type 0} (Passes : S → ℕ → S → Type 0) (Takes : S → ℕ → ℕ → Taken JobView → S → Type 0)
-    (Gives : S → JobView → ℕ → ℕ → Given JobView → S → Type 0) where
-  -- A task that it took: it keeps one with nothing left after a unit of work, and gives any other back, at the next
-  -- start
+-- of a task that the queue refused, a unit of work was told of, if one was left
+abbrev pub TellsOfKept : (ℕ → Type 0) → Given JobView → Type 0
+TellsOfKept Told G.Done = Unit {0}
+TellsOfKept Told (G.Full back) = 0 < back.left → Told back.place
+TellsOfKept Told (G.Busy back) = 0 < back.left → Told back.place
+TellsOfKept Told (G.Worn back) = 0 < back.left → Told back.place
+TellsOfKept Told (G.NoToken back) = 0 < back.left → Told back.place
+
+-- What a worker does, by what its calls do: a call Passes s c t takes it from the state s to t, and so on. In a state
+-- it Tells of a unit of work on the task at a place
+module _ {S : Type 0} (Passes : S → ℕ → S → Type 0) (Tells : S → ℕ → Type 0)
+    (Takes : S → ℕ → ℕ → Taken JobView → S → Type 0) (Gives : S → JobView → ℕ → ℕ → Given JobView → S → Type 0) where
+  -- A task that it took: it does a unit of work, if one is left, and tells of it. It keeps a task with nothing left
+  -- after that, and gives any other back, at the next start
   abbrev pub WorksAt : ℕ → JobView → S → Draws → S → Draws → List ℕ → Type 0
-  WorksAt turns job s d t e kept =
-      ((job.left ≤ 1) × (t ≡ s) × (e ≡ d) × (kept ≡ job.place ∷ []))
+  WorksAt turns job s d t e kept = (0 < job.left → Tells s job.place)
+      × (((job.left ≤ 1) × (t ≡ s) × (e ≡ d) × (kept ≡ job.place ∷ []))
       ⊎ ((1 < job.left) × ((answer : Given JobView)
-      × Gives s (worked job) (start_of d) turns answer t × (e ≡ next_of d) × (kept ≡ kept_after answer)))
+      × Gives s (worked job) (start_of d) turns answer t × (e ≡ next_of d) × (kept ≡ kept_after answer))))
 
   -- After a take: Empty and Worn are the end. Busy goes on, and so does Got, after the work at that task
   abbrev pub Follows : ℕ → Taken JobView → S → Draws → Turn JobView → S → Draws → Type 0
@@ -83,14 +91,14 @@ module _ {S : Type 0} (Passes : S → ℕ → S → Type 0) (Takes : S → ℕ �
   -- the whole work of a worker: `Starts::new(seed, worker, k)` makes its starts in turn, each call makes n + 2 rounds,
   -- and it takes 65,536 times at most
   abbrev pub Runs : Shape → ℕ → ℕ → S → S → List ℕ → Type 0
-  Runs shape seed worker s t kept = Works (shape.n + 2) MAX_TAKES 1 s (first_draws shape seed worker) t kept
+  Runs shape seed worker s t kept = Works (shape.n + 2) 65536 1 s (first_draws shape seed worker) t kept
 
-module _ {S : Type 0} (Gives : S → JobView → ℕ → ℕ → Given JobView → S → Type 0) where
-  -- the caller gives these tasks in turn, each at slot 0; those at the places `kept` came back
+module _ {S : Type 0} (Told : ℕ → Type 0) (Gives : S → JobView → ℕ → ℕ → Given JobView → S → Type 0) where
+  -- the caller gives these tasks in turn, each at slot 0; those at the places `kept` came back, and it worked them off
   abbrev pub GivesAll : ℕ → ℕ → List Task → S → S → List ℕ → Type 0
   GivesAll turns place [] s t kept = (t ≡ s) × (kept ≡ [])
   GivesAll turns place (task ∷ tasks) s t kept = (u : S) × (answer : Given JobView) × (later : List ℕ)
-      × Gives s (begun place task) 0 turns answer u × GivesAll turns (suc place) tasks u t later
+      × Gives s (begun place task) 0 turns answer u × TellsOfKept Told answer × GivesAll turns (suc place) tasks u t later
       × (kept ≡ kept_after answer ++ later)
 
 -- each of the first list is so to its counterpart in the second, and there are as many

@@ -1,12 +1,13 @@
 //! Worker threads run tasks that they give to each other through one queue.
-ghost use Rattle.std.specs.Prelude.{◌≡◌, ◌+◌, ◌<◌, ◌≤◌, ◌⊎◌, ◌↔◌, All, IfOk, IsErrOf, IsOk, length, map};
+ghost use Rattle.std.specs.Prelude.{◌≡◌, ◌+◌, ◌<◌, ◌≤◌, ◌⊎◌, ◌↔◌, ◌++◌, All, IfOk, IsErrOf, IsOk, flat_map};
+ghost use Rattle.std.specs.Prelude.{length, map};
 ghost use Rattle.std.specs.List.{AllByRecursion};
 ghost use Rattle.kfifo_live.specs.Pass.{IsPassOf, IsSamePass};
 ghost use Rattle.kfifo_dispatch.specs.declared.fault.DispatchFault.TheVariants.{RepeatedId, TooManyTasks};
 ghost use Rattle.kfifo_dispatch.specs.declared.fault.DispatchFault.TheVariants.{WorkersOutOfRange};
 ghost use Rattle.kfifo_dispatch.specs.Tasks.{HasRepeatedId, IsFinishedList};
 ghost use Rattle.kfifo_dispatch.specs.Running.{AreEach, GivesAll, Runs};
-ghost use Rattle.kfifo_dispatch.specs.Working.{HasRun, IsOpened, PassRuns};
+ghost use Rattle.kfifo_dispatch.specs.Working.{CallerTells, HasRun, IsOpened, PassRuns, TellsOf, places_of};
 
 use crate::fault::DispatchFault;
 use crate::finishing::finish;
@@ -57,11 +58,11 @@ pub fn dispatch<R: Threads + Sync, G: Gate + Sync>(
     gate: &G,
 ) -> Result<Vec<Finished>, DispatchFault>
     ensures ok { IfOk result (λ list. IsFinishedList tasks.now list.items) }
-    ensures run { IfOk result (λ _. HasRun (G.passed gate.now) shape workers seed tasks.now) }
-    ensures many { IsErrOf result TooManyTasks ↔ (MAX_TASKS < length tasks.now) }
-    ensures repeated { IsErrOf result RepeatedId ↔ ((length tasks.now ≤ MAX_TASKS) × HasRepeatedId tasks.now) }
+    ensures run { IfOk result (λ _. HasRun (G.passed gate.now) (G.told gate.now) shape workers seed tasks.now) }
+    ensures many { IsErrOf result TooManyTasks ↔ (1024 < length tasks.now) }
+    ensures repeated { IsErrOf result RepeatedId ↔ ((length tasks.now ≤ 1024) × HasRepeatedId tasks.now) }
     ensures workers { IsErrOf result WorkersOutOfRange
-        ↔ ((length tasks.now ≤ MAX_TASKS) × (HasRepeatedId tasks.now → ⊥) × ((workers ≡ 0) ⊎ (MAX_WORKERS < workers))) }
+        ↔ ((length tasks.now ≤ 1024) × (HasRepeatedId tasks.now → ⊥) × ((workers ≡ 0) ⊎ (63 < workers))) }
 {
     if tasks.len() > MAX_TASKS {
         return Err(DispatchFault::TooManyTasks);
@@ -90,25 +91,29 @@ fn work_off<L: Tasks + Send + Sync, R: Threads + Sync, G: Gate + Sync>(
     requires few { length tasks.now ≤ MAX_TASKS }
     requires workers { (1 ≤ workers) × (workers ≤ MAX_WORKERS) }
     ensures list { IfOk result (λ list. IsFinishedList tasks.now list.items) }
-    ensures run { IfOk result (λ _. HasRun (G.passed gate.now) shape workers seed tasks.now) }
+    ensures run { IfOk result (λ _. HasRun (G.passed gate.now) (G.told gate.now) shape workers seed tasks.now) }
 {
     let (queue, mut own, passes) = open::<L>(alloc, shape, workers, tasks.len() as u32)?;
     let mut returned = give_all(alloc, &queue, &mut own, tasks, shape, gate)?;
     let backs = run_workers(threads, alloc, &queue, passes, shape, seed, gate)?;
-    collect_finished(&queue, &mut own, backs, &mut returned)?;
-    let Ok(left) = queue.close(alloc, own) else {
+    let others = collect_finished(alloc, backs, &mut returned)?;
+    let Ok(left) = queue.close_with(alloc, own, others) else {
         return Err(AllocError);
     };
     finish_left(left, &mut returned, gate)?;
     finish(alloc, tasks, returned, gate)
 }
 
-/// Finishes the tasks that were left in the queue.
+/// Finishes the tasks that were left in the queue, and tells of each.
 fn finish_left<L: Tasks, G: Gate>(
     left: Vec<Job<L>>,
     returned: &mut Vec<Done<L>>,
     gate: &G,
-) -> Result<(), AllocError> {
+) -> Result<(), AllocError>
+    ensures came { IfOk result (λ _. map (λ done. done.place) returned.new.items
+        ≡ map (λ done. done.place) returned.old.items ++ map (λ job. job.place) left.items) }
+    ensures told { IfOk result (λ _. CallerTells (G.told gate.now) L.tasks left.items) }
+{
     for job in left {
         returned.push(job.work_off(0, gate))?;
     }
@@ -152,8 +157,8 @@ fn give_all<L: Tasks, G: Gate, P: Station<Job<L>, G>>(
     requires of { IsPassOf queue.now (P.known pass.old) }
     requires shape { queue.now.opened.shape ≡ shape }
     ensures same { IsSamePass (P.known pass.old) (P.known pass.new) }
-    ensures gives { IfOk result (λ returned. GivesAll P.gives (shape.n + 2) 0 tasks.now pass.old pass.new
-        (map (λ done. done.place) returned.items)) }
+    ensures gives { IfOk result (λ returned. GivesAll (TellsOf (G.told gate.now) L.tasks 0) P.gives
+        (shape.n + 2) 0 tasks.now pass.old pass.new (map (λ done. done.place) returned.items)) }
 {
     let mut returned = Vec::new(alloc);
     for (place, task) in tasks.iter().enumerate() {
@@ -185,8 +190,8 @@ fn run_workers<L: Tasks + Send + Sync, R: Threads + Sync, G: Gate + Sync>(
     requires shape { queue.now.opened.shape ≡ shape }
     ensures of { IfOk result (λ backs. All (λ back. IsPassOf queue.now back.pass.pass) backs.items) }
     ensures run { IfOk result (λ backs. AreEach (λ pass back. IfOk back.kept (λ kept.
-        PassRuns (G.passed gate.now) shape seed pass back.pass (map (λ done. done.place) kept.items)))
-        passes.items backs.items) }
+        PassRuns (G.passed gate.now) (G.told gate.now) L.tasks shape seed pass back.pass
+        (map (λ done. done.place) kept.items))) passes.items backs.items) }
 {
     let backs = map_vec(
         threads,
@@ -195,8 +200,8 @@ fn run_workers<L: Tasks + Send + Sync, R: Threads + Sync, G: Gate + Sync>(
             requires of { IsPassOf queue.now pass.pass }
             requires shape { queue.now.opened.shape ≡ shape }
             ensures same { IsSamePass pass.pass result.pass.pass }
-            ensures runs { IfOk result.kept (λ kept. PassRuns (G.passed gate.entry.now) shape seed pass result.pass
-                (map (λ done. done.place) kept.items)) }
+            ensures runs { IfOk result.kept (λ kept. PassRuns (G.passed gate.entry.now)
+                (G.told gate.entry.now) L.tasks shape seed pass result.pass (map (λ done. done.place) kept.items)) }
         { run_one(alloc, queue, pass, shape, seed, gate) },
     )?;
     Ok(backs)
@@ -214,8 +219,8 @@ fn run_one<L: Tasks, G: Gate>(
     requires of { IsPassOf queue.now pass.pass }
     requires shape { queue.now.opened.shape ≡ shape }
     ensures same { IsSamePass pass.pass result.pass.pass }
-    ensures runs { IfOk result.kept (λ kept. PassRuns (G.passed gate.now) shape seed pass result.pass
-        (map (λ done. done.place) kept.items)) }
+    ensures runs { IfOk result.kept (λ kept. PassRuns (G.passed gate.now) (G.told gate.now) L.tasks shape seed
+        pass result.pass (map (λ done. done.place) kept.items)) }
 {
     run_at_station(alloc, queue, pass, shape, seed, gate)
 }
@@ -232,8 +237,8 @@ fn run_at_station<L: Tasks, G: Gate, P: Station<Job<L>, G> + Drop>(
     requires of { IsPassOf queue.now (P.known pass) }
     requires shape { queue.now.opened.shape ≡ shape }
     ensures same { IsSamePass (P.known pass) (P.known result.pass) }
-    ensures runs { IfOk result.kept (λ kept. Runs (P.passes gate.now) P.takes P.gives shape seed
-        (P.known pass).thread pass result.pass (map (λ done. done.place) kept.items)) }
+    ensures runs { IfOk result.kept (λ kept. Runs (P.passes gate.now)
+        (λ s. TellsOf (G.told gate.now) L.tasks (P.known s).thread) P.takes P.gives shape seed (P.known pass).thread pass result.pass (map (λ done. done.place) kept.items)) }
 {
     let starts = Starts::new(seed, pass.worker(), shape.k());
     let turns = turns(shape);
@@ -245,23 +250,24 @@ fn run_at_station<L: Tasks, G: Gate, P: Station<Job<L>, G> + Drop>(
     worker.run(alloc, queue, gate)
 }
 
-/// Meets all workers' passes, so that the caller's pass has seen all that they did, and gathers what they finished.
+/// Gathers what the workers finished, and returns their passes.
 fn collect_finished<L: Tasks>(
-    queue: &PayQueue<Job<L>>,
-    own: &mut PayPass<Job<L>>,
+    alloc: Global,
     backs: Vec<Back<L, PayPass<Job<L>>>>,
     returned: &mut Vec<Done<L>>,
-) -> Result<(), AllocError>
-    requires own { IsPassOf queue.now own.old.pass }
-    requires of { All (λ back. IsPassOf queue.now back.pass.pass) backs.items }
-    ensures same { IsSamePass own.old.pass own.new.pass }
+) -> Result<Vec<PayPass<Job<L>>>, AllocError>
     ensures all { IfOk result (λ _. AllByRecursion (λ back. IsOk back.kept) backs.items) }
+    ensures passes { IfOk result (λ passes. passes.items ≡ map (λ back. back.pass) backs.items) }
+    ensures came { IfOk result (λ _. map (λ done. done.place) returned.new.items
+        ≡ map (λ done. done.place) returned.old.items ++ flat_map (λ back. places_of back.kept) backs.items) }
 {
-    for mut back in backs {
-        queue.meet(&mut back.pass, own);
-        for done in back.kept? {
+    let mut passes = Vec::with_capacity(alloc, backs.len())?;
+    for back in backs {
+        let Back { pass, kept } = back;
+        passes.push(pass)?;
+        for done in kept? {
             returned.push(done)?;
         }
     }
-    Ok(())
+    Ok(passes)
 }

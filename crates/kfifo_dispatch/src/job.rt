@@ -2,6 +2,7 @@
 ghost use Rattle.std.specs.Prelude.{◌≡◌, ◌==◌, ◌<◌, ◌+◌, ◌-◌, ◌^◌, List, [], Some, slice_get, length};
 ghost use Rattle.kfifo_dispatch.specs.declared.task.Task.{Task};
 ghost use Rattle.kfifo_dispatch.specs.Jobs.{JobView, IsOn, IsWorked, id_at, total_at};
+ghost use Rattle.kfifo_dispatch.specs.Working.{TellsOf};
 
 use crate::gate::Gate;
 use crate::task::Task;
@@ -87,7 +88,7 @@ impl<L: Tasks> Job<L> {
     /// Does a unit of work where one is left, and tells the gate.
     pub(crate) fn work_once<G: Gate>(&mut self, worker: u32, gate: &G)
         ensures worked { IsWorked self.old self.new }
-        ensures told { 0 < self.old.left → G.told gate.now worker (id_at L.tasks self.old.place) }
+        ensures told { 0 < self.old.left → TellsOf (G.told gate.now) L.tasks worker self.old.place }
     {
         if !self.is_finished() {
             self.work();
@@ -98,7 +99,7 @@ impl<L: Tasks> Job<L> {
     /// Does all units that are left, and tells the gate of each.
     pub(crate) fn work_off<G: Gate>(mut self, worker: u32, gate: &G) -> Done<L>
         ensures place { result.place ≡ self.place }
-        ensures told { 0 < self.left → G.told gate.now worker (id_at L.tasks self.place) }
+        ensures told { 0 < self.left → TellsOf (G.told gate.now) L.tasks worker self.place }
     {
         for _unit in 0..self.left {
             self.work_once(worker, gate);

@@ -1,9 +1,8 @@
 //! What a worker does.
 ghost use Rattle.std.specs.Prelude.{◌≡◌, ◌<◌, ◌≤◌, ◌++◌, IfOk, map};
 ghost use Rattle.kfifo_live.specs.Pass.{IsPassOf, IsSamePass};
-ghost use Rattle.kfifo_dispatch.specs.Jobs.{id_at};
-ghost use Rattle.kfifo_dispatch.specs.Running.{IsTurn, Works, WorksAt, kept_after, place_kept};
-ghost use Rattle.kfifo_dispatch.specs.Working.{MayWork};
+ghost use Rattle.kfifo_dispatch.specs.Running.{IsTurn, TellsOfKept, Works, WorksAt, kept_after, place_kept};
+ghost use Rattle.kfifo_dispatch.specs.Working.{MayWork, TellsOf};
 
 use crate::gate::Gate;
 use crate::job::{Done, Job, Tasks};
@@ -49,7 +48,8 @@ impl<P> Worker<P> {
         P: Station<Job<L>, G> + Drop,
         requires { MayWork queue.now (P.known self.pass) self.starts self.turns }
         ensures same { IsSamePass (P.known self.pass) (P.known result.pass) }
-        ensures works { IfOk result.kept (λ kept. Works (P.passes gate.now) P.takes P.gives self.turns MAX_TAKES 1
+        ensures works { IfOk result.kept (λ kept. Works (P.passes gate.now)
+            (λ s. TellsOf (G.told gate.now) L.tasks (P.known s).thread) P.takes P.gives self.turns MAX_TAKES 1
             self.pass self.starts result.pass
             (map (λ done. done.place) kept.items)) }
     {
@@ -71,7 +71,8 @@ impl<P> Worker<P> {
         P: Station<Job<L>, G> + Drop,
         requires { MayWork queue.now (P.known self.old.pass) self.old.starts self.old.turns }
         ensures same { IsSamePass (P.known self.old.pass) (P.known self.new.pass) }
-        ensures works { IfOk result (λ kept. Works (P.passes gate.now) P.takes P.gives self.old.turns MAX_TAKES 1
+        ensures works { IfOk result (λ kept. Works (P.passes gate.now)
+            (λ s. TellsOf (G.told gate.now) L.tasks (P.known s).thread) P.takes P.gives self.old.turns MAX_TAKES 1
             self.old.pass self.old.starts self.new.pass
             (map (λ done. done.place) kept.items)) }
     {
@@ -97,8 +98,8 @@ impl<P> Worker<P> {
         requires { MayWork queue.now (P.known self.old.pass) self.old.starts self.old.turns }
         ensures same { IsSamePass (P.known self.old.pass) (P.known self.new.pass)
             × (self.new.starts.k ≡ self.old.starts.k) × (self.new.turns ≡ self.old.turns) }
-        ensures turn { IsTurn (P.passes gate.now) P.takes P.gives self.old.turns call
-            self.old.pass self.old.starts result self.new.pass self.new.starts }
+        ensures turn { IsTurn (P.passes gate.now) (λ s. TellsOf (G.told gate.now) L.tasks (P.known s).thread)
+            P.takes P.gives self.old.turns call self.old.pass self.old.starts result self.new.pass self.new.starts }
     {
         self.pass.pass_gate(gate, call);
         let start = self.starts.draw();
@@ -122,9 +123,9 @@ impl<P> Worker<P> {
         requires { MayWork queue.now (P.known self.old.pass) self.old.starts self.old.turns }
         ensures same { IsSamePass (P.known self.old.pass) (P.known self.new.pass)
             × (self.new.starts.k ≡ self.old.starts.k) × (self.new.turns ≡ self.old.turns) }
-        ensures works { WorksAt (P.passes gate.now) P.takes P.gives self.old.turns job
-            self.old.pass self.old.starts self.new.pass self.new.starts (place_kept result) }
-        ensures told { 0 < job.left → G.told gate.now (P.known self.old.pass).thread (id_at L.tasks job.place) }
+        ensures works { WorksAt (P.passes gate.now) (λ s. TellsOf (G.told gate.now) L.tasks (P.known s).thread)
+            P.takes P.gives self.old.turns job self.old.pass self.old.starts self.new.pass self.new.starts
+            (place_kept result) }
     {
         let worker = self.pass.worker();
         job.work_once(worker, gate);
@@ -137,13 +138,14 @@ impl<P> Worker<P> {
     }
 }
 
-/// Finishes a task that the queue refused.
+/// Finishes a task that the queue refused, and tells of it.
 pub(crate) fn work_off_refused<L: Tasks, G: Gate>(
     given: Given<Job<L>>,
     worker: u32,
     gate: &G,
 ) -> Option<Done<L>>
-    ensures { place_kept result ≡ kept_after given }
+    ensures kept { place_kept result ≡ kept_after given }
+    ensures told { TellsOfKept (TellsOf (G.told gate.now) L.tasks worker) given }
 {
     match given {
         Given::Done => None,

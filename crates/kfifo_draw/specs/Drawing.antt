@@ -29,7 +29,7 @@ IsNear h around c d = (d < length h) × (Overlap h c d ⊎ AreWithin around c d)
 
 -- what is said where no line of a log is known
 abbrev pub no_line : LoggedCall
-no_line = record { line = 0; first = 0; last = None }
+no_line = record { line = 0; first = 0; last = None; item = None }
 
 -- the line of a log that a call stands in, from 1; 0 where none is known
 abbrev pub line_of : List LoggedCall → ℕ → ℕ

@@ -3,8 +3,12 @@ use crate::bands::{Band, bands_of};
 use crate::marks::Marks;
 use crate::spans::spans_of;
 use crate::words::label_of;
+use kfifo_import::LoggedCall;
 use kfifo_model::Call;
 use std::alloc::{AllocError, Global};
+
+/// The columns of a bar beside its label, with both ends open or torn, and of a bar that goes on before it.
+const ENDS: usize = 5;
 
 /// A picture's lanes and bars.
 #[derive(Drop)]
@@ -20,18 +24,22 @@ pub(crate) struct Layout {
 }
 
 impl Layout {
-    /// The lanes and bars of these calls, which have these numbers, in bands of at most so many columns.
+    /// The lanes and bars of these calls, which have these numbers, in bands of at most so many columns, and of more if
+    /// that is too few for the widest label.
     pub(crate) fn of(
         alloc: Global,
         calls: &[Call],
         numbers: &[usize],
+        logged: &[LoggedCall],
         marks: &Marks,
         most_columns: usize,
     ) -> Result<Layout, AllocError> {
-        let labels = labels_of(alloc, calls, numbers, marks)?;
+        let labels = labels_of(alloc, calls, numbers, logged, marks)?;
         let widths: Vec<usize> = labels.iter().map(|label| label.len()).collect(alloc)?;
         let spans = spans_of(alloc, calls)?;
-        let bands = bands_of(alloc, spans.as_slice(), widths.as_slice(), most_columns)?;
+        let room = widest(widths.as_slice()).saturating_add(ENDS);
+        let most = most_columns.max(room);
+        let bands = bands_of(alloc, spans.as_slice(), widths.as_slice(), most)?;
         Ok(Layout {
             threads: threads_of(alloc, calls)?,
             labels,
@@ -54,16 +62,27 @@ impl Layout {
     }
 }
 
+/// The greatest of these widths.
+fn widest(widths: &[usize]) -> usize {
+    let mut most = 0;
+    for width in widths {
+        most = (*width).max(most);
+    }
+    most
+}
+
 /// The labels of the calls.
 fn labels_of(
     alloc: Global,
     calls: &[Call],
     numbers: &[usize],
+    logged: &[LoggedCall],
     marks: &Marks,
 ) -> Result<Vec<String>, AllocError> {
     let mut labels = Vec::with_capacity(alloc, calls.len())?;
     for (call, number) in calls.iter().zip(numbers.iter()) {
-        labels.push(label_of(alloc, marks, *number, call)?)?;
+        let logged = logged.get(*number).copied();
+        labels.push(label_of(alloc, marks, *number, call, logged)?)?;
     }
     Ok(labels)
 }

@@ -15,4 +15,4 @@ mod words;
 
 pub use marks::Marking;
 pub use part::Part;
-pub use picture::{DrawFault, Drawing, MAX_DRAWN, Style, draw};
+pub use picture::{DEFAULT_WIDTH, DrawFault, Drawing, MAX_DRAWN, Style, draw};

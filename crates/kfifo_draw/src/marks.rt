@@ -101,11 +101,6 @@ impl Marks {
         self.named.contains(&number)
     }
 
-    /// Whether anything is to be said of the whole.
-    pub(crate) fn has_verdict(&self) -> bool {
-        self.verdict.is_some() || !self.reason.is_empty()
-    }
-
     /// Adds what is to be said of the whole, and returns whether there is anything.
     pub(crate) fn push_verdict(&self, text: &mut String) -> Result<bool, AllocError> {
         let Some(verdict) = self.verdict else {

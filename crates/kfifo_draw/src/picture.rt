@@ -17,11 +17,17 @@ use thiserror::Error;
 /// The most calls of a picture.
 pub const MAX_DRAWN: usize = 4_096;
 
+/// The greatest width of a picture in SVG that a window shows whole, in pixels.
+pub const DEFAULT_WIDTH: u32 = 1_600;
+
 /// What a picture is made of.
 #[derive(Clone, Copy, Debug, PartialEq, Eq)]
 pub enum Style {
     /// An SVG document, in which a bar tells all that is known of its call where the pointer rests on it.
-    Svg,
+    Svg {
+        /// The greatest width in pixels. A bar that needs more room for its label, at most some 460 pixels, has it.
+        width: u32,
+    },
     /// Lines of characters, a lane a line.
     Text,
 }
@@ -102,7 +108,8 @@ impl<T: Drop> From<AllocFailed<T>> for DrawFault {
 /// The part has at most 4,096 calls. It has a lane for each of its threads, by number, and in it a bar for each call
 /// from its beginning to its end, with an open end where the call is unfinished. Only the order of beginnings and ends
 /// counts, where at one step beginnings come before ends: the picture has no room for idle time, and a bar is as long
-/// as its label needs. Lanes that are longer than 4,000 pixels, or than 120 characters, go on below.
+/// as its label needs. Lanes that are longer than the width of the style, or than 120 characters, go
+/// on below.
 ///
 /// Calls have the numbers of the whole history. Where an order is given, each call's label has its place in it, and the
 /// picture says whether the order of the whole is legal for k; of one that is not, the call at which it fails is
@@ -145,10 +152,17 @@ fn picture_of(
     let calls = calls_at(alloc, whole, numbers.as_slice())?;
     let marks = Marks::of(alloc, history, drawing.k, drawing.marking)?;
     let most = match drawing.style {
-        Style::Svg => svg::MAX_COLUMNS,
+        Style::Svg { width } => svg::most_columns(width),
         Style::Text => lanes::MAX_COLUMNS,
     };
-    let layout = Layout::of(alloc, calls.as_slice(), numbers.as_slice(), &marks, most)?;
+    let layout = Layout::of(
+        alloc,
+        calls.as_slice(),
+        numbers.as_slice(),
+        drawing.logged,
+        &marks,
+        most,
+    )?;
     let scene = Scene {
         calls: calls.as_slice(),
         numbers: numbers.as_slice(),
@@ -158,7 +172,7 @@ fn picture_of(
         layout: &layout,
     };
     match drawing.style {
-        Style::Svg => svg_picture(alloc, &scene),
+        Style::Svg { width } => svg_picture(alloc, &scene, width),
         Style::Text => text_picture(alloc, &scene),
     }
 }

@@ -1,7 +1,7 @@
 //! Pictures as SVG.
 use crate::bands::{Band, Bar, Edge};
 use crate::scene::Scene;
-use crate::words::push_details;
+use crate::words::{push_details, push_wrapped};
 use kfifo_model::{Call, Effect, Op};
 use std::alloc::{AllocError, Global};
 use std::fmt::Write;
@@ -12,8 +12,10 @@ const COLUMN: usize = 8;
 const LEFT: usize = 96;
 
 const RIGHT: usize = 16;
-/// How many columns a band has at most: so a picture is at most 4,000 pixels wide.
-pub(crate) const MAX_COLUMNS: usize = 486;
+/// The room at either side of a text, and more than the width of a character in a heading.
+const SIDE: usize = 12;
+
+const HEAD_COLUMN: usize = 10;
 /// The room above the lanes, for a line on what is said of the whole, and the height of a further one.
 const TOP: usize = 60;
 
@@ -26,10 +28,12 @@ const LANE: usize = 36;
 const BAR: usize = 24;
 
 const INSET: usize = 6;
-/// The room below the lanes, for the key.
-const BOTTOM: usize = 56;
-/// The least width, which the key takes.
-const LEAST_WIDTH: usize = 760;
+/// The room above the key and below it.
+const BOTTOM: usize = 24;
+/// The height of a row of the key.
+const KEY_ROW: usize = 32;
+/// The width that the key takes: a picture is this wide at least, unless it may not be.
+const KEY_WIDTH: usize = 760;
 
 /// The looks of bars. Colours are told apart by those who see few of them, and outlines and corners say the same.
 const STYLES: &str = "<style>
@@ -140,6 +144,11 @@ fn push_outline(text: &mut String, outline: Outline, label: &str) -> Result<(), 
     writeln!(text, "<text x=\"{x}\" y=\"{y}\">{label}</text>")
 }
 
+/// How many columns a band has at most in a picture of at most this width.
+pub(crate) fn most_columns(width: u32) -> usize {
+    (width as usize).saturating_sub(LEFT + RIGHT) / COLUMN
+}
+
 /// Where the left end of a column is.
 fn column_left(column: usize) -> usize {
     column.saturating_mul(COLUMN).saturating_add(LEFT)
@@ -157,22 +166,29 @@ struct Frame {
 }
 
 impl Frame {
-    /// The frame of a picture.
-    fn of(scene: &Scene<'_>) -> Frame {
+    /// The frame of a picture of at most this width, where no bar needs more.
+    fn of(scene: &Scene<'_>, most: u32) -> Frame {
         let drawn = scene.layout.columns.saturating_mul(COLUMN);
         let width = drawn.saturating_add(LEFT).saturating_add(RIGHT);
-        let mut top = TOP;
-        if scene.marks.has_verdict() {
-            top = top.saturating_add(NOTE);
-        }
-        if scene.is_crowded() {
-            top = top.saturating_add(NOTE);
-        }
         Frame {
-            width: width.max(LEAST_WIDTH),
-            top,
+            width: width.max(KEY_WIDTH.min(most as usize)),
+            top: TOP,
             lanes: scene.layout.threads.len(),
         }
+    }
+
+    /// The same with a heading of so many lines: there is room for two.
+    fn below(self, lines: usize) -> Frame {
+        let more = lines.saturating_sub(2).saturating_mul(NOTE);
+        Frame {
+            top: self.top.saturating_add(more),
+            ..self
+        }
+    }
+
+    /// How many characters of this width a line of text has at most.
+    fn line_width(&self, column: usize) -> usize {
+        self.width.saturating_sub(2 * SIDE) / column.max(1)
     }
 
     /// The top of a band.
@@ -289,16 +305,9 @@ fn push_band(
     Ok(())
 }
 
-/// Adds the beginning of a note at this height.
-fn push_note(text: &mut String, y: usize) -> Result<(), AllocError> {
-    write!(text, "<text class=\"note\" x=\"12\" y=\"{y}\">")
-}
-
-/// Adds what is said of what is marked, with the signs of the document's own written as its entities.
-fn push_verdict(alloc: Global, text: &mut String, scene: &Scene<'_>) -> Result<(), AllocError> {
-    let mut said = String::new(alloc);
-    scene.marks.push_verdict(&mut said)?;
-    for sign in said.as_str().chars() {
+/// Adds a text with the signs of the document's own written as its entities.
+fn push_escaped(text: &mut String, said: &str) -> Result<(), AllocError> {
+    for sign in said.chars() {
         match sign {
             '&' => text.push_str("&amp;")?,
             '<' => text.push_str("&lt;")?,
@@ -308,40 +317,138 @@ fn push_verdict(alloc: Global, text: &mut String, scene: &Scene<'_>) -> Result<(
     Ok(())
 }
 
-/// Adds what is said of the whole.
-fn push_heading(alloc: Global, text: &mut String, scene: &Scene<'_>) -> Result<(), AllocError> {
-    text.push_str("<text class=\"head\" x=\"12\" y=\"26\">")?;
-    scene.push_count(text)?;
-    text.push_str("</text>\n")?;
-    let mut y = 46usize;
-    if scene.marks.has_verdict() {
-        push_note(text, y)?;
-        push_verdict(alloc, text, scene)?;
-        text.push_str("</text>\n")?;
-        y = y.saturating_add(NOTE);
-    }
-    if scene.is_crowded() {
-        push_note(text, y)?;
-        scene.push_hint(text)?;
-        text.push_str("</text>\n")?;
-        y = y.saturating_add(NOTE);
-    }
-    push_note(text, y)?;
-    text.push_str("time runs to the right, and only its order counts")?;
-    if scene.layout.bands.len() > 1 {
-        text.push_str("; lanes go on below")?;
-    }
-    text.push_str("</text>\n")
+/// What is said of the whole above the lanes.
+#[derive(Drop)]
+struct Heading {
+    /// The lines on how much is drawn.
+    head: Vec<String>,
+    /// The lines behind them.
+    notes: Vec<String>,
 }
 
-/// Adds the key of the looks.
-fn push_key(text: &mut String, top: usize) -> Result<(), AllocError> {
-    let mut x = 12usize;
+impl Heading {
+    /// The heading of a picture, in lines that its width has room for.
+    fn of(alloc: Global, scene: &Scene<'_>, frame: &Frame) -> Result<Heading, AllocError> {
+        let mut count = String::new(alloc);
+        scene.push_count(&mut count)?;
+        let mut head = Vec::new(alloc);
+        push_wrapped(
+            alloc,
+            &mut head,
+            count.as_str(),
+            frame.line_width(HEAD_COLUMN),
+        )?;
+        let notes = notes_of(alloc, scene, frame.line_width(COLUMN))?;
+        Ok(Heading { head, notes })
+    }
+
+    /// How many lines it has.
+    fn len(&self) -> usize {
+        self.head.len().saturating_add(self.notes.len())
+    }
+
+    /// Adds its lines.
+    fn push(&self, text: &mut String) -> Result<(), AllocError> {
+        let below = push_lines(text, "head", self.head.as_slice(), 26)?;
+        push_lines(text, "note", self.notes.as_slice(), below.saturating_add(2))?;
+        Ok(())
+    }
+}
+
+/// Adds lines of text of a class, the first at this height, and returns the height of the next.
+fn push_lines(
+    text: &mut String,
+    class: &str,
+    lines: &[String],
+    first: usize,
+) -> Result<usize, AllocError> {
+    let mut y = first;
+    for line in lines {
+        write!(text, "<text class=\"{class}\" x=\"{SIDE}\" y=\"{y}\">")?;
+        push_escaped(text, line.as_str())?;
+        text.push_str("</text>\n")?;
+        y = y.saturating_add(NOTE);
+    }
+    Ok(y)
+}
+
+/// What is said of what is marked, of a picture with too much in it, and of how to read it, in lines of at most so many
+/// characters.
+fn notes_of(alloc: Global, scene: &Scene<'_>, most: usize) -> Result<Vec<String>, AllocError> {
+    let mut notes = Vec::new(alloc);
+    let mut verdict = String::new(alloc);
+    if scene.marks.push_verdict(&mut verdict)? {
+        push_wrapped(alloc, &mut notes, verdict.as_str(), most)?;
+    }
+    if scene.is_crowded() {
+        let mut hint = String::new(alloc);
+        scene.push_hint(&mut hint)?;
+        push_wrapped(alloc, &mut notes, hint.as_str(), most)?;
+    }
+    let reading = if scene.layout.bands.len() > 1 {
+        "time runs to the right, and only its order counts; lanes go on below"
+    } else {
+        "time runs to the right, and only its order counts"
+    };
+    push_wrapped(alloc, &mut notes, reading, most)?;
+    Ok(notes)
+}
+
+/// The places of the key's looks, from left to right, and below each other where the width has no room for more.
+#[derive(Clone, Copy)]
+struct Pen {
+    x: usize,
+    row: usize,
+}
+
+impl Pen {
+    /// The place of the first.
+    fn new() -> Pen {
+        Pen { x: SIDE, row: 0 }
+    }
+
+    /// Makes room for one of this width in a picture of that width: in the next row, unless it fits or is the first in
+    /// its row.
+    fn fit(&mut self, width: usize, whole: usize) {
+        let right = self.x.saturating_add(width).saturating_add(SIDE);
+        if right > whole && self.x > SIDE {
+            *self = Pen {
+                x: SIDE,
+                row: self.row.saturating_add(1),
+            };
+        }
+    }
+
+    /// Goes on behind one of this width.
+    fn step(&mut self, width: usize) {
+        self.x = self.x.saturating_add(width).saturating_add(SIDE);
+    }
+}
+
+/// The width of one of the key's looks with this label.
+fn key_width(label: &str) -> usize {
+    label.len().saturating_mul(COLUMN).saturating_add(12)
+}
+
+/// How many rows the key has in a picture of this width.
+fn key_rows(whole: usize) -> usize {
+    let mut pen = Pen::new();
+    for (_, _, _, label) in KEY {
+        pen.fit(key_width(label), whole);
+        pen.step(key_width(label));
+    }
+    pen.row.saturating_add(1)
+}
+
+/// Adds the key of the looks, in a picture of this width.
+fn push_key(text: &mut String, top: usize, whole: usize) -> Result<(), AllocError> {
+    let mut pen = Pen::new();
     for (class, round, edge, label) in KEY {
-        let width = label.len().saturating_mul(COLUMN).saturating_add(12);
+        let width = key_width(label);
+        pen.fit(width, whole);
         let outline = Outline {
-            x,
-            y: top,
+            x: pen.x,
+            y: pen.row.saturating_mul(KEY_ROW).saturating_add(top),
             width,
             round,
             goes_on: false,
@@ -350,7 +457,7 @@ fn push_key(text: &mut String, top: usize) -> Result<(), AllocError> {
         writeln!(text, "<g class=\"{class}\">")?;
         push_outline(text, outline, label)?;
         text.push_str("</g>\n")?;
-        x = x.saturating_add(width).saturating_add(12);
+        pen.step(width);
     }
     Ok(())
 }
@@ -369,18 +476,27 @@ fn push_beginning(text: &mut String, width: usize, height: usize) -> Result<(), 
     )
 }
 
-/// A document with a lane for each thread and a bar for each call, in bands.
-pub(crate) fn svg_picture(alloc: Global, scene: &Scene<'_>) -> Result<String, AllocError> {
+/// A document with a lane for each thread and a bar for each call, in bands. It is at most so wide, unless a bar needs
+/// more for its label.
+pub(crate) fn svg_picture(
+    alloc: Global,
+    scene: &Scene<'_>,
+    most: u32,
+) -> Result<String, AllocError> {
     let mut text = String::new(alloc);
-    let frame = Frame::of(scene);
+    let frame = Frame::of(scene, most);
+    let heading = Heading::of(alloc, scene, &frame)?;
+    let frame = frame.below(heading.len());
     let bands = scene.layout.bands.as_slice();
     let below = frame.bottom(bands.len());
-    push_beginning(&mut text, frame.width, below.saturating_add(BOTTOM))?;
-    push_heading(alloc, &mut text, scene)?;
+    let key = key_rows(frame.width).saturating_mul(KEY_ROW);
+    let height = below.saturating_add(key).saturating_add(BOTTOM);
+    push_beginning(&mut text, frame.width, height)?;
+    heading.push(&mut text)?;
     for (place, band) in bands.iter().enumerate() {
         push_band(&mut text, scene, band, frame.band_top(place), frame.width)?;
     }
-    push_key(&mut text, below.saturating_add(16))?;
+    push_key(&mut text, below.saturating_add(16), frame.width)?;
     text.push_str("</svg>\n")?;
     Ok(text)
 }

@@ -14,12 +14,19 @@ fn push_op(text: &mut String, op: Op) -> Result<(), AllocError> {
     }
 }
 
-/// Adds an answer.
-fn push_answer(text: &mut String, answer: Answer) -> Result<(), AllocError> {
+/// Adds an answer. The item that was got is the one that the log has.
+fn push_answer(
+    text: &mut String,
+    answer: Answer,
+    logged: Option<LoggedCall>,
+) -> Result<(), AllocError> {
     text.push_str(answer.word())?;
-    match answer {
-        Answer::Got(item) => write!(text, " {item}"),
-        _ => Ok(()),
+    let Answer::Got(item) = answer else {
+        return Ok(());
+    };
+    match logged.and_then(|logged| logged.item) {
+        Some(item) => write!(text, " {item}"),
+        None => write!(text, " {item}"),
     }
 }
 
@@ -30,13 +37,14 @@ pub(crate) fn label_of(
     marks: &Marks,
     number: usize,
     call: &Call,
+    logged: Option<LoggedCall>,
 ) -> Result<String, AllocError> {
     let mut text = String::new(alloc);
     write!(text, "{number}: ")?;
     push_op(&mut text, call.op)?;
     if let Some(end) = call.end {
         text.push(' ')?;
-        push_answer(&mut text, end.answer)?;
+        push_answer(&mut text, end.answer, logged)?;
     }
     if let Some(place) = marks.place_of(number) {
         write!(text, " #{place}")?;
@@ -82,7 +90,7 @@ pub(crate) fn push_details(
     match call.end {
         Some(end) => {
             text.push_str(", answered ")?;
-            push_answer(text, end.answer)?;
+            push_answer(text, end.answer, logged)?;
         }
         None => text.push_str(", unfinished")?,
     }
@@ -96,5 +104,33 @@ pub(crate) fn push_details(
     if marks.names(number) {
         text.push_str(", named by the verdict")?;
     }
+    Ok(())
+}
+
+/// Adds the lines of a text, of at most so many characters each: it is broken at spaces and behind commas. What has
+/// neither stays whole.
+pub(crate) fn push_wrapped(
+    alloc: Global,
+    lines: &mut Vec<String>,
+    text: &str,
+    most: usize,
+) -> Result<(), AllocError> {
+    let mut line = String::new(alloc);
+    for word in text.split(' ') {
+        let mut is_first = true;
+        for piece in word.split_inclusive(',') {
+            let wide = line.len().saturating_add(1).saturating_add(piece.len());
+            if wide > most && !line.is_empty() {
+                lines.push(line)?;
+                line = String::new(alloc);
+            }
+            if is_first && !line.is_empty() {
+                line.push(' ')?;
+            }
+            line.push_str(piece)?;
+            is_first = false;
+        }
+    }
+    lines.push(line)?;
     Ok(())
 }

@@ -7,3 +7,4 @@ pub mod Texts
 pub mod Walks
 pub mod Fronts
 pub mod Readings
+pub mod Header

@@ -1,5 +1,5 @@
 -- The calls of a log's lines, and the faults of logs.
-use Rattle.std.proofs.Common.{◌≡◌, ◌∙◌, ◌<◌, ◌≤◌, List, IfOk, MatchResult, Result, Ok, Err, length, get_or, subst, refl, arith}
+use Rattle.std.proofs.Common.{◌≡◌, ◌∙◌, ◌<◌, ◌≤◌, List, IfOk, MatchResult, Result, Ok, Err, None, length, get_or, subst, refl, arith}
 use Rattle.std.specs.List.Sorted.{IsNonDecreasingBy}
 use Rattle.std.proofs.lemmas.List.{length-map}
 use Rattle.std.proofs.lemmas.List.Sorted.{length_permutation}
@@ -16,7 +16,7 @@ use Rattle.kfifo_import.specs.Stamping.{AreStamped}
 
 pub calls_rise : (lines : List Line) → IsNonDecreasingBy first_time lines → IsNonDecreasingBy (λ c. c.first) (calls_of lines)
 calls_rise lines rise i j d le inside =
-    let e : Line = record { number = 0; call = d } in
+    let e : Line = record { number = 0; call = d; item = None } in
     let a : get_or (calls_of lines) i d ≡ (get_or lines i e).call = get_or-map (λ (x : Line). x.call) lines i e in
     let b : get_or (calls_of lines) j d ≡ (get_or lines j e).call = get_or-map (λ (x : Line). x.call) lines j e in
     let small : length (calls_of lines) ≡ length lines = length-map lines (λ (x : Line). x.call) in

@@ -87,6 +87,15 @@ op_once text item (Enqueue x) Dequeue p q = let e = ap (λ t. get_or t 0 0) (sym
 op_once text item Dequeue (Enqueue y) p q = let e = ap (λ t. get_or t 0 0) (sym p ∙ q.0) in absurd (omega (arith, e))
 op_once text item Dequeue Dequeue p q = refl
 
+-- a field that gives no number is that of no item
+pub no_item : (columns : Columns) (fields : List (List ℕ))
+    → ((number : Option ℕ) → Gives WritesWhole (field_at fields columns.item) number → ⊥) → IsNoCall columns fields
+no_item columns fields none = λ call is. without is.item is.item_given
+  where
+    without : (item : Option ℕ) → Gives WritesSmall (field_at fields columns.item) item → ⊥
+    without None d = none None d
+    without (Some x) d = none (Some d.2.0) (d.0, d.1, d.2.1)
+
 -- a row whose operation, or whose end, is none
 module _ (columns : Columns) (fields : List (List ℕ)) (item last : Option ℕ) (text : List ℕ)
     (item_given : Gives WritesSmall (field_at fields columns.item) item) (op_given : field_at fields columns.op ≡ Some text) where

@@ -13,14 +13,19 @@ use Rattle.kfifo_model.specs.declared.calls.Op.TheVariants.{Enqueue, Dequeue}
 use Rattle.kfifo_model.specs.Words.{answer_word, op_word}
 use Rattle.kfifo_import.specs.declared.table.Columns.{Columns}
 
--- the header has each field at its place
+-- a header has a field of this name at this place, and at no other
+pub record IsOnlyAt (names : List (List ℕ)) (name : List ℕ) (place : ℕ) : Type 0 where
+  pub here : field_at names place ≡ Some name
+  pub alone : (other : ℕ) → field_at names other ≡ Some name → other ≡ place
+
+-- the header has each of the six fields once, at its place
 pub record HasColumns (names : List (List ℕ)) (columns : Columns) : Type 0 where
-  pub thread : field_at names columns.thread ≡ Some (codes "thread")
-  pub op : field_at names columns.op ≡ Some (codes "op")
-  pub item : field_at names columns.item ≡ Some (codes "item")
-  pub first : field_at names columns.first ≡ Some (codes "first")
-  pub last : field_at names columns.last ≡ Some (codes "last")
-  pub answer : field_at names columns.answer ≡ Some (codes "answer")
+  pub thread : IsOnlyAt names (codes "thread") columns.thread
+  pub op : IsOnlyAt names (codes "op") columns.op
+  pub item : IsOnlyAt names (codes "item") columns.item
+  pub first : IsOnlyAt names (codes "first") columns.first
+  pub last : IsOnlyAt names (codes "last") columns.last
+  pub answer : IsOnlyAt names (codes "answer") columns.answer
 
 -- each byte is a decimal digit
 abbrev pub IsDigits : List ℕ → Type 0

@@ -6,3 +6,4 @@ pub mod Tables
 pub mod Taking
 pub mod Wrong
 pub mod Fields
+pub mod Foreign

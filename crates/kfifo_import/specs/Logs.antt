@@ -1,5 +1,5 @@
 -- The records of logs, and why a log has none.
-use Rattle.std.specs.Prelude.{ℕ, ◌≡◌, ◌<◌, ◌≤◌, List, length, map, option_map, slice_index_or}
+use Rattle.std.specs.Prelude.{ℕ, ◌≡◌, ◌<◌, ◌≤◌, List, None, length, map, option_map, slice_index_or}
 use Rattle.std.specs.List.Sorted.{IsNonDecreasingBy, IsPermutation, IsStableByKey}
 use Rattle.std.specs.Ordering.{nat_cmp}
 use Rattle.kfifo_model.specs.declared.reading.TheConstants.{MAX_CALLS}
@@ -23,7 +23,7 @@ calls_of lines = map (λ line. line.call) lines
 
 -- the number of the line at a place, 0 past the last one
 abbrev pub line_number : List Line → ℕ → ℕ
-line_number lines place = (slice_index_or lines place (record { number = 0; call = no_call })).number
+line_number lines place = (slice_index_or lines place (record { number = 0; call = no_call; item = None })).number
 
 -- The lines by rising first time, of equal ones the earlier first.
 pub record AreByFirst (lines sorted : List Line) : Type 0 where
@@ -31,12 +31,13 @@ pub record AreByFirst (lines sorted : List Line) : Type 0 where
   pub rise : IsNonDecreasingBy first_time sorted
   pub stable : IsStableByKey first_time nat_cmp lines sorted
 
--- what a log says of the call of a line beside its record: where it stands and when it was
+-- what a log says of the call of a line beside its record: where it stands, when it was, and with which item
 abbrev pub logged_call : Line → LoggedCall
 logged_call line = record {
   line = line.number;
   first = line.call.first;
   last = option_map (λ end. end.last) line.call.end;
+  item = line.item;
 }
 
 -- The history is the record of the log, which has at most 65,536 lines: its calls by rising first time, with stamps.

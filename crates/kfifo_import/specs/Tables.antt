@@ -2,6 +2,7 @@
 use Rattle.std.specs.Prelude.{◌≡◌, ◌≢◌, ◌<◌, ◌⊎◌, ℕ, List, [], ◌∷◌, None, length}
 use Rattle.kfifo_model.specs.declared.reading.TheConstants.{MAX_CALLS}
 use Rattle.csv.specs.Reading.{strip_bom}
+use Rattle.csv.specs.Records.{field_at}
 use Rattle.kfifo_model.specs.declared.calls.Call.{Call}
 use Rattle.kfifo_import.specs.declared.log.ImportFault.{ImportFault}
 use Rattle.kfifo_import.specs.declared.log.ImportFault.TheVariants.{Csv, TooMany, NotACall, NumberOutOfRange}
@@ -9,14 +10,15 @@ use Rattle.kfifo_import.specs.declared.log.ImportFault.TheVariants.{WrongAnswer,
 use Rattle.kfifo_import.specs.declared.log.Line.{Line}
 use Rattle.kfifo_import.specs.declared.log.LoggedCall.{LoggedCall}
 use Rattle.kfifo_import.specs.declared.table.Columns.{Columns}
-use Rattle.kfifo_import.specs.Fields.{HasColumns, IsCallOf}
+use Rattle.kfifo_import.specs.Fields.{Gives, HasColumns, IsCallOf, WritesWhole}
 use Rattle.kfifo_import.specs.Logs.{IsImportFault, IsLogOf}
 use Rattle.kfifo_import.specs.Rows.{AreRows, IsNextRow, Row, first_row}
 
--- a line has the number and the call of a row, which has as many fields as the header
+-- a line has the number, the call and the item of a row, which has as many fields as the header
 abbrev pub IsLineOf : Columns → ℕ → Row → Line → Type 0
 IsLineOf columns width row line = (length row.fields ≡ width) × (line.number ≡ row.number)
     × IsCallOf columns row.fields line.call
+    × Gives WritesWhole (field_at row.fields columns.item) line.item
 
 -- each line is one of the row in its place
 abbrev pub AreLines : Columns → ℕ → List Row → List Line → Type 0
@@ -25,8 +27,8 @@ AreLines columns width [] (line ∷ lines) = ⊥
 AreLines columns width (row ∷ rows) [] = ⊥
 AreLines columns width (row ∷ rows) (line ∷ lines) = IsLineOf columns width row line × AreLines columns width rows lines
 
--- A text was read up to this rest: a header, so many fields wide and with the six fields in these columns, and a row
--- for each of these lines.
+-- A text was read up to this rest: a header, so many fields wide and with the six fields in these columns alone, and a
+-- row for each of these lines.
 pub record HasRead (text : List ℕ) (columns : Columns) (width : ℕ) (lines : List Line) (rest : List ℕ) : Type 0 where
   pub header : Row
   pub rows : List Row
@@ -44,7 +46,7 @@ pub record ReadsLog (bytes : List ℕ) (lines : List Line) : Type 0 where
   pub read : HasRead (strip_bom bytes) columns width lines rest
   pub ended : first_row rest ≡ None
 
--- no columns have the six fields in this header
+-- this header does not have each of the six fields once
 abbrev pub LacksColumns : List (List ℕ) → Type 0
 LacksColumns names = (columns : Columns) → ¬ (HasColumns names columns)
 
@@ -72,7 +74,8 @@ pub record IsFirstFault (text : List ℕ) (fault : ImportFault) : Type 0 where
   pub next : IsNextRow text rest row
   pub is : IsRowFault columns width lines row fault
 
--- a text has no header: its first row, at this line, lacks a field, or it has no row, which is said of line 1
+-- a text has no header: its first row, at this line, lacks a field or has one twice, or it has no row, which is said of
+-- line 1
 abbrev pub HasNoHeader : List ℕ → ℕ → Type 0
 HasNoHeader text n = ((row : Row) × IsNextRow text text row × (n ≡ row.number) × LacksColumns row.fields)
     ⊎ ((first_row text ≡ None) × (n ≡ 1))

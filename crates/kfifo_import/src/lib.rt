@@ -2,6 +2,7 @@
 #![tactic(auto)]
 
 mod ends;
+mod foreign;
 mod log;
 mod stamping;
 mod table;
@@ -9,5 +10,5 @@ mod walk;
 mod wrong;
 
 pub use log::{ImportFault, Line, Log, LoggedCall, log_of, record_of};
-pub use table::{import_text, read_log};
+pub use table::{import_text, read_log, read_log_to_judge};
 pub use wrong::{Allowed, Field, WrongField, wrong_field};

@@ -14,8 +14,10 @@ use thiserror::Error;
 pub struct Line {
     /// The number of the line in its file.
     pub number: u64,
-    /// The call. Its first and last step are times, which need not be distinct.
+    /// The call. Its first and last step are times, which need not be distinct. Its item is at most 4,294,967,295.
     pub call: Call,
+    /// The item that the line has; none of a call that puts and gets none.
+    pub item: Option<u64>,
 }
 
 /// What a log says of a call beside its record.
@@ -27,6 +29,8 @@ pub struct LoggedCall {
     pub first: u64,
     /// When the call ended, as the log gives it; none of an unfinished call.
     pub last: Option<u64>,
+    /// The item that the call put or got, as the log gives it; none of a call that put and got none.
+    pub item: Option<u64>,
 }
 
 /// A log that was read.
@@ -42,7 +46,7 @@ pub struct Log {
 #[derive(Clone, Copy, Debug, PartialEq, Eq, Error)]
 pub enum ImportFault {
     /// The line does not have the fields of the header, or the header lacks one.
-    #[error("line {0} does not have the fields of the header, or is a header that lacks one of thread, op, item, first, last and answer")]
+    #[error("line {0} does not have the fields of the header, or is a header that lacks one of thread, op, item, first, last and answer or has one twice")]
     Csv(u64),
     /// Record fault 2: there are over 65,536 calls.
     #[error("the log has over 65,536 calls")]
@@ -137,6 +141,7 @@ fn logged(line: &Line) -> LoggedCall
         line: line.number,
         first: line.call.first,
         last: line.call.end.map(|end| end.last),
+        item: line.item,
     }
 }
 

@@ -8,12 +8,14 @@ ghost use Rattle.csv.specs.Reading.{strip_bom};
 ghost use Rattle.csv.specs.Records.{field_at, fields_of};
 ghost use Rattle.kfifo_model.specs.Words.{IsAnswerWord};
 ghost use Rattle.kfifo_import.specs.Fields.{Gives, GivesText, HasColumns, IsAnswer, IsCallOf, IsDigits, IsEnd, IsOp};
-ghost use Rattle.kfifo_import.specs.Fields.{IsPutAnswer, IsTakeAnswer, WritesSmall, WritesWhole};
+ghost use Rattle.kfifo_import.specs.Fields.{IsOnlyAt, IsPutAnswer, IsTakeAnswer, WritesSmall, WritesWhole};
 ghost use Rattle.kfifo_import.specs.Tables.{IsImported, IsNoCall, IsReadLog, IsTextFault, IsUnimported, LacksColumns};
 ghost use Rattle.kfifo_import.specs.Tables.{ReadsLog};
+ghost use Rattle.kfifo_import.specs.Foreign.{IsJudgedLog, IsUnjudged};
 ghost use Rattle.kfifo_import.specs.Taking.{IsNotTaken, IsReadFault, IsRefused, Takes, row_at};
 ghost use Rattle.kfifo_import.specs.Wrong.{IsRowBehind};
 
+use crate::foreign::with_puttable_items;
 use crate::log::{ImportFault, Line, Log, log_of};
 use crate::walk::{Place, row_end, row_front, without_mark};
 use csv::{ByteRecord, ErrorKind, ReaderBuilder};
@@ -31,21 +33,25 @@ pub(crate) struct Columns {
     pub(crate) answer: usize,
 }
 
-/// The place of a field with this name in the header.
+/// The place of the field with this name in the header; none if there is no such field, or two.
 fn place_of(header: &ByteRecord, name: &[u8]) -> Option<usize>
     ensures { MatchOption result
-        ((place : ℕ) → ¬ (field_at (fields_of header.now) place ≡ Some name.now))
-        (λ place. field_at (fields_of header.now) place ≡ Some name.now) }
+        ((place : ℕ) → ¬ (IsOnlyAt (fields_of header.now) name.now place))
+        (IsOnlyAt (fields_of header.now) name.now) }
 {
+    let mut found = None;
     for place in 0..header.len() {
         if header.get(place) == Some(name) {
-            return Some(place);
+            if found.is_some() {
+                return None;
+            }
+            found = Some(place);
         }
     }
-    None
+    found
 }
 
-/// The places of the six fields, if the header has them.
+/// The places of the six fields, if the header has each of them once.
 fn columns_of(header: &ByteRecord) -> Option<Columns>
     ensures { MatchOption result (LacksColumns (fields_of header.now)) (HasColumns (fields_of header.now)) }
 {
@@ -113,8 +119,8 @@ fn item_in(row: &ByteRecord, place: usize) -> Option<Option<u32>>
     }
 }
 
-/// The time in this field, none where it is empty; none at all where it is no number.
-fn time_in(row: &ByteRecord, place: usize) -> Option<Option<u64>>
+/// The number in this field, none where it is empty; none at all where it is none.
+fn number_in(row: &ByteRecord, place: usize) -> Option<Option<u64>>
     ensures { MatchOption result
         ((number : Option ℕ) → ¬ (Gives WritesWhole (field_at (fields_of row.now) place) number))
         (Gives WritesWhole (field_at (fields_of row.now) place)) }
@@ -218,7 +224,7 @@ fn call_of(row: &ByteRecord, columns: &Columns) -> Option<Call>
     let thread = small(field(row, columns.thread)?)?;
     let first = whole(field(row, columns.first)?)?;
     let item = item_in(row, columns.item)?;
-    let last = time_in(row, columns.last)?;
+    let last = number_in(row, columns.last)?;
     let op = op_of(field(row, columns.op)?, item)?;
     let end = end_of(op, last, field(row, columns.answer), item)?;
     Some(Call {
@@ -227,6 +233,17 @@ fn call_of(row: &ByteRecord, columns: &Columns) -> Option<Call>
         first,
         end,
     })
+}
+
+/// The line with this number, or none where it is no call.
+fn line_of(row: &ByteRecord, columns: &Columns, number: u64) -> Option<Line>
+    ensures { MatchOption result (IsNoCall columns.now (fields_of row.now)) (λ line. (line.number ≡ number)
+        × IsCallOf columns.now (fields_of row.now) line.call
+        × Gives WritesWhole (field_at (fields_of row.now) columns.now.item) line.item) }
+{
+    let item = number_in(row, columns.item)?;
+    let call = call_of(row, columns)?;
+    Some(Line { number, call, item })
 }
 
 /// What an error of the reader at a line says of the text.
@@ -315,7 +332,7 @@ impl Table {
         if self.lines.len() >= MAX_CALLS {
             return Err(Refusal::from(ImportFault::TooMany));
         }
-        let Some(call) = call_of(&row, &columns) else {
+        let Some(line) = line_of(&row, &columns, number) else {
             return Err(Refusal {
                 fault: ImportFault::NotACall(number),
                 refused: Some(Refused {
@@ -325,7 +342,7 @@ impl Table {
                 }),
             });
         };
-        self.lines.push(Line { number, call })?;
+        self.lines.push(line)?;
         Ok(())
     }
 }
@@ -378,6 +395,25 @@ pub fn read_log(alloc: Global, text: &[u8]) -> Result<Log, ImportFault>
 {
     let lines = lines_of(alloc, text)?;
     log_of(alloc, lines)
+}
+
+/// The log that a text in CSV is, to be judged: as `read_log` reads it, but for gets of items that no call can put, which
+/// are not from 1 to 16,777,215. They show that the queue is wrong, and are no fault of the log. In the record each of
+/// them got an item that no call puts, one and the same; its `LoggedCall` has the item as it is in the log.
+///
+/// ```rust
+/// let log = read_log_to_judge(alloc, bytes)?;
+/// ```
+///
+/// Refused: what `read_log` refuses, but for these gets.
+pub fn read_log_to_judge(alloc: Global, text: &[u8]) -> Result<Log, ImportFault>
+    ensures read { MatchResult result (λ log. IsJudgedLog text.now log.history log.calls.items) (IsUnjudged text.now) }
+    ensures few { IfOk result (λ log. length log.history ≤ MAX_CALLS) }
+    ensures each { IfOk result (λ log. length log.calls.items ≡ length log.history) }
+{
+    let lines = lines_of(alloc, text)?;
+    let judged = with_puttable_items(alloc, lines.as_slice())?;
+    log_of(alloc, judged)
 }
 
 /// Returns the record of a log in CSV, without the lines and times of its calls.

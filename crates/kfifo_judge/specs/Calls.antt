@@ -1,5 +1,6 @@
 -- The line of a call that a reason names.
 use Rattle.std.specs.Prelude.{ℕ, List, [], ◌++◌, Option, Some, None, codes, decimal, option_map, position, slice_get}
+use Rattle.std.specs.Prelude.{unwrap_or}
 use Rattle.std.specs.List.{flat_map}
 use Rattle.kfifo_model.specs.declared.calls.Call.{Call}
 use Rattle.kfifo_model.specs.declared.effects.Effect.{Effect}
@@ -10,12 +11,17 @@ use Rattle.kfifo_import.specs.declared.log.LoggedCall.{LoggedCall}
 use Rattle.kfifo_judge.specs.Check.{line}
 use Rattle.kfifo_judge.specs.declared.calls.Occurrence.{Occurrence}
 
-abbrev pub effect_text : Effect → List ℕ
-effect_text (Adds x) = codes "put " ++ decimal x
-effect_text (Takes x) = codes "got " ++ decimal x
-effect_text FindsNone = codes "found nothing"
-effect_text Refused = codes "changed nothing"
-effect_text Wrong = codes "changed nothing"
+-- the item of a call, as its log has it if it is one of a log
+abbrev pub item_in : Option LoggedCall → ℕ → ℕ
+item_in (Some logged) x = unwrap_or logged.item x
+item_in None x = x
+
+abbrev pub effect_text : Option LoggedCall → Effect → List ℕ
+effect_text logged (Adds x) = codes "put " ++ decimal (item_in logged x)
+effect_text logged (Takes x) = codes "got " ++ decimal (item_in logged x)
+effect_text logged FindsNone = codes "found nothing"
+effect_text logged Refused = codes "changed nothing"
+effect_text logged Wrong = codes "changed nothing"
 
 -- a call of a record was when its steps say
 abbrev pub in_record : Call → Occurrence
@@ -64,15 +70,15 @@ fate_part h Refused = []
 fate_part h Wrong = []
 
 -- what a call did, when it did, and what became of the item that it put
-abbrev pub details_text : List Call → ℕ → Effect → Occurrence → List ℕ
-details_text h thread e o = codes ": thread " ++ decimal thread ++ codes " " ++ effect_text e ++ times_text o
-    ++ fate_part h e
+abbrev pub details_text : List Call → Option LoggedCall → ℕ → Effect → Occurrence → List ℕ
+details_text h logged thread e o = codes ": thread " ++ decimal thread ++ codes " " ++ effect_text logged e
+    ++ times_text o ++ fate_part h e
 
 -- the line of a call
 abbrev pub call_line : List LoggedCall → List Call → ℕ → List ℕ
 call_line logged h n =
     line (name_text n (occurrence logged (call h n) n).line
-    ++ details_text h (call h n).thread (does h n) (occurrence logged (call h n) n))
+    ++ details_text h (slice_get logged n) (call h n).thread (does h n) (occurrence logged (call h n) n))
 
 -- the lines of these calls
 abbrev pub call_lines : List LoggedCall → List Call → List ℕ → List ℕ

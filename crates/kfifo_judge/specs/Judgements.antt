@@ -1,5 +1,5 @@
 -- What `judge` says of a history.
-use Rattle.std.specs.Prelude.{ℕ, ◌≡◌, Bool, true, false, List, [], ◌++◌, codes, decimal}
+use Rattle.std.specs.Prelude.{ℕ, ◌≡◌, Bool, true, false, List, [], ◌++◌, codes, decimal, length}
 use Rattle.kfifo_model.specs.declared.calls.Call.{Call}
 use Rattle.kfifo_model.specs.Ranks.{ranks_of}
 use Rattle.kfifo_verdict.specs.declared.verdicts.Evidence.{Evidence}
@@ -8,6 +8,7 @@ use Rattle.kfifo_verdict.specs.declared.verdicts.Judgement.TheVariants.{Legal, N
 use Rattle.kfifo_verdict.specs.declared.verdicts.Stuck.{Stuck}
 use Rattle.kfifo_verdict.specs.declared.verdicts.Stuck.TheVariants.{TriesRanOut, NothingLeft}
 use Rattle.kfifo_verdict.specs.Judging.{IsJudgement}
+use Rattle.kfifo_verdict.specs.Remainder.{items_left}
 use Rattle.kfifo_import.specs.declared.log.LoggedCall.{LoggedCall}
 use Rattle.kfifo_judge.specs.Check.{line}
 use Rattle.kfifo_judge.specs.declared.outcome.Outcome.{Outcome}
@@ -30,15 +31,19 @@ abbrev pub shown_line : Bool → List ℕ → List ℕ
 shown_line true order = numbers_line (codes "order ") order
 shown_line false order = []
 
+-- how many calls there are, and how many items are left at the end
+abbrev pub counts_line : List Call → List ℕ
+counts_line h = codes "calls " ++ decimal (length h) ++ line (codes ", items left " ++ decimal (items_left h))
+
 abbrev pub legal_text : ℕ → Bool → List Call → List ℕ → List ℕ
 legal_text k show h order = about (codes "legal") k ++ worst_line (greatest (ranks_of k h order))
-    ++ shown_line show order
+    ++ shown_line show order ++ counts_line h
 
--- the evidence with the calls that it names, and what follows it
+-- the evidence with the calls that it names, the counts, and what follows them
 abbrev pub IsNoOrderText : ℕ → List LoggedCall → List Call → Evidence → List ℕ → Type 0
 IsNoOrderText k logged h found text =
     (rest : List ℕ) × FollowsReason logged h found rest
-    × (text ≡ about (codes "no order") k ++ reason_lines logged h found ++ rest)
+    × (text ≡ about (codes "no order") k ++ reason_lines logged h found ++ counts_line h ++ rest)
 
 -- why the search stopped
 abbrev pub stuck_text : Stuck → List ℕ

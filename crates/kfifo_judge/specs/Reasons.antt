@@ -1,15 +1,17 @@
 -- Why a history has no legal order.
-use Rattle.std.specs.Prelude.{ℕ, List, [], ◌∷◌, ◌++◌, codes, decimal, length, take}
+use Rattle.std.specs.Prelude.{ℕ, zero, suc, List, [], ◌∷◌, ◌++◌, codes, cond, decimal, eqb, length, not, slice_get, take}
+use Rattle.std.specs.Prelude.{Bool, ◌&&◌, ◌||◌}
 use Rattle.kfifo_model.specs.declared.calls.Call.{Call}
 use Rattle.kfifo_model.specs.declared.effects.Effect.{Effect}
 use Rattle.kfifo_model.specs.declared.effects.Effect.TheVariants.{Adds, Takes, FindsNone, Refused, Wrong}
 use Rattle.kfifo_model.specs.Histories.{does}
+use Rattle.kfifo_model.specs.Overtaking.{adds, takes}
 use Rattle.kfifo_verdict.specs.declared.verdicts.Evidence.{Evidence}
 use Rattle.kfifo_verdict.specs.declared.verdicts.Evidence.TheVariants.{NeverPut, TakenTwice, NotEmpty, TooYoung}
 use Rattle.kfifo_verdict.specs.declared.verdicts.Evidence.TheVariants.{TakenTooSoon, ItemsLeft, OlderLeft}
 use Rattle.kfifo_import.specs.declared.log.LoggedCall.{LoggedCall}
 use Rattle.kfifo_judge.specs.Check.{line}
-use Rattle.kfifo_judge.specs.Calls.{call_lines}
+use Rattle.kfifo_judge.specs.Calls.{call_lines, item_in}
 use Rattle.kfifo_judge.specs.Numbers.{joined}
 
 -- the item that is taken, 0 where none is
@@ -20,26 +22,37 @@ taken FindsNone = 0
 taken Refused = 0
 taken Wrong = 0
 
+-- the item that call n got, as its log has it if it is one of a log
+abbrev pub got_item : List LoggedCall → List Call → ℕ → ℕ
+got_item logged h n = item_in (slice_get logged n) (taken (does h n))
+
 -- a text, a number behind it, and what follows
 abbrev pub counted : List ℕ → ℕ → List ℕ → List ℕ
 counted text number after = text ++ (decimal number ++ after)
 
 -- the call, the item that it got, and what is said of it
-abbrev pub got_text : List Call → ℕ → List ℕ → List ℕ
-got_text h get said = counted (codes "call ") get (counted (codes " got item ") (taken (does h get)) said)
+abbrev pub got_text : List LoggedCall → List Call → ℕ → List ℕ → List ℕ
+got_text logged h get said = counted (codes "call ") get (counted (codes " got item ") (got_item logged h get) said)
+
+abbrev pub older_words : ℕ → List ℕ
+older_words count = cond (eqb count 1) (codes "older item was") (codes "older items were")
+
+-- so many older items, and what is said of them
+abbrev pub older_text : List ℕ → ℕ → List ℕ → List ℕ
+older_text before count after = counted before count (codes " " ++ (older_words count ++ after))
 
 -- what is said of each kind of evidence
-abbrev pub reason_text : List Call → Evidence → List ℕ
-reason_text h (NeverPut get) = got_text h get (codes ", which no call before its end put")
-reason_text h (TakenTwice get) = got_text h get (codes ", which was taken more often than put")
-reason_text h (NotEmpty empty puts) = counted (codes "call ") empty (codes " found nothing, while there were items")
-reason_text h (TooYoung get puts) =
-    got_text h get (counted (codes ", while ") (length puts.items) (codes " older items were there"))
-reason_text h (TakenTooSoon get) = got_text h get (codes ", when more gets of it had ended than puts had begun")
-reason_text h (ItemsLeft empty) =
+abbrev pub reason_text : List LoggedCall → List Call → Evidence → List ℕ
+reason_text logged h (NeverPut get) = got_text logged h get (codes ", which no call before its end put")
+reason_text logged h (TakenTwice get) = got_text logged h get (codes ", which was taken more often than put")
+reason_text logged h (NotEmpty empty puts) = counted (codes "call ") empty (codes " found nothing, while there were items")
+reason_text logged h (TooYoung get puts) =
+    got_text logged h get (older_text (codes ", while ") (length puts.items) (codes " there"))
+reason_text logged h (TakenTooSoon get) = got_text logged h get (codes ", when more gets of it had ended than puts had begun")
+reason_text logged h (ItemsLeft empty) =
     counted (codes "call ") empty (codes " found nothing, while some item had been put more often than taken")
-reason_text h (OlderLeft get puts) =
-    got_text h get (counted (codes ", though ") (length puts.items) (codes " older items were left"))
+reason_text logged h (OlderLeft get puts) =
+    got_text logged h get (older_text (codes ", though ") (length puts.items) (codes " left"))
 
 -- the puts that the evidence names, behind it
 abbrev pub puts_part : Evidence → List ℕ
@@ -51,17 +64,35 @@ puts_part (TakenTooSoon get) = []
 puts_part (ItemsLeft empty) = []
 puts_part (OlderLeft get puts) = codes ": calls " ++ joined puts.items
 
--- the calls that have a line: those that the evidence names, in its order, but for the puts of items that may repeat
-abbrev pub named : Evidence → List ℕ
-named (NeverPut get) = get ∷ []
-named (TakenTwice get) = get ∷ []
-named (NotEmpty empty puts) = empty ∷ puts.items
-named (TooYoung get puts) = get ∷ puts.items
-named (TakenTooSoon get) = get ∷ []
-named (ItemsLeft empty) = empty ∷ []
-named (OlderLeft get puts) = get ∷ []
+-- whether a call puts the item or gets it
+abbrev pub moves : ℕ → Effect → Bool
+moves x e = adds x e || takes x e
+
+-- whether call c is another one than the get, and puts the item that this got, or gets it
+abbrev pub is_other : List Call → ℕ → ℕ → Bool
+is_other h get c = not (eqb c get) && moves (taken (does h get)) (does h c)
+
+-- the numbers below n that pass the test
+abbrev pub numbers_below : (ℕ → Bool) → ℕ → List ℕ
+numbers_below test zero = []
+numbers_below test (suc n) = numbers_below test n ++ cond (test n) (n ∷ []) []
+
+-- the other calls that put or get the item that a call got
+abbrev pub others : List Call → ℕ → List ℕ
+others h get = numbers_below (is_other h get) (length h)
+
+-- the calls that have a line: those that the evidence names, in its order, but for the puts of older items that may
+-- repeat; and all that put or got an item that was taken too often or too soon
+abbrev pub named : List Call → Evidence → List ℕ
+named h (NeverPut get) = get ∷ []
+named h (TakenTwice get) = get ∷ others h get
+named h (NotEmpty empty puts) = empty ∷ puts.items
+named h (TooYoung get puts) = get ∷ puts.items
+named h (TakenTooSoon get) = get ∷ others h get
+named h (ItemsLeft empty) = empty ∷ []
+named h (OlderLeft get puts) = get ∷ []
 
 -- the evidence in a line, and a line for each of the first 32 calls that it names
 abbrev pub reason_lines : List LoggedCall → List Call → Evidence → List ℕ
-reason_lines logged h found = line (reason_text h found ++ puts_part found) ++ call_lines logged h
-    (take 32 (named found))
+reason_lines logged h found = line (reason_text logged h found ++ puts_part found) ++ call_lines logged h
+    (take 32 (named h found))

@@ -44,7 +44,7 @@ fn no_least(
 {
     let mut text = String::new(alloc);
     text.push_str("no order\n")?;
-    push_reasons(&mut text, history, logged, found)?;
+    push_reasons(alloc, &mut text, history, logged, found)?;
     Ok(text)
 }
 

@@ -1,17 +1,18 @@
 //! The line of a call that a reason names.
-ghost use Rattle.std.specs.Prelude.{◌≡◌, ◌++◌, Bool, OnOk, string_bytes, take};
+ghost use Rattle.std.specs.Prelude.{◌≡◌, ◌++◌, Bool, OnOk, slice_get, string_bytes, take};
 ghost use Rattle.kfifo_model.specs.Histories.{call, does, effect_of};
 ghost use Rattle.kfifo_model.specs.Overtaking.{takes};
 ghost use Rattle.kfifo_judge.specs.Calls.{call_line, call_lines, details_text, effect_text, fate_part, in_log};
-ghost use Rattle.kfifo_judge.specs.Calls.{in_record, last_part, name_text, occurrence, taker, taker_part, times_text};
+ghost use Rattle.kfifo_judge.specs.Calls.{in_record, item_in, last_part, name_text, occurrence, taker, taker_part};
+ghost use Rattle.kfifo_judge.specs.Calls.{times_text};
 
 use kfifo_import::LoggedCall;
 use kfifo_model::{Call, Effect, History, Op};
 use std::alloc::AllocError;
 use std::fmt::Write;
 
-/// How many puts have a line behind the line of the call that they are named beside: 32 calls in all.
-const MAX_PUTS: usize = 31;
+/// How many calls have a line behind the line of the call that they are named beside: 32 calls in all.
+const MAX_OTHERS: usize = 31;
 
 /// A call past the last one.
 const NO_CALL: Call = Call {
@@ -78,6 +79,23 @@ fn occurrence_of(logged: &[LoggedCall], call: &Call, number: usize) -> Occurrenc
     }
 }
 
+/// What the log says of the call with this number, if it is one of a log.
+pub(crate) fn logged_at(logged: &[LoggedCall], number: usize) -> Option<LoggedCall>
+    ensures { result ≡ slice_get logged.now number }
+{
+    logged.get(number).copied()
+}
+
+/// The item of a call, as its log has it if it is one of a log.
+pub(crate) fn item_in(logged: Option<LoggedCall>, item: u32) -> u64
+    ensures { result ≡ item_in logged item }
+{
+    match logged {
+        Some(logged) => logged.item.unwrap_or(u64::from(item)),
+        None => u64::from(item),
+    }
+}
+
 /// Whether the call got the item.
 fn takes(call: &Call, item: u32) -> bool
     ensures { result ≡ takes item (effect_of call.now) }
@@ -106,13 +124,23 @@ fn push_name(text: &mut String, number: usize, line: Option<u64>) -> Result<(), 
     }
 }
 
-/// Adds what a call did.
-fn push_effect(text: &mut String, effect: Effect) -> Result<(), AllocError>
-    ensures { OnOk result (string_bytes text.new ≡ string_bytes text.old ++ effect_text effect) }
+/// Adds what a call did, with its item as the log has it.
+fn push_effect(
+    text: &mut String,
+    logged: Option<LoggedCall>,
+    effect: Effect,
+) -> Result<(), AllocError>
+    ensures { OnOk result (string_bytes text.new ≡ string_bytes text.old ++ effect_text logged effect) }
 {
     match effect {
-        Effect::Adds(item) => write!(text, "put {item}"),
-        Effect::Takes(item) => write!(text, "got {item}"),
+        Effect::Adds(item) => {
+            let item = item_in(logged, item);
+            write!(text, "put {item}")
+        }
+        Effect::Takes(item) => {
+            let item = item_in(logged, item);
+            write!(text, "got {item}")
+        }
         Effect::FindsNone => text.push_str("found nothing"),
         Effect::Refused | Effect::Wrong => text.push_str("changed nothing"),
     }
@@ -147,15 +175,16 @@ fn push_fate(text: &mut String, history: &History, effect: Effect) -> Result<(),
 fn push_details(
     text: &mut String,
     history: &History,
+    logged: Option<LoggedCall>,
     thread: u32,
     effect: Effect,
     occurrence: Occurrence,
 ) -> Result<(), AllocError>
     ensures { OnOk result (string_bytes text.new
-        ≡ string_bytes text.old ++ details_text history.now thread effect occurrence) }
+        ≡ string_bytes text.old ++ details_text history.now logged thread effect occurrence) }
 {
     write!(text, ": thread {thread} ")?;
-    push_effect(text, effect)?;
+    push_effect(text, logged, effect)?;
     push_times(text, occurrence)?;
     push_fate(text, history, effect)
 }
@@ -172,33 +201,41 @@ pub(crate) fn push_call(
 {
     let call = call_at(history, number);
     let occurrence = occurrence_of(logged, &call, number);
+    let logged = logged_at(logged, number);
     push_name(text, number, occurrence.line)?;
-    push_details(text, history, call.thread, call.effect(), occurrence)?;
+    push_details(
+        text,
+        history,
+        logged,
+        call.thread,
+        call.effect(),
+        occurrence,
+    )?;
     text.push('\n')
 }
 
-/// The first of these calls, so many as have a line behind another call's.
+/// Returns the first of these calls, so many as have a line behind another call's: 31.
 #[tactic(auto, using(std::proofs::lemmas::List::take_min))]
-fn with_lines(puts: &[usize]) -> &[usize]
-    ensures { result.now ≡ take 31 puts.now }
+pub fn with_lines(calls: &[usize]) -> &[usize]
+    ensures { result.now ≡ take 31 calls.now }
 {
-    let few = MAX_PUTS.min(puts.len());
-    &puts[..few]
+    let few = MAX_OTHERS.min(calls.len());
+    &calls[..few]
 }
 
 /// Adds the lines of the first of these calls, so many as have a line behind another call's.
-pub(crate) fn push_puts(
+pub(crate) fn push_calls(
     text: &mut String,
     history: &History,
     logged: &[LoggedCall],
-    puts: &[usize],
+    calls: &[usize],
 ) -> Result<(), AllocError>
     ensures { OnOk result (string_bytes text.new
-        ≡ string_bytes text.old ++ call_lines logged.now history.now (take 31 puts.now)) }
+        ≡ string_bytes text.old ++ call_lines logged.now history.now (take 31 calls.now)) }
 {
-    let named = with_lines(puts);
-    for put in named {
-        push_call(text, history, logged, *put)?;
+    let named = with_lines(calls);
+    for call in named {
+        push_call(text, history, logged, *call)?;
     }
     Ok(())
 }

@@ -1,10 +1,11 @@
 //! The answer of the command `judge`.
-ghost use Rattle.std.specs.Prelude.{◌≡◌, ◌≤◌, ◌++◌, IfOk, List, OnOk, string_bytes, ℕ};
+ghost use Rattle.std.specs.Prelude.{◌≡◌, ◌≤◌, ◌++◌, IfOk, List, OnOk, codes, decimal, string_bytes, ℕ};
+ghost use Rattle.kfifo_judge.specs.Check.{line};
 ghost use Rattle.kfifo_model.specs.Histories.{IsLegal};
 ghost use Rattle.kfifo_model.specs.Ranks.{ranks_of};
 ghost use Rattle.kfifo_judge.specs.Bounds.{FollowsReason};
 ghost use Rattle.kfifo_judge.specs.Judgements.{IsJudgeAnswer, IsNoOrderText, IsUndecidedText, about, legal_text};
-ghost use Rattle.kfifo_judge.specs.Judgements.{outcome, shown_line, stuck_text, worst_line};
+ghost use Rattle.kfifo_judge.specs.Judgements.{counts_line, outcome, shown_line, stuck_text, worst_line};
 ghost use Rattle.kfifo_judge.specs.Numbers.{greatest};
 ghost use Rattle.kfifo_judge.specs.Repeats.{IsRepeatNote};
 
@@ -14,7 +15,7 @@ use crate::outcome::Outcome;
 use crate::reasons::push_reasons;
 use kfifo_import::LoggedCall;
 use kfifo_model::{History, RankFault, items_repeat, ranks};
-use kfifo_verdict::{Evidence, Judgement, Stuck, judge};
+use kfifo_verdict::{Evidence, Judgement, Stuck, items_remaining, judge};
 use std::alloc::{AllocError, Global};
 use std::fmt::Write;
 
@@ -56,6 +57,23 @@ fn push_shown(text: &mut String, order: &[usize], show: bool) -> Result<(), Allo
     }
 }
 
+/// Adds how many items are left at the end.
+fn push_left(text: &mut String, left: usize) -> Result<(), AllocError>
+    ensures { OnOk result (string_bytes text.new ≡ string_bytes text.old ++ line (codes ", items left " ++ decimal left)) }
+{
+    writeln!(text, ", items left {left}")
+}
+
+/// Adds how many calls there are, and how many items are left at the end.
+fn push_counts(alloc: Global, text: &mut String, history: &History) -> Result<(), AllocError>
+    ensures { OnOk result (string_bytes text.new ≡ string_bytes text.old ++ counts_line history.now) }
+{
+    let calls = history.calls().len();
+    let left = items_remaining(alloc, history)?;
+    write!(text, "calls {calls}")?;
+    push_left(text, left)
+}
+
 /// What is said of a legal order.
 fn legal(
     alloc: Global,
@@ -73,6 +91,7 @@ fn legal(
     push_about(&mut text, "legal", k)?;
     push_worst(&mut text, worst)?;
     push_shown(&mut text, order, show)?;
+    push_counts(alloc, &mut text, history)?;
     Ok(text)
 }
 
@@ -89,7 +108,8 @@ fn no_order(
 {
     let mut text = String::new(alloc);
     push_about(&mut text, "no order", k)?;
-    push_reasons(&mut text, history, logged, found)?;
+    push_reasons(alloc, &mut text, history, logged, found)?;
+    push_counts(alloc, &mut text, history)?;
     push_following(alloc, &mut text, history, logged, tries, found)?;
     Ok(text)
 }
@@ -142,7 +162,8 @@ fn outcome_of(judgement: &Judgement) -> Outcome
 /// Returns a verdict on a history for a queue that may give any of its k oldest items, 1 to 64, as a text: `legal` with
 /// the greatest rank of the order that was found, and the order itself where it is to be shown; or `no order` with the
 /// evidence, the calls that it names and, where it is about this k alone, bounds of the least k; or `undecided` with
-/// the reason. `logged` has the line and the times of each call, where the history is the record of a log. `tries` is
+/// the reason. `legal` and `no order` have a line more, of how many calls there are and how many items are left at the
+/// end. `logged` has the line and the times of each call, where the history is the record of a log. `tries` is
 /// the number of choices that each search for an order may undo. An error means that an allocation failed.
 pub fn judge_text(
     alloc: Global,

@@ -14,11 +14,12 @@ mod record;
 mod streams;
 
 pub use bounds::least_text;
+pub use calls::with_lines;
 pub use check::check_stream;
 pub use judgement::judge_text;
 pub use measure::measure_stream;
 pub use numbers::push_numbers;
 pub use outcome::Outcome;
-pub use reasons::push_reason;
+pub use reasons::{others_of, push_reason};
 pub use record::{StreamFault, read_record};
 pub use streams::{FromStd, MAX_BYTES, ReadFault, Sink, Source, read_all, write_all};

@@ -1,41 +1,66 @@
 //! Why a history has no legal order: the evidence, and the calls that it names.
-ghost use Rattle.std.specs.Prelude.{◌≡◌, ◌++◌, OnOk, string_bytes, take};
-ghost use Rattle.kfifo_model.specs.Histories.{does};
-ghost use Rattle.kfifo_judge.specs.Calls.{call_lines};
-ghost use Rattle.kfifo_judge.specs.Reasons.{named, puts_part, reason_lines, reason_text, taken};
+ghost use Rattle.std.specs.Prelude.{◌≡◌, ◌++◌, IfOk, OnOk, string_bytes, take};
+ghost use Rattle.kfifo_judge.specs.Calls.{call_line, call_lines};
+ghost use Rattle.kfifo_judge.specs.Reasons as specs;
+ghost use Rattle.kfifo_judge.specs.Reasons.{got_item, named, others, puts_part, reason_lines, reason_text};
 
-use crate::calls::{effect_at, push_call, push_puts};
+use crate::calls::{effect_at, item_in, logged_at, push_call, push_calls};
 use crate::numbers::push_joined;
 use kfifo_import::LoggedCall;
 use kfifo_model::{Effect, History};
 use kfifo_verdict::Evidence;
-use std::alloc::AllocError;
+use std::alloc::{AllocError, Global};
 use std::fmt::Write;
 
-/// The item that the call with this number got, 0 where it got none.
-fn item_got(history: &History, number: usize) -> u32
-    ensures { result ≡ taken (does history.now number) }
+/// The item that is taken, 0 where none is.
+fn taken(effect: Effect) -> u32
+    ensures { result ≡ specs.taken effect }
 {
-    match effect_at(history, number) {
+    match effect {
         Effect::Takes(item) => item,
         _ => 0,
     }
 }
 
-/// Adds what the evidence says, but for the numbers of the puts that it names.
-pub fn push_reason(text: &mut String, history: &History, found: &Evidence) -> Result<(), AllocError>
-    ensures { OnOk result (string_bytes text.new ≡ string_bytes text.old ++ reason_text history.now found.now) }
+/// The item that the call with this number got, as its log has it if it is one of a log.
+fn item_got(history: &History, logged: &[LoggedCall], number: usize) -> u64
+    ensures { result ≡ got_item logged.now history.now number }
+{
+    item_in(logged_at(logged, number), taken(effect_at(history, number)))
+}
+
+/// So many older items, in words without the number.
+fn older_words(count: usize) -> &'static str
+    ensures { result.now ≡ specs.older_words count }
+{
+    if count == 1 {
+        "older item was"
+    } else {
+        "older items were"
+    }
+}
+
+/// Adds what the evidence says, but for the numbers of the puts that it names. `logged` has what the log says of each
+/// call, where the history is the record of a log.
+pub fn push_reason(
+    text: &mut String,
+    history: &History,
+    logged: &[LoggedCall],
+    found: &Evidence,
+) -> Result<(), AllocError>
+    ensures { OnOk result (string_bytes text.new
+        ≡ string_bytes text.old ++ reason_text logged.now history.now found.now) }
 {
     match found {
         Evidence::NeverPut(get) => {
-            let item = item_got(history, *get);
+            let item = item_got(history, logged, *get);
             write!(
                 text,
                 "call {get} got item {item}, which no call before its end put"
             )
         }
         Evidence::TakenTwice(get) => {
-            let item = item_got(history, *get);
+            let item = item_got(history, logged, *get);
             write!(
                 text,
                 "call {get} got item {item}, which was taken more often than put"
@@ -45,14 +70,15 @@ pub fn push_reason(text: &mut String, history: &History, found: &Evidence) -> Re
             write!(text, "call {empty} found nothing, while there were items")
         }
         Evidence::TooYoung { get, puts } => {
-            let (item, count) = (item_got(history, *get), puts.len());
+            let (item, count) = (item_got(history, logged, *get), puts.len());
+            let words = older_words(count);
             write!(
                 text,
-                "call {get} got item {item}, while {count} older items were there"
+                "call {get} got item {item}, while {count} {words} there"
             )
         }
         Evidence::TakenTooSoon(get) => {
-            let item = item_got(history, *get);
+            let item = item_got(history, logged, *get);
             write!(
                 text,
                 "call {get} got item {item}, when more gets of it had ended than puts had begun"
@@ -65,10 +91,11 @@ pub fn push_reason(text: &mut String, history: &History, found: &Evidence) -> Re
             )
         }
         Evidence::OlderLeft { get, puts } => {
-            let (item, count) = (item_got(history, *get), puts.len());
+            let (item, count) = (item_got(history, logged, *get), puts.len());
+            let words = older_words(count);
             write!(
                 text,
-                "call {get} got item {item}, though {count} older items were left"
+                "call {get} got item {item}, though {count} {words} left"
             )
         }
     }
@@ -90,29 +117,77 @@ fn push_puts_named(text: &mut String, found: &Evidence) -> Result<(), AllocError
     }
 }
 
+/// Whether a call puts the item or gets it.
+fn moves(effect: Effect, item: u32) -> bool
+    ensures { result ≡ specs.moves item effect }
+{
+    match effect {
+        Effect::Adds(other) | Effect::Takes(other) => item == other,
+        _ => false,
+    }
+}
+
+/// Whether a call is another one than the get, and puts the item that this got, or gets it.
+fn is_other(history: &History, get: usize, number: usize) -> bool
+    ensures { result ≡ specs.is_other history.now get number }
+{
+    let item = taken(effect_at(history, get));
+    number != get && moves(effect_at(history, number), item)
+}
+
+/// Returns the other calls that put or got the item that a call got, by rising number.
+pub fn others_of(alloc: Global, history: &History, get: usize) -> Result<Vec<usize>, AllocError>
+    ensures { IfOk result (λ calls. calls.items ≡ others history.now get) }
+{
+    let mut calls = Vec::new(alloc);
+    for number in 0..history.calls().len() {
+        if is_other(history, get, number) {
+            calls.push(number)?;
+        }
+    }
+    Ok(calls)
+}
+
+/// Adds the line of a get, and those of the first others that put or got its item.
+fn push_moves(
+    alloc: Global,
+    text: &mut String,
+    history: &History,
+    logged: &[LoggedCall],
+    get: usize,
+) -> Result<(), AllocError>
+    ensures { OnOk result (string_bytes text.new ≡ string_bytes text.old
+        ++ (call_line logged.now history.now get
+        ++ call_lines logged.now history.now (take 31 (others history.now get)))) }
+{
+    let others = others_of(alloc, history, get)?;
+    push_call(text, history, logged, get)?;
+    push_calls(text, history, logged, others.as_slice())
+}
+
 /// Adds a line for each of the first 32 calls that the evidence names.
 fn push_named(
+    alloc: Global,
     text: &mut String,
     history: &History,
     logged: &[LoggedCall],
     found: &Evidence,
 ) -> Result<(), AllocError>
     ensures { OnOk result (string_bytes text.new
-        ≡ string_bytes text.old ++ call_lines logged.now history.now (take 32 (named found.now))) }
+        ≡ string_bytes text.old ++ call_lines logged.now history.now (take 32 (named history.now found.now))) }
 {
     match found {
-        Evidence::NeverPut(get) | Evidence::TakenTwice(get) => push_call(
-            text, history, logged, *get,
-        ),
+        Evidence::NeverPut(get) => push_call(text, history, logged, *get),
+        Evidence::TakenTwice(get) => push_moves(alloc, text, history, logged, *get),
         Evidence::NotEmpty { empty, puts } => {
             push_call(text, history, logged, *empty)?;
-            push_puts(text, history, logged, puts.as_slice())
+            push_calls(text, history, logged, puts.as_slice())
         }
         Evidence::TooYoung { get, puts } => {
             push_call(text, history, logged, *get)?;
-            push_puts(text, history, logged, puts.as_slice())
+            push_calls(text, history, logged, puts.as_slice())
         }
-        Evidence::TakenTooSoon(get) => push_call(text, history, logged, *get),
+        Evidence::TakenTooSoon(get) => push_moves(alloc, text, history, logged, *get),
         Evidence::ItemsLeft(empty) => push_call(text, history, logged, *empty),
         Evidence::OlderLeft { get, .. } => push_call(text, history, logged, *get),
     }
@@ -120,6 +195,7 @@ fn push_named(
 
 /// Adds the evidence in a line, and a line for each of the first 32 calls that it names.
 pub(crate) fn push_reasons(
+    alloc: Global,
     text: &mut String,
     history: &History,
     logged: &[LoggedCall],
@@ -128,8 +204,8 @@ pub(crate) fn push_reasons(
     ensures { OnOk result (string_bytes text.new
         ≡ string_bytes text.old ++ reason_lines logged.now history.now found.now) }
 {
-    push_reason(text, history, found)?;
+    push_reason(text, history, logged, found)?;
     push_puts_named(text, found)?;
     text.push('\n')?;
-    push_named(text, history, logged, found)
+    push_named(alloc, text, history, logged, found)
 }

@@ -8,7 +8,9 @@ use Rattle.kfifo_machine.specs.Machine.{word_at}
 use Rattle.kfifo_machine.proofs.Sound.{sound_ends}
 use Rattle.kfifo_live.proofs.Types.{Event, Opening, Part, View}
 use Rattle.kfifo_machine.specs.Runs.{Begins}
-use Rattle.kfifo_live.specs.Schedule.{world_after, seen_of, AllBegin, OneSchedule}
+use Rattle.kfifo_live.specs.Hands.{Gifts}
+use Rattle.kfifo_live.specs.Payloads.{EndsIn, PayPassView}
+use Rattle.kfifo_live.specs.Schedule.{world_after, gifts_of, seen_of, AllBegin, AllGiven, OneSchedule}
 use Rattle.kfifo_live.specs.Left.{items_left}
 use Rattle.kfifo_live.specs.Balance.{times, undos, takes}
 use Rattle.kfifo_live.specs.Pass.{OpenQueue, PassView, IsPass, AllSeen, IsJoined, Closes}
@@ -24,12 +26,25 @@ pub all_begin_parts : {T : Type 0} (xs ys : List (Part T)) (all : List Event) �
 all_begin_parts [] ys all b = (tt, b)
 all_begin_parts (x ∷ xs) ys all b = let r = all_begin_parts xs ys all b.1 in ((b.0, r.0), r.1)
 
+pub all_given_parts : {T : Type 0} (xs ys : List (Part T)) (gifts : Gifts T) → AllGiven (xs ++ ys) gifts → AllGiven xs gifts × AllGiven ys gifts
+all_given_parts [] ys gifts g = (tt, g)
+all_given_parts (x ∷ xs) ys gifts g = let r = all_given_parts xs ys gifts g.1 in ((g.0, r.0), r.1)
+
 -- the one part of a pass
 pub pass_begins : {T : Type 0} (thread : ℕ) (me : Me (Option T) (View T)) (p : PassView) (all : List Event) → IsPass thread me
     → p.thread ≡ thread → p.seen ≡ seen_of me.0 → AllBegin me.0.parts all → Begins p.thread p.seen all
 pass_begins {T} thread me p all is same_thread same_seen b =
     let one = subst (λ (ps : List (Part T)). AllBegin ps all) is.alone b in
     subst (λ (x : ℕ × List Event). Begins x.0 x.1 all) (λ i. (sym same_thread i, sym same_seen i)) one.0
+
+pub pass_ends : {T : Type 0} (thread : ℕ) (me : Me (Option T) (View T)) (p : PayPassView T) (all : List Event) (gifts : Gifts T)
+    → IsPass thread me → p.pass.thread ≡ thread → p.pass.seen ≡ seen_of me.0 → p.gifts ≡ gifts_of me.0 → AllBegin me.0.parts all
+    → AllGiven me.0.parts gifts → EndsIn all gifts p
+pass_ends {T} thread me p all gifts is same_thread same_seen same_gifts b g =
+    let one = (subst (λ (ps : List (Part T)). AllGiven ps gifts) is.alone g).0 in (
+      pass_begins thread me p.pass all is same_thread same_seen b,
+      (one.0, one.1 ∙ ap (λ gs. gs ++ one.0) (sym same_gifts)),
+    )
 
 pub closes : {T : Type 0} (q : OpenQueue) (ps : List PassView) (items table_words : List ℕ) (slots : List (Option T)) (key : Opening)
     (id : ℕ) (v w : View T) (rest : List PassView) (last : PassView)

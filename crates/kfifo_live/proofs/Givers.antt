@@ -1,11 +1,11 @@
 -- Which enqueue put the word that stands in a slot: where the holder law is kept, the one that last began with its item.
 use Rattle.std.proofs.Common.{◌≡◌, ◌≢◌, ◌⊎◌, ℕ, zero, suc, ◌+◌, ◌*◌, ◌<◌, ◌≤◌, List, [], ◌∷◌, ◌++◌, map, get_or, replicate, append_assoc}
-use Rattle.std.proofs.Common.{Option, Some, None, Ok, Bool, true, false, refl, sym, ap, ◌∙◌, subst, inl, inr, arith, cond, eqb, eq-eqb}
-use Rattle.std.proofs.Common.{ne_eqb, eqb-true}
+use Rattle.std.proofs.Common.{Option, Some, None, Ok, Bool, true, false, refl, sym, ap, ◌∙◌, subst, inl, inr, arith, cond, eq-eqb}
+use Rattle.std.proofs.Common.{ne_eqb}
 use Rattle.std.specs.Prelude.{◌==◌}
 use Rattle.std.proofs.lemmas.Bool.{cases_eq}
 use Rattle.std.proofs.lemmas.Bool.Decides.{nat_tests}
-use Rattle.std.proofs.lemmas.List.{append-nil, map-append}
+use Rattle.std.proofs.lemmas.List.{append-nil}
 use Rattle.kfifo_live.proofs.Types.{Answer, Begin, EnqueuePhase, Event, Next, Opening, Running, Shape}
 use Rattle.kfifo_words.specs.Words.{value_of}
 use Rattle.kfifo_words.specs.Ring.{clock_at}
@@ -20,7 +20,7 @@ use Rattle.kfifo_machine.specs.declared.place.Running.TheVariants as R
 use Rattle.kfifo_machine.specs.declared.place.Next.TheVariants.{Goes, Answers}
 use Rattle.kfifo_machine.specs.declared.place.Access.TheVariants.{Exchange}
 use Rattle.kfifo_machine.specs.Program.{access, accessed, advance, emptied, enqueue_advance, filled_with}
-use Rattle.kfifo_machine.specs.Machine.{World, opening, moved, found, word_at, place_of, place_after, outcome_of, begun, may_begin}
+use Rattle.kfifo_machine.specs.Machine.{World, opening, found, word_at, place_of, place_after, outcome_of, begun, may_begin}
 use Rattle.kfifo_machine.specs.Machine.{world_of, step, run}
 use Rattle.kfifo_machine.specs.Runs.{event, own, going, AllGoOn, CompleteExecution}
 use Rattle.kfifo_machine.specs.Places.{IsPlace}

@@ -6,7 +6,7 @@ use Rattle.kfifo_words.specs.Words.{value_of}
 use Rattle.kfifo_words.specs.Ring.{clock_at}
 use Rattle.kfifo_machine.specs.declared.event.Begin.TheVariants as B
 use Rattle.kfifo_machine.specs.declared.place.Running.TheVariants as R
-use Rattle.kfifo_machine.specs.Machine.{World, opening, word_at, place_of, world_of, step, run}
+use Rattle.kfifo_machine.specs.Machine.{World, word_at, place_of, world_of, step, run}
 use Rattle.kfifo_machine.specs.Runs.{going}
 use Rattle.kfifo_machine.specs.Tokens.{AllBeginFree, BeginsFree, IsHeld, IsInSlot, held_at, held_in}
 use Rattle.kfifo_machine.proofs.Schedules.{Some-injective, first_made}

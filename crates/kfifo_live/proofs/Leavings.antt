@@ -10,7 +10,7 @@ use mathlib.Core.Option.{some, some-ne-none, some-injective}
 use lib.ListN.{get_elem?}
 use Rattle.atomic_table.specs.Table.{Me, State, Final, Seen}
 use Rattle.atomic_table.specs.Seated.{TableId}
-use Rattle.kfifo_live.proofs.Types.{Event, Opening, Part, Running, Shape, View}
+use Rattle.kfifo_live.proofs.Types.{Event, Opening, Running, Shape, View}
 use Rattle.kfifo_words.specs.Words.{value_of, head_of}
 use Rattle.kfifo_words.specs.Ring.{clock_at, next_segment, slot_at}
 use Rattle.std.specs.List.{AllByRecursion}
@@ -21,10 +21,10 @@ use Rattle.kfifo_live.specs.Balance.{times, undos, takes}
 use Rattle.kfifo_live.specs.Hands.{Gifts, In, beside}
 use Rattle.kfifo_live.specs.Left.{item_in, slots_left, segments_left, items_left}
 use Rattle.kfifo_live.specs.Pass.{OpenQueue}
-use Rattle.kfifo_live.specs.Payloads.{HavePayloads, IsPayPass, PayCloses, in_slot, pay_pass_view}
-use Rattle.kfifo_live.specs.Schedule.{AllGiven, OneSchedule, seen_of, world_after}
+use Rattle.kfifo_live.specs.Payloads.{HavePayloads, IsPayPass, PayCloses, PayJoins, PayPassView, in_slot, pay_pass_view}
+use Rattle.kfifo_live.specs.Schedule.{OneSchedule, gifts_of, seen_of, world_after}
 use Rattle.kfifo_live.proofs.Balance.{balance}
-use Rattle.kfifo_live.proofs.Gathered.{final_head, pass_begins}
+use Rattle.kfifo_live.proofs.Gathered.{final_head, pass_ends}
 use Rattle.kfifo_live.proofs.Givers.{was_put, who_put}
 use Rattle.kfifo_live.proofs.Hands.{within_list}
 use Rattle.kfifo_live.proofs.Leftovers.{filled_item}
@@ -233,9 +233,9 @@ threads_are o seen here reached =
     still_threads o.shape (opening o.shape o.threads) here seen reached ∙ length-replicate o.threads idle
 
 module _ {T : Type 0} (q : OpenQueue) (table : TableId) {thread room id : ℕ} {me : Me (Option T) (View T)} {at_home words : List ℕ}
-    (slots : List (Option T)) (p : IsPayPass thread me at_home room)
-    (same : me.0.opened ≡ q.opened) (f : Final
-    (Seen (λ (s : State (Option T) (View T)). OneSchedule q.opened s.words s.homes s.views) id me.0) words slots) where
+    (slots : List (Option T)) (others : List (PayPassView T)) {w : View T} (p : IsPayPass thread me at_home room)
+    (same : me.0.opened ≡ q.opened) (joined : PayJoins me.0 others w) (f : Final
+    (Seen (λ (s : State (Option T) (View T)). OneSchedule q.opened s.words s.homes s.views) id w) words slots) where
   kept : OneSchedule q.opened f.0.words f.0.homes f.0.views
   kept = f.1.0
 
@@ -250,7 +250,7 @@ module _ {T : Type 0} (q : OpenQueue) (table : TableId) {thread room id : ℕ} {
   tokens = items_left q.opened.shape words
 
   head : head_of (get_or words 0 0) < q.opened.shape.n
-  head = final_head slots words q.opened id me.0 f
+  head = final_head slots words q.opened id w f
 
   -- the filled slot with an index
   filled_slot : (i : ℕ) → 0 < i → i < clock_at q.opened.shape.k q.opened.shape.n → value_of (get_or words i 0) ≢ 0
@@ -297,16 +297,17 @@ module _ {T : Type 0} (q : OpenQueue) (table : TableId) {thread room id : ℕ} {
   left_payloads = have_payloads slots kept.gifts tokens all_filled tokens_once
 
   pub pay_closes : (payloads : List T) → map Some payloads ≡ map (in_slot slots) (items_left q.opened.shape words)
-      → PayCloses q (pay_pass_view table thread me.0) payloads
+      → PayCloses q (pay_pass_view table thread me.0) others payloads
   unfolding kept tokens
   pay_closes payloads are =
       let o = q.opened in
       let few = subst (λ (x : Opening). x.threads ≤ 64) same p.pass.few.0 in
-      let fit = kept.fit id me.0 f.1.1 in
+      let fit = kept.fit id w f.1.1 in
       let seen = seen_of me.0 in
-      let b : Begins thread seen kept.all = pass_begins thread me
-      record { table = table; opened = me.0.opened; thread = thread; seen = seen } kept.all p.pass refl refl fit.begin in
-      let given = (subst (λ (ps : List (Part T)). AllGiven ps kept.gifts) p.pass.alone fit.given).0 in
+      let parts = joined.all_end kept.all kept.gifts fit.begin fit.given in
+      let ended : Begins thread seen kept.all × ((later : Gifts T) × (kept.gifts ≡ gifts_of me.0 ++ later)) =
+      pass_ends thread me (pay_pass_view table thread me.0) kept.all kept.gifts p.pass refl refl refl parts.0.0 parts.0.1 in
+      let b : Begins thread seen kept.all = ended.0 in
       let tokens_are : items_left o.shape words ≡ items_left o.shape kept.world.words = ap (items_left o.shape) words_are in
       record {
         all = kept.all;
@@ -314,7 +315,7 @@ module _ {T : Type 0} (q : OpenQueue) (table : TableId) {thread room id : ℕ} {
         world = kept.world;
         tokens = items_left o.shape words;
         reached = kept.runs;
-        begin = b;
+        ends = (ended, parts.1);
         alone = λ one.
             let here = p.pass.idle.here in
             let reached : world_after o seen ≡ Some here = ap (λ (x : Opening). world_after x seen) (sym same) ∙ p.pass.idle.reached in
@@ -328,7 +329,6 @@ module _ {T : Type 0} (q : OpenQueue) (table : TableId) {thread room id : ℕ} {
             b.goes_on ∙ ap (λ es. seen ++ es) none ∙ append-nil seen;
         in_turn = kept.in_turn.in_turn;
         holder_law = kept.in_turn.holder_law some_tokens;
-        given = given;
         tokens_are = tokens_are;
         payloads_are = are ∙ gifts_are slots kept.gifts tokens all_filled;
         were_put = λ i above below filled. was_put o kept.all kept.gifts i (word_at kept.world i) (value_of (word_at kept.world i))

@@ -29,3 +29,4 @@ pub mod Pays
 pub mod Pools
 pub mod Spreads
 pub mod Handled
+pub mod Striding

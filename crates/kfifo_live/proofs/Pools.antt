@@ -1,14 +1,15 @@
 -- A pass that lays a token down or picks one up.
 use Rattle.std.proofs.Common.{◌≡◌, ◌≢◌, ℕ, zero, suc, ◌+◌, ◌-◌, ◌<◌, List, [], ◌∷◌, ◌++◌, ◌≤◌, ◌*◌, length, get_or, drop, Option, refl, sym}
 use Rattle.std.proofs.Common.{ap, ◌∙◌, subst, ⊎_elim, arith, suc-mul}
-use Rattle.std.specs.Prelude.{◌⊎◌}
+use Rattle.std.specs.Prelude.{◌⊎◌, true}
 use Rattle.std.proofs.lemmas.List.{append-nil}
+use Rattle.std.proofs.lemmas.List.Elements.{All-cons, All-nil}
 use Rattle.atomic_table.specs.Perched.{Roost}
 use Rattle.atomic_table.specs.Table.{Me}
 use Rattle.atomic_table.specs.Seated.{TableId}
 use Rattle.kfifo_live.proofs.Types.{Opening, View}
 use Rattle.kfifo_live.specs.Schedule.{hand_of, resting_view, IsSeated, count_up, with_home, with_resting, less_next}
-use Rattle.kfifo_live.specs.Payloads.{IsPool, pool_for}
+use Rattle.kfifo_live.specs.Payloads.{IsPool, LaysDown, LaysDownAtMost, PayPassView, PicksUpAtMost, pool_for}
 
 -- the word at a place is of the token with its number
 pub pool_at : {T : Type 0} (table : TableId) (o : Opening) (first : ℕ) (ps : List (Roost (View T))) (i : ℕ) (p : Roost (View T))
@@ -98,3 +99,42 @@ module _ {T : Type 0} where
       ∙ (λ i. (with_resting (m i).0 (resting_view (m i).0.opened token), (m i).1))
       ∙ (λ i. (with_home old.0 ((ap (λ xs. token ∷ drop 1 xs) home ∙ sym home) i), old.1))
       ∙ (λ i. (sym seated i, old.1))
+
+module _ {T : Type 0} where
+  -- no token was found, and one more was
+  pub picks_none : (most : ℕ) (p : PayPassView T) → PicksUpAtMost most 0 p p
+  picks_none most p = record {
+    tokens = [];
+    found_are = refl;
+    few = omega arith;
+    positive = All-nil (λ token. 0 < token);
+    more = refl;
+    same_pass = refl;
+    same_gifts = refl;
+  }
+
+  pub picks_more : (most found token : ℕ) (old mid new : PayPassView T) → most ≢ 0 → 0 < token → PicksUpAtMost (most - 1) found old mid
+      → new.tokens ≡ token ∷ mid.tokens → new.pass ≡ mid.pass → new.gifts ≡ mid.gifts → PicksUpAtMost most (found + 1) old new
+  picks_more most found token old mid new some above p tokens pass gifts = record {
+    tokens = token ∷ p.tokens;
+    found_are = let e = p.found_are in omega arith;
+    few = let e = p.few in omega arith;
+    positive = All-cons (λ x. 0 < x) token p.tokens above p.positive;
+    more = tokens ∙ ap (λ xs. token ∷ xs) p.more;
+    same_pass = pass ∙ p.same_pass;
+    same_gifts = gifts ∙ p.same_gifts;
+  }
+
+  -- none was laid down, and one more was
+  pub lays_none : (most : ℕ) (p : PayPassView T) → LaysDownAtMost most p p
+  lays_none most p = record { tokens = []; few = omega arith; fewer = refl; same_pass = refl; same_gifts = refl }
+
+  pub lays_more : (most : ℕ) (old mid new : PayPassView T) → 0 < most → LaysDown true old mid → LaysDownAtMost (most - 1) mid new
+      → LaysDownAtMost most old new
+  lays_more most old mid new some laid p = record {
+    tokens = laid.0 ∷ p.tokens;
+    few = let e = p.few in omega arith;
+    fewer = laid.1 ∙ ap (λ xs. laid.0 ∷ xs) p.fewer;
+    same_pass = p.same_pass ∙ laid.2;
+    same_gifts = p.same_gifts ∙ laid.3;
+  }

@@ -1,7 +1,8 @@
 -- A queue of owned payloads and its passes, as callers see them, and what a call with a payload does.
 use Rattle.std.specs.Prelude.{Bool, true, false, ◌<◌, ◌≤◌, ◌≡◌, ◌≢◌, ℕ, zero, suc, ◌+◌, ◌-◌, ◌*◌, List, [], ◌∷◌, ◌++◌}
-use Rattle.std.specs.Prelude.{Option, Some, None, get_or, length, map, reverse}
+use Rattle.std.specs.Prelude.{All, Option, Some, None, get_or, length, map, reverse}
 use Rattle.kfifo_live.specs.declared.payload_opening.TheConstants.{MAX_TOKENS}
+use Rattle.std.specs.List.{AllByRecursion}
 use Rattle.atomic_table.specs.Table.{Me}
 use Rattle.atomic_table.specs.Perched.{Roost}
 use Rattle.atomic_table.specs.Seated.{TableId}
@@ -10,7 +11,6 @@ use Rattle.kfifo_words.specs.Words.{value_of}
 use Rattle.kfifo_words.specs.Ring.{clock_at}
 use Rattle.kfifo_model.specs.declared.calls.Answer.{Answer}
 use Rattle.kfifo_model.specs.declared.calls.Answer.TheVariants as A
-use Rattle.kfifo_machine.specs.declared.event.Begin.{Begin}
 use Rattle.kfifo_machine.specs.declared.event.Begin.TheVariants as B
 use Rattle.kfifo_machine.specs.declared.event.Event.{Event}
 use Rattle.kfifo_machine.specs.declared.place.DequeuePhase.TheVariants as D
@@ -29,7 +29,7 @@ use Rattle.kfifo_live.specs.Balance.{times, puts, undos, takes}
 use Rattle.kfifo_live.specs.Left.{items_left}
 use Rattle.kfifo_live.specs.Promise.{KeepsPromise}
 use Rattle.kfifo_live.specs.Schedule.{GiftsFit, HolderLaw, count_up, seen_of, gifts_of, hand_of, world_after}
-use Rattle.kfifo_live.specs.Schedule.{resting_view}
+use Rattle.kfifo_live.specs.Schedule.{resting_view, AllBegin, AllGiven}
 use Rattle.kfifo_live.specs.Pass.{PassView, OpenQueue, IsPass, pass_view}
 use Rattle.kfifo_live.specs.Calls.{MakesCall}
 
@@ -198,6 +198,26 @@ module _ {T : Type 0} where
       × (new.gifts ≡ old.gifts)
   PicksUp false old new = new ≡ old
 
+  -- What picking up at most so many tokens did, and how many it found: the pass has them more, and uses them before its
+  -- others. It is no event, and nothing more was seen
+  pub record PicksUpAtMost (most found : ℕ) (old new : PayPassView T) : Type 0 where
+    pub tokens : List ℕ
+    pub found_are : found ≡ length tokens
+    pub few : found ≤ most
+    pub positive : All (λ token. 0 < token) tokens
+    pub more : new.tokens ≡ tokens ++ old.tokens
+    pub same_pass : new.pass ≡ old.pass
+    pub same_gifts : new.gifts ≡ old.gifts
+
+  -- What laying down at most so many tokens did: the pass has those fewer that it would have used next. It is no event,
+  -- and nothing more was seen
+  pub record LaysDownAtMost (most : ℕ) (old new : PayPassView T) : Type 0 where
+    pub tokens : List ℕ
+    pub few : length tokens ≤ most
+    pub fewer : old.tokens ≡ tokens ++ new.tokens
+    pub same_pass : new.pass ≡ old.pass
+    pub same_gifts : new.gifts ≡ old.gifts
+
   -- what the slot of a token holds
   abbrev pub in_slot : List (Option T) → ℕ → Option T
   in_slot slots token = get_or slots (token - 1) None
@@ -209,21 +229,32 @@ module _ {T : Type 0} where
       ((0 < token) × (token ≤ length slots) × ((payload : T) × (in_slot slots token ≡ Some payload))
       × (times token tokens ≡ 0)) × HavePayloads slots tokens
 
-  -- What is left at the end: there is one schedule, which begins with what the pass has seen and has no further event
-  -- of it, and the payloads are the last ones given with the tokens in the filled slots after it, which are those of
-  -- the enqueues that put them. Where the pass is the only one, it is what the pass has seen. No token is lost and none
-  -- comes twice, and that schedule keeps the promise
-  pub record PayCloses (q : OpenQueue) (p : PayPassView T) (payloads : List T) : Type 0 where
+  -- this schedule begins with what the pass has seen and has no further event of it, and so do the gifts
+  abbrev pub EndsIn : List Event → Gifts T → PayPassView T → Type 0
+  EndsIn all gifts p = Begins p.pass.thread p.pass.seen all × ((later : Gifts T) × (gifts ≡ p.gifts ++ later))
+
+  -- the view w has the parts of v, and what was seen by these passes: a schedule which all parts begin, they have all
+  -- seen
+  pub record PayJoins (v : View T) (ps : List (PayPassView T)) (w : View T) : Type 0 where
+    pub opened : w.opened ≡ v.opened
+    pub all_end : (all : List Event) (gifts : Gifts T) → AllBegin w.parts all → AllGiven w.parts gifts
+        → (AllBegin v.parts all × AllGiven v.parts gifts) × AllByRecursion (EndsIn all gifts) ps
+
+  -- What is left at the end: there is one schedule, which begins with what each of these passes has seen and has no
+  -- further event of them, and the payloads are the last ones given with the tokens in the filled slots after it, which
+  -- are those of the enqueues that put them. Where the first pass is the only one, it is what that has seen. No token
+  -- is lost and none comes twice, and that schedule keeps the promise
+  pub record PayCloses (q : OpenQueue) (p : PayPassView T) (others : List (PayPassView T)) (payloads : List T)
+      : Type 0 where
     pub all : List Event
     pub gifts : Gifts T
     pub world : World
     pub tokens : List ℕ
     pub reached : world_after q.opened all ≡ Some world
-    pub begin : Begins p.pass.thread p.pass.seen all
+    pub ends : AllByRecursion (EndsIn all gifts) (p ∷ others)
     pub alone : q.opened.threads ≡ 1 → all ≡ p.pass.seen
     pub in_turn : InTurn all gifts
     pub holder_law : HolderLaw q.opened all
-    pub given : (later : Gifts T) × (gifts ≡ p.gifts ++ later)
     pub tokens_are : tokens ≡ items_left q.opened.shape world.words
     pub payloads_are : map Some payloads ≡ map (λ token. beside token gifts) tokens
     pub were_put : (index : ℕ) → 0 < index → index < clock_at q.opened.shape.k q.opened.shape.n

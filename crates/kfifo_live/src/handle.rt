@@ -4,7 +4,7 @@ ghost use Rattle.kfifo_machine.specs.declared.event.Begin.TheVariants.{Enqueue, 
 ghost use Rattle.kfifo_live.specs.Promise.{KeepsPromise};
 ghost use Rattle.kfifo_live.specs.Pass.{IsPassOf, IsSamePass};
 ghost use Rattle.kfifo_live.specs.Calls.{IsDisturbed, MakesCall};
-ghost use Rattle.kfifo_live.specs.Handles.{Held, enough_turns, first_of, further};
+ghost use Rattle.kfifo_live.specs.Handles.{Held, cycle_at, enough_turns, first_of, further};
 
 use crate::queue::{Pass, Queue};
 use crate::round_robin::RoundRobin;
@@ -13,8 +13,9 @@ use std::marker::Model;
 
 /// A pass that chooses the starts and the rounds of its calls.
 ///
-/// Each enqueue begins its scan one slot further than the enqueue before it, and so do dequeues, apart from enqueues. A
-/// call makes up to n + 2 rounds, n being the number of segments, so Busy is always another thread's doing.
+/// Each enqueue begins its scan a stride further than the enqueue before it, and so do dequeues, apart from enqueues:
+/// as `RoundRobin::spread` says. A call makes up to n + 2 rounds, n being the number of segments, so Busy is always
+/// another thread's doing.
 ///
 /// ```rust
 /// let mut handle = Handle::new(&queue, pass);
@@ -36,15 +37,15 @@ impl Model for Handle {
 
     ghost view = { λ h. record { pass = h.pass; enqueue_start = h.enqueues.start; dequeue_start = h.dequeues.start } };
 
-    ghost invariant = { λ h. (h.enqueues.k ≡ h.pass.opened.shape.k) × (h.dequeues.k ≡ h.pass.opened.shape.k)
-        × (h.turns ≡ h.pass.opened.shape.n + 2) };
+    ghost invariant = { λ h. (h.enqueues ≡ cycle_at h.pass h.enqueues.start)
+        × (h.dequeues ≡ cycle_at h.pass h.dequeues.start) × (h.turns ≡ h.pass.opened.shape.n + 2) };
 }
 
 /// The starts of the calls of a pass: where there are no more threads than slots, each thread begins at a slot of its
 /// own.
 fn starts_of(queue: &Queue, pass: &Pass) -> RoundRobin
     requires { IsPassOf queue.now pass.now }
-    ensures { result ≡ record { k = pass.now.opened.shape.k; start = first_of pass.now } }
+    ensures { result ≡ cycle_at pass.now (first_of pass.now) }
 {
     RoundRobin::spread(pass.thread, queue.threads, queue.shape.k)
 }

@@ -1,16 +1,24 @@
 //! Calls of a queue of owned payloads with nothing to choose.
-ghost use Rattle.std.specs.Prelude.{◌≡◌, ◌<◌, ◌≤◌, ◌+◌, Bool};
+ghost use Rattle.std.specs.Prelude.{◌≡◌, ◌<◌, ◌≤◌, ◌+◌, ℕ};
 ghost use Rattle.kfifo_live.specs.Calls.{IsDisturbed};
 ghost use Rattle.kfifo_live.specs.Promise.{KeepsPromise};
 ghost use Rattle.kfifo_live.specs.Pass.{IsPassOf, IsSamePass};
-ghost use Rattle.kfifo_live.specs.Payloads.{LaysDown, PicksUp};
-ghost use Rattle.kfifo_live.specs.Handles.{PayHeld, PicksUpAndGives, TakesAndLaysDown, first_of, further, one_more};
+ghost use Rattle.kfifo_live.specs.Payloads.{LaysDownAtMost, PicksUpAtMost};
+ghost use Rattle.kfifo_live.specs.Handles.{PayHeld, PicksUpAndGives, TakesAndLaysDown, batch_size, cycle_at, first_of};
+ghost use Rattle.kfifo_live.specs.Handles.{further, one_more};
 
 use crate::payload::{Given, PayPass, PayQueue, Taken};
 use crate::round_robin::RoundRobin;
 use std::marker::Model;
 
+/// The most tokens that a handle moves at a time between its pass and the pool of the queue.
+pub const BATCH: u32 = 16;
+
 /// A pass of a payload queue that chooses the starts and the rounds of its calls, as `Handle` does.
+///
+/// It also moves tokens to and from the pool of the queue, a batch at a time: 16, or the tokens of a pass divided by the
+/// number of passes where that is less, but 1 at least. So the other handles keep fewer tokens beyond their own than a
+/// pass has, and a handle that only gives finds some as long as others take what it gave.
 ///
 /// ```rust
 /// if let Taken::Got(text) = self.handle.take(queue) {
@@ -25,6 +33,9 @@ pub struct PayHandle<T: Drop> {
     gives: RoundRobin,
     takes: RoundRobin,
     turns: u16,
+    batch: u32,
+    /// With so many tokens the pass has a batch more than it was opened with.
+    too_many: usize,
     shortages: u64,
     surpluses: u64,
 }
@@ -40,16 +51,28 @@ impl<T: Drop> Model for PayHandle<T> {
       surpluses = h.surpluses;
     } };
 
-    ghost invariant = { λ h. (h.gives.k ≡ h.pass.pass.opened.shape.k) × (h.takes.k ≡ h.pass.pass.opened.shape.k)
-        × (h.turns ≡ h.pass.pass.opened.shape.n + 2) };
+    ghost invariant = { λ h. (h.gives ≡ cycle_at h.pass.pass h.gives.start)
+        × (h.takes ≡ cycle_at h.pass.pass h.takes.start) × (h.turns ≡ h.pass.pass.opened.shape.n + 2)
+        × (h.batch ≡ batch_size h.pass.pass.opened) × (h.too_many ≡ h.pass.pass.opened.tokens + h.batch) };
 }
 
 /// The starts of the calls of a pass, as `Handle` has them.
 fn starts_of<T: Drop>(queue: &PayQueue<T>, pass: &PayPass<T>) -> RoundRobin
     requires { IsPassOf queue.now pass.now.pass }
-    ensures { result ≡ record { k = pass.now.pass.opened.shape.k; start = first_of pass.now.pass } }
+    ensures { result ≡ cycle_at pass.now.pass (first_of pass.now.pass) }
 {
     RoundRobin::spread(pass.thread, queue.threads, queue.shape.k)
+}
+
+/// How many tokens a handle of the pass moves at a time.
+fn batch_of<T: Drop>(queue: &PayQueue<T>, pass: &PayPass<T>) -> u32
+    requires { IsPassOf queue.now pass.now.pass }
+    ensures { result ≡ batch_size pass.now.pass.opened }
+{
+    // The pass is of one of the queue's threads, so there is one: the divisor is not 0.
+    let _thread = pass.thread;
+    let part = queue.tokens / queue.threads;
+    BATCH.min(part).max(1)
 }
 
 impl<T: Drop> PayHandle<T> {
@@ -66,11 +89,14 @@ impl<T: Drop> PayHandle<T> {
     {
         let gives = starts_of(queue, &pass);
         let takes = starts_of(queue, &pass);
+        let batch = batch_of(queue, &pass);
         PayHandle {
             pass,
             gives,
             takes,
             turns: queue.shape.n as u16 + 2,
+            batch,
+            too_many: queue.tokens as usize + batch as usize,
             shortages: 0,
             surpluses: 0,
         }
@@ -98,44 +124,47 @@ impl<T: Drop> PayHandle<T> {
         self.shortages
     }
 
-    /// How often the pass had more tokens after a `take` than it was opened with, modulo 2^64.
+    /// How often the pass had a batch of tokens or more beyond those that it was opened with after a `take`, modulo
+    /// 2^64.
     pub fn surpluses(&self) -> u64
         ensures { result ≡ self.now.surpluses }
     {
         self.surpluses
     }
 
-    /// Picks a token up, as `PayPass::pick_up` does, and counts that.
-    // A call that moves a token is rare, and out of line it leaves the other calls short.
+    /// Picks a batch of tokens up, or as many as it finds, and counts that.
+    // A call that moves tokens is rare, and out of line it leaves the other calls short.
     #[cold]
     #[inline(never)]
     fn pick_up(&mut self, queue: &PayQueue<T>)
         requires of { IsPassOf queue.now self.old.pass.pass }
-        ensures picks { (picked : Bool) × PicksUp picked self.old.pass self.new.pass }
+        ensures picks { (found : ℕ) × PicksUpAtMost (batch_size self.old.pass.pass.opened) found self.old.pass self.new.pass }
         ensures starts { (self.new.give_start ≡ self.old.give_start) × (self.new.take_start ≡ self.old.take_start) }
         ensures counts { (self.new.shortages ≡ one_more self.old.shortages)
             × (self.new.surpluses ≡ self.old.surpluses) }
     {
         self.shortages = self.shortages.wrapping_add(1);
-        self.pass.pick_up(queue);
+        self.pass.pick_up_some(queue, self.batch);
     }
 
-    /// Lays a token down, as `PayPass::lay_down` does, and counts that.
+    /// Lays a batch of tokens down, and counts that.
     #[cold]
     #[inline(never)]
     fn lay_down(&mut self, queue: &PayQueue<T>)
         requires of { IsPassOf queue.now self.old.pass.pass }
-        ensures lays { (laid : Bool) × LaysDown laid self.old.pass self.new.pass }
+        ensures lays { LaysDownAtMost (batch_size self.old.pass.pass.opened) self.old.pass self.new.pass }
         ensures starts { (self.new.give_start ≡ self.old.give_start) × (self.new.take_start ≡ self.old.take_start) }
         ensures counts { (self.new.surpluses ≡ one_more self.old.surpluses)
             × (self.new.shortages ≡ self.old.shortages) }
     {
         self.surpluses = self.surpluses.wrapping_add(1);
-        self.pass.lay_down(queue);
+        self.pass.lay_down_some(queue, self.batch);
     }
 
-    /// Puts a payload into the queue, with a token of the pass, as `PayPass::give` does. A pass with no token picks one
-    /// up first, as `PayPass::pick_up` does.
+    /// Puts a payload into the queue, with a token of the pass, as `PayPass::give` does. A pass with no token first
+    /// picks up a batch, or as many as it finds by looks at the words of the pool in turn, from behind the one in which
+    /// it last found a token: at each word once, and at 64 more at most once it has found one. It uses the first one
+    /// found first.
     ///
     /// Returns Done, or NoToken, Full, Worn or Busy with the payload. NoToken comes exactly where the pass has no token
     /// and found none to pick up. Busy comes only where another thread won an exchange during the call. It never
@@ -158,7 +187,8 @@ impl<T: Drop> PayHandle<T> {
     }
 
     /// Takes one of the k oldest payloads out of the queue, and its token, as `PayPass::take` does. A pass that then
-    /// has more tokens than it was opened with lays one down, as `PayPass::lay_down` does.
+    /// has a batch of tokens or more beyond those that it was opened with lays a batch down, each as
+    /// `PayPass::lay_down` does.
     ///
     /// Returns Got with the payload, Empty, Worn or Busy. Busy comes only where another thread won an exchange during
     /// the call. It never allocates, waits or locks.
@@ -174,7 +204,7 @@ impl<T: Drop> PayHandle<T> {
     {
         let start = self.takes.next();
         let taken = self.pass.take(queue, start, self.turns);
-        if self.pass.tokens() > queue.tokens as usize {
+        if self.pass.tokens() >= self.too_many {
             self.lay_down(queue);
         }
         taken

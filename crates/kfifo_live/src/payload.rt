@@ -11,7 +11,7 @@ ghost use Rattle.kfifo_live.specs.Pass.{OpenQueue, queue_of, IsPassOf, IsSamePas
 ghost use Rattle.kfifo_live.specs.Payloads.{PayPassView, pay_pass_view, pay_opening, IsPool, IsPayPass, Gives};
 ghost use Rattle.kfifo_live.specs.Payloads.{TakesOut};
 
-use crate::pool_word::{Latest, PoolWord};
+use crate::pool_word::PoolWord;
 use crate::ring::Ring;
 use crate::rule::QueueRule;
 use crate::seats::{draw_token, lay_back};
@@ -32,7 +32,6 @@ pub struct PayQueue<T: Drop> {
     pub(crate) threads: u32,
     pub(crate) tokens: u32,
     pub(crate) pool: Vec<PoolWord<T>>,
-    pub(crate) latest: Latest,
 }
 
 impl<T: Drop> Model for PayQueue<T> {
@@ -57,7 +56,7 @@ pub struct PayPass<T: Drop> {
     pub(crate) thread: u32,
     pub(crate) seat: ThreadSeat<T>,
     pub(crate) at_home: Vec<u32>,
-    /// The word of the pool at which the next look at all words begins.
+    /// The word of the pool at which the next look for a token begins.
     pub(crate) look_from: usize,
 }
 

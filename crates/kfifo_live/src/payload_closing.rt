@@ -1,15 +1,18 @@
 //! Closing a queue of payloads.
-ghost use Rattle.std.specs.Prelude.{◌≡◌, ◌≤◌, [], IfOk, IsErrOf, Some, map, vec_capacity};
+ghost use Rattle.std.specs.Prelude.{◌≡◌, ◌<◌, ◌≤◌, [], All, IfOk, IsErrOf, Some, map, vec_capacity};
 ghost use Rattle.core.specs.Mem.Slots.{slots_items, slots_len, IsFull};
-ghost use Rattle.kfifo_live.specs.Pass.{IsPassOf};
-ghost use Rattle.kfifo_live.specs.Payloads.{HavePayloads, PayCloses, in_slot};
+ghost use Rattle.kfifo_live.specs.Pass.{IsPassOf, queue_of};
+ghost use Rattle.kfifo_live.specs.Payloads.{HavePayloads, PayCloses, PayJoins, in_slot};
 ghost use Rattle.kfifo_live.specs.declared.fault.CloseFault.TheVariants.{MissingPass};
 
 use crate::closing::{read_items, read_words};
 use crate::fault::CloseFault;
 use crate::payload::{PayPass, PayQueue};
+use crate::seats::join_seats;
+use crate::view::{ThreadSeat, Words};
 use atomic_table::Closed;
 use std::alloc::{AllocError, Global};
+use std::marker::Brand;
 
 /// What the slots of a closed table hold, into a list with room for it. The table's memory is given back.
 fn empty_slots<T>(
@@ -46,6 +49,29 @@ fn pick_payloads<T: Drop>(
     Ok(payloads)
 }
 
+/// A seat with the parts of all passes.
+fn join_all<T: Drop>(
+    shared: &Words<T>,
+    mut seat: ThreadSeat<T>,
+    mut passes: Vec<PayPass<T>>,
+) -> ThreadSeat<T>
+    requires table { (seat.table_id ≡ shared.now.table_id) × (0 < shared.now.table_id.words) }
+    requires of { All (λ p. IsPassOf (queue_of seat.table_id seat.me.0.opened) p.pass) passes.items }
+    ensures table { result.table_id ≡ seat.table_id }
+    ensures all { PayJoins seat.me.0 passes.items result.me.0 }
+{
+    while let Some(pass) = passes.pop() {
+        let PayPass {
+            thread: _,
+            seat: other,
+            at_home: _,
+            look_from: _,
+        } = pass;
+        join_seats::<_, Brand>(shared, &mut seat, other);
+    }
+    seat
+}
+
 impl<T: Drop> PayQueue<T> {
     /// The payloads that are left: segment by segment from the head's round the ring, within a segment by slot number.
     /// Each is the one that was given with the enqueue that put its token. The one schedule of all calls of the queue,
@@ -56,7 +82,23 @@ impl<T: Drop> PayQueue<T> {
     /// may still be anywhere, and can do nothing more.
     pub fn close(self, alloc: Global, pass: PayPass<T>) -> Result<Vec<T>, CloseFault>
         requires { IsPassOf self pass.pass }
-        ensures ok { IfOk result (λ payloads. PayCloses self pass payloads.items) }
+        ensures ok { IfOk result (λ payloads. PayCloses self pass [] payloads.items) }
+        ensures missing { ¬ IsErrOf result MissingPass }
+    {
+        self.close_with(alloc, pass, Vec::new(alloc))
+    }
+
+    /// As `close`, by several passes: the one schedule begins with what each of them has seen and has no further event
+    /// of theirs. So what one of them took is not returned again.
+    pub fn close_with(
+        self,
+        alloc: Global,
+        pass: PayPass<T>,
+        others: Vec<PayPass<T>>,
+    ) -> Result<Vec<T>, CloseFault>
+        requires pass { IsPassOf self pass.pass }
+        requires others { All (λ p. IsPassOf self p.pass) others.items }
+        ensures ok { IfOk result (λ payloads. PayCloses self pass others.items payloads.items) }
         ensures missing { ¬ IsErrOf result MissingPass }
     {
         let PayQueue {
@@ -65,7 +107,6 @@ impl<T: Drop> PayQueue<T> {
             threads,
             tokens,
             pool: _,
-            latest: _,
         } = self;
         let PayPass {
             thread: _,
@@ -75,6 +116,7 @@ impl<T: Drop> PayQueue<T> {
         } = pass;
         // The room is made first: after a refusal the table still drops what it holds.
         let slots = Vec::with_capacity(alloc, threads as usize * tokens as usize)?;
+        let seat = join_all(&table.shared, seat, others);
         let closed = table.close_with(seat);
         let words = read_words(alloc, &closed, 2 + shape.n() as usize * shape.k() as usize);
         let slots = empty_slots(closed, slots);

@@ -10,7 +10,7 @@ ghost use Rattle.kfifo_live.specs.declared.fault.OpenFault.TheVariants.{TokensOu
 use crate::fault::OpenFault;
 use crate::payload::{PayPass, PayQueue};
 use crate::payload_pool::extend_pool;
-use crate::pool_word::{Latest, PoolWord};
+use crate::pool_word::PoolWord;
 use crate::seats::give_rest;
 use crate::view::{Opening, ThreadSeat, Words};
 use atomic_table::Table;
@@ -106,7 +106,6 @@ impl<T: Drop> PayQueue<T> {
             threads,
             tokens,
             pool,
-            latest: Latest::new(),
         };
         Ok((queue, passes))
     }

@@ -2,25 +2,23 @@
 //!
 //! A token in the pool has a seat of its own, whose one part is of no thread and has that token alone. It rests on
 //! the word of the token, which is 2 while it does, and 0 else.
-//!
-//! *Hints* say where to look first: the token that was laid down last, and beside each word the token that was laid
-//! down before its own. A wrong hint costs a look, and nothing else rests on hints.
-ghost use Rattle.std.specs.Prelude.{◌≡◌, ◌<◌, ◌+◌, ◌^◌, ◌++◌, ℕ, List, [], length, IfErr, IfOk, IfSome, None};
+ghost use Rattle.std.specs.Prelude.{◌≡◌, ◌<◌, ◌≤◌, ◌+◌, ◌^◌, ◌++◌, ℕ, List, [], length, IfErr, IfOk, IfSome, None};
 ghost use Rattle.kfifo_live.specs.Schedule.{count_up, hand_of, more_in, resting_view};
 ghost use Rattle.kfifo_live.specs.Step.{IsAt};
 ghost use Rattle.kfifo_live.specs.Pass.{IsPassOf};
-ghost use Rattle.kfifo_live.specs.Payloads.{IsPool, LaysDown, PicksUp, pool_for};
+ghost use Rattle.kfifo_live.specs.Payloads.{IsPool, LaysDown, LaysDownAtMost, PicksUp, PicksUpAtMost, pool_for};
 
 use crate::payload::{PayPass, PayQueue};
-use crate::pool_word::{Latest, PoolWord};
+use crate::pool_word::PoolWord;
 use crate::rule::Opened;
 use crate::seats::{add_token, count_tokens, cut_token};
 use crate::view::{ThreadSeat, Words};
 use std::alloc::AllocError;
 use std::marker::Brand;
 
-/// How many words are looked at by hints, before all are.
-const HINTS: u32 = 8;
+/// At how many words behind the first token that it finds a pass looks for more.
+// A batch that another thread laid down lies close together, and a look at a word that another thread wrote is dear.
+const LOOKS_FOR_MORE: usize = 64;
 
 /// Adds an empty word to the pool for each of `count` tokens of the thread, the first of them `token`. The thread
 /// keeps them.
@@ -52,11 +50,10 @@ pub(crate) fn extend_pool<T, O: Opened>(
     Ok(())
 }
 
-/// Lets a token rest in its word, as the one that was laid down last. It comes back where the pool has no word for it.
+/// Lets a token rest in its word. It comes back where the pool has no word for it.
 fn rest_token<T>(
     shared: &Words<T>,
     pool: &[PoolWord<T>],
-    latest: &Latest,
     resting: ThreadSeat<T>,
     token: u32,
 ) -> Result<(), ThreadSeat<T>>
@@ -68,12 +65,7 @@ fn rest_token<T>(
     if token == 0 || token as usize > pool.len() {
         return Err(resting);
     }
-    let word = &pool[token as usize - 1];
-    let given = word.give(resting);
-    if given.is_ok() {
-        latest.push(word, token as usize);
-    }
-    given
+    pool[token as usize - 1].give(resting)
 }
 
 /// The token that rests in this word, unless there is none or another pass is faster.
@@ -87,83 +79,46 @@ fn wake_token<T>(shared: &Words<T>, pool: &[PoolWord<T>], index: usize) -> Optio
     pool[index].take()
 }
 
-/// The first token that is won by hints: by a look at the word of the token that was laid down last, then at the word
-/// of the one before it, and so on, at no more than `HINTS` words.
-fn find_latest<T>(
-    shared: &Words<T>,
-    pool: &[PoolWord<T>],
-    latest: &Latest,
-) -> Option<(u32, ThreadSeat<T>)>
-    requires pool { IsPool shared.now.table_id shared.now.key 1 pool.now }
-    requires few { length pool.now < 2 ^ 32 }
-    ensures { IfSome result (λ r. (0 < r.0) × (r.1.table_id ≡ shared.now.table_id)
-        × (r.1.me ≡ (resting_view shared.now.key r.0, []))) }
-{
-    let first = latest.token();
-    let mut token = first;
-    for _ in 0..HINTS {
-        let index = token.wrapping_sub(1);
-        if index >= pool.len() {
-            break;
-        }
-        // Read before the token is taken: once it is, another pass may lay it down again, with another hint.
-        let before = pool[index].before();
-        if let Some(resting) = wake_token(shared, pool, index) {
-            latest.change(first, before);
-            return Some((index as u32 + 1, resting));
-        }
-        token = before;
-    }
-    latest.change(first, token);
-    None
+/// A token that a pass has won, and how many words lie between the first one that it looked at and its own.
+struct Found<T> {
+    token: u32,
+    place: usize,
+    resting: ThreadSeat<T>,
 }
 
-/// The first token that is won, by one look at each word, from this one on round to it.
-#[cold]
-#[inline(never)]
+/// The first token that is won by a look at each of these words of a pool: `first` is the word from which they are
+/// counted, round the pool, `from` the first of them and `end` the one behind the last.
 fn find_token<T>(
     shared: &Words<T>,
     pool: &[PoolWord<T>],
     first: usize,
-) -> Option<(u32, ThreadSeat<T>)>
+    from: usize,
+    end: usize,
+) -> Option<Found<T>>
     requires pool { IsPool shared.now.table_id shared.now.key 1 pool.now }
     requires few { length pool.now < 2 ^ 32 }
-    ensures { IfSome result (λ r. (0 < r.0) × (r.1.table_id ≡ shared.now.table_id)
-        × (r.1.me ≡ (resting_view shared.now.key r.0, []))) }
+    ensures { IfSome result (λ r. (0 < r.token) × (r.token ≤ length pool.now) × (r.place < length pool.now)
+        × (r.resting.table_id ≡ shared.now.table_id) × (r.resting.me ≡ (resting_view shared.now.key r.token, []))) }
 {
-    for index in first..pool.len() {
-        if let Some(resting) = wake_token(shared, pool, index) {
-            return Some((index as u32 + 1, resting));
+    for place in from..end.min(pool.len()) {
+        let behind = first.wrapping_add(place);
+        let index = if behind < pool.len() {
+            behind
+        } else {
+            behind - pool.len()
+        };
+        if index >= pool.len() {
+            return None;
         }
-    }
-    for index in 0..first.min(pool.len()) {
         if let Some(resting) = wake_token(shared, pool, index) {
-            return Some((index as u32 + 1, resting));
+            return Some(Found {
+                token: index as u32 + 1,
+                place,
+                resting,
+            });
         }
     }
     None
-}
-
-/// A token that rests: one to which hints lead, or else the first that is won by one look at each word, from
-/// `look_from` on, which then is where it was found.
-fn seek_token<T>(
-    shared: &Words<T>,
-    pool: &[PoolWord<T>],
-    latest: &Latest,
-    look_from: &mut usize,
-) -> Option<(u32, ThreadSeat<T>)>
-    requires pool { IsPool shared.now.table_id shared.now.key 1 pool.now }
-    requires few { length pool.now < 2 ^ 32 }
-    ensures { IfSome result (λ r. (0 < r.0) × (r.1.table_id ≡ shared.now.table_id)
-        × (r.1.me ≡ (resting_view shared.now.key r.0, []))) }
-{
-    if let Some(found) = find_latest(shared, pool, latest) {
-        return Some(found);
-    }
-    let (token, resting) = find_token(shared, pool, *look_from)?;
-    // Tokens without a hint are often close together, as they come back in about the order in which they went.
-    *look_from = token as usize - 1;
-    Some((token, resting))
 }
 
 impl<T: Drop> PayPass<T> {
@@ -181,8 +136,7 @@ impl<T: Drop> PayPass<T> {
         };
         let shared = &queue.table.shared;
         let resting = cut_token(shared, &mut self.seat);
-        let Err(resting) = rest_token(shared, queue.pool.as_slice(), &queue.latest, resting, token)
-        else {
+        let Err(resting) = rest_token(shared, queue.pool.as_slice(), resting, token) else {
             return true;
         };
         add_token::<_, Brand>(shared, &mut self.seat, resting, token);
@@ -190,27 +144,85 @@ impl<T: Drop> PayPass<T> {
         false
     }
 
+    /// Picks up at most `most` tokens that rest in words `from` to before `end`, counted from word `first` on round the
+    /// pool. Returns how many. Behind the first one it looks at no more than 64 words. The pass uses the first one
+    /// found first, and its next look begins behind the last one.
+    fn pick_up_among<O: Opened>(
+        &mut self,
+        queue: &PayQueue<T>,
+        first: usize,
+        from: usize,
+        end: usize,
+        most: u32,
+    ) -> u32
+        requires of { IsPassOf queue.now self.old.pass }
+        requires picked { O.opened ≡ self.old.pass.opened }
+        ensures picks { PicksUpAtMost most result self.old self.new }
+    {
+        if most == 0 {
+            return 0;
+        }
+        let shared = &queue.table.shared;
+        let found = find_token(shared, queue.pool.as_slice(), first, from, end);
+        let Some(
+            Found {
+                token,
+                place,
+                resting,
+            },
+        ) = found
+        else {
+            return 0;
+        };
+        self.look_from = token as usize;
+        let last = end.min(place + 1 + LOOKS_FOR_MORE);
+        // Those behind it come first, since a pass uses first what it picked up last.
+        let more = self.pick_up_among::<O>(queue, first, place + 1, last, most - 1);
+        add_token::<_, O>(shared, &mut self.seat, resting, token);
+        // This load tells the proof that the list of tokens has room for one more.
+        count_tokens(shared, &mut self.seat);
+        self.at_home.push_reserved(token);
+        more + 1
+    }
+
+    /// Picks up at most `most` tokens from the pool of the queue, and returns how many.
+    ///
+    /// It looks at the words in turn, at each once, from behind the one in which the pass last found a token, at first
+    /// from that of its own first token. Once it has found one, it looks at 64 more at most. The pass uses the first
+    /// one found first.
+    #[cold]
+    #[inline(never)]
+    pub(crate) fn pick_up_some(&mut self, queue: &PayQueue<T>, most: u32) -> u32
+        requires of { IsPassOf queue.now self.old.pass }
+        ensures picks { PicksUpAtMost most result self.old self.new }
+    {
+        let first = self.look_from;
+        self.pick_up_among::<Brand>(queue, first, 0, queue.pool.len(), most)
+    }
+
+    /// Lays tokens down in the pool of the queue, until it has laid down `most` of them or cannot lay one down. Each is
+    /// the one that the pass would use next.
+    #[cold]
+    #[inline(never)]
+    pub(crate) fn lay_down_some(&mut self, queue: &PayQueue<T>, most: u32)
+        requires of { IsPassOf queue.now self.old.pass }
+        ensures lays { LaysDownAtMost most self.old self.new }
+    {
+        if most > 0 && self.lay_down(queue) {
+            self.lay_down_some(queue, most - 1);
+        }
+    }
+
     /// Picks a token up from the pool of the queue.
     ///
     /// Returns true where it did: the pass has one token more, and uses it next. Returns false where one look at each
-    /// word found no token that could be taken, and for a queue without a pool; then nothing changes. It looks first at
-    /// up to 8 words of tokens that were laid down last, and then at each word. That look begins where the pass last
-    /// found a token so, at first at the word of its own first token. It is no event, and the pass has seen no more
-    /// than before. It never allocates, waits or locks.
+    /// word found no token that could be taken, and for a queue without a pool; then nothing changes. It looks at the
+    /// words in turn from behind the one in which the pass last found a token, at first from that of its own first
+    /// token. It is no event, and the pass has seen no more than before. It never allocates, waits or locks.
     pub fn pick_up(&mut self, queue: &PayQueue<T>) -> bool
         requires of { IsPassOf queue.now self.old.pass }
         ensures picks { PicksUp result self.old self.new }
     {
-        let shared = &queue.table.shared;
-        let pool = queue.pool.as_slice();
-        let found = seek_token(shared, pool, &queue.latest, &mut self.look_from);
-        let Some((token, resting)) = found else {
-            return false;
-        };
-        add_token::<_, Brand>(shared, &mut self.seat, resting, token);
-        // This load tells the proof that the list of tokens has room for one more.
-        count_tokens(shared, &mut self.seat);
-        self.at_home.push_reserved(token);
-        true
+        self.pick_up_some(queue, 1) > 0
     }
 }

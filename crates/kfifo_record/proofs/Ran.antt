@@ -36,13 +36,13 @@ EachRan q first (script ∷ scripts) [] = ⊥
 EachRan q first [] (p ∷ ps) = ⊥
 EachRan q first (script ∷ scripts) (p ∷ ps) = Ran q script first p × EachRan q (suc first) scripts ps
 
-each_ran : (q : OpenQueue) (first : ℕ) (scripts : List (List Begin)) (ps : List Logged)
-    → EachMakes scripts (new_logs (new_passes q first (length scripts))) ps → EachRan q first scripts ps
-each_ran q first [] [] made = tt
-each_ran q first [] (p ∷ ps) made = made
-each_ran q first (script ∷ scripts) [] made = made
-each_ran q first (script ∷ scripts) (p ∷ ps) made =
-    let g = grown script _ p made.0 in (
+each_ran : (passed : ℕ → ℕ → Type 0) (q : OpenQueue) (first : ℕ) (scripts : List (List Begin)) (ps : List Logged)
+    → EachMakes passed scripts (new_logs (new_passes q first (length scripts))) ps → EachRan q first scripts ps
+each_ran passed q first [] [] made = tt
+each_ran passed q first [] (p ∷ ps) made = made
+each_ran passed q first (script ∷ scripts) [] made = made
+each_ran passed q first (script ∷ scripts) (p ∷ ps) made =
+    let g = grown (passed first) 1 script _ p made.0 in (
       record {
         of = (g.same.0, g.same.1);
         thread_is = g.same.2;
@@ -50,21 +50,23 @@ each_ran q first (script ∷ scripts) (p ∷ ps) made =
         mine = subst (AllByRecursion (λ c. c.thread ≡ first)) (sym g.log_is) g.mine;
         ended = subst (AllByRecursion (λ c. IsSome c.end)) (sym g.log_is) g.ended;
       },
-      each_ran q (suc first) scripts ps made.1,
+      each_ran passed q (suc first) scripts ps made.1,
     )
 
 -- by their places
-each_makes : (scripts : List (List Begin)) (olds news : List Logged) → length olds ≡ length scripts → length news ≡ length scripts
-    → ((t : ℕ) (d : Logged) → t < length scripts → MakesInTurn (get_or scripts t []) (get_or olds t d) (get_or news t d))
-    → EachMakes scripts olds news
-each_makes [] [] [] same count each = tt
-each_makes [] (old ∷ olds) news same count each = absurd (omega (arith, same))
-each_makes [] [] (new ∷ news) same count each = absurd (omega (arith, count))
-each_makes (script ∷ scripts) [] news same count each = absurd (omega (arith, same))
-each_makes (script ∷ scripts) (old ∷ olds) [] same count each = absurd (omega (arith, count))
-each_makes (script ∷ scripts) (old ∷ olds) (new ∷ news) same count each = (
+each_makes : (passed : ℕ → ℕ → Type 0) (scripts : List (List Begin)) (olds news : List Logged) → length olds ≡ length scripts
+    → length news ≡ length scripts
+    → ((t : ℕ) (d : Logged) → t < length scripts
+    → MakesInTurn (passed (get_or olds t d).pass.thread) 1 (get_or scripts t []) (get_or olds t d) (get_or news t d))
+    → EachMakes passed scripts olds news
+each_makes passed [] [] [] same count each = tt
+each_makes passed [] (old ∷ olds) news same count each = absurd (omega (arith, same))
+each_makes passed [] [] (new ∷ news) same count each = absurd (omega (arith, count))
+each_makes passed (script ∷ scripts) [] news same count each = absurd (omega (arith, same))
+each_makes passed (script ∷ scripts) (old ∷ olds) [] same count each = absurd (omega (arith, count))
+each_makes passed (script ∷ scripts) (old ∷ olds) (new ∷ news) same count each = (
   each 0 old (omega arith),
-  each_makes scripts olds news (omega (arith, same)) (omega (arith, count))
+  each_makes passed scripts olds news (omega (arith, same)) (omega (arith, count))
       (λ t d lt. each (suc t) d (omega (arith, lt))),
 )
 
@@ -81,16 +83,17 @@ long q first zero = refl
 long q first (suc count) = ap suc (long q (suc first) count)
 
 -- where each pass made the calls of the script of its thread
-pub by_threads : (shape : Shape) (scripts : List (List Begin)) (q : OpenQueue) (olds news : List Logged) → IsOpenFor shape scripts q olds
+pub by_threads : (passed : ℕ → ℕ → Type 0) (shape : Shape) (scripts : List (List Begin)) (q : OpenQueue) (olds news : List Logged) → IsOpenFor shape scripts q olds
     → length news ≡ length olds
     → ((t : ℕ) (d : Logged) → t < length olds
-    → MakesInTurn (script_of scripts (get_or olds t d).pass.thread) (get_or olds t d) (get_or news t d)) → EachMakes scripts olds news
-by_threads shape scripts q olds news opened count each =
+    → MakesInTurn (passed (get_or olds t d).pass.thread) 1 (script_of scripts (get_or olds t d).pass.thread) (get_or olds t d)
+    (get_or news t d)) → EachMakes passed scripts olds news
+by_threads passed shape scripts q olds news opened count each =
     let same : length olds ≡ length scripts = ap (λ (ps : List Logged). length ps) opened.passes_are ∙ long q 0 (length scripts) in
-    each_makes scripts olds news same (count ∙ same) (λ t d less.
+    each_makes passed scripts olds news same (count ∙ same) (λ t d less.
     let thread : (get_or olds t d).pass.thread ≡ t =
     ap (λ (ps : List Logged). (get_or ps t d).pass.thread) opened.passes_are ∙ thread_at q 0 (length scripts) t d less ∙ zero-add t in
-    subst (λ (n : ℕ). MakesInTurn (script_of scripts n) (get_or olds t d) (get_or news t d)) thread (each t d (omega (arith, less, same))))
+    subst (λ (n : ℕ). MakesInTurn (passed (get_or olds t d).pass.thread) 1 (script_of scripts n) (get_or olds t d) (get_or news t d)) thread (each t d (omega (arith, less, same))))
 
 -- ---- a pass may run its script
 
@@ -134,10 +137,10 @@ may_run shape scripts q ps opened calls few t d less =
 
 -- ---- what the passes then have
 
-ran_by : (shape : Shape) (scripts : List (List Begin)) (q : OpenQueue) (olds news : List Logged) → IsOpenFor shape scripts q olds
-    → EachMakes scripts olds news → EachRan q 0 scripts news
-ran_by shape scripts q olds news opened made =
-    each_ran q 0 scripts news (subst (λ (ps : List Logged). EachMakes scripts ps news) opened.passes_are made)
+ran_by : (passed : ℕ → ℕ → Type 0) (shape : Shape) (scripts : List (List Begin)) (q : OpenQueue) (olds news : List Logged) → IsOpenFor shape scripts q olds
+    → EachMakes passed scripts olds news → EachRan q 0 scripts news
+ran_by passed shape scripts q olds news opened made =
+    each_ran passed q 0 scripts news (subst (λ (ps : List Logged). EachMakes passed scripts ps news) opened.passes_are made)
 
 -- ---- the passes
 
@@ -148,9 +151,9 @@ all_of q first [] (p ∷ ps) ran = absurd ran
 all_of q first (script ∷ scripts) [] ran = All-nil (λ p. IsPassOf q p.pass)
 all_of q first (script ∷ scripts) (p ∷ ps) ran = All-cons (λ p. IsPassOf q p.pass) p ps ran.0.of (all_of q (suc first) scripts ps ran.1)
 
-pub all_of_queue : (shape : Shape) (scripts : List (List Begin)) (q : OpenQueue) (olds news : List Logged) → IsOpenFor shape scripts q olds
-    → EachMakes scripts olds news → All (λ p. IsPassOf q p.pass) news
-all_of_queue shape scripts q olds news opened made = all_of q 0 scripts news (ran_by shape scripts q olds news opened made)
+pub all_of_queue : (passed : ℕ → ℕ → Type 0) (shape : Shape) (scripts : List (List Begin)) (q : OpenQueue) (olds news : List Logged) → IsOpenFor shape scripts q olds
+    → EachMakes passed scripts olds news → All (λ p. IsPassOf q p.pass) news
+all_of_queue passed shape scripts q olds news opened made = all_of q 0 scripts news (ran_by passed shape scripts q olds news opened made)
 
 counted : (q : OpenQueue) (first : ℕ) (scripts : List (List Begin)) (ps : List Logged) → EachRan q first scripts ps
     → length (passes_of ps) ≡ length scripts
@@ -184,11 +187,11 @@ complete q scripts ps ran = record {
       (there q 0 scripts ps ran thread less);
 }
 
-pub complete_for : (shape : Shape) (scripts : List (List Begin)) (q : OpenQueue) (olds news : List Logged) → IsOpenFor shape scripts q olds
-    → EachMakes scripts olds news → IsComplete q.opened.threads (passes_of news)
-complete_for shape scripts q olds news opened made =
+pub complete_for : (passed : ℕ → ℕ → Type 0) (shape : Shape) (scripts : List (List Begin)) (q : OpenQueue) (olds news : List Logged) → IsOpenFor shape scripts q olds
+    → EachMakes passed scripts olds news → IsComplete q.opened.threads (passes_of news)
+complete_for passed shape scripts q olds news opened made =
     subst (λ (n : ℕ). IsComplete n (passes_of news)) (sym (ap (λ (o : Opening). o.threads) opened.opened))
-    (complete q scripts news (ran_by shape scripts q olds news opened made))
+    (complete q scripts news (ran_by passed shape scripts q olds news opened made))
 
 -- ---- the calls of all logs
 
@@ -269,26 +272,26 @@ logged q first (script ∷ scripts) (p ∷ ps) most room ran few =
     let step : suc (length scripts) * room ≡ length scripts * room + room = suc-mul (length scripts) room in
     omega (arith, rest, here, short, all, step)
 
-pub few_calls : (shape : Shape) (scripts : List (List Begin)) (q : OpenQueue) (olds ps : List Logged) (h : List Call)
-    → IsOpenFor shape scripts q olds → EachMakes scripts olds ps → Gathers q.opened ps h
+pub few_calls : (passed : ℕ → ℕ → Type 0) (shape : Shape) (scripts : List (List Begin)) (q : OpenQueue) (olds ps : List Logged) (h : List Call)
+    → IsOpenFor shape scripts q olds → EachMakes passed scripts olds ps → Gathers q.opened ps h
     → ((length scripts ≡ 0) ⊎ (64 < length scripts) → ⊥) → ((0 < length scripts) × (length scripts ≤ 64) × (1024 < longest scripts) → ⊥)
     → length h ≤ 65536
-few_calls shape scripts q olds ps h opened made gathers no_other no_more =
+few_calls passed shape scripts q olds ps h opened made gathers no_other no_more =
     let threads : length scripts ≤ 64 = elim (cases_lt 64 (length scripts)) [ inl more ↦ absurd (no_other (inr more)) | inr few ↦ few ] in
     let some : 0 < length scripts = elim (cases_lt 0 (length scripts))
     [ inl more ↦ more | inr few ↦ absurd (no_other (inl (omega (arith, few)))) ] in
     let calls : longest scripts ≤ 1024 = elim (cases_lt 1024 (longest scripts))
     [ inl more ↦ absurd (no_more (some, threads, more)) | inr few ↦ few ] in
-    let ran = ran_by shape scripts q olds ps opened made in
+    let ran = ran_by passed shape scripts q olds ps opened made in
     let all = logged q 0 scripts ps 0 1024 ran calls in
     let same = length_permutation (all_logs ps) h gathers.each_once in
     omega (arith, all, same, threads)
 
 -- The record
-pub recorded : (shape : Shape) (scripts : List (List Begin)) (q : OpenQueue) (fresh ps : List Logged) (h : List Call)
-    → IsOpenFor shape scripts q fresh → EachMakes scripts fresh ps → Gathers q.opened ps h → IsRecord shape scripts h
-recorded shape scripts q fresh ps h opened made gathers =
-    let ran = ran_by shape scripts q fresh ps opened made in
+pub recorded : (passed : ℕ → ℕ → Type 0) (shape : Shape) (scripts : List (List Begin)) (q : OpenQueue) (fresh ps : List Logged) (h : List Call)
+    → IsOpenFor shape scripts q fresh → EachMakes passed scripts fresh ps → Gathers q.opened ps h → IsRecord passed shape scripts h
+recorded passed shape scripts q fresh ps h opened made gathers =
+    let ran = ran_by passed shape scripts q fresh ps opened made in
     let g : Gathers (stamped_opening shape (length scripts) (room_for scripts)) ps h = subst (λ o. Gathers o ps h) opened.opened gathers in
     record {
       queue = q;

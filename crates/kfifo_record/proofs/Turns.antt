@@ -3,6 +3,7 @@ use Rattle.std.proofs.Common.{◌≡◌, ◌<◌, ◌+◌, ℕ, suc, take, get_o
 use Rattle.std.proofs.Common.{◌∙◌, append_assoc, append-nil, subst}
 use Rattle.std.specs.Prelude.{IsSome}
 use Rattle.std.proofs.Math.Seq.{take-suc}
+use Rattle.std.proofs.lemmas.List.{length-take}
 use Rattle.kfifo_model.specs.declared.calls.Call.{Call}
 use Rattle.std.specs.List.{AllByRecursion}
 use Rattle.kfifo_machine.specs.declared.event.Begin.{Begin}
@@ -12,19 +13,25 @@ use Rattle.kfifo_live.specs.Stamps.{Logged, stamped_call}
 use Rattle.kfifo_record.specs.Scripts.{MakesInTurn, MakesOne}
 
 -- one more call
-pub makes_more : (script : List Begin) (begin : Begin) (old middle new : Logged) → MakesInTurn script old middle → MakesOne begin middle new
-    → MakesInTurn (script ++ begin ∷ []) old new
-makes_more [] begin old middle new none one = (new, subst (λ (p : Logged). MakesOne begin p new) none one, refl)
-makes_more (first ∷ script) begin old middle new made one = (made.0, made.1, makes_more script begin made.0 middle new made.2 one)
+pub makes_more : (Passed : ℕ → Type 0) (number : ℕ) (script : List Begin) (begin : Begin) (old middle new : Logged)
+    → MakesInTurn Passed number script old middle → Passed (number + length script) → MakesOne begin middle new
+    → MakesInTurn Passed number (script ++ begin ∷ []) old new
+makes_more Passed number [] begin old middle new none passed one =
+    let here : number + 0 ≡ number = omega arith in
+    (new, subst Passed here passed, subst (λ (p : Logged). MakesOne begin p new) none one, refl)
+makes_more Passed number (first ∷ script) begin old middle new made passed one =
+    let here : number + suc (length script) ≡ suc number + length script = omega arith in
+    (made.0, made.1, made.2, makes_more Passed (suc number) script begin made.0 middle new made.3 (subst Passed here passed) one)
 
 -- so the calls of a script up to a place, and the one at it
-pub turn : (script : List Begin) (i : ℕ) (d : Begin) (old middle new : Logged) → i < length script → MakesInTurn (take i script) old middle
-    → MakesOne (get_or script i d) middle new
-    → MakesInTurn (take (i + 1) script) old new
-turn script i d old middle new less made one =
+pub turn : (Passed : ℕ → Type 0) (script : List Begin) (i : ℕ) (d : Begin) (old middle new : Logged) → i < length script
+    → MakesInTurn Passed 1 (take i script) old middle → Passed (i + 1) → MakesOne (get_or script i d) middle new
+    → MakesInTurn Passed 1 (take (i + 1) script) old new
+turn Passed script i d old middle new less made passed one =
     let e : i + 1 ≡ suc i = omega arith in
-    subst (λ (s : List Begin). MakesInTurn s old new) (sym (ap (λ (n : ℕ). take n script) e ∙ take-suc script i d less))
-    (makes_more (take i script) (get_or script i d) old middle new made one)
+    let number : i + 1 ≡ 1 + length (take i script) = omega (arith, length-take i script, less) in
+    subst (λ (s : List Begin). MakesInTurn Passed 1 s old new) (sym (ap (λ (n : ℕ). take n script) e ∙ take-suc script i d less))
+    (makes_more Passed 1 (take i script) (get_or script i d) old middle new made (subst Passed number passed) one)
 
 -- and the log has one more
 pub longer : (begin : Begin) (middle new : Logged) (n : ℕ) → MakesOne begin middle new → length middle.log ≡ n → length new.log ≡ n + 1
@@ -43,8 +50,9 @@ pub record Grown (script : List Begin) (old new : Logged) : Type 0 where
 pub then_same : (p q r : PassView) → IsSamePass p q → IsSamePass q r → IsSamePass p r
 then_same p q r a b = (b.0 ∙ a.0, b.1 ∙ a.1, b.2 ∙ a.2)
 
-pub grown : (script : List Begin) (old new : Logged) → MakesInTurn script old new → Grown script old new
-grown [] old new made = record {
+pub grown : (Passed : ℕ → Type 0) (number : ℕ) (script : List Begin) (old new : Logged) → MakesInTurn Passed number script old new
+    → Grown script old new
+grown Passed number [] old new made = record {
   calls = [];
   log_is = ap (λ (p : Logged). p.log) made ∙ sym (append-nil old.log);
   ops = refl;
@@ -52,12 +60,12 @@ grown [] old new made = record {
   ended = tt;
   same = (ap (λ (p : Logged). p.pass.table) made, ap (λ (p : Logged). p.pass.opened) made, ap (λ (p : Logged). p.pass.thread) made);
 }
-grown (begin ∷ script) old new made =
+grown Passed number (begin ∷ script) old new made =
     let next = made.0 in
-    let same = made.1.0 in
-    let stamped = made.1.1.1 in
-    let later = grown script next new made.2 in
-    let call = stamped_call old.pass.thread (op_asked begin) stamped.first stamped.last made.1.1.0 in
+    let same = made.2.0 in
+    let stamped = made.2.1.1 in
+    let later = grown Passed (suc number) script next new made.3 in
+    let call = stamped_call old.pass.thread (op_asked begin) stamped.first stamped.last made.2.1.0 in
     record {
       calls = call ∷ later.calls;
       log_is = later.log_is ∙ ap (λ log. log ++ later.calls) stamped.log_is ∙ append_assoc old.log (call ∷ []) later.calls;

@@ -1,5 +1,5 @@
 -- Scripts that threads run on a stamped queue, and the record of the run.
-use Rattle.std.specs.Prelude.{◌≡◌, ℕ, ◌^◌, ◌<◌, ◌≤◌, List, [], ◌∷◌, length, map, max, All, get_or, IsSome, Vec}
+use Rattle.std.specs.Prelude.{◌≡◌, ℕ, suc, ◌^◌, ◌<◌, ◌≤◌, List, [], ◌∷◌, length, map, max, All, get_or, IsSome, Vec}
 use Rattle.std.specs.List.{fold, AllByRecursion}
 use Rattle.kfifo_live.specs.declared.recording.TheConstants.{MAX_STAMPED_CALLS}
 use Rattle.kfifo_words.specs.declared.shape.Shape.{Shape}
@@ -42,16 +42,19 @@ room_for scripts = max 1 (longest scripts)
 abbrev pub MakesOne : Begin → Logged → Logged → Type 0
 MakesOne begin old new = IsSamePass old.pass new.pass × ((answer : Answer) × MakesStamped begin answer old new)
 
--- a pass makes the calls of a script in turn
-abbrev pub MakesInTurn : List Begin → Logged → Logged → Type 0
-MakesInTurn [] old new = new ≡ old
-MakesInTurn (begin ∷ script) old new = (next : Logged) × MakesOne begin old next × MakesInTurn script next new
+-- a pass makes the calls of a script in turn, and the gate says of each that it was passed with its number, from this one
+-- on
+abbrev pub MakesInTurn : (ℕ → Type 0) → ℕ → List Begin → Logged → Logged → Type 0
+MakesInTurn Passed number [] old new = new ≡ old
+MakesInTurn Passed number (begin ∷ script) old new = (next : Logged) × Passed number × MakesOne begin old next
+    × MakesInTurn Passed (suc number) script next new
 
--- each pass makes the calls of the script at its place
-abbrev pub EachMakes : List (List Begin) → List Logged → List Logged → Type 0
-EachMakes [] [] [] = Unit {0}
-EachMakes (script ∷ scripts) (old ∷ olds) (new ∷ news) = MakesInTurn script old new × EachMakes scripts olds news
-EachMakes scripts olds news = ⊥
+-- each pass makes the calls of the script at its place, from call number 1, and passes the gate with its thread
+abbrev pub EachMakes : (ℕ → ℕ → Type 0) → List (List Begin) → List Logged → List Logged → Type 0
+EachMakes passed [] [] [] = Unit {0}
+EachMakes passed (script ∷ scripts) (old ∷ olds) (new ∷ news) = MakesInTurn (passed old.pass.thread) 1 script old new
+    × EachMakes passed scripts olds news
+EachMakes passed scripts olds news = ⊥
 
 -- these are the passes of a queue of this shape, opened with one for each script and room for its calls, before any
 -- call
@@ -69,15 +72,15 @@ pub record MayRun (queue : OpenQueue) (scripts : List (List Begin)) (pass : Logg
   pub room : length (script_of scripts pass.pass.thread) ≤ queue.opened.calls
   pub few : queue.opened.calls ≤ MAX_STAMPED_CALLS
 
--- What the run of scripts came to: of one queue pass t made the calls of script t in turn, each between two stamps. The
--- history has them by rising first stamps, all of them ended. The calls of thread t are script t in its order, and no
+-- What the run of scripts came to: of one queue pass t made the calls of script t in turn, each between two stamps, and
+-- each with the gate passed, by its thread's and its own number. The history has them by rising first stamps, all of them ended. The calls of thread t are script t in its order, and no
 -- other thread made one. It has a legal order, and little overtakes (`Gathers`)
-pub record IsRecord (shape : Shape) (scripts : List (List Begin)) (h : List Call) : Type 0 where
+pub record IsRecord (passed : ℕ → ℕ → Type 0) (shape : Shape) (scripts : List (List Begin)) (h : List Call) : Type 0 where
   pub queue : OpenQueue
   pub fresh : List Logged
   pub opened : IsOpenFor shape scripts queue fresh
   pub passes : List Logged
-  pub made : EachMakes scripts fresh passes
+  pub made : EachMakes passed scripts fresh passes
   pub gathers : Gathers (stamped_opening shape (length scripts) (room_for scripts)) passes h
   pub ops : (thread : ℕ) → map (λ c. c.op) (calls_by thread h) ≡ map op_asked (script_of scripts thread)
   pub ended : AllByRecursion (λ c. IsSome c.end) h

@@ -1,7 +1,6 @@
 //! Running scripts, each on a thread of its own, and gathering the record of the run.
 ghost use Rattle.std.specs.Prelude.{◌≡◌, ◌<◌, ◌≤◌, ◌⊎◌, ◌↔◌, ◌^◌, ◌-◌, [], min, All, IfOk, IsErrOf, length};
 ghost use Rattle.kfifo_model.specs.declared.calls.TheConstants.{MAX_THREADS};
-ghost use Rattle.kfifo_model.specs.declared.reading.TheConstants.{MAX_CALLS};
 ghost use Rattle.kfifo_live.specs.declared.recording.TheConstants.{MAX_STAMPED_CALLS};
 ghost use Rattle.kfifo_live.specs.declared.fault.OpenFault.TheVariants.{CallsOutOfRange, ThreadsOutOfRange};
 ghost use Rattle.kfifo_live.specs.declared.fault.OpenFault.TheVariants.{TokensOutOfRange};
@@ -38,12 +37,11 @@ pub fn record_scripts<R: Threads + Sync, G: Gate + Sync>(
     gate: &G,
 ) -> Result<History, OpenFault>
     requires { AreScripts shape (scripts_in scripts.now) }
-    ensures ok { IfOk result (λ history. IsRecord shape (scripts_in scripts.now) history) }
-    ensures few { IfOk result (λ history. length history ≤ MAX_CALLS) }
-    ensures threads { IsErrOf result ThreadsOutOfRange
-        ↔ ((length scripts.now ≡ 0) ⊎ (MAX_THREADS < length scripts.now)) }
-    ensures calls { IsErrOf result CallsOutOfRange ↔ ((0 < length scripts.now) × (length scripts.now ≤ MAX_THREADS)
-        × (MAX_STAMPED_CALLS < longest (scripts_in scripts.now))) }
+    ensures ok { IfOk result (λ history. IsRecord (G.passed gate.now) shape (scripts_in scripts.now) history) }
+    ensures few { IfOk result (λ history. length history ≤ 65536) }
+    ensures threads { IsErrOf result ThreadsOutOfRange ↔ ((length scripts.now ≡ 0) ⊎ (64 < length scripts.now)) }
+    ensures calls { IsErrOf result CallsOutOfRange ↔ ((0 < length scripts.now) × (length scripts.now ≤ 64)
+        × (1024 < longest (scripts_in scripts.now))) }
     ensures tokens { ¬ IsErrOf result TokensOutOfRange }
 {
     let (queue, passes) = open(alloc, shape, scripts)?;
@@ -66,7 +64,7 @@ fn run_each<R: Threads + Sync, G: Gate + Sync>(
 ) -> Result<Vec<StampPass>, AllocError>
     requires opened { IsOpenFor shape (scripts_in scripts.now) queue.now passes.items }
     requires may_run { All (MayRun queue.now (scripts_in scripts.now)) passes.items }
-    ensures { IfOk result (λ ps. EachMakes (scripts_in scripts.now) passes.items ps.items) }
+    ensures { IfOk result (λ ps. EachMakes (G.passed gate.now) (scripts_in scripts.now) passes.items ps.items) }
 {
     let passes = map_vec(threads, passes, &|pass| run_own(queue, pass, scripts, gate))?;
     Ok(passes)
@@ -117,7 +115,8 @@ fn run_own<G: Gate>(
     gate: &G,
 ) -> StampPass
     requires { MayRun queue.now (scripts_in scripts.now) pass }
-    ensures { MakesInTurn (script_of (scripts_in scripts.now) pass.pass.thread) pass result }
+    ensures { MakesInTurn (G.passed gate.now pass.pass.thread) 1
+        (script_of (scripts_in scripts.now) pass.pass.thread) pass result }
 {
     let thread = pass.thread();
     run_script(queue, &mut pass, scripts[thread as usize].as_slice(), gate);
@@ -131,7 +130,7 @@ fn run_script<G: Gate>(queue: &StampQueue, pass: &mut StampPass, script: &[Begin
     requires calls { All (IsCall queue.now.opened.shape) script.now }
     requires room { length script.now ≤ queue.now.opened.calls }
     requires few { queue.now.opened.calls ≤ MAX_STAMPED_CALLS }
-    ensures { MakesInTurn script.now pass.old pass.new }
+    ensures { MakesInTurn (G.passed gate.now pass.old.pass.thread) 1 script.now pass.old pass.new }
 {
     let thread = pass.thread();
     for (index, begin) in script.iter().enumerate() {

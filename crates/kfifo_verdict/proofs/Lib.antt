@@ -20,3 +20,4 @@ pub mod Remaining
 pub mod Leaving
 pub mod Passing
 pub mod Ageing
+pub mod AtEnd

@@ -6,3 +6,4 @@ pub mod Steps
 pub mod Soon
 pub mod Left
 pub mod Older
+pub mod Remainder

@@ -9,6 +9,7 @@ mod older;
 mod picks;
 mod precedence;
 mod presences;
+mod remainder;
 mod rings;
 mod seen;
 mod soon;
@@ -21,5 +22,6 @@ mod walking;
 
 pub use finding::{evidence, evidence_for_each_k};
 pub use judging::{judge, least_k};
+pub use remainder::items_remaining;
 pub use verdicts::{Bounds, Evidence, Judgement, Stuck};
 pub use walking::witness;

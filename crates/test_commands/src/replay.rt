@@ -1,7 +1,7 @@
 //! What a replay tells of how far it has come.
 
 use kfifo_cli_commands::{Progress, Status, carry_out};
-use kfifo_cli_texts::{Printer, ReplayOptions, Request, Sizes};
+use kfifo_cli_texts::{Fault, Printer, ReplayOptions, Request, Sizes};
 use kfifo_judge::FromStd;
 use kfifo_words::MAX_VERSION;
 use std::alloc::{AllocError, Global};
@@ -35,7 +35,7 @@ impl Progress for Notes {
 
     fn refused(&mut self, _alloc: Global, _log: &[u8]) {}
 
-    fn fault_written(&mut self) {}
+    fn explained(&mut self, _fault: Fault) {}
 }
 
 /// So many rounds of 64 threads, in which each is picked once, and a pick more.

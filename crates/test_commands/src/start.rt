@@ -1,6 +1,8 @@
 //! The hint of a reader that waits, and the line of the progress.
 
 use kfifo_cli_commands::{Progress, Prompting, Showing};
+use kfifo_cli_texts::Fault;
+use kfifo_import::ImportFault;
 use std::io;
 use std::io::Read;
 use std::test::Fail;
@@ -42,8 +44,9 @@ impl Clock for Still {
 #[test]
 fn shows_the_progress_once_a_second_has_gone_by(rt: HostRuntime) -> Result<(), Fail> {
     let mut shown = Vec::new(rt.alloc());
+    let mut notes = Vec::new(rt.alloc());
     let begun = Instant::now(&Still(2)).ok();
-    let mut progress = Showing::new(&Still(3), begun, Some(&mut shown));
+    let mut progress = Showing::new(&Still(3), begun, Some(&mut shown), &mut notes);
     progress.told(1, 4);
     progress.told(2, 4);
     progress.ended();
@@ -61,20 +64,21 @@ const WRONG: &str = "line 3: op is \"push\", allowed are enq and deq\n";
 
 #[test]
 fn shows_the_wrong_field_of_a_log(rt: HostRuntime) -> Result<(), Fail> {
-    let mut shown = Vec::new(rt.alloc());
-    let mut progress = Showing::new(&Still(2), None, Some(&mut shown));
+    let mut notes = Vec::new(rt.alloc());
+    let mut progress = Showing::new(&Still(2), None, None, &mut notes);
     progress.refused(rt.alloc(), LOG.as_bytes());
-    progress.fault_written();
+    progress.explained(Fault::Import(ImportFault::NotACall(3)));
     drop(progress);
-    assert_eq!(rt; shown.as_slice(), WRONG.as_bytes());
+    assert_eq!(rt; notes.as_slice(), WRONG.as_bytes());
     Ok(())
 }
 
 #[test]
 fn shows_nothing_before_a_second_has_gone_by(rt: HostRuntime) -> Result<(), Fail> {
     let mut shown = Vec::new(rt.alloc());
+    let mut notes = Vec::new(rt.alloc());
     let begun = Instant::now(&Still(2)).ok();
-    let mut progress = Showing::new(&Still(2), begun, Some(&mut shown));
+    let mut progress = Showing::new(&Still(2), begun, Some(&mut shown), &mut notes);
     progress.told(1, 4);
     progress.ended();
     drop(progress);

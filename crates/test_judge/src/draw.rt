@@ -5,6 +5,9 @@ use kfifo_model::{Answer, Call, End, Op};
 use std::alloc::Global;
 use std::test::Fail;
 
+/// A style in which a band has room for all calls of a test.
+const WIDE: Style = Style::Svg { width: 4_000 };
+
 /// A finished call.
 fn done(thread: u32, op: Op, first: u64, last: u64, answer: Answer) -> Call {
     Call {
@@ -127,7 +130,7 @@ fn bars_stand_as_calls_precede(rt: HostRuntime) -> Result<(), Fail> {
             ))?;
         }
         let history = history_of(calls)?;
-        let picture = draw(rt.alloc(), &history, Style::Svg, 1, None)?;
+        let picture = draw(rt.alloc(), &history, WIDE, 1, None)?;
         let bars = bars_of(rt.alloc(), picture.as_str())?;
         // Behind the calls' come the four closed ones of the key.
         assert_eq!(rt; bars.len(), 16);

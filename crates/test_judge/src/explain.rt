@@ -11,9 +11,10 @@ const EXCHANGED: &str = r#"[{"thread":0,"op":"enq","item":1,"first":0,"last":1,"
 
 const NO_ORDER: &str = "\
 no order for k = 1
-call 2 got item 2, while 1 older items were there: calls 0
+call 2 got item 2, while 1 older item was there: calls 0
   call 2: thread 1 got 2 from 4 to 5
   call 0: thread 0 put 1 from 0 to 1, got by call 3
+calls 4, items left 0
 k at least 2
 k at most 2
 ";

@@ -1,6 +1,7 @@
-//! A log where memory is refused.
-use crate::plain::import_text;
+//! A log where memory is refused, and one of a queue that returned an item which no call can put.
+use crate::plain::{import_text, read_log, read_log_to_judge};
 use kfifo_import::ImportFault;
+use std::alloc::Global;
 use std::test::Fail;
 
 /// Two threads, lines in no order; call 1 begins where call 0 ends, so they overlap.
@@ -22,5 +23,26 @@ fn refused_memory(rt: HostRuntime) -> Result<(), Fail> {
         }
     };
     assert_eq!(rt; history.calls().len(), 4);
+    Ok(())
+}
+
+/// The second thread got item 0.
+const FOREIGN: &str = "thread,op,item,first,last,answer
+0,enq,5,10,20,done
+1,deq,0,30,40,got
+";
+
+/// Whether a log has a get of item 0, to be judged.
+fn has_item_0(alloc: Global, bytes: &[u8]) -> Result<bool, ImportFault> {
+    let log = read_log_to_judge(alloc, bytes)?;
+    Ok(log.calls.iter().any(|call| call.item == Some(0)))
+}
+
+#[test]
+fn reads_an_item_that_no_call_can_put_to_judge_it(rt: HostRuntime) -> Result<(), Fail> {
+    let (alloc, bytes) = (rt.alloc(), FOREIGN.as_bytes());
+    let found = read_log(alloc, bytes);
+    assert!(rt; found.is_err());
+    assert!(rt; has_item_0(alloc, bytes)?);
     Ok(())
 }

@@ -3,7 +3,7 @@
 ghost use Rattle.std.specs.Prelude.{◌≤◌};
 
 use kfifo_draw::{DrawFault, Drawing, Marking, Part, Style};
-use kfifo_import::ImportFault;
+use kfifo_import::{ImportFault, Log};
 use kfifo_judge::{Outcome, Sink, Source, StreamFault};
 use kfifo_model::{Call, History, RecordFault, SearchFault};
 use kfifo_verdict::{Evidence, Judgement};
@@ -82,6 +82,14 @@ pub fn least_record(
 ) -> Result<(String, Outcome), StreamFault> {
     let history = kfifo_judge::read_record(alloc, text.as_bytes())?;
     Ok(kfifo_judge::least_text(alloc, &history, &[], tries)?)
+}
+
+pub fn read_log(alloc: Global, text: &[u8]) -> Result<Log, ImportFault> {
+    kfifo_import::read_log(alloc, text)
+}
+
+pub fn read_log_to_judge(alloc: Global, text: &[u8]) -> Result<Log, ImportFault> {
+    kfifo_import::read_log_to_judge(alloc, text)
 }
 
 pub fn import_text(alloc: Global, text: &[u8]) -> Result<History, ImportFault> {

@@ -3,7 +3,7 @@
 use crate::drive::{add_written, calls_of, k_of};
 use crate::form::is_well_formed;
 use crate::plain;
-use kfifo_draw::{DrawFault, Marking, Part, Style};
+use kfifo_draw::{DEFAULT_WIDTH, DrawFault, Marking, Part, Style};
 use kfifo_model::History;
 use serde_json::Value;
 use std::alloc::{AllocError, Global};
@@ -90,7 +90,9 @@ pub(crate) fn add_picture(
     let style = if name == "draw" {
         Style::Text
     } else {
-        Style::Svg
+        Style::Svg {
+            width: DEFAULT_WIDTH,
+        }
     };
     match picture(alloc, history, style, ask) {
         Ok(picture) if name == "form" => Ok(lines.push(form_line(alloc, picture.as_str())?)?),

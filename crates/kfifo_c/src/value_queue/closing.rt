@@ -1,15 +1,17 @@
 //! Closing a queue of values.
-ghost use Rattle.std.specs.Prelude.{◌≡◌, ◌⊎◌, ◌↔◌, ◌≤◌, ◌*◌, ◌++◌, None, Some, ◌==◌, not, MatchOption, IsTrue, All};
-ghost use Rattle.std.specs.Prelude.{length, drop};
+ghost use Rattle.std.specs.Prelude.{◌≡◌, ◌⊎◌, ◌↔◌, ◌≤◌, ◌*◌, ◌++◌, None, Some, ◌==◌, not, MatchOption, IfOk, IsErr};
+ghost use Rattle.std.specs.Prelude.{IsTrue, All, length, drop};
 ghost use Rattle.std.specs.List.{list_all};
 ghost use Rattle.kfifo_live.specs.Pass.{OpenQueue};
 ghost use Rattle.kfifo_c.specs.ValueHandles.{values_behind, value_addresses};
-ghost use Rattle.kfifo_c.specs.Values.{AreOfOneValueQueue, ValuesBeginWith, MayCloseValues, ClosesValues, last_seat};
+ghost use Rattle.kfifo_c.specs.ValueSeats.{ValueSeated};
+ghost use Rattle.kfifo_c.specs.Values.{AreOfOneValueQueue, AreTheirValues, ValuesBeginWith, MayCloseValues, ClosesValues};
+ghost use Rattle.kfifo_c.specs.Values.{last_seat, value_passes_in};
 
-use crate::status::{BAD_CALL, DONE, LOST};
+use crate::status::{BAD_CALL, DONE, LOST, NO_MEMORY};
 use crate::value_queue::handle::ValueHandle;
-use crate::value_queue::seat::ValueSeat;
-use std::alloc::Global;
+use kfifo_live::{PayPass, PayQueue};
+use std::alloc::{AllocError, Global};
 use std::sync::Arc;
 
 /// How many passes and slots the queue of the first handle has; none where it is closed, or not there.
@@ -56,19 +58,30 @@ fn may_close(handles: &mut [ValueHandle], room: usize) -> bool
     are_open(handles)
 }
 
-/// Closes these handles, and returns the seat behind the last open one.
-fn take_last(alloc: Global, handles: &mut [ValueHandle]) -> Option<Box<ValueSeat, Global>>
-    ensures closed { All (λ handle. handle.held.value ≡ None) handles.new }
-    ensures last { MatchOption result (last_seat (values_behind handles.old) ≡ None)
-        (λ seat. last_seat (values_behind handles.old) ≡ Some seat.value) }
+/// A queue, if there is one, and passes of it.
+type Parts = (Option<Arc<PayQueue<u64>, Global>>, Vec<PayPass<u64>>);
+
+/// The passes behind the open ones of these handles, which are then closed, and a part in the queue of the last of them.
+// Each seat has a part in the queue. Once the others are dropped, the one that is left is the queue itself.
+fn take_all(alloc: Global, handles: &mut [ValueHandle]) -> Result<Parts, AllocError>
+    ensures refused { IsErr result → handles.new ≡ handles.old }
+    ensures closed { IfOk result (λ _. All (λ handle. handle.held.value ≡ None) handles.new) }
+    ensures taken { IfOk result (λ r. r.1.items ≡ value_passes_in (values_behind handles.old)) }
+    ensures of { IfOk result (λ _. AreTheirValues (values_behind handles.old)) }
+    ensures queue { IfOk result (λ r. MatchOption r.0 (last_seat (values_behind handles.old) ≡ None)
+        (λ queue. (seat : ValueSeated) × (last_seat (values_behind handles.old) ≡ Some seat)
+        × (queue.value ≡ seat.queue))) }
 {
+    let mut passes = Vec::with_capacity(alloc, handles.len())?;
     let mut last = None;
     for handle in handles.iter_mut() {
         if let Some(seat) = handle.take(alloc) {
-            last = Some(seat);
+            let (queue, pass) = Box::into_inner(seat).into_parts();
+            passes.push_reserved(pass);
+            last = Some(queue);
         }
     }
-    last
+    Ok((last, passes))
 }
 
 /// Writes the values that are left, from the beginning on.
@@ -79,10 +92,10 @@ fn write_values(values: &mut [u64], left: &[u64])
     values[..left.len()].copy_from_slice(left);
 }
 
-/// Closes a queue by the handles of all its passes, as `PayQueue::close`, and writes the values that are left, and how
-/// many. The handles of one call are of one queue. Returns BAD_CALL, with nothing done, where there are none, one is
-/// closed, one of the queue is missing, or there is not room for a value of each slot; LOST, with the queue closed and
-/// its values lost, where an allocation failed.
+/// Closes a queue by the handles of all its passes, as `PayQueue::close_with`, and writes the values that are left, and
+/// how many. The handles of one call are of one queue. Returns BAD_CALL, with nothing done, where there are none, one is
+/// closed, one of the queue is missing, or there is not room for a value of each slot; NO_MEMORY, with nothing done, and
+/// LOST, with the queue closed and its values lost, where an allocation failed.
 #[unsafe(no_mangle)]
 pub extern "C" fn kfifo_c_close_values(
     alloc: Global,
@@ -91,29 +104,31 @@ pub extern "C" fn kfifo_c_close_values(
     count: &mut usize,
 ) -> u32
     requires { AreOfOneValueQueue (values_behind passes.old) }
-    ensures answers { (result ≡ 0) ⊎ (result ≡ 6) ⊎ (result ≡ 9) }
+    ensures answers { (result ≡ 0) ⊎ (result ≡ 6) ⊎ (result ≡ 7) ⊎ (result ≡ 9) }
     ensures bad { result ≡ 6 → ¬ ((queue : OpenQueue)
         × MayCloseValues queue (values_behind passes.old) (length values.old)) }
-    ensures may { (result ≡ 0) ⊎ (result ≡ 9) → (queue : OpenQueue)
+    ensures may { (result ≡ 0) ⊎ (result ≡ 7) ⊎ (result ≡ 9) → (queue : OpenQueue)
         × MayCloseValues queue (values_behind passes.old) (length values.old) }
-    ensures nothing { result ≡ 6 → (values_behind passes.new ≡ values_behind passes.old)
+    ensures nothing { (result ≡ 6) ⊎ (result ≡ 7) → (values_behind passes.new ≡ values_behind passes.old)
         × (value_addresses passes.new ≡ value_addresses passes.old) }
     ensures closed { (result ≡ 0) ⊎ (result ≡ 9) → All (λ pass. pass.held.value ≡ None) passes.new }
     ensures done { result ≡ 0 → ClosesValues (values_behind passes.old) values.old values.new count.new }
-    ensures kept { (result ≡ 6) ⊎ (result ≡ 9) → (values.new ≡ values.old) × (count.new ≡ count.old) }
+    ensures kept { (result ≡ 6) ⊎ (result ≡ 7) ⊎ (result ≡ 9) → (values.new ≡ values.old) × (count.new ≡ count.old) }
 {
     if !may_close(passes, values.len()) {
         return BAD_CALL;
     }
-    let Some(seat) = take_last(alloc, passes) else {
+    let Ok((last, mut taken)) = take_all(alloc, passes) else {
+        return NO_MEMORY;
+    };
+    let (Some(queue), Some(pass)) = (last, taken.pop()) else {
         return LOST;
     };
-    let (queue, pass) = Box::into_inner(seat).into_parts();
     // The last part in the queue, unless handles of two queues were mixed.
     let Some(queue) = Arc::into_inner(queue) else {
         return LOST;
     };
-    let Ok(left) = queue.close(alloc, pass) else {
+    let Ok(left) = queue.close_with(alloc, pass, taken) else {
         return LOST;
     };
     write_values(values, left.as_slice());

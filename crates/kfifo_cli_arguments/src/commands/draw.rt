@@ -4,6 +4,7 @@ ghost use Rattle.clap.specs.Words.{app_of, first_value, found_of};
 ghost use Rattle.clap.specs.declared.builder.command.Command.TheViews.{out-Command as fields_of};
 ghost use Rattle.kfifo_cli_arguments.specs.CommandLine.{IsCommand, draw_command};
 ghost use Rattle.kfifo_cli_arguments.specs.CommandLine.{with_evidence_options, with_stretch_options};
+ghost use Rattle.kfifo_cli_arguments.specs.CommandLine.{with_style_options};
 ghost use Rattle.kfifo_cli_arguments.specs.Options.{GivesDraw, GivesPlaces};
 
 use crate::commands::check;
@@ -17,6 +18,8 @@ pub const NAME: &str = "draw";
 
 const TEXT: &str = "text";
 
+const WIDTH: &str = "width";
+
 const EVIDENCE: &str = "evidence";
 
 const AROUND: &str = "around";
@@ -27,70 +30,107 @@ const LINES: &str = "lines";
 
 const EXAMPLES: &str = "\
 Examples:
-  kfifo draw < record.json > run.svg               a picture for a browser
-  kfifo draw --evidence < log.csv > reason.svg     the calls because of which there is no order
+  kfifo draw log.csv > run.svg                     a picture for a browser
+  kfifo draw --evidence log.csv > reason.svg
+                              the calls because of which there is no order
   kfifo draw --text --calls 100-140 < record.json  a part, for the terminal
-  kfifo draw --order 0,2,1 < record.json           with an order, for a plain queue";
+  kfifo draw --order 0,2,1 < record.json
+                              with an order, for a plain queue";
 
 pub(crate) const DETAILS: &str = "\
-The input is a record, as `kfifo check --help` says, or a log, as `kfifo import --help` says: a record
-where its first byte that is no white space is `[`. It has at most 16777216 bytes, and at most 4096
-calls are drawn.
+FILE, or standard input where no file is named, has a record, as
+`kfifo check --help` says, or a log, as `kfifo import --help` says: a record
+where its first byte that is no white space is `[`. It has at most 16777216
+bytes, and at most 4096 calls are drawn.
 
-The picture has a lane for each thread, and in it a bar for each call from its beginning to its end,
-with the call's number, what it asks for and its answer. An unfinished call has an open end. Only the
-order of beginnings and ends counts, so idle time takes no room: a call has ended before another
-begins exactly where its bar ends to the left of the other. Lanes that are too long go on below: there
-the torn ends of a bar belong together.
+The picture has a lane for each thread, and in it a bar for each call from its
+beginning to its end, with the call's number, what it asks for and its answer.
+An unfinished call has an open end. Only the order of beginnings and ends
+counts, so idle time takes no room: a call has ended before another begins
+exactly where its bar ends to the left of the other. Lanes that are too long go
+on below: there the torn ends of a bar belong together.
 
-Without --text it is an SVG document of at most 4000 pixels of width, in which a bar tells all that is
-known of its call where the pointer rests on it, with its line and its times in a log: square corners
-are enqueues, round ones dequeues, and calls that were refused or found nothing have broken outlines.
-With --text it is lines of at most 120 characters:
+Without --text it is an SVG document, in which a bar tells all that is known of
+its call where the pointer rests on it, with its line and its times in a log:
+square corners are enqueues, round ones dequeues, and calls that were refused or
+found nothing have broken outlines. It is at most 1600 pixels wide, or as many
+as --width says, 200 to 16000, unless a single bar needs more room for its
+label. With --text it is lines of at most 120 characters:
   thread 0   [0: enq 1 done][2: enq 2 done]
   thread 1                  [3: deq got 1-]
 
---evidence marks the calls that `kfifo judge` names for --k, and draws them with the calls that overlap one
-of them or stand within --around calls of one. Where there is no evidence nothing is marked, and all
-calls are drawn. --calls draws the calls with these numbers, --lines those in these lines of a log:
-<A>-<B> goes from A to B, both among them, and may go on behind the last one. With --evidence they say
-in place of --around what is drawn. What is drawn is a part: it keeps the numbers, the marks and the
-verdict of the whole.
+--evidence marks the calls that `kfifo judge` names for --k, and draws them with
+the calls that overlap one of them or stand within --around calls of one. Where
+there is no evidence nothing is marked, and all calls are drawn, if they are at
+most 4096. --calls draws the calls with these numbers, --lines those in these
+lines of a log: <A>-<B> goes from A to B, both among them, and may go on behind
+the last one. With --evidence they say in place of --around what is drawn. What
+is drawn is a part: it keeps the numbers, the marks and the verdict of the
+whole.
 
---order takes an order of all calls as `kfifo check` does, also from a file by @FILE. Then each label has
-the call's place in it, as #4, and the picture says whether the order is legal for --k. Where it is not,
-the call at which it fails is marked, and the fault is named as by `kfifo check`.
+--order takes an order of all calls as `kfifo check` does, also from a file by
+@FILE. Then each label has the call's place in it, as #4, and the picture says
+whether the order is legal for --k. Where it is not, the call at which it fails
+is marked, and the fault is named as by `kfifo check`.
 
-Faults, each one line on standard error:
-  kfifo: draw fault 1         over 4096 calls are to be drawn: draw a part by --evidence, --calls or --lines
-  kfifo: draw fault 2         --evidence and --order, or --calls and --lines, are given together, or
-                              --around without --evidence; the input is not read then
-  kfifo: draw fault 3         the value of --calls or --lines is not <A>-<B>, two numbers of 1 to 10
-                              digits of which B is no less than A; the input is not read then
+Faults, each a line on standard error, and one that says what is wrong:
+  kfifo: draw fault 1         over 4096 calls are to be drawn: draw a part by
+                              --evidence, --calls or --lines
+  kfifo: draw fault 2         --evidence and --order, --text and --width, or
+                              --calls and --lines are given together, or
+                              --around without --evidence; the input is not read
+                              then
+  kfifo: draw fault 3         the value of --calls or --lines is not <A>-<B>,
+                              two numbers of 1 to 10 digits of which B is no
+                              less than A; the input is not read then
   kfifo: draw fault 4         --lines is given, and the input is a record
-  kfifo: order fault          the value of --order, or its file, is no order or cannot be read; the
-                              input is not read then
-  kfifo: input                reading failed, or over 16777216 bytes came
-  kfifo: no input             no byte came; in a pipe the command before has probably failed, and said why
-  kfifo: not json             the input begins as a record, and is no JSON text or not UTF-8
-  kfifo: record fault <F>     record faults 1, 2 and 9, as `kfifo check --help` lists them
-  kfifo: record fault <F> at call <N>   record faults 3 to 8
-  kfifo: csv fault at line <N>, record fault <F> at line <N>   faults of a log, as `kfifo import --help`
+  kfifo: draw fault 5         --evidence is given, there is none for --k, and
+                              there are over 4096 calls: draw a part by --calls
+                              or --lines
+  kfifo: order fault          the value of --order, or its file, is no order or
+                              cannot be read; the input is not read then
+  kfifo: input                the file or standard input cannot be read, or has
+                              over 16777216 bytes
+  kfifo: no input             no byte came; in a pipe the command before has
+                              probably failed, and said why
+  kfifo: not json             the input begins as a record, and is no JSON text
+                              or not UTF-8
+  kfifo: record fault <F>     record faults 1, 2 and 9, as `kfifo check --help`
                               lists them
+  kfifo: record fault <F> at call <N>   record faults 3 to 8
+  kfifo: csv fault at line <N>, record fault <F> at line <N>
+                              faults of a log, as `kfifo import --help` lists
+                              them
   kfifo: memory               an allocation failed
 
 Exit status:
-  0  the picture was printed, also of calls that have no order and with an order that is not legal
+  0  the picture was printed, also of calls that have no order and with an order
+     that is not legal
   1  there was a fault of this list, or standard output could not be written
   2  the command line is at fault
 
 Examples:
-  kfifo draw < record.json > run.svg               a picture for a browser
-  kfifo draw --evidence < log.csv > reason.svg     the calls because of which there is no order
+  kfifo draw log.csv > run.svg                     a picture for a browser
+  kfifo draw --evidence log.csv > reason.svg
+                              the calls because of which there is no order
   kfifo draw --text --calls 100-140 < record.json  a part, for the terminal
-  kfifo draw --order 0,2,1 < record.json           with an order, for a plain queue
+  kfifo draw --order 0,2,1 < record.json
+                              with an order, for a plain queue
 
 docs/JUDGE.md and docs/PROGRAM.md, where this program comes from, say more.";
+
+/// Adds the options `--text` and `--width`.
+fn with_style<'a>(alloc: Global, command: Command<'a>) -> Result<Command<'a>, AllocError>
+    ensures { IfOk result (λ c. (app_of c ≡ with_style_options (app_of command.entry))
+        × ((fields_of c).has_globals ≡ (fields_of command.entry).has_globals)) }
+{
+    let text = options::flag(alloc, TEXT).help("Draw with characters, a lane a line");
+    let width = options::option(alloc, WIDTH)
+        .value_name("PIXELS")
+        .value_parser(value_parser!(u32).range(200..=16_000))
+        .help("The greatest width, 200 to 16000 [default: 1600]");
+    command.arg(text)?.arg(width)
+}
 
 /// Adds the options `--evidence` and `--around`.
 fn with_evidence<'a>(alloc: Global, command: Command<'a>) -> Result<Command<'a>, AllocError>
@@ -98,13 +138,13 @@ fn with_evidence<'a>(alloc: Global, command: Command<'a>) -> Result<Command<'a>,
         × ((fields_of c).has_globals ≡ (fields_of command.entry).has_globals)) }
 {
     let evidence = options::flag(alloc, EVIDENCE).help(
-        "Mark the calls that the verdict names, and draw them and those near them",
+        "Mark the calls that the verdict names, and draw them\nand those near them",
     );
     let around = options::option(alloc, AROUND)
         .value_name("CALLS")
         .value_parser(value_parser!(u32))
         .help(
-            "Within how many calls of a marked one calls are drawn, with --evidence [default: 8]",
+            "Within how many calls of a marked one calls are\ndrawn, with --evidence [default: 8]",
         );
     command.arg(evidence)?.arg(around)
 }
@@ -130,18 +170,17 @@ pub fn command<'a>(alloc: Global) -> Result<Command<'a>, AllocError>
     let order = options::option(alloc, check::ORDER)
         .value_name("CALLS")
         .help(
-            "An order to draw, too: call numbers joined by commas, none for the empty order, or @FILE",
+            "An order to draw, too: call numbers joined by commas,\nnone for the empty order, or @FILE",
         );
-    let text = options::flag(alloc, TEXT).help("Draw with characters, a lane a line");
     let command = Command::new(alloc, NAME)
-        .about("Reads a record or a log of calls, and prints a picture of it or of a part of it")
+        .about("Prints a picture of a record or a log, or of a part of it")
         .after_help(EXAMPLES)
         .after_long_help(DETAILS);
-    let command = options::with_places(alloc, command, "1")?
-        .arg(order)?
-        .arg(text)?;
+    let command = options::with_places(alloc, command, "1")?.arg(order)?;
+    let command = with_style(alloc, command)?;
     let command = with_evidence(alloc, command)?;
-    with_stretches(alloc, command)
+    let command = with_stretches(alloc, command)?;
+    options::with_file(alloc, command)
 }
 
 /// The k, and the order that is drawn too.
@@ -162,9 +201,11 @@ pub fn options_of<'a>(matches: &'a ArgMatches<'_>) -> DrawOptions<'a>
     DrawOptions {
         check: order_of(matches),
         text: matches.get_flag(TEXT),
+        width: matches.get_one(WIDTH),
         evidence: matches.get_flag(EVIDENCE),
         around: matches.get_one(AROUND),
         calls: matches.get_str(CALLS),
         lines: matches.get_str(LINES),
+        file: options::file_of(matches),
     }
 }

@@ -4,7 +4,7 @@ ghost use Rattle.clap.specs.Words.{found_of};
 ghost use Rattle.kfifo_cli_arguments.specs.CommandLine.{IsCommand, explain_command};
 ghost use Rattle.kfifo_cli_arguments.specs.Options.{GivesExplain};
 
-use crate::topics::{answers, arguments, helps, inputs, verdicts};
+use crate::topics::{answers, arguments, helps, inputs, statuses, verdicts};
 use clap::{Arg, ArgAction, ArgMatches, Command};
 use kfifo_cli_texts::ExplainOptions;
 use std::alloc::{AllocError, Global};
@@ -20,30 +20,75 @@ Examples:
   kfifo explain undecided";
 
 pub(crate) const DETAILS: &str = "\
-The words are those of a fault or an answer, as the program printed it: `record fault 3 at line 12`, with
-or without `kfifo:` before it, or the beginning of it that tells it from others, as `csv fault`. Quote words
-that your shell would take for its own.
+The words are those of a fault or an answer, as the program printed it:
+`record fault 3 at line 12`, with or without `kfifo:` before it, or its first
+words that tell it from others, as `csv fault`. Or they are a name: of evidence,
+as `NeverPut`, of an exit status, as `status 3`, or of a status of the library
+for C, as `KFIFO_FULL`. Quote words that your shell would take for its own.
 
-The answer is what the help of the command says of it, what is allowed, and what to do.
+The answer is what the help of the command says of it, what is allowed, and what
+to do.
 
 Some answers stand in no other list:
-  legal                       of `check --order`: the order is legal
-  order                       of `check`: an order of the calls is legal; with call numbers behind it, the
-                              order itself
-  the order fails             of `draw --order`: the order is not legal, for the reason behind it; or `the
-                              order is legal`
+  legal                       of `check --order`: the order is legal; of
+                              `judge`: an order of the calls is legal for this k
+  order                       of `check`: an order of the calls is legal; with
+                              call numbers behind it, the order itself
+  the order fails             of `draw --order`: the order is not legal, for the
+                              reason behind it; or `the order is legal`
   no calls                    of `draw --text`: the record is empty
-  call <N> item <X> overtaken <C>   of `measure`: so many items that were put after X were got before it
+  call <N> item <X> overtaken <C>   of `measure`: so many items that were put
+                                    after X were got before it
   most <C>                    of `measure`: the greatest of these counts
-  head <S> v<V>               of `run`: the head's segment, and the version of the word
-  tail <S> v<V>               of `run`: the tail's segment, and the version of the word
-  slot <S>.<P> <X> v<V>       of `run`: the item in place P of segment S, 0 of none, and the slot's version
+  head <S> v<V>               of `run`: the head's segment, and the version of
+                              the word
+  tail <S> v<V>               of `run`: the tail's segment, and the version of
+                              the word
+  slot <S>.<P> <X> v<V>       of `run`: the item in place P of segment S, 0 of
+                              none, and the slot's version
   <ID> <SUM>                  of `dispatch`: what the task came to
+
+Exit statuses:
+  status 0                    the answer was printed, or the help that was asked
+                              for
+  status 1                    the data, a size, the memory, reading or writing
+                              was at fault
+  status 2                    the command line is at fault
+  status 3                    a record or a log has no order for this k, or the
+                              order that was given is not legal
+  status 4                    `judge` cannot say whether there is an order: it
+                              printed `undecided`
+
+Statuses of the library for C:
+  KFIFO_DONE                  the item or the value is in the queue, or was
+                              already taken
+  KFIFO_FULL                  the ring was full: the item or the value is not in
+                              the queue
+  KFIFO_GOT                   an item or a value was taken
+  KFIFO_EMPTY                 the queue was empty
+  KFIFO_BUSY                  each round of the call was lost to other threads:
+                              nothing was put or taken
+  KFIFO_WORN                  a version would pass the greatest one: nothing was
+                              put or taken
+  KFIFO_BAD_CALL              a pointer is null, an argument is out of range, or
+                              a handle is closed or missing: nothing was done
+  KFIFO_NO_MEMORY             an allocation failed: nothing was done
+  KFIFO_BAD_THREADS           the number of threads is not 1 to 64
+  KFIFO_LOST                  of a close: an allocation failed, the queue is
+                              closed, and what was left in it is lost
+  KFIFO_NO_TOKEN              of a give: the handle has no token and found none
+                              in the pool, so the value is not in the queue
+  KFIFO_BAD_K                 k is not 1 to 64
+  KFIFO_BAD_SEGMENTS          the number of segments is not 2 to 1024
+  KFIFO_BAD_LAST              the greatest version is not 2 to 1099511627775
+  KFIFO_BAD_PROBES            the number of probes is not 1 to k
+  KFIFO_BAD_TOKENS            the number of tokens a thread is not 1 to 1024
 
 Faults, each one line on standard error:
   kfifo: explain fault 1      the words are those of no fault and no answer
   kfifo: memory               an allocation failed
-  error: <TEXT>               of each command: the command line is at fault, and the status is 2
+  error: <TEXT>               of each command: the command line is at fault, and
+                              the status is 2
 
 Exit status:
   0  the answer was printed
@@ -53,7 +98,8 @@ Exit status:
 Examples:
   kfifo explain record fault 3
   kfifo explain undecided
-  kfifo explain \"call 5 got item 9, while 1 older items were there: calls 3\"
+  kfifo explain status 3
+  kfifo explain \"call 5 got item 9, while 1 older item was there: calls 3\"
 
 docs/PROGRAM.md and docs/JUDGE.md, where this program comes from, say more.";
 
@@ -68,7 +114,7 @@ pub fn command<'a>(alloc: Global) -> Result<Command<'a>, AllocError>
         .required(true)
         .help("The words of a fault or an answer, as they were printed");
     Command::new(alloc, NAME)
-        .about("Says what a fault or an answer means, what is allowed, and what to do")
+        .about("Says what a fault or an answer means, and what to do")
         .after_help(EXAMPLES)
         .after_long_help(DETAILS)
         .arg(words)
@@ -83,7 +129,8 @@ pub fn options_of<'a>(matches: &'a ArgMatches<'_>) -> ExplainOptions<'a>
         first_topics: arguments::topics(),
         second_topics: inputs::topics(),
         third_topics: verdicts::topics(),
-        last_topics: answers::topics(),
+        fourth_topics: answers::topics(),
+        last_topics: statuses::topics(),
         helps: helps(),
     }
 }

@@ -16,65 +16,98 @@ const SHOW: &str = "show";
 
 const EXAMPLES: &str = "\
 Examples:
-  kfifo judge < log.csv                  is this the log of a plain queue, and why not?
-  kfifo judge -k 4 --show < record.json  print an order, too";
+  kfifo judge log.csv                    is this the log of a plain queue, and
+                                         why not?
+  kfifo judge -k 4 --show < record.json  read standard input, and print an
+                                         order, too";
 
 pub(crate) const DETAILS: &str = "\
-Standard input has a record, as `kfifo check --help` says, or a log in CSV, as `kfifo import --help`
-says: a record begins with `[`. It has at most 16777216 bytes and 65536 calls. `check` decides records
-of at most 12 calls; this command takes any, and gives a reason.
+FILE, or standard input where no file is named, has a record, as
+`kfifo check --help` says, or a log in CSV, as `kfifo import --help` says: a
+record begins with `[`. It has at most 16777216 bytes and 65536 calls. `check`
+decides records of at most 12 calls; this command takes any, and gives a reason.
 
-Drain the queue until it answers empty before the log ends, or a loss cannot be seen. Give each item a
-number of its own: repeated ones may leave even k = 1 undecided.
+Drain the queue until it answers empty before the log ends, or a loss cannot be
+seen. Give each item a number of its own: repeated ones may leave even k = 1
+undecided.
 
 The answer is one of these:
   legal for k = <K>           an order of the calls is legal, and
-  worst rank <N>              in it, N is the most older items that a dequeue passed over
-  order <CALLS>               with --show: the order, which `kfifo check --order` takes
+  worst rank <N>              the most older items that a dequeue passed over in
+                              the order that was found, at most k - 1. It says
+                              nothing of the queue: another order of the same
+                              calls may have a lesser or a greater one
+  order <CALLS>               with --show: the order, which
+                              `kfifo check --order` takes
+  calls <N>, items left <M>   N calls were judged, and M items were put and
+                              never got
 
   no order for k = <K>        no order is legal, because of one of these:
   call <N> got item <X>, which no call before its end put
-                              an item from nowhere: no call put X, or each that did began after call N
+                              an item from nowhere: no call put X, or each that
+                              did began after call N
   call <N> got item <X>, which was taken more often than put
-                              an item twice: more calls got X than put it, and call N is the last of them
+                              an item twice: more calls got X than put it, and
+                              call N is the last of them
   call <N> found nothing, while there were items: calls <CALLS>
-                              at each moment of call N an item of one of these puts was in the queue
+                              at each moment of call N an item of one of these
+                              puts was in the queue
   call <N> got item <X>, while <K> older items were there: calls <CALLS>
-                              an overtaking: the items of these puts stood before X, so X was not one of
-                              the k oldest
+                              an overtaking: the items of these puts stood
+                              before X, so X was not one of the k oldest
   call <N> got item <X>, when more gets of it had ended than puts had begun
-                              an item too soon: X is put more than once, but by the end of call N more calls
-                              had got it than had begun to put it
+                              an item too soon: X is put more than once, but by
+                              the end of call N more calls had got it than had
+                              begun to put it
   call <N> found nothing, while some item had been put more often than taken
-                              an Empty too early: as call N began, and as each call began during it, more
-                              calls had put some item than had begun to get it
+                              an Empty too early: as call N began, and as each
+                              call began during it, more calls had put some item
+                              than had begun to get it
   call <N> got item <X>, though <K> older items were left: calls <CALLS>
-                              an overtaking where items repeat: the items of these puts stood before each X
-                              that call N may have got
+                              an overtaking where items repeat: the items of
+                              these puts stood before each X that call N may
+                              have got
   Then come the calls that are named, the first 32 of them, each in a line:
   call <N>: thread <T> put <X> from <FIRST> to <LAST>
-                              what call N did, and when; or `got <X>`, or `found nothing`
+                              what call N did, and when; or `got <X>`, or
+                              `found nothing`
   call <N>, line <L>: thread <T> put <X> from <FIRST> to <LAST>
-                              the same of a log, with the line and the times of the log
-  , got by call <M>           behind a put: its item was got by call M. An Empty that names it came too early
-  , never got                 behind a put: its item was lost, or was left inside at the end of the log
-  and behind an overtaking the lines of `kfifo least`: for which k there may be an order.
+                              the same of a log, with the line and the times of
+                              the log
+  , got by call <M>           behind a put: its item was got by call M. An Empty
+                              that names it came too early
+  , never got                 behind a put: its item was lost, or was left
+                              inside at the end of the log
+  and the line `calls <N>, items left <M>`, then behind an overtaking the lines
+  of `kfifo least`, which say for which k
+  there may be an order.
 
-  undecided for k = <K>       neither an order nor a reason was found:
-  the tries ran out           as many choices were undone as --tries allows; more of them may find an order
-  nothing is left to try      the search saw nothing that it could do otherwise; more tries do not help
-  ; items repeat              behind either: an item is put or got more than once. Give each its own number
+  undecided for k = <K>       neither an order nor a reason was found, for what
+                              the next line says.
+  the tries ran out           as many choices were undone as --tries allows;
+                              more of them may find an order
+  nothing is left to try      the search saw nothing that it could do otherwise;
+                              more tries do not help
+  ; items repeat              behind either: an item is put or got more than
+                              once. Give each its own number
 
-Call numbers are places in the array, from 0; those of a log are by rising first time.
+Call numbers are places in the array, from 0; those of a log are by rising first
+time.
 
-Faults, each one line on standard error; `kfifo explain` says more of each:
-  kfifo: input                reading failed, or over 16777216 bytes came
-  kfifo: no input             no byte came; in a pipe the command before has probably failed, and said why
+Faults, each a line on standard error, and one that says what is wrong;
+`kfifo explain` says more of each:
+  kfifo: input                the file or standard input cannot be read, or has
+                              over 16777216 bytes
+  kfifo: no input             no byte came; in a pipe the command before has
+                              probably failed, and said why
   kfifo: not json             a record is no JSON text, or is not UTF-8
-  kfifo: record fault <F>     record faults 1, 2 and 9, as `kfifo check --help` lists them
+  kfifo: record fault <F>     record faults 1, 2 and 9, as `kfifo check --help`
+                              lists them
   kfifo: record fault <F> at call <N>   record faults 3 to 8 of a record
-  kfifo: record fault <F> at line <N>   the same of a log, as `kfifo import --help` lists them
-  kfifo: csv fault at line <N>          the first line of a log lacks a field, or line N does not have
+  kfifo: record fault <F> at line <N>   the same of a log, as
+                                        `kfifo import --help` lists them
+  kfifo: csv fault at line <N>          the first line of a log lacks a field or
+                                        has one twice, or line N does not have
                                         as many fields as it
   kfifo: memory               an allocation failed
 
@@ -86,8 +119,10 @@ Exit status:
   4  `undecided` was printed
 
 Examples:
-  kfifo judge < log.csv                  is this the log of a plain queue, and why not?
-  kfifo judge -k 4 --show < record.json  print an order, too
+  kfifo judge log.csv                    is this the log of a plain queue, and
+                                         why not?
+  kfifo judge -k 4 --show < record.json  read standard input, and print an
+                                         order, too
 
 docs/JUDGE.md and docs/PROGRAM.md, where this program comes from, say more.";
 
@@ -97,22 +132,22 @@ pub fn command<'a>(alloc: Global) -> Result<Command<'a>, AllocError>
 {
     let show = options::flag(alloc, SHOW).help("Print the order that was found, too");
     let command = Command::new(alloc, NAME)
-        .about(
-            "Reads a record or a log of any length, and says whether an order of its calls is legal, and why",
-        )
+        .about("Says whether a record or a log has a legal order, or why not")
         .after_help(EXAMPLES)
         .after_long_help(DETAILS);
     let command = options::with_places(alloc, command, "1")?;
-    options::with_tries(alloc, command)?.arg(show)
+    let command = options::with_tries(alloc, command)?.arg(show)?;
+    options::with_file(alloc, command)
 }
 
 /// What the options give.
-pub fn options_of(matches: &ArgMatches<'_>) -> JudgeOptions
+pub fn options_of<'a>(matches: &'a ArgMatches<'_>) -> JudgeOptions<'a>
     ensures { GivesJudge (found_of matches.now) result }
 {
     JudgeOptions {
         k: options::places_of(matches, 1),
         tries: options::tries_of(matches),
         show: matches.get_flag(SHOW),
+        file: options::file_of(matches),
     }
 }

@@ -2,7 +2,7 @@
 ghost use Rattle.std.specs.Prelude.{IfOk};
 ghost use Rattle.clap.specs.Words.{found_of};
 ghost use Rattle.kfifo_cli_arguments.specs.CommandLine.{IsCommand, least_command};
-ghost use Rattle.kfifo_cli_arguments.specs.Options.{GivesTries};
+ghost use Rattle.kfifo_cli_arguments.specs.Options.{GivesLeast};
 
 use crate::options;
 use clap::{ArgMatches, Command};
@@ -13,30 +13,40 @@ use std::alloc::{AllocError, Global};
 pub const NAME: &str = "least";
 
 const EXAMPLES: &str = "\
-Example:
-  kfifo least < log.csv";
+Examples:
+  kfifo least log.csv
+  kfifo least < record.json";
 
 pub(crate) const DETAILS: &str = "\
-Standard input has a record, as `kfifo check --help` says, or a log in CSV, as `kfifo import --help`
-says: a record begins with `[`. It has at most 16777216 bytes and 65536 calls. k says how far a queue
-may stray from first in, first out: a dequeue takes one of the k oldest items. With k = 1 it is a plain
-queue.
+FILE, or standard input where no file is named, has a record, as
+`kfifo check --help` says, or a log in CSV, as `kfifo import --help` says: a
+record begins with `[`. It has at most 16777216 bytes and 65536 calls. k says
+how far a queue may stray from first in, first out: a dequeue takes one of the k
+oldest items. With k = 1 it is a plain queue.
 
 The answer is
   k at least <N>              for no k below N is an order of the calls legal
   k at most <N>               for N one is; or, where none was found up to 64,
-  k unknown                   no order was found for any k from the bound up to 64
+  k unknown                   no order was found for any k from the bound up to
+                              64
 or, where no k at all would do,
-  no order                    with the reason and the calls that it names, as `kfifo judge --help` says
+  no order                    with the reason and the calls that it names, as
+                              `kfifo judge --help` says
 
-Faults, each one line on standard error; `kfifo explain` says more of each:
-  kfifo: input                reading failed, or over 16777216 bytes came
-  kfifo: no input             no byte came; in a pipe the command before has probably failed, and said why
+Faults, each a line on standard error, and one that says what is wrong;
+`kfifo explain` says more of each:
+  kfifo: input                the file or standard input cannot be read, or has
+                              over 16777216 bytes
+  kfifo: no input             no byte came; in a pipe the command before has
+                              probably failed, and said why
   kfifo: not json             a record is no JSON text, or is not UTF-8
-  kfifo: record fault <F>     record faults 1, 2 and 9, as `kfifo check --help` lists them
+  kfifo: record fault <F>     record faults 1, 2 and 9, as `kfifo check --help`
+                              lists them
   kfifo: record fault <F> at call <N>   record faults 3 to 8 of a record
-  kfifo: record fault <F> at line <N>   the same of a log, as `kfifo import --help` lists them
-  kfifo: csv fault at line <N>          the first line of a log lacks a field, or line N does not have
+  kfifo: record fault <F> at line <N>   the same of a log, as
+                                        `kfifo import --help` lists them
+  kfifo: csv fault at line <N>          the first line of a log lacks a field or
+                                        has one twice, or line N does not have
                                         as many fields as it
   kfifo: memory               an allocation failed
 
@@ -46,8 +56,9 @@ Exit status:
   2  the command line is at fault
   3  `no order` was printed
 
-Example:
-  kfifo least < log.csv
+Examples:
+  kfifo least log.csv
+  kfifo least < record.json
 
 docs/JUDGE.md and docs/PROGRAM.md, where this program comes from, say more.";
 
@@ -56,19 +67,19 @@ pub fn command<'a>(alloc: Global) -> Result<Command<'a>, AllocError>
     ensures { IfOk result (IsCommand least_command) }
 {
     let command = Command::new(alloc, NAME)
-        .about(
-            "Reads a record or a log of any length, and says between which bounds its least k lies",
-        )
+        .about("Says between which bounds the least k of a record or a log lies")
         .after_help(EXAMPLES)
         .after_long_help(DETAILS);
-    options::with_tries(alloc, command)
+    let command = options::with_tries(alloc, command)?;
+    options::with_file(alloc, command)
 }
 
 /// What the options give.
-pub fn options_of(matches: &ArgMatches<'_>) -> LeastOptions
-    ensures { GivesTries (found_of matches.now) result.tries }
+pub fn options_of<'a>(matches: &'a ArgMatches<'_>) -> LeastOptions<'a>
+    ensures { GivesLeast (found_of matches.now) result }
 {
     LeastOptions {
         tries: options::tries_of(matches),
+        file: options::file_of(matches),
     }
 }

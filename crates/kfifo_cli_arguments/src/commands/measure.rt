@@ -13,19 +13,25 @@ Example:
   kfifo measure < record.json";
 
 pub(crate) const DETAILS: &str = "\
-The record is one as `kfifo check --help` says, on standard input: at most 16777216 bytes and 65536
-calls, in which no two enqueues that are done or unfinished carry one item, and no two dequeues got
-one.
+The record is one as `kfifo check --help` says, on standard input: at most
+16777216 bytes and 65536 calls, in which no two enqueues that are done or
+unfinished carry one item, and no two dequeues got one.
 
-Each finished enqueue that was answered \"done\" has a line `call <NUMBER> item <ITEM> overtaken <COUNT>`,
-by rising call number. COUNT is the number of items that were put after ITEM and taken before it, or
-taken while it never was, whatever the order of calls that overlap. The last line is `most <COUNT>`,
-the greatest count, 0 where there is none.
+Each finished enqueue that was answered \"done\" has a line
+`call <NUMBER> item <ITEM> overtaken <COUNT>`, by rising call number. COUNT is
+the number of items that were put after ITEM and taken before it, or taken while
+it never was, whatever the order of calls that overlap. The last line is
+`most <COUNT>`, the greatest count, 0 where there is none.
+
+This command takes no --k. Each count is below k in a queue whose dequeues take
+one of the k oldest items. Without --k, `kfifo check` tries k = 2 and
+`kfifo judge` k = 1.
 
 Faults, each one line on standard error:
   kfifo: input                reading failed, or over 16777216 bytes came
   kfifo: not json             the input is no JSON text, or is not UTF-8
-  kfifo: record fault <F>     record faults 1, 2 and 9, as `kfifo check --help` lists them
+  kfifo: record fault <F>     record faults 1, 2 and 9, as `kfifo check --help`
+                              lists them
   kfifo: record fault <F> at call <N>   record faults 3 to 8
   kfifo: measure fault 2      an item is repeated
   kfifo: memory               an allocation failed
@@ -46,7 +52,7 @@ pub fn command<'a>(alloc: Global) -> Result<Command<'a>, AllocError>
 {
     Ok(
         Command::new(alloc, NAME)
-            .about("Reads a record of calls, and says how often each item was certainly overtaken")
+            .about("Says of a record how often each item was certainly overtaken")
             .after_help(EXAMPLES)
             .after_long_help(DETAILS),
     )

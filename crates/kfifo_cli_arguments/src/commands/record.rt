@@ -24,25 +24,31 @@ Examples:
   kfifo record e1,e2,d e3,d,d | kfifo check
                                        whether what they did has a legal order
   kfifo record -k 4 --repeat 100 e1,d e2,d e3,d | kfifo measure
-                                       how often items were certainly overtaken, at most 3 times";
+                                       how often items were certainly overtaken,
+                                       at most 3 times";
 
 pub(crate) const DETAILS: &str = "\
-Each SCRIPT is what one thread calls, in turn: words joined by commas. The first script is that of thread 0.
+Each SCRIPT is what one thread calls, in turn: words joined by commas. The first
+script is that of thread 0.
   e<ITEM>          put ITEM, 1 to 16777215, into the queue
-  e<ITEM>:<START>  the same, looking at the slots of a segment from START on, 0 to k - 1
+  e<ITEM>:<START>  the same, looking at the slots of a segment from START on, 0
+                   to k - 1
   d                take an item
   d:<START>        the same, looking at the slots of a segment from START on
 Numbers have 1 to 10 decimal digits, and no sign.
 
-The threads are real ones, so the answers may differ from run to run; those of one script alone do not. Where no
-thread can be made, scripts run one after the other.
+The threads are real ones, so the answers may differ from run to run; those of
+one script alone do not. Where no thread can be made, scripts run one after the
+other.
 
-With --repeat each thread makes its script over so often. In repetition R, from 0, each item is greater by R times the
-greatest item of all scripts, so that items stay distinct where they were.
+With --repeat each thread makes its script over so often. In repetition R, from
+0, each item is greater by R times the greatest item of all scripts, so that
+items stay distinct where they were.
 
-The answer is one line: the record of the run, as `kfifo check` and `kfifo measure` read it. The stamps of a call are
-drawn from one clock just before and just after it. The record has a legal order for this k, and where items are
-distinct `kfifo measure` finds none overtaken k times.
+The answer is one line: the record of the run, as `kfifo check` and
+`kfifo measure` read it. The stamps of a call are drawn from one clock just
+before and just after it. The record has a legal order for this k, and where
+items are distinct `kfifo measure` finds none overtaken k times.
 
 Limits: 64 scripts, each of at most 1024 calls with its repetitions.
 
@@ -51,10 +57,12 @@ Faults, each one line on standard error; nothing is printed beside one:
   kfifo: shape fault 2       there are not 2 to 1024 segments
   kfifo: shape fault 3       the greatest version is below 2
   kfifo: shape fault 4       there are not 1 to k probes
-  kfifo: word fault at <N>   script N, counted from 1, has a word that is no call, or whose item or start
-                             is out of range, or an item that goes over 16777215 in the last repetition
+  kfifo: word fault at <N>   script N, counted from 1, has a word that is no
+                             call, or whose item or start is out of range, or an
+                             item that goes over 16777215 in the last repetition
   kfifo: open fault 1        there are over 64 scripts
-  kfifo: open fault 2        an allocation failed while the queue was made or used
+  kfifo: open fault 2        an allocation failed while the queue was made or
+                             used
   kfifo: open fault 4        a script has over 1024 calls with its repetitions
   kfifo: memory              an allocation failed elsewhere
 
@@ -78,15 +86,17 @@ pub fn command<'a>(alloc: Global) -> Result<Command<'a>, AllocError>
         .value_name("TIMES")
         .value_parser(value_parser!(u32).range(1..=1024))
         .default_value("1")
-        .help("How often each script is made over, 1 to 1024, with items of its own each time");
+        .help("How often each script is made over, 1 to 1024, with\nitems of its own each time");
     let scripts = Arg::new(alloc, WORDS)
         .value_name("SCRIPT")
         .action(ArgAction::Append)
         .num_args(1..)
         .required(true)
-        .help("What each thread calls: e<ITEM>, e<ITEM>:<START>, d or d:<START>, joined by commas");
+        .help(
+            "What each thread calls: e<ITEM>, e<ITEM>:<START>, d or\nd:<START>, joined by commas",
+        );
     let command = Command::new(alloc, NAME)
-        .about("Runs each script on a thread of its own, and prints the record of the run")
+        .about("Runs each script on a thread of its own, and prints the record")
         .after_help(EXAMPLES)
         .after_long_help(DETAILS);
     let command = options::with_sizes(alloc, command)?;

@@ -18,36 +18,41 @@ const EXAMPLES: &str = "\
 Examples:
   kfifo run e7 e8 d                    put 7 and 8, and take one of them
   kfifo run -k 1 --segments 2 e7 e8 e9 d d d
-                                       a plain queue of two slots: 9 finds it full
+                                       a plain queue of two slots: 9 finds it
+                                       full
   kfifo run -k 4 e1:2 e2:2 d:2         look from slot 2 on";
 
 pub(crate) const DETAILS: &str = "\
 Each WORD is a call:
   e<ITEM>          put ITEM, 1 to 16777215, into the queue
-  e<ITEM>:<START>  the same, looking at the slots of a segment from START on, 0 to k - 1
+  e<ITEM>:<START>  the same, looking at the slots of a segment from START on, 0
+                   to k - 1
   d                take an item
   d:<START>        the same, looking at the slots of a segment from START on
 Numbers have 1 to 10 decimal digits, and no sign.
 
-Each call is answered by a line, `enqueue <ITEM>: <ANSWER>` or `dequeue: <ANSWER>`:
+Each call is answered by a line, `enqueue <ITEM>: <ANSWER>` or
+`dequeue: <ANSWER>`:
   done        the item is in the queue
   full        the ring was full, and the item is not in the queue
   got <ITEM>  this item was taken
   empty       the queue was empty
   busy        all rounds of --turns ended, each by moving the head or the tail
   worn        the next step would need a version above --last
-A call with --turns of the number of segments plus 2, or more, that no other call disturbs never
-answers busy; in `run` no call is disturbed.
+A call with --turns of the number of segments plus 2, or more, that no other
+call disturbs never answers busy; in `run` no call is disturbed.
 
-Then come the head and the tail, as `head <SEGMENT> v<VERSION>`, and each slot of the queue, as
-`slot <SEGMENT>.<SLOT> <ITEM> v<VERSION>`, with 0 for the item of an empty slot.
+Then come the head and the tail, as `head <SEGMENT> v<VERSION>`, and each slot
+of the queue, as `slot <SEGMENT>.<SLOT> <ITEM> v<VERSION>`, with 0 for the item
+of an empty slot.
 
 Faults, each one line on standard error:
   kfifo: shape fault 1       k is not 1 to 64
   kfifo: shape fault 2       there are not 2 to 1024 segments
   kfifo: shape fault 3       the greatest version is below 2
   kfifo: shape fault 4       there are not 1 to k probes
-  kfifo: word fault at <N>   word N, counted from 1, is no call, or its item or start is out of range
+  kfifo: word fault at <N>   word N, counted from 1, is no call, or its item or
+                             start is out of range
   kfifo: memory              an allocation failed
 
 Exit status:
@@ -58,7 +63,8 @@ Exit status:
 Examples:
   kfifo run e7 e8 d                    put 7 and 8, and take one of them
   kfifo run -k 1 --segments 2 e7 e8 e9 d d d
-                                       a plain queue of two slots: 9 finds it full
+                                       a plain queue of two slots: 9 finds it
+                                       full
   kfifo run -k 4 e1:2 e2:2 d:2         look from slot 2 on
 
 docs/PROGRAM.md and docs/QUEUE.md, where this program comes from, say more.";
@@ -72,9 +78,9 @@ pub fn command<'a>(alloc: Global) -> Result<Command<'a>, AllocError>
         .action(ArgAction::Append)
         .num_args(1..)
         .required(true)
-        .help("The calls, in their order: e<ITEM>, e<ITEM>:<START>, d or d:<START>");
+        .help("The calls, in their order: e<ITEM>, e<ITEM>:<START>, d or\nd:<START>");
     let command = Command::new(alloc, NAME)
-        .about("Makes the calls of a script on the queue, and prints the answers and the words")
+        .about("Makes calls on a queue, and prints their answers and its words")
         .after_help(EXAMPLES)
         .after_long_help(DETAILS);
     let command = options::with_sizes(alloc, command)?;

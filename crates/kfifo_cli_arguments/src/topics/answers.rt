@@ -42,8 +42,8 @@ To do: put a call that has ended before another began in front of that one.
         help: CHECK,
         line: "  fault 5 not a run at",
         advice: "\
-To do: look at the call at this place of the order, from 0: an Empty needs an empty list, a Got one of the k
-oldest items.
+To do: look at the call at this place of the order, from 0: an Empty needs an
+empty list, a Got one of the k oldest items.
 ",
     },
     Topic {
@@ -99,7 +99,8 @@ To do: take items first, or make the queue larger by --segments.
         help: RUN,
         line: "  busy ",
         advice: "\
-To do: give more --turns: the number of segments plus 2 is enough where no other call disturbs.
+To do: give more --turns: the number of segments plus 2 is enough where no other
+call disturbs.
 ",
     },
     Topic {
@@ -131,7 +132,8 @@ To do: nothing.
         help: RUN,
         line: "  busy ",
         advice: "\
-To do: give more --turns: the number of segments plus 2 is enough where no other call disturbs.
+To do: give more --turns: the number of segments plus 2 is enough where no other
+call disturbs.
 ",
     },
     Topic {
@@ -179,7 +181,8 @@ To do: nothing.
         help: RUN,
         line: "  busy ",
         advice: "\
-To do: give more --turns: the number of segments plus 2 is enough where no other call disturbs.
+To do: give more --turns: the number of segments plus 2 is enough where no other
+call disturbs.
 ",
     },
     Topic {

@@ -46,9 +46,11 @@ To do: give another --probes, or none.
         help: RUN,
         line: "  kfifo: word fault",
         advice: "\
-Allowed: e<ITEM>, e<ITEM>:<START>, d and d:<START>, an item from 1 to 16777215 and a start from 0 to k - 1;
-of `replay` and `record` such words joined by commas, of `dispatch` <ID>:<LEFT>:<SUM>.
-To do: correct the word with this number, counted from 1; of `replay` and `record` it is the script with this number.
+Allowed: e<ITEM>, e<ITEM>:<START>, d and d:<START>, an item from 1 to 16777215
+and a start from 0 to k - 1; of `replay` and `record` such words joined by
+commas, of `dispatch` <ID>:<LEFT>:<SUM>.
+To do: correct the word with this number, counted from 1; of `replay` and
+`record` it is the script with this number.
 ",
     },
     Topic {
@@ -56,7 +58,8 @@ To do: correct the word with this number, counted from 1; of `replay` and `recor
         help: CHECK,
         line: "  kfifo: order fault",
         advice: "\
-Allowed: call numbers of 1 to 10 digits joined by commas, `none`, or @ and the path of a file with such a text.
+Allowed: call numbers of 1 to 10 digits joined by commas, `none`, or @ and the
+path of a file with such a text.
 To do: correct the value of --order, or the file, of at most 16777216 bytes.
 ",
     },
@@ -65,7 +68,8 @@ To do: correct the value of --order, or the file, of at most 16777216 bytes.
         help: REPLAY,
         line: "  kfifo: picks fault",
         advice: "\
-Allowed: `none`, or groups <THREAD> or <THREAD>x<COUNT> joined by commas, at most 16777216 picks in all.
+Allowed: `none`, or groups <THREAD> or <THREAD>x<COUNT> joined by commas, at
+most 16777216 picks in all.
 To do: correct the value of --picks.
 ",
     },
@@ -91,7 +95,8 @@ To do: give the program more memory, or make fewer picks.
         help: REPLAY,
         line: "  kfifo: replay fault 3",
         advice: "\
-Allowed: 1 to 64 scripts of at most 64 calls, and with --stop the number of one of them, from 0.
+Allowed: 1 to 64 scripts of at most 64 calls, and with --stop the number of one
+of them, from 0.
 To do: make fewer or shorter scripts, or name another thread.
 ",
     },
@@ -171,7 +176,7 @@ To do: give another --workers.
         line: "  kfifo: draw fault 1",
         advice: "\
 Allowed: at most 4096 calls in a picture.
-To do: draw a part of the run.
+To do: draw a part of the run by --evidence, --calls or --lines.
 ",
     },
     Topic {
@@ -202,12 +207,23 @@ To do: use --calls of a record.
 ",
     },
     Topic {
+        words: "draw fault 5",
+        help: DRAW,
+        line: "  kfifo: draw fault 5",
+        advice: "\
+Allowed: at most 4096 calls in a picture.
+To do: draw a part by --calls or --lines; `kfifo judge` says whether there is
+evidence for another k.
+",
+    },
+    Topic {
         words: "explain fault 1",
         help: EXPLAIN,
         line: "  kfifo: explain fault 1",
         advice: "\
 Allowed: the words of a fault or an answer, as they were printed.
-To do: write them as they were printed, or see the help of the command that printed them.
+To do: write them as they were printed, or see the help of the command that
+printed them.
 ",
     },
     Topic {

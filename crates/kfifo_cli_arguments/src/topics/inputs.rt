@@ -7,11 +7,11 @@ use kfifo_cli_texts::Topic;
 const TOPICS: &[Topic] = &[
     Topic {
         words: "input",
-        help: CHECK,
+        help: JUDGE,
         line: "  kfifo: input",
         advice: "\
-Allowed: at most 16777216 bytes on standard input.
-To do: see that the input can be read, and judge a shorter run.
+Allowed: at most 16777216 bytes.
+To do: see that the file is there and can be read, or judge a shorter run.
 ",
     },
     Topic {
@@ -19,9 +19,11 @@ To do: see that the input can be read, and judge a shorter run.
         help: CHECK,
         line: "  kfifo: not json",
         advice: "\
-Allowed: a JSON array of calls, as `kfifo check --help` shows, of at most 127 levels.
-To do: see that the whole record was written. `judge`, `least` and `draw` read a log in CSV, too; `check` and `measure`
-read what `kfifo import < log.csv` prints.
+Allowed: a JSON array of calls, as `kfifo check --help` shows, of at most 127
+levels.
+To do: see that the whole record was written. `judge`, `least` and `draw` read a
+log in CSV, too; `check` and `measure` read what `kfifo import < log.csv`
+prints.
 ",
     },
     Topic {
@@ -47,9 +49,11 @@ To do: judge a shorter run.
         help: IMPORT,
         line: "  kfifo: record fault 3 at line",
         advice: "\
-Allowed: `thread`, `op` and `first` always; `item` in each enq, and in a deq exactly if it was answered got; `last`
-and `answer` both or neither; no other key in a record; `op` enq or deq; numbers that are whole and at least 0.
-To do: look at the call with this number, from 0, or at this line of the log, from 1.
+Allowed: `thread`, `op` and `first` always; `item` in each enq, and in a deq
+exactly if it was answered got; `last` and `answer` both or neither; no other
+key in a record; `op` enq or deq; numbers that are whole and at least 0.
+To do: look at the call with this number, from 0, or at this line of the log,
+from 1.
 ",
     },
     Topic {
@@ -57,9 +61,11 @@ To do: look at the call with this number, from 0, or at this line of the log, fr
         help: CHECK,
         line: "  kfifo: record fault 3",
         advice: "\
-Allowed: `thread`, `op` and `first` always; `item` in each enq, and in a deq exactly if it was answered got; `last`
-and `answer` both or neither; no other key in a record; `op` enq or deq; numbers that are whole and at least 0.
-To do: look at the call with this number, from 0, or at this line of the log, from 1.
+Allowed: `thread`, `op` and `first` always; `item` in each enq, and in a deq
+exactly if it was answered got; `last` and `answer` both or neither; no other
+key in a record; `op` enq or deq; numbers that are whole and at least 0.
+To do: look at the call with this number, from 0, or at this line of the log,
+from 1.
 ",
     },
     Topic {
@@ -85,7 +91,8 @@ To do: number threads from 0, and items from 1, each with a number of its own.
         help: IMPORT,
         line: "  kfifo: record fault 5 at line",
         advice: "\
-Allowed: done, full, busy and worn of an enq; got, empty, busy and worn of a deq.
+Allowed: done, full, busy and worn of an enq; got, empty, busy and worn of a
+deq.
 To do: correct the answer, or the op.
 ",
     },
@@ -94,7 +101,8 @@ To do: correct the answer, or the op.
         help: CHECK,
         line: "  kfifo: record fault 5",
         advice: "\
-Allowed: done, full, busy and worn of an enq; got, empty, busy and worn of a deq.
+Allowed: done, full, busy and worn of an enq; got, empty, busy and worn of a
+deq.
 To do: correct the answer, or the op.
 ",
     },
@@ -104,7 +112,8 @@ To do: correct the answer, or the op.
         line: "  kfifo: record fault 6 at line",
         advice: "\
 Allowed: `last` equal to `first` or greater.
-To do: read one monotonic clock before and after the call, and write the earlier value as `first`.
+To do: read one monotonic clock before and after the call, and write the earlier
+value as `first`.
 ",
     },
     Topic {
@@ -113,7 +122,8 @@ To do: read one monotonic clock before and after the call, and write the earlier
         line: "  kfifo: record fault 6",
         advice: "\
 Allowed: `last` equal to `first` or greater.
-To do: read one monotonic clock before and after the call, and write the earlier value as `first`.
+To do: read one monotonic clock before and after the call, and write the earlier
+value as `first`.
 ",
     },
     Topic {
@@ -122,7 +132,8 @@ To do: read one monotonic clock before and after the call, and write the earlier
         line: "  kfifo: record fault 7",
         advice: "\
 Allowed: calls by rising `first`, no two of which begin at one stamp.
-To do: sort the calls by `first`. In a log in CSV lines may stand in any order, and two calls may begin at one time.
+To do: sort the calls by `first`. In a log in CSV lines may stand in any order,
+and two calls may begin at one time.
 ",
     },
     Topic {
@@ -130,8 +141,10 @@ To do: sort the calls by `first`. In a log in CSV lines may stand in any order, 
         help: IMPORT,
         line: "  kfifo: record fault 8 at line",
         advice: "\
-Allowed: calls of one thread that follow one another: the next begins after the one before has ended.
-To do: give each thread a number of its own. A thread whose call never returned makes no more calls.
+Allowed: calls of one thread that follow one another: the next begins after the
+one before has ended.
+To do: give each thread a number of its own. A thread whose call never returned
+makes no more calls.
 ",
     },
     Topic {
@@ -139,8 +152,10 @@ To do: give each thread a number of its own. A thread whose call never returned 
         help: CHECK,
         line: "  kfifo: record fault 8",
         advice: "\
-Allowed: calls of one thread that follow one another: the next begins after the one before has ended.
-To do: give each thread a number of its own. A thread whose call never returned makes no more calls.
+Allowed: calls of one thread that follow one another: the next begins after the
+one before has ended.
+To do: give each thread a number of its own. A thread whose call never returned
+makes no more calls.
 ",
     },
     Topic {
@@ -157,8 +172,9 @@ To do: give the program more memory, or judge a shorter run.
         line: "  kfifo: no input",
         advice: "\
 Allowed: a record in JSON or a log in CSV on standard input.
-To do: read the line before this fault. Where another command stands before this one in a pipe, as in
-`kfifo import < log.csv | kfifo judge`, it has probably failed, and printed why.
+To do: read the line before this fault. Where another command stands before this
+one in a pipe, as in `kfifo import < log.csv | kfifo judge`, it has probably
+failed, and printed why.
 ",
     },
     Topic {
@@ -166,8 +182,9 @@ To do: read the line before this fault. Where another command stands before this
         help: IMPORT,
         line: "  kfifo: csv fault",
         advice: "\
-Allowed: a header with thread, op, item, first, last and answer, in any order, and below it a call a line, with as many
-fields; a field that does not apply is empty.
+Allowed: a header with thread, op, item, first, last and answer, each once and
+in any order, and below it a call a line, with as many fields; a field that does
+not apply is empty.
 To do: look at this line, counted from 1. A record in JSON begins with [.
 ",
     },
@@ -193,7 +210,8 @@ To do: give the program more memory, or use `kfifo judge`.
         help: MEASURE,
         line: "  kfifo: measure fault 2",
         advice: "\
-Allowed: items of which no two enqueues that are done or unfinished carry one, and no two dequeues got one.
+Allowed: items of which no two enqueues that are done or unfinished carry one,
+and no two dequeues got one.
 To do: give each item a number of its own.
 ",
     },

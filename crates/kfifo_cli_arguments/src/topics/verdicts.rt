@@ -1,7 +1,43 @@
-//! The answers of `judge` and `least`.
+//! The answers of `judge` and `least`, and evidence by its name.
 
 use crate::topics::{JUDGE, LEAST};
 use kfifo_cli_texts::Topic;
+
+const NEVER_PUT: &str = "\
+To do: look for a dequeue that returns what was not put, or too soon; or for a
+call that is missing in the log.
+";
+
+const TAKEN_TWICE: &str = "\
+To do: look for a dequeue that takes an item which another one takes, too; or
+for a put that is missing in the log.
+";
+
+const NOT_EMPTY: &str = "\
+To do: see behind each put whether its item was got later: then the queue said
+empty too early; or never: then it was lost, or was left inside at the end of
+the log. Drain the queue until it answers empty before the log ends.
+";
+
+const TOO_YOUNG: &str = "\
+To do: see below for which k there may be an order: for those the queue is a
+k-relaxed one.
+";
+
+const TAKEN_TOO_SOON: &str = "\
+To do: look for a dequeue that takes an item which another one takes, too; give
+each item a number of its own to see which one.
+";
+
+const ITEMS_LEFT: &str = "\
+To do: look for a dequeue that says empty too early; give each item a number of
+its own to see which items were there.
+";
+
+const OLDER_LEFT: &str = "\
+To do: see below for which k there may be an order; give each item its own
+number to see which calls got the others.
+";
 
 /// If two begin alike, the longer one comes first.
 const TOPICS: &[Topic] = &[
@@ -10,7 +46,8 @@ const TOPICS: &[Topic] = &[
         help: JUDGE,
         line: "  no order for k = <K>",
         advice: "\
-To do: read the line below it: it names the calls because of which no order is legal.
+To do: read the line below it: it names the calls because of which no order is
+legal.
 ",
     },
     Topic {
@@ -18,7 +55,16 @@ To do: read the line below it: it names the calls because of which no order is l
         help: JUDGE,
         line: "  legal for k = <K>",
         advice: "\
-To do: nothing: the calls may be those of a queue that gives any of its k oldest items. `--show` prints the order.
+To do: nothing: the calls may be those of a queue that gives any of its k oldest
+items. `--show` prints the order.
+",
+    },
+    Topic {
+        words: "calls #, items left",
+        help: JUDGE,
+        line: "  calls <N>, items left <M>",
+        advice: "\
+To do: make sure that the calls are as many as were made. If the queue was emptied at the end, items left are lost.
 ",
     },
     Topic {
@@ -26,7 +72,7 @@ To do: nothing: the calls may be those of a queue that gives any of its k oldest
         help: JUDGE,
         line: "  undecided for k = <K>",
         advice: "\
-To do: read the line below it: it says why the search stopped.
+To do: read the line below it: it says why the search stopped, and `kfifo explain` what helps.
 ",
     },
     Topic {
@@ -43,7 +89,8 @@ To do: give more --tries, or judge a shorter run.
         help: JUDGE,
         line: "  nothing is left to try",
         advice: "\
-To do: give each item a number of its own, let each call end, and judge a shorter run.
+To do: give each item a number of its own, let each call end, and judge a
+shorter run.
 ",
     },
     Topic {
@@ -51,7 +98,8 @@ To do: give each item a number of its own, let each call end, and judge a shorte
         help: JUDGE,
         line: "  ; items repeat",
         advice: "\
-To do: give each item a number of its own: then k = 1 is always decided if each call ends.
+To do: give each item a number of its own: then k = 1 is always decided if each
+call ends.
 ",
     },
     Topic {
@@ -59,7 +107,8 @@ To do: give each item a number of its own: then k = 1 is always decided if each 
         help: JUDGE,
         line: "  ; items repeat",
         advice: "\
-To do: give each item a number of its own: then k = 1 is always decided if each call ends.
+To do: give each item a number of its own: then k = 1 is always decided if each
+call ends.
 ",
     },
     Topic {
@@ -67,66 +116,93 @@ To do: give each item a number of its own: then k = 1 is always decided if each 
         help: LEAST,
         line: "  no order ",
         advice: "\
-To do: of `check`, use `kfifo judge`, which says why; of `least`, read the line below it.
+To do: of `check`, use `kfifo judge`, which says why; of `least`, read the line
+below it.
 ",
     },
     Topic {
         words: "call # got item #, which no",
         help: JUDGE,
         line: "  call <N> got item <X>, which no",
-        advice: "\
-To do: look for a dequeue that returns what was not put, or too soon; or for a call that is missing in the log.
-",
+        advice: NEVER_PUT,
+    },
+    Topic {
+        words: "NeverPut",
+        help: JUDGE,
+        line: "  call <N> got item <X>, which no",
+        advice: NEVER_PUT,
     },
     Topic {
         words: "call # got item #, which was",
         help: JUDGE,
         line: "  call <N> got item <X>, which was",
-        advice: "\
-To do: look for a dequeue that takes an item which another one takes, too; or for a put that is missing in the log.
-",
+        advice: TAKEN_TWICE,
+    },
+    Topic {
+        words: "TakenTwice",
+        help: JUDGE,
+        line: "  call <N> got item <X>, which was",
+        advice: TAKEN_TWICE,
     },
     Topic {
         words: "call # found nothing, while some",
         help: JUDGE,
         line: "  call <N> found nothing, while some",
-        advice: "\
-To do: look for a dequeue that says empty too early; give each item a number of its own to see which items were there.
-",
+        advice: ITEMS_LEFT,
+    },
+    Topic {
+        words: "ItemsLeft",
+        help: JUDGE,
+        line: "  call <N> found nothing, while some",
+        advice: ITEMS_LEFT,
     },
     Topic {
         words: "call # found nothing,",
         help: JUDGE,
         line: "  call <N> found nothing, while there",
-        advice: "\
-To do: see behind each put whether its item was got later: then the queue said empty too early; or never: then it was
-lost, or was left inside at the end of the log. Drain the queue until it answers empty before the log ends.
-",
+        advice: NOT_EMPTY,
+    },
+    Topic {
+        words: "NotEmpty",
+        help: JUDGE,
+        line: "  call <N> found nothing, while there",
+        advice: NOT_EMPTY,
     },
     Topic {
         words: "call # got item #, while",
         help: JUDGE,
         line: "  call <N> got item <X>, while",
-        advice: "\
-To do: see below for which k there may be an order: for those the queue is a k-relaxed one.
-",
+        advice: TOO_YOUNG,
+    },
+    Topic {
+        words: "TooYoung",
+        help: JUDGE,
+        line: "  call <N> got item <X>, while",
+        advice: TOO_YOUNG,
     },
     Topic {
         words: "call # got item #, when",
         help: JUDGE,
         line: "  call <N> got item <X>, when",
-        advice: "\
-To do: look for a dequeue that takes an item which another one takes, too; give each item a number of its own to see
-which one.
-",
+        advice: TAKEN_TOO_SOON,
+    },
+    Topic {
+        words: "TakenTooSoon",
+        help: JUDGE,
+        line: "  call <N> got item <X>, when",
+        advice: TAKEN_TOO_SOON,
     },
     Topic {
         words: "call # got item #, though",
         help: JUDGE,
         line: "  call <N> got item <X>, though",
-        advice: "\
-To do: see below for which k there may be an order; give each item its own number to see which calls got the others.
-",
+        advice: OLDER_LEFT,
+    },
+    Topic {
+        words: "OlderLeft",
+        help: JUDGE,
+        line: "  call <N> got item <X>, though",
+        advice: OLDER_LEFT,
     },
     Topic {
         words: "call #: thread",
@@ -149,7 +225,8 @@ To do: see this line of the log, counted from 1.
         help: JUDGE,
         line: "  , got by call",
         advice: "\
-To do: see call M: it got the item after the call that found nothing, or after one that got a younger item.
+To do: see call M: it got the item after the call that found nothing, or after
+one that got a younger item.
 ",
     },
     Topic {
@@ -157,7 +234,8 @@ To do: see call M: it got the item after the call that found nothing, or after o
         help: JUDGE,
         line: "  , got by call",
         advice: "\
-To do: see call M: it got the item after the call that found nothing, or after one that got a younger item.
+To do: see call M: it got the item after the call that found nothing, or after
+one that got a younger item.
 ",
     },
     Topic {
@@ -165,7 +243,8 @@ To do: see call M: it got the item after the call that found nothing, or after o
         help: JUDGE,
         line: "  , never got",
         advice: "\
-To do: drain the queue until it answers empty before the log ends: what is never got then is lost.
+To do: drain the queue until it answers empty before the log ends: what is never
+got then is lost.
 ",
     },
     Topic {
@@ -173,7 +252,8 @@ To do: drain the queue until it answers empty before the log ends: what is never
         help: JUDGE,
         line: "  , never got",
         advice: "\
-To do: drain the queue until it answers empty before the log ends: what is never got then is lost.
+To do: drain the queue until it answers empty before the log ends: what is never
+got then is lost.
 ",
     },
     Topic {
@@ -189,7 +269,8 @@ To do: nothing: it is a bound that is proved.
         help: LEAST,
         line: "  k at most",
         advice: "\
-To do: nothing: an order is legal for this k. A greater --tries may find one for a lesser k.
+To do: nothing: an order is legal for this k. A greater --tries may find one for
+a lesser k.
 ",
     },
     Topic {

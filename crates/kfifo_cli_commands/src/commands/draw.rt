@@ -1,25 +1,29 @@
 //! The command `draw`: a picture of a record or a log, or of a part of it.
-ghost use Rattle.std.specs.Prelude.{◌≡◌, ◌≢◌, ◌≤◌, ◌⊎◌, true, IfErr, IfOk, MatchResult, length, option_map};
-ghost use Rattle.kfifo_cli_commands.specs.Cuts.{named_by};
-ghost use Rattle.kfifo_cli_commands.specs.Pictures.{IsDraw, IsDrawRefusal, IsNoPicture, IsPicture, IsPictureOf};
+ghost use Rattle.std.specs.Prelude.{◌≡◌, ◌≢◌, ◌≤◌, ◌⊎◌, ◌++◌, ◌∷◌, None, true, IfErr, IfOk, IsSome};
+ghost use Rattle.std.specs.Prelude.{MatchResult, OnOk, length, option_map, take};
+ghost use Rattle.kfifo_judge.specs.Reasons.{others};
+ghost use Rattle.kfifo_cli_commands.specs.Cuts.{LacksEvidence, named_by};
+ghost use Rattle.kfifo_cli_commands.specs.Inputs.{read_from};
+ghost use Rattle.kfifo_cli_commands.specs.Pictures.{HasFew, IsDraw, IsDrawRefusal, IsNoPicture, IsNotDrawn};
+ghost use Rattle.kfifo_cli_commands.specs.Pictures.{IsPicture, IsPictureOf};
 ghost use Rattle.kfifo_cli_commands.specs.Records.{IsOrder, IsOrderFault, ReadsWell};
 ghost use Rattle.kfifo_draw.specs.Drawing.{AreFew, AreMany, IsInPart};
 
 use crate::cut::{Cut, cut_of, is_of_lines, part_of};
-use crate::input::{read_calls, read_input};
+use crate::input::{read_calls, read_given};
 use crate::progress::Progress;
 use kfifo_cli_texts::{DrawOptions, Fault, order_of};
-use kfifo_draw::{DrawFault, Drawing, Marking, Part, Style, draw};
+use kfifo_draw::{DEFAULT_WIDTH, DrawFault, Drawing, Marking, Part, Style, draw};
 use kfifo_import::LoggedCall;
-use kfifo_judge::{Source, push_reason};
+use kfifo_judge::{Source, others_of, push_reason, with_lines};
 use kfifo_model::History;
 use kfifo_verdict::{Evidence, evidence};
 use std::alloc::{AllocError, Global};
 use std::fmt::Write;
 use std::rt::Files;
 
-/// The picture of the record or the log of the input, or of the part of it that the options ask for. If a line of a log
-/// is no call, the progress is told.
+/// The picture of the calls of the file, or of the input where no file is named: of all of them, or of the part that
+/// the options ask for. If a line of a log is no call, the progress is told.
 pub fn answer<H: Files, S: Source, P: Progress>(
     alloc: Global,
     files: &H,
@@ -27,15 +31,16 @@ pub fn answer<H: Files, S: Source, P: Progress>(
     input: &mut S,
     progress: &mut P,
 ) -> Result<String, Fault>
-    ensures ok { IfOk result (λ _. IsDraw options.entry (S.remaining input.old)) }
-    ensures err { IfErr result (IsDrawRefusal options.entry (S.remaining input.old) (S.failed input.old)
-        (S.failed input.new)) }
+    ensures ok { IfOk result (λ _. IsDraw options.entry (read_from options.entry.file (S.remaining input.old))) }
+    ensures err { IfErr result (IsDrawRefusal options.entry (read_from options.entry.file (S.remaining input.old))
+        (S.failed input.old) (S.failed input.new)) }
     ensures silent { IfErr result (λ fault. fault ≢ Fault.Output) }
     ensures reads { ReadsWell result (S.failed input.old) (S.failed input.new) }
+    ensures aside { IsSome options.entry.file → input.new ≡ input.old }
 {
     let cut = cut_of(options)?;
     let order = order_given(alloc, files, options)?;
-    let bytes = read_input(alloc, input)?;
+    let bytes = read_given(alloc, files, options.file, input)?;
     picture(alloc, bytes.as_slice(), options, cut, &order, progress)
 }
 
@@ -61,7 +66,9 @@ fn style_of(options: DrawOptions<'_>) -> Style {
     if options.text {
         Style::Text
     } else {
-        Style::Svg
+        Style::Svg {
+            width: options.width.unwrap_or(DEFAULT_WIDTH),
+        }
     }
 }
 
@@ -80,15 +87,16 @@ fn picture<P: Progress>(
     let calls = read_calls(alloc, bytes, progress)?;
     let history = &calls.history;
     if let Some(logged) = &calls.logged {
-        return Ok(picture_of(alloc, history, logged.as_slice(), options, cut, order)?);
+        return picture_of(alloc, history, logged.as_slice(), options, cut, order);
     }
     if is_of_lines(cut) {
         return Err(Fault::NoLines);
     }
-    Ok(picture_of(alloc, history, &[], options, cut, order)?)
+    picture_of(alloc, history, &[], options, cut, order)
 }
 
 /// The picture of these calls of a history, with this order.
+#[tactic(auto, using(crate::proofs::Picturing::plain_refused))]
 fn picture_of<'x>(
     alloc: Global,
     history: &History,
@@ -96,11 +104,10 @@ fn picture_of<'x>(
     options: DrawOptions<'_>,
     cut: Cut,
     order: &'x Option<Vec<usize>>,
-) -> Result<String, DrawFault>
-    ensures { MatchResult result (λ _. IsPictureOf AreFew options.entry.check.k options.entry.evidence cut history.now
+) -> Result<String, Fault>
+    ensures { MatchResult result (λ _. IsPictureOf HasFew options.entry.check.k options.entry.evidence cut history.now
         logged.now)
-        (λ fault. fault ≡ DrawFault.TooMany
-        → IsPictureOf AreMany options.entry.check.k options.entry.evidence cut history.now logged.now) }
+        (IsNotDrawn options.entry.check.k options.entry.evidence cut history.now logged.now) }
 {
     let (k, style) = (options.check.k, style_of(options));
     if options.evidence {
@@ -111,7 +118,7 @@ fn picture_of<'x>(
         None => Marking::Nothing,
     };
     let part = part_of(cut, None);
-    draw(
+    let text = draw(
         alloc,
         history,
         &Drawing {
@@ -121,10 +128,12 @@ fn picture_of<'x>(
             k,
             logged,
         },
-    )
+    )?;
+    Ok(text)
 }
 
 /// The picture of these calls of a history, in which those that the evidence names are marked.
+#[tactic(auto, using(crate::proofs::Picturing::none_refused))]
 fn picture_of_evidence(
     alloc: Global,
     history: &History,
@@ -132,30 +141,25 @@ fn picture_of_evidence(
     k: u32,
     style: Style,
     cut: Cut,
-) -> Result<String, DrawFault>
+) -> Result<String, Fault>
     requires { (1 ≤ k) × (k ≤ 64) }
-    ensures { MatchResult result (λ _. IsPictureOf AreFew k true cut history.now logged.now)
-        (λ fault. fault ≡ DrawFault.TooMany → IsPictureOf AreMany k true cut history.now logged.now) }
+    ensures { MatchResult result (λ _. IsPictureOf HasFew k true cut history.now logged.now)
+        (IsNotDrawn k true cut history.now logged.now) }
 {
     let found = evidence(alloc, history, k)?;
-    let reason = reason_of(alloc, history, k, &found)?;
+    let reason = reason_of(alloc, history, logged, k, &found)?;
+    let why = reason.as_str();
     let Some(found) = found else {
         let none: Vec<usize> = Vec::new(alloc);
         let part = part_of(cut, None);
-        return marked(
-            alloc,
-            history,
-            logged,
-            k,
-            style,
-            part,
-            none.as_slice(),
-            reason.as_str(),
-        );
+        return match marked(alloc, history, logged, k, style, part, none.as_slice(), why) {
+            Ok(text) => Ok(text),
+            Err(fault) => Err(fault_without_evidence(fault, cut)),
+        };
     };
-    let named = named_calls(alloc, &found)?;
+    let named = named_calls(alloc, history, &found)?;
     let part = part_of(cut, Some(named.as_slice()));
-    marked(
+    let text = marked(
         alloc,
         history,
         logged,
@@ -163,8 +167,24 @@ fn picture_of_evidence(
         style,
         part,
         named.as_slice(),
-        reason.as_str(),
-    )
+        why,
+    )?;
+    Ok(text)
+}
+
+/// The fault of a picture where there is no evidence.
+fn fault_without_evidence(fault: DrawFault, cut: Cut) -> Fault
+    ensures memory { fault ≡ DrawFault.Memory → result ≡ Fault.Memory }
+    ensures lacks { fault ≡ DrawFault.TooMany → LacksEvidence true None cut → result ≡ Fault.NoEvidence }
+    ensures many { fault ≡ DrawFault.TooMany → ¬ (LacksEvidence true None cut) → result ≡ Fault.TooManyDrawn }
+{
+    match fault {
+        DrawFault::TooMany => match cut {
+            Cut::Evidence(_) => Fault::NoEvidence,
+            Cut::Whole | Cut::Calls(_) | Cut::Lines(_) => Fault::TooManyDrawn,
+        },
+        DrawFault::Memory => Fault::Memory,
+    }
 }
 
 /// The picture of a part of a history, in which these calls are marked for this reason.
@@ -198,14 +218,30 @@ fn marked<'x>(
     )
 }
 
-/// The calls that evidence names: the one that got an item or found none, and then the puts.
-fn named_calls(alloc: Global, found: &Evidence) -> Result<Vec<usize>, AllocError>
-    ensures { IfOk result (λ calls. calls.items ≡ named_by found.now) }
+/// Adds a get, and the first of the others that put or got its item.
+fn push_moves(
+    alloc: Global,
+    calls: &mut Vec<usize>,
+    history: &History,
+    get: usize,
+) -> Result<(), AllocError>
+    ensures { OnOk result (calls.new.items ≡ calls.old.items ++ (get ∷ take 31 (others history.now get))) }
+{
+    let others = others_of(alloc, history, get)?;
+    calls.push(get)?;
+    calls.extend_from_slice(with_lines(others.as_slice()))
+}
+
+/// The calls that evidence names: the one that got an item or found none, and then the puts, or of an item that was
+/// taken too often or too soon the first others that put or got it.
+fn named_calls(alloc: Global, history: &History, found: &Evidence) -> Result<Vec<usize>, AllocError>
+    ensures { IfOk result (λ calls. calls.items ≡ named_by history.now found.now) }
 {
     let mut calls = Vec::new(alloc);
     match found {
-        Evidence::NeverPut(get) | Evidence::TakenTwice(get) => calls.push(*get)?,
-        Evidence::TakenTooSoon(get) => calls.push(*get)?,
+        Evidence::NeverPut(get) => calls.push(*get)?,
+        Evidence::TakenTwice(get) => push_moves(alloc, &mut calls, history, *get)?,
+        Evidence::TakenTooSoon(get) => push_moves(alloc, &mut calls, history, *get)?,
         Evidence::ItemsLeft(empty) => calls.push(*empty)?,
         Evidence::NotEmpty { empty, puts } => {
             calls.push(*empty)?;
@@ -227,6 +263,7 @@ fn named_calls(alloc: Global, found: &Evidence) -> Result<Vec<usize>, AllocError
 fn reason_of(
     alloc: Global,
     history: &History,
+    logged: &[LoggedCall],
     k: u32,
     found: &Option<Evidence>,
 ) -> Result<String, AllocError> {
@@ -234,7 +271,7 @@ fn reason_of(
     match found {
         Some(found) => {
             write!(text, "no order for k = {k}: ")?;
-            push_reason(&mut text, history, found)?;
+            push_reason(&mut text, history, logged, found)?;
         }
         None => write!(text, "no evidence for k = {k}")?,
     }

@@ -19,6 +19,9 @@ pub fn answer(alloc: Global, options: ExplainOptions<'_>) -> Result<String, Faul
     if let Some(text) = explanation(alloc, options.words, options.third_topics, options.helps)? {
         return Ok(text);
     }
+    if let Some(text) = explanation(alloc, options.words, options.fourth_topics, options.helps)? {
+        return Ok(text);
+    }
     match explanation(alloc, options.words, options.last_topics, options.helps)? {
         Some(text) => Ok(text),
         None => Err(Fault::Unexplained),

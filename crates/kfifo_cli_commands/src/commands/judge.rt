@@ -1,31 +1,37 @@
 //! The command `judge`: a verdict on a history of any length.
-ghost use Rattle.std.specs.Prelude.{◌≡◌, ◌≢◌, ◌⊎◌, IfErr, IfOk, MatchResult, string_bytes};
-ghost use Rattle.kfifo_cli_commands.specs.Inputs.{IsNoCalls};
+ghost use Rattle.std.specs.Prelude.{◌≡◌, ◌≢◌, ◌⊎◌, IfErr, IfOk, IsSome, MatchResult, string_bytes};
+ghost use Rattle.kfifo_cli_commands.specs.Inputs.{IsNoCalls, read_from};
 ghost use Rattle.kfifo_cli_commands.specs.Records.{ReadsWell};
 ghost use Rattle.kfifo_cli_commands.specs.Statuses.{status_number};
 ghost use Rattle.kfifo_cli_commands.specs.Verdicts.{IsJudge, IsJudged, IsVerdictRefusal};
 
-use crate::input::{read_calls, read_input};
+use crate::input::{read_calls, read_given};
 use crate::progress::Progress;
 use crate::status::{Status, status_of};
 use kfifo_cli_texts::{Fault, JudgeOptions};
 use kfifo_judge::{Source, judge_text};
 use std::alloc::Global;
+use std::rt::Files;
 
-/// The lines for the calls of the input, and the status. If a line of a log is no call, the progress is told.
-pub fn answer<S: Source, P: Progress>(
+/// The lines for the calls of the file, or of the input where no file is named, and the status. If a line of a log is
+/// no call, the progress is told.
+pub fn answer<H: Files, S: Source, P: Progress>(
     alloc: Global,
-    options: JudgeOptions,
+    files: &H,
+    options: JudgeOptions<'_>,
     input: &mut S,
     progress: &mut P,
 ) -> Result<(String, Status), Fault>
-    ensures ok { IfOk result (λ a. IsJudge options (S.remaining input.old) (string_bytes a.0) (status_number a.1)) }
+    ensures ok { IfOk result (λ a. IsJudge options.entry (read_from options.entry.file (S.remaining input.old))
+        (string_bytes a.0) (status_number a.1)) }
     ensures status { IfOk result (λ a. (a.1 ≡ Status.Answered) ⊎ (a.1 ≡ Status.Unordered) ⊎ (a.1 ≡ Status.Undecided)) }
-    ensures err { IfErr result (IsVerdictRefusal (S.remaining input.old) (S.failed input.old) (S.failed input.new)) }
+    ensures err { IfErr result (IsVerdictRefusal (read_from options.entry.file (S.remaining input.old))
+        (S.failed input.old) (S.failed input.new)) }
     ensures silent { IfErr result (λ fault. fault ≢ Fault.Output) }
     ensures reads { ReadsWell result (S.failed input.old) (S.failed input.new) }
+    ensures aside { IsSome options.entry.file → input.new ≡ input.old }
 {
-    let bytes = read_input(alloc, input)?;
+    let bytes = read_given(alloc, files, options.file, input)?;
     let (text, status) = text_of(alloc, options, bytes.as_slice(), progress)?;
     Ok((text, status))
 }
@@ -33,11 +39,11 @@ pub fn answer<S: Source, P: Progress>(
 /// The lines for the calls of these bytes, and the status.
 fn text_of<P: Progress>(
     alloc: Global,
-    options: JudgeOptions,
+    options: JudgeOptions<'_>,
     bytes: &[u8],
     progress: &mut P,
 ) -> Result<(String, Status), Fault>
-    ensures said { MatchResult result (λ a. IsJudged options bytes.now (string_bytes a.0) (status_number a.1))
+    ensures said { MatchResult result (λ a. IsJudged options.entry bytes.now (string_bytes a.0) (status_number a.1))
         (IsNoCalls bytes.now) }
     ensures status { IfOk result (λ a. (a.1 ≡ Status.Answered) ⊎ (a.1 ≡ Status.Unordered) ⊎ (a.1 ≡ Status.Undecided)) }
 {

@@ -37,20 +37,113 @@ fn check_starts(rt: &impl Abort, starts: &mut RoundRobin, wanted: &[u32]) {
 
 #[test]
 fn goes_round_the_slots(rt: HostRuntime) -> Result<(), Fail> {
-    let mut starts = RoundRobin::new(2, 4);
-    assert_eq!(rt; (starts.start(), starts.k()), (2, 4));
-    check_starts(&rt, &mut starts, &[2, 3, 0, 1, 2]);
-    check_starts(&rt, &mut RoundRobin::new(0, 1), &[0, 0, 0]);
+    let mut starts = RoundRobin::new(2, 3, 4);
+    assert_eq!(rt; (starts.start(), starts.stride(), starts.k()), (2, 3, 4));
+    check_starts(&rt, &mut starts, &[2, 1, 0, 3, 2]);
+    check_starts(&rt, &mut RoundRobin::new(0, 0, 1), &[0, 0, 0]);
     Ok(())
 }
 
+/// The starts of a thread of so many, for one k, and what comes next.
+struct Spread {
+    thread: u32,
+    threads: u32,
+    k: u32,
+    starts: &'static [u32],
+}
+
+/// A stride of 1 for two threads, of 3 for more, of 5 where 3 divides k, and of 7 where 15 does.
+const SPREADS: &[Spread] = &[
+    Spread {
+        thread: 0,
+        threads: 1,
+        k: 4,
+        starts: &[0, 1, 2, 3, 0],
+    },
+    Spread {
+        thread: 1,
+        threads: 2,
+        k: 4,
+        starts: &[2, 3, 0, 1, 2],
+    },
+    Spread {
+        thread: 1,
+        threads: 3,
+        k: 4,
+        starts: &[1, 0, 3, 2, 1],
+    },
+    Spread {
+        thread: 2,
+        threads: 3,
+        k: 4,
+        starts: &[2, 1, 0, 3, 2],
+    },
+    Spread {
+        thread: 1,
+        threads: 4,
+        k: 8,
+        starts: &[2, 5, 0, 3, 6, 1, 4, 7, 2],
+    },
+    Spread {
+        thread: 0,
+        threads: 3,
+        k: 6,
+        starts: &[0, 5, 4, 3, 2, 1, 0],
+    },
+    Spread {
+        thread: 0,
+        threads: 4,
+        k: 15,
+        starts: &[0, 7, 14, 6, 13],
+    },
+    Spread {
+        thread: 63,
+        threads: 64,
+        k: 64,
+        starts: &[63, 2, 5],
+    },
+    Spread {
+        thread: 63,
+        threads: 64,
+        k: 2,
+        starts: &[1, 0, 1],
+    },
+    Spread {
+        thread: 5,
+        threads: 64,
+        k: 1,
+        starts: &[0, 0],
+    },
+];
+
+/// The example of `RoundRobin`.
 #[test]
-fn spreads_the_first_starts(rt: HostRuntime) -> Result<(), Fail> {
-    assert_eq!(rt; RoundRobin::spread(0, 3, 4).start(), 0);
-    assert_eq!(rt; RoundRobin::spread(1, 3, 4).start(), 1);
-    assert_eq!(rt; RoundRobin::spread(2, 3, 4).start(), 2);
-    assert_eq!(rt; RoundRobin::spread(63, 64, 64).start(), 63);
-    assert_eq!(rt; RoundRobin::spread(63, 64, 2).start(), 1);
+fn strides_by_3_of_8_slots(rt: HostRuntime) -> Result<(), Fail> {
+    let mut starts = RoundRobin::spread(1, 4, 8); // the second of four threads: 2, 5, 0, 3, 6, 1, 4, 7, 2, ..
+    let first = starts.next();
+    assert_eq!(rt; first, 2);
+    check_starts(&rt, &mut starts, &[5, 0, 3, 6, 1, 4, 7, 2]);
+    Ok(())
+}
+
+fn check_spread(rt: &impl Abort, spread: &Spread) {
+    let Spread {
+        thread,
+        threads,
+        k,
+        starts,
+    } = *spread;
+    if thread >= threads || k < 1 || k > 64 {
+        panic!(rt; "no thread {thread} of {threads} with k = {k}");
+    }
+    check_starts(rt, &mut RoundRobin::spread(thread, threads, k), starts);
+}
+
+#[test]
+fn spreads_the_starts_of_threads(rt: HostRuntime) -> Result<(), Fail> {
+    for spread in SPREADS {
+        check_spread(&rt, spread);
+    }
     Ok(())
 }
 

@@ -149,6 +149,70 @@ fn finds_all_tokens_of_two_passes(rt: HostRuntime) -> Result<(), Fail> {
     Ok(())
 }
 
+/// A handle gives, or takes, one payload after the other. It then has so many tokens.
+fn check_handle(
+    rt: &impl Abort,
+    queue: &PayQueue<u64>,
+    handle: &mut PayHandle<u64>,
+    way: Way,
+    calls: u32,
+    tokens: usize,
+)
+    requires { IsPassOf queue.now handle.old.pass.pass }
+    ensures { IsSamePass handle.old.pass.pass handle.new.pass.pass }
+{
+    for call in 0..calls {
+        let done = match way {
+            Way::Give => give_by_handle(queue, handle, u64::from(call)) == Given::Done,
+            Way::Take => matches!(take_by_handle(queue, handle), Taken::Got(_)),
+        };
+        assert!(rt; done, "{way:?} {call}");
+    }
+    assert_eq!(rt; handle.pass().tokens(), tokens, "{way:?}");
+}
+
+/// What a handle does.
+#[derive(Clone, Copy, Debug)]
+enum Way {
+    Give,
+    Take,
+}
+
+/// Two passes of 40 tokens move 16 at a time. The taker keeps 15 beyond its own, and lays 16 down with the next one. The
+/// giver, which then has none, picks up these 16 and gives one of them.
+#[test]
+fn moves_a_batch_of_tokens(rt: HostRuntime) -> Result<(), Fail> {
+    let shape = Shape::new(8, 8, MAX_VERSION)?;
+    let (queue, giver, taker) = open_pool_two(rt.alloc(), shape, 40)?;
+    let mut giver = PayHandle::new(&queue, giver);
+    let mut taker = PayHandle::new(&queue, taker);
+    check_handle(&rt, &queue, &mut giver, Way::Give, 40, 0);
+    check_handle(&rt, &queue, &mut taker, Way::Take, 15, 55);
+    assert_eq!(rt;
+        (give_by_handle(&queue, &mut giver, 1), taker.surpluses()),
+        (Given::NoToken(1), 0)
+    );
+    check_handle(&rt, &queue, &mut taker, Way::Take, 1, 40);
+    check_handle(&rt, &queue, &mut giver, Way::Give, 1, 15);
+    check_handle(&rt, &queue, &mut giver, Way::Give, 15, 0);
+    assert_eq!(rt; (giver.shortages(), taker.surpluses()), (2, 1));
+    Ok(())
+}
+
+/// Two passes of 9 tokens move 4 at a time: half of them.
+#[test]
+fn moves_a_small_batch_of_few_tokens(rt: HostRuntime) -> Result<(), Fail> {
+    let shape = Shape::new(8, 8, MAX_VERSION)?;
+    let (queue, giver, taker) = open_pool_two(rt.alloc(), shape, 9)?;
+    let mut giver = PayHandle::new(&queue, giver);
+    let mut taker = PayHandle::new(&queue, taker);
+    check_handle(&rt, &queue, &mut giver, Way::Give, 9, 0);
+    check_handle(&rt, &queue, &mut taker, Way::Take, 3, 12);
+    check_handle(&rt, &queue, &mut taker, Way::Take, 1, 9);
+    check_handle(&rt, &queue, &mut giver, Way::Give, 1, 3);
+    Ok(())
+}
+
 #[test]
 fn nothing_rests_without_a_pool(rt: HostRuntime) -> Result<(), Fail> {
     let shape = Shape::new(1, 2, MAX_VERSION)?;

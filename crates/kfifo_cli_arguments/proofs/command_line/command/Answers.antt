@@ -5,9 +5,9 @@ use Rattle.kfifo_cli_arguments.proofs.command_line.command.Goals as goal
 pub returns : goal.returns
 returns c =
     let bare = bare_program_is c.new.result c.in_ok-bin_name.field-0 c.no_binary_name.result c.version.result c.about.result
-    c.after_help.result c.subcommand_required.result c.arg_required_else_help.result _ _ _
+    c.after_help.result c.after_long_help.result c.subcommand_required.result c.arg_required_else_help.result _ _ _ _
     c.new.ensures.app c.new.ensures.local c.in_ok-bin_name.ensures.0 c.no_binary_name.ensures c.version.ensures c.about.ensures
-    c.after_help.ensures c.subcommand_required.ensures c.arg_required_else_help.ensures in
+    c.after_help.ensures c.after_long_help.ensures c.subcommand_required.ensures c.arg_required_else_help.ensures in
     let one = adds_command _ _ c.in_ok-subcommand.field-0 _ _ bare c.in_ok-command.ensures c.in_ok-subcommand.ensures in
     let two = adds_command _ _ c.in_ok-subcommand-2.field-0 _ _ one c.in_ok-command-2.ensures c.in_ok-subcommand-2.ensures in
     let three = adds_command _ _ c.in_ok-subcommand-3.field-0 _ _ two c.in_ok-command-3.ensures c.in_ok-subcommand-3.ensures in

@@ -60,8 +60,9 @@ returns-in-Some-subcommand_matches-6-clause-some c =
 pub returns-in-Some-subcommand_matches-7-clause-some : goal.returns-in-Some-subcommand_matches-7-clause-some
 returns-in-Some-subcommand_matches-7-clause-some c =
     let found = c.in-Some-subcommand_matches-7 in (
-      found_of found.field-0.now,
-      named_as c.args.matches.now (codes "import") (found_of found.field-0.now) (found.ensures.found.0 refl) found.ensures.rows,
+      found_of found.options.now,
+      named_as c.args.matches.now (codes "import") (found_of found.options.now) (found.ensures.found.0 refl) found.ensures.rows,
+      c.options_of-in-Some-subcommand_matches-7.ensures,
     )
 
 pub returns-in-Some-subcommand_matches-8-clause-some : goal.returns-in-Some-subcommand_matches-8-clause-some

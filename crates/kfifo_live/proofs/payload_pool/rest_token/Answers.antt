@@ -3,8 +3,8 @@ use Rattle.kfifo_live.specs.Schedule.{resting_view}
 use Rattle.kfifo_live.proofs.Pools.{pool_at}
 use Rattle.kfifo_live.proofs.payload_pool.rest_token.Goals as goal
 
-pub give-given-requires : goal.give-given-requires
-give-given-requires g c =
+pub give-requires : goal.give-requires
+give-requires g c =
     let within = c.if-token-pool.false in
     let some = c.if-token-eq0.false in
     let positive : 0 < c.args.token = omega arith in

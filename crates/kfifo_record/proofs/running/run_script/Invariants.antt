@@ -5,7 +5,7 @@ use Rattle.kfifo_record.proofs.running.run_script.Given as goal
 
 abbrev pub invariant-loop-index : goal.invariant-loop-index
 invariant-loop-index g l = record {
-  made : MakesInTurn (take l.index l.script) l.fn.pass l.pass;
+  made : MakesInTurn (g.G.Gate.passed l.gate l.fn.pass.pass.thread) 1 (take l.index l.script) l.fn.pass l.pass;
   same : IsSamePass l.fn.pass.pass l.pass.pass;
   count : length l.pass.log ≡ l.index;
 }

@@ -2,7 +2,7 @@
 use Rattle.std.proofs.Common.{◌≡◌, ℕ, ◌+◌, ap, refl, sym, subst, ◌∙◌, arith}
 use Rattle.kfifo_machine.specs.declared.event.Begin.TheVariants.{Dequeue}
 use Rattle.kfifo_live.specs.declared.view.Opening.{Opening}
-use Rattle.kfifo_live.specs.Handles.{enough_turns, start_after}
+use Rattle.kfifo_live.specs.Handles.{Cycle, enough_turns, moved}
 use Rattle.kfifo_c.specs.Seats.{Seated}
 use Rattle.kfifo_c.specs.Exports.{Called, Gets}
 use Rattle.kfifo_c.proofs.seat.Seat.get.Goals as goal
@@ -29,6 +29,6 @@ returns c =
           made;
       busy = λ is. e.call.disturbed is (omega (arith, turns));
       next_get = ap (λ r. r.start) c.next-start.ensures.moves
-          ∙ ap (λ (k : ℕ). start_after k i.gets.start) (v.3 ∙ ap (λ (o : Opening). o.shape.k) (sym v.0.1));
+          ∙ ap (λ (c : Cycle). (moved c).start) v.3;
       same_put = refl;
     })

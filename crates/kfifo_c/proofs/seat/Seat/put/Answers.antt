@@ -2,7 +2,7 @@
 use Rattle.std.proofs.Common.{◌≡◌, ℕ, ◌+◌, ap, refl, sym, subst, ◌∙◌, arith}
 use Rattle.kfifo_machine.specs.declared.event.Begin.TheVariants.{Enqueue}
 use Rattle.kfifo_live.specs.declared.view.Opening.{Opening}
-use Rattle.kfifo_live.specs.Handles.{enough_turns, start_after}
+use Rattle.kfifo_live.specs.Handles.{Cycle, enough_turns, moved}
 use Rattle.kfifo_c.specs.Seats.{Seated}
 use Rattle.kfifo_c.specs.Exports.{Called, Puts}
 use Rattle.kfifo_c.proofs.seat.Seat.put.Goals as goal
@@ -29,6 +29,6 @@ returns c =
           (λ j. (c.next-start.ensures.start j, turns j)) made;
       busy = λ is. e.call.disturbed is (omega (arith, turns));
       next_put = ap (λ r. r.start) c.next-start.ensures.moves
-          ∙ ap (λ (k : ℕ). start_after k i.puts.start) (v.2 ∙ ap (λ (o : Opening). o.shape.k) (sym v.0.1));
+          ∙ ap (λ (c : Cycle). (moved c).start) v.2;
       same_get = refl;
     })

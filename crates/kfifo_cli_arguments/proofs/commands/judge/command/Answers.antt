@@ -1,6 +1,6 @@
 use Rattle.std.proofs.Common.{ap, codes, ◌∙◌}
 use Rattle.std.proofs.lemmas.Result.{IfOk-weaker}
-use Rattle.kfifo_cli_arguments.specs.CommandLine.{with_places, with_tries}
+use Rattle.kfifo_cli_arguments.specs.CommandLine.{with_file, with_places, with_tries}
 use Rattle.kfifo_cli_arguments.proofs.Rules.{adds, bare_command, help_rule}
 use Rattle.kfifo_cli_arguments.proofs.commands.judge.command.Goals as goal
 
@@ -12,6 +12,6 @@ returns c =
     c.about.ensures c.after_help.ensures c.after_long_help-command.ensures in
     let placed = c.in_ok-command.ensures.0 ∙ ap (with_places (codes "1")) bare.0 in
     let tried = c.in_ok-with_tries.ensures.0 ∙ ap with_tries placed in
-    IfOk-weaker c.arg.result _ _ (λ r h.
-    let all = adds _ r c.help-show.result _ _ tried show h in
-    (all.0, all.1 ∙ (c.in_ok-with_tries.ensures.1 ∙ (c.in_ok-command.ensures.1 ∙ bare.1)))) c.arg.ensures
+    let all = adds _ c.in_ok-command-2.command c.help-show.result _ _ tried show c.in_ok-command-2.ensures in
+    let own = all.1 ∙ (c.in_ok-with_tries.ensures.1 ∙ (c.in_ok-command.ensures.1 ∙ bare.1)) in
+    IfOk-weaker c.with_file.result _ _ (λ r h. (h.0 ∙ ap with_file all.0, h.1 ∙ own)) c.with_file.ensures

@@ -5,4 +5,5 @@ returns c = record {
   k = c.places_of.ensures.given;
   tries = c.tries_of.ensures;
   show = (c.get_flag.ensures.none, c.get_flag.ensures.value, c.get_flag.ensures.other);
+  file = c.file_of.ensures;
 }

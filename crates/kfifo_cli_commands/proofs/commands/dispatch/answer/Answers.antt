@@ -1,4 +1,5 @@
-use Rattle.std.proofs.Common.{◌∙◌, ap, rules, Err, flat_map}
+use Rattle.std.proofs.Common.{◌∙◌, ℕ, ap, rules, subst, Err, flat_map}
+use Rattle.kfifo_dispatch.specs.Working.{HasRun, SaysNothing}
 use Rattle.kfifo_cli_texts.specs.declared.fault.Fault.TheVariants.{Dispatch}
 use Rattle.kfifo_cli_commands.specs.Dispatches.{IsDispatchRefusal, IsTasksFault}
 use Rattle.kfifo_cli_texts.specs.Tasks.{finished_line}
@@ -36,5 +37,7 @@ returns-clause-ok g c =
           (λ h. let bad = c.in_ok-list.ensures.workers.1 h in cc);
       list = c.in_ok-list.list.items;
       list_is = c.in_ok-list.ensures.ok;
+      run = subst (λ (seed : ℕ). HasRun SaysNothing SaysNothing c.in_ok-shape.shape c.args.options.workers seed tasks) c.from-seed.ensures
+          c.in_ok-list.ensures.run;
       text_is = c.in_ok-text.ensures ∙ ap (flat_map finished_line) c.as_slice-2.ensures.value;
     }

@@ -1,6 +1,7 @@
 use Rattle.std.proofs.Common.{◌≡◌, ◌≢◌, List, ℕ, rules, subst, sym}
 use Rattle.kfifo_cli_texts.specs.declared.fault.Fault.TheVariants.{Output}
 use Rattle.kfifo_cli_texts.proofs.Outcomes.{ok_to}
+use Rattle.kfifo_cli_commands.specs.Inputs.{read_from}
 use Rattle.kfifo_cli_commands.specs.Pictures.{IsDrawRefusal}
 use Rattle.kfifo_cli_commands.specs.Records.{IsInput}
 use Rattle.kfifo_cli_commands.proofs.Drawing.{cut_refused, err_of, input_refused, ok_of, order_refused, picture_refused, read_well}
@@ -11,37 +12,37 @@ use Rattle.kfifo_cli_commands.proofs.commands.draw.answer.Goals as goal
 pub returns-in_err-cut-clause-err : goal.returns-in_err-cut-clause-err
 returns-in_err-cut-clause-err g c =
     let at = g.S.Source.failed c.args.input.now in
-    let refusal : IsDrawRefusal c.args.options (g.S.Source.remaining c.args.input.now) at at c.in_err-cut.field-0.0 =
-    cut_refused (g.S.Source.remaining c.args.input.now) at at c.args.options c.in_err-cut.field-0.0 c.in_err-cut.ensures in
+    let refusal : IsDrawRefusal c.args.options (read_from c.args.options.file (g.S.Source.remaining c.args.input.now)) at at c.in_err-cut.field-0.0 =
+    cut_refused (read_from c.args.options.file (g.S.Source.remaining c.args.input.now)) at at c.args.options c.in_err-cut.field-0.0 c.in_err-cut.ensures in
     search (rules, refusal)
 
 pub returns-in_err-cut-clause-silent : goal.returns-in_err-cut-clause-silent
 returns-in_err-cut-clause-silent g c =
     let at = g.S.Source.failed c.args.input.now in
-    let refusal : IsDrawRefusal c.args.options (g.S.Source.remaining c.args.input.now) at at c.in_err-cut.field-0.0 =
-    cut_refused (g.S.Source.remaining c.args.input.now) at at c.args.options c.in_err-cut.field-0.0 c.in_err-cut.ensures in
+    let refusal : IsDrawRefusal c.args.options (read_from c.args.options.file (g.S.Source.remaining c.args.input.now)) at at c.in_err-cut.field-0.0 =
+    cut_refused (read_from c.args.options.file (g.S.Source.remaining c.args.input.now)) at at c.args.options c.in_err-cut.field-0.0 c.in_err-cut.ensures in
     let told : c.in_err-cut.field-0.0 ≢ Output =
-    refusal_told (g.S.Source.remaining c.args.input.now) at at c.args.options c.in_err-cut.field-0.0 refusal in
+    refusal_told (read_from c.args.options.file (g.S.Source.remaining c.args.input.now)) at at c.args.options c.in_err-cut.field-0.0 refusal in
     search (rules, told)
 
 pub returns-in_err-order-clause-err : goal.returns-in_err-order-clause-err
 returns-in_err-order-clause-err g c =
     let at = g.S.Source.failed c.args.input.now in
-    let refusal : IsDrawRefusal c.args.options (g.S.Source.remaining c.args.input.now) at at c.in_err-order.field-0.0 =
-    order_refused (g.S.Source.remaining c.args.input.now) at at c.args.options c.in_err-order.field-0.0 c.in_err-order.ensures.err in
+    let refusal : IsDrawRefusal c.args.options (read_from c.args.options.file (g.S.Source.remaining c.args.input.now)) at at c.in_err-order.field-0.0 =
+    order_refused (read_from c.args.options.file (g.S.Source.remaining c.args.input.now)) at at c.args.options c.in_err-order.field-0.0 c.in_err-order.ensures.err in
     search (rules, refusal)
 
 pub returns-in_err-bytes-clause-err : goal.returns-in_err-bytes-clause-err
 returns-in_err-bytes-clause-err g c =
     let before = g.S.Source.failed c.args.input.now in
-    let after = g.S.Source.failed c.read_input.new.input in
-    let refusal : IsDrawRefusal c.args.options (g.S.Source.remaining c.args.input.now) before after c.in_err-bytes.field-0.0 =
-    input_refused (g.S.Source.remaining c.args.input.now) before after c.args.options c.in_err-bytes.field-0.0 c.in_err-bytes.ensures.err in
+    let after = g.S.Source.failed c.read_given.new.input in
+    let refusal : IsDrawRefusal c.args.options (read_from c.args.options.file (g.S.Source.remaining c.args.input.now)) before after c.in_err-bytes.field-0.0 =
+    input_refused (read_from c.args.options.file (g.S.Source.remaining c.args.input.now)) before after c.args.options c.in_err-bytes.field-0.0 c.in_err-bytes.ensures.err in
     search (rules, refusal)
 
 pub returns-clause-ok : goal.returns-clause-ok
 returns-clause-ok g c =
-    let input = g.S.Source.remaining c.args.input.now in
+    let input = read_from c.args.options.file (g.S.Source.remaining c.args.input.now) in
     let read = subst (λ (b : List ℕ). IsInput input b) (sym c.as_slice.ensures.value) c.in_ok-bytes.ensures.ok in
     ok_to _ _ (λ text pictured. record {
       cut = c.in_ok-cut.cut;
@@ -55,7 +56,7 @@ returns-clause-ok g c =
 
 pub returns-clause-err : goal.returns-clause-err
 returns-clause-err g c =
-    let input = g.S.Source.remaining c.args.input.now in
+    let input = read_from c.args.options.file (g.S.Source.remaining c.args.input.now) in
     let read = subst (λ (b : List ℕ). IsInput input b) (sym c.as_slice.ensures.value) c.in_ok-bytes.ensures.ok in
     err_to _ _ (λ fault given. picture_refused input _ _ c.args.options c.in_ok-cut.cut c.in_ok-cut.ensures c.as_slice.result.now read fault
     given)
@@ -63,7 +64,7 @@ returns-clause-err g c =
 
 pub returns-clause-silent : goal.returns-clause-silent
 returns-clause-silent g c =
-    let input = g.S.Source.remaining c.args.input.now in
+    let input = read_from c.args.options.file (g.S.Source.remaining c.args.input.now) in
     let at = g.S.Source.failed c.args.input.now in
     let read = subst (λ (b : List ℕ). IsInput input b) (sym c.as_slice.ensures.value) c.in_ok-bytes.ensures.ok in
     told input at at c.args.options c.picture.result

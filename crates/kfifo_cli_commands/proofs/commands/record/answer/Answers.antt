@@ -1,6 +1,7 @@
 use Rattle.std.proofs.Common.{◌≡◌, ◌∙◌, ◌<◌, ◌≤◌, ◌⊎◌, ℕ, List, ap, length, rules, subst, sym, Err}
 use Rattle.std.proofs.lemmas.List.{length-map}
 use Rattle.kfifo_cli_commands.proofs.Types.{Begin}
+use Rattle.kfifo_dispatch.specs.Working.{SaysNothing}
 use Rattle.kfifo_record.specs.Repeats.{all_repeated}
 use Rattle.kfifo_record.specs.Scripts.{AreScripts, IsRecord, longest, scripts_in}
 use Rattle.kfifo_cli_texts.specs.declared.fault.Fault.TheVariants.{Open}
@@ -65,7 +66,7 @@ returns-clause-ok g c =
       scripts = own;
       given = gives c.args.options c.in_ok-shape.shape c.in_ok-shape.ensures.ok c.k.result c.k.ensures own c.in_ok-once.ensures.scripts;
       history = c.in_ok-history.history;
-      recorded = subst (λ (s : List (List Begin)). IsRecord c.in_ok-shape.shape s c.in_ok-history.history) same c.in_ok-history.ensures.ok;
+      recorded = subst (λ (s : List (List Begin)). IsRecord SaysNothing c.in_ok-shape.shape s c.in_ok-history.history) same c.in_ok-history.ensures.ok;
       text_is = c.in_ok-text.ensures.line;
       read_back = c.in_ok-text.ensures.read_back;
     }

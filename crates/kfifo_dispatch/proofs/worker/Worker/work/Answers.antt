@@ -6,7 +6,7 @@ use Rattle.kfifo_dispatch.proofs.worker.Worker.work.Goals as goal
 pub returns-in-Over-clause-works : goal.returns-in-Over-clause-works
 returns-in-Over-clause-works g c =
     let less : c.loop-call.call < 65536 = omega (arith, c.loop-call-test.true) in
-    is_over (g.P.Station.passes c.args.gate.now) g.P.Station.takes g.P.Station.gives _ _ _ _ _ _ _ _ _ _ _ _
+    is_over (g.P.Station.passes c.args.gate.now) _ g.P.Station.takes g.P.Station.gives _ _ _ _ _ _ _ _ _ _ _ _
     c.loop-call.invariant.ends less c.loop-call.invariant.turns c.in-Over.is c.take_once.ensures.turn
 
 pub loop-call-preserved : goal.loop-call-preserved
@@ -22,11 +22,11 @@ loop-call-preserved g c =
       same = same_trans (g.P.Station.known c.args.self.now.pass) before after i.same same.0;
       turns = same.2 ∙ i.turns;
       ends =
-          goes_on (g.P.Station.passes c.args.gate.now) g.P.Station.takes g.P.Station.gives _ _ _ _ _ _ _ _ _ _ _ _ _ _
+          goes_on (g.P.Station.passes c.args.gate.now) _ g.P.Station.takes g.P.Station.gives _ _ _ _ _ _ _ _ _ _ _ _ _ _
           i.ends less i.turns c.in-On.is c.take_once.ensures.turn c.in_ok-keep-in-On.ensures;
     }
 
 pub returns-clause-works : goal.returns-clause-works
 returns-clause-works g c =
     let all : c.loop-call.call ≡ 65536 = omega (arith, c.loop-call.auto.call-end, c.loop-call-test.false) in
-    at_end (g.P.Station.passes c.args.gate.now) g.P.Station.takes g.P.Station.gives _ _ _ _ _ _ _ _ c.loop-call.invariant.ends all
+    at_end (g.P.Station.passes c.args.gate.now) _ g.P.Station.takes g.P.Station.gives _ _ _ _ _ _ _ _ c.loop-call.invariant.ends all

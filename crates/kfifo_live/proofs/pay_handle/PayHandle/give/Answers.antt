@@ -1,5 +1,5 @@
 -- A token is picked up where the pass has none, and then the pass gives.
-use Rattle.std.proofs.Common.{◌≡◌, ℕ, length, sym, ap, ◌∙◌, subst}
+use Rattle.std.proofs.Common.{◌≡◌, length, refl, sym, ap, ◌∙◌, subst}
 use Rattle.kfifo_live.specs.Payloads.{Gives}
 use Rattle.kfifo_live.specs.Handles.{PayHeld, enough_turns}
 use Rattle.kfifo_live.proofs.Handled.{IsReady, gave, ready_with_none, ready_with_some}
@@ -25,8 +25,8 @@ returns-clause-gives g c =
           let counts = e.counts.0 in
           let mid_start = ap (λ (h : PayHeld g.row.T.Denot). h.give_start) w.self-is in
           let mid_count = ap (λ (h : PayHeld g.row.T.Denot). h.shortages) w.self-is in
-          ready_with_none old mid _ _ (sym size ∙ w.if-tokens-eq0.true) e.picks (cc) (ap (λ (h : PayHeld g.row.T.Denot). h.pass) w.self-is)
-          (cc) (cc)
+          ready_with_none old mid old.pass w.pick_up.new.self.pass (sym size ∙ w.if-tokens-eq0.true) e.picks refl
+          (ap (λ (h : PayHeld g.row.T.Denot). h.pass) w.self-is) (mid_start ∙ starts) (mid_count ∙ counts)
       | else-tokens-eq0 w ↦ ready_with_some old mid (λ none. w.if-tokens-eq0.false (size ∙ none)) (let is = w.self-is in cc)
     ] in
     gave c.args.payload c.give.result old mid _ ready c.next-start.result c.self-2.inside.turns

@@ -1,0 +1,46 @@
+/* Makes the calls that its arguments name, in one thread, with a call of `boundary` before and after each, so that
+   `atomics` finds in a trace of the emulator what each call executed. The first argument is k; there are two segments.
+   A word is e<item>:<start>, d:<start>, p<item> and g for a put and a get, or v<value> and t for a give and a take.
+   Prints the number of each status. */
+#include "kfifo.h"
+#include <stdio.h>
+#include <stdlib.h>
+
+enum { TURNS = 4 };
+
+/* A call that the compiler can neither leave out nor merge. */
+__attribute__((noinline)) void boundary(void) { __asm__ volatile("" ::: "memory"); }
+
+static kfifo_status call(kfifo_pass *pass, kfifo_value_pass *values, const char *word) {
+    uint32_t item;
+    uint64_t value;
+    char *rest;
+    unsigned long number = strtoul(word + 1, &rest, 10);
+    uint32_t start = (uint32_t)strtoul(*rest ? rest + 1 : "0", NULL, 10);
+    switch (*word) {
+    case 'e': return kfifo_enqueue(pass, (uint32_t)number, start, TURNS);
+    case 'd': return kfifo_dequeue(pass, &item, start, TURNS);
+    case 'p': return kfifo_put(pass, (uint32_t)number);
+    case 'g': return kfifo_get(pass, &item);
+    case 'v': return kfifo_give(values, number);
+    case 't': return kfifo_take(values, &value);
+    }
+    return KFIFO_BAD_CALL;
+}
+
+int main(int count, char **words) {
+    kfifo_pass pass;
+    kfifo_value_pass values;
+    uint32_t k = (uint32_t)strtoul(count > 1 ? words[1] : "", NULL, 10);
+    if (kfifo_open(k, 2, k, KFIFO_LAST, &pass, 1) != KFIFO_DONE) return 1;
+    if (kfifo_open_values(k, 2, 16, &values, 1) != KFIFO_DONE) return 1;
+    for (int i = 2; i < count; i++) {
+        boundary();
+        kfifo_status status = call(&pass, &values, words[i]);
+        boundary();
+        printf("%d\n", (int)status);
+    }
+    kfifo_abandon_values(&values, 1);
+    kfifo_abandon(&pass, 1);
+    return 0;
+}

@@ -1,0 +1,309 @@
+// A small model of waiting: the steps of kfifo_wait.h and wait.c over a queue that is two counters, explored over all
+// interleavings of three threads. None may end with a thread asleep. Then the same with a step left out or misplaced:
+// each of these has to be caught.
+#include <array>
+#include <cstdint>
+#include <cstdio>
+#include <unordered_set>
+#include <vector>
+
+namespace {
+
+enum class Fault {
+    none,
+    no_second_look,
+    word_read_after_look,
+    word_not_changed,
+    others_seen_before_call,
+    not_handed_on,
+    end_wakes_one,
+    count
+};
+
+// Where a thread is: each is one atomic step.
+enum Step : std::uint64_t {
+    see_end,       // of a give: whether the queue is finished
+    look,          // the give or the take
+    see_end_empty, // of a take that found nothing: whether the queue is finished
+    last_look,     // the look after that
+    announce,      // it says that it waits
+    read_word,     // it reads the word that it would sleep on
+    sleep,         // it falls asleep if the word is still what it read
+    asleep,        //
+    retract,       // it says that it no longer waits
+    see_others,    // after a call: whether others wait
+    change_filled, // the word of takers, before one is woken
+    wake_taker,    //
+    change_emptied,
+    wake_giver,
+    set_end, // it finishes the queue
+    end_filled,
+    end_takers,
+    end_emptied,
+    end_givers,
+    ended
+};
+
+struct Thread {
+    Step step;
+    bool gives;               // it gives values, else it takes them
+    std::uint64_t left;       // how many calls it still makes, at most 3
+    bool finishes;            // it finishes the queue behind its calls
+    bool until_end;           // it takes until the queue is finished
+    bool is_announced;        // it is among those that wait
+    bool is_current;          // the word that it would sleep on is what it read
+    bool sees_takers = false; // what it saw of the others
+    bool sees_givers = false;
+
+    std::uint64_t packed() const {
+        std::uint64_t bits = step;
+        for (bool bit : {gives, finishes, until_end, is_announced, is_current, sees_takers, sees_givers})
+            bits = bits << 1 | bit;
+        return bits << 2 | left;
+    }
+};
+
+// Two segments of k slots, with so many values in that which takes empty and in that which gives fill. As in the queue,
+// a give finds the ring full until the first of them is empty.
+struct State {
+    std::array<Thread, 3> threads;
+    std::uint64_t k, head, tail;
+    bool finished = false;
+
+    std::uint64_t packed() const {
+        std::uint64_t bits = finished;
+        for (const Thread &thread : threads) bits = bits << 14 | thread.packed();
+        return (bits << 2 | head) << 2 | tail;
+    }
+    bool give() {
+        if (head == 0 && tail == k) head = k, tail = 0;
+        if (tail == k) return false;
+        tail++;
+        return true;
+    }
+    bool take() {
+        if (head == 0) head = tail, tail = 0;
+        if (head == 0) return false;
+        head--;
+        return true;
+    }
+    bool has_waiting(bool givers) const {
+        for (const Thread &thread : threads)
+            if (thread.gives == givers && thread.is_announced) return true;
+        return false;
+    }
+    // The word that takers or givers sleep on changes.
+    void change(bool of_givers) {
+        for (Thread &thread : threads)
+            if (thread.gives == of_givers) thread.is_current = false;
+    }
+};
+
+class Search {
+  public:
+    explicit Search(Fault of) : fault(of) {}
+
+    // Whether no interleaving ends with a thread that has not ended.
+    bool holds(const State &from) {
+        if (!seen.insert(from.packed()).second) return true;
+        bool moved = false;
+        for (std::size_t which = 0; which < from.threads.size(); which++) {
+            for (const State &next : nexts(from, which)) {
+                moved = true;
+                if (!holds(next)) return false;
+            }
+        }
+        if (moved) return true;
+        for (const Thread &thread : from.threads)
+            if (thread.step != ended) return false;
+        return true;
+    }
+    std::size_t states() const { return seen.size(); }
+
+  private:
+    Fault fault;
+    std::unordered_set<std::uint64_t> seen;
+
+    static void leave(Thread &thread) { thread.is_announced = thread.is_current = false; }
+
+    // The next call, or what comes behind the last one.
+    static void begin(Thread &thread) {
+        thread.sees_takers = thread.sees_givers = false;
+        if (thread.until_end || thread.left > 0)
+            thread.step = thread.gives ? see_end : look;
+        else
+            thread.step = thread.finishes ? set_end : ended;
+    }
+
+    // What the thread does with what it saw of the others.
+    void wake_others(Thread &thread) const {
+        if (fault == Fault::not_handed_on && thread.gives) thread.sees_givers = false;
+        if (thread.sees_takers && thread.gives)
+            thread.step = change_filled;
+        else if (thread.sees_givers)
+            thread.step = change_emptied;
+        else
+            begin(thread);
+    }
+
+    // After the look of a call: it was done, or found the queue full or empty.
+    void looked(Thread &thread, bool is_done) const {
+        if (is_done) {
+            // It no longer waits a step before it looks at the others, which only makes it wake fewer.
+            leave(thread);
+            if (!thread.until_end) thread.left--;
+            thread.step = see_others;
+            if (fault == Fault::others_seen_before_call) wake_others(thread);
+        } else {
+            thread.step = !thread.gives ? see_end_empty : thread.is_announced ? sleep : announce;
+        }
+    }
+
+    // All that may come of waking one of the threads that sleep, or all. One that is no longer asleep is not woken.
+    static std::vector<State> wakes(const State &state, bool givers, bool all) {
+        std::vector<State> found;
+        State everybody = state;
+        for (std::size_t i = 0; i < state.threads.size(); i++) {
+            if (state.threads[i].step != asleep || state.threads[i].gives != givers) continue;
+            found.push_back(state);
+            found.back().threads[i].step = everybody.threads[i].step = retract;
+        }
+        if (found.empty() || all) return {everybody};
+        return found;
+    }
+
+    std::vector<State> nexts(State state, std::size_t which) const {
+        Thread &thread = state.threads[which];
+        switch (thread.step) {
+        case see_end:
+            if (state.finished) {
+                leave(thread);
+                thread.left = 0;
+                begin(thread);
+            } else {
+                thread.step = look;
+                if (fault == Fault::others_seen_before_call) thread.sees_takers = state.has_waiting(false);
+            }
+            return {state};
+        case look: looked(thread, thread.gives ? state.give() : state.take()); return {state};
+        case see_end_empty:
+            thread.step = state.finished ? last_look : thread.is_announced ? sleep : announce;
+            return {state};
+        case last_look:
+            if (state.take()) {
+                looked(thread, true);
+            } else {
+                leave(thread);
+                thread.until_end = false;
+                thread.left = 0;
+                thread.step = ended;
+            }
+            return {state};
+        case announce:
+            thread.is_announced = true;
+            thread.step = read_word;
+            return {state};
+        case read_word:
+            thread.is_current = true;
+            thread.step = thread.gives ? see_end : look;
+            if (fault == Fault::no_second_look) thread.step = sleep;
+            return {state};
+        case sleep:
+            thread.step = thread.is_current || fault == Fault::word_read_after_look ? asleep : retract;
+            return {state};
+        case asleep: return {};
+        case retract:
+            leave(thread);
+            thread.step = thread.gives ? see_end : look;
+            return {state};
+        case see_others:
+            thread.sees_takers = thread.gives && state.has_waiting(false);
+            thread.sees_givers = state.has_waiting(true);
+            wake_others(thread);
+            return {state};
+        case change_filled:
+            if (fault != Fault::word_not_changed) state.change(false);
+            thread.step = wake_taker;
+            return {state};
+        case wake_taker:
+            thread.sees_takers = false;
+            wake_others(thread);
+            return wakes(state, false, false);
+        case change_emptied:
+            if (fault != Fault::word_not_changed) state.change(true);
+            thread.step = wake_giver;
+            return {state};
+        case wake_giver: begin(thread); return wakes(state, true, false);
+        case set_end:
+            state.finished = true;
+            thread.step = end_filled;
+            return {state};
+        case end_filled:
+            state.change(false);
+            thread.step = end_takers;
+            return {state};
+        case end_takers: thread.step = end_emptied; return wakes(state, false, fault != Fault::end_wakes_one);
+        case end_emptied:
+            state.change(true);
+            thread.step = end_givers;
+            return {state};
+        case end_givers: thread.step = ended; return wakes(state, true, fault != Fault::end_wakes_one);
+        case ended: return {};
+        }
+        return {};
+    }
+};
+
+Thread giver(std::uint64_t values, bool finishes = false) {
+    return {see_end, true, values, finishes, false, false, false};
+}
+Thread taker(std::uint64_t values) { return {look, false, values, false, false, false, false}; }
+Thread taker_until_end() { return {look, false, 0, false, true, false, false}; }
+Thread finisher() { return {set_end, true, 0, true, false, false, false}; }
+
+State ring(std::uint64_t k, std::uint64_t values, Thread first, Thread second, Thread third) {
+    std::uint64_t head = values < k ? values : k;
+    return {{first, second, third}, k, head, values - head};
+}
+
+// Where the search begins. Without an end each value that is taken is given, and the other way round.
+std::vector<State> beginnings() {
+    return {
+        ring(1, 0, giver(2), taker(1), taker(1)),
+        ring(1, 2, giver(1), giver(1), taker(2)),
+        ring(1, 1, giver(3), taker(1), taker(3)),
+        ring(2, 4, giver(1), giver(1), taker(2)),
+        ring(1, 0, giver(2, true), taker_until_end(), taker_until_end()),
+        ring(1, 2, giver(2, true), taker(2), taker_until_end()),
+        ring(1, 2, giver(1), giver(2), finisher()),
+        ring(1, 0, taker_until_end(), taker_until_end(), finisher()),
+    };
+}
+
+bool holds(Fault fault, std::size_t &states) {
+    bool all = true;
+    for (const State &from : beginnings()) {
+        Search search(fault);
+        all = search.holds(from) && all;
+        states += search.states();
+    }
+    return all;
+}
+
+} // namespace
+
+int main() {
+    std::size_t states = 0, others = 0;
+    bool is_right = holds(Fault::none, states);
+    int missed = 0, faults = 0;
+    for (int number = 1; number < static_cast<int>(Fault::count); number++, faults++) {
+        if (!holds(static_cast<Fault>(number), others)) continue;
+        std::fprintf(stderr, "fault %d of the model is not caught\n", number);
+        missed++;
+    }
+    if (!is_right) std::fputs("an interleaving of the model ends with a thread asleep\n", stderr);
+    std::printf("%zu states of threads that wait: %s; %d faults: %s\n", states,
+                is_right ? "none sleeps on" : "a wake-up is lost", faults,
+                missed ? "not all are caught" : "each is caught");
+    return !is_right || missed;
+}

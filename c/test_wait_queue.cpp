@@ -1,0 +1,169 @@
+// Threads that wait in C++: values that own memory come out once whoever sleeps, all threads end after finish(), and
+// times are kept. A wake-up that is lost would hang the test, which its caller ends after some time.
+#include "kfifo.hpp"
+
+#include <cstdio>
+#include <string>
+#include <thread>
+
+// How many values go through each queue.
+#ifdef FEWER
+#define VALUES 5000
+#else
+#define VALUES 100000
+#endif
+
+namespace {
+
+using namespace std::chrono_literals;
+using Clock = std::chrono::steady_clock;
+
+std::atomic<int> failures{0};
+
+void expect(bool holds, const char *what) {
+    if (!holds) {
+        std::fprintf(stderr, "%s\n", what);
+        failures++;
+    }
+}
+
+// Counts how many are alive. It can be moved and not copied.
+struct Parcel {
+    static std::atomic<long> alive;
+    explicit Parcel(std::size_t what) : number(new std::size_t(what)) { alive++; }
+    Parcel(Parcel &&other) noexcept : number(std::move(other.number)) { alive++; }
+    Parcel &operator=(Parcel &&) noexcept = default;
+    ~Parcel() { alive--; }
+    std::unique_ptr<std::size_t> number;
+};
+
+std::atomic<long> Parcel::alive{0};
+
+using Parcels = kfifo::ValueQueue<Parcel>;
+
+// So many givers and takers over a ring of four slots, where both sides sleep often.
+void run(std::size_t givers, std::size_t takers) {
+    Parcels queue(2, 2, givers + takers, 2);
+    std::vector<std::atomic<unsigned char>> seen(VALUES);
+    std::atomic<std::size_t> still_giving{givers}, taken{0};
+    std::vector<std::thread> threads;
+    for (std::size_t giver = 0; giver < givers; giver++)
+        threads.emplace_back([&, giver, handle = queue.handle()]() mutable {
+            for (std::size_t value = giver; value < VALUES; value += givers)
+                expect(handle.give_wait(Parcel(value)) == kfifo::Put::done, "a give that waits");
+            if (--still_giving == 0) handle.finish();
+        });
+    for (std::size_t taker = 0; taker < takers; taker++)
+        threads.emplace_back([&, handle = queue.handle()]() mutable {
+            for (Parcel parcel : handle.values()) {
+                seen[*parcel.number]++;
+                taken++;
+            }
+            expect(handle.take().why == kfifo::Miss::finished, "a take after the end");
+        });
+    for (std::thread &thread : threads) thread.join();
+    bool once = taken == VALUES;
+    for (auto &times : seen) once = once && times == 1;
+    expect(once, "each value comes out once");
+    expect(Parcel::alive == 0, "each value is destroyed once");
+    expect(queue.close().empty(), "nothing is left");
+}
+
+void times() {
+    kfifo::ValueQueue<std::string> queue(1, 2, 2);
+    auto handle = queue.handle();
+    for (auto time : {-1ns, 0ns, 1ns, 1000ns, 20000000ns}) {
+        auto began = Clock::now();
+        auto taken = handle.take_for(time);
+        expect(!taken.value && taken.why == kfifo::Miss::timed_out, "a take of an empty queue");
+        expect(Clock::now() - began >= time, "the time of a take");
+    }
+    auto before = Clock::now();
+    expect(handle.take_until(before + 10ms).why == kfifo::Miss::timed_out && Clock::now() >= before + 10ms,
+           "a take until a time");
+    expect(handle.take_until(Clock::time_point::min()).why == kfifo::Miss::timed_out,
+           "a take until the beginning of time");
+    auto of_day = std::chrono::system_clock::now();
+    expect(handle.take_until(of_day + 10ms).why == kfifo::Miss::timed_out &&
+               std::chrono::system_clock::now() >= of_day + 10ms,
+           "a take until a time of day");
+    expect(handle.give("first") == kfifo::Put::done && handle.give_for("second", 0s) == kfifo::Put::done,
+           "gives that find room");
+    std::string third(100, 'c');
+    for (auto time : {-1.0, 0.0, 0.02})
+        expect(handle.give_for(std::move(third), std::chrono::duration<double>(time)) == kfifo::Put::timed_out &&
+                   third == std::string(100, 'c'),
+               "a give to a full ring gives its value back");
+    expect(handle.give_until(std::move(third), Clock::now() + 1ms) == kfifo::Put::timed_out &&
+               third == std::string(100, 'c'),
+           "a give until a time gives its value back");
+    // Times without end are ended by what comes, also by calls that do not wait.
+    auto far = std::chrono::hours::max();
+    std::thread giver([&, other = queue.handle()]() mutable {
+        expect(other.give_for(std::move(third), far) == kfifo::Put::done, "a long give");
+    });
+    std::this_thread::sleep_for(5ms);
+    expect(handle.take().value == "first", "a take that makes room");
+    giver.join();
+    expect(handle.take_wait().value == "second" && handle.take_wait().value == std::string(100, 'c'),
+           "values in their order");
+    std::thread taker([&, other = queue.handle()]() mutable {
+        expect(other.take_for(std::chrono::duration<double>(1e300)).value == "last", "a long take");
+        expect(other.take_until(Clock::time_point::max()).why == kfifo::Miss::finished, "a take until the end of time");
+    });
+    std::this_thread::sleep_for(5ms);
+    expect(handle.give("last") == kfifo::Put::done, "a give to a thread that sleeps");
+    std::this_thread::sleep_for(5ms);
+    queue.finish();
+    taker.join();
+}
+
+// Whether a call throws an Error with BAD_CALL.
+template <typename Call> bool refuses(Call call) {
+    try {
+        call();
+    } catch (const kfifo::Error &error) {
+        return error.status() == KFIFO_BAD_CALL;
+    }
+    return false;
+}
+
+void ends() {
+    {
+        Parcels queue(2, 8, 2);
+        auto handle = queue.handle();
+        for (std::size_t i = 0; i < 5; i++) expect(handle.give(Parcel(i)) == kfifo::Put::done, "a give before the end");
+        queue.finish();
+        queue.finish();
+        Parcel late(9);
+        expect(handle.give(std::move(late)) == kfifo::Put::finished && late.number && *late.number == 9,
+               "a give after the end");
+        expect(handle.give_wait(std::move(late)) == kfifo::Put::finished && late.number,
+               "a give after the end that would wait");
+        auto values = handle.values();
+        auto first = values.begin();
+        expect(first != values.end() && *(*first).number < 2, "what was given comes out before the end");
+        expect(!kfifo::may_retry(kfifo::Put::finished) && !kfifo::may_retry(kfifo::Miss::finished), "an end stays");
+        auto moved = std::move(handle);
+        expect(refuses([&] { handle.take_wait(); }) && refuses([&] { handle.give_wait(Parcel(1)); }),
+               "a handle that was moved from");
+        expect(refuses([&] { handle.finish(); }) && refuses([&] { handle.values().begin(); }),
+               "the end by a handle that was moved from");
+    }
+    expect(Parcel::alive == 0, "a finished queue destroys what is left");
+    Parcels queue(1, 2, 1);
+    queue.close();
+    expect(refuses([&] { queue.finish(); }), "the end of a closed queue");
+}
+
+} // namespace
+
+int main() {
+    times();
+    ends();
+    for (std::size_t givers : {1, 2, 4})
+        for (std::size_t takers : {1, 2, 8}) run(givers, takers);
+    std::puts(failures ? "threads that wait fail in C++"
+                       : "1, 2 and 4 givers, 1, 2 and 8 takers that sleep in C++: each value came out once");
+    return failures != 0;
+}

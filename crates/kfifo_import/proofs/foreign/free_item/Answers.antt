@@ -1,0 +1,19 @@
+use Rattle.std.proofs.Common.{ℕ, ◌≢◌, List, subst}
+use Rattle.std.specs.List.{All}
+use Rattle.std.proofs.lemmas.List.Sorted.{All-permutation, IsNonDecreasingBy-from_sort, IsPermutation-sym}
+use Rattle.kfifo_import.proofs.foreign.free_item.Goals as goal
+
+pub first_missing-requires-clause-rise : goal.first_missing-requires-clause-rise
+first_missing-requires-clause-rise c =
+    rw c.as_slice.ensures.value
+    (IsNonDecreasingBy-from_sort (λ (x : ℕ). x) c.sort_unstable.new.self.items c.sort_unstable.ensures.sorted)
+
+pub returns : goal.returns
+returns c =
+    let free = c.first_missing.result in
+    let M : List ℕ → Type 0 = λ xs. All (λ (x : ℕ). x ≢ free) xs in
+    let sorted : M c.sort_unstable.new.self.items = subst M c.as_slice.ensures.value c.first_missing.ensures.missing in
+    let moved = IsPermutation-sym c.in_ok-items.items.items c.sort_unstable.new.self.items c.sort_unstable.ensures.permutation in
+    let put : M c.in_ok-items.items.items =
+    All-permutation (λ (x : ℕ). x ≢ free) c.sort_unstable.new.self.items c.in_ok-items.items.items moved sorted in
+    (c.first_missing.ensures.item, subst M c.in_ok-items.ensures.0 put)

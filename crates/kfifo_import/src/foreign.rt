@@ -1,0 +1,118 @@
+//! Gets of items that no call can put.
+ghost use Rattle.std.specs.Prelude.{◌≡◌, ◌≢◌, ◌≤◌, IfOk, length, map};
+ghost use Rattle.std.specs.List.{All};
+ghost use Rattle.std.specs.List.Sorted.{IsNonDecreasingBy};
+ghost use Rattle.kfifo_model.specs.declared.reading.TheConstants.{MAX_CALLS};
+ghost use Rattle.kfifo_model.specs.Validity.{IsItem};
+ghost use Rattle.kfifo_import.specs.Foreign as specs;
+ghost use Rattle.kfifo_import.specs.Foreign.{AreToJudge, items_put};
+
+use crate::log::Line;
+use kfifo_model::{Answer, Call, End, MAX_ITEM, Op};
+use std::alloc::{AllocError, Global};
+
+/// Whether a call can put the item.
+fn is_puttable(item: u32) -> bool
+    ensures { result ≡ specs.is_puttable item }
+{
+    0 < item && item <= MAX_ITEM
+}
+
+/// The answer, with this item in place of one that no call can put.
+fn answer_with(answer: Answer, free: u32) -> Answer
+    ensures { result ≡ specs.answer_with free answer }
+{
+    match answer {
+        Answer::Got(item) => Answer::Got(if is_puttable(item) { item } else { free }),
+        _ => answer,
+    }
+}
+
+/// The call, with this item in place of one that no call can put.
+fn call_with(call: Call, free: u32) -> Call
+    ensures { result ≡ specs.call_with free call }
+{
+    let end = match call.end {
+        Some(end) => Some(End {
+            last: end.last,
+            answer: answer_with(end.answer, free),
+        }),
+        None => None,
+    };
+    Call {
+        thread: call.thread,
+        op: call.op,
+        first: call.first,
+        end,
+    }
+}
+
+/// The line, where a get of an item that no call can put has got this item in its place.
+fn line_with(line: &Line, free: u32) -> Line
+    ensures { result ≡ specs.line_with free line.now }
+{
+    Line {
+        number: line.number,
+        call: call_with(line.call, free),
+        item: line.item,
+    }
+}
+
+/// The items that the calls of the lines are asked to put.
+fn items_put(alloc: Global, lines: &[Line]) -> Result<Vec<u32>, AllocError>
+    ensures { IfOk result (λ items. (items.items ≡ items_put lines.now) × (length items.items ≤ length lines.now)) }
+{
+    let mut items = Vec::new(alloc);
+    for line in lines {
+        if let Op::Enqueue(item) = line.call.op {
+            items.push(item)?;
+        }
+    }
+    Ok(items)
+}
+
+/// The least number from 1 on that is none of these, which rise.
+fn first_missing(sorted: &[u32]) -> u32
+    requires few { length sorted.now ≤ MAX_CALLS }
+    requires rise { IsNonDecreasingBy (λ x. x) sorted.now }
+    ensures item { IsItem result }
+    ensures missing { All (λ x. x ≢ result) sorted.now }
+{
+    let mut free: u32 = 1;
+    for item in sorted {
+        if *item == free {
+            free += 1;
+        }
+    }
+    free
+}
+
+/// An item that no line puts.
+fn free_item(alloc: Global, lines: &[Line]) -> Result<u32, AllocError>
+    requires { length lines.now ≤ MAX_CALLS }
+    ensures { IfOk result (λ free. IsItem free × All (λ x. x ≢ free) (items_put lines.now)) }
+{
+    let mut items = items_put(alloc, lines)?;
+    items.sort_unstable();
+    Ok(first_missing(items.as_slice()))
+}
+
+/// The lines, with this item in place of each that no call can put.
+fn all_with(alloc: Global, lines: &[Line], free: u32) -> Result<Vec<Line>, AllocError>
+    ensures { IfOk result (λ judged. judged.items ≡ map (specs.line_with free) lines.now) }
+{
+    lines
+        .iter()
+        .map(|line| line_with(line, free))
+        .collect(alloc)
+}
+
+/// The lines, where an item that none of them puts stands for each that no call can put.
+pub(crate) fn with_puttable_items(alloc: Global, lines: &[Line]) -> Result<Vec<Line>, AllocError>
+    requires { length lines.now ≤ MAX_CALLS }
+    ensures { IfOk result (λ judged. AreToJudge lines.now judged.items) }
+{
+    let free = free_item(alloc, lines)?;
+    let judged = all_with(alloc, lines, free)?;
+    Ok(judged)
+}

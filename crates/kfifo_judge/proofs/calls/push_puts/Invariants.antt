@@ -1,6 +1,0 @@
-use Rattle.std.proofs.Common.{◌≡◌, ◌++◌, string_bytes, take}
-use Rattle.kfifo_judge.specs.Calls.{call_lines}
-use Rattle.kfifo_judge.proofs.calls.push_puts.Given as goal
-
-abbrev pub invariant-loop-put : goal.invariant-loop-put
-invariant-loop-put l = string_bytes l.text ≡ string_bytes l.fn.text ++ call_lines l.logged l.history (take l.put-index l.named)
