@@ -233,8 +233,8 @@ module _ {T : Type 0} where
   abbrev pub EndsIn : List Event → Gifts T → PayPassView T → Type 0
   EndsIn all gifts p = Begins p.pass.thread p.pass.seen all × ((later : Gifts T) × (gifts ≡ p.gifts ++ later))
 
-  -- the view w has the parts of v, and what was seen by these passes: a schedule which all parts begin, they have all
-  -- seen
+  -- the view w has the parts of v and what these passes saw: whatever schedule and gifts all parts of w agree with, the
+  -- parts of v and each of these passes agree with them too
   pub record PayJoins (v : View T) (ps : List (PayPassView T)) (w : View T) : Type 0 where
     pub opened : w.opened ≡ v.opened
     pub all_end : (all : List Event) (gifts : Gifts T) → AllBegin w.parts all → AllGiven w.parts gifts

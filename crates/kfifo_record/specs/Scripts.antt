@@ -72,10 +72,12 @@ pub record MayRun (queue : OpenQueue) (scripts : List (List Begin)) (pass : Logg
   pub room : length (script_of scripts pass.pass.thread) ≤ queue.opened.calls
   pub few : queue.opened.calls ≤ MAX_STAMPED_CALLS
 
--- What the run of scripts came to: of one queue pass t made the calls of script t in turn, each between two stamps, and
--- each with the gate passed, by its thread's and its own number. The history has them by rising first stamps, all of them ended. The calls of thread t are script t in its order, and no
--- other thread made one. It has a legal order, and little overtakes (`Gathers`)
-pub record IsRecord (passed : ℕ → ℕ → Type 0) (shape : Shape) (scripts : List (List Begin)) (h : List Call) : Type 0 where
+-- What the run of scripts came to: of one queue, pass t made the calls of script t in turn, each between two stamps.
+-- Before each call it passed the gate, by its thread's number and the call's own. The history has the calls by rising
+-- first stamps, all of them ended. The calls of thread t are script t in its order, and no other thread made a call.
+-- The history has a legal order, and little overtakes (`Gathers`)
+pub record IsRecord (passed : ℕ → ℕ → Type 0) (shape : Shape) (scripts : List (List Begin)) (h : List Call)
+    : Type 0 where
   pub queue : OpenQueue
   pub fresh : List Logged
   pub opened : IsOpenFor shape scripts queue fresh
