@@ -2,6 +2,7 @@
 use Rattle.std.proofs.Common.{◌≡◌, ◌≢◌, ℕ, zero, suc, ◌+◌, ◌-◌, ◌<◌, ◌≤◌, List, [], ◌∷◌, ◌++◌, length, set, get_or, drop, Option, Some}
 use Rattle.std.proofs.Common.{None, refl, sym, ap, ◌∙◌, subst, inl, inr, ⊎_elim, arith, cond, eq-eqb, ne_eqb}
 use Rattle.std.specs.Prelude.{◌==◌, slice_set}
+use Rattle.std.specs.List.{AllByRecursion}
 use Rattle.std.proofs.lemmas.Bool.{cases_eq}
 use Rattle.std.proofs.lemmas.List.{set-get_or, length-set}
 use mathlib.Core.Option.{some}
@@ -371,6 +372,15 @@ adds_token {T} o id me other w opened stood some_tokens alone x is same s kept a
     subst (λ (y : View T × Opening). OneSchedule o s.words s.homes (set (set s.views id y.0) other (view_of y.1 [])))
     (λ i. (both_is i, sym same i)) got
 
+-- each token at home names a slot
+named_home : {T : Type 0} (at : ℕ → Where) (homes : Homes T) (slots thread : ℕ) (xs : List ℕ) → length homes ≡ slots
+    → AllHome at homes thread xs → AllByRecursion (λ x. (0 < x) × (x ≤ slots)) xs
+named_home at homes slots thread [] size home = tt
+named_home at homes slots thread (x ∷ xs) size home =
+    let inside = within_list homes (x - 1) (some None) home.0.2 in
+    let positive = home.0.0 in
+    ((positive, omega (arith, inside, size, positive)), named_home at homes slots thread xs size home.1)
+
 -- A look keeps the rule, and finds no more tokens at home than there are slots
 pub counts_tokens : {T : Type 0} (o : Opening) (slots id : ℕ) (me : Me (Option T) (View T)) (i : ℕ) → IsSeated me.0 → 0 < me.0.opened.tokens
     → Allows (λ (s : State (Option T) (View T)). OneSchedule o s.words s.homes s.views) slots id me i (λ n. n)
@@ -385,5 +395,9 @@ counts_tokens {T} o slots id me i seated some_tokens s kept homes at fits =
       tt,
       subst (λ (x : List ℕ × List (View T)). OneSchedule o x.0 s.homes x.1)
           (λ k. (sym (set-get_or s.words i 0) k, sym (set_again s.views id v at) k)) kept,
-      record { few = omega (arith, room, homes); same = refl },
+      record {
+        few = omega (arith, room, homes);
+        named = named_home kept.at s.homes slots (thread_of v) (hand_of v).at_home homes home;
+        same = refl;
+      },
     )

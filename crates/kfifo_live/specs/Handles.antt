@@ -1,12 +1,19 @@
 -- Starts that move on by themselves, and the passes in handles, which choose the starts and the rounds of their calls.
 use Rattle.std.specs.Prelude.{◌≡◌, ◌≢◌, ◌<◌, ◌≤◌, ◌==◌, ltb, if◌then◌else◌, ℕ, zero, suc, ◌+◌, ◌*◌, ◌^◌, ◌/◌, ◌%◌}
-use Rattle.std.specs.Prelude.{List, [], ◌∷◌, length, min, max}
+use Rattle.std.specs.Prelude.{List, [], ◌∷◌, length, min, max, Option, Some, None}
 use Rattle.kfifo_live.specs.declared.payload.Given.{Given}
+use Rattle.kfifo_live.specs.declared.payload.Given.TheVariants as G
 use Rattle.kfifo_live.specs.declared.payload.Taken.{Taken}
+use Rattle.kfifo_live.specs.declared.payload.Taken.TheVariants as K
+use Rattle.kfifo_live.specs.declared.pay_handle.Published.{Published}
+use Rattle.kfifo_live.specs.declared.pay_handle.Published.TheVariants as P
+use Rattle.kfifo_live.specs.declared.pay_handle.Received.{Received}
+use Rattle.kfifo_live.specs.declared.pay_handle.Received.TheVariants as C
 use Rattle.kfifo_live.specs.declared.pay_handle.TheConstants.{BATCH}
 use Rattle.kfifo_live.specs.declared.view.Opening.{Opening}
 use Rattle.kfifo_live.specs.Pass.{PassView}
-use Rattle.kfifo_live.specs.Payloads.{PayPassView, Gives, TakesOut, LaysDownAtMost, PicksUpAtMost}
+use Rattle.kfifo_live.specs.Payloads.{PayPassView, TokenView, Gives, TakesOut, LaysDownAtMost, PicksUpAtMost}
+use Rattle.kfifo_live.specs.Payloads.{PartsWith, TakesIn}
 
 -- a round robin: how many slots a segment has, how many slots further each start is than the one before, and the start
 -- that comes next
@@ -102,12 +109,81 @@ module _ {T : Type 0} where
     pub gives : Gives old.give_start (enough_turns old.pass.pass) payload answer ready new.pass
     pub shortages : new.shortages ≡ shortages_after old.pass.tokens old.shortages
 
-  -- What `take` of a handle did: the pass took as a pass does, and where it then had a batch or more beyond the tokens
-  -- that it was opened with, it laid a batch down, as far as the queue has a pool, and the handle counted that
+  -- A pass that has a batch of tokens or more beyond those that it was opened with lays a batch down, as far as the
+  -- queue has a pool, and the handle counts that
+  pub record LaysSurplus (old new : PayHeld T) : Type 0 where
+    pub few : length old.pass.tokens < old.pass.pass.opened.tokens + batch_size old.pass.pass.opened → new ≡ old
+    pub more : old.pass.pass.opened.tokens + batch_size old.pass.pass.opened ≤ length old.pass.tokens
+        → LaysDownAtMost (batch_size old.pass.pass.opened) old.pass new.pass
+        × (new.surpluses ≡ one_more old.surpluses)
+
+  -- What `take` of a handle did: the pass took as a pass does, and then laid down what it had too many
   pub record TakesAndLaysDown (answer : Taken T) (old new : PayHeld T) : Type 0 where
+    pub taken : PayHeld T
+    pub takes : TakesOut old.take_start (enough_turns old.pass.pass) answer old.pass taken.pass
+    pub surpluses : taken.surpluses ≡ old.surpluses
+    pub lays : LaysSurplus taken new
+
+  -- the handle is the same, but for its pass
+  abbrev pub SameButPass : PayHeld T → PayHeld T → Type 0
+  SameButPass old new = (new.give_start ≡ old.give_start) × (new.take_start ≡ old.take_start)
+      × (new.shortages ≡ old.shortages) × (new.surpluses ≡ old.surpluses)
+
+  -- What `reserve` did: the pass picked tokens up where it had none, and then parted with the next one
+  pub record Reserves (answer : Option TokenView) (old new : PayHeld T) : Type 0 where
+    pub ready : PayPassView T
+    pub picks : PicksUpIfNone old.pass.tokens old.pass ready
+    pub parts : PartsWith answer ready new.pass
+    pub shortages : new.shortages ≡ shortages_after old.pass.tokens old.shortages
+
+  -- what `publish` says of the payload, and the token that it hands back
+  abbrev pub given_of : Published T → Given T
+  given_of P.Done = G.Done
+  given_of (P.Full back token) = G.Full back
+  given_of (P.Busy back token) = G.Busy back
+  given_of (P.Worn back token) = G.Worn back
+
+  abbrev pub token_back : Published T → Option TokenView
+  token_back P.Done = None
+  token_back (P.Full back token) = Some token
+  token_back (P.Busy back token) = Some token
+  token_back (P.Worn back token) = Some token
+
+  -- a token that is handed over, if one is, is parted with
+  abbrev pub HandsOver : Option TokenView → PayPassView T → PayPassView T → Type 0
+  HandsOver None old new = new ≡ old
+  HandsOver (Some token) old new = PartsWith (Some token) old new
+
+  -- What `publish` did: the pass took the token in, gave with it as a pass does, and parted with it where it was refused
+  pub record Publishes (token : ℕ) (payload : T) (answer : Published T) (old new : PayHeld T) : Type 0 where
+    pub ready : PayPassView T
+    pub takes : TakesIn token old.pass ready
+    pub given : PayPassView T
+    pub gives : Gives old.give_start (enough_turns old.pass.pass) payload (given_of answer) ready given
+    pub back : HandsOver (token_back answer) given new.pass
+
+  -- what `receive` says of the payload, and the token that comes with it
+  abbrev pub taken_of : Received T → Taken T
+  taken_of (C.Got payload token) = K.Got payload
+  taken_of C.Empty = K.Empty
+  taken_of C.Busy = K.Busy
+  taken_of C.Worn = K.Worn
+
+  abbrev pub token_got : Received T → Option TokenView
+  token_got (C.Got payload token) = Some token
+  token_got C.Empty = None
+  token_got C.Busy = None
+  token_got C.Worn = None
+
+  -- What `receive` did: the pass took as a pass does, and parted with the token that it got
+  pub record Receives (answer : Received T) (old new : PayHeld T) : Type 0 where
     pub taken : PayPassView T
-    pub takes : TakesOut old.take_start (enough_turns old.pass.pass) answer old.pass taken
-    pub few : length taken.tokens < old.pass.pass.opened.tokens + batch_size old.pass.pass.opened
-        → (new.pass ≡ taken) × (new.surpluses ≡ old.surpluses)
-    pub more : old.pass.pass.opened.tokens + batch_size old.pass.pass.opened ≤ length taken.tokens
-        → LaysDownAtMost (batch_size old.pass.pass.opened) taken new.pass × (new.surpluses ≡ one_more old.surpluses)
+    pub takes : TakesOut old.take_start (enough_turns old.pass.pass) (taken_of answer) old.pass taken
+    pub hands : HandsOver (token_got answer) taken new.pass
+
+  -- What `release` did: the pass took the token in, and then laid down what it had too many
+  pub record Releases (token : ℕ) (old new : PayHeld T) : Type 0 where
+    pub ready : PayHeld T
+    pub takes : TakesIn token old.pass ready.pass
+    pub surpluses : ready.surpluses ≡ old.surpluses
+    pub lays : LaysSurplus ready new

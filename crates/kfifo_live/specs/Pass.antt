@@ -79,8 +79,8 @@ pub record IsComplete (threads : ℕ) (ps : List PassView) : Type 0 where
   pub count : length ps ≡ threads
   pub each : (thread : ℕ) → thread < threads → list_any (λ p. p.thread == thread) ps ≡ true
 
--- the view w has the parts of v, and what was seen by these passes: a schedule which all parts begin, they have all
--- seen
+-- the view w has the parts of v and what these passes saw: whatever schedule all parts of w agree with, the parts of v
+-- and each of these passes agree with it too
 pub record IsJoined {T : Type 0} (v : View T) (ps : List PassView) (w : View T) : Type 0 where
   pub opened : w.opened ≡ v.opened
   pub all_seen : (all : List Event) → AllBegin w.parts all → AllBegin v.parts all × AllSeen ps all

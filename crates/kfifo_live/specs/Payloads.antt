@@ -30,7 +30,7 @@ use Rattle.kfifo_live.specs.Left.{items_left}
 use Rattle.kfifo_live.specs.Promise.{KeepsPromise}
 use Rattle.kfifo_live.specs.Schedule.{GiftsFit, HolderLaw, count_up, seen_of, gifts_of, hand_of, world_after}
 use Rattle.kfifo_live.specs.Schedule.{resting_view, AllBegin, AllGiven}
-use Rattle.kfifo_live.specs.Pass.{PassView, OpenQueue, IsPass, pass_view}
+use Rattle.kfifo_live.specs.Pass.{PassView, OpenQueue, IsPass, pass_view, queue_of}
 use Rattle.kfifo_live.specs.Calls.{MakesCall}
 
 -- the opening of a payload queue with so many tokens a pass
@@ -60,6 +60,17 @@ pub record IsPayPass {T : Type 0} (thread : ℕ) (me : Me (Option T) (View T)) (
   pub few_tokens : me.0.opened.tokens ≤ MAX_TOKENS
   pub has_room : me.0.opened.threads * me.0.opened.tokens ≤ room
   pub in_turn : GiftsFit me.0.opened (seen_of me.0) (gifts_of me.0)
+
+-- a token that is with no pass: its queue, and its number
+pub record TokenView : Type 0 where
+  pub queue : OpenQueue
+  pub number : ℕ
+
+-- what is always so of it: it names a slot, and its seat has it alone
+pub record IsAlone {T : Type 0} (number : ℕ) (me : Me (Option T) (View T)) : Type 0 where
+  pub some : 0 < number
+  pub within : number ≤ me.0.opened.threads * me.0.opened.tokens
+  pub alone : me ≡ (resting_view me.0.opened number, [])
 
 -- the passes of threads first, first + 1, .., which have seen the empty schedule: thread t has the tokens t * tokens +
 -- 1 to (t + 1) * tokens
@@ -183,6 +194,18 @@ module _ {T : Type 0} where
   pool_for table o token zero = []
   pool_for table o token (suc count) =
       record { table_id = table; view = resting_view o token } ∷ pool_for table o (suc token) count
+
+  -- What parting with a token did: the pass has one token less, the one that it would have used next. It has none where
+  -- it comes to nothing. It is no event, and nothing more was seen
+  abbrev pub PartsWith : Option TokenView → PayPassView T → PayPassView T → Type 0
+  PartsWith None old new = (old.tokens ≡ []) × (new ≡ old)
+  PartsWith (Some token) old new = (token.queue ≡ queue_of old.pass.table old.pass.opened)
+      × (old.tokens ≡ token.number ∷ new.tokens) × (new.pass ≡ old.pass) × (new.gifts ≡ old.gifts)
+
+  -- What taking a token in did: the pass has one token more, which it uses next. It is no event, and nothing more was
+  -- seen
+  abbrev pub TakesIn : ℕ → PayPassView T → PayPassView T → Type 0
+  TakesIn token old new = (new.tokens ≡ token ∷ old.tokens) × (new.pass ≡ old.pass) × (new.gifts ≡ old.gifts)
 
   -- What `lay_down` did. True: the pass has one token less, the one that it would have used next. False: nothing
   -- changed. Either is no event, and nothing more was seen

@@ -1,6 +1,7 @@
 -- What one atomic step adds to what a seat has seen, and where the steps of a call lead its thread.
 use Rattle.std.specs.Prelude.{◌≡◌, ℕ, ◌+◌, ◌-◌, ◌*◌, ◌<◌, ◌≤◌, List, [], ◌∷◌, ◌++◌, length, get_or, Option, Some, None}
 use Rattle.std.specs.Prelude.{Ok}
+use Rattle.std.specs.List.{AllByRecursion}
 use Rattle.atomic_table.specs.declared.shared.Seat.{Seat}
 use Rattle.atomic_table.specs.Table.{Me}
 use Rattle.kfifo_words.specs.declared.shape.Shape.{Shape}
@@ -109,9 +110,10 @@ module _ {T : Type 0} where
         (record { at_home = (hand_of v.0).out ∷ (hand_of v.0).at_home; out = 0; payload = None })
     pub holds : w.1 ≡ []
 
-  -- it counts its tokens: they are no more than there are slots
+  -- it counts its tokens: they are no more than there are slots, and each names one
   pub record CountsTokens (slots : ℕ) (v w : Me (Option T) (View T)) : Type 0 where
     pub few : length (hand_of v.0).at_home ≤ slots
+    pub named : AllByRecursion (λ x. (0 < x) × (x ≤ slots)) (hand_of v.0).at_home
     pub same : w ≡ v
 
   -- the item and the payload of a call's own, at its first step or in progress

@@ -1,13 +1,15 @@
 //! Calls of a queue of owned payloads with nothing to choose.
-ghost use Rattle.std.specs.Prelude.{◌≡◌, ◌<◌, ◌≤◌, ◌+◌, ℕ};
+ghost use Rattle.std.specs.Prelude.{◌≡◌, ◌<◌, ◌≤◌, ◌+◌, ℕ, List, ◌∷◌, Some};
 ghost use Rattle.kfifo_live.specs.Calls.{IsDisturbed};
 ghost use Rattle.kfifo_live.specs.Promise.{KeepsPromise};
 ghost use Rattle.kfifo_live.specs.Pass.{IsPassOf, IsSamePass};
-ghost use Rattle.kfifo_live.specs.Payloads.{LaysDownAtMost, PicksUpAtMost};
+ghost use Rattle.kfifo_live.specs.Payloads.{LaysDownAtMost, PartsWith, PicksUpAtMost, TokenView};
 ghost use Rattle.kfifo_live.specs.Handles.{PayHeld, PicksUpAndGives, TakesAndLaysDown, batch_size, cycle_at, first_of};
-ghost use Rattle.kfifo_live.specs.Handles.{further, one_more};
+ghost use Rattle.kfifo_live.specs.Handles.{LaysSurplus, PicksUpIfNone, Publishes, Receives, Releases, Reserves};
+ghost use Rattle.kfifo_live.specs.Handles.{SameButPass, further, one_more, shortages_after};
 
 use crate::payload::{Given, PayPass, PayQueue, Taken};
+use crate::payload_token::Token;
 use crate::round_robin::RoundRobin;
 use std::marker::Model;
 
@@ -54,6 +56,32 @@ impl<T: Drop> Model for PayHandle<T> {
     ghost invariant = { λ h. (h.gives ≡ cycle_at h.pass.pass h.gives.start)
         × (h.takes ≡ cycle_at h.pass.pass h.takes.start) × (h.turns ≡ h.pass.pass.opened.shape.n + 2)
         × (h.batch ≡ batch_size h.pass.pass.opened) × (h.too_many ≡ h.pass.pass.opened.tokens + h.batch) };
+}
+
+/// What `publish` returns. Each refusal hands the payload and the token back.
+#[derive(Drop)]
+pub enum Published<T> {
+    /// The queue has the payload, and the token.
+    Done,
+    /// The ring was seen full.
+    Full(T, Token<T>),
+    /// Each round was lost.
+    Busy(T, Token<T>),
+    /// A version would pass the greatest one.
+    Worn(T, Token<T>),
+}
+
+/// What `receive` returns.
+#[derive(Drop)]
+pub enum Received<T> {
+    /// One of the k oldest payloads, and the token that it was given with.
+    Got(T, Token<T>),
+    /// The queue was empty.
+    Empty,
+    /// Each round was lost.
+    Busy,
+    /// A version would pass the greatest one.
+    Worn,
 }
 
 /// The starts of the calls of a pass, as `Handle` has them.
@@ -161,6 +189,35 @@ impl<T: Drop> PayHandle<T> {
         self.pass.lay_down_some(queue, self.batch);
     }
 
+    /// Picks a batch of tokens up, or as many as it finds, where the pass has none, and counts that.
+    #[inline(always)]
+    fn pick_up_if_none(&mut self, queue: &PayQueue<T>)
+        requires of { IsPassOf queue.now self.old.pass.pass }
+        ensures picks { PicksUpIfNone self.old.pass.tokens self.old.pass self.new.pass }
+        ensures same { self.new.pass.pass ≡ self.old.pass.pass }
+        ensures starts { (self.new.give_start ≡ self.old.give_start) × (self.new.take_start ≡ self.old.take_start) }
+        ensures counts { (self.new.shortages ≡ shortages_after self.old.pass.tokens self.old.shortages)
+            × (self.new.surpluses ≡ self.old.surpluses) }
+    {
+        if self.pass.tokens() == 0 {
+            self.pick_up(queue);
+        }
+    }
+
+    /// Lays a batch of tokens down where the pass has a batch or more beyond those that it was opened with.
+    #[inline(always)]
+    fn lay_surplus(&mut self, queue: &PayQueue<T>)
+        requires of { IsPassOf queue.now self.old.pass.pass }
+        ensures lays { LaysSurplus self.old self.new }
+        ensures same { self.new.pass.pass ≡ self.old.pass.pass }
+        ensures starts { (self.new.give_start ≡ self.old.give_start) × (self.new.take_start ≡ self.old.take_start)
+            × (self.new.shortages ≡ self.old.shortages) }
+    {
+        if self.pass.tokens() >= self.too_many {
+            self.lay_down(queue);
+        }
+    }
+
     /// Puts a payload into the queue, with a token of the pass, as `PayPass::give` does. A pass with no token first
     /// picks up a batch, or as many as it finds by looks at the words of the pool in turn, from behind the one in which
     /// it last found a token: at each word once, and at 64 more at most once it has found one. It uses the first one
@@ -179,9 +236,7 @@ impl<T: Drop> PayHandle<T> {
             × (self.new.take_start ≡ self.old.take_start) × (self.new.surpluses ≡ self.old.surpluses) }
         ensures promise { KeepsPromise self.new.pass.pass.opened self.new.pass.pass.seen }
     {
-        if self.pass.tokens() == 0 {
-            self.pick_up(queue);
-        }
+        self.pick_up_if_none(queue);
         let start = self.gives.next();
         self.pass.give(queue, payload, start, self.turns)
     }
@@ -204,9 +259,106 @@ impl<T: Drop> PayHandle<T> {
     {
         let start = self.takes.next();
         let taken = self.pass.take(queue, start, self.turns);
-        if self.pass.tokens() >= self.too_many {
-            self.lay_down(queue);
-        }
+        self.lay_surplus(queue);
         taken
+    }
+
+    /// Reserves a token, for a payload that `publish` gives later. A pass with no token first picks up a batch, or as
+    /// many as it finds, as `give` does.
+    ///
+    /// Returns None exactly where the pass has no token and found none to pick up. The token is the caller's alone until
+    /// it gives it back, by `publish` or `release`. It never allocates, waits or locks.
+    #[inline(always)]
+    pub fn reserve(&mut self, queue: &PayQueue<T>) -> Option<Token<T>>
+        requires of { IsPassOf queue.now self.old.pass.pass }
+        ensures same { IsSamePass self.old.pass.pass self.new.pass.pass }
+        ensures reserves { Reserves result self.old self.new }
+        ensures starts { (self.new.give_start ≡ self.old.give_start) × (self.new.take_start ≡ self.old.take_start)
+            × (self.new.surpluses ≡ self.old.surpluses) }
+    {
+        self.pick_up_if_none(queue);
+        self.pass.part_with(queue)
+    }
+
+    /// Puts a payload into the queue, with a token that the caller has, as `PayPass::give` does.
+    ///
+    /// Returns Done, or Full, Worn or Busy with the payload and the token. Busy comes only where another thread won an
+    /// exchange during the call. It never allocates, waits or locks.
+    #[inline(always)]
+    pub fn publish(&mut self, queue: &PayQueue<T>, token: Token<T>, payload: T) -> Published<T>
+        requires of { IsPassOf queue.now self.old.pass.pass }
+        requires token { token.queue ≡ queue.now }
+        ensures same { IsSamePass self.old.pass.pass self.new.pass.pass }
+        ensures publishes { Publishes token.number payload result self.old self.new }
+        ensures busy { (back : T) (kept : TokenView) → result ≡ Published.Busy back kept
+            → IsDisturbed self.old.pass.pass self.new.pass.pass }
+        ensures starts { (self.new.give_start ≡ further self.old.pass.pass self.old.give_start)
+            × (self.new.take_start ≡ self.old.take_start) × (self.new.shortages ≡ self.old.shortages)
+            × (self.new.surpluses ≡ self.old.surpluses) }
+        ensures promise { KeepsPromise self.new.pass.pass.opened self.new.pass.pass.seen }
+    {
+        self.pass.take_in(queue, token);
+        let start = self.gives.next();
+        match self.pass.give(queue, payload, start, self.turns) {
+            Given::Done => Published::Done,
+            Given::Full(back) => Published::Full(back, self.keep(queue)),
+            Given::Busy(back) => Published::Busy(back, self.keep(queue)),
+            Given::Worn(back) => Published::Worn(back, self.keep(queue)),
+            Given::NoToken(_) => unreachable!(),
+        }
+    }
+
+    /// The token that the pass uses next, which it has.
+    #[inline(always)]
+    fn keep(&mut self, queue: &PayQueue<T>) -> Token<T>
+        requires of { IsPassOf queue.now self.old.pass.pass }
+        requires some { (token : ℕ) × (others : List ℕ) × (self.old.pass.tokens ≡ token ∷ others) }
+        ensures parts { PartsWith (Some result) self.old.pass self.new.pass }
+        ensures same { SameButPass self.old self.new }
+    {
+        match self.pass.part_with(queue) {
+            Some(token) => token,
+            None => unreachable!(),
+        }
+    }
+
+    /// Takes one of the k oldest payloads out of the queue, as `PayPass::take` does, and its token with it.
+    ///
+    /// Returns Got with both, Empty, Worn or Busy. The token is the caller's alone until it gives it back, by `release`
+    /// or `publish`. Busy comes only where another thread won an exchange during the call. It never allocates, waits or
+    /// locks.
+    #[inline(always)]
+    pub fn receive(&mut self, queue: &PayQueue<T>) -> Received<T>
+        requires of { IsPassOf queue.now self.old.pass.pass }
+        ensures same { IsSamePass self.old.pass.pass self.new.pass.pass }
+        ensures receives { Receives result self.old self.new }
+        ensures busy { result ≡ Received.Busy → IsDisturbed self.old.pass.pass self.new.pass.pass }
+        ensures starts { (self.new.take_start ≡ further self.old.pass.pass self.old.take_start)
+            × (self.new.give_start ≡ self.old.give_start) × (self.new.shortages ≡ self.old.shortages)
+            × (self.new.surpluses ≡ self.old.surpluses) }
+        ensures promise { KeepsPromise self.new.pass.pass.opened self.new.pass.pass.seen }
+    {
+        let start = self.takes.next();
+        match self.pass.take(queue, start, self.turns) {
+            Taken::Got(payload) => Received::Got(payload, self.keep(queue)),
+            Taken::Empty => Received::Empty,
+            Taken::Busy => Received::Busy,
+            Taken::Worn => Received::Worn,
+        }
+    }
+
+    /// Gives a token back to the pass, which uses it next. A pass that then has a batch of tokens or more beyond those
+    /// that it was opened with lays a batch down, as `take` does. It never allocates, waits or locks.
+    #[inline(always)]
+    pub fn release(&mut self, queue: &PayQueue<T>, token: Token<T>)
+        requires of { IsPassOf queue.now self.old.pass.pass }
+        requires token { token.queue ≡ queue.now }
+        ensures same { IsSamePass self.old.pass.pass self.new.pass.pass }
+        ensures releases { Releases token.number self.old self.new }
+        ensures starts { (self.new.give_start ≡ self.old.give_start) × (self.new.take_start ≡ self.old.take_start)
+            × (self.new.shortages ≡ self.old.shortages) }
+    {
+        self.pass.take_in(queue, token);
+        self.lay_surplus(queue);
     }
 }

@@ -2,19 +2,19 @@
 //!
 //! A token in the pool has a seat of its own, whose one part is of no thread and has that token alone. It rests on
 //! the word of the token, which is 2 while it does, and 0 else.
-ghost use Rattle.std.specs.Prelude.{◌≡◌, ◌<◌, ◌≤◌, ◌+◌, ◌^◌, ◌++◌, ℕ, List, [], length, IfErr, IfOk, IfSome, None};
+ghost use Rattle.std.specs.Prelude.{◌≡◌, ◌<◌, ◌≤◌, ◌+◌, ◌*◌, ◌^◌, ◌++◌, ℕ, List, [], length, IfErr, IfOk, IfSome, None};
 ghost use Rattle.kfifo_live.specs.Schedule.{count_up, hand_of, more_in, resting_view};
 ghost use Rattle.kfifo_live.specs.Step.{IsAt};
-ghost use Rattle.kfifo_live.specs.Pass.{IsPassOf};
+ghost use Rattle.kfifo_live.specs.Pass.{IsPassOf, queue_of};
 ghost use Rattle.kfifo_live.specs.Payloads.{IsPool, LaysDown, LaysDownAtMost, PicksUp, PicksUpAtMost, pool_for};
 
 use crate::payload::{PayPass, PayQueue};
+use crate::payload_token::Token;
 use crate::pool_word::PoolWord;
 use crate::rule::Opened;
-use crate::seats::{add_token, count_tokens, cut_token};
+use crate::seats::{add_token, cut_token};
 use crate::view::{ThreadSeat, Words};
 use std::alloc::AllocError;
-use std::marker::Brand;
 
 /// At how many words behind the first token that it finds a pass looks for more.
 // A batch that another thread laid down lies close together, and a look at a word that another thread wrote is dear.
@@ -51,21 +51,21 @@ pub(crate) fn extend_pool<T, O: Opened>(
 }
 
 /// Lets a token rest in its word. It comes back where the pool has no word for it.
-fn rest_token<T>(
-    shared: &Words<T>,
-    pool: &[PoolWord<T>],
-    resting: ThreadSeat<T>,
-    token: u32,
-) -> Result<(), ThreadSeat<T>>
+fn rest_token<T>(shared: &Words<T>, pool: &[PoolWord<T>], token: Token<T>) -> Result<(), Token<T>>
+    requires table { (0 < shared.now.table_id.words) × (0 < shared.now.key.tokens)
+        × (shared.now.table_id.slots ≡ shared.now.key.threads * shared.now.key.tokens) }
     requires pool { IsPool shared.now.table_id shared.now.key 1 pool.now }
-    requires resting { (resting.table_id ≡ shared.now.table_id)
-        × (resting.me ≡ (resting_view shared.now.key token, [])) }
-    ensures { IfErr result (λ s. (s.table_id ≡ resting.table_id) × (s.me ≡ resting.me)) }
+    requires of { token.queue ≡ queue_of shared.now.table_id shared.now.key }
+    ensures { IfErr result (λ back. back ≡ token) }
 {
-    if token == 0 || token as usize > pool.len() {
-        return Err(resting);
+    let number = token.number();
+    if number as usize > pool.len() {
+        return Err(token);
     }
-    pool[token as usize - 1].give(resting)
+    match pool[number as usize - 1].give(token.into_seat()) {
+        Ok(()) => Ok(()),
+        Err(seat) => Err(Token::new(shared, seat, number)),
+    }
 }
 
 /// The token that rests in this word, unless there is none or another pass is faster.
@@ -131,23 +131,20 @@ impl<T: Drop> PayPass<T> {
         requires of { IsPassOf queue.now self.old.pass }
         ensures lays { LaysDown result self.old self.new }
     {
-        let Some(token) = self.at_home.pop() else {
+        let Some(token) = self.part_with(queue) else {
             return false;
         };
-        let shared = &queue.table.shared;
-        let resting = cut_token(shared, &mut self.seat);
-        let Err(resting) = rest_token(shared, queue.pool.as_slice(), resting, token) else {
+        let Err(token) = rest_token(&queue.table.shared, queue.pool.as_slice(), token) else {
             return true;
         };
-        add_token::<_, Brand>(shared, &mut self.seat, resting, token);
-        self.at_home.push_reserved(token);
+        self.take_in(queue, token);
         false
     }
 
     /// Picks up at most `most` tokens that rest in words `from` to before `end`, counted from word `first` on round the
     /// pool. Returns how many. Behind the first one it looks at no more than 64 words. The pass uses the first one
     /// found first, and its next look begins behind the last one.
-    fn pick_up_among<O: Opened>(
+    fn pick_up_among(
         &mut self,
         queue: &PayQueue<T>,
         first: usize,
@@ -156,7 +153,6 @@ impl<T: Drop> PayPass<T> {
         most: u32,
     ) -> u32
         requires of { IsPassOf queue.now self.old.pass }
-        requires picked { O.opened ≡ self.old.pass.opened }
         ensures picks { PicksUpAtMost most result self.old self.new }
     {
         if most == 0 {
@@ -177,11 +173,8 @@ impl<T: Drop> PayPass<T> {
         self.look_from = token as usize;
         let last = end.min(place + 1 + LOOKS_FOR_MORE);
         // Those behind it come first, since a pass uses first what it picked up last.
-        let more = self.pick_up_among::<O>(queue, first, place + 1, last, most - 1);
-        add_token::<_, O>(shared, &mut self.seat, resting, token);
-        // This load tells the proof that the list of tokens has room for one more.
-        count_tokens(shared, &mut self.seat);
-        self.at_home.push_reserved(token);
+        let more = self.pick_up_among(queue, first, place + 1, last, most - 1);
+        self.take_in(queue, Token::new(shared, resting, token));
         more + 1
     }
 
@@ -197,7 +190,7 @@ impl<T: Drop> PayPass<T> {
         ensures picks { PicksUpAtMost most result self.old self.new }
     {
         let first = self.look_from;
-        self.pick_up_among::<Brand>(queue, first, 0, queue.pool.len(), most)
+        self.pick_up_among(queue, first, 0, queue.pool.len(), most)
     }
 
     /// Lays tokens down in the pool of the queue, until it has laid down `most` of them or cannot lay one down. Each is

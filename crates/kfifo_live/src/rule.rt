@@ -75,7 +75,7 @@ impl<T> Play<Option<T>, View<T>> for LayBack {
     ghost then = { λ s v found w. LaysBack s.slots v w };
 }
 
-/// A load with which it learns that it has no more tokens than there are slots.
+/// A load with which it learns that it has no more tokens than there are slots, and that each names one.
 pub struct CountTokens;
 
 impl<T> Play<Option<T>, View<T>> for CountTokens {

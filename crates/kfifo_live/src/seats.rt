@@ -43,7 +43,7 @@ pub(crate) fn lay_back<T>(shared: &Words<T>, seat: &mut ThreadSeat<T>)
     shared.load::<LayBack>(seat, 0);
 }
 
-/// One load of the ends word. It tells that the thread has no more tokens than there are slots.
+/// One load of the ends word. It tells that the thread has no more tokens than there are slots, and that each names one.
 #[inline(always)]
 pub(crate) fn count_tokens<T>(shared: &Words<T>, seat: &mut ThreadSeat<T>)
     requires table { (seat.old.table_id ≡ shared.now.table_id) × (0 < shared.now.table_id.words) }
