@@ -1,3 +1,4 @@
+mod Cells
 mod Closings
 mod HeldValues
 mod Passes

@@ -1,3 +1,4 @@
+pub mod Cells
 pub mod Exports
 pub mod Handles
 pub mod Held

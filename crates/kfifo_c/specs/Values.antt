@@ -36,6 +36,10 @@ abbrev pub value_after : ℕ → Option (Taken ℕ) → ℕ
 value_after old (Some (K.Got value)) = value
 value_after old other = old
 
+-- the same cells are reserved and received
+abbrev pub SameCells : ValueSeated → ValueSeated → Type 0
+SameCells old new = (new.reserved ≡ old.reserved) × (new.received ≡ old.received)
+
 -- the pass gave this value: all that the running queue says of it
 pub record GivesValue (value : ℕ) (answer : Given ℕ) (old new : ValueSeated) : Type 0 where
   pub queue : new.queue ≡ old.queue
@@ -45,6 +49,7 @@ pub record GivesValue (value : ℕ) (answer : Given ℕ) (old new : ValueSeated)
   pub next_give : new.held.give_start ≡ further old.held.pass.pass old.held.give_start
   pub same_take : new.held.take_start ≡ old.held.take_start
   pub same_surpluses : new.held.surpluses ≡ old.held.surpluses
+  pub cells : SameCells old new
   pub promise : KeepsPromise new.held.pass.pass.opened new.held.pass.pass.seen
 
 -- the pass took: all that the running queue says of it
@@ -56,6 +61,7 @@ pub record TakesValue (answer : Taken ℕ) (old new : ValueSeated) : Type 0 wher
   pub next_take : new.held.take_start ≡ further old.held.pass.pass old.held.take_start
   pub same_give : new.held.give_start ≡ old.held.give_start
   pub same_shortages : new.held.shortages ≡ old.held.shortages
+  pub cells : SameCells old new
   pub promise : KeepsPromise new.held.pass.pass.opened new.held.pass.pass.seen
 
 -- the seats of these passes of one queue, in their order

@@ -12,6 +12,8 @@ pub(crate) const DONE: u32 = 0;
 pub(crate) const BAD_CALL: u32 = 6;
 /// An allocation failed.
 pub(crate) const NO_MEMORY: u32 = 7;
+/// The handle has no token, and found none.
+pub(crate) const NO_TOKEN: u32 = 10;
 /// The number of threads is not 1 to 64.
 pub(crate) const BAD_THREADS: u32 = 8;
 /// The number of tokens of a thread is not 1 to 1,024.

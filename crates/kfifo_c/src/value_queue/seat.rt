@@ -1,11 +1,13 @@
 //! What a handle of a queue of values stands for.
 ghost use Rattle.std.specs.Prelude.{◌≡◌, ◌*◌};
 ghost use Rattle.kfifo_live.specs.Pass.{IsPassOf};
-ghost use Rattle.kfifo_c.specs.ValueSeats.{ValueSeated, value_seated};
+ghost use Rattle.kfifo_c.specs.ValueSeats.{HasTokensOf, ValueSeated, value_seated};
+ghost use Rattle.kfifo_c.specs.Cells.{MayPublish, MayRelease, ReceivesCell, ReservesCell};
 ghost use Rattle.kfifo_c.specs.Values.{GivesValue, TakesValue};
 
 use crate::value_queue::address::value_address_of;
-use kfifo_live::{Given, PayHandle, PayPass, PayQueue, Taken};
+use kfifo_live::{Given, PayHandle, PayPass, PayQueue, Published, Received, Taken, Token};
+use kfifo_model::Answer;
 use std::alloc::Global;
 use std::marker::Model;
 use std::sync::Arc;
@@ -17,6 +19,10 @@ pub struct ValueSeat {
     pub(crate) queue: Arc<PayQueue<u64>, Global>,
     pub(crate) handle: PayHandle<u64>,
     pub(crate) threads: u32,
+    /// The token of the cell that is reserved.
+    pub(crate) reserved: Option<Token<u64>>,
+    /// The token of the cell that was received.
+    pub(crate) received: Option<Token<u64>>,
     // Each call writes to its seat. This keeps the seats of two threads from lying in one line of the cache.
     pub(crate) apart: [u64; 8],
 }
@@ -24,9 +30,15 @@ pub struct ValueSeat {
 impl Model for ValueSeat {
     ghost Value = { ValueSeated };
 
-    ghost view = { λ s. record { queue = s.queue.value; held = s.handle } };
+    ghost view = { λ s. record {
+      queue = s.queue.value;
+      held = s.handle;
+      reserved = s.reserved;
+      received = s.received;
+    } };
 
-    ghost invariant = { λ s. IsPassOf s.queue.value s.handle.pass.pass × (s.threads ≡ s.queue.value.opened.threads) };
+    ghost invariant = { λ s. IsPassOf s.queue.value s.handle.pass.pass × (s.threads ≡ s.queue.value.opened.threads)
+        × HasTokensOf s.queue.value s.reserved × HasTokensOf s.queue.value s.received };
 }
 
 impl ValueSeat {
@@ -45,6 +57,8 @@ impl ValueSeat {
             queue,
             handle,
             threads,
+            reserved: None,
+            received: None,
             apart: [0; 8],
         }
     }
@@ -100,5 +114,72 @@ impl ValueSeat {
         ensures { TakesValue result self.old self.new }
     {
         self.handle.take(&self.queue)
+    }
+
+    /// The cell that is reserved. Where none is, the handle reserves the cell of a token, if it has one or finds one.
+    #[inline(always)]
+    pub(crate) fn reserve(&mut self) -> Option<u32>
+        ensures { ReservesCell result self.old self.new }
+    {
+        if self.reserved.is_none() {
+            self.reserved = self.handle.reserve(&self.queue);
+        }
+        self.reserved.as_ref().map(|token| token.number() - 1)
+    }
+
+    /// Puts the cell that is reserved into the queue. A refusal leaves it reserved. Returns None where none is.
+    #[inline(always)]
+    pub(crate) fn publish(&mut self) -> Option<Answer>
+        ensures { MayPublish result self.old self.new }
+    {
+        let token = self.reserved.take()?;
+        let cell = u64::from(token.number() - 1);
+        match self.handle.publish(&self.queue, token, cell) {
+            Published::Done => Some(Answer::Done),
+            Published::Full(_, token) => {
+                self.reserved = Some(token);
+                Some(Answer::Full)
+            }
+            Published::Busy(_, token) => {
+                self.reserved = Some(token);
+                Some(Answer::Busy)
+            }
+            Published::Worn(_, token) => {
+                self.reserved = Some(token);
+                Some(Answer::Worn)
+            }
+        }
+    }
+
+    /// Releases the cell that was received before, and takes one of the k oldest cells.
+    #[inline(always)]
+    pub(crate) fn receive(&mut self) -> Answer
+        ensures { ReceivesCell result self.old self.new }
+    {
+        self.release();
+        match self.handle.receive(&self.queue) {
+            Received::Got(_, token) => {
+                let cell = token.number() - 1;
+                self.received = Some(token);
+                Answer::Got(cell)
+            }
+            Received::Empty => Answer::Empty,
+            Received::Busy => Answer::Busy,
+            Received::Worn => Answer::Worn,
+        }
+    }
+
+    /// Releases the cell that was received. Returns false where none was, or it is released.
+    #[inline(always)]
+    pub(crate) fn release(&mut self) -> bool
+        ensures { MayRelease result self.old self.new }
+    {
+        match self.received.take() {
+            None => false,
+            Some(token) => {
+                self.handle.release(&self.queue, token);
+                true
+            }
+        }
     }
 }

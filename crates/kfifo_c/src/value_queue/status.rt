@@ -2,7 +2,7 @@
 ghost use Rattle.std.specs.Prelude.{◌≡◌, Some};
 ghost use Rattle.kfifo_c.specs.Values.{given_number, taken_number};
 
-use crate::status::DONE;
+use crate::status::{DONE, NO_TOKEN};
 use kfifo_live::{Given, Taken};
 
 /// The number of what a give came to.
@@ -15,7 +15,7 @@ pub(crate) fn given_status(given: &Given<u64>) -> u32
         Given::Full(_) => 1,
         Given::Busy(_) => 4,
         Given::Worn(_) => 5,
-        Given::NoToken(_) => 10,
+        Given::NoToken(_) => NO_TOKEN,
     }
 }
 
