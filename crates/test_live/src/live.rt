@@ -12,6 +12,7 @@ mod handles;
 mod payloads;
 mod pool;
 pub(crate) mod stamps;
+mod steps;
 mod threads;
 
 fn enqueue(item: u32, start: u32, turns: u16) -> Begin {

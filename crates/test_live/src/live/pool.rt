@@ -25,7 +25,7 @@ fn open_pool<T: Drop>(
 }
 
 /// A queue with a pool for two threads, with the pass of each.
-fn open_pool_two<T: Drop>(
+pub(super) fn open_pool_two<T: Drop>(
     alloc: Global,
     shape: Shape,
     tokens: u32,

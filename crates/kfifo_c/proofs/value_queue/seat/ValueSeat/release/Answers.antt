@@ -9,16 +9,19 @@ pub returns-in-Some : goal.returns-in-Some
 returns-in-Some c =
     let e = c.release.ensures in
     subst (λ (s : ValueSeated). MayRelease true s (seat_with c.self.inside.queue.value c.release.new.self c.self.inside.reserved
-    c.take.new.self)) c.self.view_is (refl, (
-      c.in-Some.token,
-      sym c.in-Some.ensures.value,
-      record {
-        same = record { queue = refl; same = e.same };
-        releases = e.releases;
-        same_reserved = refl;
-        received = c.in-Some.ensures.after;
-        same_give = e.starts.0;
-        same_take = e.starts.1;
-        same_shortages = e.starts.2;
-      },
-    ))
+    c.take.new.self)) c.self.view_is (
+      refl,
+      (
+        c.in-Some.token,
+        sym c.in-Some.ensures.value,
+        record {
+          same = record { queue = refl; same = e.same };
+          releases = e.releases;
+          same_reserved = refl;
+          received = c.in-Some.ensures.after;
+          same_give = e.starts.0;
+          same_take = e.starts.1;
+          same_shortages = e.starts.2;
+        },
+      ),
+    )
