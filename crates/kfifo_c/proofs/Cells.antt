@@ -1,12 +1,18 @@
 -- What a call with a cell did, as one that was made or not.
-use Rattle.std.proofs.Common.{◌≡◌, ℕ, Option, Some, None, Bool, true, false, MatchOption, ap, sym, subst, ◌∙◌}
+use Rattle.std.proofs.Common.{◌≡◌, ℕ, Option, Some, None, true, MatchOption, refl, sym, subst, ◌∙◌, rules}
 use Rattle.std.specs.Prelude.{◌≢◌}
 use Rattle.kfifo_model.specs.declared.calls.Answer.{Answer}
+use Rattle.kfifo_model.specs.declared.calls.Answer.TheVariants as A
+use Rattle.kfifo_live.specs.declared.pay_handle.Published.{Published}
+use Rattle.kfifo_live.specs.declared.pay_handle.Published.TheVariants as P
+use Rattle.kfifo_live.specs.declared.pay_handle.Received.{Received}
+use Rattle.kfifo_live.specs.declared.pay_handle.Received.TheVariants as C
 use Rattle.kfifo_live.specs.Pass.{OpenQueue}
 use Rattle.kfifo_live.specs.Payloads.{TokenView}
 use Rattle.kfifo_live.specs.Handles.{PayHeld}
 use Rattle.kfifo_c.specs.ValueSeats.{ValueSeated}
-use Rattle.kfifo_c.specs.Cells.{HasReserved, HasReceived, MayPublish, MayRelease, PublishesCell, ReleasesCell}
+use Rattle.kfifo_c.specs.Cells.{HasReserved, HasReceived, MayPublish, MayRelease, PublishesCell}
+use Rattle.kfifo_c.specs.Cells.{answer_of_published, answer_of_received}
 
 -- a seat with this in it
 abbrev pub seat_with : OpenQueue → PayHeld ℕ → Option TokenView → Option TokenView → ValueSeated
@@ -25,10 +31,19 @@ pub may_publish : (answer : Option Answer) (old new : ValueSeated) → MayPublis
 may_publish None old new m = (m.1, λ some. some m.0)
 may_publish (Some answer) old new m = (not_none old.reserved m.0 m.1, m)
 
--- after a release no cell is received
-pub none_received : (released : Bool) (old new : ValueSeated) → MayRelease released old new → new.received ≡ None
-none_received false old new m = ap (λ (s : ValueSeated). s.received) m.1 ∙ m.0
-none_received true old new m = m.1.2.received
-
 pub has_released : (old new : ValueSeated) → MayRelease true old new → HasReceived old
 has_released old new m = not_none old.received m.1.0 m.1.1
+
+-- only a busy call has the answer Busy
+pub busy_published : (published : Published ℕ) → answer_of_published published ≡ A.Busy
+    → (back : ℕ) × (token : TokenView) × (published ≡ P.Busy back token)
+busy_published P.Done is = search rules
+busy_published (P.Full back token) is = search rules
+busy_published (P.Busy back token) is = (back, token, refl)
+busy_published (P.Worn back token) is = search rules
+
+pub busy_received : (received : Received ℕ) → answer_of_received received ≡ A.Busy → received ≡ C.Busy
+busy_received (C.Got value token) is = search rules
+busy_received C.Empty is = search rules
+busy_received C.Busy is = refl
+busy_received C.Worn is = search rules

@@ -11,7 +11,7 @@ use Rattle.kfifo_live.specs.Calls.{IsDisturbed}
 use Rattle.kfifo_live.specs.Promise.{KeepsPromise}
 use Rattle.kfifo_live.specs.Pass.{IsSamePass}
 use Rattle.kfifo_live.specs.Payloads.{TokenView}
-use Rattle.kfifo_live.specs.Handles.{PayHeld, Publishes, Receives, Releases, Reserves, further, token_back, token_got}
+use Rattle.kfifo_live.specs.Handles.{Publishes, Receives, Releases, Reserves, further, token_back, token_got}
 use Rattle.kfifo_c.specs.ValueSeats.{ValueSeated}
 
 -- the cell of a token

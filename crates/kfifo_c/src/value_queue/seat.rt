@@ -2,7 +2,9 @@
 ghost use Rattle.std.specs.Prelude.{◌≡◌, ◌*◌};
 ghost use Rattle.kfifo_live.specs.Pass.{IsPassOf};
 ghost use Rattle.kfifo_c.specs.ValueSeats.{HasTokensOf, ValueSeated, value_seated};
-ghost use Rattle.kfifo_c.specs.Cells.{MayPublish, MayRelease, ReceivesCell, ReservesCell};
+ghost use Rattle.kfifo_live.specs.Handles.{token_back, token_got};
+ghost use Rattle.kfifo_c.specs.Cells.{MayPublish, MayRelease, ReceivesCell, ReservesCell, answer_of_published};
+ghost use Rattle.kfifo_c.specs.Cells.{answer_of_received};
 ghost use Rattle.kfifo_c.specs.Values.{GivesValue, TakesValue};
 
 use crate::value_queue::address::value_address_of;
@@ -39,6 +41,30 @@ impl Model for ValueSeat {
 
     ghost invariant = { λ s. IsPassOf s.queue.value s.handle.pass.pass × (s.threads ≡ s.queue.value.opened.threads)
         × HasTokensOf s.queue.value s.reserved × HasTokensOf s.queue.value s.received };
+}
+
+/// The answer of a `publish`, and the token that it hands back.
+fn of_published(published: Published<u64>) -> (Answer, Option<Token<u64>>)
+    ensures { (result.0 ≡ answer_of_published published) × (result.1 ≡ token_back published) }
+{
+    match published {
+        Published::Done => (Answer::Done, None),
+        Published::Full(_, token) => (Answer::Full, Some(token)),
+        Published::Busy(_, token) => (Answer::Busy, Some(token)),
+        Published::Worn(_, token) => (Answer::Worn, Some(token)),
+    }
+}
+
+/// The answer of a `receive`, with the cell that it got, and the cell's token.
+fn of_received(received: Received<u64>) -> (Answer, Option<Token<u64>>)
+    ensures { (result.0 ≡ answer_of_received received) × (result.1 ≡ token_got received) }
+{
+    match received {
+        Received::Got(_, token) => (Answer::Got(token.number() - 1), Some(token)),
+        Received::Empty => (Answer::Empty, None),
+        Received::Busy => (Answer::Busy, None),
+        Received::Worn => (Answer::Worn, None),
+    }
 }
 
 impl ValueSeat {
@@ -134,21 +160,9 @@ impl ValueSeat {
     {
         let token = self.reserved.take()?;
         let cell = u64::from(token.number() - 1);
-        match self.handle.publish(&self.queue, token, cell) {
-            Published::Done => Some(Answer::Done),
-            Published::Full(_, token) => {
-                self.reserved = Some(token);
-                Some(Answer::Full)
-            }
-            Published::Busy(_, token) => {
-                self.reserved = Some(token);
-                Some(Answer::Busy)
-            }
-            Published::Worn(_, token) => {
-                self.reserved = Some(token);
-                Some(Answer::Worn)
-            }
-        }
+        let (answer, back) = of_published(self.handle.publish(&self.queue, token, cell));
+        self.reserved = back;
+        Some(answer)
     }
 
     /// Releases the cell that was received before, and takes one of the k oldest cells.
@@ -157,16 +171,9 @@ impl ValueSeat {
         ensures { ReceivesCell result self.old self.new }
     {
         self.release();
-        match self.handle.receive(&self.queue) {
-            Received::Got(_, token) => {
-                let cell = token.number() - 1;
-                self.received = Some(token);
-                Answer::Got(cell)
-            }
-            Received::Empty => Answer::Empty,
-            Received::Busy => Answer::Busy,
-            Received::Worn => Answer::Worn,
-        }
+        let (answer, token) = of_received(self.handle.receive(&self.queue));
+        self.received = token;
+        answer
     }
 
     /// Releases the cell that was received. Returns false where none was, or it is released.

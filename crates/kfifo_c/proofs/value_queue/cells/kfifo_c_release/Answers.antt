@@ -1,6 +1,5 @@
-use Rattle.std.proofs.Common.{Some, refl, ◌∙◌, subst}
+use Rattle.std.proofs.Common.{Some, refl, ◌∙◌}
 use Rattle.kfifo_model.specs.declared.calls.Answer.TheVariants as A
-use Rattle.kfifo_c.specs.Cells.{MayRelease}
 use Rattle.kfifo_c.proofs.Cells.{has_released}
 use Rattle.kfifo_c.proofs.ValuePasses.{something}
 use Rattle.kfifo_c.proofs.value_queue.cells.kfifo_c_release.Goals as goal
