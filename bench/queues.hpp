@@ -10,16 +10,22 @@ void *array_queue_new(std::size_t);
 bool array_queue_push(const void *, std::uint32_t);
 std::uint32_t array_queue_pop(const void *);
 void array_queue_free(void *);
-void *array_values_new(std::size_t);
-bool array_values_push(const void *, std::uint64_t, std::uint64_t);
-bool array_values_pop(const void *, std::uint64_t *);
-void array_values_free(void *);
+#define BENCH_ARRAY_OF_VALUES(bytes)                                                                                   \
+    void *array_##bytes##_new(std::size_t);                                                                            \
+    bool array_##bytes##_push(const void *, const std::uint64_t *);                                                    \
+    bool array_##bytes##_pop(const void *, std::uint64_t *);                                                           \
+    void array_##bytes##_free(void *);
+BENCH_ARRAY_OF_VALUES(8)
+BENCH_ARRAY_OF_VALUES(16)
+BENCH_ARRAY_OF_VALUES(64)
+#undef BENCH_ARRAY_OF_VALUES
 void *ck_queue_new(unsigned);
 bool ck_queue_push(void *, std::uint32_t);
 std::uint32_t ck_queue_pop(void *);
 void ck_queue_free(void *);
 }
 
+#include <array>
 #include <boost/lockfree/queue.hpp>
 #include <cds/container/msqueue.h>
 #include <cds/container/segmented_queue.h>
@@ -39,13 +45,14 @@ void ck_queue_free(void *);
 
 namespace bench {
 
-// A value of 16 bytes. Both halves are the item, and a pop checks that they came out together.
-struct Value {
-    std::uint64_t halves[2];
-    explicit Value(std::uint64_t item) : halves{item, item} {}
+// A value of so many 64-bit words. Each is the item, and a pop checks that they came out together.
+template <std::size_t count> struct Value {
+    std::array<std::uint64_t, count> words;
+    explicit Value(std::uint64_t item) { words.fill(item); }
     std::uint32_t item() const {
-        if (halves[0] != halves[1]) throw std::logic_error("a value came out torn");
-        return std::uint32_t(halves[0]);
+        for (std::uint64_t word : words)
+            if (word != words[0]) throw std::logic_error("a value came out torn");
+        return std::uint32_t(words[0]);
     }
 };
 
@@ -137,7 +144,7 @@ struct Ck {
 };
 
 inline std::uint32_t item_of(std::uint32_t item) { return item; }
-inline std::uint32_t item_of(const Value &value) { return value.item(); }
+template <std::size_t count> std::uint32_t item_of(const Value<count> &value) { return value.item(); }
 
 // A mutex around a deque, of items or of values.
 template <typename T> struct Mutex {
@@ -226,37 +233,24 @@ struct Moodycamel {
     }
 };
 
-// This repository's queue of values as a C++ program uses it. A value of more than 8 bytes has a cell on the heap.
-struct KfifoValues {
+// This repository's queue of values as a C++ program uses it, of values of so many words.
+template <std::size_t count> struct KfifoValues {
     using Attached = NothingAttached;
-    kfifo::ValueQueue<Value> queue;
-    std::vector<kfifo::ValueQueue<Value>::Handle> handles;
+    using Queue = kfifo::ValueQueue<Value<count>>;
+    Queue queue;
+    std::vector<typename Queue::Handle> handles;
 
     KfifoValues(std::uint32_t k, std::size_t capacity, std::size_t threads)
         : queue(k, std::uint32_t(capacity) / k, threads) {
         for (std::size_t i = 0; i < threads; i++) handles.push_back(queue.handle());
     }
-    bool push(std::size_t thread, std::uint32_t item) { return handles[thread].give(Value(item)) == kfifo::Put::done; }
+    bool push(std::size_t thread, std::uint32_t item) {
+        return handles[thread].give(Value<count>(item)) == kfifo::Put::done;
+    }
     std::uint32_t pop(std::size_t thread) {
         auto taken = handles[thread].take();
         return taken.value ? taken.value->item() : 0;
     }
-};
-
-// The same with values of 8 bytes, which the queue holds itself.
-struct KfifoWords {
-    using Attached = NothingAttached;
-    kfifo::ValueQueue<std::uint64_t> queue;
-    std::vector<kfifo::ValueQueue<std::uint64_t>::Handle> handles;
-
-    KfifoWords(std::uint32_t k, std::size_t capacity, std::size_t threads)
-        : queue(k, std::uint32_t(capacity) / k, threads) {
-        for (std::size_t i = 0; i < threads; i++) handles.push_back(queue.handle());
-    }
-    bool push(std::size_t thread, std::uint32_t item) {
-        return handles[thread].give(std::uint64_t(item)) == kfifo::Put::done;
-    }
-    std::uint32_t pop(std::size_t thread) { return std::uint32_t(handles[thread].take().value.value_or(0)); }
 };
 
 // This repository's queues by their calls for C: items or values, by the calls that look for threads that wait, or by
@@ -304,18 +298,21 @@ template <typename Pass, bool looks> struct KfifoInC {
     using Value = std::conditional_t<of_items, std::uint32_t, std::uint64_t>;
 };
 
-// crossbeam's ArrayQueue of values of 16 bytes, which it holds itself.
-struct ArrayValues {
+// crossbeam's ArrayQueue of values of so many words, by these calls.
+template <std::size_t count, auto make, auto push_one, auto pop_one, auto drop> struct ArrayValues {
     using Attached = NothingAttached;
     void *queue;
-    explicit ArrayValues(std::size_t capacity) : queue(array_values_new(capacity)) {}
-    ~ArrayValues() { array_values_free(queue); }
-    bool push(std::size_t, std::uint32_t item) { return array_values_push(queue, item, item); }
+    explicit ArrayValues(std::size_t capacity) : queue(make(capacity)) {}
+    ~ArrayValues() { drop(queue); }
+    bool push(std::size_t, std::uint32_t item) { return push_one(queue, Value<count>(item).words.data()); }
     std::uint32_t pop(std::size_t) {
-        Value value(0);
-        return array_values_pop(queue, value.halves) ? value.item() : 0;
+        Value<count> value(0);
+        return pop_one(queue, value.words.data()) ? value.item() : 0;
     }
 };
+using Array8 = ArrayValues<1, array_8_new, array_8_push, array_8_pop, array_8_free>;
+using Array16 = ArrayValues<2, array_16_new, array_16_push, array_16_pop, array_16_free>;
+using Array64 = ArrayValues<8, array_64_new, array_64_push, array_64_pop, array_64_free>;
 
 // Calls use(queue) with the queue of this name, and returns what it returns; 2 where there is no such queue. k is that
 // of kfifo, and the quasi factor of segmented.
@@ -329,16 +326,21 @@ int with_queue(const std::string &name, std::uint32_t k, std::size_t capacity, s
     if (name == "tbb") return with(std::make_unique<Tbb>(capacity));
     if (name == "ck") return with(std::make_unique<Ck>(capacity));
     if (name == "mutex") return with(std::make_unique<Mutex<std::uint32_t>>(capacity));
-    if (name == "kfifo-values") return with(std::make_unique<KfifoValues>(k, capacity, threads));
-    if (name == "kfifo-words") return with(std::make_unique<KfifoWords>(k, capacity, threads));
+    if (name == "kfifo-8") return with(std::make_unique<KfifoValues<1>>(k, capacity, threads));
+    if (name == "kfifo-16") return with(std::make_unique<KfifoValues<2>>(k, capacity, threads));
+    if (name == "kfifo-64") return with(std::make_unique<KfifoValues<8>>(k, capacity, threads));
     if (name == "kfifo-in-c") return with(std::make_unique<KfifoInC<kfifo_pass, false>>(k, capacity, threads));
     if (name == "kfifo-in-c-looking") return with(std::make_unique<KfifoInC<kfifo_pass, true>>(k, capacity, threads));
-    if (name == "kfifo-words-in-c")
+    if (name == "kfifo-values-in-c")
         return with(std::make_unique<KfifoInC<kfifo_value_pass, false>>(k, capacity, threads));
-    if (name == "kfifo-words-in-c-looking")
+    if (name == "kfifo-values-in-c-looking")
         return with(std::make_unique<KfifoInC<kfifo_value_pass, true>>(k, capacity, threads));
-    if (name == "array-values") return with(std::make_unique<ArrayValues>(capacity));
-    if (name == "mutex-values") return with(std::make_unique<Mutex<Value>>(capacity));
+    if (name == "array-8") return with(std::make_unique<Array8>(capacity));
+    if (name == "array-16") return with(std::make_unique<Array16>(capacity));
+    if (name == "array-64") return with(std::make_unique<Array64>(capacity));
+    if (name == "mutex-8") return with(std::make_unique<Mutex<Value<1>>>(capacity));
+    if (name == "mutex-16") return with(std::make_unique<Mutex<Value<2>>>(capacity));
+    if (name == "mutex-64") return with(std::make_unique<Mutex<Value<8>>>(capacity));
     if (name == "ms") return with(std::make_unique<CdsMs>());
     if (name == "segmented") return with(std::make_unique<CdsSegmented>(k));
     if (name == "vyukov") return with(std::make_unique<CdsVyukov>(capacity));

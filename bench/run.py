@@ -2,11 +2,11 @@
 """Builds the queues that are compared, runs them round by round, and writes a table and plots.
 
 Each round runs all queues one after the other, and begins with another one than the round before. A ratio compares two
-rates of one round; the table has the median of these ratios over the rounds, with the quartiles. Each run checks that what
-went in came out. The table begins with two overviews, a row for each workload. Some workloads are an application: threads
-that share one queue of vertices find a spanning tree of a random graph. Then come queues of values of 16 bytes, and this
-repository's queues with calls that look for threads that wait, beside the plain ones. Last comes a table of its own, of how
-long a hand-over to a thread that sleeps takes.
+rates of one round; the table has the median of these ratios over the rounds, with the quartiles. Each run checks that
+what went in came out. The table begins with two overviews, a row for each workload. Some workloads are an application:
+threads that share one queue of vertices find a spanning tree of a random graph. Then come queues of values of 8, 16 and
+64 bytes, and this repository's queues with calls that look for threads that wait, beside the plain ones. Last comes a
+table of its own, of how long a hand-over to a thread that sleeps takes.
 
     bench/run.py [--rounds N] [--milliseconds M] [--only WORD] [--out FOLDER]
 
@@ -53,24 +53,20 @@ NAMES = {
     "segmented": "libcds SegmentedQueue",
     "kfifo": "kfifo",
     "kfifo-at-random": "kfifo, random starts",
-    "array-values": "ArrayQueue of 16 bytes",
-    "mutex-values": "mutex and deque of 16 bytes",
-    "kfifo-values": "kfifo, a cell for each value",
-    "kfifo-words": "kfifo, values of 8 bytes",
     "kfifo-in-c": "plain calls",
     "kfifo-in-c-looking": "calls that look for waiting threads",
-    "kfifo-words-in-c": "plain calls of values",
-    "kfifo-words-in-c-looking": "calls of values that look",
+    "kfifo-values-in-c": "plain calls of values",
+    "kfifo-values-in-c-looking": "calls of values that look",
 }
+# The sizes of values, in bytes.
+SIZES = [8, 16, 64]
+NAMES |= {f"{name}-{size}": NAMES[name] for name in ("array", "mutex", "kfifo") for size in SIZES}
 OURS = [("kfifo", 1), ("kfifo", 4), ("kfifo", 16), ("kfifo", 64), ("kfifo-at-random", 16), ("kfifo-at-random", 64)]
 # Calls that look for threads that wait, each behind the plain ones that it is compared with.
-LOOKING = [[(name, 16), (f"{name}-looking", 16)] for name in ("kfifo-in-c", "kfifo-words-in-c")]
+LOOKING = [[(name, 16), (f"{name}-looking", 16)] for name in ("kfifo-in-c", "kfifo-values-in-c")]
 # Hand-overs to a thread that sleeps: how many in a round, and the microseconds between two.
 WAKING_TITLE = "waking a thread that sleeps"
 HAND_OVERS, REST = 2000, 100
-# The queues of values; ArrayQueue comes first here too.
-VALUES = [("array-values", 0), ("mutex-values", 0)]
-VALUES += [(name, k) for name in ("kfifo-values", "kfifo-words") for k in (4, 16, 64)]
 
 
 @dataclasses.dataclass
@@ -101,13 +97,16 @@ def workloads(milliseconds):
     for threads in TREES:
         title = f"spanning tree by {threads} threads, capacity {TREE_CAPACITY:,}"
         made.append(Workload(title, queues(TREE_CAPACITY), TREE_CAPACITY, "spanning_tree", [threads, VERTICES, EDGES]))
-    for name, *threads in CALLS:
-        for work in WORK:
-            title = f"values, {name}, capacity {VALUES_CAPACITY:,}" + between(work)
-            made.append(Workload(title, VALUES, VALUES_CAPACITY, "rates", [*threads, work, milliseconds]))
+    for size in SIZES:
+        # ArrayQueue comes first here too.
+        compared = [(f"array-{size}", 0), (f"mutex-{size}", 0), *((f"kfifo-{size}", k) for k in (4, 16, 64))]
+        for name, *threads in CALLS:
+            for work in WORK:
+                title = f"values of {size} bytes, {name}, capacity {VALUES_CAPACITY:,}" + between(work)
+                made.append(Workload(title, compared, VALUES_CAPACITY, "rates", [*threads, work, milliseconds]))
     for pair in LOOKING:
         for name, *threads in CALLS:
-            kind = "values" if "words" in pair[0][0] else "items"
+            kind = "values" if "values" in pair[0][0] else "items"
             title = f"looking for waiting threads, {kind}, {name}, capacity {VALUES_CAPACITY:,}"
             made.append(Workload(title, pair, VALUES_CAPACITY, "rates", [*threads, 0, milliseconds]))
     return made

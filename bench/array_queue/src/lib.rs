@@ -27,40 +27,46 @@ pub unsafe extern "C" fn array_queue_free(queue: *mut ArrayQueue<u32>) {
     drop(Box::from_raw(queue));
 }
 
-/// A value of 16 bytes.
-pub struct Value([u64; 2]);
-
-#[no_mangle]
-pub extern "C" fn array_values_new(capacity: usize) -> *mut ArrayQueue<Value> {
-    Box::into_raw(Box::new(ArrayQueue::new(capacity)))
-}
-
-/// # Safety
-/// The queue is one of `array_values_new` that was not freed.
-#[no_mangle]
-pub unsafe extern "C" fn array_values_push(queue: *const ArrayQueue<Value>, first: u64, second: u64) -> bool {
-    (*queue).push(Value([first, second])).is_ok()
-}
-
-/// # Safety
-/// As of `array_values_push`, and `halves` has room for two words.
-#[no_mangle]
-pub unsafe extern "C" fn array_values_pop(queue: *const ArrayQueue<Value>, halves: *mut [u64; 2]) -> bool {
-    match (*queue).pop() {
-        Some(Value(value)) => {
-            *halves = value;
-            true
+/// The C calls of an ArrayQueue of values of so many 64-bit words, which go in and out by pointers.
+macro_rules! array_of_values {
+    ($words:literal, $new:ident, $push:ident, $pop:ident, $free:ident) => {
+        #[no_mangle]
+        pub extern "C" fn $new(capacity: usize) -> *mut ArrayQueue<[u64; $words]> {
+            Box::into_raw(Box::new(ArrayQueue::new(capacity)))
         }
-        None => false,
-    }
+
+        /// # Safety
+        /// The queue is one of the call above that was not freed, and there is a value to read.
+        #[no_mangle]
+        pub unsafe extern "C" fn $push(queue: *const ArrayQueue<[u64; $words]>, value: *const [u64; $words]) -> bool {
+            (*queue).push(*value).is_ok()
+        }
+
+        /// # Safety
+        /// As of the push, and there is room for a value.
+        #[no_mangle]
+        pub unsafe extern "C" fn $pop(queue: *const ArrayQueue<[u64; $words]>, value: *mut [u64; $words]) -> bool {
+            match (*queue).pop() {
+                Some(popped) => {
+                    *value = popped;
+                    true
+                }
+                None => false,
+            }
+        }
+
+        /// # Safety
+        /// As of the push; nobody uses the queue any more.
+        #[no_mangle]
+        pub unsafe extern "C" fn $free(queue: *mut ArrayQueue<[u64; $words]>) {
+            drop(Box::from_raw(queue));
+        }
+    };
 }
 
-/// # Safety
-/// As of `array_values_push`; nobody uses the queue any more.
-#[no_mangle]
-pub unsafe extern "C" fn array_values_free(queue: *mut ArrayQueue<Value>) {
-    drop(Box::from_raw(queue));
-}
+array_of_values!(1, array_8_new, array_8_push, array_8_pop, array_8_free);
+array_of_values!(2, array_16_new, array_16_push, array_16_pop, array_16_free);
+array_of_values!(8, array_64_new, array_64_push, array_64_pop, array_64_free);
 
 /// Both ends of a bounded channel of crossbeam's.
 pub struct Channel(crossbeam_channel::Sender<u64>, crossbeam_channel::Receiver<u64>);
