@@ -7,11 +7,11 @@ use Rattle.kfifo_live.specs.declared.pay_handle.Published.{Published}
 use Rattle.kfifo_live.specs.declared.pay_handle.Published.TheVariants as P
 use Rattle.kfifo_live.specs.declared.pay_handle.Received.{Received}
 use Rattle.kfifo_live.specs.declared.pay_handle.Received.TheVariants as C
-use Rattle.kfifo_live.specs.Pass.{OpenQueue}
+use Rattle.kfifo_live.specs.Pass.{IsSamePass, OpenQueue}
 use Rattle.kfifo_live.specs.Payloads.{TokenView}
-use Rattle.kfifo_live.specs.Handles.{PayHeld}
+use Rattle.kfifo_live.specs.Handles.{PayHeld, Releases}
 use Rattle.kfifo_c.specs.ValueSeats.{ValueSeated}
-use Rattle.kfifo_c.specs.Cells.{HasReserved, HasReceived, MayPublish, MayRelease, PublishesCell}
+use Rattle.kfifo_c.specs.Cells.{GivesBack, HasReserved, HasReceived, MayCancel, MayPublish, MayRelease, PublishesCell}
 use Rattle.kfifo_c.specs.Cells.{answer_of_published, answer_of_received}
 
 -- a seat with this in it
@@ -33,6 +33,22 @@ may_publish (Some answer) old new m = (not_none old.reserved m.0 m.1, m)
 
 pub has_released : (old new : ValueSeated) → MayRelease true old new → HasReceived old
 has_released old new m = not_none old.received m.1.0 m.1.1
+
+pub has_cancelled : (old new : ValueSeated) → MayCancel true old new → HasReserved old
+has_cancelled old new m = not_none old.reserved m.1.0 m.1.1
+
+-- a handle that gave a token back, in its seat
+pub gives_back : (token : TokenView) (old : ValueSeated) (held : PayHeld ℕ) (reserved received : Option TokenView)
+    → IsSamePass old.held.pass.pass held.pass.pass → Releases token.number old.held held → held.give_start ≡ old.held.give_start
+    → held.take_start ≡ old.held.take_start → held.shortages ≡ old.held.shortages
+    → GivesBack token old (seat_with old.queue held reserved received)
+gives_back token old held reserved received same releases give take shortages = record {
+  same = record { queue = refl; same = same };
+  releases = releases;
+  same_give = give;
+  same_take = take;
+  same_shortages = shortages;
+}
 
 -- only a busy call has the answer Busy
 pub busy_published : (published : Published ℕ) → answer_of_published published ≡ A.Busy

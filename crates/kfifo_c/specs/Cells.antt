@@ -90,23 +90,30 @@ abbrev pub MayPublish : Option Answer → ValueSeated → ValueSeated → Type 0
 MayPublish None old new = (old.reserved ≡ None) × (new ≡ old)
 MayPublish (Some answer) old new = PublishesCell answer old new
 
--- The handle released the cell of this token: all that the running queue says of it
-pub record ReleasesToken (token : TokenView) (old new : ValueSeated) : Type 0 where
+-- The handle gave the token of a cell back to its pass: all that the running queue says of it
+pub record GivesBack (token : TokenView) (old new : ValueSeated) : Type 0 where
   pub same : SameQueue old new
   pub releases : Releases token.number old.held new.held
-  pub same_reserved : new.reserved ≡ old.reserved
-  pub received : new.received ≡ None
   pub same_give : new.held.give_start ≡ old.held.give_start
   pub same_take : new.held.take_start ≡ old.held.take_start
   pub same_shortages : new.held.shortages ≡ old.held.shortages
+
+-- What `cancel` did: nothing where no cell is reserved
+abbrev pub CancelsCell : Answer → ValueSeated → ValueSeated → Type 0
+CancelsCell answer old new = (answer ≡ A.Done) × ((token : TokenView) × (old.reserved ≡ Some token)
+    × GivesBack token old new × (new.reserved ≡ None) × (new.received ≡ old.received))
+
+abbrev pub MayCancel : Bool → ValueSeated → ValueSeated → Type 0
+MayCancel false old new = (old.reserved ≡ None) × (new ≡ old)
+MayCancel true old new = CancelsCell A.Done old new
 
 -- What `release` did: nothing where no cell was received, or it was released
 abbrev pub HasReceived : ValueSeated → Type 0
 HasReceived seat = seat.received ≢ None
 
 abbrev pub ReleasesCell : Answer → ValueSeated → ValueSeated → Type 0
-ReleasesCell answer old new = (answer ≡ A.Done)
-    × ((token : TokenView) × (old.received ≡ Some token) × ReleasesToken token old new)
+ReleasesCell answer old new = (answer ≡ A.Done) × ((token : TokenView) × (old.received ≡ Some token)
+    × GivesBack token old new × (new.reserved ≡ old.reserved) × (new.received ≡ None))
 
 abbrev pub MayRelease : Bool → ValueSeated → ValueSeated → Type 0
 MayRelease false old new = (old.received ≡ None) × (new ≡ old)

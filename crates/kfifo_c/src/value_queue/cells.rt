@@ -2,8 +2,8 @@
 ghost use Rattle.std.specs.Prelude.{◌≡◌, ℕ, ⊤, Option};
 ghost use Rattle.kfifo_model.specs.declared.calls.Answer.{Answer as HasAnswer};
 ghost use Rattle.kfifo_c.specs.Exports.{Tries, number_of};
-ghost use Rattle.kfifo_c.specs.Cells.{HasReceived, HasReserved, PublishesCell, ReceivesCell, ReleasesCell, ReservesCell};
-ghost use Rattle.kfifo_c.specs.Cells.{cell_received, cell_reserved, reserve_number};
+ghost use Rattle.kfifo_c.specs.Cells.{CancelsCell, HasReceived, HasReserved, PublishesCell, ReceivesCell, ReleasesCell};
+ghost use Rattle.kfifo_c.specs.Cells.{ReservesCell, cell_received, cell_reserved, reserve_number};
 
 use crate::status::{BAD_CALL, DONE, NO_TOKEN, status};
 use crate::value_queue::handle::ValueHandle;
@@ -42,6 +42,24 @@ pub extern "C" fn kfifo_c_publish(pass: &mut ValueHandle) -> u32
         return BAD_CALL;
     }
     status(pass.held.seat_mut().publish())
+}
+
+/// Gives the cell that is reserved back, so that any handle may reserve it, and returns DONE. Returns BAD_CALL, with
+/// nothing done, where none is reserved, or the handle is closed.
+#[unsafe(no_mangle)]
+pub extern "C" fn kfifo_c_cancel(pass: &mut ValueHandle) -> u32
+    ensures answer { (answer : Option HasAnswer) × (result ≡ number_of answer)
+        × Tries HasReserved CancelsCell answer pass.old.held.value pass.new.held.value }
+    ensures address { pass.new.address ≡ pass.old.address }
+{
+    if pass.starts == 0 {
+        return BAD_CALL;
+    }
+    if pass.held.seat_mut().cancel() {
+        DONE
+    } else {
+        BAD_CALL
+    }
 }
 
 /// Takes one of the k oldest cells out of the queue of the handle, as `PayHandle::receive`, and returns its answer's

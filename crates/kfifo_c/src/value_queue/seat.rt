@@ -3,8 +3,8 @@ ghost use Rattle.std.specs.Prelude.{◌≡◌, ◌*◌};
 ghost use Rattle.kfifo_live.specs.Pass.{IsPassOf};
 ghost use Rattle.kfifo_c.specs.ValueSeats.{HasTokensOf, ValueSeated, value_seated};
 ghost use Rattle.kfifo_live.specs.Handles.{token_back, token_got};
-ghost use Rattle.kfifo_c.specs.Cells.{MayPublish, MayRelease, ReceivesCell, ReservesCell, answer_of_published};
-ghost use Rattle.kfifo_c.specs.Cells.{answer_of_received};
+ghost use Rattle.kfifo_c.specs.Cells.{MayCancel, MayPublish, MayRelease, ReceivesCell, ReservesCell};
+ghost use Rattle.kfifo_c.specs.Cells.{answer_of_published, answer_of_received};
 ghost use Rattle.kfifo_c.specs.Values.{GivesValue, TakesValue};
 
 use crate::value_queue::address::value_address_of;
@@ -163,6 +163,20 @@ impl ValueSeat {
         let (answer, back) = of_published(self.handle.publish(&self.queue, token, cell));
         self.reserved = back;
         Some(answer)
+    }
+
+    /// Gives the cell that is reserved back. Returns false where none is.
+    #[inline(always)]
+    pub(crate) fn cancel(&mut self) -> bool
+        ensures { MayCancel result self.old self.new }
+    {
+        match self.reserved.take() {
+            None => false,
+            Some(token) => {
+                self.handle.release(&self.queue, token);
+                true
+            }
+        }
     }
 
     /// Releases the cell that was received before, and takes one of the k oldest cells.
