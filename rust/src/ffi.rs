@@ -106,6 +106,19 @@ impl Pass {
     }
 }
 
+// Of the calls by a pass the library promises, and has proved:
+//
+// - `reserve`: DONE writes the number of a cell, below the number of all tokens, that is this pass's alone until
+//   `publish` puts it into the queue. It writes the same number until then.
+// - `publish`: DONE puts the reserved cell into the queue. After anything else it is still reserved.
+// - `receive`: GOT writes the number of a cell that was in the queue, once for each time that it was published. The cell
+//   is this pass's alone until its next `receive` or `release`.
+// - `release`: the cell that was received may be reserved again, by any pass.
+// - Between these calls they order what threads do: what comes before a `publish` of a cell comes before what follows
+//   its `receive`, and what comes before its `release` comes before what follows its next `reserve`.
+// - `close_values`: DONE writes the numbers of the cells that are in the queue, in the order of the queue.
+//
+// Of the caller they require that one thread at a time uses a pass, and that it is open.
 unsafe extern "C" {
     pub(crate) fn kfifo_c_open_values(
         k: u32,
@@ -116,12 +129,14 @@ unsafe extern "C" {
         passes: *mut Pass,
         threads: usize,
     ) -> u32;
-    pub(crate) fn kfifo_c_give(pass: *mut Pass, value: u64) -> u32;
-    pub(crate) fn kfifo_c_take(pass: *mut Pass, value: *mut u64) -> u32;
+    pub(crate) fn kfifo_c_reserve(pass: *mut Pass, cell: *mut u64) -> u32;
+    pub(crate) fn kfifo_c_publish(pass: *mut Pass) -> u32;
+    pub(crate) fn kfifo_c_receive(pass: *mut Pass, cell: *mut u64) -> u32;
+    pub(crate) fn kfifo_c_release(pass: *mut Pass) -> u32;
     pub(crate) fn kfifo_c_close_values(
         passes: *mut Pass,
         threads: usize,
-        values: *mut u64,
+        cells: *mut u64,
         room: usize,
         count: *mut usize,
     ) -> u32;

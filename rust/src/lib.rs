@@ -26,6 +26,7 @@
 //! ```
 #![warn(missing_docs)]
 
+mod cells;
 mod error;
 mod ffi;
 mod shared;
@@ -105,7 +106,18 @@ impl<T> Queue<T> {
         handles: usize,
         tokens: u32,
     ) -> Result<Queue<T>, OpenError> {
-        let shared = Shared::open(k, segments, handles, tokens)?;
+        Queue::with_versions(k, segments, handles, tokens, shared::LAST)
+    }
+
+    /// As [`Queue::with_tokens`], with the versions up to `last`.
+    fn with_versions(
+        k: u32,
+        segments: u32,
+        handles: usize,
+        tokens: u32,
+        last: u64,
+    ) -> Result<Queue<T>, OpenError> {
+        let shared = Shared::open(k, segments, handles, tokens, last)?;
         Ok(Queue {
             shared: Arc::new(shared),
         })
@@ -166,7 +178,7 @@ impl<T> Queue<T> {
     /// ```
     pub fn into_values(self) -> Result<Vec<T>, Queue<T>> {
         match Arc::try_unwrap(self.shared) {
-            Ok(mut shared) => Ok(shared.take_all()),
+            Ok(shared) => Ok(shared.into_values()),
             Err(shared) => Err(Queue { shared }),
         }
     }

@@ -1,52 +1,34 @@
-//! What a queue and its handles share: the passes of the C library, and which of them are in use.
+//! What a queue and its handles share: the passes of the C library, which of them are in use, and the cells.
+use crate::cells::Cells;
 use crate::error::{OpenError, PopError, PushError};
 use crate::ffi;
 use std::cell::UnsafeCell;
-use std::marker::PhantomData;
-use std::mem::take;
-use std::ptr::{null_mut, with_exposed_provenance_mut};
+use std::mem::ManuallyDrop;
 use std::sync::atomic::{AtomicBool, Ordering};
 
 /// The greatest version of a word.
-const LAST: u64 = (1 << 40) - 1;
+pub(crate) const LAST: u64 = (1 << 40) - 1;
 
-pub(crate) struct Shared<T> {
-    passes: Box<[UnsafeCell<ffi::Pass>]>,
-    in_use: Box<[AtomicBool]>,
-    slots: usize,
-    waits: ffi::Waits,
-    /// A value in the queue is a box of it, as its pointer.
-    values: PhantomData<Box<T>>,
-}
+/// The passes of a queue, which are closed when they are dropped.
+struct Passes(Box<[UnsafeCell<ffi::Pass>]>);
 
-// SAFETY: `T` may go to another thread, and so may a pass and the pointers in the queue.
-unsafe impl<T: Send> Send for Shared<T> {}
-// SAFETY: a pass is reached by `push` and `pop` alone, whose callers see to it that one thread at a time uses it, and
-// by those with `&mut self`. A reference gives no `&T`, so `T: Sync` is not asked for.
-unsafe impl<T: Send> Sync for Shared<T> {}
-
-impl<T> Shared<T> {
-    pub(crate) fn open(
+impl Passes {
+    fn open(
         k: u32,
         segments: u32,
         handles: usize,
         tokens: u32,
-    ) -> Result<Shared<T>, OpenError> {
+        last: u64,
+    ) -> Result<Passes, OpenError> {
         // More than 64 handles are refused as 65 are, without memory for them.
         let threads = handles.min(65);
         let mut passes: Vec<ffi::Pass> = (0..threads).map(|_| ffi::Pass::closed()).collect();
         // SAFETY: the array has as many passes as is said, and each is closed.
         let status = unsafe {
-            ffi::kfifo_c_open_values(k, segments, k, LAST, tokens, passes.as_mut_ptr(), threads)
+            ffi::kfifo_c_open_values(k, segments, k, last, tokens, passes.as_mut_ptr(), threads)
         };
         match status {
-            ffi::DONE => Ok(Shared {
-                passes: passes.into_iter().map(UnsafeCell::new).collect(),
-                in_use: (0..threads).map(|_| AtomicBool::new(false)).collect(),
-                slots: k as usize * segments as usize,
-                waits: ffi::Waits::open(),
-                values: PhantomData,
-            }),
+            ffi::DONE => Ok(Passes(passes.into_iter().map(UnsafeCell::new).collect())),
             ffi::BAD_K | ffi::BAD_PROBES => Err(OpenError::KOutOfRange),
             ffi::BAD_SEGMENTS => Err(OpenError::SegmentsOutOfRange),
             ffi::BAD_THREADS => Err(OpenError::ThreadsOutOfRange),
@@ -56,6 +38,56 @@ impl<T> Shared<T> {
                 Err(OpenError::OutOfMemory)
             }
         }
+    }
+
+    fn at(&self, number: usize) -> *mut ffi::Pass {
+        self.0[number].get()
+    }
+}
+
+impl Drop for Passes {
+    fn drop(&mut self) {
+        // SAFETY: these are all passes of a queue, and nobody else uses one: `&mut self`. Those that are closed already
+        // stay so.
+        unsafe { ffi::kfifo_c_abandon_values(self.0.as_mut_ptr().cast(), self.0.len()) };
+    }
+}
+
+/// When it is dropped, the values that are left are dropped with their cells, and the queue is closed with its passes.
+pub(crate) struct Shared<T> {
+    passes: Passes,
+    in_use: Box<[AtomicBool]>,
+    cells: Cells<T>,
+    slots: usize,
+    waits: ffi::Waits,
+}
+
+// SAFETY: `T` may go to another thread, and so may the passes: the library ties none to a thread.
+unsafe impl<T: Send> Send for Shared<T> {}
+// SAFETY: a pass is reached by `push` and `pop` alone, whose callers see to it that one thread at a time uses it, and
+// by those that have the queue alone. A cell is reached by whoever the library says has it, one thread at a time, and
+// the library orders one after the other. So values go from thread to thread, which `T: Send` allows. A reference gives
+// no `&T`, so `T: Sync` is not asked for.
+unsafe impl<T: Send> Sync for Shared<T> {}
+
+impl<T> Shared<T> {
+    /// A queue whose words have the versions up to `last`.
+    pub(crate) fn open(
+        k: u32,
+        segments: u32,
+        handles: usize,
+        tokens: u32,
+        last: u64,
+    ) -> Result<Shared<T>, OpenError> {
+        let passes = Passes::open(k, segments, handles, tokens, last)?;
+        // The library has looked at the numbers, so that the sizes below are in bounds.
+        Ok(Shared {
+            passes,
+            in_use: (0..handles).map(|_| AtomicBool::new(false)).collect(),
+            cells: Cells::new(handles, tokens).ok_or(OpenError::OutOfMemory)?,
+            slots: k as usize * segments as usize,
+            waits: ffi::Waits::open(),
+        })
     }
 
     /// The number of a pass that nobody has, which is then in use.
@@ -85,17 +117,17 @@ impl<T> Shared<T> {
         self.waits.state.load(Ordering::SeqCst) & ffi::IS_FINISHED != 0
     }
 
-    /// Gives the bits to the queue, and wakes who waits for them.
+    /// Puts a value into the queue, and wakes who waits for it. DONE: the value is the queue's now.
     ///
     /// # Safety
     ///
-    /// As of `push`, and whoever takes the bits may have them.
-    unsafe fn give(&self, number: usize, bits: u64) -> u32 {
+    /// As of `push`. The caller gives up the value where this returns DONE.
+    unsafe fn give(&self, number: usize, value: &T) -> u32 {
         if self.is_finished() {
             return ffi::FINISHED;
         }
-        // SAFETY: the pass is of an open queue, and the caller says that nobody else uses it.
-        let status = unsafe { ffi::kfifo_c_give(self.passes[number].get(), bits) };
+        // SAFETY: as the caller says.
+        let status = unsafe { self.publish(number, value) };
         // The look comes after the call, and a waiting thread's second look after it has announced itself: so one of
         // the two sees the other.
         if self.waits.state.load(Ordering::SeqCst) > ffi::IS_FINISHED {
@@ -105,37 +137,86 @@ impl<T> Shared<T> {
         status
     }
 
-    /// One look for a value; it wakes who waits for room.
+    /// Copies a value into a cell, and puts the cell into the queue.
     ///
     /// # Safety
     ///
-    /// As of `pop`.
-    unsafe fn look(&self, number: usize, bits: &mut u64) -> u32 {
-        // SAFETY: as in `give`.
-        let status = unsafe { ffi::kfifo_c_take(self.passes[number].get(), bits) };
-        if self.waits.state.load(Ordering::SeqCst) >= ffi::GIVER {
-            // SAFETY: the waits are this queue's.
-            return unsafe { ffi::kfifo_wait_taken(&self.waits, status) };
+    /// As of `give`.
+    unsafe fn publish(&self, number: usize, value: &T) -> u32 {
+        let pass = self.passes.at(number);
+        let mut cell = 0;
+        // SAFETY: the pass is of an open queue, and the caller says that nobody else uses it.
+        let status = unsafe { ffi::kfifo_c_reserve(pass, &mut cell) };
+        if status != ffi::DONE {
+            return status;
+        }
+        let cell = self.cells.at(cell);
+        // SAFETY: `reserve` promises that the cell is this pass's alone until it is published. The caller gives up the
+        // value, or `forget` comes below.
+        unsafe { (*cell).copy_in(value) };
+        // SAFETY: as of `reserve`.
+        let status = unsafe { ffi::kfifo_c_publish(pass) };
+        if status != ffi::DONE {
+            // SAFETY: `publish` promises that a refused cell is still reserved, and so this pass's alone.
+            unsafe { (*cell).forget() };
         }
         status
     }
 
-    /// Takes the bits of a value. Finished takes the place of Empty where the queue was finished, and then found empty.
+    /// One look for a value. It wakes who waits for room, unless it found one: then `move_out` does so.
     ///
     /// # Safety
     ///
-    /// As of `pop`.
-    unsafe fn take(&self, number: usize, bits: &mut u64) -> u32 {
+    /// As of `pop`. After GOT `move_out` of the cell comes next.
+    unsafe fn look(&self, number: usize, cell: &mut u64) -> u32 {
+        // SAFETY: as of `reserve` in `publish`.
+        let status = unsafe { ffi::kfifo_c_receive(self.passes.at(number), cell) };
+        if status != ffi::GOT {
+            self.wake_for_room(status);
+        }
+        status
+    }
+
+    /// Wakes who waits for room, after a call that came to this status.
+    fn wake_for_room(&self, status: u32) {
+        if self.waits.state.load(Ordering::SeqCst) >= ffi::GIVER {
+            // SAFETY: the waits are this queue's.
+            unsafe { ffi::kfifo_wait_taken(&self.waits, status) };
+        }
+    }
+
+    /// Looks for a value. Finished takes the place of Empty where the queue was finished, and then found empty.
+    ///
+    /// # Safety
+    ///
+    /// As of `look`.
+    unsafe fn receive(&self, number: usize, cell: &mut u64) -> u32 {
         // SAFETY: as the caller says, here and below.
-        let status = unsafe { self.look(number, bits) };
+        let status = unsafe { self.look(number, cell) };
         if status != ffi::EMPTY || !self.is_finished() {
             return status;
         }
         // A value may have come between the look and the end.
-        match unsafe { self.look(number, bits) } {
+        match unsafe { self.look(number, cell) } {
             ffi::EMPTY => ffi::FINISHED,
             status => status,
         }
+    }
+
+    /// Moves the value out of a cell that was received, and releases the cell.
+    ///
+    /// # Safety
+    ///
+    /// As of `pop`, and `look` has just received the cell by this pass.
+    unsafe fn move_out(&self, number: usize, cell: u64) -> T {
+        // SAFETY: `receive` promises that the cell is this pass's alone until it is released.
+        let value = unsafe { (*self.cells.at(cell)).take() };
+        // SAFETY: as of `receive` in `look`.
+        let status = unsafe { ffi::kfifo_c_release(self.passes.at(number)) };
+        debug_assert_eq!(status, ffi::DONE);
+        // A giver may wait for the room, or for the token that is free only now.
+        self.wake_for_room(ffi::GOT);
+        value.expect("a cell that comes out of the queue has the value that was put with it")
     }
 
     /// Makes a call again until it comes to something or the time is up; without a time it does not. `status` is what the
@@ -170,20 +251,18 @@ impl<T> Shared<T> {
         value: T,
         nanoseconds: Option<u64>,
     ) -> Result<(), PushError<T>> {
-        let cell = Box::into_raw(Box::new(value));
-        let bits = cell.expose_provenance() as u64;
-        // SAFETY: the caller says that nobody else uses the pass, and who takes the bits has the box.
-        let give = || unsafe { self.give(number, bits) };
-        let status = give();
+        let value = ManuallyDrop::new(value);
+        // SAFETY: the caller says that nobody else uses the pass. The value is given up below after DONE, which ends the
+        // calls.
+        let give = || unsafe { self.give(number, &value) };
+        let mut status = give();
+        if status != ffi::DONE {
+            status = self.wait(ffi::GIVER, nanoseconds, status, give);
+        }
         if status == ffi::DONE {
             return Ok(());
         }
-        let status = self.wait(ffi::GIVER, nanoseconds, status, give);
-        if status == ffi::DONE {
-            return Ok(());
-        }
-        // SAFETY: the queue did not take the pointer, so the box is still this call's.
-        let value = *unsafe { Box::from_raw(cell) };
+        let value = ManuallyDrop::into_inner(value);
         Err(match status {
             ffi::FULL => PushError::Full(value),
             ffi::BUSY => PushError::Busy(value),
@@ -207,16 +286,16 @@ impl<T> Shared<T> {
         number: usize,
         nanoseconds: Option<u64>,
     ) -> Result<T, PopError> {
-        let mut bits = 0;
-        // SAFETY: as in `push`.
-        let mut take = || unsafe { self.take(number, &mut bits) };
-        let mut status = take();
+        let mut cell = 0;
+        // SAFETY: as in `push`. GOT ends the calls.
+        let mut receive = || unsafe { self.receive(number, &mut cell) };
+        let mut status = receive();
         if status != ffi::GOT {
-            status = self.wait(ffi::TAKER, nanoseconds, status, take);
+            status = self.wait(ffi::TAKER, nanoseconds, status, receive);
         }
         match status {
-            // SAFETY: each value that comes out of the queue went in by `push`, and comes out once.
-            ffi::GOT => Ok(unsafe { Shared::unboxed(bits) }),
+            // SAFETY: the cell has just been received.
+            ffi::GOT => Ok(unsafe { self.move_out(number, cell) }),
             ffi::EMPTY => Err(PopError::Empty),
             ffi::BUSY => Err(PopError::Busy),
             ffi::TIMED_OUT => Err(PopError::TimedOut),
@@ -228,57 +307,48 @@ impl<T> Shared<T> {
         }
     }
 
-    /// # Safety
-    ///
-    /// The bits came out of the queue, and are used once.
-    unsafe fn unboxed(bits: u64) -> T {
-        // SAFETY: the bits are the pointer of a box that `push` gave up.
-        *unsafe { Box::from_raw(with_exposed_provenance_mut::<T>(bits as usize)) }
-    }
-
-    /// Takes all values that are left, and closes the passes.
-    pub(crate) fn take_all(&mut self) -> Vec<T> {
+    /// Moves all values out that are left, in the order of the queue.
+    pub(crate) fn into_values(mut self) -> Vec<T> {
         let mut values = Vec::new();
-        // SAFETY: `&mut self`: nobody else makes a call, here and in what follows.
         let end = loop {
+            // SAFETY: `self` is no reference: nobody else makes a call.
             match unsafe { self.pop(0, None) } {
                 Ok(value) => values.push(value),
                 Err(end) => break end,
             }
         };
-        let passes = take(&mut self.passes);
-        let raw = passes.first().map_or(null_mut(), UnsafeCell::get);
         if end == PopError::Worn {
-            self.close_into(raw, passes.len(), &mut values);
+            for cell in self.close() {
+                values.extend(self.cells.take(cell));
+            }
         }
-        // SAFETY: as above; the passes that are closed already stay so.
-        unsafe { ffi::kfifo_c_abandon_values(raw, passes.len()) };
+        // Where there was no memory for the close, the order of the values is lost, but none of them.
+        values.extend(self.cells.take_all());
         values
     }
 
-    /// Closes a queue whose versions are used up, and adds the values that are left.
-    fn close_into(&self, passes: *mut ffi::Pass, threads: usize, values: &mut Vec<T>) {
-        let mut left = vec![0; self.slots];
+    /// Closes a queue whose versions are used up, and returns the cells that are in it; none where there is no memory for
+    /// that.
+    fn close(&mut self) -> Vec<u64> {
+        let passes = &mut self.passes.0;
+        let mut cells = Vec::new();
+        if cells.try_reserve_exact(self.slots).is_err() {
+            return cells;
+        }
+        cells.resize(self.slots, 0);
         let mut count = 0;
-        // SAFETY: these are all passes of the queue, and there is room for a value of each slot.
+        // SAFETY: these are all passes of the queue, `&mut self` says that nobody else uses one, and there is room for a
+        // cell of each slot.
         let status = unsafe {
-            ffi::kfifo_c_close_values(passes, threads, left.as_mut_ptr(), left.len(), &mut count)
+            ffi::kfifo_c_close_values(
+                passes.as_mut_ptr().cast(),
+                passes.len(),
+                cells.as_mut_ptr(),
+                cells.len(),
+                &mut count,
+            )
         };
-        if status == ffi::DONE {
-            // SAFETY: these are the values that were in the queue, each once.
-            values.extend(
-                left[..count]
-                    .iter()
-                    .map(|bits| unsafe { Shared::unboxed(*bits) }),
-            );
-        }
-    }
-}
-
-impl<T> Drop for Shared<T> {
-    fn drop(&mut self) {
-        if !self.passes.is_empty() {
-            drop(self.take_all());
-        }
+        cells.truncate(if status == ffi::DONE { count } else { 0 });
+        cells
     }
 }
