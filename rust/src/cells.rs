@@ -101,3 +101,7 @@ impl<T> Cells<T> {
         self.cells.iter_mut().filter_map(|it| it.get_mut().take())
     }
 }
+
+#[cfg(test)]
+#[path = "../tests/unit/cells.rs"]
+mod tests;

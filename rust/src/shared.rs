@@ -352,3 +352,7 @@ impl<T> Shared<T> {
         cells
     }
 }
+
+#[cfg(test)]
+#[path = "../tests/unit/worn.rs"]
+mod worn;

@@ -135,6 +135,27 @@ fn refusals_hand_the_value_back() {
     assert_eq!(first.push("e"), Ok(()));
 }
 
+/// Handles that were refused and then only take do not keep so many tokens that one that only puts has none.
+#[test]
+fn refusals_keep_no_tokens_from_others() {
+    for tokens in 1..4 {
+        let queue = Queue::with_tokens(1, 2, 8, tokens).expect("the sizes are in range");
+        let handle = || queue.handle().expect("a handle is free");
+        let (giver, takers) = (handle(), [(); 7].map(|()| handle()));
+        assert_eq!(giver.push(0), Ok(()));
+        assert_eq!(takers[0].push(0), Ok(()));
+        for taker in &takers[1..] {
+            assert_eq!(taker.push(0), Err(PushError::Full(0)));
+        }
+        for number in 0..100 {
+            while takers.iter().any(|taker| taker.pop().is_ok()) {}
+            assert_eq!(giver.push(number), Ok(()));
+            let taker = &takers[number as usize % takers.len()];
+            assert_eq!(taker.pop(), Ok(number));
+        }
+    }
+}
+
 #[test]
 fn sizes_out_of_range_are_refused() {
     let refused =
