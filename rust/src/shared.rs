@@ -191,12 +191,13 @@ impl<T> Shared<T> {
     ///
     /// As of `look`.
     unsafe fn receive(&self, number: usize, cell: &mut u64) -> u32 {
-        // SAFETY: as the caller says, here and below.
+        // SAFETY: as the caller says.
         let status = unsafe { self.look(number, cell) };
         if status != ffi::EMPTY || !self.is_finished() {
             return status;
         }
         // A value may have come between the look and the end.
+        // SAFETY: as the caller says.
         match unsafe { self.look(number, cell) } {
             ffi::EMPTY => ffi::FINISHED,
             status => status,

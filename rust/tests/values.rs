@@ -1,5 +1,5 @@
 //! Values of many types: each comes out as it went in, and each is dropped once, whatever is refused and whatever panics.
-use kfifo::{Handle, PopError, PushError, Queue};
+use kfifo::{Handle, OpenError, PopError, PushError, Queue};
 use std::cell::Cell;
 use std::mem::{align_of, forget, size_of};
 use std::panic::{AssertUnwindSafe, catch_unwind};
@@ -375,12 +375,15 @@ fn calls_are_values_too() {
     assert!(handle.values().map(|call| call()).eq(0..8));
 }
 
-/// Cells that are more than there can be memory for are refused.
+/// Cells for which there is no memory, and cells for which there are not even addresses.
 #[test]
 fn values_too_large_are_refused() {
-    type Huge = [u8; 1 << 46];
-    let refused = Queue::<Huge>::with_tokens(4, 16, 64, 1024).err();
-    assert_eq!(refused, Some(kfifo::OpenError::OutOfMemory));
-    let refused = Queue::<Huge>::with_tokens(4, 16, 64, 1025).err();
-    assert_eq!(refused, Some(kfifo::OpenError::TokensOutOfRange));
+    type Large = [u8; 1 << 46];
+    type Larger = [u8; (1 << 47) - 4096];
+    let refused = Queue::<Large>::with_tokens(4, 16, 64, 1024).err();
+    assert_eq!(refused, Some(OpenError::OutOfMemory));
+    let refused = Queue::<Larger>::with_tokens(4, 16, 64, 1024).err();
+    assert_eq!(refused, Some(OpenError::OutOfMemory));
+    let refused = Queue::<Larger>::with_tokens(4, 16, 64, 1025).err();
+    assert_eq!(refused, Some(OpenError::TokensOutOfRange));
 }

@@ -71,8 +71,10 @@ fn a_cell_that_forgets_drops_nothing() {
     let value = ManuallyDrop::new(Box::new(7));
     let cells = Cells::<Box<i32>>::new(1, 1).expect("there is memory");
     // SAFETY: nobody else has the cell, and the value goes on here: the cell forgets it.
-    unsafe { (*cells.at(0)).copy_in(&value) };
-    unsafe { (*cells.at(0)).forget() };
+    unsafe {
+        (*cells.at(0)).copy_in(&value);
+        (*cells.at(0)).forget();
+    }
     drop(cells);
     assert_eq!(*ManuallyDrop::into_inner(value), 7);
 }

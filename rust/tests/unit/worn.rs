@@ -21,7 +21,7 @@ impl Worn {
     }
 
     fn push(&self, pass: usize, number: u64) -> Result<(), PushError<Value>> {
-        // SAFETY: one thread makes all calls, here and below.
+        // SAFETY: one thread makes all calls.
         unsafe {
             self.shared
                 .push(pass, (number, Rc::clone(&self.alive)), None)
@@ -29,6 +29,7 @@ impl Worn {
     }
 
     fn pop(&self, pass: usize) -> Result<u64, PopError> {
+        // SAFETY: as in `push`.
         unsafe { self.shared.pop(pass, None) }.map(|value| value.0)
     }
 
