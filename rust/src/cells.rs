@@ -32,14 +32,22 @@ impl<T> Cell<T> {
         self.is_full = false;
     }
 
-    /// Moves the value out, if there is one.
-    pub(crate) fn take(&mut self) -> Option<T> {
-        if !self.is_full {
-            return None;
-        }
+    /// Moves the value out.
+    ///
+    /// # Safety
+    ///
+    /// There is one.
+    pub(crate) unsafe fn move_out(&mut self) -> T {
+        debug_assert!(self.is_full);
         self.is_full = false;
-        // SAFETY: `is_full` said that there is a value, and says so no more.
-        Some(unsafe { self.value.assume_init_read() })
+        // SAFETY: the caller says that there is a value, and `is_full` says so no more.
+        unsafe { self.value.assume_init_read() }
+    }
+
+    /// Moves the value out, if there is one.
+    fn take(&mut self) -> Option<T> {
+        // SAFETY: `is_full` says that there is one.
+        self.is_full.then(|| unsafe { self.move_out() })
     }
 }
 
@@ -58,7 +66,8 @@ impl<T> Drop for Cell<T> {
 /// one handle puts could come out of another as one of a long life. `UnsafeCell` sees to that.
 pub(crate) struct Cells<T> {
     cells: Box<[UnsafeCell<Cell<T>>]>,
-    tokens: u32,
+    /// 2^32 divided by the tokens of a handle, rounded up.
+    part: u64,
     gap: usize,
 }
 
@@ -75,7 +84,8 @@ impl<T> Cells<T> {
         }
         // SAFETY: the block is one of so many cells, and all bytes 0 is an empty cell.
         let cells = unsafe { Box::from_raw(slice_from_raw_parts_mut(block, count)) };
-        Some(Cells { cells, tokens, gap })
+        let part = (1_u64 << 32).div_ceil(u64::from(tokens));
+        Some(Cells { cells, part, gap })
     }
 
     /// Where the cell of this number is.
@@ -86,7 +96,9 @@ impl<T> Cells<T> {
 
     #[inline]
     fn place(&self, number: u64) -> usize {
-        let handle = number as u32 / self.tokens;
+        // `number / tokens`, without the time of a division. `part` is less than 1 too large, so the product is less
+        // than `number` too large, and `number` is at most 2^16: too little to reach the next whole number.
+        let handle = (number * self.part) >> 32;
         number as usize + (handle as usize + 1) * self.gap
     }
 

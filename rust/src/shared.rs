@@ -210,14 +210,16 @@ impl<T> Shared<T> {
     ///
     /// As of `pop`, and `look` has just received the cell by this pass.
     unsafe fn move_out(&self, number: usize, cell: u64) -> T {
-        // SAFETY: `receive` promises that the cell is this pass's alone until it is released.
-        let value = unsafe { (*self.cells.at(cell)).take() };
+        let pass = self.passes.at(number);
+        // SAFETY: `receive` promises that the cell is this pass's alone until it is released, and comes out once for each
+        // time that it was published: `publish` above puts a value into it each time.
+        let value = unsafe { (*self.cells.at(cell)).move_out() };
         // SAFETY: as of `receive` in `look`.
-        let status = unsafe { ffi::kfifo_c_release(self.passes.at(number)) };
+        let status = unsafe { ffi::kfifo_c_release(pass) };
         debug_assert_eq!(status, ffi::DONE);
         // A giver may wait for the room, or for the token that is free only now.
         self.wake_for_room(ffi::GOT);
-        value.expect("a cell that comes out of the queue has the value that was put with it")
+        value
     }
 
     /// Makes a call again until it comes to something or the time is up; without a time it does not. `status` is what the
