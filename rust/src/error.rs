@@ -20,7 +20,7 @@ pub enum OpenError {
     ThreadsOutOfRange,
     /// The number of tokens a handle is not 1 to 1,024.
     TokensOutOfRange,
-    /// An allocation failed.
+    /// An allocation failed: of the queue itself, or of the cells for its values.
     OutOfMemory,
 }
 

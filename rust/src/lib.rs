@@ -1,7 +1,10 @@
 //! A bounded lock-free k-FIFO queue of values, for many threads: a value that is taken is one of the k oldest.
 //!
-//! The queue itself is proved, down to its atomic words. This crate is a wrapper around its C library and is not
-//! proved; its README says what rests on what.
+//! A value lies in a *cell*, which a handle has alone while it moves the value in or out. The cells are made with the
+//! queue: no call of a handle allocates or frees.
+//!
+//! The queue itself is proved, down to its atomic words, and so is whose a cell is. This crate is a wrapper around its C
+//! library and is not proved: it moves the values and drops them. Its README says what rests on what.
 //!
 //! ```
 //! use kfifo::Queue;
@@ -53,14 +56,33 @@ pub const MAX_TOKENS: u32 = 1024;
 /// Each thread makes its calls by a [`Handle`] of its own. The queue goes with the last of the `Queue` and its handles,
 /// and the values that are left in it are dropped then.
 ///
-/// ```
-/// use kfifo::Queue;
+/// It has a cell for each token of each handle, with room for a `T` and a flag. So a queue of large values takes less
+/// memory with fewer tokens ([`Queue::with_tokens`]), or as a `Queue<Box<T>>`.
 ///
-/// let queue = Queue::new(4, 64, 2)?;
-/// let handle = queue.handle().expect("a handle is free");
-/// handle.push(String::from("a value")).expect("there is room");
-/// assert_eq!(handle.pop(), Ok(String::from("a value")));
-/// # Ok::<(), kfifo::OpenError>(())
+/// ```
+/// use kfifo::{OpenError, PushError, Queue};
+///
+/// struct Order {
+///     number: u64,
+///     text: String,
+/// }
+///
+/// fn main() -> Result<(), OpenError> {
+///     let queue = Queue::new(1, 2, 2)?; // k, segments, handles
+///     let handle = queue.handle().expect("a handle is free");
+///     for number in 1..=2 {
+///         let text = format!("order {number}");
+///         handle.push(Order { number, text }).expect("there is room");
+///     }
+///     let third = Order { number: 3, text: String::from("order 3") };
+///     match handle.push(third) {
+///         Err(PushError::Full(order)) => assert_eq!(order.text, "order 3"), // it comes back
+///         _ => unreachable!("two slots are full"),
+///     }
+///     let order = handle.pop().expect("an order is there");
+///     assert_eq!((order.number, order.text.as_str()), (1, "order 1"));
+///     Ok(()) // the second order is dropped with the queue
+/// }
 /// ```
 pub struct Queue<T> {
     shared: Arc<Shared<T>>,
@@ -89,7 +111,9 @@ impl<T> Queue<T> {
     ///
     /// A value in the queue has a token. The handle that takes the value gets the token, and lays it down for the
     /// others where it then has more than it began with. So the values that one handle has put and nobody has taken are
-    /// about `tokens` at most.
+    /// about `tokens` at most. A handle whose push is refused keeps a token for its next push.
+    ///
+    /// The queue takes memory for `handles * tokens` values when it is opened.
     ///
     /// ```
     /// use kfifo::{PushError, Queue};
@@ -164,7 +188,10 @@ impl<T> Queue<T> {
         self.shared.finish();
     }
 
-    /// Closes the queue and gives back the values that are left. The queue comes back where a handle is still in use.
+    /// Closes the queue and gives back the values that are left, in its order. The queue comes back where a handle is
+    /// still in use.
+    ///
+    /// Where the versions of the queue are used up and there is no memory to close it, the values come in another order.
     ///
     /// ```
     /// let queue = kfifo::Queue::new(1, 64, 1)?;
@@ -205,9 +232,32 @@ impl<T> Debug for Queue<T> {
 /// # Ok::<(), kfifo::OpenError>(())
 /// ```
 ///
-/// ```compile_fail
+/// ```compile_fail,E0277
 /// fn is_sync<T: Sync>() {}
 /// is_sync::<kfifo::Handle<u64>>();
+/// ```
+///
+/// It is `Send` where the values are:
+///
+/// ```compile_fail,E0277
+/// fn is_send<T: Send>() {}
+/// is_send::<kfifo::Handle<std::rc::Rc<u64>>>();
+/// ```
+///
+/// A handle of long-lived references takes no others, since another handle hands them out as long-lived ones:
+///
+/// ```compile_fail,E0597
+/// let queue = kfifo::Queue::<&'static str>::new(4, 64, 1)?;
+/// let handle = queue.handle().expect("a handle is free");
+/// let text = String::from("a text");
+/// let _ = handle.push(&text);
+/// # Ok::<(), kfifo::OpenError>(())
+/// ```
+///
+/// ```compile_fail
+/// fn shorter<'a>(handle: kfifo::Handle<&'static str>) -> kfifo::Handle<&'a str> {
+///     handle
+/// }
 /// ```
 pub struct Handle<T> {
     shared: Arc<Shared<T>>,
@@ -216,7 +266,7 @@ pub struct Handle<T> {
 }
 
 impl<T> Handle<T> {
-    /// Puts a value into the queue. What is refused hands it back. It never waits or locks.
+    /// Puts a value into the queue. What is refused hands it back. It never waits, locks or allocates.
     ///
     /// What this thread wrote before is seen by the thread that takes the value.
     ///
@@ -280,7 +330,7 @@ impl<T> Handle<T> {
         }
     }
 
-    /// Takes one of the k oldest values. It never waits or locks.
+    /// Takes one of the k oldest values. It never waits, locks or frees.
     ///
     /// ```
     /// let queue = kfifo::Queue::new(4, 64, 1)?;

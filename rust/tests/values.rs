@@ -240,7 +240,7 @@ impl Sample for Aligned {
 
     fn number(&self) -> Option<u64> {
         let is_whole = *self.text == *self.number.to_string()
-            && from_ref(self).addr().is_multiple_of(align_of::<Aligned>());
+            && from_ref(self).addr() % align_of::<Aligned>() == 0;
         is_whole.then_some(self.number)
     }
 }
@@ -341,7 +341,7 @@ struct Empty;
 
 impl Drop for Empty {
     fn drop(&mut self) {
-        assert!(from_ref(self).addr().is_multiple_of(64));
+        assert!(from_ref(self).addr() % 64 == 0);
         EMPTY_DROPS.fetch_add(1, Ordering::SeqCst);
     }
 }

@@ -10,7 +10,7 @@ fn bytes_of<T>(cells: &Cells<T>, handle: usize, tokens: u32) -> (usize, usize) {
         .map(|number| cells.at(number).addr())
         .collect();
     assert!(all.is_sorted_by(|left, right| left + size_of::<Cell<T>>() == *right));
-    assert!(all.iter().all(|it| it.is_multiple_of(align_of::<T>())));
+    assert!(all.iter().all(|it| it % align_of::<T>() == 0));
     (all[0], all[0] + all.len() * size_of::<Cell<T>>())
 }
 
@@ -41,6 +41,20 @@ fn the_cells_of_two_handles_are_apart() {
     are_apart::<[u64; 6]>();
     are_apart::<[u8; 1000]>();
     are_apart::<Aligned>();
+}
+
+#[test]
+fn a_handle_has_as_many_cells_as_tokens() {
+    for tokens in 1..=1024 {
+        let cells = Cells::<()>::new(1, tokens).expect("there is memory");
+        for handle in 0..64 {
+            let first = u64::from(tokens) * handle;
+            let before = (handle as usize + 1) * cells.gap;
+            for number in [first, first + u64::from(tokens) - 1] {
+                assert_eq!(cells.place(number), number as usize + before);
+            }
+        }
+    }
 }
 
 #[test]
