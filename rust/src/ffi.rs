@@ -111,8 +111,8 @@ impl Pass {
 // - `reserve`: DONE writes the number of a cell, below the number of all tokens, that is this pass's alone until
 //   `publish` puts it into the queue. It writes the same number until then.
 // - `publish`: DONE puts the reserved cell into the queue. After anything else it is still reserved.
-// - `receive`: GOT writes the number of a cell that was in the queue, once for each time that it was published. The cell
-//   is this pass's alone until its next `receive` or `release`.
+// - `receive`: GOT writes the number of a cell that was in the queue, once for each time that it was published. The
+//   cell is this pass's alone until its next `receive` or `release`.
 // - `release`: the cell that was received may be reserved again, by any pass.
 // - Between these calls they order what threads do: what comes before a `publish` of a cell comes before what follows
 //   its `receive`, and what comes before its `release` comes before what follows its next `reserve`.

@@ -3,8 +3,8 @@
 //! A value lies in a *cell*, which a handle has alone while it moves the value in or out. The cells are made with the
 //! queue: no call of a handle allocates or frees.
 //!
-//! The queue itself is proved, down to its atomic words, and so is whose a cell is. This crate is a wrapper around its C
-//! library and is not proved: it moves the values and drops them. Its README says what rests on what.
+//! The queue itself is proved, down to its atomic words, and so is whose a cell is. This crate is a wrapper around its
+//! C library and is not proved: it moves the values and drops them. Its README says what rests on what.
 //!
 //! ```
 //! use kfifo::Queue;
@@ -191,7 +191,8 @@ impl<T> Queue<T> {
     /// Closes the queue and gives back the values that are left, in its order. The queue comes back where a handle is
     /// still in use.
     ///
-    /// Where the versions of the queue are used up and there is no memory to close it, the values come in another order.
+    /// Where the versions of the queue are used up and there is no memory to close it, the values come in another
+    /// order.
     ///
     /// ```
     /// let queue = kfifo::Queue::new(1, 64, 1)?;

@@ -211,8 +211,8 @@ impl<T> Shared<T> {
     /// As of `pop`, and `look` has just received the cell by this pass.
     unsafe fn move_out(&self, number: usize, cell: u64) -> T {
         let pass = self.passes.at(number);
-        // SAFETY: `receive` promises that the cell is this pass's alone until it is released, and comes out once for each
-        // time that it was published: `publish` above puts a value into it each time.
+        // SAFETY: `receive` promises that the cell is this pass's alone until it is released, and that it came out once
+        // for each time that it was published. `publish` above puts a value into it each time.
         let value = unsafe { (*self.cells.at(cell)).move_out() };
         // SAFETY: as of `receive` in `look`.
         let status = unsafe { ffi::kfifo_c_release(pass) };
@@ -222,8 +222,8 @@ impl<T> Shared<T> {
         value
     }
 
-    /// Makes a call again until it comes to something or the time is up; without a time it does not. `status` is what the
-    /// call came to first.
+    /// Makes a call again until it comes to something or the time is up; without a time it does not. `status` is what
+    /// the call came to first.
     #[cold]
     fn wait(
         &self,
@@ -255,8 +255,8 @@ impl<T> Shared<T> {
         nanoseconds: Option<u64>,
     ) -> Result<(), PushError<T>> {
         let value = ManuallyDrop::new(value);
-        // SAFETY: the caller says that nobody else uses the pass. The value is given up below after DONE, which ends the
-        // calls.
+        // SAFETY: the caller says that nobody else uses the pass. The value is given up below after DONE, which ends
+        // the calls.
         let give = || unsafe { self.give(number, &value) };
         let mut status = give();
         if status != ffi::DONE {
@@ -330,8 +330,8 @@ impl<T> Shared<T> {
         values
     }
 
-    /// Closes a queue whose versions are used up, and returns the cells that are in it; none where there is no memory for
-    /// that.
+    /// Closes a queue whose versions are used up, and returns the cells that are in it; none where there is no memory
+    /// for that.
     fn close(&mut self) -> Vec<u64> {
         let passes = &mut self.passes.0;
         let mut cells = Vec::new();
@@ -340,8 +340,8 @@ impl<T> Shared<T> {
         }
         cells.resize(self.slots, 0);
         let mut count = 0;
-        // SAFETY: these are all passes of the queue, `&mut self` says that nobody else uses one, and there is room for a
-        // cell of each slot.
+        // SAFETY: these are all passes of the queue, `&mut self` says that nobody else uses one, and there is room for
+        // a cell of each slot.
         let status = unsafe {
             ffi::kfifo_c_close_values(
                 passes.as_mut_ptr().cast(),

@@ -135,6 +135,17 @@ fn refusals_hand_the_value_back() {
     assert_eq!(first.push("e"), Ok(()));
 }
 
+#[test]
+fn a_take_hands_its_token_on_at_once() {
+    let queue = Queue::with_tokens(1, 2, 1, 1).expect("the sizes are in range");
+    let handle = queue.handle().expect("a handle is free");
+    for number in 0..100 {
+        assert_eq!(handle.push(number), Ok(()));
+        assert_eq!(handle.push(number), Err(PushError::NoToken(number)));
+        assert_eq!(handle.pop(), Ok(number));
+    }
+}
+
 /// Handles that were refused and then only take do not keep so many tokens that one that only puts has none.
 #[test]
 fn refusals_keep_no_tokens_from_others() {

@@ -1,4 +1,4 @@
-//! Values of many types: each comes out as it went in, and each is dropped once, whatever is refused and whatever panics.
+//! Values of many types: each comes out as it went in, and each is dropped once, whatever is refused or panics.
 use kfifo::{Handle, OpenError, PopError, PushError, Queue};
 use std::cell::Cell;
 use std::mem::{align_of, forget, size_of};
