@@ -111,6 +111,7 @@ impl Pass {
 // - `reserve`: DONE writes the number of a cell, below the number of all tokens, that is this pass's alone until
 //   `publish` puts it into the queue. It writes the same number until then.
 // - `publish`: DONE puts the reserved cell into the queue. After anything else it is still reserved.
+// - `cancel`: the reserved cell may be reserved again, by any pass.
 // - `receive`: GOT writes the number of a cell that was in the queue, once for each time that it was published. The
 //   cell is this pass's alone until its next `receive` or `release`.
 // - `release`: the cell that was received may be reserved again, by any pass.
@@ -131,6 +132,7 @@ unsafe extern "C" {
     ) -> u32;
     pub(crate) fn kfifo_c_reserve(pass: *mut Pass, cell: *mut u64) -> u32;
     pub(crate) fn kfifo_c_publish(pass: *mut Pass) -> u32;
+    pub(crate) fn kfifo_c_cancel(pass: *mut Pass) -> u32;
     pub(crate) fn kfifo_c_receive(pass: *mut Pass, cell: *mut u64) -> u32;
     pub(crate) fn kfifo_c_release(pass: *mut Pass) -> u32;
     pub(crate) fn kfifo_c_close_values(

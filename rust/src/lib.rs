@@ -111,7 +111,7 @@ impl<T> Queue<T> {
     ///
     /// A value in the queue has a token. The handle that takes the value gets the token, and lays it down for the
     /// others where it then has more than it began with. So the values that one handle has put and nobody has taken are
-    /// about `tokens` at most. A handle whose push is refused keeps a token for its next push.
+    /// about `tokens` at most.
     ///
     /// The queue takes memory for `handles * tokens` values when it is opened.
     ///

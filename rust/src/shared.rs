@@ -159,6 +159,9 @@ impl<T> Shared<T> {
         if status != ffi::DONE {
             // SAFETY: `publish` promises that a refused cell is still reserved, and so this pass's alone.
             unsafe { (*cell).forget() };
+            // A cell that stayed reserved would be one that no other handle can have.
+            // SAFETY: as of `reserve`.
+            unsafe { ffi::kfifo_c_cancel(pass) };
         }
         status
     }
