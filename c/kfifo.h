@@ -17,15 +17,16 @@ extern "C" {
 typedef enum kfifo_status {
     KFIFO_DONE = 0,          /* done; of a put: the item is in the queue, or was already taken */
     KFIFO_FULL = 1,          /* the ring was seen full; the item is not in it */
-    KFIFO_GOT = 2,           /* an item or a value was taken */
+    KFIFO_GOT = 2,           /* an item, a value or a cell was taken */
     KFIFO_EMPTY = 3,         /* the queue was empty */
     KFIFO_BUSY = 4,          /* each round was lost to a step of another thread or its own; nothing was done */
     KFIFO_WORN = 5,          /* a version would pass the greatest one; close this queue and open another */
-    KFIFO_BAD_CALL = 6,      /* a null pointer, an argument out of range, a handle closed or missing; nothing done */
+    KFIFO_BAD_CALL = 6,      /* a null pointer, an argument out of range, a handle closed or missing, or one that has no
+                                cell to publish or release; nothing done */
     KFIFO_NO_MEMORY = 7,     /* an allocation failed; nothing was done */
     KFIFO_BAD_THREADS = 8,   /* the number of threads is not 1 to 64; nothing was done */
     KFIFO_LOST = 9,          /* of a close: an allocation failed; the queue is closed, what was left in it is lost */
-    KFIFO_NO_TOKEN = 10,     /* of a give: the handle has no token, and the pool none; the value is not in the queue */
+    KFIFO_NO_TOKEN = 10,     /* of a give or a reserve: the handle has no token, and the pool none; nothing was done */
     KFIFO_BAD_K = 11,        /* k is not 1 to 64 */
     KFIFO_BAD_SEGMENTS = 12, /* the number of segments is not 2 to 1,024 */
     KFIFO_BAD_LAST = 13,     /* the greatest version is not 2 to 2^40 - 1 */
@@ -51,11 +52,12 @@ static inline const char *kfifo_status_text(kfifo_status status) {
     switch (status) {
     case KFIFO_DONE: return "done";
     case KFIFO_FULL: return "the ring was full";
-    case KFIFO_GOT: return "an item was taken";
+    case KFIFO_GOT: return "an item, a value or a cell was taken";
     case KFIFO_EMPTY: return "the queue was empty";
     case KFIFO_BUSY: return "the call used up its rounds";
     case KFIFO_WORN: return "the versions of the queue are used up: close it and open another";
-    case KFIFO_BAD_CALL: return "a pointer is null, an argument is out of range, or a handle is closed or missing";
+    case KFIFO_BAD_CALL:
+        return "a pointer is null, an argument is out of range, a handle is closed or missing, or it has no such cell";
     case KFIFO_NO_MEMORY: return "an allocation failed, and nothing was done";
     case KFIFO_BAD_THREADS: return "the number of threads is not 1 to 64";
     case KFIFO_LOST: return "an allocation failed, and what was left in the queue is lost";
@@ -101,6 +103,12 @@ typedef struct kfifo_value_pass {
     uint32_t starts;
 } kfifo_value_pass;
 
+/* A handle of a queue of cells, likewise. It is a type of its own, so that the compiler refuses a call with a handle of
+   the other kind of queue. */
+typedef struct kfifo_cell_pass {
+    kfifo_value_pass pass;
+} kfifo_cell_pass;
+
 /* The exports of the library, which test all but null pointers, and at a close that the handles are of one queue. Call
    those below. */
 uint32_t kfifo_c_open(uint32_t k, uint32_t segments, uint32_t probes, uint64_t last, kfifo_pass *passes,
@@ -116,11 +124,17 @@ uint32_t kfifo_c_open_values(uint32_t k, uint32_t segments, uint32_t probes, uin
                              kfifo_value_pass *passes, size_t threads);
 uint32_t kfifo_c_give(kfifo_value_pass *pass, uint64_t value);
 uint32_t kfifo_c_take(kfifo_value_pass *pass, uint64_t *value);
+uint32_t kfifo_c_reserve(kfifo_value_pass *pass, uint64_t *cell);
+uint32_t kfifo_c_publish(kfifo_value_pass *pass);
+uint32_t kfifo_c_receive(kfifo_value_pass *pass, uint64_t *cell);
+uint32_t kfifo_c_release(kfifo_value_pass *pass);
 uint32_t kfifo_c_close_values(kfifo_value_pass *passes, size_t threads, uint64_t *values, size_t room, size_t *count);
 void kfifo_c_abandon_values(kfifo_value_pass *passes, size_t threads);
 
 /* ThreadSanitizer does not see into the library. So the calls below tell it what the queue ensures: what a thread wrote
-   before it put an item is seen by whoever takes that item. Without the sanitizer these are nothing. */
+   before it put an item is seen by whoever takes that item, and what it did with a cell before it released it comes
+   before what the next one to reserve that cell does. The second is told at another address, so that the one does not
+   hide that the other is missing. Without the sanitizer these are nothing. */
 #if defined(__SANITIZE_THREAD__)
 #define KFIFO_TSAN 1
 #elif defined(__has_feature)
@@ -133,9 +147,14 @@ void __tsan_acquire(void *address);
 void __tsan_release(void *address);
 #define KFIFO_BEFORE_PUT(pass) __tsan_release((pass)->address)
 #define KFIFO_AFTER_GOT(pass, status) ((status) == KFIFO_GOT ? __tsan_acquire((pass)->address) : (void)0)
+#define KFIFO_RELEASED(pass) ((void *)((char *)(pass)->address + 8))
+#define KFIFO_BEFORE_RELEASE(pass) ((pass)->starts ? __tsan_release(KFIFO_RELEASED(pass)) : (void)0)
+#define KFIFO_AFTER_RESERVE(pass, status) ((status) == KFIFO_DONE ? __tsan_acquire(KFIFO_RELEASED(pass)) : (void)0)
 #else
 #define KFIFO_BEFORE_PUT(pass) ((void)0)
 #define KFIFO_AFTER_GOT(pass, status) ((void)0)
+#define KFIFO_BEFORE_RELEASE(pass) ((void)0)
+#define KFIFO_AFTER_RESERVE(pass, status) ((void)0)
 #endif
 
 /* A number of threads for the library, which refuses 65 as it does any more, and reads no handle then. */
@@ -301,6 +320,89 @@ static inline kfifo_status kfifo_abandon_values(kfifo_value_pass *passes, size_t
     if (threads > KFIFO_MAX_THREADS) return KFIFO_BAD_THREADS;
     kfifo_c_abandon_values(passes, threads);
     return KFIFO_DONE;
+}
+
+/* ---- A queue of cells, for values of any size ----
+
+   The caller has an array of threads * tokens cells, of any type. The queue says whose a cell is, by its index in that
+   array. A thread reserves a cell, writes into it and publishes it. Another receives it, reads it and releases it. So a
+   value stays where it was made, and no call copies it or allocates.
+
+       struct frame { int width, height; unsigned char pixels[4096]; };
+       static struct frame frames[2 * 8];            // threads * tokens
+       kfifo_cell_pass passes[2];                    // one for each thread
+       uint64_t cell;
+       if (kfifo_open_cells(1, 4, 8, passes, 2) != KFIFO_DONE) return 1;
+
+       if (kfifo_reserve(&passes[0], &cell) == KFIFO_DONE) {
+           frames[cell].width = 64;                  // frames[cell] is this thread's alone
+           while (kfifo_may_retry(kfifo_publish(&passes[0]))) sched_yield();
+       }
+
+       if (kfifo_receive(&passes[1], &cell) == KFIFO_GOT) {
+           show(&frames[cell]);                      // now it is this one's alone
+           kfifo_release(&passes[1]);
+       }
+       kfifo_abandon_cells(passes, 2);
+*/
+
+/* Opens a queue of cells. Each thread begins with so many tokens, 1 to KFIFO_MAX_TOKENS. Each token has a cell, so the
+   cells are numbers from 0 to threads * tokens - 1. A thread has about `tokens` cells in the queue at most, as with
+   kfifo_open_values. DONE; BAD_CALL of a null pointer; BAD_K, BAD_SEGMENTS, BAD_THREADS, BAD_TOKENS, NO_MEMORY, and all
+   handles are then closed, at most the first 64. */
+static inline kfifo_status kfifo_open_cells(uint32_t k, uint32_t segments, uint32_t tokens, kfifo_cell_pass *passes,
+                                            size_t threads) {
+    return kfifo_open_values(k, segments, tokens, passes ? &passes->pass : NULL, threads);
+}
+
+/* Reserves a cell: DONE, and writes its number. Until kfifo_publish puts it into the queue, the cell is the handle's
+   alone, and a further call writes the same number. Else NO_TOKEN, where the handle has no cell and found none that
+   another one released, or BAD_CALL, and *cell stays. */
+static inline kfifo_status kfifo_reserve(kfifo_cell_pass *pass, uint64_t *cell) {
+    if (!pass || !cell) return KFIFO_BAD_CALL;
+    kfifo_status status = (kfifo_status)kfifo_c_reserve(&pass->pass, cell);
+    KFIFO_AFTER_RESERVE(&pass->pass, status);
+    return status;
+}
+
+/* Puts the reserved cell into the queue: DONE, and the cell is no longer the handle's. Else FULL, BUSY or WORN, and the
+   cell is still reserved. BAD_CALL, also where none is reserved. */
+static inline kfifo_status kfifo_publish(kfifo_cell_pass *pass) {
+    if (!pass) return KFIFO_BAD_CALL;
+    KFIFO_BEFORE_PUT(&pass->pass);
+    return (kfifo_status)kfifo_c_publish(&pass->pass);
+}
+
+/* Takes one of the k oldest cells: GOT, and writes its number. Until the handle's next kfifo_receive or kfifo_release
+   the cell is the handle's alone. Else EMPTY, BUSY, WORN or BAD_CALL, and *cell stays. The call first releases the cell
+   that the handle received before, also where it then takes none. A handle may have a received and a reserved cell at
+   once. */
+static inline kfifo_status kfifo_receive(kfifo_cell_pass *pass, uint64_t *cell) {
+    if (!pass || !cell) return KFIFO_BAD_CALL;
+    KFIFO_BEFORE_RELEASE(&pass->pass);
+    kfifo_status status = (kfifo_status)kfifo_c_receive(&pass->pass, cell);
+    KFIFO_AFTER_GOT(&pass->pass, status);
+    return status;
+}
+
+/* Releases the cell that the handle received: DONE, and any handle may reserve it. BAD_CALL, also where none was
+   received, or it is released already. */
+static inline kfifo_status kfifo_release(kfifo_cell_pass *pass) {
+    if (!pass) return KFIFO_BAD_CALL;
+    KFIFO_BEFORE_RELEASE(&pass->pass);
+    return (kfifo_status)kfifo_c_release(&pass->pass);
+}
+
+/* Closes a queue of cells, as kfifo_close does, and writes the numbers of the cells that are in it, in the queue's
+   order. A cell that a handle had reserved or received is not among them. */
+static inline kfifo_status kfifo_close_cells(kfifo_cell_pass *passes, size_t threads, uint64_t *cells, size_t room,
+                                             size_t *count) {
+    return kfifo_close_values(passes ? &passes->pass : NULL, threads, cells, room, count);
+}
+
+/* Closes these handles, as kfifo_abandon does. The array of the cells stays as it is. */
+static inline kfifo_status kfifo_abandon_cells(kfifo_cell_pass *passes, size_t threads) {
+    return kfifo_abandon_values(passes ? &passes->pass : NULL, threads);
 }
 
 #ifdef __cplusplus

@@ -162,6 +162,70 @@ static inline kfifo_status kfifo_take_pointer_wait(kfifo_value_pass *pass, kfifo
     return status;
 }
 
+/* ---- Cells: the same. A call that waits never returns NO_TOKEN or FULL, and after any but DONE the cell that was
+   reserved still is ---- */
+
+/* As kfifo_reserve, for a queue whose threads wait. Also FINISHED. */
+static inline kfifo_status kfifo_try_reserve(kfifo_cell_pass *pass, kfifo_waits *waits, uint64_t *cell) {
+    if (!pass || !waits || !cell) return KFIFO_BAD_CALL;
+    if (__builtin_expect(kfifo_is_finished(waits), 0)) return pass->pass.starts ? KFIFO_FINISHED : KFIFO_BAD_CALL;
+    return kfifo_reserve(pass, cell);
+}
+
+/* As kfifo_publish, for a queue whose threads wait: wakes one that waits for a cell. Also FINISHED. */
+static inline kfifo_status kfifo_try_publish(kfifo_cell_pass *pass, kfifo_waits *waits) {
+    if (!pass || !waits) return KFIFO_BAD_CALL;
+    if (__builtin_expect(kfifo_is_finished(waits), 0)) return pass->pass.starts ? KFIFO_FINISHED : KFIFO_BAD_CALL;
+    return kfifo_after_give(waits, kfifo_publish(pass));
+}
+
+/* As kfifo_receive, for a queue whose threads wait: wakes one that waits for room. FINISHED in place of EMPTY where the
+   queue was finished, and then found empty. */
+static inline kfifo_status kfifo_try_receive(kfifo_cell_pass *pass, kfifo_waits *waits, uint64_t *cell) {
+    if (!waits) return KFIFO_BAD_CALL;
+    kfifo_status status = kfifo_after_take(waits, kfifo_receive(pass, cell));
+    if (status != KFIFO_EMPTY || !kfifo_is_finished(waits)) return status;
+    /* A cell may have come between the look and the end. */
+    status = kfifo_after_take(waits, kfifo_receive(pass, cell));
+    return status == KFIFO_EMPTY ? KFIFO_FINISHED : status;
+}
+
+/* As kfifo_release, for a queue whose threads wait: wakes those that wait for a cell to reserve. */
+static inline kfifo_status kfifo_try_release(kfifo_cell_pass *pass, kfifo_waits *waits) {
+    if (!waits) return KFIFO_BAD_CALL;
+    return kfifo_after_take(waits, kfifo_release(pass));
+}
+
+/* Reserves a cell, and waits at most so many nanoseconds while there is none. */
+static inline kfifo_status kfifo_reserve_wait(kfifo_cell_pass *pass, kfifo_waits *waits, uint64_t *cell,
+                                              uint64_t nanoseconds) {
+    kfifo_status status = kfifo_try_reserve(pass, waits, cell);
+    if (status == KFIFO_DONE || !kfifo_may_retry(status)) return status;
+    kfifo_waiter waiter = kfifo_waiter_of(waits, KFIFO_WAITS_GIVER, nanoseconds);
+    while (kfifo_wait_again(&waiter, &status)) status = kfifo_try_reserve(pass, waits, cell);
+    return status;
+}
+
+/* Puts the reserved cell into the queue, and waits at most so many nanoseconds while there is no room for it. */
+static inline kfifo_status kfifo_publish_wait(kfifo_cell_pass *pass, kfifo_waits *waits, uint64_t nanoseconds) {
+    kfifo_status status = kfifo_try_publish(pass, waits);
+    if (status == KFIFO_DONE || !kfifo_may_retry(status)) return status;
+    kfifo_waiter waiter = kfifo_waiter_of(waits, KFIFO_WAITS_GIVER, nanoseconds);
+    while (kfifo_wait_again(&waiter, &status)) status = kfifo_try_publish(pass, waits);
+    return status;
+}
+
+/* Takes a cell, and waits at most so many nanoseconds while there is none. The call first releases the cell that the
+   handle received before. FINISHED comes exactly where the queue was finished, and then found empty. */
+static inline kfifo_status kfifo_receive_wait(kfifo_cell_pass *pass, kfifo_waits *waits, uint64_t *cell,
+                                              uint64_t nanoseconds) {
+    kfifo_status status = kfifo_try_receive(pass, waits, cell);
+    if (status == KFIFO_GOT || !kfifo_may_retry(status)) return status;
+    kfifo_waiter waiter = kfifo_waiter_of(waits, KFIFO_WAITS_TAKER, nanoseconds);
+    while (kfifo_wait_again(&waiter, &status)) status = kfifo_try_receive(pass, waits, cell);
+    return status;
+}
+
 /* ---- Items: the same ---- */
 
 static inline kfifo_status kfifo_try_put(kfifo_pass *pass, kfifo_waits *waits, uint32_t item) {
