@@ -9,7 +9,6 @@
 #include <chrono>
 #include <cstddef>
 #include <cstdint>
-#include <cstring>
 #include <iterator>
 #include <memory>
 #include <new>
@@ -189,7 +188,7 @@ class Queue {
     std::vector<kfifo_pass> handles;
 };
 
-// ---- A queue of values of any type that can be moved without an exception ----
+// ---- A queue of values of any type that can be moved ----
 
 namespace detail {
 
@@ -200,37 +199,106 @@ template <typename Rep, typename Period> std::uint64_t nanoseconds_of(const std:
     return static_cast<std::uint64_t>(std::chrono::ceil<std::chrono::nanoseconds>(time).count());
 }
 
-// A value as 64 bits: the value itself where it is small and can be copied byte by byte, else a pointer to it.
-template <typename T>
-constexpr bool is_small = std::is_trivially_copyable_v<T> && std::is_default_constructible_v<T> &&
-                          sizeof(T) <= sizeof(std::uint64_t);
+// How a call is made again while it may do better: not at all.
+struct Once {
+    template <typename Call> kfifo_status operator()(Call call) const { return call(); }
+};
 
-template <typename T> struct Cell {
-    static std::uint64_t packed(T &&value) {
-        if constexpr (is_small<T>) {
-            std::uint64_t bits = 0;
-            std::memcpy(&bits, &value, sizeof(T));
-            return bits;
-        } else {
-            return reinterpret_cast<std::uintptr_t>(new T(std::move(value)));
+// Again and again, with sleep between, for so long at most in all, also of several calls.
+class Within {
+  public:
+    Within(kfifo_waits *waits, std::uint32_t kind, std::uint64_t nanoseconds)
+        : waiter(kfifo_waiter_of(waits, kind, nanoseconds)) {}
+
+    template <typename Call> kfifo_status operator()(Call call) {
+        kfifo_status status = call();
+        if (!kfifo_may_retry(status)) return status;
+        while (kfifo_wait_again(&waiter, &status)) status = call();
+        return status;
+    }
+
+  private:
+    kfifo_waiter waiter;
+};
+
+// The same until a time of some clock. That the clock is set meanwhile is seen when the time was up by the clock as it
+// was.
+template <typename Clock, typename Duration> class Until {
+  public:
+    Until(kfifo_waits *waits, std::uint32_t kind, const std::chrono::time_point<Clock, Duration> &time)
+        : of(waits), which(kind), end(time) {}
+
+    template <typename Call> kfifo_status operator()(Call call) {
+        for (;;) {
+            auto now = Clock::now();
+            kfifo_status status = Within(of, which, now < end ? nanoseconds_of(end - now) : 0)(call);
+            if (status != KFIFO_TIMED_OUT || Clock::now() >= end) return status;
         }
     }
 
-    static T unpacked(std::uint64_t bits) {
-        if constexpr (is_small<T>) {
-            T value;
-            std::memcpy(&value, &bits, sizeof(T));
-            return value;
-        } else {
-            std::unique_ptr<T> cell(reinterpret_cast<T *>(static_cast<std::uintptr_t>(bits)));
-            return std::move(*cell);
-        }
+  private:
+    kfifo_waits *of;
+    std::uint32_t which;
+    std::chrono::time_point<Clock, Duration> end;
+};
+
+// The handles of a queue of cells.
+struct CellPasses {
+    CellPasses(std::uint32_t k, std::uint32_t segments, std::size_t threads, std::uint32_t tokens)
+        : all(threads <= 64 ? threads : 65) {
+        if (all.empty()) throw Error(KFIFO_BAD_THREADS);
+        checked(kfifo_open_cells(k, segments, tokens, all.data(), all.size()));
+    }
+    CellPasses(const CellPasses &) = delete;
+    CellPasses &operator=(const CellPasses &) = delete;
+    ~CellPasses() { kfifo_abandon_cells(all.data(), all.size()); }
+
+    std::vector<kfifo_cell_pass> all;
+};
+
+// The cells of a queue of values. Each says itself whether it has a value: so those that are left are destroyed once
+// with the array, whatever became of the queue.
+template <typename T> class Cells {
+  public:
+    using Cell = std::optional<T>;
+
+    Cells(std::size_t threads, std::size_t tokens)
+        : count(threads * tokens), gap((line - tokens * sizeof(Cell) % line) % line),
+          reciprocal(((std::uint64_t(1) << 32) + tokens - 1) / tokens),
+          memory(static_cast<std::byte *>(::operator new(count * sizeof(Cell) + threads * gap, alignment))) {
+        for (std::size_t number = 0; number < count; number++) ::new (place(number)) Cell();
+    }
+    Cells(const Cells &) = delete;
+    Cells &operator=(const Cells &) = delete;
+    ~Cells() {
+        for (std::size_t number = 0; number < count; number++) (*this)[number].~Cell();
+        ::operator delete(memory, alignment);
     }
 
-    // Puts a value that was refused back where it came from.
-    static void back(std::uint64_t bits, T &value) {
-        if constexpr (!is_small<T>) value = unpacked(bits);
+    Cell &operator[](std::uint64_t number) { return *std::launder(reinterpret_cast<Cell *>(place(number))); }
+
+    // The numbers of the cells that have a value.
+    std::vector<std::uint64_t> with_values() {
+        std::vector<std::uint64_t> found;
+        for (std::size_t number = 0; number < count; number++)
+            if ((*this)[number]) found.push_back(number);
+        return found;
     }
+
+  private:
+    // The cells that a thread begins with begin on a line of the cache, so that no other thread writes to it at first.
+    static constexpr std::size_t line = alignof(Cell) > 64 ? alignof(Cell) : 64;
+    static constexpr std::align_val_t alignment{line};
+
+    // Behind the cells of each thread before there is a gap. The product is number / tokens, rounded down, since a
+    // number is less than 2^16 and there are at most 2^10 tokens a thread. A division would take longer than the rest.
+    std::byte *place(std::uint64_t number) const {
+        return memory + number * sizeof(Cell) + (number * reciprocal >> 32) * gap;
+    }
+
+    std::size_t count, gap;
+    std::uint64_t reciprocal;
+    std::byte *memory;
 };
 
 } // namespace detail
@@ -242,43 +310,65 @@ template <typename T> struct TakenValue {
 
 // A queue of values. Each thread takes a Handle of its own. The queue goes with the last of the ValueQueue and its
 // handles, and with it the values that are left, which are destroyed.
+//
+//     kfifo::ValueQueue<std::string> queue(1, 1024, 2); // k, segments, threads
+//     auto giver = queue.handle(), taker = queue.handle();
+//     if (giver.give("first") != kfifo::Put::done) return 1;
+//     if (giver.emplace(3, 'x') != kfifo::Put::done) return 1;
+//     kfifo::TakenValue<std::string> taken = taker.take();
+//     if (taken.value) std::puts(taken.value->c_str());
+//
+// The queue has a cell for each token. A value is made in a cell, stays there, and is moved out of it: only the opening
+// allocates. T may be over-aligned, and needs no default constructor.
 template <typename T> class ValueQueue {
-    static_assert(std::is_nothrow_move_constructible_v<T> && std::is_nothrow_move_assignable_v<T>,
-                  "a value is moved into the queue and, where it is refused, back: neither may throw");
-    using Cell = detail::Cell<T>;
+    static_assert(std::is_object_v<T> && std::is_move_constructible_v<T> && std::is_nothrow_destructible_v<T>,
+                  "a value is moved or copied out of the queue, and what is left of it destroyed");
+    using Cell = std::optional<T>;
+    static constexpr bool moves_throw = !std::is_nothrow_move_constructible_v<T>;
 
     struct State {
         State(std::uint32_t k, std::uint32_t segments, std::size_t threads, std::uint32_t tokens)
-            : slots(std::size_t(k) * segments), passes(threads <= 64 ? threads : 65),
-              is_out(new std::atomic<bool>[passes.size()]()) {
-            if (passes.empty()) throw Error(KFIFO_BAD_THREADS);
-            detail::checked(kfifo_open_values(k, segments, tokens, passes.data(), passes.size()));
-        }
+            : slots(std::size_t(k) * segments), passes(k, segments, threads, tokens), cells(passes.all.size(), tokens),
+              is_out(new std::atomic<bool>[passes.all.size()]()), kept(passes.all.size()) {}
         State(const State &) = delete;
         State &operator=(const State &) = delete;
 
-        // Nobody else makes a call now, so this ends: the queue is empty, or its versions are used up.
-        ~State() {
-            std::uint64_t bits = 0;
-            kfifo_status status;
-            while ((status = kfifo_take(passes.data(), &bits)) == KFIFO_GOT) Cell::unpacked(bits);
-            if (status == KFIFO_WORN) close_into([](T &&) {});
-            kfifo_abandon_values(passes.data(), passes.size());
+        // Whether no handle is out. Then all calls that were made have ended.
+        bool is_idle() const {
+            for (std::size_t number = 0; number < passes.all.size(); number++)
+                if (is_out[number].load(std::memory_order_acquire)) return false;
+            return true;
         }
 
-        // Closes a queue whose versions are used up. Without memory for it the values stay where they are, and leak.
-        template <typename Use> void close_into(Use use) {
-            std::unique_ptr<std::uint64_t[]> left(new (std::nothrow) std::uint64_t[slots]);
+        // Closes the queue. After it the cells with values are in `left`, in the queue's order. Throws std::bad_alloc,
+        // and nothing changes, where there is no memory for it.
+        void close() {
+            if (is_closed) return;
+            std::vector<std::uint64_t> all = cells.with_values(), queued(slots);
             std::size_t count = 0;
-            if (!left || kfifo_close_values(passes.data(), passes.size(), left.get(), slots, &count) != KFIFO_DONE)
-                return;
-            for (std::size_t i = 0; i < count; i++) use(Cell::unpacked(left[i]));
+            left.reserve(all.size());
+            kfifo_status status = kfifo_close_cells(passes.all.data(), passes.all.size(), queued.data(), slots, &count);
+            // The queue is closed and has lost the order of its cells. They are here, and so are their values.
+            if (status == KFIFO_LOST) {
+                left.swap(all);
+            } else {
+                detail::checked(status);
+                // What a take could not move out had been taken before the rest.
+                for (const std::optional<std::uint64_t> &cell : kept)
+                    if (cell) left.push_back(*cell);
+                left.insert(left.end(), queued.begin(), queued.begin() + std::ptrdiff_t(count));
+            }
+            is_closed = true;
         }
 
         std::size_t slots;
-        std::vector<kfifo_value_pass> passes;
-        std::unique_ptr<std::atomic<bool>[]> is_out; // whether a pass is in a Handle
-        kfifo_waits waits{};                         // what the threads wait by
+        detail::CellPasses passes;
+        detail::Cells<T> cells;
+        std::unique_ptr<std::atomic<bool>[]> is_out;    // whether a pass is in a Handle
+        std::vector<std::optional<std::uint64_t>> kept; // by pass: the cell whose value a take could not move out
+        bool is_closed = false;
+        std::vector<std::uint64_t> left;
+        kfifo_waits waits{}; // what the threads wait by
     };
 
   public:
@@ -300,61 +390,63 @@ template <typename T> class ValueQueue {
         ~Handle() {
             // Release here and acquire in handle() suffice: all steps that the pass made come before those that it
             // makes next, also in the one order of all sequentially consistent steps.
-            if (state) state->is_out[std::size_t(pass - state->passes.data())].store(false, std::memory_order_release);
+            if (state) state->is_out[which()].store(false, std::memory_order_release);
         }
 
         // Gives a value to the queue. On any answer but done the value is what it was. It does not wait.
-        Put give(T &&value) {
-            kfifo_waits *waits = usable();
-            return given(std::move(value), [&](std::uint64_t bits) { return kfifo_try_give(pass, waits, bits); });
+        //
+        // Where no move of T throws, the value is moved into a cell, and back where the queue refuses it. Else it is
+        // copied, and not moved: if the copy throws, nothing was done. A T that cannot be copied and whose moves may
+        // throw is moved all the same: if a move throws, the value is not in the queue, and its state is what that
+        // move makes of it.
+        Put give(T &&value) { return give_by(detail::Once(), std::move(value)); }
+
+        // Gives a copy, which is made in its cell. If that throws, nothing was done.
+        Put give(const T &value) {
+            return put(
+                detail::Once(), [&](Cell &cell) { cell.emplace(value); }, [](T &) {});
         }
 
-        // Gives a copy.
-        Put give(const T &value) {
-            T copy(value);
-            return give(std::move(copy));
+        // Makes a value of these arguments in its cell, and gives it. If the constructor throws, nothing was given. On
+        // any answer but done the value is destroyed; after no_token and finished none was made. It does not wait.
+        template <typename... Arguments> Put emplace(Arguments &&...arguments) {
+            return put(
+                detail::Once(), [&](Cell &cell) { cell.emplace(std::forward<Arguments>(arguments)...); }, [](T &) {});
         }
 
         // Takes one of the k oldest values. It does not wait.
-        TakenValue<T> take() {
-            std::uint64_t bits = 0;
-            kfifo_status status = kfifo_try_take(pass, usable(), &bits);
-            return taken(status, bits);
-        }
+        //
+        // Where a move of T may throw and T can be copied, the value is copied out. If that throws, nothing is lost:
+        // the value is the handle's, and its next take, or that of the next one to have this handle, takes it first.
+        TakenValue<T> take() { return take_by(detail::Once()); }
 
         // Gives a value, and sleeps while there is no room for it: done, finished or worn.
-        Put give_wait(T &&value) { return give_within(std::move(value), KFIFO_FOREVER); }
+        Put give_wait(T &&value) { return give_by(within(KFIFO_WAITS_GIVER, KFIFO_FOREVER), std::move(value)); }
 
         // Takes a value, and sleeps while there is none: a value, finished or worn.
-        TakenValue<T> take_wait() { return take_within(KFIFO_FOREVER); }
+        TakenValue<T> take_wait() { return take_by(within(KFIFO_WAITS_TAKER, KFIFO_FOREVER)); }
 
         // The same for so long at most: also timed_out. A negative time is 0, with which the call does not sleep.
         template <typename Rep, typename Period>
         Put give_for(T &&value, const std::chrono::duration<Rep, Period> &time) {
-            return give_within(std::move(value), detail::nanoseconds_of(time));
+            return give_by(within(KFIFO_WAITS_GIVER, detail::nanoseconds_of(time)), std::move(value));
         }
 
         template <typename Rep, typename Period>
         TakenValue<T> take_for(const std::chrono::duration<Rep, Period> &time) {
-            return take_within(detail::nanoseconds_of(time));
+            return take_by(within(KFIFO_WAITS_TAKER, detail::nanoseconds_of(time)));
         }
 
         // The same until a time of some clock. That the clock is set meanwhile is seen when the time was up by the
         // clock as it was.
         template <typename Clock, typename Duration>
         Put give_until(T &&value, const std::chrono::time_point<Clock, Duration> &end) {
-            Put put = Put::timed_out;
-            do put = give_within(std::move(value), left_until(end));
-            while (put == Put::timed_out && Clock::now() < end);
-            return put;
+            return give_by(detail::Until<Clock, Duration>(usable(), KFIFO_WAITS_GIVER, end), std::move(value));
         }
 
         template <typename Clock, typename Duration>
         TakenValue<T> take_until(const std::chrono::time_point<Clock, Duration> &end) {
-            for (;;) {
-                TakenValue<T> taken = take_within(left_until(end));
-                if (taken.value || taken.why != Miss::timed_out || Clock::now() >= end) return taken;
-            }
+            return take_by(detail::Until<Clock, Duration>(usable(), KFIFO_WAITS_TAKER, end));
         }
 
         // The values that come, until the queue is finished and empty: for (T value : handle.values()). It sleeps while
@@ -366,40 +458,130 @@ template <typename T> class ValueQueue {
 
       private:
         friend class ValueQueue;
-        Handle(std::shared_ptr<State> of, std::size_t which) : state(std::move(of)), pass(&state->passes[which]) {}
+        Handle(std::shared_ptr<State> of, std::size_t number)
+            : state(std::move(of)), pass(&state->passes.all[number]) {}
+
+        std::size_t which() const { return std::size_t(pass - state->passes.all.data()); }
+
         kfifo_waits *usable() const {
             if (!state) throw Error(KFIFO_BAD_CALL, "the handle was moved from");
             return &state->waits;
         }
-        // Hands the value over, and takes it back where it is refused.
-        template <typename Give> static Put given(T &&value, Give give) {
-            std::uint64_t bits = Cell::packed(std::move(value));
-            kfifo_status status = give(bits);
+
+        detail::Within within(std::uint32_t kind, std::uint64_t nanoseconds) const {
+            return detail::Within(usable(), kind, nanoseconds);
+        }
+
+        // Destroys the value of a cell at the end of a block, also where an exception ends it.
+        struct Emptied {
+            explicit Emptied(Cell &of) : cell(of) {}
+            Emptied(const Emptied &) = delete;
+            ~Emptied() { cell.reset(); }
+            Cell &cell;
+        };
+
+        // Reserves a cell, makes a value in it and publishes it. A value that is refused is handed back, and what is
+        // left of it destroyed. Where `make` throws, the cell stays reserved, without a value, for the next call.
+        template <typename Calls, typename Make, typename Back> Put put(Calls calls, Make make, Back back) {
+            kfifo_waits *waits = usable();
+            std::uint64_t number = 0;
+            kfifo_status status = calls([&] { return kfifo_try_reserve(pass, waits, &number); });
+            if (status != KFIFO_DONE) return static_cast<Put>(detail::checked(status));
+            Cell &cell = state->cells[number];
+            make(cell);
+            status = calls([&] { return kfifo_try_publish(pass, waits); });
+            // Now the cell is the queue's, and another thread may have it already.
             if (status == KFIFO_DONE) return Put::done;
-            Cell::back(bits, value);
+            Emptied emptied(cell);
+            back(*cell);
             return static_cast<Put>(detail::checked(status));
         }
-        static TakenValue<T> taken(kfifo_status status, const std::uint64_t &bits) {
-            if (status == KFIFO_GOT) return {Cell::unpacked(bits), Miss::empty};
-            return {std::nullopt, static_cast<Miss>(detail::checked(status))};
+
+        template <typename Calls> Put give_by(Calls calls, T &&value) {
+            constexpr bool comes_back = !moves_throw && std::is_nothrow_move_assignable_v<T>;
+            if constexpr (comes_back || !std::is_copy_constructible_v<T>) {
+                static_assert(std::is_move_assignable_v<T>,
+                              "a value that is refused cannot be moved or copied back: make it by emplace");
+                return put(
+                    calls, [&](Cell &cell) { cell.emplace(std::move(value)); },
+                    [&](T &refused) { value = std::move(refused); });
+            } else {
+                return put(
+                    calls, [&](Cell &cell) { cell.emplace(std::as_const(value)); }, [](T &) {});
+            }
         }
-        Put give_within(T &&value, std::uint64_t nanoseconds) {
+
+        // Ends a take: destroys what is left of the value and releases its cell, or keeps both for the next take where
+        // the value could not be moved out. Then it looks for givers that wait. Before the release the look would miss
+        // one that then finds no token.
+        struct Received {
+            Received(Handle &of, std::uint64_t what, bool was) : handle(of), number(what), was_kept(was) {}
+            Received(const Received &) = delete;
+            ~Received() {
+                State &state = *handle.state;
+                if (!is_kept) {
+                    state.cells[number].reset();
+                    kfifo_release(handle.pass);
+                }
+                // Other threads look at this line of the cache at each take.
+                if (is_kept != was_kept) state.kept[handle.which()] = is_kept ? std::optional(number) : std::nullopt;
+                (void)kfifo_after_take(&state.waits, KFIFO_GOT);
+            }
+            Handle &handle;
+            std::uint64_t number;
+            bool was_kept, is_kept = false;
+        };
+
+        // As kfifo_try_receive, but where it got a cell it wakes nobody: Received does that.
+        kfifo_status look(kfifo_waits *waits, std::uint64_t *number) {
+            kfifo_status status = kfifo_receive(pass, number);
+            if (status == KFIFO_GOT) return status;
+            (void)kfifo_after_take(waits, status);
+            if (status != KFIFO_EMPTY || !kfifo_is_finished(waits)) return status;
+            // A value may have come between the look and the end.
+            status = kfifo_receive(pass, number);
+            if (status == KFIFO_GOT) return status;
+            (void)kfifo_after_take(waits, status);
+            return status == KFIFO_EMPTY ? KFIFO_FINISHED : status;
+        }
+
+        // Hands `use` a value that was taken, and `none` the answer where none was. What `use` makes of the value is
+        // made where the caller wants it, since a move on the way could throw when the value's cell is gone.
+        template <typename Calls, typename Use, typename None> auto receive(Calls calls, Use use, None none) {
             kfifo_waits *waits = usable();
-            return given(std::move(value),
-                         [&](std::uint64_t bits) { return kfifo_give_wait(pass, waits, bits, nanoseconds); });
+            std::uint64_t number = 0;
+            bool was_kept = false;
+            if constexpr (moves_throw) {
+                const std::optional<std::uint64_t> &kept = state->kept[which()];
+                was_kept = kept.has_value();
+                number = kept.value_or(0);
+            }
+            if (!was_kept) {
+                kfifo_status status = calls([&] { return look(waits, &number); });
+                if (status != KFIFO_GOT) return none(static_cast<Miss>(detail::checked(status)));
+            }
+            Received received(*this, number, was_kept);
+            try {
+                return use(*state->cells[number]);
+            } catch (...) {
+                received.is_kept = true;
+                throw;
+            }
         }
-        TakenValue<T> take_within(std::uint64_t nanoseconds) {
-            std::uint64_t bits = 0;
-            kfifo_status status = kfifo_take_wait(pass, usable(), &bits, nanoseconds);
-            return taken(status, bits);
+
+        template <typename Calls> TakenValue<T> take_by(Calls calls) {
+            return receive(
+                calls,
+                [](T &value) {
+                    return TakenValue<T>{std::optional<T>(std::in_place, std::move_if_noexcept(value)), Miss::empty};
+                },
+                [](Miss why) {
+                    return TakenValue<T>{std::nullopt, why};
+                });
         }
-        template <typename Clock, typename Duration>
-        static std::uint64_t left_until(const std::chrono::time_point<Clock, Duration> &end) {
-            auto now = Clock::now();
-            return now < end ? detail::nanoseconds_of(end - now) : 0;
-        }
+
         std::shared_ptr<State> state;
-        kfifo_value_pass *pass; // of the state
+        kfifo_cell_pass *pass; // of the state
     };
 
     // What comes out of a queue until its end, as a range. One pass, by the handle that it is of.
@@ -426,9 +608,13 @@ template <typename T> class ValueQueue {
 
           private:
             void next() {
-                TakenValue<T> taken = handle->take_wait();
-                if (taken.why == Miss::worn) throw Error(KFIFO_WORN);
-                value = std::move(taken.value);
+                value.reset();
+                handle->receive(
+                    handle->within(KFIFO_WAITS_TAKER, KFIFO_FOREVER),
+                    [this](T &taken) { value.emplace(std::move_if_noexcept(taken)); },
+                    [](Miss why) {
+                        if (why == Miss::worn) throw Error(KFIFO_WORN);
+                    });
             }
             Handle *handle;
             std::optional<T> value;
@@ -445,7 +631,8 @@ template <typename T> class ValueQueue {
 
     // k slots in each of these segments, for so many threads. A thread has at most about `tokens` values of its own in
     // the queue: unless another number is given, one more than there are slots, so that a queue that is full says so,
-    // and KFIFO_MAX_TOKENS at most. Throws Error where there is no such queue.
+    // and KFIFO_MAX_TOKENS at most. The queue has room for threads * tokens values of T from the beginning. Throws
+    // Error where there is no such queue, and std::bad_alloc.
     ValueQueue(std::uint32_t k, std::uint32_t segments, std::size_t threads)
         : ValueQueue(k, segments, threads, enough(k, segments)) {}
 
@@ -459,8 +646,8 @@ template <typename T> class ValueQueue {
 
     // A handle that nobody has. Throws Error where each is out.
     Handle handle() {
-        if (!state) throw Error(KFIFO_BAD_CALL, "the queue is closed");
-        for (std::size_t number = 0; number < state->passes.size(); number++)
+        if (!state || state->is_closed) throw Error(KFIFO_BAD_CALL, "the queue is closed");
+        for (std::size_t number = 0; number < state->passes.all.size(); number++)
             if (!state->is_out[number].exchange(true, std::memory_order_acquire)) return Handle(state, number);
         throw Error(KFIFO_BAD_CALL, "each handle of the queue is in use");
     }
@@ -473,21 +660,19 @@ template <typename T> class ValueQueue {
         kfifo_finish(&state->waits);
     }
 
-    // Closes the queue and gives back the values that are left. Throws Error, and nothing changes, where a handle is
-    // still out, and std::bad_alloc, and no value is lost, where there is no memory for them.
+    // Closes the queue and gives back the values that are left, in its order. Throws Error, and nothing changes, where
+    // a handle is still out, and std::bad_alloc, and no value is lost, where there is no memory for them. Where the
+    // library alone has no memory to tell the order, the values come in another one.
+    //
+    // Where a move of T may throw and T can be copied, the values are copied out. If that throws, no value is lost: the
+    // queue takes no more calls, but a further close gives them all back.
     std::vector<T> close() {
         if (!state) throw Error(KFIFO_BAD_CALL, "the queue is closed");
-        Handle mine = sole();
+        if (!state->is_idle()) throw Error(KFIFO_BAD_CALL, "a handle of the queue is in use");
         std::vector<T> values;
-        values.reserve(state->slots);
-        Miss why = Miss::empty;
-        for (;;) {
-            TakenValue<T> taken = mine.take();
-            why = taken.why;
-            if (!taken.value) break;
-            values.push_back(std::move(*taken.value));
-        }
-        if (why == Miss::worn) state->close_into([&values](T &&value) { values.push_back(std::move(value)); });
+        values.reserve(state->is_closed ? state->left.size() : state->cells.with_values().size());
+        state->close();
+        for (std::uint64_t number : state->left) values.push_back(std::move_if_noexcept(*state->cells[number]));
         state.reset();
         return values;
     }
@@ -496,13 +681,6 @@ template <typename T> class ValueQueue {
     static std::uint32_t enough(std::uint32_t k, std::uint32_t segments) {
         std::uint64_t one_more = std::uint64_t(k) * segments + 1;
         return one_more < KFIFO_MAX_TOKENS ? static_cast<std::uint32_t>(one_more) : KFIFO_MAX_TOKENS;
-    }
-
-    Handle sole() {
-        for (std::size_t number = 0; number < state->passes.size(); number++)
-            if (state->is_out[number].load(std::memory_order_acquire))
-                throw Error(KFIFO_BAD_CALL, "a handle of the queue is in use");
-        return handle();
     }
 
     std::shared_ptr<State> state;
