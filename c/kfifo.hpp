@@ -316,7 +316,7 @@ template <typename T> struct TakenValue {
 //     if (giver.give("first") != kfifo::Put::done) return 1;
 //     if (giver.emplace(3, 'x') != kfifo::Put::done) return 1;
 //     kfifo::TakenValue<std::string> taken = taker.take();
-//     if (taken.value) std::puts(taken.value->c_str());
+//     std::string word = taken.value.value_or("none yet");
 //
 // The queue has a cell for each token. A value is made in a cell, stays there, and is moved out of it: only the opening
 // allocates. T may be over-aligned, and needs no default constructor.

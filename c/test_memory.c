@@ -166,13 +166,15 @@ static void abandons(void) {
     expect(blocks, 0, "blocks left by handles that were abandoned at once");
 }
 
-/* Gives and takes ask for no memory. */
+/* Gives and takes, and the calls of cells, ask for no memory. */
 static void calls(void) {
     kfifo_value_pass passes[THREADS];
+    kfifo_cell_pass cells[THREADS];
     kfifo_pass items[THREADS];
     uint64_t value = 0;
     uint32_t item = 0;
     if (!opens_values(passes, 0) || !opens(items, 0)) return;
+    if (kfifo_open_cells(K, SEGMENTS, TOKENS, cells, THREADS) != KFIFO_DONE) return;
     refuse(1);
     for (int i = 0; i < 1000; i++) {
         expect(kfifo_give(&passes[0], 5), KFIFO_DONE, "a give without memory");
@@ -180,9 +182,16 @@ static void calls(void) {
         expect(kfifo_put(&items[0], 5), KFIFO_DONE, "a put without memory");
         expect(kfifo_get(&items[1], &item), KFIFO_GOT, "a get without memory");
     }
+    for (int i = 0; i < 1000; i++) {
+        expect(kfifo_reserve(&cells[0], &value), KFIFO_DONE, "a reserve without memory");
+        expect(kfifo_publish(&cells[0]), KFIFO_DONE, "a publish without memory");
+        expect(kfifo_receive(&cells[1], &value), KFIFO_GOT, "a receive without memory");
+        expect(kfifo_release(&cells[1]), KFIFO_DONE, "a release without memory");
+    }
     expect(requests, 0, "requests of calls for memory");
     refuse(0);
     kfifo_abandon_values(passes, THREADS);
+    kfifo_abandon_cells(cells, THREADS);
     kfifo_abandon(items, THREADS);
     expect(blocks, 0, "blocks left by abandoned handles");
 }
