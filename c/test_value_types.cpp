@@ -46,6 +46,21 @@ __attribute__((noinline)) void *operator new(std::size_t size) {
 __attribute__((noinline)) void operator delete(void *block) noexcept { std::free(block); }
 __attribute__((noinline)) void operator delete(void *block, std::size_t) noexcept { std::free(block); }
 
+// A block with an alignment of its own has that one and no greater one, so that one that is too small is seen.
+__attribute__((noinline)) void *operator new(std::size_t size, std::align_val_t alignment) {
+    requests++;
+    std::size_t align = static_cast<std::size_t>(alignment);
+    void *block = std::aligned_alloc(2 * align, (size / (2 * align) + 2) * (2 * align));
+    if (block) return static_cast<char *>(block) + align;
+    throw std::bad_alloc();
+}
+__attribute__((noinline)) void operator delete(void *block, std::align_val_t alignment) noexcept {
+    std::free(static_cast<char *>(block) - static_cast<std::size_t>(alignment));
+}
+__attribute__((noinline)) void operator delete(void *block, std::size_t, std::align_val_t alignment) noexcept {
+    operator delete(block, alignment);
+}
+
 // The linker hands the calls of these two functions of the library to those below.
 extern "C" {
 std::uint32_t __real_kfifo_c_open_values(std::uint32_t k, std::uint32_t segments, std::uint32_t probes,
@@ -120,24 +135,28 @@ struct Moved : Counted {
     Moved &operator=(Moved &&) = default;
 };
 
-// Whose copies and moves throw. A move that throws leaves both as they were.
+// Whose copies and moves throw. A move that throws loses the number.
 struct Throwing : Counted {
     using Counted::Counted;
     Throwing(const Throwing &) = default;
-    Throwing(Throwing &&other) noexcept(false) : Counted((may_throw(), std::move(other))) {}
+    Throwing(Throwing &&other) noexcept(false) : Counted(std::move(other)) { may_throw(); }
     Throwing &operator=(const Throwing &) = default;
     Throwing &operator=(Throwing &&other) noexcept(false) {
-        may_throw();
         Counted::operator=(std::move(other));
+        may_throw();
         return *this;
     }
 };
 
-// The same, but it can only be moved.
-struct MovedThrowing : Throwing {
-    using Throwing::Throwing;
-    MovedThrowing(MovedThrowing &&) = default;
-    MovedThrowing &operator=(MovedThrowing &&) = default;
+// Which can only be moved. A move that throws leaves both as they were.
+struct MovedThrowing : Counted {
+    using Counted::Counted;
+    MovedThrowing(MovedThrowing &&other) noexcept(false) : Counted((may_throw(), std::move(other))) {}
+    MovedThrowing &operator=(MovedThrowing &&other) noexcept(false) {
+        may_throw();
+        Counted::operator=(std::move(other));
+        return *this;
+    }
 };
 
 // Which can only be copied, and cannot be assigned.
@@ -162,6 +181,14 @@ struct alignas(128) Aligned : Counted {
     void look() const {
         if (reinterpret_cast<std::uintptr_t>(this) % 128 != 0) wrong++;
     }
+};
+
+// Whose end takes long.
+struct Slow : Counted {
+    using Counted::Counted;
+    Slow(Slow &&) = default;
+    Slow &operator=(Slow &&) = default;
+    ~Slow() { std::this_thread::sleep_for(std::chrono::milliseconds(10)); }
 };
 
 // Whether a call throws Thrown when it has made so many objects.
@@ -352,6 +379,7 @@ template <typename T> void throws_as_given() {
     if constexpr (!std::is_nothrow_move_constructible_v<T>) {
         expect(throws(0, [&] { handle.give(std::move(value)); }) && value.is(1), "a give that throws");
         expect(throws(0, [&] { handle.give_wait(std::move(value)); }) && value.is(1), "a give that waits and throws");
+        expect(!handle.take().value, "nothing was given that waits");
     }
     for (int i = 0; i < 2; i++) expect(handle.give(same) == kfifo::Put::done, "a copy");
     expect(handle.give(same) == kfifo::Put::full && value.is(1) && Counted::alive == 3, "a copy that is refused");
@@ -442,7 +470,15 @@ void woken() {
         expect(taker.take_wait().value->is(0), "the value of a take that threw");
         waits.join();
     }
-    balanced("threads that wait");
+    // A giver that wants a token is woken once the cell is released, after the value that was in it is destroyed.
+    kfifo::ValueQueue<Slow> queue(1, 2, 2, 1);
+    auto giver = queue.handle(), taker = queue.handle();
+    expect(giver.emplace(1) == kfifo::Put::done, "a value whose end takes long");
+    std::thread waits([&] { expect(giver.give_wait(Slow(2)) == kfifo::Put::done, "a giver that waits for a token"); });
+    std::this_thread::sleep_for(std::chrono::milliseconds(5));
+    expect(taker.take().value->is(1), "a take that ends late");
+    waits.join();
+    expect(taker.take().value->is(2), "what was given late");
 }
 
 // ---- Where the cells are ----
@@ -586,6 +622,7 @@ int main() {
     throws_as_moved();
     balanced("what throws as it is moved");
     woken();
+    balanced("threads that wait");
     all_places();
     expect(first_calls() == 0, "the first calls");
     no_requests();
