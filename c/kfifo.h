@@ -126,6 +126,7 @@ uint32_t kfifo_c_give(kfifo_value_pass *pass, uint64_t value);
 uint32_t kfifo_c_take(kfifo_value_pass *pass, uint64_t *value);
 uint32_t kfifo_c_reserve(kfifo_value_pass *pass, uint64_t *cell);
 uint32_t kfifo_c_publish(kfifo_value_pass *pass);
+uint32_t kfifo_c_cancel(kfifo_value_pass *pass);
 uint32_t kfifo_c_receive(kfifo_value_pass *pass, uint64_t *cell);
 uint32_t kfifo_c_release(kfifo_value_pass *pass);
 uint32_t kfifo_c_close_values(kfifo_value_pass *passes, size_t threads, uint64_t *values, size_t room, size_t *count);
@@ -371,6 +372,14 @@ static inline kfifo_status kfifo_publish(kfifo_cell_pass *pass) {
     if (!pass) return KFIFO_BAD_CALL;
     KFIFO_BEFORE_PUT(&pass->pass);
     return (kfifo_status)kfifo_c_publish(&pass->pass);
+}
+
+/* Gives the reserved cell back: DONE, and any handle may reserve it. BAD_CALL, also where none is reserved. A cell that
+   stays reserved is one that no other handle can have. */
+static inline kfifo_status kfifo_cancel(kfifo_cell_pass *pass) {
+    if (!pass) return KFIFO_BAD_CALL;
+    KFIFO_BEFORE_RELEASE(&pass->pass);
+    return (kfifo_status)kfifo_c_cancel(&pass->pass);
 }
 
 /* Takes one of the k oldest cells: GOT, and writes its number. Until the handle's next kfifo_receive or kfifo_release
