@@ -22,7 +22,7 @@ typedef enum kfifo_status {
     KFIFO_BUSY = 4,          /* each round was lost to a step of another thread or its own; nothing was done */
     KFIFO_WORN = 5,          /* a version would pass the greatest one; close this queue and open another */
     KFIFO_BAD_CALL = 6,      /* a null pointer, an argument out of range, a handle closed or missing, or one that has no
-                                cell to publish or release; nothing done */
+                                cell to publish, cancel or release; nothing done */
     KFIFO_NO_MEMORY = 7,     /* an allocation failed; nothing was done */
     KFIFO_BAD_THREADS = 8,   /* the number of threads is not 1 to 64; nothing was done */
     KFIFO_LOST = 9,          /* of a close: an allocation failed; the queue is closed, what was left in it is lost */

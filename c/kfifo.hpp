@@ -472,28 +472,33 @@ template <typename T> class ValueQueue {
             return detail::Within(usable(), kind, nanoseconds);
         }
 
-        // Destroys the value of a cell at the end of a block, also where an exception ends it.
-        struct Emptied {
-            explicit Emptied(Cell &of) : cell(of) {}
-            Emptied(const Emptied &) = delete;
-            ~Emptied() { cell.reset(); }
+        // Ends a give that came to nothing, also by an exception: destroys what is left of the value, and gives the
+        // cell back. A cell that stayed reserved would be one that no other handle can have.
+        struct Reserved {
+            Reserved(kfifo_cell_pass *by, Cell &of) : pass(by), cell(of) {}
+            Reserved(const Reserved &) = delete;
+            ~Reserved() {
+                // Once it is published another thread may have the cell.
+                if (is_published) return;
+                cell.reset();
+                kfifo_cancel(pass);
+            }
+            kfifo_cell_pass *pass;
             Cell &cell;
+            bool is_published = false;
         };
 
-        // Reserves a cell, makes a value in it and publishes it. A value that is refused is handed back, and what is
-        // left of it destroyed. Where `make` throws, the cell stays reserved, without a value, for the next call.
+        // Reserves a cell, makes a value in it and publishes it. A value that is refused is handed back.
         template <typename Calls, typename Make, typename Back> Put put(Calls calls, Make make, Back back) {
             kfifo_waits *waits = usable();
             std::uint64_t number = 0;
             kfifo_status status = calls([&] { return kfifo_try_reserve(pass, waits, &number); });
             if (status != KFIFO_DONE) return static_cast<Put>(detail::checked(status));
-            Cell &cell = state->cells[number];
-            make(cell);
+            Reserved reserved(pass, state->cells[number]);
+            make(reserved.cell);
             status = calls([&] { return kfifo_try_publish(pass, waits); });
-            // Now the cell is the queue's, and another thread may have it already.
-            if (status == KFIFO_DONE) return Put::done;
-            Emptied emptied(cell);
-            back(*cell);
+            reserved.is_published = status == KFIFO_DONE;
+            if (!reserved.is_published) back(*reserved.cell);
             return static_cast<Put>(detail::checked(status));
         }
 

@@ -179,6 +179,12 @@ static inline kfifo_status kfifo_try_publish(kfifo_cell_pass *pass, kfifo_waits 
     return kfifo_after_give(waits, kfifo_publish(pass));
 }
 
+/* As kfifo_cancel, for a queue whose threads wait: wakes those that wait for a cell to reserve. */
+static inline kfifo_status kfifo_try_cancel(kfifo_cell_pass *pass, kfifo_waits *waits) {
+    if (!waits) return KFIFO_BAD_CALL;
+    return kfifo_after_take(waits, kfifo_cancel(pass));
+}
+
 /* As kfifo_receive, for a queue whose threads wait: wakes one that waits for room. FINISHED in place of EMPTY where the
    queue was finished, and then found empty. */
 static inline kfifo_status kfifo_try_receive(kfifo_cell_pass *pass, kfifo_waits *waits, uint64_t *cell) {

@@ -39,6 +39,7 @@ static void misuse(void) {
     uint64_t cell = 77, other = 77;
     expect(kfifo_open_cells(1, 2, 3, two, 2), KFIFO_DONE, "open");
     expect(kfifo_publish(&two[0]), KFIFO_BAD_CALL, "a publish without a reserve");
+    expect(kfifo_cancel(&two[0]), KFIFO_BAD_CALL, "a cancel without a reserve");
     expect(kfifo_release(&two[0]), KFIFO_BAD_CALL, "a release without a receive");
     expect(kfifo_receive(&two[0], &cell), KFIFO_EMPTY, "an empty queue");
     expect(cell, 77, "the cell of a receive that got none");
@@ -52,10 +53,12 @@ static void misuse(void) {
     expect(kfifo_release(&two[0]), KFIFO_BAD_CALL, "a release of a reserved cell");
     expect(kfifo_publish(&two[0]), KFIFO_DONE, "a publish");
     expect(kfifo_publish(&two[0]), KFIFO_BAD_CALL, "a publish of a published cell");
+    expect(kfifo_cancel(&two[0]), KFIFO_BAD_CALL, "a cancel of a published cell");
     expect(kfifo_receive(&two[1], &other), KFIFO_GOT, "a receive beside a reserved cell");
     expect(other, cell, "the cell that was published");
     expect(kfifo_publish(&two[1]), KFIFO_DONE, "a publish beside a received cell");
     expect(kfifo_publish(&two[1]), KFIFO_BAD_CALL, "a publish of a received cell");
+    expect(kfifo_cancel(&two[1]), KFIFO_BAD_CALL, "a cancel of a received cell");
     expect(kfifo_release(&two[1]), KFIFO_DONE, "a release");
     expect(kfifo_release(&two[1]), KFIFO_BAD_CALL, "a second release");
     expect(kfifo_receive(&two[1], &other), KFIFO_GOT, "a receive after a release");
@@ -64,8 +67,29 @@ static void misuse(void) {
     expect(kfifo_abandon_cells(two, 2), KFIFO_DONE, "abandon");
     expect(kfifo_reserve(&two[0], &cell), KFIFO_BAD_CALL, "a reserve by a closed handle");
     expect(kfifo_publish(&two[0]), KFIFO_BAD_CALL, "a publish by a closed handle");
+    expect(kfifo_cancel(&two[0]), KFIFO_BAD_CALL, "a cancel by a closed handle");
     expect(kfifo_receive(&two[0], &cell), KFIFO_BAD_CALL, "a receive by a closed handle");
     expect(kfifo_release(&two[0]), KFIFO_BAD_CALL, "a release by a closed handle");
+}
+
+/* Three handles with one token each. What one of them gives back another may have, however often it was refused. */
+static void cancels(void) {
+    kfifo_cell_pass three[3];
+    uint64_t cell[3];
+    expect(kfifo_open_cells(1, 2, 1, three, 3), KFIFO_DONE, "open");
+    for (int i = 0; i < 2; i++) {
+        expect(kfifo_reserve(&three[0], &cell[i]), i ? KFIFO_NO_TOKEN : KFIFO_DONE, "the reserves of one token");
+        if (!i) expect(kfifo_publish(&three[0]), KFIFO_DONE, "a publish");
+    }
+    expect(kfifo_reserve(&three[1], &cell[1]), KFIFO_DONE, "a reserve by the second");
+    expect(kfifo_receive(&three[1], &cell[0]), KFIFO_GOT, "a receive beside it");
+    expect(kfifo_release(&three[1]), KFIFO_DONE, "a release beside it");
+    expect(kfifo_reserve(&three[0], &cell[2]), KFIFO_NO_TOKEN, "the second has one reserved and one of its own");
+    expect(kfifo_cancel(&three[1]), KFIFO_DONE, "a cancel");
+    expect(kfifo_cancel(&three[1]), KFIFO_BAD_CALL, "a second cancel");
+    expect(kfifo_publish(&three[1]), KFIFO_BAD_CALL, "a publish after a cancel");
+    expect(kfifo_reserve(&three[0], &cell[2]), KFIFO_DONE, "a reserve of what was given back");
+    expect(kfifo_abandon_cells(three, 3), KFIFO_DONE, "abandon");
 }
 
 static void refusals(void) {
@@ -87,6 +111,7 @@ static void refusals(void) {
     expect(kfifo_reserve(NULL, &cell), KFIFO_BAD_CALL, "no pass to reserve by");
     expect(kfifo_reserve(&one, NULL), KFIFO_BAD_CALL, "no variable to reserve into");
     expect(kfifo_publish(NULL), KFIFO_BAD_CALL, "no pass to publish by");
+    expect(kfifo_cancel(NULL), KFIFO_BAD_CALL, "no pass to cancel by");
     expect(kfifo_receive(NULL, &cell), KFIFO_BAD_CALL, "no pass to receive by");
     expect(kfifo_receive(&one, NULL), KFIFO_BAD_CALL, "no variable to receive into");
     expect(kfifo_release(NULL), KFIFO_BAD_CALL, "no pass to release by");
@@ -96,6 +121,8 @@ static void refusals(void) {
     expect(kfifo_try_publish(&one, NULL), KFIFO_BAD_CALL, "no waits to publish by");
     expect(kfifo_try_publish(NULL, &waits), KFIFO_BAD_CALL, "no pass to publish by, and wait");
     expect(kfifo_publish_wait(&one, &waits, KFIFO_FOREVER), KFIFO_BAD_CALL, "a publish that waits for no cell");
+    expect(kfifo_try_cancel(&one, NULL), KFIFO_BAD_CALL, "no waits to cancel by");
+    expect(kfifo_try_cancel(&one, &waits), KFIFO_BAD_CALL, "a cancel of no cell, and wait");
     expect(kfifo_try_receive(&one, NULL, &cell), KFIFO_BAD_CALL, "no waits to receive by");
     expect(kfifo_try_receive(&one, &waits, NULL), KFIFO_BAD_CALL, "no variable to receive into, and wait");
     expect(kfifo_try_release(&one, NULL), KFIFO_BAD_CALL, "no waits to release by");
@@ -395,6 +422,7 @@ static void stages(void) {
 
 int main(void) {
     misuse();
+    cancels();
     refusals();
     too_many_threads();
     closes();
