@@ -31,8 +31,8 @@ CALLS = [
     ("2 producers, 2 consumers", 2, 2, 0),
     ("1 producer, 3 consumers", 1, 3, 0),
     ("3 producers, 1 consumer", 3, 1, 0),
-    ("4 threads in turn", 0, 0, 4),
-    ("8 threads in turn", 0, 0, 8),
+    ("4 alternating threads", 0, 0, 4),
+    ("8 alternating threads", 0, 0, 8),
 ]
 WORK = [0, 100]
 CAPACITIES = [1024, 16384]
