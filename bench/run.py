@@ -1,5 +1,5 @@
 #!/usr/bin/env python3
-"""Builds the queues that are compared, runs them round by round, and writes a table and plots.
+"""Builds the queues that are compared, runs them round by round, and writes a table and pictures.
 
 Each round runs all queues one after the other, and begins with another one than the round before. A ratio compares two
 rates of one round; the table has the median of these ratios over the rounds, with the quartiles. Each run checks that
@@ -11,7 +11,7 @@ table of its own, of how long a hand-over to a thread that sleeps takes.
     bench/run.py [--rounds N] [--milliseconds M] [--only WORD] [--out FOLDER]
 
 It needs rt, a C and a C++ compiler, cargo, and Debian's libboost-dev, libtbb-dev, libck-dev, libcds-dev,
-libconcurrentqueue-dev, librust-crossbeam-queue-dev and librust-crossbeam-channel-dev.
+libconcurrentqueue-dev, librust-crossbeam-queue-dev and librust-crossbeam-channel-dev; for pictures python3-matplotlib.
 """
 import argparse
 import dataclasses
@@ -20,6 +20,7 @@ import platform
 import statistics
 import subprocess
 import sys
+import textwrap
 
 HERE = os.path.dirname(os.path.abspath(__file__))
 OUT = f"{HERE}/out"
@@ -42,7 +43,8 @@ VALUES_CAPACITY = 1024
 TREES = [2, 4, 8]
 VERTICES, EDGES = 400_000, 1_600_000
 TREE_CAPACITY = 16384
-PEERS = [("array", 0), ("boost", 0), ("tbb", 0), ("ck", 0), ("mutex", 0), ("vyukov", 0), ("segmented", 16), ("segmented", 64)]
+PEERS = [("array", 0), ("boost", 0), ("tbb", 0), ("ck", 0), ("mutex", 0), ("vyukov", 0)]
+PEERS += [("segmented", 16), ("segmented", 64)]
 NAMES = {
     "array": "ArrayQueue",
     "boost": "Boost lockfree",
@@ -67,12 +69,17 @@ LOOKING = [[(name, 16), (f"{name}-looking", 16)] for name in ("kfifo-in-c", "kfi
 # Hand-overs to a thread that sleeps: how many in a round, and the microseconds between two.
 WAKING_TITLE = "waking a thread that sleeps"
 HAND_OVERS, REST = 2000, 100
+# What pictures show, in this order, and how each of them looks, in black and white too.
+SHOWN = [("kfifo", 64), ("kfifo", 16), ("kfifo", 4), ("vyukov", 0), ("tbb", 0), ("boost", 0), ("mutex", 0)]
+SHOWN_VALUES = [("kfifo-16", 64), ("kfifo-16", 16), ("kfifo-16", 4), ("mutex-16", 0)]
+LOOKS = [("#1f4e8c", ""), ("#5b8bc9", ""), ("#b8d0ee", "")]
+LOOKS += [("#e0e0e0", "//"), ("#e0e0e0", "xx"), ("white", ".."), ("white", "")]
 
 
 @dataclasses.dataclass
 class Workload:
-    """What queues are measured at: its title, the queues, the first of which the others are compared with, its capacity,
-    and the program with its arguments behind the queue's."""
+    """What queues are measured at: its title, the queues, the first of which the others are compared with, its
+    capacity, and the program with its arguments after the queue's."""
 
     title: str
     queues: list
@@ -84,6 +91,24 @@ class Workload:
 def between(work):
     """The end of a title: the work that a thread does between two calls, if any."""
     return f", {work} ns of work between calls" if work else ""
+
+
+@dataclasses.dataclass
+class Picture:
+    """A picture of all workloads of a kind: its file, its head, their titles and the queues beside ArrayQueue."""
+
+    file: str
+    head: str
+    title: str
+    queues: list
+
+
+ITEMS = f"{{}}, capacity {CAPACITIES[0]:,}"
+PICTURES = [
+    Picture("items", "Numbers, no work between calls", ITEMS, SHOWN),
+    Picture("items_with_work", f"Numbers{between(WORK[1])}", ITEMS + between(WORK[1]), SHOWN),
+    Picture("values", "Values of 16 bytes, no work between calls", f"values of 16 bytes, {ITEMS}", SHOWN_VALUES),
+]
 
 
 def workloads(milliseconds):
@@ -203,28 +228,53 @@ def overview_of(all_ratios):
 
 def waking(rounds):
     """The table of hand-overs to a thread that sleeps."""
-    ran = subprocess.run([f"{OUT}/waking", str(HAND_OVERS), str(REST), str(rounds)], check=True, capture_output=True, text=True)
+    words = [f"{OUT}/waking", str(HAND_OVERS), str(REST), str(rounds)]
+    ran = subprocess.run(words, check=True, capture_output=True, text=True)
     return f"### {WAKING_TITLE}\n\n{ran.stdout}"
 
 
-def plot(title, rates):
-    """A bar for each queue's ratio to ArrayQueue, with a line from quartile to quartile."""
-    bars = {queue: quartiles(its_ratios) for queue, its_ratios in ratios(rates).items()}
-    width, left, bar = 720, 200, 24
-    most = max(it[2] for it in bars.values()) * 1.05
-    across = lambda ratio: left + ratio / most * (width - left - 60)
-    height = 50 + bar * len(bars)
-    parts = [f'<svg xmlns="http://www.w3.org/2000/svg" width="{width}" height="{height}" font-family="sans-serif" font-size="12">']
-    parts.append(f'<rect width="{width}" height="{height}" fill="white"/><text x="10" y="20" font-size="14">{title}: rate beside {label(next(iter(rates)))}</text>')
-    for place, (queue, (first, middle, third)) in enumerate(bars.items()):
-        top = 36 + bar * place
-        color = "#3b6fb6" if queue[0].startswith("kfifo") else "#b0b0b0"
-        parts.append(f'<text x="{left - 8}" y="{top + 13}" text-anchor="end">{label(queue)}</text>')
-        parts.append(f'<rect x="{left}" y="{top}" width="{across(middle) - left:.1f}" height="{bar - 8}" fill="{color}"/>')
-        parts.append(f'<line x1="{across(first):.1f}" x2="{across(third):.1f}" y1="{top + 8}" y2="{top + 8}" stroke="black"/>')
-        parts.append(f'<text x="{across(max(middle, third)) + 6:.1f}" y="{top + 13}">{middle:.2f}</text>')
-    parts.append(f'<line x1="{across(1):.1f}" x2="{across(1):.1f}" y1="30" y2="{height - 8}" stroke="#888" stroke-dasharray="3"/></svg>')
-    return "\n".join(parts) + "\n"
+def bars(axes, names, queues, measured):
+    """Draws a group of bars for each workload: a queue's median ratio to ArrayQueue, with a line between quartiles."""
+    width = 0.84 / len(queues)
+    for place, queue in enumerate(queues):
+        shown = [quartiles(ratios(rates)[queue]) for rates in measured]
+        middles = [it[1] for it in shown]
+        reach = [[it[1] - it[0] for it in shown], [it[2] - it[1] for it in shown]]
+        left = [group + (place - (len(queues) - 1) / 2) * width for group in range(len(names))]
+        color, hatch = LOOKS[place]
+        axes.bar(
+            left,
+            middles,
+            width,
+            yerr=reach,
+            label=label(queue),
+            color=color,
+            hatch=hatch,
+            edgecolor="black",
+            linewidth=0.5,
+            error_kw={"elinewidth": 0.8},
+        )
+    axes.axhline(1, color="black", linewidth=0.8, linestyle="--")
+    axes.set_xticks(range(len(names)), [textwrap.fill(name, 13) for name in names], fontsize=8)
+
+
+def draw(picture, all_rates, folder):
+    """Draws a picture of workloads that were measured, if they all were."""
+    titles = [picture.title.format(name) for name, *_ in CALLS]
+    if any(it not in all_rates for it in titles):
+        return
+    # Only pictures need it, and a run of some workloads has none.
+    from matplotlib import pyplot
+
+    # The same figures give the same file.
+    pyplot.rcParams["svg.hashsalt"] = "kfifo"
+    figure, axes = pyplot.subplots(figsize=(9, 4), layout="constrained")
+    bars(axes, [name for name, *_ in CALLS], picture.queues, [all_rates[it] for it in titles])
+    axes.set_title(picture.head, fontsize=10)
+    axes.set_ylabel("rate beside ArrayQueue (dashed)", fontsize=8)
+    axes.legend(fontsize=8, ncols=4, loc="upper center", bbox_to_anchor=(0.5, -0.14))
+    figure.savefig(f"{folder}/{picture.file}.svg", metadata={"Date": None})
+    pyplot.close(figure)
 
 
 def machine():
@@ -241,12 +291,13 @@ def main():
     given.add_argument("--rounds", type=int, default=15)
     given.add_argument("--milliseconds", type=int, default=200, help="of each run")
     given.add_argument("--only", default="", help="the workloads whose title has this word")
-    given.add_argument("--out", default=OUT, help="where table.md and the plots go")
+    given.add_argument("--out", default=OUT, help="where table.md and the pictures go")
     words = given.parse_args()
     build()
     os.makedirs(words.out, exist_ok=True)
     load = os.getloadavg()[0]
-    about = f"{machine()}; {words.rounds} rounds of {words.milliseconds} ms for each queue; load of the machine before: {load:.1f}.\n"
+    about = f"{machine()}; {words.rounds} rounds of {words.milliseconds} ms for each queue; "
+    about += f"load of the machine before: {load:.1f}.\n"
     print(about)
     tables = []
     all_rates = {}
@@ -258,10 +309,9 @@ def main():
         all_rates[title] = rates
         tables.append(table(title, rates))
         print(tables[-1], flush=True)
-        file = title.replace(",", "").replace(" ", "_")
-        with open(f"{words.out}/{file}.svg", "w") as plotted:
-            plotted.write(plot(title, rates))
     print(overview(all_rates))
+    for picture in PICTURES:
+        draw(picture, all_rates, words.out)
     if words.only in WAKING_TITLE:
         tables.append(waking(words.rounds))
         print(tables[-1])
