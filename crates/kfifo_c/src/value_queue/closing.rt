@@ -5,8 +5,8 @@ ghost use Rattle.std.specs.List.{list_all};
 ghost use Rattle.kfifo_live.specs.Pass.{OpenQueue};
 ghost use Rattle.kfifo_c.specs.ValueHandles.{values_behind, value_addresses};
 ghost use Rattle.kfifo_c.specs.ValueSeats.{ValueSeated};
-ghost use Rattle.kfifo_c.specs.Values.{AreOfOneValueQueue, AreTheirValues, ValuesBeginWith, MayCloseValues, ClosesValues};
-ghost use Rattle.kfifo_c.specs.Values.{last_seat, value_passes_in};
+ghost use Rattle.kfifo_c.specs.Values.{AreOfOneValueQueue, AreTheirValues, ClosesValues, MayCloseValues};
+ghost use Rattle.kfifo_c.specs.Values.{ValuesBeginWith, last_seat, value_passes_in};
 
 use crate::status::{BAD_CALL, DONE, LOST, NO_MEMORY};
 use crate::value_queue::handle::ValueHandle;
@@ -61,7 +61,7 @@ fn may_close(handles: &mut [ValueHandle], room: usize) -> bool
 /// A queue, if there is one, and passes of it.
 type Parts = (Option<Arc<PayQueue<u64>, Global>>, Vec<PayPass<u64>>);
 
-/// The passes behind the open ones of these handles, which are then closed, and a part in the queue of the last of them.
+/// The passes of the open ones of these handles, which are then closed, and a part in the queue of the last of them.
 // Each seat has a part in the queue. Once the others are dropped, the one that is left is the queue itself.
 fn take_all(alloc: Global, handles: &mut [ValueHandle]) -> Result<Parts, AllocError>
     ensures refused { IsErr result → handles.new ≡ handles.old }
@@ -92,10 +92,10 @@ fn write_values(values: &mut [u64], left: &[u64])
     values[..left.len()].copy_from_slice(left);
 }
 
-/// Closes a queue by the handles of all its passes, as `PayQueue::close_with`, and writes the values that are left, and
-/// how many. The handles of one call are of one queue. Returns BAD_CALL, with nothing done, where there are none, one is
-/// closed, one of the queue is missing, or there is not room for a value of each slot; NO_MEMORY, with nothing done, and
-/// LOST, with the queue closed and its values lost, where an allocation failed.
+/// Closes a queue by the handles of all its passes, as `PayQueue::close_with`, and writes the values that are left,
+/// and how many. The handles of one call are of one queue. Returns BAD_CALL, with nothing done, where there are none,
+/// one is closed, one of the queue is missing, or there is not room for a value of each slot; NO_MEMORY, with nothing
+/// done, and LOST, with the queue closed and its values lost, where an allocation failed.
 #[unsafe(no_mangle)]
 pub extern "C" fn kfifo_c_close_values(
     alloc: Global,
