@@ -18,9 +18,9 @@ pub const BATCH: u32 = 16;
 
 /// A pass of a payload queue that chooses the starts and the rounds of its calls, as `Handle` does.
 ///
-/// It also moves tokens to and from the pool of the queue, a batch at a time: 16, or the tokens of a pass divided by the
-/// number of passes where that is less, but 1 at least. So the other handles keep fewer tokens beyond their own than a
-/// pass has, and a handle that only gives finds some as long as others take what it gave.
+/// It also moves tokens to and from the pool of the queue, a batch at a time: 16, or the tokens of a pass divided by
+/// the number of passes where that is less, but 1 at least. So the other handles keep fewer tokens beyond their own than
+/// a pass has, and a handle that only gives finds some as long as others take what it gave.
 ///
 /// ```rust
 /// if let Taken::Got(text) = self.handle.take(queue) {
@@ -166,7 +166,8 @@ impl<T: Drop> PayHandle<T> {
     #[inline(never)]
     fn pick_up(&mut self, queue: &PayQueue<T>)
         requires of { IsPassOf queue.now self.old.pass.pass }
-        ensures picks { (found : ℕ) × PicksUpAtMost (batch_size self.old.pass.pass.opened) found self.old.pass self.new.pass }
+        ensures picks { (found : ℕ)
+            × PicksUpAtMost (batch_size self.old.pass.pass.opened) found self.old.pass self.new.pass }
         ensures starts { (self.new.give_start ≡ self.old.give_start) × (self.new.take_start ≡ self.old.take_start) }
         ensures counts { (self.new.shortages ≡ one_more self.old.shortages)
             × (self.new.surpluses ≡ self.old.surpluses) }
@@ -266,8 +267,8 @@ impl<T: Drop> PayHandle<T> {
     /// Reserves a token, for a payload that `publish` gives later. A pass with no token first picks up a batch, or as
     /// many as it finds, as `give` does.
     ///
-    /// Returns None exactly where the pass has no token and found none to pick up. The token is the caller's alone until
-    /// it gives it back, by `publish` or `release`. It never allocates, waits or locks.
+    /// Returns None exactly where the pass has no token and found none to pick up. The token is the caller's alone
+    /// until it gives it back, by `publish` or `release`. It never allocates, waits or locks.
     #[inline(always)]
     pub fn reserve(&mut self, queue: &PayQueue<T>) -> Option<Token<T>>
         requires of { IsPassOf queue.now self.old.pass.pass }

@@ -4,6 +4,7 @@
 //! that names such a slot, token x the slot x - 1. Who has a token may put its slot's payload into the queue.
 ghost use Rattle.std.specs.Prelude.{◌≡◌, ◌<◌, ◌≤◌, ◌+◌, ◌-◌, ◌*◌, ◌^◌, ◌++◌, ℕ, List, [], ◌∷◌, length, reverse, Some};
 ghost use Rattle.std.specs.Prelude.{None, vec_capacity};
+ghost use Rattle.kfifo_words.specs.Ring.{clock_at};
 ghost use Rattle.kfifo_live.specs.Schedule.{hand_of, seen_of, gifts_of, with_seen};
 ghost use Rattle.kfifo_live.specs.Step.{DrawsToken, IsAt};
 ghost use Rattle.kfifo_live.specs.Promise.{KeepsPromise};
@@ -102,6 +103,15 @@ impl<T: Drop> PayQueue<T> {
         ensures { result ≡ self.now.opened.shape }
     {
         self.shape
+    }
+
+    /// The index of the clock. No thread of a queue of payloads writes it, so a load of it meets nobody.
+    #[inline(always)]
+    pub(crate) fn clock(&self) -> usize
+        ensures place { result ≡ clock_at self.now.opened.shape.k self.now.opened.shape.n }
+        ensures within { result < self.now.table.words }
+    {
+        self.shape.clock_index()
     }
 }
 

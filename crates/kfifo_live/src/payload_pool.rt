@@ -51,8 +51,13 @@ pub(crate) fn extend_pool<T, O: Opened>(
 }
 
 /// Lets a token rest in its word. It comes back where the pool has no word for it.
-fn rest_token<T>(shared: &Words<T>, pool: &[PoolWord<T>], token: Token<T>) -> Result<(), Token<T>>
-    requires table { (0 < shared.now.table_id.words) × (0 < shared.now.key.tokens)
+fn rest_token<T>(
+    shared: &Words<T>,
+    pool: &[PoolWord<T>],
+    token: Token<T>,
+    clock: usize,
+) -> Result<(), Token<T>>
+    requires table { (clock < shared.now.table_id.words) × (0 < shared.now.key.tokens)
         × (shared.now.table_id.slots ≡ shared.now.key.threads * shared.now.key.tokens) }
     requires pool { IsPool shared.now.table_id shared.now.key 1 pool.now }
     requires of { token.queue ≡ queue_of shared.now.table_id shared.now.key }
@@ -64,7 +69,7 @@ fn rest_token<T>(shared: &Words<T>, pool: &[PoolWord<T>], token: Token<T>) -> Re
     }
     match pool[number as usize - 1].give(token.into_seat()) {
         Ok(()) => Ok(()),
-        Err(seat) => Err(Token::new(shared, seat, number)),
+        Err(seat) => Err(Token::new(shared, seat, number, clock)),
     }
 }
 
@@ -134,7 +139,8 @@ impl<T: Drop> PayPass<T> {
         let Some(token) = self.part_with(queue) else {
             return false;
         };
-        let Err(token) = rest_token(&queue.table.shared, queue.pool.as_slice(), token) else {
+        let shared = &queue.table.shared;
+        let Err(token) = rest_token(shared, queue.pool.as_slice(), token, queue.clock()) else {
             return true;
         };
         self.take_in(queue, token);
@@ -174,7 +180,7 @@ impl<T: Drop> PayPass<T> {
         let last = end.min(place + 1 + LOOKS_FOR_MORE);
         // Those behind it come first, since a pass uses first what it picked up last.
         let more = self.pick_up_among(queue, first, place + 1, last, most - 1);
-        self.take_in(queue, Token::new(shared, resting, token));
+        self.take_in(queue, Token::new(shared, resting, token, queue.clock()));
         more + 1
     }
 

@@ -29,17 +29,18 @@ impl<T> Model for Token<T> {
 }
 
 impl<T> Token<T> {
-    /// The token that a seat has alone.
-    pub(crate) fn new(shared: &Words<T>, seat: ThreadSeat<T>, number: u32) -> Token<T>
-        requires table { (seat.table_id ≡ shared.now.table_id) × (0 < shared.now.table_id.words) }
+    /// The token that a seat has alone. `clock` is the word that is loaded, which nobody writes.
+    pub(crate) fn new(shared: &Words<T>, seat: ThreadSeat<T>, number: u32, clock: usize) -> Token<T>
+        requires table { (seat.table_id ≡ shared.now.table_id) × (clock < shared.now.table_id.words) }
         requires slots { (0 < seat.me.0.opened.tokens)
             × (shared.now.table_id.slots ≡ seat.me.0.opened.threads * seat.me.0.opened.tokens) }
         requires alone { seat.me ≡ (resting_view seat.me.0.opened number, []) }
         ensures { result ≡ record { queue = queue_of seat.table_id seat.me.0.opened; number = number } }
     {
         let mut seat = seat;
-        // This load tells the proof that the token names a slot.
-        count_tokens(shared, &mut seat);
+        // This load tells the proof that the token names a slot. A load of the ends word would bring its line here, and
+        // the next thread that moves an end would have to take it away again.
+        count_tokens(shared, &mut seat, clock);
         Token { number, seat }
     }
 
@@ -75,7 +76,7 @@ impl<T: Drop> PayPass<T> {
         let number = self.at_home.pop()?;
         let shared = &queue.table.shared;
         let alone = cut_token(shared, &mut self.seat);
-        Some(Token::new(shared, alone, number))
+        Some(Token::new(shared, alone, number, queue.clock()))
     }
 
     /// Takes in a token of the queue. The pass uses it next. It is no event, and the pass has seen no more than before.
@@ -90,7 +91,7 @@ impl<T: Drop> PayPass<T> {
         let shared = &queue.table.shared;
         add_token::<_, Brand>(shared, &mut self.seat, token.into_seat(), number);
         // This load tells the proof that the list of tokens has room for one more.
-        count_tokens(shared, &mut self.seat);
+        count_tokens(shared, &mut self.seat, queue.clock());
         self.at_home.push_reserved(number);
     }
 }

@@ -43,15 +43,15 @@ pub(crate) fn lay_back<T>(shared: &Words<T>, seat: &mut ThreadSeat<T>)
     shared.load::<LayBack>(seat, 0);
 }
 
-/// One load of the ends word. It tells that the thread has no more tokens than there are slots, and that each names one.
+/// One load of a word. It tells that the thread has no more tokens than there are slots, and that each names one.
 #[inline(always)]
-pub(crate) fn count_tokens<T>(shared: &Words<T>, seat: &mut ThreadSeat<T>)
-    requires table { (seat.old.table_id ≡ shared.now.table_id) × (0 < shared.now.table_id.words) }
+pub(crate) fn count_tokens<T>(shared: &Words<T>, seat: &mut ThreadSeat<T>, index: usize)
+    requires table { (seat.old.table_id ≡ shared.now.table_id) × (index < shared.now.table_id.words) }
     requires seated { IsSeated seat.old.me.0 × (0 < seat.old.me.0.opened.tokens) }
     ensures same { seat.new.table_id ≡ seat.old.table_id }
     ensures counts { CountsTokens shared.now.table_id.slots seat.old.me seat.new.me }
 {
-    shared.load::<CountTokens>(seat, 0);
+    shared.load::<CountTokens>(seat, index);
 }
 
 /// Cuts off the token that the thread uses next, and gives a seat that has it alone. It is no event.

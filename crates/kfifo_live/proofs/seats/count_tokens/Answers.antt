@@ -5,5 +5,5 @@ pub load-requires : goal.load-requires
 load-requires g c = (
   c.requires.table.0,
   c.requires.table.1,
-  counts_tokens _ _ _ c.args.seat.now.me 0 c.requires.seated.0 c.requires.seated.1,
+  counts_tokens _ _ _ c.args.seat.now.me c.args.index c.requires.seated.0 c.requires.seated.1,
 )
