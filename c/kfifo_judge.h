@@ -33,32 +33,35 @@ typedef struct kfifo_judge_call {
     uint64_t first;  /* when it began */
     uint64_t last;   /* when it ended, not read of an unfinished call */
     uint64_t item;   /* the item of a put, 1 to 16,777,215, or the item that a get got; not read of other calls */
-    uint32_t thread; /* 0 to 63; a thread's calls do not overlap, and each begins after the time at which the one before ended */
+    uint32_t thread; /* 0 to 63; each call of a thread begins after the time at which the one before it ended */
     uint8_t op;      /* a kfifo_judge_op */
     uint8_t answer;  /* a kfifo_judge_answer */
 } kfifo_judge_call;
 
 /* What a call of the judge returns. */
 typedef enum kfifo_judge_status {
-    KFIFO_JUDGE_LEGAL = 0,      /* the run has a legal order; of kfifo_least_calls: there is no evidence against each k */
-    KFIFO_JUDGE_NO_ORDER = 1,   /* it has none, and the text says why */
-    KFIFO_JUDGE_UNDECIDED = 2,  /* neither an order nor evidence against each was found */
+    KFIFO_JUDGE_LEGAL = 0,      /* there is a legal order; of kfifo_least_calls: there is no evidence against each k */
+    KFIFO_JUDGE_NO_ORDER = 1,   /* there is none, and the text says why */
+    KFIFO_JUDGE_UNDECIDED = 2,  /* neither an order nor evidence against each order was found */
     KFIFO_JUDGE_DRAWN = 3,      /* of kfifo_draw_calls: the text is the picture */
     KFIFO_JUDGE_FAULT = 4,      /* the log or record has a fault, by which it cannot be judged; the text says which */
     KFIFO_JUDGE_BAD_CALL = 5,   /* a null pointer, or an argument out of range; nothing was done */
     KFIFO_JUDGE_NO_MEMORY = 6   /* an allocation failed; nothing was done */
 } kfifo_judge_status;
 
-/* What was found. The pointers are the report's own, from malloc: kfifo_judge_clear frees them. */
+/* What was found. A call fills a report without looking at what is in it. Its pointers are its own, from malloc:
+   kfifo_judge_clear frees them, and is to be called before the report is used again. */
 typedef struct kfifo_judge_report {
     kfifo_judge_status status;
-    uint32_t fault;       /* of a FAULT: its number as docs/JUDGE.md has it, 2 to 8; 0 of a text that is no CSV or no JSON */
-    uint64_t place;       /* of a FAULT: the line of the log, from 1, or the call of the record, from 0; 0 where it has none */
-    char *text;           /* what the program prints, with a 0 after it; of a FAULT the line that says which; else NULL */
+    uint32_t fault;       /* of a FAULT: its number as docs/JUDGE.md has it, 1 to 8; 0 of a text that is no CSV or no
+                             JSON, and of a picture with too many calls */
+    uint64_t place;       /* of a FAULT: the line of the log, from 1, or the call of the record, from 0; else 0 */
+    char *text;           /* what the program prints, with a 0 after it; of a FAULT the line that says which; NULL of
+                             BAD_CALL and NO_MEMORY */
     size_t length;        /* of the text, without the 0 */
-    uint64_t *named;      /* the calls that the reason of NO_ORDER names, by number, in its order; else NULL */
+    size_t *named;        /* the calls that the reason of NO_ORDER names, by number, in its order; else NULL */
     size_t named_count;
-    uint32_t at_least;    /* of kfifo_least_calls that is LEGAL: the least k is no less */
+    size_t at_least;      /* of kfifo_least_calls that is LEGAL: the least k is no less */
     uint32_t at_most;     /* and no greater, 1 to 64; 0 where no order was found */
 } kfifo_judge_report;
 

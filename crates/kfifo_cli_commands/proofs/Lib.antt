@@ -1,5 +1,4 @@
 pub mod Types
-pub mod Beginnings
 pub mod Dispatching
 pub mod Feeding
 pub mod Outcomes

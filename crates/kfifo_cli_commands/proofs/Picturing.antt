@@ -16,7 +16,8 @@ use Rattle.kfifo_cli_texts.specs.declared.fault.Fault.TheVariants.{NotJson, Reco
 use Rattle.kfifo_cli_texts.specs.declared.fault.Fault.TheVariants.{Contradiction, Stretch, NoLines, NoEvidence, Unexplained, Memory, Output}
 use Rattle.kfifo_cli_commands.specs.declared.cut.Cut.{Cut}
 use Rattle.kfifo_cli_commands.specs.declared.cut.Cut.TheVariants as cuts
-use Rattle.kfifo_cli_commands.specs.Cuts.{IsOfLines, IsPartOf, LacksEvidence, named_by}
+use Rattle.kfifo_judge.specs.Reasons.{named_by}
+use Rattle.kfifo_cli_commands.specs.Cuts.{IsOfLines, IsPartOf, LacksEvidence}
 use Rattle.kfifo_cli_commands.specs.Inputs.{IsCalls, IsNoCalls, logged_calls}
 use Rattle.kfifo_cli_commands.specs.Pictures.{AreCallsOf, HasAll, HasFew, HasMany, IsNoPicture, IsNotDrawn, IsPicture, IsPictureOf}
 

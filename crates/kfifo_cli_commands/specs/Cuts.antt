@@ -3,10 +3,7 @@ use Rattle.std.specs.Prelude.{ℕ, ◌≡◌, ◌≤◌, ◌⊎◌, true, false,
 use Rattle.std.specs.Prelude.{option_map, take, unwrap_or}
 use denote.Ref.{Bor}
 use Rattle.kfifo_model.specs.declared.calls.Call.{Call}
-use Rattle.kfifo_judge.specs.Reasons.{others}
 use Rattle.kfifo_verdict.specs.declared.verdicts.Evidence.{Evidence}
-use Rattle.kfifo_verdict.specs.declared.verdicts.Evidence.TheVariants.{NeverPut, TakenTwice, NotEmpty, TooYoung}
-use Rattle.kfifo_verdict.specs.declared.verdicts.Evidence.TheVariants.{TakenTooSoon, ItemsLeft, OlderLeft}
 use Rattle.kfifo_draw.specs.declared.part.Part.{Part}
 use Rattle.kfifo_draw.specs.declared.part.Part.TheVariants as parts
 use Rattle.kfifo_cli_texts.specs.declared.fault.Fault.{Fault}
@@ -65,17 +62,6 @@ abbrev pub IsCutFault : DrawOptions → Fault → Type 0
 IsCutFault options faults.Contradiction = Contradict options
 IsCutFault options faults.Stretch = GivesNoStretch (given options.calls) ⊎ GivesNoStretch (given options.lines)
 IsCutFault options _ = ⊥
-
--- the calls that evidence names: the one that got an item or found none, and then the puts, or of an item that was taken
--- too often or too soon the first 31 others that put or got it
-abbrev pub named_by : List Call → Evidence → List ℕ
-named_by h (NeverPut get) = get ∷ []
-named_by h (TakenTwice get) = get ∷ take 31 (others h get)
-named_by h (NotEmpty empty puts) = empty ∷ puts.items
-named_by h (TooYoung get puts) = get ∷ puts.items
-named_by h (TakenTooSoon get) = get ∷ take 31 (others h get)
-named_by h (ItemsLeft empty) = empty ∷ []
-named_by h (OlderLeft get puts) = get ∷ puts.items
 
 -- the part of a history that is to be drawn, where the evidence names these calls: all where there is no evidence
 abbrev pub IsPartOf : Option (List ℕ) → Cut → Part → Type 0

@@ -1,5 +1,5 @@
 -- What the commands `judge`, `least`, `import` and `draw` read, and the calls of it: a record in JSON, or a log in CSV.
-use Rattle.std.specs.Prelude.{◌≡◌, ◌≢◌, ◌⊎◌, ◌<◌, ℕ, List, [], Option, Some, None, length, slice_index}
+use Rattle.std.specs.Prelude.{◌≡◌, ◌≢◌, ℕ, List, [], Option, Some, None, length}
 use denote.Ref.{Bor}
 use Rattle.kfifo_model.specs.declared.calls.Call.{Call}
 use Rattle.kfifo_model.specs.declared.history.RecordFault.{RecordFault}
@@ -7,7 +7,7 @@ use Rattle.kfifo_import.specs.declared.log.ImportFault.{ImportFault}
 use Rattle.kfifo_import.specs.declared.log.LoggedCall.{LoggedCall}
 use Rattle.kfifo_import.specs.Foreign.{IsJudgedLog, IsUnjudged}
 use Rattle.kfifo_judge.specs.declared.record.StreamFault.TheVariants as streams
-use Rattle.kfifo_judge.specs.Inputs.{IsRecordText}
+use Rattle.kfifo_judge.specs.Inputs.{BeginsRecord, IsRecordText}
 use Rattle.kfifo_judge.specs.TextFaults.{IsTextFault}
 use Rattle.kfifo_cli_texts.specs.declared.fault.Fault.{Fault}
 use Rattle.kfifo_cli_texts.specs.declared.fault.Fault.TheVariants.{Import, NoInput, NotJson, Record, Memory}
@@ -16,18 +16,6 @@ use Rattle.kfifo_cli_texts.specs.declared.fault.Fault.TheVariants.{Import, NoInp
 abbrev pub read_from : Option (Bor (List ℕ)) → Option (List ℕ) → Option (List ℕ)
 read_from None input = input
 read_from (Some path) input = None
-
--- a space, a tab, a line feed or a carriage return
-abbrev pub IsSpace : ℕ → Type 0
-IsSpace byte = (byte ≡ 32) ⊎ (byte ≡ 9) ⊎ (byte ≡ 10) ⊎ (byte ≡ 13)
-
--- The first byte that is no white space is `[`: the input is a record in JSON. Any other input with a byte is a log in
--- CSV.
-pub record BeginsRecord (bytes : List ℕ) : Type 0 where
-  pub place : ℕ
-  pub inside : place < length bytes
-  pub bracket : slice_index bytes place ≡ 91
-  pub spaces : (n : ℕ) → n < place → IsSpace (slice_index bytes n)
 
 -- The calls of an input: the record's, or the log's with what the log says of each beside them.
 abbrev pub IsCalls : List ℕ → List Call → Option (List LoggedCall) → Type 0

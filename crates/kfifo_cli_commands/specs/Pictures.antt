@@ -13,8 +13,10 @@ use Rattle.kfifo_cli_texts.specs.declared.fault.Fault.TheVariants.{TooManyDrawn,
 use Rattle.kfifo_cli_texts.specs.declared.fault.Fault.TheVariants.{NoEvidence, Memory}
 use Rattle.kfifo_cli_texts.specs.declared.requests.DrawOptions.{DrawOptions}
 use Rattle.kfifo_cli_commands.specs.declared.cut.Cut.{Cut}
-use Rattle.kfifo_cli_commands.specs.Cuts.{AsksFor, IsCutFault, IsOfLines, IsPartOf, LacksEvidence, named_by}
-use Rattle.kfifo_cli_commands.specs.Inputs.{BeginsRecord, IsCalls, IsNoCalls, logged_calls}
+use Rattle.kfifo_cli_commands.specs.Cuts.{AsksFor, IsCutFault, IsOfLines, IsPartOf, LacksEvidence}
+use Rattle.kfifo_judge.specs.Inputs.{BeginsRecord}
+use Rattle.kfifo_judge.specs.Reasons.{named_by}
+use Rattle.kfifo_cli_commands.specs.Inputs.{IsCalls, IsNoCalls, logged_calls}
 use Rattle.kfifo_cli_commands.specs.Records.{IsInput, IsOrder, IsOrderFault, IsUnread}
 
 -- the evidence for this k, where it is asked for

@@ -1,16 +1,16 @@
 //! What the commands read.
-ghost use Rattle.std.specs.Prelude.{◌≡◌, ◌≤◌, ◌⊎◌, ◌↔◌, IfErr, IfOk, IsSome, IsTrue, MatchResult};
+ghost use Rattle.std.specs.Prelude.{◌≡◌, ◌≤◌, ◌⊎◌, IfErr, IfOk, IsSome, MatchResult};
 ghost use Rattle.std.specs.Prelude.{length, option_map};
 ghost use Rattle.kfifo_model.specs.declared.reading.TheConstants.{MAX_CALLS};
 ghost use Rattle.kfifo_import.specs.Foreign.{IsJudgedLog, IsUnjudged};
 ghost use Rattle.kfifo_import.specs.Tables.{IsImported, IsUnimported};
-ghost use Rattle.kfifo_cli_commands.specs.Inputs.{BeginsRecord, IsCalls, IsNoCalls, IsSpace, logged_calls, read_from};
+ghost use Rattle.kfifo_cli_commands.specs.Inputs.{IsCalls, IsNoCalls, logged_calls, read_from};
 ghost use Rattle.kfifo_cli_commands.specs.Records.{IsInput, IsUnread, ReadsWell};
 
 use crate::progress::Progress;
 use kfifo_cli_texts::{Fault, read_file};
 use kfifo_import::{ImportFault, Log, LoggedCall, import_text, read_log_to_judge};
-use kfifo_judge::{ReadFault, Source, read_all, read_record};
+use kfifo_judge::{ReadFault, Source, begins_record, read_all, read_record};
 use kfifo_model::History;
 use std::alloc::Global;
 use std::rt::Files;
@@ -79,25 +79,6 @@ fn read_named<H: Files>(alloc: Global, files: &H, path: &str) -> Result<Vec<u8>,
         Err(ReadFault::Failed) => Err(Fault::Input),
         Err(ReadFault::TooLong) => Err(Fault::Input),
     }
-}
-
-/// Whether a byte is a space, a tab, a line feed or a carriage return.
-fn is_space(byte: u8) -> bool
-    ensures { IsTrue result ↔ IsSpace byte }
-{
-    byte == b' ' || byte == b'\t' || byte == b'\n' || byte == b'\r'
-}
-
-/// Whether the first byte that is no white space is `[`.
-fn begins_record(bytes: &[u8]) -> bool
-    ensures { IsTrue result ↔ BeginsRecord bytes.now }
-{
-    for place in 0..bytes.len() {
-        if !is_space(bytes[place]) {
-            return bytes[place] == b'[';
-        }
-    }
-    false
 }
 
 /// The log that these bytes are, to be judged. If a line is no call, the progress is told.

@@ -107,8 +107,14 @@ fn all_with(alloc: Global, lines: &[Line], free: u32) -> Result<Vec<Line>, Alloc
         .collect(alloc)
 }
 
-/// The lines, where an item that none of them puts stands for each that no call can put.
-pub(crate) fn with_puttable_items(alloc: Global, lines: &[Line]) -> Result<Vec<Line>, AllocError>
+/// Returns the lines of a log as they are to be judged: an item that none of them puts stands for each that no call can
+/// put. There are at most 65,536 lines. An error means that an allocation failed.
+///
+/// ```rust
+/// let judged = with_puttable_items(alloc, lines.as_slice())?;
+/// log_of(alloc, judged)
+/// ```
+pub fn with_puttable_items(alloc: Global, lines: &[Line]) -> Result<Vec<Line>, AllocError>
     requires { length lines.now ≤ MAX_CALLS }
     ensures { IfOk result (λ judged. AreToJudge lines.now judged.items) }
 {

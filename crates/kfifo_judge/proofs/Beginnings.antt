@@ -1,6 +1,6 @@
 -- The first byte of an input that is no white space.
 use Rattle.std.proofs.Common.{◌≡◌, ◌<◌, ◌↔◌, ℕ, List, get_or, length, arith, subst}
-use Rattle.kfifo_cli_commands.specs.Inputs.{BeginsRecord, IsSpace}
+use Rattle.kfifo_judge.specs.Inputs.{BeginsRecord, IsSpace}
 
 no_bracket : IsSpace 91 → ⊥
 no_bracket s = omega (arith, s)

@@ -10,7 +10,7 @@ use Rattle.kfifo_verdict.specs.declared.verdicts.Evidence.TheVariants.{TakenTooS
 use Rattle.kfifo_import.specs.declared.log.LoggedCall.{LoggedCall}
 use Rattle.kfifo_judge.specs.Check.{line}
 use Rattle.kfifo_judge.specs.declared.outcome.Outcome.{Outcome}
-use Rattle.kfifo_judge.specs.declared.outcome.Outcome.TheVariants.{Answered, Unordered}
+use Rattle.kfifo_judge.specs.declared.outcome.Outcome.TheVariants.{Answered, Unordered, Undecided}
 use Rattle.kfifo_judge.specs.Reasons.{reason_lines}
 
 abbrev pub at_most_line : Option ℕ → List ℕ
@@ -34,24 +34,23 @@ abbrev pub no_least_text : List LoggedCall → List Call → Evidence → List �
 no_least_text logged h found = line (codes "no order") ++ reason_lines logged h found
 
 -- There is evidence of another kind than 4 and 7, so no k has an order; it is told.
-pub record HasNoLeast (logged : List LoggedCall) (h : List Call) (text : List ℕ) (said : Outcome) : Type 0 where
+pub record HasNoLeast (logged : List LoggedCall) (h : List Call) (text : List ℕ) : Type 0 where
   pub found : Evidence
   pub first : IsFirstForEachK h found
   pub refuted : (k : ℕ) → HasOrder k h → ⊥
   pub told : text ≡ no_least_text logged h found
-  pub ended : said ≡ Unordered
 
--- There is none, and bounds of the least k are told.
-pub record HasBounds (h : List Call) (text : List ℕ) (said : Outcome) : Type 0 where
+-- There is none, and these bounds of the least k are told.
+pub record HasBounds (h : List Call) (bounds : Bounds) (text : List ℕ) : Type 0 where
   pub none : HasNoneForEachK h
-  pub bounds : Bounds
   pub are : AreBounds h bounds
   pub told : text ≡ bounds_text bounds
-  pub ended : said ≡ Answered
 
 -- this is the text and the outcome for a history
 abbrev pub IsLeastAnswer : List LoggedCall → List Call → List ℕ → Outcome → Type 0
-IsLeastAnswer logged h text said = HasNoLeast logged h text said ⊎ HasBounds h text said
+IsLeastAnswer logged h text Unordered = HasNoLeast logged h text
+IsLeastAnswer logged h text Answered = (bounds : Bounds) × HasBounds h bounds text
+IsLeastAnswer logged h text Undecided = ⊥
 
 -- what follows the evidence against one k: what `least` says, where the evidence names a k
 abbrev pub FollowsReason : List LoggedCall → List Call → Evidence → List ℕ → Type 0

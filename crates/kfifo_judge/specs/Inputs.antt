@@ -1,5 +1,5 @@
 -- The texts of records.
-use Rattle.std.specs.Prelude.{ℕ, ◌≡◌, ◌⊎◌, List, Some, None}
+use Rattle.std.specs.Prelude.{ℕ, ◌≡◌, ◌⊎◌, ◌<◌, List, Some, None, length, slice_index}
 use Rattle.std.specs.Str.{IsUtf8}
 use Rattle.serde_json.specs.Data.{Data}
 use Rattle.serde_json.specs.Read.{read}
@@ -7,6 +7,18 @@ use Rattle.kfifo_model.specs.declared.calls.Call.{Call}
 use Rattle.kfifo_model.specs.declared.history.RecordFault.{RecordFault}
 use Rattle.kfifo_model.specs.Validity.{IsHistory}
 use Rattle.kfifo_model.specs.Records.{IsRecordOf, IsReadFault}
+
+-- a space, a tab, a line feed or a carriage return
+abbrev pub IsSpace : ℕ → Type 0
+IsSpace byte = (byte ≡ 32) ⊎ (byte ≡ 9) ⊎ (byte ≡ 10) ⊎ (byte ≡ 13)
+
+-- The first byte that is no white space is `[`: the input is a record in JSON. Any other input with a byte is a log in
+-- CSV.
+pub record BeginsRecord (bytes : List ℕ) : Type 0 where
+  pub place : ℕ
+  pub inside : place < length bytes
+  pub bracket : slice_index bytes place ≡ 91
+  pub spaces : (n : ℕ) → n < place → IsSpace (slice_index bytes n)
 
 -- the bytes are a JSON text of this value
 abbrev pub IsJson : List ℕ → Data → Type 0

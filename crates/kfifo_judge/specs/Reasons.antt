@@ -1,6 +1,6 @@
 -- Why a history has no legal order.
 use Rattle.std.specs.Prelude.{ℕ, zero, suc, List, [], ◌∷◌, ◌++◌, codes, cond, decimal, eqb, length, not, slice_get, take}
-use Rattle.std.specs.Prelude.{Bool, ◌&&◌, ◌||◌}
+use Rattle.std.specs.Prelude.{Bool, ◌&&◌, ◌||◌, Option, Some, None}
 use Rattle.kfifo_model.specs.declared.calls.Call.{Call}
 use Rattle.kfifo_model.specs.declared.effects.Effect.{Effect}
 use Rattle.kfifo_model.specs.declared.effects.Effect.TheVariants.{Adds, Takes, FindsNone, Refused, Wrong}
@@ -92,7 +92,23 @@ named h (TakenTooSoon get) = get ∷ others h get
 named h (ItemsLeft empty) = empty ∷ []
 named h (OlderLeft get puts) = get ∷ []
 
+-- the calls that evidence names: the one that got an item or found none, and then the puts, or of an item that was taken
+-- too often or too soon the first 31 others that put or got it
+abbrev pub named_by : List Call → Evidence → List ℕ
+named_by h (NeverPut get) = get ∷ []
+named_by h (TakenTwice get) = get ∷ take 31 (others h get)
+named_by h (NotEmpty empty puts) = empty ∷ puts.items
+named_by h (TooYoung get puts) = get ∷ puts.items
+named_by h (TakenTooSoon get) = get ∷ take 31 (others h get)
+named_by h (ItemsLeft empty) = empty ∷ []
+named_by h (OlderLeft get puts) = get ∷ puts.items
+
 -- the evidence in a line, and a line for each of the first 32 calls that it names
 abbrev pub reason_lines : List LoggedCall → List Call → Evidence → List ℕ
 reason_lines logged h found = line (reason_text logged h found ++ puts_part found) ++ call_lines logged h
     (take 32 (named h found))
+
+-- the title of a picture: whether there is evidence for this k, and what is said of it
+abbrev pub title_text : ℕ → List LoggedCall → List Call → Option Evidence → List ℕ
+title_text k logged h (Some found) = codes "no order for k = " ++ decimal k ++ (codes ": " ++ reason_text logged h found)
+title_text k logged h None = codes "no evidence for k = " ++ decimal k

@@ -1,6 +1,7 @@
 //! The answer of the command `least`.
-ghost use Rattle.std.specs.Prelude.{ℕ, ◌≡◌, ◌++◌, ◌↔◌, List, OnOk, IfOk, IsTrue, string_bytes};
-ghost use Rattle.kfifo_judge.specs.Bounds.{FollowsReason, IsLeastAnswer, NamesNoK, bounds_text, no_least_text};
+ghost use Rattle.std.specs.Prelude.{ℕ, ◌≡◌, ◌++◌, ◌↔◌, List, OnOk, IfOk, IsTrue, MatchOption, string_bytes};
+ghost use Rattle.kfifo_judge.specs.Bounds.{FollowsReason, HasBounds, HasNoLeast, IsLeastAnswer, NamesNoK};
+ghost use Rattle.kfifo_judge.specs.Bounds.{bounds_text, no_least_text};
 
 use crate::outcome::Outcome;
 use crate::reasons::push_reasons;
@@ -48,6 +49,27 @@ fn no_least(
     Ok(text)
 }
 
+/// Returns the text of `least_text`, with the bounds; none where there is evidence for each k. An error means that an
+/// allocation failed.
+pub fn bounded_text(
+    alloc: Global,
+    history: &History,
+    logged: &[LoggedCall],
+    tries: u64,
+) -> Result<(String, Option<Bounds>), AllocError>
+    ensures { IfOk result (λ a. MatchOption a.1 (HasNoLeast logged.now history.now (string_bytes a.0))
+        (λ bounds. HasBounds history.now bounds (string_bytes a.0))) }
+{
+    let found = evidence_for_each_k(alloc, history)?;
+    if let Some(found) = &found {
+        return Ok((no_least(alloc, history, logged, found)?, None));
+    }
+    let bounds = least_k(alloc, history, tries)?;
+    let mut text = String::new(alloc);
+    push_bounds(&mut text, bounds)?;
+    Ok((text, Some(bounds)))
+}
+
 /// Returns between which bounds the least k lies for which a history has a legal order, as a text; or `no order` with
 /// the evidence and the calls that it names, where there is evidence for each k. `logged` has the line and the
 /// times of each call of a log, and nothing of a record. `tries` is the number of choices that each search for an order
@@ -60,13 +82,12 @@ pub fn least_text(
 ) -> Result<(String, Outcome), AllocError>
     ensures { IfOk result (λ a. IsLeastAnswer logged.now history.now (string_bytes a.0) a.1) }
 {
-    let found = evidence_for_each_k(alloc, history)?;
-    if let Some(found) = &found {
-        return Ok((no_least(alloc, history, logged, found)?, Outcome::Unordered));
-    }
-    let mut text = String::new(alloc);
-    push_bounds(&mut text, least_k(alloc, history, tries)?)?;
-    Ok((text, Outcome::Answered))
+    let (text, bounds) = bounded_text(alloc, history, logged, tries)?;
+    let said = match bounds {
+        Some(_) => Outcome::Answered,
+        None => Outcome::Unordered,
+    };
+    Ok((text, said))
 }
 
 /// Adds what `least` says, behind evidence that is about one k alone.

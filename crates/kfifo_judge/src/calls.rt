@@ -214,9 +214,9 @@ pub(crate) fn push_call(
     text.push('\n')
 }
 
-/// Returns the first of these calls, so many as have a line behind another call's: 31.
+/// The first of these calls, as many as have a line after another call's: 31.
 #[tactic(auto, using(std::proofs::lemmas::List::take_min))]
-pub fn with_lines(calls: &[usize]) -> &[usize]
+pub(crate) fn with_lines(calls: &[usize]) -> &[usize]
     ensures { result.now ≡ take 31 calls.now }
 {
     let few = MAX_OTHERS.min(calls.len());

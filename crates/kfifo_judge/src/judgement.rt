@@ -4,7 +4,9 @@ ghost use Rattle.kfifo_judge.specs.Check.{line};
 ghost use Rattle.kfifo_model.specs.Histories.{IsLegal};
 ghost use Rattle.kfifo_model.specs.Ranks.{ranks_of};
 ghost use Rattle.kfifo_judge.specs.Bounds.{FollowsReason};
-ghost use Rattle.kfifo_judge.specs.Judgements.{IsJudgeAnswer, IsNoOrderText, IsUndecidedText, about, legal_text};
+ghost use Rattle.kfifo_verdict.specs.Judging.{IsJudgement};
+ghost use Rattle.kfifo_judge.specs.Judgements.{IsJudgeAnswer, IsJudgementText, IsNoOrderText, IsUndecidedText};
+ghost use Rattle.kfifo_judge.specs.Judgements.{about, legal_text};
 ghost use Rattle.kfifo_judge.specs.Judgements.{counts_line, outcome, shown_line, stuck_text, worst_line};
 ghost use Rattle.kfifo_judge.specs.Numbers.{greatest};
 ghost use Rattle.kfifo_judge.specs.Repeats.{IsRepeatNote};
@@ -159,6 +161,28 @@ fn outcome_of(judgement: &Judgement) -> Outcome
     }
 }
 
+/// Returns a verdict on a history, as `judge_text` says it, with the verdict. An error means that an allocation failed.
+pub fn judged_text(
+    alloc: Global,
+    history: &History,
+    logged: &[LoggedCall],
+    k: u32,
+    tries: u64,
+    show: bool,
+) -> Result<(String, Judgement), AllocError>
+    requires { (1 ≤ k) × (k ≤ 64) }
+    ensures judged { IfOk result (λ a. IsJudgement k history.now a.1) }
+    ensures told { IfOk result (λ a. IsJudgementText k show logged.now history.now a.1 (string_bytes a.0)) }
+{
+    let judgement = judge(alloc, history, k, tries)?;
+    let text = match &judgement {
+        Judgement::Legal(order) => legal(alloc, history, k, order, show)?,
+        Judgement::NoOrder(found) => no_order(alloc, history, logged, k, tries, found)?,
+        Judgement::Undecided(stuck) => undecided(alloc, history, k, *stuck)?,
+    };
+    Ok((text, judgement))
+}
+
 /// Returns a verdict on a history for a queue that may give any of its k oldest items, 1 to 64, as a text: `legal` with
 /// the greatest rank of the order that was found, and the order itself where it is to be shown; or `no order` with the
 /// evidence, the calls that it names and, where it is about this k alone, bounds of the least k; or `undecided` with
@@ -176,11 +200,6 @@ pub fn judge_text(
     requires { (1 ≤ k) × (k ≤ 64) }
     ensures { IfOk result (λ a. IsJudgeAnswer k show logged.now history.now (string_bytes a.0) a.1) }
 {
-    let judgement = judge(alloc, history, k, tries)?;
-    let text = match &judgement {
-        Judgement::Legal(order) => legal(alloc, history, k, order, show)?,
-        Judgement::NoOrder(found) => no_order(alloc, history, logged, k, tries, found)?,
-        Judgement::Undecided(stuck) => undecided(alloc, history, k, *stuck)?,
-    };
+    let (text, judgement) = judged_text(alloc, history, logged, k, tries, show)?;
     Ok((text, outcome_of(&judgement)))
 }

@@ -13,13 +13,12 @@ mod reasons;
 mod record;
 mod streams;
 
-pub use bounds::least_text;
-pub use calls::with_lines;
+pub use bounds::{bounded_text, least_text};
 pub use check::check_stream;
-pub use judgement::judge_text;
+pub use judgement::{judge_text, judged_text};
 pub use measure::measure_stream;
 pub use numbers::push_numbers;
 pub use outcome::Outcome;
-pub use reasons::{others_of, push_reason};
-pub use record::{StreamFault, read_record};
+pub use reasons::{named_calls, title_of};
+pub use record::{StreamFault, begins_record, read_record};
 pub use streams::{FromStd, MAX_BYTES, ReadFault, Sink, Source, read_all, write_all};

@@ -1,10 +1,11 @@
 //! Why a history has no legal order: the evidence, and the calls that it names.
-ghost use Rattle.std.specs.Prelude.{◌≡◌, ◌++◌, IfOk, OnOk, string_bytes, take};
+ghost use Rattle.std.specs.Prelude.{◌≡◌, ◌++◌, ◌∷◌, IfOk, OnOk, string_bytes, take};
 ghost use Rattle.kfifo_judge.specs.Calls.{call_line, call_lines};
 ghost use Rattle.kfifo_judge.specs.Reasons as specs;
-ghost use Rattle.kfifo_judge.specs.Reasons.{got_item, named, others, puts_part, reason_lines, reason_text};
+ghost use Rattle.kfifo_judge.specs.Reasons.{title_text};
+ghost use Rattle.kfifo_judge.specs.Reasons.{got_item, named, named_by, others, puts_part, reason_lines, reason_text};
 
-use crate::calls::{effect_at, item_in, logged_at, push_call, push_calls};
+use crate::calls::{effect_at, item_in, logged_at, push_call, push_calls, with_lines};
 use crate::numbers::push_joined;
 use kfifo_import::LoggedCall;
 use kfifo_model::{Effect, History};
@@ -42,7 +43,7 @@ fn older_words(count: usize) -> &'static str
 
 /// Adds what the evidence says, but for the numbers of the puts that it names. `logged` has what the log says of each
 /// call, where the history is the record of a log.
-pub fn push_reason(
+fn push_reason(
     text: &mut String,
     history: &History,
     logged: &[LoggedCall],
@@ -135,8 +136,8 @@ fn is_other(history: &History, get: usize, number: usize) -> bool
     number != get && moves(effect_at(history, number), item)
 }
 
-/// Returns the other calls that put or got the item that a call got, by rising number.
-pub fn others_of(alloc: Global, history: &History, get: usize) -> Result<Vec<usize>, AllocError>
+/// The other calls that put or got the item that a call got, by rising number.
+fn others_of(alloc: Global, history: &History, get: usize) -> Result<Vec<usize>, AllocError>
     ensures { IfOk result (λ calls. calls.items ≡ others history.now get) }
 {
     let mut calls = Vec::new(alloc);
@@ -208,4 +209,72 @@ pub(crate) fn push_reasons(
     push_puts_named(text, found)?;
     text.push('\n')?;
     push_named(alloc, text, history, logged, found)
+}
+
+/// Adds a get, and the first of the others that put or got its item.
+fn add_moves(
+    alloc: Global,
+    calls: &mut Vec<usize>,
+    history: &History,
+    get: usize,
+) -> Result<(), AllocError>
+    ensures { OnOk result (calls.new.items ≡ calls.old.items ++ (get ∷ take 31 (others history.now get))) }
+{
+    let others = others_of(alloc, history, get)?;
+    calls.push(get)?;
+    calls.extend_from_slice(with_lines(others.as_slice()))
+}
+
+/// Returns the calls that evidence names: the one that got an item or found none, and then the puts, or of an item that
+/// was taken too often or too soon the first others that put or got it, 31 at most. An error means that an allocation
+/// failed.
+pub fn named_calls(
+    alloc: Global,
+    history: &History,
+    found: &Evidence,
+) -> Result<Vec<usize>, AllocError>
+    ensures { IfOk result (λ calls. calls.items ≡ named_by history.now found.now) }
+{
+    let mut calls = Vec::new(alloc);
+    match found {
+        Evidence::NeverPut(get) => calls.push(*get)?,
+        Evidence::TakenTwice(get) => add_moves(alloc, &mut calls, history, *get)?,
+        Evidence::TakenTooSoon(get) => add_moves(alloc, &mut calls, history, *get)?,
+        Evidence::ItemsLeft(empty) => calls.push(*empty)?,
+        Evidence::NotEmpty { empty, puts } => {
+            calls.push(*empty)?;
+            calls.extend_from_slice(puts.as_slice())?;
+        }
+        Evidence::TooYoung { get, puts } => {
+            calls.push(*get)?;
+            calls.extend_from_slice(puts.as_slice())?;
+        }
+        Evidence::OlderLeft { get, puts } => {
+            calls.push(*get)?;
+            calls.extend_from_slice(puts.as_slice())?;
+        }
+    }
+    Ok(calls)
+}
+
+/// Returns the title of a picture of evidence: that there is no order for this k, and why, or that there is no evidence.
+/// An error means that an allocation failed.
+pub fn title_of(
+    alloc: Global,
+    history: &History,
+    logged: &[LoggedCall],
+    k: u32,
+    found: &Option<Evidence>,
+) -> Result<String, AllocError>
+    ensures { IfOk result (λ text. string_bytes text ≡ title_text k logged.now history.now found.now) }
+{
+    let mut text = String::new(alloc);
+    match found {
+        Some(found) => {
+            write!(text, "no order for k = {k}: ")?;
+            push_reason(&mut text, history, logged, found)?;
+        }
+        None => write!(text, "no evidence for k = {k}")?,
+    }
+    Ok(text)
 }

@@ -1,8 +1,7 @@
 //! The command `draw`: a picture of a record or a log, or of a part of it.
-ghost use Rattle.std.specs.Prelude.{◌≡◌, ◌≢◌, ◌≤◌, ◌⊎◌, ◌++◌, ◌∷◌, None, true, IfErr, IfOk, IsSome};
-ghost use Rattle.std.specs.Prelude.{MatchResult, OnOk, length, option_map, take};
-ghost use Rattle.kfifo_judge.specs.Reasons.{others};
-ghost use Rattle.kfifo_cli_commands.specs.Cuts.{LacksEvidence, named_by};
+ghost use Rattle.std.specs.Prelude.{◌≡◌, ◌≢◌, ◌≤◌, ◌⊎◌, None, true, IfErr, IfOk, IsSome};
+ghost use Rattle.std.specs.Prelude.{MatchResult, length, option_map};
+ghost use Rattle.kfifo_cli_commands.specs.Cuts.{LacksEvidence};
 ghost use Rattle.kfifo_cli_commands.specs.Inputs.{read_from};
 ghost use Rattle.kfifo_cli_commands.specs.Pictures.{HasFew, IsDraw, IsDrawRefusal, IsNoPicture, IsNotDrawn};
 ghost use Rattle.kfifo_cli_commands.specs.Pictures.{IsPicture, IsPictureOf};
@@ -15,11 +14,10 @@ use crate::progress::Progress;
 use kfifo_cli_texts::{DrawOptions, Fault, order_of};
 use kfifo_draw::{DEFAULT_WIDTH, DrawFault, Drawing, Marking, Part, Style, draw};
 use kfifo_import::LoggedCall;
-use kfifo_judge::{Source, others_of, push_reason, with_lines};
+use kfifo_judge::{Source, named_calls, title_of};
 use kfifo_model::History;
-use kfifo_verdict::{Evidence, evidence};
-use std::alloc::{AllocError, Global};
-use std::fmt::Write;
+use kfifo_verdict::evidence;
+use std::alloc::Global;
 use std::rt::Files;
 
 /// The picture of the calls of the file, or of the input where no file is named: of all of them, or of the part that
@@ -147,7 +145,7 @@ fn picture_of_evidence(
         (IsNotDrawn k true cut history.now logged.now) }
 {
     let found = evidence(alloc, history, k)?;
-    let reason = reason_of(alloc, history, logged, k, &found)?;
+    let reason = title_of(alloc, history, logged, k, &found)?;
     let why = reason.as_str();
     let Some(found) = found else {
         let none: Vec<usize> = Vec::new(alloc);
@@ -216,64 +214,4 @@ fn marked<'x>(
             logged,
         },
     )
-}
-
-/// Adds a get, and the first of the others that put or got its item.
-fn push_moves(
-    alloc: Global,
-    calls: &mut Vec<usize>,
-    history: &History,
-    get: usize,
-) -> Result<(), AllocError>
-    ensures { OnOk result (calls.new.items ≡ calls.old.items ++ (get ∷ take 31 (others history.now get))) }
-{
-    let others = others_of(alloc, history, get)?;
-    calls.push(get)?;
-    calls.extend_from_slice(with_lines(others.as_slice()))
-}
-
-/// The calls that evidence names: the one that got an item or found none, and then the puts, or of an item that was
-/// taken too often or too soon the first others that put or got it.
-fn named_calls(alloc: Global, history: &History, found: &Evidence) -> Result<Vec<usize>, AllocError>
-    ensures { IfOk result (λ calls. calls.items ≡ named_by history.now found.now) }
-{
-    let mut calls = Vec::new(alloc);
-    match found {
-        Evidence::NeverPut(get) => calls.push(*get)?,
-        Evidence::TakenTwice(get) => push_moves(alloc, &mut calls, history, *get)?,
-        Evidence::TakenTooSoon(get) => push_moves(alloc, &mut calls, history, *get)?,
-        Evidence::ItemsLeft(empty) => calls.push(*empty)?,
-        Evidence::NotEmpty { empty, puts } => {
-            calls.push(*empty)?;
-            calls.extend_from_slice(puts.as_slice())?;
-        }
-        Evidence::TooYoung { get, puts } => {
-            calls.push(*get)?;
-            calls.extend_from_slice(puts.as_slice())?;
-        }
-        Evidence::OlderLeft { get, puts } => {
-            calls.push(*get)?;
-            calls.extend_from_slice(puts.as_slice())?;
-        }
-    }
-    Ok(calls)
-}
-
-/// Why the calls of the evidence are marked, in a line.
-fn reason_of(
-    alloc: Global,
-    history: &History,
-    logged: &[LoggedCall],
-    k: u32,
-    found: &Option<Evidence>,
-) -> Result<String, AllocError> {
-    let mut text = String::new(alloc);
-    match found {
-        Some(found) => {
-            write!(text, "no order for k = {k}: ")?;
-            push_reason(&mut text, history, logged, found)?;
-        }
-        None => write!(text, "no evidence for k = {k}")?,
-    }
-    Ok(text)
 }

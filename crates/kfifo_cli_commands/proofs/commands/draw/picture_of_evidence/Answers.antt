@@ -2,7 +2,8 @@ use Rattle.std.proofs.Common.{◌≡◌, ◌∙◌, ℕ, true, List, MatchResult
 use Rattle.kfifo_verdict.specs.Judging.{HasNoEvidence}
 use Rattle.kfifo_verdict.specs.declared.verdicts.Evidence.{Evidence}
 use Rattle.kfifo_cli_texts.specs.Faults.{picture_fault}
-use Rattle.kfifo_cli_commands.specs.Cuts.{IsPartOf, named_by}
+use Rattle.kfifo_judge.specs.Reasons.{named_by}
+use Rattle.kfifo_cli_commands.specs.Cuts.{IsPartOf}
 use Rattle.kfifo_cli_commands.specs.Pictures.{HasFew, IsNotDrawn, IsPictureOf, IsSought}
 use Rattle.kfifo_cli_commands.proofs.Picturing.{found_refused, none_refused}
 use Rattle.kfifo_cli_commands.proofs.commands.draw.picture_of_evidence.Goals.{in-Ok, in-Err}

@@ -1,0 +1,54 @@
+-- The log that the calls of C are.
+use Rattle.std.proofs.Common.{ℕ, ◌≡◌, ◌∙◌, ◌<◌, ◌≤◌, ◌+◌, List, MatchResult, None, Option, Result, Ok, Err, Some, arith, length, map}
+use Rattle.std.specs.Prelude.{position}
+use Rattle.std.specs.List.{enumerate_from}
+use Rattle.std.proofs.lemmas.List.{length-map}
+use Rattle.std.proofs.lemmas.List.FromFn.{length-enumerate_from}
+use Rattle.std.proofs.lemmas.List.Quantifiers.{position-Some}
+use Rattle.kfifo_import.specs.declared.log.ImportFault.{ImportFault}
+use Rattle.kfifo_import.specs.declared.log.ImportFault.TheVariants as faults
+use Rattle.kfifo_import.specs.declared.log.Line.{Line}
+use Rattle.kfifo_import.specs.declared.log.Log.{Log}
+use Rattle.kfifo_import.specs.Foreign.{AreToJudge, line_with}
+use Rattle.kfifo_import.specs.Logs.{IsImportFault, IsLogOf}
+use Rattle.kfifo_model.specs.declared.reading.TheConstants.{MAX_CALLS}
+use Rattle.kfifo_judge_c.specs.declared.calls.LogCall.{LogCall}
+use Rattle.kfifo_judge_c.specs.Lines.{IsCallsFault, IsLogOfCalls, is_unknown, line_of, lines_of}
+
+-- there are as many lines as calls
+pub as_many : (calls : List LogCall) → length (lines_of calls) ≡ length calls
+as_many calls =
+    length-map (enumerate_from 0 calls) (λ (e : ℕ × LogCall). line_of (e.0 + 2) e.1) ∙ length-enumerate_from 0 calls
+
+pub few : (calls : List LogCall) → length calls ≤ MAX_CALLS → length (lines_of calls) ≤ MAX_CALLS
+few calls small =
+    let same = as_many calls in
+    omega (arith, same, small)
+
+-- where the first unknown call would stand past the last one that may be there, there is none
+pub all_known : (calls : List LogCall) (place : ℕ) → position is_unknown calls ≡ Some place → MAX_CALLS ≤ place
+    → length calls ≤ MAX_CALLS → position is_unknown calls ≡ None
+all_known calls place is far small =
+    let none : LogCall = record { first = 0; last = 0; item = 0; thread = 0; op = 0; answer = 0 } in
+    let inside = (position-Some is_unknown calls place none is).0 in
+    absurd (omega (arith, inside, small, far))
+
+-- the log of the lines is that of the calls
+pub of_calls : (calls : List LogCall) (judged : List Line) (r : Result Log ImportFault) → position is_unknown calls ≡ None
+    → AreToJudge (lines_of calls) judged
+    → MatchResult r (λ log. IsLogOf judged log.history log.calls.items) (IsImportFault judged)
+    → MatchResult r (λ log. IsLogOfCalls calls log.history log.calls.items) (IsCallsFault calls)
+of_calls calls judged (Ok log) known to_judge is =
+    record { known = known; judged = judged; to_judge = to_judge; log = is }
+of_calls calls judged (Err (faults.Csv n)) known to_judge is = absurd is
+of_calls calls judged (Err faults.TooMany) known to_judge is =
+    let mapped = length-map (lines_of calls) (line_with to_judge.0) in
+    let same = as_many calls in
+    let many : MAX_CALLS < length (map (line_with to_judge.0) (lines_of calls)) = rw to_judge.3 at is in
+    omega (arith, mapped, same, many)
+of_calls calls judged (Err (faults.NotACall n)) known to_judge is = absurd is
+of_calls calls judged (Err (faults.NumberOutOfRange n)) known to_judge is = (judged, to_judge, is)
+of_calls calls judged (Err (faults.WrongAnswer n)) known to_judge is = (judged, to_judge, is)
+of_calls calls judged (Err (faults.EndsEarly n)) known to_judge is = (judged, to_judge, is)
+of_calls calls judged (Err (faults.Overlap n)) known to_judge is = (judged, to_judge, is)
+of_calls calls judged (Err faults.Memory) known to_judge is = tt

@@ -1,0 +1,4 @@
+pub mod Lines
+pub mod Pictures
+pub mod Reports
+pub mod Texts

@@ -1,0 +1,117 @@
+-- What an export answers: a report, handed to C by its status and what it writes.
+use Rattle.std.specs.Prelude.{ℕ, ◌≡◌, ◌≤◌, ◌⊎◌, ◌++◌, List, [], Option, Some, None, Bool, false, drop, length, string_bytes, take}
+use Rattle.std.specs.Prelude.{unwrap_or}
+use Rattle.kfifo_model.specs.declared.calls.Call.{Call}
+use Rattle.kfifo_import.specs.declared.log.ImportFault.{ImportFault}
+use Rattle.kfifo_import.specs.declared.log.ImportFault.TheVariants.{Csv, TooMany, NotACall, NumberOutOfRange}
+use Rattle.kfifo_import.specs.declared.log.ImportFault.TheVariants.{WrongAnswer, EndsEarly, Overlap, Memory}
+use Rattle.kfifo_import.specs.declared.log.LoggedCall.{LoggedCall}
+use Rattle.kfifo_verdict.specs.declared.verdicts.Bounds.{Bounds}
+use Rattle.kfifo_verdict.specs.declared.verdicts.Judgement.{Judgement}
+use Rattle.kfifo_verdict.specs.declared.verdicts.Judgement.TheVariants.{Legal, NoOrder, Undecided}
+use Rattle.kfifo_verdict.specs.Judging.{IsJudgement}
+use Rattle.kfifo_judge.specs.Bounds.{HasBounds, HasNoLeast}
+use Rattle.kfifo_judge.specs.Judgements.{IsJudgementText}
+use Rattle.kfifo_judge.specs.Reasons.{named_by}
+use Rattle.kfifo_judge_c.specs.declared.calls.LogCall.{LogCall}
+use Rattle.kfifo_judge_c.specs.declared.report.Found.{Found}
+use Rattle.kfifo_judge_c.specs.declared.report.Report.{Report}
+use Rattle.kfifo_judge_c.specs.declared.status.TheConstants.{LEGAL, NO_ORDER, UNDECIDED, FAULT, BAD_CALL, NO_MEMORY}
+use Rattle.kfifo_judge_c.specs.Lines.{IsCallsFault, IsLogOfCalls}
+
+-- As much of a list as there is room for is written over what was there.
+abbrev pub Writes : List ℕ → List ℕ → List ℕ → Type 0
+Writes out old new = new ≡ take (length old) out ++ drop (length out) old
+
+-- the numbers that C gets
+abbrev pub found_of : Report → Found
+found_of r = record {
+  place = r.place;
+  length = length (string_bytes r.text);
+  named = length r.named.items;
+  fault = r.fault;
+  at_least = r.at_least;
+  at_most = r.at_most;
+}
+
+-- A report is handed over: its status, as much of its text and of the calls that it names as there is room for, and all
+-- of its numbers.
+pub record IsHanded (r : Report) (status : ℕ) (old_text new_text old_named new_named : List ℕ) (found : Found)
+    : Type 0 where
+  pub status_is : status ≡ r.status
+  pub text : Writes (string_bytes r.text) old_text new_text
+  pub named : Writes r.named.items old_named new_named
+  pub found_is : found ≡ found_of r
+
+abbrev pub judgement_status : Judgement → ℕ
+judgement_status (Legal order) = LEGAL
+judgement_status (NoOrder found) = NO_ORDER
+judgement_status (Undecided stuck) = UNDECIDED
+
+-- the calls that a verdict names
+abbrev pub named_in : List Call → Judgement → List ℕ
+named_in h (Legal order) = []
+named_in h (NoOrder found) = named_by h found
+named_in h (Undecided stuck) = []
+
+-- the number of a fault of a log, 0 of one that is no table
+abbrev pub fault_number : ImportFault → ℕ
+fault_number (Csv n) = 0
+fault_number TooMany = 2
+fault_number (NotACall n) = 3
+fault_number (NumberOutOfRange n) = 4
+fault_number (WrongAnswer n) = 5
+fault_number (EndsEarly n) = 6
+fault_number (Overlap n) = 8
+fault_number Memory = 0
+
+-- the line of a fault of a log
+abbrev pub fault_line : ImportFault → ℕ
+fault_line (Csv n) = n
+fault_line TooMany = 0
+fault_line (NotACall n) = n
+fault_line (NumberOutOfRange n) = n
+fault_line (WrongAnswer n) = n
+fault_line (EndsEarly n) = n
+fault_line (Overlap n) = n
+fault_line Memory = 0
+
+-- The report is the verdict on a history, as `kfifo judge` prints it.
+pub record IsVerdictOn (k : ℕ) (h : List Call) (logged : List LoggedCall) (r : Report) : Type 0 where
+  pub judgement : Judgement
+  pub judged : IsJudgement k h judgement
+  pub told : IsJudgementText k false logged h judgement (string_bytes r.text)
+  pub status_is : r.status ≡ judgement_status judgement
+  pub named_are : r.named.items ≡ named_in h judgement
+  pub no_fault : (r.fault ≡ 0) × (r.place ≡ 0)
+
+-- The report is of bounds of the least k, as `kfifo least` prints them.
+pub record IsLeastOn (h : List Call) (logged : List LoggedCall) (r : Report) : Type 0 where
+  pub no_fault : (r.fault ≡ 0) × (r.place ≡ 0)
+  pub none_named : r.named.items ≡ []
+  pub least : ((r.status ≡ NO_ORDER) × HasNoLeast logged h (string_bytes r.text) × (r.at_least ≡ 0) × (r.at_most ≡ 0))
+      ⊎ ((r.status ≡ LEGAL) × ((bounds : Bounds) × HasBounds h bounds (string_bytes r.text)
+      × (r.at_least ≡ bounds.at_least) × (r.at_most ≡ unwrap_or bounds.at_most 0)))
+
+-- the report is of this fault of a log
+pub record IsFaultReport (fault : ImportFault) (r : Report) : Type 0 where
+  pub status_is : r.status ≡ FAULT
+  pub number : r.fault ≡ fault_number fault
+  pub line : r.place ≡ fault_line fault
+  pub none_named : r.named.items ≡ []
+
+-- what is found of these calls: P of their log, or the fault that they have
+abbrev pub IsFoundOf : (List Call → List LoggedCall → Report → Type 0) → List LogCall → Report → Type 0
+IsFoundOf P calls r = ((h : List Call) × (logged : List LoggedCall) × IsLogOfCalls calls h logged × P h logged r)
+    ⊎ ((fault : ImportFault) × IsCallsFault calls fault × IsFaultReport fault r)
+
+-- An export's answer: BAD_CALL where an argument is out of range, NO_MEMORY where an allocation failed, with nothing
+-- written, or a report of which P holds.
+abbrev pub Answers : Type 0 → (Report → Type 0) → ℕ → List ℕ → List ℕ → List ℕ → List ℕ → Found → Found → Type 0
+Answers InRange P status old_text new_text old_named new_named old_found new_found =
+    ((status ≡ BAD_CALL) × ¬ InRange × (new_text ≡ old_text) × (new_named ≡ old_named) × (new_found ≡ old_found))
+    ⊎ (InRange × (status ≡ NO_MEMORY) × (new_text ≡ old_text) × (new_named ≡ old_named) × (new_found ≡ old_found))
+    ⊎ (InRange × ((r : Report) × P r × IsHanded r status old_text new_text old_named new_named new_found))
+
+abbrev pub IsK : ℕ → Type 0
+IsK k = (1 ≤ k) × (k ≤ 64)

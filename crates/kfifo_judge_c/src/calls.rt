@@ -1,0 +1,186 @@
+//! Calls as C has them, and the log that they are.
+ghost use Rattle.std.specs.Prelude.{◌≡◌, IfOk, MatchResult, position};
+ghost use Rattle.kfifo_judge_c.specs.Lines as specs;
+ghost use Rattle.kfifo_judge_c.specs.Lines.{IsCallsFault, IsLogOfCalls, end_of, item_of, op_of, put_answer};
+ghost use Rattle.kfifo_judge_c.specs.Lines.{answer_of, is_unknown, small, take_answer};
+
+use kfifo_import::{ImportFault, Line, Log, log_of, with_puttable_items};
+use kfifo_model::{Answer, Call, End, MAX_CALLS, Op};
+use std::alloc::{AllocError, Global};
+
+/// The operation of a put.
+pub(crate) const PUT: u8 = 0;
+/// The operation of a get.
+pub(crate) const GET: u8 = 1;
+
+/// The call has not returned.
+pub(crate) const UNFINISHED: u8 = 0;
+/// The item is in the queue.
+pub(crate) const DONE: u8 = 1;
+/// The queue was full.
+pub(crate) const FULL: u8 = 2;
+/// An item was taken.
+pub(crate) const GOT: u8 = 3;
+/// The queue was empty.
+pub(crate) const EMPTY: u8 = 4;
+/// The call gave up because of others.
+pub(crate) const BUSY: u8 = 5;
+/// The queue can never again take such a call.
+pub(crate) const WORN: u8 = 6;
+
+/// An item that is out of every range, for one that is too great for 32 bits.
+pub(crate) const TOO_GREAT: u32 = 4_294_967_295;
+
+/// A call of a log, as C has it: `kfifo_judge_call` in `c/kfifo_judge.h`.
+#[repr(C)]
+#[derive(Clone, Copy)]
+pub struct LogCall {
+    /// When it began.
+    pub first: u64,
+    /// When it ended; of an unfinished call it is not read.
+    pub last: u64,
+    /// The item of a put, or that a get got; of other calls it is not read.
+    pub item: u64,
+    /// The thread.
+    pub thread: u32,
+    /// PUT or GET.
+    pub op: u8,
+    /// What it answered.
+    pub answer: u8,
+}
+
+/// An item as a number of 32 bits.
+fn small(item: u64) -> u32
+    ensures { result ≡ small item }
+{
+    if item < 4_294_967_295 {
+        item as u32
+    } else {
+        TOO_GREAT
+    }
+}
+
+/// The answer of a put. For one that no put returns stands Empty, by which the record refuses the call.
+fn put_answer(answer: u8) -> Answer
+    ensures { result ≡ put_answer answer }
+{
+    match answer {
+        DONE => Answer::Done,
+        FULL => Answer::Full,
+        BUSY => Answer::Busy,
+        WORN => Answer::Worn,
+        _ => Answer::Empty,
+    }
+}
+
+/// The answer of a get. For one that no get returns stands Done, by which the record refuses the call.
+fn take_answer(answer: u8, item: u64) -> Answer
+    ensures { result ≡ take_answer answer item }
+{
+    match answer {
+        GOT => Answer::Got(small(item)),
+        EMPTY => Answer::Empty,
+        BUSY => Answer::Busy,
+        WORN => Answer::Worn,
+        _ => Answer::Done,
+    }
+}
+
+/// The answer of a call that has ended.
+fn answer_of(call: LogCall) -> Answer
+    ensures { result ≡ answer_of call }
+{
+    if call.op == PUT {
+        put_answer(call.answer)
+    } else {
+        take_answer(call.answer, call.item)
+    }
+}
+
+/// What a call was to do.
+fn op_of(call: LogCall) -> Op
+    ensures { result ≡ op_of call }
+{
+    if call.op == PUT {
+        Op::Enqueue(small(call.item))
+    } else {
+        Op::Dequeue
+    }
+}
+
+/// How a call ended, if it did.
+fn end_of(call: LogCall) -> Option<End>
+    ensures { result ≡ end_of call }
+{
+    if call.answer == UNFINISHED {
+        None
+    } else {
+        Some(End {
+            last: call.last,
+            answer: answer_of(call),
+        })
+    }
+}
+
+/// The item that stands in the line of a call.
+fn item_of(call: LogCall) -> Option<u64>
+    ensures { result ≡ item_of call }
+{
+    if call.op == PUT || call.answer == GOT {
+        Some(call.item)
+    } else {
+        None
+    }
+}
+
+/// The line with this number of a log.
+fn line_of(number: u64, call: LogCall) -> Line
+    ensures { result ≡ specs.line_of number call }
+{
+    Line {
+        number,
+        call: Call {
+            thread: call.thread,
+            op: op_of(call),
+            first: call.first,
+            end: end_of(call),
+        },
+        item: item_of(call),
+    }
+}
+
+/// The lines of a log that has a line for each call, after its header.
+fn lines_of(alloc: Global, calls: &[LogCall]) -> Result<Vec<Line>, AllocError>
+    ensures { IfOk result (λ lines. lines.items ≡ specs.lines_of calls.now) }
+{
+    calls
+        .iter()
+        .enumerate()
+        .map(|(place, call)| line_of(place as u64 + 2, *call))
+        .collect(alloc)
+}
+
+/// The first call that is neither a put nor a get.
+fn first_unknown(calls: &[LogCall]) -> Option<usize>
+    ensures { result ≡ position is_unknown calls.now }
+{
+    calls.iter().position(|call| call.op > GET)
+}
+
+/// The log that these calls are, to be judged.
+pub(crate) fn log_from(alloc: Global, calls: &[LogCall]) -> Result<Log, ImportFault>
+    ensures { MatchResult result (λ log. IsLogOfCalls calls.now log.history log.calls.items)
+        (IsCallsFault calls.now) }
+{
+    if let Some(place) = first_unknown(calls) {
+        if place < MAX_CALLS {
+            return Err(ImportFault::NotACall(place as u64 + 2));
+        }
+    }
+    if calls.len() > MAX_CALLS {
+        return Err(ImportFault::TooMany);
+    }
+    let lines = lines_of(alloc, calls)?;
+    let judged = with_puttable_items(alloc, lines.as_slice())?;
+    log_of(alloc, judged)
+}

@@ -1,0 +1,93 @@
+//! What an export finds, and how it is handed to C.
+ghost use Rattle.std.specs.Prelude.{◌≡◌, []};
+ghost use Rattle.kfifo_judge_c.specs.Reports.{IsHanded, Writes};
+
+use std::alloc::Global;
+
+/// What is found of some calls.
+#[derive(Drop)]
+pub struct Report {
+    /// The status that is returned.
+    pub status: u32,
+    /// The number of a fault, or 0.
+    pub fault: u32,
+    /// The line of a log or the call of a record that has the fault, or 0.
+    pub place: u64,
+    /// What is said.
+    pub text: String,
+    /// The calls that the reason names.
+    pub named: Vec<usize>,
+    /// The least k is no less, or 0.
+    pub at_least: usize,
+    /// The least k is no greater, or 0.
+    pub at_most: u32,
+}
+
+/// The numbers of a report, as C has them.
+#[repr(C)]
+#[derive(Clone, Copy)]
+pub struct Found {
+    /// The line of a log or the call of a record that has the fault, or 0.
+    pub place: u64,
+    /// How long the whole text is.
+    pub length: usize,
+    /// How many calls the reason names.
+    pub named: usize,
+    /// The number of a fault, or 0.
+    pub fault: u32,
+    /// The least k is no less, or 0.
+    pub at_least: usize,
+    /// The least k is no greater, or 0.
+    pub at_most: u32,
+}
+
+impl Report {
+    /// A report with nothing but a status and a text.
+    pub(crate) fn plain(alloc: Global, status: u32, text: String) -> Report
+        ensures { (result.status ≡ status) × (result.text ≡ text) × (result.fault ≡ 0) × (result.place ≡ 0)
+            × (result.named.items ≡ []) × (result.at_least ≡ 0) × (result.at_most ≡ 0) }
+    {
+        Report {
+            status,
+            fault: 0,
+            place: 0,
+            text,
+            named: Vec::new(alloc),
+            at_least: 0,
+            at_most: 0,
+        }
+    }
+
+    /// Writes as much of the text and of the named calls as there is room for, and all numbers, and returns the status.
+    pub(crate) fn hand_over(&self, text: &mut [u8], named: &mut [usize], found: &mut Found) -> u32
+        ensures { IsHanded self.now result text.old text.new named.old named.new found.new }
+    {
+        write_bytes(text, self.text.as_bytes());
+        write_numbers(named, self.named.as_slice());
+        *found = Found {
+            place: self.place,
+            length: self.text.len(),
+            named: self.named.len(),
+            fault: self.fault,
+            at_least: self.at_least,
+            at_most: self.at_most,
+        };
+        self.status
+    }
+}
+
+/// Writes as many of these bytes as there is room for, from the beginning on.
+fn write_bytes(out: &mut [u8], from: &[u8])
+    ensures { Writes from.now out.old out.new }
+{
+    let count = from.len().min(out.len());
+    out[..count].copy_from_slice(&from[..count]);
+}
+
+/// Writes as many of these numbers as there is room for, from the beginning on.
+fn write_numbers(out: &mut [usize], from: &[usize])
+    ensures { Writes from.now out.old out.new }
+{
+    let count = from.len().min(out.len());
+    out[..count].copy_from_slice(&from[..count]);
+}
