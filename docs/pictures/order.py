@@ -83,7 +83,9 @@ class Schedule:
 
     def __init__(self, row):
         lines = row["stdout"]
-        end = next(at for at, line in enumerate(lines) if line.startswith("steps "))
+        end = next((at for at, line in enumerate(lines) if line.startswith("steps ")), None)
+        if end is None:
+            raise ValueError("no line of steps")
         self.steps = [step_of(line) for line in lines[:end]]
         found = re.search(r"--segments (\d+)", row["args"])
         self.segments = int(found[1]) if found else 2
@@ -448,7 +450,12 @@ class Race:
 
 def pictures(rows):
     """Returns each picture's file name with its SVG."""
-    made = {row["name"]: Schedule(row) for row in rows}
+    made = {}
+    for row in rows:
+        try:
+            made[row["name"]] = Schedule(row)
+        except (KeyError, TypeError, ValueError) as fault:
+            raise ValueError(f"{row['name']}: {fault}") from fault
     captions = ("The hold comes first: the advance is lost, and 5 is settled in visit 0.",
                 "The advance comes first: the hold is lost, and 5 is taken back.")
     race = Race([made["hold_first"], made["advance_first"]], captions, 16, "An enqueue's hold races with an advance")
@@ -475,8 +482,11 @@ def main():
     given.add_argument("--check", action="store_true")
     given.add_argument("--program", type=pathlib.Path, default=ROOT / "crates/kfifo/out/kfifo")
     options = given.parse_args()
-    rows = json.loads(SCHEDULES.read_text())
-    drawn = pictures(rows)
+    try:
+        rows = json.loads(SCHEDULES.read_text())
+        drawn = pictures(rows)
+    except (KeyError, ValueError) as fault:
+        sys.exit(f"docs/pictures/order.py: order.json: {fault}")
     if not options.check:
         for name, svg in drawn.items():
             (HERE / name).write_text(svg)
