@@ -30,6 +30,7 @@ LINE = re.compile(
 )
 WIDTH = 720
 REFUSALS = ("full", "busy", "worn")
+NAMES = ("tape", "staircases", "hold_first", "advance_first", "late_take")
 
 
 @dataclasses.dataclass
@@ -136,6 +137,8 @@ class Schedule:
         settles = step.place == "HoldHead" and step.won
         if not (settles or (step.place == "ReloadEnds" and step.answer == "done")) or call.take is not None:
             return
+        if call.slot is None:
+            raise ValueError(f"event {step.number} settles an item that was not put")
         head = step.old[0]
         call.visit = len(self.heads) + (int(call.slot.split(".")[0]) - head) % self.segments
         call.point = self.tails[call.visit] if call.visit < len(self.tails) else step.number
@@ -454,8 +457,11 @@ def pictures(rows):
     for row in rows:
         try:
             made[row["name"]] = Schedule(row)
-        except (KeyError, TypeError, ValueError) as fault:
-            raise ValueError(f"{row['name']}: {fault}") from fault
+        except (LookupError, ValueError) as fault:
+            raise ValueError(f"{row.get('name')}: {fault}") from fault
+    absent = [name for name in NAMES if name not in made]
+    if absent:
+        raise ValueError(f"there is no schedule {', '.join(absent)}")
     captions = ("The hold comes first: the advance is lost, and 5 is settled in visit 0.",
                 "The advance comes first: the hold is lost, and 5 is taken back.")
     race = Race([made["hold_first"], made["advance_first"]], captions, 16, "An enqueue's hold races with an advance")
@@ -485,7 +491,7 @@ def main():
     try:
         rows = json.loads(SCHEDULES.read_text())
         drawn = pictures(rows)
-    except (KeyError, ValueError) as fault:
+    except ValueError as fault:
         sys.exit(f"docs/pictures/order.py: order.json: {fault}")
     if not options.check:
         for name, svg in drawn.items():
