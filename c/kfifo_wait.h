@@ -126,7 +126,7 @@ static inline kfifo_status kfifo_try_take(kfifo_value_pass *pass, kfifo_waits *w
     return status == KFIFO_EMPTY ? KFIFO_FINISHED : status;
 }
 
-/* Gives a value, and waits at most so many nanoseconds while there is no room for it. */
+/* Gives a value, and waits at most `nanoseconds` while there is no room for it. */
 static inline kfifo_status kfifo_give_wait(kfifo_value_pass *pass, kfifo_waits *waits, uint64_t value,
                                            uint64_t nanoseconds) {
     kfifo_status status = kfifo_try_give(pass, waits, value);
@@ -136,7 +136,7 @@ static inline kfifo_status kfifo_give_wait(kfifo_value_pass *pass, kfifo_waits *
     return status;
 }
 
-/* Takes a value, and waits at most so many nanoseconds while there is none. FINISHED comes exactly where the queue was
+/* Takes a value, and waits at most `nanoseconds` while there is none. FINISHED comes exactly where the queue was
    finished, and then found empty. */
 static inline kfifo_status kfifo_take_wait(kfifo_value_pass *pass, kfifo_waits *waits, uint64_t *value,
                                            uint64_t nanoseconds) {
@@ -202,7 +202,7 @@ static inline kfifo_status kfifo_try_release(kfifo_cell_pass *pass, kfifo_waits 
     return kfifo_after_take(waits, kfifo_release(pass));
 }
 
-/* Reserves a cell, and waits at most so many nanoseconds while there is none. */
+/* Reserves a cell, and waits at most `nanoseconds` while there is none. */
 static inline kfifo_status kfifo_reserve_wait(kfifo_cell_pass *pass, kfifo_waits *waits, uint64_t *cell,
                                               uint64_t nanoseconds) {
     kfifo_status status = kfifo_try_reserve(pass, waits, cell);
@@ -212,7 +212,7 @@ static inline kfifo_status kfifo_reserve_wait(kfifo_cell_pass *pass, kfifo_waits
     return status;
 }
 
-/* Puts the reserved cell into the queue, and waits at most so many nanoseconds while there is no room for it. */
+/* Puts the reserved cell into the queue, and waits at most `nanoseconds` while there is no room for it. */
 static inline kfifo_status kfifo_publish_wait(kfifo_cell_pass *pass, kfifo_waits *waits, uint64_t nanoseconds) {
     kfifo_status status = kfifo_try_publish(pass, waits);
     if (status == KFIFO_DONE || !kfifo_may_retry(status)) return status;
@@ -221,7 +221,7 @@ static inline kfifo_status kfifo_publish_wait(kfifo_cell_pass *pass, kfifo_waits
     return status;
 }
 
-/* Takes a cell, and waits at most so many nanoseconds while there is none. The call first releases the cell that the
+/* Takes a cell, and waits at most `nanoseconds` while there is none. The call first releases the cell that the
    handle received before. FINISHED comes exactly where the queue was finished, and then found empty. */
 static inline kfifo_status kfifo_receive_wait(kfifo_cell_pass *pass, kfifo_waits *waits, uint64_t *cell,
                                               uint64_t nanoseconds) {
