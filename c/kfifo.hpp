@@ -290,7 +290,7 @@ template <typename T> class Cells {
     static constexpr std::size_t line = alignof(Cell) > 64 ? alignof(Cell) : 64;
     static constexpr std::align_val_t alignment{line};
 
-    // Behind the cells of each thread before there is a gap. The product is number / tokens, rounded down, since a
+    // After the cells of each thread there is a gap. The product is number / tokens, rounded down, since a
     // number is less than 2^16 and there are at most 2^10 tokens a thread. A division would take longer than the rest.
     std::byte *place(std::uint64_t number) const {
         return memory + number * sizeof(Cell) + (number * reciprocal >> 32) * gap;
