@@ -19,7 +19,7 @@ typedef enum kfifo_status {
     KFIFO_FULL = 1,          /* the ring was seen full; the item is not in it */
     KFIFO_GOT = 2,           /* an item, a value or a cell was taken */
     KFIFO_EMPTY = 3,         /* the queue was empty */
-    KFIFO_BUSY = 4,          /* each round was lost to a step of another thread or its own; nothing was done */
+    KFIFO_BUSY = 4,          /* the call used up its rounds, and nothing was done: see kfifo_put and kfifo_enqueue */
     KFIFO_WORN = 5,          /* a version would pass the greatest one; close this queue and open another */
     KFIFO_BAD_CALL = 6,      /* a null pointer, an argument out of range, a handle closed or missing, or one that has no
                                 cell to publish, cancel or release; nothing done */
@@ -258,9 +258,10 @@ static inline kfifo_status kfifo_abandon(kfifo_pass *passes, size_t threads) {
 
 /* ---- A queue of values, which are 64-bit numbers or pointers ---- */
 
-/* Opens a queue of values. Each thread begins with so many tokens, 1 to KFIFO_MAX_TOKENS. A value in the queue has one,
-   which the thread that takes the value gets. With a batch more than it began with, 16 or tokens / threads at most, it
-   lays a batch down for others. So the values that a thread has given and nobody has taken are about `tokens` at most.
+/* Opens a queue of values. Each thread begins with `tokens` tokens, 1 to KFIFO_MAX_TOKENS. A value in the queue has a
+   token, and the thread that takes the value gets it. A thread that has a batch more than it began with, 16 or
+   tokens / threads at most, returns a batch to the pool. So a thread has at most about `tokens` values that it gave and
+   nobody took.
    DONE; BAD_CALL of a null pointer; BAD_K, BAD_SEGMENTS, BAD_THREADS, BAD_TOKENS, NO_MEMORY, and all handles are then
    closed, at most the first 64. */
 static inline kfifo_status kfifo_open_values(uint32_t k, uint32_t segments, uint32_t tokens, kfifo_value_pass *passes,
@@ -347,7 +348,7 @@ static inline kfifo_status kfifo_abandon_values(kfifo_value_pass *passes, size_t
        kfifo_abandon_cells(passes, 2);
 */
 
-/* Opens a queue of cells. Each thread begins with so many tokens, 1 to KFIFO_MAX_TOKENS. Each token has a cell, so the
+/* Opens a queue of cells. Each thread begins with `tokens` tokens, 1 to KFIFO_MAX_TOKENS. Each token has a cell, so the
    cells are numbers from 0 to threads * tokens - 1. A thread has about `tokens` cells in the queue at most, as with
    kfifo_open_values. DONE; BAD_CALL of a null pointer; BAD_K, BAD_SEGMENTS, BAD_THREADS, BAD_TOKENS, NO_MEMORY, and all
    handles are then closed, at most the first 64. */

@@ -56,7 +56,7 @@ enum class Miss {
 inline const char *text(Put put) noexcept { return kfifo_status_text(static_cast<kfifo_status>(put)); }
 inline const char *text(Miss miss) noexcept { return kfifo_status_text(static_cast<kfifo_status>(miss)); }
 
-// Whether a later call may do better: a loop that retries another answer, as worn, never ends.
+// Whether a later call may do better: a loop that retries another answer, as Put::worn, never ends.
 inline bool may_retry(Put put) noexcept { return kfifo_may_retry(static_cast<kfifo_status>(put)); }
 inline bool may_retry(Miss miss) noexcept { return kfifo_may_retry(static_cast<kfifo_status>(miss)); }
 
@@ -143,7 +143,7 @@ class Pass {
 // A queue and its passes. What is left in it when it goes is lost: close it before to have it back.
 class Queue {
   public:
-    // k slots in each of these segments, for so many threads. Throws Error where there is no such queue.
+    // k slots in each of these segments, for `threads` threads. Throws Error where there is no such queue.
     Queue(std::uint32_t k, std::uint32_t segments, std::size_t threads) : Queue(k, segments, k, KFIFO_LAST, threads) {}
 
     Queue(std::uint32_t k, std::uint32_t segments, std::uint32_t probes, std::uint64_t last, std::size_t threads)
@@ -290,7 +290,7 @@ template <typename T> class Cells {
     static constexpr std::size_t line = alignof(Cell) > 64 ? alignof(Cell) : 64;
     static constexpr std::align_val_t alignment{line};
 
-    // Behind the cells of each thread before there is a gap. The product is number / tokens, rounded down, since a
+    // After the cells of each thread there is a gap. The product is number / tokens, rounded down, since a
     // number is less than 2^16 and there are at most 2^10 tokens a thread. A division would take longer than the rest.
     std::byte *place(std::uint64_t number) const {
         return memory + number * sizeof(Cell) + (number * reciprocal >> 32) * gap;
@@ -420,10 +420,10 @@ template <typename T> class ValueQueue {
         // the value is the handle's, and its next take, or that of the next one to have this handle, takes it first.
         TakenValue<T> take() { return take_by(detail::Once()); }
 
-        // Gives a value, and sleeps while there is no room for it: done, finished or worn.
+        // Gives a value, and sleeps while there is no room for it: Put::done, Put::finished or Put::worn.
         Put give_wait(T &&value) { return give_by(within(KFIFO_WAITS_GIVER, KFIFO_FOREVER), std::move(value)); }
 
-        // Takes a value, and sleeps while there is none: a value, finished or worn.
+        // Takes a value, and sleeps while there is none: a value, Miss::finished or Miss::worn.
         TakenValue<T> take_wait() { return take_by(within(KFIFO_WAITS_TAKER, KFIFO_FOREVER)); }
 
         // The same for so long at most: also timed_out. A negative time is 0, with which the call does not sleep.
@@ -450,7 +450,7 @@ template <typename T> class ValueQueue {
         }
 
         // The values that come, until the queue is finished and empty: for (T value : handle.values()). It sleeps while
-        // there is none, and throws Error with KFIFO_WORN where the queue is worn out.
+        // there is none, and throws Error with KFIFO_WORN where the versions of the queue are used up.
         Values values() { return Values(*this); }
 
         // Says that no more values will come, as ValueQueue::finish.
@@ -634,9 +634,9 @@ template <typename T> class ValueQueue {
         Handle *handle;
     };
 
-    // k slots in each of these segments, for so many threads. A thread has at most about `tokens` values of its own in
-    // the queue: unless another number is given, one more than there are slots, so that a queue that is full says so,
-    // and KFIFO_MAX_TOKENS at most. The queue has room for threads * tokens values of T from the beginning. Throws
+    // k slots in each of these segments, for `threads` threads. A thread has at most about `tokens` values of its own
+    // in the queue: unless another number is given, one more than there are slots, so that a queue that is full says
+    // so, and KFIFO_MAX_TOKENS at most. The queue has room for threads * tokens values of T from the beginning. Throws
     // Error where there is no such queue, and std::bad_alloc.
     ValueQueue(std::uint32_t k, std::uint32_t segments, std::size_t threads)
         : ValueQueue(k, segments, threads, enough(k, segments)) {}

@@ -73,7 +73,7 @@ typedef struct kfifo_judge_report {
 /* Judges these calls, in any order, for a queue whose gets may give any of its k oldest items, 1 to 64: LEGAL,
    NO_ORDER, UNDECIDED, FAULT, BAD_CALL or NO_MEMORY, which is in the report too. The text is what `kfifo judge --k K
    --tries TRIES` prints of the log in CSV that has a line for each call in this order below its header: call i stands
-   in line i + 2. Calls have numbers by rising first time, of equal ones the earlier in the array first. */
+   in line i + 2. Calls are numbered in ascending order of first time, of equal ones the earlier in the array first. */
 kfifo_judge_status kfifo_judge_calls(const kfifo_judge_call *calls, size_t count, uint32_t k, uint64_t tries,
                                      kfifo_judge_report *report);
 

@@ -1,6 +1,35 @@
 /* Threads that wait, for the proved k-FIFO queue: takes that sleep until a value comes, gives that sleep until there is
-   room, time limits, and an end that all threads see. docs/C.md, "Threads that wait", says how this works and why no
-   wake-up is lost. For Linux. */
+   room, time limits, and an end that all threads see. docs/C.md, "Threads that wait", says how to use them. For Linux.
+
+   How it works. A kfifo_waits is an event count: a word with the number of takers and of givers that wait, and for each
+   side a word that changes whenever one of them is woken. A taker that finds EMPTY looks for 5 microseconds more, with
+   pauses, since a wake-up costs as much. Then it announces itself in the first word, reads the second, and looks once
+   more. Only if that look finds EMPTY too does it sleep, by Linux's futex, which lets it sleep only while the second
+   word is what it read. A giver looks at the first word after its call. If takers wait, it changes the second word and
+   wakes one.
+
+   Why no wake-up is lost. All these steps are sequentially consistent, as are the steps of the queue, so they stand in
+   one order. Say a give is done, and a taker's second look returns EMPTY.
+
+   1. If the giver's look at the first word comes after the announcement, the giver sees it, and changes the second word
+      after its call. If the taker read that word before, it does not fall asleep, or is woken. If it read it
+      afterwards, its second look begins after the give had ended.
+   2. If the giver's look comes before the announcement, the second look begins after the give had ended, too.
+   3. A take that begins after a give has ended returns EMPTY only if the value was already taken: by proof EMPTY comes
+      only of a queue that was empty within the call. So nobody need be woken.
+
+   A look before the call, a word that is read after the second look, or no second look would break this. So would
+   acquire and release alone: the giver's look and the taker's second look could then both miss.
+
+   Givers that find FULL sleep in the same way, and takes wake them. A give finds FULL by an item in the segment that
+   takes empty. Either a take removes that item and then looks for givers, or the put that brought it takes it back, and
+   that give looks for givers when it ends. One take may make room for several givers, and the giver that it wakes may
+   find its room gone. So a give that was done wakes the next giver too, and a call that gives up after BUSY hands its
+   wake-up on. Where a giver sleeps for want of a token, a take wakes all givers, since any of them may have one now. Of
+   cells it is the release that brings a token, so that one looks for givers too. A take in C++ looks once, after its
+   release.
+
+   test_wait_model.cpp goes through all interleavings of three threads in a model of these steps. */
 #ifndef KFIFO_WAIT_H
 #define KFIFO_WAIT_H
 
@@ -126,7 +155,7 @@ static inline kfifo_status kfifo_try_take(kfifo_value_pass *pass, kfifo_waits *w
     return status == KFIFO_EMPTY ? KFIFO_FINISHED : status;
 }
 
-/* Gives a value, and waits at most so many nanoseconds while there is no room for it. */
+/* Gives a value, and waits at most `nanoseconds` while there is no room for it. */
 static inline kfifo_status kfifo_give_wait(kfifo_value_pass *pass, kfifo_waits *waits, uint64_t value,
                                            uint64_t nanoseconds) {
     kfifo_status status = kfifo_try_give(pass, waits, value);
@@ -136,7 +165,7 @@ static inline kfifo_status kfifo_give_wait(kfifo_value_pass *pass, kfifo_waits *
     return status;
 }
 
-/* Takes a value, and waits at most so many nanoseconds while there is none. FINISHED comes exactly where the queue was
+/* Takes a value, and waits at most `nanoseconds` while there is none. FINISHED comes exactly where the queue was
    finished, and then found empty. */
 static inline kfifo_status kfifo_take_wait(kfifo_value_pass *pass, kfifo_waits *waits, uint64_t *value,
                                            uint64_t nanoseconds) {
@@ -202,7 +231,7 @@ static inline kfifo_status kfifo_try_release(kfifo_cell_pass *pass, kfifo_waits 
     return kfifo_after_take(waits, kfifo_release(pass));
 }
 
-/* Reserves a cell, and waits at most so many nanoseconds while there is none. */
+/* Reserves a cell, and waits at most `nanoseconds` while there is none. */
 static inline kfifo_status kfifo_reserve_wait(kfifo_cell_pass *pass, kfifo_waits *waits, uint64_t *cell,
                                               uint64_t nanoseconds) {
     kfifo_status status = kfifo_try_reserve(pass, waits, cell);
@@ -212,7 +241,7 @@ static inline kfifo_status kfifo_reserve_wait(kfifo_cell_pass *pass, kfifo_waits
     return status;
 }
 
-/* Puts the reserved cell into the queue, and waits at most so many nanoseconds while there is no room for it. */
+/* Puts the reserved cell into the queue, and waits at most `nanoseconds` while there is no room for it. */
 static inline kfifo_status kfifo_publish_wait(kfifo_cell_pass *pass, kfifo_waits *waits, uint64_t nanoseconds) {
     kfifo_status status = kfifo_try_publish(pass, waits);
     if (status == KFIFO_DONE || !kfifo_may_retry(status)) return status;
@@ -221,7 +250,7 @@ static inline kfifo_status kfifo_publish_wait(kfifo_cell_pass *pass, kfifo_waits
     return status;
 }
 
-/* Takes a cell, and waits at most so many nanoseconds while there is none. The call first releases the cell that the
+/* Takes a cell, and waits at most `nanoseconds` while there is none. The call first releases the cell that the
    handle received before. FINISHED comes exactly where the queue was finished, and then found empty. */
 static inline kfifo_status kfifo_receive_wait(kfifo_cell_pass *pass, kfifo_waits *waits, uint64_t *cell,
                                               uint64_t nanoseconds) {

@@ -60,7 +60,7 @@ impl<T> Drop for Cell<T> {
     }
 }
 
-/// The cells of a queue. Those that a handle begins with stand together, and `gap` unused ones before and behind them.
+/// The cells of a queue. Those that a handle begins with stand together, and `gap` unused ones before and after them.
 ///
 /// A value goes in by one handle and comes out by another, so `T` may not vary: else a reference of a short life that
 /// one handle puts could come out of another as one of a long life. `UnsafeCell` sees to that.
@@ -72,7 +72,7 @@ pub(crate) struct Cells<T> {
 }
 
 impl<T> Cells<T> {
-    /// So many empty cells for each of so many handles; none where there is no memory for them.
+    /// `tokens` empty cells for each of `handles` handles; none where there is no memory for them.
     pub(crate) fn new(handles: usize, tokens: u32) -> Option<Cells<T>> {
         let gap = APART.div_ceil(size_of::<Cell<T>>());
         let count = handles * (tokens as usize + gap) + gap;
@@ -82,7 +82,7 @@ impl<T> Cells<T> {
         if block.is_null() {
             return None;
         }
-        // SAFETY: the block is one of so many cells, and all bytes 0 is an empty cell.
+        // SAFETY: the block has room for all these cells, and all bytes 0 is an empty cell.
         let cells = unsafe { Box::from_raw(slice_from_raw_parts_mut(block, count)) };
         let part = (1_u64 << 32).div_ceil(u64::from(tokens));
         Some(Cells { cells, part, gap })

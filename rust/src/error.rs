@@ -59,8 +59,8 @@ pub enum PushError<T> {
     Busy(T),
     /// The versions of the queue's words are used up. Open another queue.
     Worn(T),
-    /// The handle has no token, and none was there to be picked up: its values, as many as it has tokens, are all still
-    /// in the queue.
+    /// The handle has no token, and found none in the pool: its values, as many as it has tokens, are all still in the
+    /// queue.
     NoToken(T),
     /// The time of a call that waits was up.
     TimedOut(T),

@@ -89,7 +89,7 @@ pub struct Queue<T> {
 }
 
 impl<T> Queue<T> {
-    /// Opens a queue of `segments` segments, 2 to 1,024, of k slots, 1 to 64, with so many handles, 1 to 64.
+    /// Opens a queue of `segments` segments, 2 to 1,024, of k slots, 1 to 64, with `handles` handles, 1 to 64.
     ///
     /// Each handle has a token for each slot and one more, 1,024 at most, so that a queue that is full says so.
     ///
@@ -109,8 +109,8 @@ impl<T> Queue<T> {
 
     /// As [`Queue::new`], with a number of tokens a handle, 1 to 1,024.
     ///
-    /// A value in the queue has a token. The handle that takes the value gets the token, and lays it down for the
-    /// others where it then has more than it began with. So the values that one handle has put and nobody has taken are
+    /// A value in the queue has a token. The handle that takes the value gets the token, and returns it to the pool
+    /// where it then has more than it began with. So the values that one handle has put and nobody has taken are
     /// about `tokens` at most.
     ///
     /// The queue takes memory for `handles * tokens` values when it is opened.
@@ -379,7 +379,7 @@ impl<T> Handle<T> {
 
     /// The values that come, until the queue is finished and empty; it sleeps while there is none.
     ///
-    /// It ends also where the queue is worn out: [`Handle::pop`] then says which of the two it was.
+    /// It ends also where the versions of the queue are used up: [`Handle::pop`] then says which of the two it was.
     ///
     /// ```
     /// let queue = kfifo::Queue::new(1, 64, 1)?;
