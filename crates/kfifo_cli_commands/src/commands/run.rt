@@ -13,7 +13,7 @@ ghost use Rattle.kfifo_cli_commands.specs.Reports.{IsAlone, IsReport, RunInTurn,
 use kfifo_cli_texts::{
     Fault, RunOptions, push_dequeue, push_ends, push_enqueue, push_slot, read_calls,
 };
-use kfifo_live::{Pass, Queue, close};
+use kfifo_live::{Pass, Queue};
 use kfifo_machine::Begin;
 use kfifo_words::{Ends, Shape, Word};
 use std::alloc::{AllocError, Global};
@@ -39,7 +39,6 @@ fn report_of(alloc: Global, shape: Shape, calls: &[Begin]) -> Result<String, Fau
     let mut text = String::new(alloc);
     make_calls(&queue, &mut pass, calls, &mut text)?;
     push_words(&queue, &mut pass, &mut text)?;
-    close_queue(alloc, queue, pass)?;
     Ok(text)
 }
 
@@ -52,16 +51,6 @@ fn open(alloc: Global, shape: Shape) -> Result<(Queue, Pass), Fault>
     let (queue, mut passes) = Queue::open(alloc, shape, 1).map_err(|_| Fault::Memory)?;
     let pass = passes.pop().unwrap();
     Ok((queue, pass))
-}
-
-/// Closes the queue. Nobody wants the items that are left.
-fn close_queue(alloc: Global, queue: Queue, pass: Pass) -> Result<(), Fault>
-    requires { IsPassOf queue pass }
-    ensures { IfErr result (λ fault. fault ≡ Fault.Memory) }
-{
-    let passes = vec![in alloc; pass]?;
-    close(alloc, queue, passes).map_err(|_| Fault::Memory)?;
-    Ok(())
 }
 
 /// Makes the calls, and adds the line of each.
