@@ -48,7 +48,8 @@ template <typename Queue> int run(Queue &queue, const Plan &plan) {
     for (std::size_t t = 0; t < plan.threads; t++)
         threads.emplace_back([&, t] {
             typename Queue::Attached attached;
-            while (!go.load()) {}
+            while (!go.load()) {
+            }
             for (std::uint32_t turn = 0; turn < plan.turns; turn++) {
                 std::uint32_t item = std::uint32_t(t) * plan.turns + turn + 1;
                 logs[t].enqueue(item, [&] { return queue.push(t, item); });

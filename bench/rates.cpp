@@ -73,7 +73,8 @@ template <typename Queue> int run(Queue &queue, const Plan &plan, std::size_t ca
             bool takes = thread >= plan.producers;
             Tally tally;
             std::uint32_t item = std::uint32_t(1 + thread * (items / 64));
-            while (!go.load(std::memory_order_acquire)) {}
+            while (!go.load(std::memory_order_acquire)) {
+            }
             while (!stop.load(std::memory_order_relaxed)) {
                 if (puts) {
                     if (queue.push(thread, item)) {

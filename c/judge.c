@@ -1,5 +1,5 @@
-/* The calls of kfifo_judge.h, over the exports of the proved library. What is here is not proved: it tests pointers, and
-   makes room for what an export has to write. */
+/* The calls of kfifo_judge.h, over the exports of the proved library. What is here is not proved: it tests pointers,
+   and makes room for what an export has to write. */
 #include "kfifo_judge.h"
 
 #include <stdbool.h>
@@ -78,8 +78,8 @@ static bool make_room(kfifo_judge_report *report, const found *numbers) {
     return report->text && (report->named || !numbers->named);
 }
 
-/* Asks, with room on the stack at first: a verdict on a short run fits in. Where the answer is longer it asks again, with
-   room for what there is: the library keeps nothing between two calls. */
+/* Asks, with room on the stack at first: a verdict on a short run fits in. Where the answer is longer it asks again,
+   with room for what there is: the library keeps nothing between two calls. */
 static kfifo_judge_status answer(const question *q, kfifo_judge_report *report) {
     char text[2048];
     size_t named[72];

@@ -304,8 +304,8 @@ template <typename T> class Cells {
 } // namespace detail
 
 template <typename T> struct TakenValue {
-    std::optional<T> value;  // the value, if one was taken
-    Miss why = Miss::empty;  // else why not
+    std::optional<T> value; // the value, if one was taken
+    Miss why = Miss::empty; // else why not
 };
 
 // A queue of values. Each thread takes a Handle of its own. The queue goes with the last of the ValueQueue and its

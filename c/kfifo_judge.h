@@ -40,29 +40,29 @@ typedef struct kfifo_judge_call {
 
 /* What a call of the judge returns. */
 typedef enum kfifo_judge_status {
-    KFIFO_JUDGE_LEGAL = 0,      /* there is a legal order; of kfifo_least_calls: there is no evidence against each k */
-    KFIFO_JUDGE_NO_ORDER = 1,   /* there is none, and the text says why */
-    KFIFO_JUDGE_UNDECIDED = 2,  /* neither an order nor evidence against each order was found */
-    KFIFO_JUDGE_DRAWN = 3,      /* of kfifo_draw_calls: the text is the picture */
-    KFIFO_JUDGE_FAULT = 4,      /* the log or record has a fault, by which it cannot be judged; the text says which */
-    KFIFO_JUDGE_BAD_CALL = 5,   /* a null pointer, or an argument out of range; nothing was done */
-    KFIFO_JUDGE_NO_MEMORY = 6   /* an allocation failed; nothing was done */
+    KFIFO_JUDGE_LEGAL = 0,     /* there is a legal order; of kfifo_least_calls: there is no evidence against each k */
+    KFIFO_JUDGE_NO_ORDER = 1,  /* there is none, and the text says why */
+    KFIFO_JUDGE_UNDECIDED = 2, /* neither an order nor evidence against each order was found */
+    KFIFO_JUDGE_DRAWN = 3,     /* of kfifo_draw_calls: the text is the picture */
+    KFIFO_JUDGE_FAULT = 4,     /* the log or record has a fault, by which it cannot be judged; the text says which */
+    KFIFO_JUDGE_BAD_CALL = 5,  /* a null pointer, or an argument out of range; nothing was done */
+    KFIFO_JUDGE_NO_MEMORY = 6  /* an allocation failed; nothing was done */
 } kfifo_judge_status;
 
 /* What was found. A call fills a report without looking at what is in it. Its pointers are its own, from malloc:
    kfifo_judge_clear frees them, and is to be called before the report is used again. */
 typedef struct kfifo_judge_report {
     kfifo_judge_status status;
-    uint32_t fault;       /* of a FAULT: its number as docs/JUDGE.md has it, 1 to 8; 0 of a text that is no CSV or no
-                             JSON, and of a picture with too many calls */
-    uint64_t place;       /* of a FAULT: the line of the log, from 1, or the call of the record, from 0; else 0 */
-    char *text;           /* what the program prints, with a 0 after it; of a FAULT the line that says which; NULL of
-                             BAD_CALL and NO_MEMORY */
-    size_t length;        /* of the text, without the 0 */
-    size_t *named;        /* the calls that the reason of NO_ORDER names, by number, in its order; else NULL */
+    uint32_t fault; /* of a FAULT: its number as docs/JUDGE.md has it, 1 to 8; 0 of a text that is no CSV or no
+                       JSON, and of a picture with too many calls */
+    uint64_t place; /* of a FAULT: the line of the log, from 1, or the call of the record, from 0; else 0 */
+    char *text;     /* what the program prints, with a 0 after it; of a FAULT the line that says which; NULL of
+                       BAD_CALL and NO_MEMORY */
+    size_t length;  /* of the text, without the 0 */
+    size_t *named;  /* the calls that the reason of NO_ORDER names, by number, in its order; else NULL */
     size_t named_count;
-    size_t at_least;      /* of kfifo_least_calls that is LEGAL: the least k is no less */
-    uint32_t at_most;     /* and no greater, 1 to 64; 0 where no order was found */
+    size_t at_least;  /* of kfifo_least_calls that is LEGAL: the least k is no less */
+    uint32_t at_most; /* and no greater, 1 to 64; 0 where no order was found */
 } kfifo_judge_report;
 
 /* How many calls can be judged at a time. */
@@ -81,8 +81,8 @@ kfifo_judge_status kfifo_judge_calls(const kfifo_judge_call *calls, size_t count
 kfifo_judge_status kfifo_judge_text(const char *text, size_t length, uint32_t k, uint64_t tries,
                                     kfifo_judge_report *report);
 
-/* Between which bounds the least k lies for which these calls have a legal order, as `kfifo least` prints it: LEGAL with
-   at_least and at_most, NO_ORDER where there is evidence against each k, FAULT, BAD_CALL or NO_MEMORY. */
+/* Between which bounds the least k lies for which these calls have a legal order, as `kfifo least` prints it: LEGAL
+   with at_least and at_most, NO_ORDER where there is evidence against each k, FAULT, BAD_CALL or NO_MEMORY. */
 kfifo_judge_status kfifo_least_calls(const kfifo_judge_call *calls, size_t count, uint64_t tries,
                                      kfifo_judge_report *report);
 
@@ -96,8 +96,8 @@ typedef enum kfifo_draw_style {
     KFIFO_DRAW_TEXT = 1 /* lines of characters for a terminal */
 } kfifo_draw_style;
 
-/* Draws these calls as `kfifo draw` does: DRAWN, FAULT (its number is 0 where over 4,096 calls would be drawn), BAD_CALL
-   or NO_MEMORY. */
+/* Draws these calls as `kfifo draw` does: DRAWN, FAULT (its number is 0 where over 4,096 calls would be drawn),
+   BAD_CALL or NO_MEMORY. */
 kfifo_judge_status kfifo_draw_calls(const kfifo_judge_call *calls, size_t count, uint32_t k, kfifo_draw_part part,
                                     kfifo_draw_style style, kfifo_judge_report *report);
 

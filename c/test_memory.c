@@ -9,9 +9,9 @@ enum { K = 4, SEGMENTS = 8, THREADS = 3, ROOM = K * SEGMENTS, TOKENS = 5 };
 static int failed;
 /* Requests so far, the one that is refused (0: none), and blocks that were not freed. */
 static long requests, refused, blocks;
-static long tried;                     /* the request that this case refuses */
-static long kept, lost;                /* closes that did nothing, and closes that lost what was left */
-static long values_kept, values_lost;  /* the same of values */
+static long tried;                    /* the request that this case refuses */
+static long kept, lost;               /* closes that did nothing, and closes that lost what was left */
+static long values_kept, values_lost; /* the same of values */
 
 void *__real_malloc(size_t size);
 void *__real_realloc(void *block, size_t size);

@@ -79,9 +79,7 @@ void refusals() {
     expect(second.take().value == std::string(100, 'a'), "the oldest value");
     Values::Handle moved = std::move(second);
     expect(refuses(KFIFO_BAD_CALL, [&] { second.take(); }), "a handle that was moved from");
-    {
-        Values::Handle one = std::move(first), other = std::move(moved);
-    }
+    { Values::Handle one = std::move(first), other = std::move(moved); }
     expect(queue.close() == std::vector<std::string>{std::string(100, 'b')}, "what is left");
     expect(refuses(KFIFO_BAD_CALL, [&] { queue.close(); }) && refuses(KFIFO_BAD_CALL, [&] { queue.handle(); }),
            "a closed queue");

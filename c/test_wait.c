@@ -362,8 +362,10 @@ static void signals(void) {
     expect(kfifo_open_values(1, 2, 9, passes, 2), KFIFO_DONE, "open for signals");
     for (int limited = 0; limited < 2; limited++) {
         pthread_t id = start(&call, &passes[1], &waits, 0, 0, limited ? 50 * MILLISECOND : KFIFO_FOREVER);
-        if (limited) rest(MILLISECOND);
-        else until_asleep(&waits, 1, KFIFO_WAITS_TAKER);
+        if (limited)
+            rest(MILLISECOND);
+        else
+            until_asleep(&waits, 1, KFIFO_WAITS_TAKER);
         for (int i = 0; i < 20; i++) {
             pthread_kill(id, SIGUSR1);
             rest(MILLISECOND / 2);

@@ -214,7 +214,7 @@ namespace kfifo {
 
 /* The log of one thread, which is closed with the object. */
 class ThreadLog {
-public:
+  public:
     ThreadLog(unsigned thread, std::size_t calls) {
         if (thread > 63) throw std::invalid_argument("kfifo_log: a thread is 0 to 63");
         if (!kfifo_log_open(&log_, thread, calls)) throw std::bad_alloc();
@@ -243,7 +243,7 @@ public:
     kfifo_log *get() { return &log_; }
     const kfifo_log *get() const { return &log_; }
 
-private:
+  private:
     kfifo_log log_;
 };
 

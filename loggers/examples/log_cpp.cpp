@@ -16,7 +16,7 @@ constexpr std::uint32_t ITEMS = 1000;
 constexpr unsigned WORKERS = 4;
 
 class Queue {
-public:
+  public:
     explicit Queue(bool broken) : broken_(broken) {}
 
     bool push(std::uint32_t item) {
@@ -34,7 +34,7 @@ public:
         return item;
     }
 
-private:
+  private:
     std::mutex mutex_;
     std::deque<std::uint32_t> items_;
     bool broken_;
