@@ -1,5 +1,5 @@
-// Tests a concurrent queue of yours: threads make calls of it in thousands of short rounds, and the proved judge says of
-// each round whether its calls have an order that a FIFO queue allows. C++17 on Linux, for any queue of numbers.
+// Tests a concurrent queue of yours: threads call it in thousands of short rounds, and the proved judge says of each
+// round whether its calls have an order that a FIFO queue allows. C++17 on Linux, for any queue of numbers.
 //
 //     #include "kfifo_test.hpp"
 //     #include "my_queue.hpp"
@@ -124,14 +124,15 @@ enum class Outcome {
     crash,     // the child process died by a signal, or ended by itself
     threw,     // the maker, a push or a pop threw an exception
     undecided, // the judge found neither an order nor evidence, and options.fail_undecided is set
-    misuse     // the log is none of a queue, as where a push answers got; this says nothing of the queue
+    no_verdict // a log could not be judged, as where a push answers got, or the check could not go on; this says
+               // nothing of the queue
 };
 
 // What a check found.
 struct CheckReport {
     Outcome outcome = Outcome::passed;
     std::string text;             // the whole report, of one or more lines; the last has no line feed
-    std::string reason;           // of no_order, undecided and misuse: what the judge printed
+    std::string reason;           // of no_order, undecided and no_verdict: what the judge printed
     std::uint64_t rounds = 0;     // how many were judged
     std::uint64_t calls = 0;      // in these rounds
     std::uint64_t undecided = 0;  // rounds without a verdict
@@ -348,7 +349,7 @@ inline std::string text(const Design &design) {
                                         "nearly empty", "nearly full", "half full"};
     static const char *const callers[] = {"", "one producer, ", "one consumer, ", "one producer and one consumer, "};
     return std::to_string(design.threads) + " threads, " + std::to_string(design.calls) + " calls each, " +
-           callers[int(design.callers)] + (design.callers == Callers::any ? std::string(mixes[int(design.mix)]) + ", " : "") +
+           (design.callers == Callers::any ? std::string(mixes[int(design.mix)]) + ", " : callers[int(design.callers)]) +
            (design.capacity ? "capacity " + std::to_string(design.capacity) + ", " : "") +
            (design.pauses ? "pauses" : "no pauses") + (design.pinned ? ", pinned" : "") +
            (design.signals ? ", interrupted by signals" : "") + (design.fresh ? ", fresh threads" : "");
@@ -399,7 +400,7 @@ inline Doing what_of(std::uint64_t word) noexcept { return Doing(word & 15); }
 inline std::uint32_t item_of(std::uint64_t word) noexcept { return std::uint32_t(word >> 4) & MAX_ITEM; }
 inline std::size_t complete_of(std::uint64_t word) noexcept { return std::size_t(word >> 28) & 0xfffff; }
 
-// A thread's own place in the shared memory. The last lane is that of thread 0 while it makes, drains and destroys queues.
+// A thread's own place in the shared memory. The last lane is thread 0's while it makes, drains and destroys queues.
 struct alignas(128) Lane {
     std::atomic<std::uint64_t> now{0};
     std::atomic<int> clock{0};            // the clock of the thread's processor time
@@ -620,7 +621,8 @@ template <class Make, class Handle, class Push, class Pop> class Subject final :
 
   private:
     static std::uint32_t item(const Task &task, Random &random, std::uint32_t used) noexcept {
-        return task.different_items > 0 ? 1 + std::uint32_t(random.below(task.different_items)) : task.first_item + used;
+        if (task.different_items > 0) return 1 + std::uint32_t(random.below(task.different_items));
+        return task.first_item + used;
     }
     auto &target(unsigned thread) {
         if constexpr (HAS_HANDLES) return inside(handles[thread]->made);
@@ -734,7 +736,7 @@ class StallSignal {
     struct sigaction before {};
 };
 
-// The threads that run the jobs. Thread 0 is the one that calls `run`; the others are kept, and sleep when nothing comes.
+// The threads that run the jobs. Thread 0 is the one that calls `run`; the others are kept, and sleep between jobs.
 class Crew {
   public:
     explicit Crew(unsigned threads) {
@@ -758,10 +760,23 @@ class Crew {
 
     // The same with threads that end with the job.
     static void run_fresh(unsigned threads, const std::function<void(unsigned)> &job) {
+        std::atomic<int> go{0}; // 1: run the job, 2: a thread could not be started
         std::vector<std::thread> fresh;
-        for (unsigned i = 1; i < threads; i++) fresh.emplace_back([&job, i] { job(i); });
-        job(0);
-        for (std::thread &thread : fresh) thread.join();
+        const auto finish = [&](int how) {
+            go = how;
+            if (how == 1) job(0);
+            for (std::thread &thread : fresh) thread.join();
+        };
+        try {
+            for (unsigned i = 1; i < threads; i++) fresh.emplace_back([&go, &job, i] {
+                spin_until([&go] { return go != 0; });
+                if (go == 1) job(i);
+            });
+        } catch (...) {
+            finish(2);
+            throw;
+        }
+        finish(1);
     }
 
   private:
@@ -776,8 +791,8 @@ class Crew {
         ring(STOP);
         for (std::thread &thread : others) thread.join();
     }
-    // One word says which job it is and how many threads it has. With two words a thread that looks late could join a job
-    // that is just being made.
+    // One word says which job it is and how many threads it has. With two words a thread that looks late could join a
+    // job that is just being made.
     void serve(unsigned thread) {
         std::uint64_t seen = 0;
         while ((seen = wait_for_other(seen)) != STOP)
@@ -807,9 +822,9 @@ class Crew {
     std::condition_variable bell;
 };
 
-// Finds calls that do not return, from a thread of its own. Only the processor time of the very thread that is in the call
-// counts: on a busy machine a thread may get no processor for long, through no fault of the queue. For a call that sleeps,
-// only time counts in which this thread was woken, so that a process that was stopped has no hang.
+// Finds calls that do not return, from a thread of its own. Only the processor time of the very thread that is in the
+// call counts: on a busy machine a thread may get no processor for long, through no fault of the queue. For a call that
+// sleeps, only time counts in which the watcher itself runs, so that a process that was stopped has no hang.
 class Watcher {
   public:
     Watcher(Board &of, unsigned lanes, double hang_seconds, std::function<void()> then)
@@ -867,8 +882,8 @@ inline bool comes_before(const kfifo_judge_call &a, const kfifo_judge_call &b) n
     return a.first < b.first || (a.first == b.first && a.thread < b.thread);
 }
 
-// Sorts calls by their first times, so that their places are the numbers that the judge gives them, and lets times count
-// from 1, so that they can be read.
+// Sorts calls by their first times, so that their places are the numbers that the judge gives them. Their times then
+// count from 1, so that they can be read.
 inline void make_readable(std::vector<kfifo_judge_call> &calls) {
     std::sort(calls.begin(), calls.end(), comes_before);
     if (calls.empty()) return;
@@ -1093,8 +1108,8 @@ class Conductor {
         return false;
     }
 
-    // Looks whether threads had to wait long for each other, though each could have had a processor of its own. The first
-    // round after a judgement does not count, since threads may have slept.
+    // Looks whether threads had to wait long for each other, though each could have had a processor of its own. The
+    // first round after a judgement does not count, since threads may have slept.
     void note_wait(const Design &design) noexcept {
         if (is_first || design.fresh || design.threads > allowed.size()) return;
         waits++;
@@ -1126,14 +1141,16 @@ class Conductor {
             for (unsigned index = next++; index < count; index = next++) judge_round(index);
         });
         for (unsigned index = 0; index < count; index++) {
-            const auto verdict = kfifo_judge_status(board.slots[index].verdict.load());
-            if (is_bad(verdict, options)) return void(board.end(Ended::bad_round));
-            board.slots[index].state = SlotState::judged;
+            Slot &slot = board.slots[index];
+            const auto verdict = kfifo_judge_status(slot.verdict.load());
             board.rounds++;
-            if (verdict != KFIFO_JUDGE_UNDECIDED) continue;
+            for (std::uint32_t complete : slot.complete) board.calls += complete;
+            board.undecided += verdict == KFIFO_JUDGE_UNDECIDED;
+            if (is_bad(verdict, options)) return void(board.end(Ended::bad_round));
+            slot.state = SlotState::judged;
             // What an undecided round has left behind could be held against a later round.
-            board.undecided++;
-            for (Kept &kept : queues) destroy(kept);
+            if (verdict == KFIFO_JUDGE_UNDECIDED)
+                for (Kept &kept : queues) destroy(kept);
         }
     }
 
@@ -1141,7 +1158,6 @@ class Conductor {
         Slot &slot = board.slots[index];
         const std::vector<kfifo_judge_call> calls = calls_of(memory, index);
         slot.verdict = std::uint8_t(Verdict(calls, options).status());
-        board.calls += calls.size();
         board.pulse++;
         if (slot.number % 16 == 1) {
             const std::size_t working = calls.size() - slot.complete[settings.threads];
@@ -1229,7 +1245,7 @@ class Reporter {
         if (const std::optional<unsigned> bad = bad_slot()) return bad_round(*bad);
         if (ended == Ended::hang) hang();
         else if (ended == Ended::threw) end(Outcome::threw, "a call threw an exception: " + note());
-        else if (ended == Ended::broken) end(Outcome::misuse, "the check could not go on: " + note());
+        else if (ended == Ended::broken) end(Outcome::no_verdict, "the check could not go on: " + note());
         else end(Outcome::crash, crash(status));
         return finish_with_round();
     }
@@ -1293,7 +1309,7 @@ class Reporter {
         else if (verdict.status() == KFIFO_JUDGE_UNDECIDED)
             end(Outcome::undecided, "a round of this queue is undecided\n" + report.reason);
         else
-            end(Outcome::misuse, "this is no verdict on the queue: a log could not be judged, since a push or a pop "
+            end(Outcome::no_verdict, "this is no verdict on the queue: a log could not be judged, since a push or a pop "
                                  "returned an answer that it cannot have, or the test has a fault\n" + report.reason);
         while (!report.text.empty() && report.text.back() == '\n') report.text.pop_back();
         return finish(index, calls, KFIFO_DRAW_EVIDENCE);
@@ -1427,7 +1443,9 @@ inline Settings settings_of(const CheckOptions &options, bool takes_capacity) {
     of.options = options;
     of.seed = options.seed != 0 ? options.seed : std::random_device()();
     of.takes_capacity = takes_capacity;
-    const auto most = [](const std::vector<unsigned> &values) { return *std::max_element(values.begin(), values.end()); };
+    const auto most = [](const std::vector<unsigned> &values) {
+        return *std::max_element(values.begin(), values.end());
+    };
     of.threads = options.callers == Callers::one_of_each ? 2 : most(options.threads);
     const unsigned filled = (takes_capacity ? most(options.capacities) : FILLED_WITHOUT_CAPACITY) / 2 + 1;
     of.room = most(options.calls) + filled;
@@ -1446,10 +1464,11 @@ inline void conduct(const Settings &settings, const Maker &make, const SharedMem
     try {
         Conductor(settings, make, memory).run();
     } catch (const std::exception &thrown) {
-        board.write_note(thrown.what());
-        board.end(what_of(board.lanes[settings.threads].now) == Doing::making ? Ended::threw : Ended::broken);
+        const bool is_making = what_of(board.lanes[settings.threads].now) == Doing::making;
+        board.write_note((is_making ? "the maker: " : "") + std::string(thrown.what()));
+        board.end(is_making ? Ended::threw : Ended::broken);
     } catch (...) {
-        board.write_note("something that is no std::exception");
+        board.write_note("the maker: something that is no std::exception");
         board.end(Ended::threw);
     }
 }
@@ -1468,7 +1487,8 @@ inline CheckReport run_here(const Settings &settings, const Maker &make, const S
 }
 
 // The child process. It dies with its parent, and leaves without destructors and exit handlers, which are its parent's.
-[[noreturn]] inline void be_child(const Settings &settings, const Maker &make, const SharedMemory &memory, pid_t parent) {
+[[noreturn]] inline void be_child(const Settings &settings, const Maker &make, const SharedMemory &memory,
+                                  pid_t parent) {
     prctl(PR_SET_PDEATHSIG, SIGKILL);
     if (getppid() != parent) _exit(1);
     // A test framework's handlers would report the child's crash as their own.
@@ -1477,9 +1497,10 @@ inline CheckReport run_here(const Settings &settings, const Maker &make, const S
     _exit(0);
 }
 
-// Waits until the child ends, which closes its end of the pipe. One that neither plays nor judges for a long time, without
-// being in a call, is killed: a faulty queue may have damaged its memory.
-inline int wait_for_child(pid_t child, int pipe_end, const Board &board, const CheckOptions &options, std::uint64_t began) {
+// Waits until the child ends, which closes its end of the pipe. One that neither plays nor judges for a long time is
+// killed: a faulty queue may have damaged its memory.
+inline int wait_for_child(pid_t child, int pipe_end, const Board &board, const CheckOptions &options,
+                          std::uint64_t began) {
     Progress progress(options);
     std::uint64_t pulse = 0, alive = nanoseconds();
     pollfd end{pipe_end, POLLIN, 0};
@@ -1543,8 +1564,8 @@ CheckReport run_check(Make make, Push push, Pop pop, const CheckOptions &options
     return checking::run(make, none, push, pop, options);
 }
 
-// The same for a queue whose threads call through handles: handle(queue, thread) returns what push and pop get in place of
-// the queue. Handles are made with the queue, one for each thread from 0 up, and destroyed before it.
+// The same for a queue whose threads call through handles: handle(queue, thread) returns what push and pop get in place
+// of the queue. Handles are made with the queue, one for each thread from 0 up, and destroyed before it.
 template <class Make, class Handle, class Push, class Pop>
 CheckReport run_check_with_handles(Make make, Handle handle, Push push, Pop pop, const CheckOptions &options = {}) {
     return checking::run(make, handle, push, pop, options);
@@ -1560,7 +1581,8 @@ CheckReport check(Make make, Push push, Pop pop, const CheckOptions &options = {
 
 template <class Make, class Handle, class Push, class Pop>
 CheckReport check_with_handles(Make make, Handle handle, Push push, Pop pop, const CheckOptions &options = {}) {
-    CheckReport report = run_check_with_handles(std::move(make), std::move(handle), std::move(push), std::move(pop), options);
+    CheckReport report =
+        run_check_with_handles(std::move(make), std::move(handle), std::move(push), std::move(pop), options);
     if (!report.passed()) throw CheckFailed(std::move(report));
     return report;
 }
