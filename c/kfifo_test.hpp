@@ -347,9 +347,9 @@ struct Design {
 inline std::string text(const Design &design) {
     static const char *const mixes[] = {"pushes and pops alternate", "some threads push and the others pop", "bursts",
                                         "nearly empty", "nearly full", "half full"};
-    static const char *const callers[] = {"", "one producer, ", "one consumer, ", "one producer and one consumer, "};
+    static const char *const callers[] = {"", "one producer", "one consumer", "one producer and one consumer"};
     return std::to_string(design.threads) + " threads, " + std::to_string(design.calls) + " calls each, " +
-           (design.callers == Callers::any ? std::string(mixes[int(design.mix)]) + ", " : callers[int(design.callers)]) +
+           (design.callers == Callers::any ? mixes[int(design.mix)] : callers[int(design.callers)]) + ", " +
            (design.capacity ? "capacity " + std::to_string(design.capacity) + ", " : "") +
            (design.pauses ? "pauses" : "no pauses") + (design.pinned ? ", pinned" : "") +
            (design.signals ? ", interrupted by signals" : "") + (design.fresh ? ", fresh threads" : "");
@@ -493,7 +493,6 @@ class Log {
         : lane(of), next(to), clock(by), number(round), thread_(thread) {
         lane.now.store(doing(Doing::nothing, 0, 0, number), std::memory_order_release);
     }
-    ~Log() { lane.now.store(doing(Doing::nothing, 0, complete, number), std::memory_order_release); }
 
     // Just before a call.
     void begin(kfifo_judge_op op, std::uint32_t item) noexcept {
@@ -513,7 +512,7 @@ class Log {
         complete++;
         lane.now.store(doing(Doing::nothing, 0, complete, number), std::memory_order_release);
     }
-    // How many calls are complete. One that an exception has left is not: nobody knows what it did.
+    // How many calls are complete. One that an exception came out of is not, since nobody knows what it did.
     std::uint32_t length() const noexcept { return complete; }
 
   private:
@@ -1003,7 +1002,8 @@ class Conductor {
         slot.number = ++played;
         std::fill(std::begin(slot.complete), std::end(slot.complete), 0);
         slot.state = SlotState::playing;
-        Kept &kept = ready(slot.design);
+        Kept &kept = kept_for(slot.design);
+        if (!is_ready(kept, slot.design)) return void(board.end(Ended::threw));
         barrier.reset();
         started = nanoseconds();
         const std::function<void(unsigned)> job = [&](unsigned thread) { take_part(index, thread, kept); };
@@ -1042,21 +1042,24 @@ class Conductor {
         return design;
     }
 
-    Kept &ready(const Design &design) {
+    Kept &kept_for(const Design &design) {
         auto kept = std::find_if(queues.begin(), queues.end(),
                                  [&](const Kept &it) { return it.capacity == design.capacity; });
-        if (kept == queues.end()) {
-            queues.emplace_back();
-            kept = queues.end() - 1;
-            kept->capacity = design.capacity;
-        }
+        if (kept != queues.end()) return *kept;
+        queues.emplace_back();
+        queues.back().capacity = design.capacity;
+        return queues.back();
+    }
+
+    // Makes a new queue where there is none, or the old one has served its time. False where the maker throws.
+    bool is_ready(Kept &kept, const Design &design) {
         const std::uint32_t items = design.threads * settings.room;
-        if (kept->queue && kept->rounds < ROUNDS_OF_A_QUEUE && kept->next_item <= MAX_ITEM - items) return *kept;
-        destroy(*kept);
+        if (kept.queue && kept.rounds < ROUNDS_OF_A_QUEUE && kept.next_item <= MAX_ITEM - items) return true;
+        destroy(kept);
         set_doing(Doing::making);
-        kept->queue = make(design.capacity, settings.threads);
+        const bool is_made = is_kept([&] { kept.queue = make(design.capacity, settings.threads); }, "the maker");
         set_doing(Doing::nothing);
-        return *kept;
+        return is_made;
     }
 
     void destroy(Kept &kept) {
@@ -1086,24 +1089,25 @@ class Conductor {
         const Task task{design, thread, kept.next_item + thread * settings.room, options.different_items};
         Log log(board.lanes[thread], memory.log(index, thread), clock, thread, slot.number);
         std::uint32_t used = 0;
-        const bool is_filled = is_kept([&] { used = kept.queue->fill(log, task, own); }, thread);
+        const std::string who = "thread " + std::to_string(thread);
+        const bool is_filled = is_kept([&] { used = kept.queue->fill(log, task, own); }, who);
         barrier.wait(design.threads);
         if (thread == 0) note_wait(design);
         if (design.signals) timers[thread].arm(own);
-        if (is_filled) is_kept([&] { kept.queue->work(log, task, own, used); }, thread);
+        if (is_filled) is_kept([&] { kept.queue->work(log, task, own, used); }, who);
         if (design.signals) timers[thread].disarm();
         slot.complete[thread] = log.length();
     }
 
-    // Calls it, and keeps the text of an exception that it throws.
-    template <class Call> bool is_kept(Call call, unsigned thread) noexcept {
+    // Makes a call, and keeps the text of an exception that comes out of it.
+    template <class Call> bool is_kept(Call call, const std::string &who) noexcept {
         try {
             call();
             return true;
         } catch (const std::exception &thrown) {
-            board.write_note("thread " + std::to_string(thread) + ": " + thrown.what());
+            board.write_note(who + ": " + thrown.what());
         } catch (...) {
-            board.write_note("thread " + std::to_string(thread) + ": something that is no std::exception");
+            board.write_note(who + ": something that is no std::exception");
         }
         return false;
     }
@@ -1126,7 +1130,7 @@ class Conductor {
         bool is_empty = false;
         {
             Log log(board.lanes[lane], memory.log(index, lane), clock, 0, slot.number);
-            is_kept([&] { is_empty = kept.queue->drain(log, settings.drained); }, 0);
+            is_kept([&] { is_empty = kept.queue->drain(log, settings.drained); }, "thread 0, which drains the queue");
             slot.complete[lane] = log.length();
         }
         if (board.has_note) board.end(Ended::threw);
@@ -1243,8 +1247,9 @@ class Reporter {
         if (ended == Ended::in_time && status == 0) return passed();
         // A round that was played before may already show what led to a hang or a crash, and says more.
         if (const std::optional<unsigned> bad = bad_slot()) return bad_round(*bad);
-        if (ended == Ended::hang) hang();
-        else if (ended == Ended::threw) end(Outcome::threw, "a call threw an exception: " + note());
+        // The thread whose call threw waits for the others, which looks like a hang of that call.
+        if (ended == Ended::hang && !board.has_note) hang();
+        else if (ended == Ended::hang || ended == Ended::threw) end(Outcome::threw, "an exception came out of " + note());
         else if (ended == Ended::broken) end(Outcome::no_verdict, "the check could not go on: " + note());
         else end(Outcome::crash, crash(status));
         return finish_with_round();
@@ -1309,8 +1314,8 @@ class Reporter {
         else if (verdict.status() == KFIFO_JUDGE_UNDECIDED)
             end(Outcome::undecided, "a round of this queue is undecided\n" + report.reason);
         else
-            end(Outcome::no_verdict, "this is no verdict on the queue: a log could not be judged, since a push or a pop "
-                                 "returned an answer that it cannot have, or the test has a fault\n" + report.reason);
+            end(Outcome::no_verdict, "this says nothing of the queue: a log could not be judged. A push answers done, "
+                                     "full, busy or worn, a pop got, empty, busy or worn.\n" + report.reason);
         while (!report.text.empty() && report.text.back() == '\n') report.text.pop_back();
         return finish(index, calls, KFIFO_DRAW_EVIDENCE);
     }
@@ -1463,13 +1468,9 @@ inline void conduct(const Settings &settings, const Maker &make, const SharedMem
     const Watcher watcher(board, memory.lanes(), settings.options.hang_seconds, on_hang);
     try {
         Conductor(settings, make, memory).run();
-    } catch (const std::exception &thrown) {
-        const bool is_making = what_of(board.lanes[settings.threads].now) == Doing::making;
-        board.write_note((is_making ? "the maker: " : "") + std::string(thrown.what()));
-        board.end(is_making ? Ended::threw : Ended::broken);
-    } catch (...) {
-        board.write_note("the maker: something that is no std::exception");
-        board.end(Ended::threw);
+    } catch (const std::exception &thrown) { // no memory, or no thread
+        board.write_note(thrown.what());
+        board.end(Ended::broken);
     }
 }
 
@@ -1553,8 +1554,8 @@ CheckReport run(Make &make, Handle &handle, Push &push, Pop &pop, const CheckOpt
 // Runs rounds on a queue and reports what was found. Throws std::invalid_argument where an option is out of range, and
 // std::system_error or std::bad_alloc where the system has no process or no memory.
 //
-// make() or make(capacity) returns a new queue, or a std::unique_ptr or std::shared_ptr to one; it need not be movable. A
-// queue that is made with a capacity may hold more, since a wrong Full is not judged.
+// make() or make(capacity) returns a new queue, or a std::unique_ptr or std::shared_ptr to one. It need not be movable,
+// and may hold more or fewer items than the capacity: a wrong Full is not judged.
 // push(queue, item), with a std::uint32_t from 1 to 16,777,215, returns bool or kfifo::Answer.
 // pop(queue) returns a std::optional of a whole number, or kfifo::Popped.
 // Many threads call push and pop at once. What they call must return: a push to a full queue says so and does not wait.

@@ -3,9 +3,9 @@
 //     test_checker [--long | --measure] [QUEUE ..]
 //
 // Without a word each faulty queue has 5 seconds and each right one 2. --long gives a right queue 30 seconds, and also
-// tries the queue whose fault may take 20. --measure prints a table in Markdown of how long it takes to find each fault,
-// over five seeds. With FEWER, for sanitizers, it runs right queues alone, in this process. The last line is 'N passed,
-// M failed'.
+// tries the queue whose fault may take 20. --measure prints a table in Markdown of how long it takes to find each
+// fault, over five seeds. With FEWER, for sanitizers, it runs right queues alone, in this process. The last line is
+// 'N passed, M failed'.
 #include "checker/queues.hpp"
 #include "kfifo_test.hpp"
 
@@ -191,7 +191,8 @@ bool is_right(const Row &row, double seconds) {
     return is_right;
 }
 
-// A row of the table: the time to the first fault in the median and at worst, calls judged a second, and what was found.
+// Prints a row of the table: the time to the first fault in the median and at worst, calls judged a second, and what
+// was found.
 bool measure(const Row &row) {
     constexpr int SEEDS = 5;
     std::vector<double> times;
@@ -247,8 +248,8 @@ int main(int count, char **words) {
     const std::string program = words[0];
     if (program.find('/') != program.npos) folder = program.substr(0, program.rfind('/'));
     if (mode == "--measure")
-        std::printf("| Queue | Time to the first fault, median | Worst | Calls judged a second | Overlapping | Found |\n"
-                    "|---|---|---|---|---|---|\n");
+        std::printf("| Queue | Time to the first fault, median | Worst | Calls judged a second | Overlapping calls | "
+                    "Found |\n|---|---|---|---|---|---|\n");
     int passed = 0, failed = 0;
     for (const Row &row : ROWS) {
         if (!is_wanted(row, names, !mode.empty())) continue;

@@ -1,6 +1,6 @@
-// Queues for the tests of kfifo_test.hpp: some with a fault each, and some that are right. Each is made with a capacity,
-// which some ignore; push says whether the item is in the queue, and pop returns the item or nothing. No faulty queue
-// waits or sleeps at its fault, apart from RingFault::paused: only the schedule makes the fault show.
+// Queues for the tests of kfifo_test.hpp: some with a fault each, and some that are right. Each is made with a
+// capacity, which some ignore; push says whether the item is in the queue, and pop returns the item or nothing. No
+// faulty queue sleeps at its fault, apart from RingFault::paused: only the schedule makes the fault show.
 //
 // HAVE_BOOST, HAVE_TBB, HAVE_CDS, HAVE_CONCURRENTQUEUE and HAVE_KFIFO say which libraries there are.
 #ifndef CHECKER_QUEUES_HPP
