@@ -859,7 +859,9 @@ class Watcher {
         const std::uint64_t here = processor_time(lane), spent = here > last.spent ? here - last.spent : 0;
         lane.spent = spent;
         lane.lasted = last.ticks * TICK;
-        return spent >= limit || last.ticks * TICK >= 10 * limit;
+        // To make or to destroy a queue may take longer than a call.
+        const bool is_call = what_of(now) == Doing::push || what_of(now) == Doing::pop;
+        return (is_call && spent >= limit) || last.ticks * TICK >= 10 * limit;
     }
     static std::uint64_t processor_time(const Lane &lane) noexcept {
         timespec time{};
@@ -1085,7 +1087,7 @@ class Conductor {
         const Design &design = slot.design;
         note_clock(board.lanes[thread]);
         run_on(design.pinned ? std::vector<int>{allowed[thread % allowed.size()]} : allowed);
-        Random own(design.seed + thread * 0x632be59bd9b4e019);
+        Random own(design.seed + std::uint64_t(thread) * 0x632be59bd9b4e019);
         const Task task{design, thread, kept.next_item + thread * settings.room, options.different_items};
         Log log(board.lanes[thread], memory.log(index, thread), clock, thread, slot.number);
         std::uint32_t used = 0;
@@ -1130,7 +1132,7 @@ class Conductor {
         bool is_empty = false;
         {
             Log log(board.lanes[lane], memory.log(index, lane), clock, 0, slot.number);
-            is_kept([&] { is_empty = kept.queue->drain(log, settings.drained); }, "thread 0, which drains the queue");
+            is_kept([&] { is_empty = kept.queue->drain(log, settings.drained); }, "thread 0, as it empties the queue");
             slot.complete[lane] = log.length();
         }
         if (board.has_note) board.end(Ended::threw);
@@ -1249,7 +1251,8 @@ class Reporter {
         if (const std::optional<unsigned> bad = bad_slot()) return bad_round(*bad);
         // The thread whose call threw waits for the others, which looks like a hang of that call.
         if (ended == Ended::hang && !board.has_note) hang();
-        else if (ended == Ended::hang || ended == Ended::threw) end(Outcome::threw, "an exception came out of " + note());
+        else if (ended == Ended::hang || ended == Ended::threw)
+            end(Outcome::threw, "an exception came out of " + note());
         else if (ended == Ended::broken) end(Outcome::no_verdict, "the check could not go on: " + note());
         else end(Outcome::crash, crash(status));
         return finish_with_round();
@@ -1273,12 +1276,11 @@ class Reporter {
     }
 
     std::string counts() const {
-        std::string text = grouped(report.rounds) + " rounds, " + grouped(report.calls) + " calls, " +
-                           rounded(100 * report.overlapping, 0) + " % of them overlapping, undecided rounds " +
-                           grouped(report.undecided) + ", " + rounded(report.seconds, 2) + " s, seed " +
-                           std::to_string(report.seed);
+        std::string text = "rounds " + grouped(report.rounds) + ", undecided " + grouped(report.undecided) + ", calls " +
+                           grouped(report.calls) + ", overlapping " + rounded(100 * report.overlapping, 0) + " %, " +
+                           rounded(report.seconds, 2) + " s, seed " + std::to_string(report.seed);
         if (report.least_at_least == 0) return text;
-        text += "\nleast k, of " + grouped(board.least_rounds) + " rounds: at least " +
+        text += "\nleast k of some rounds, " + grouped(board.least_rounds) + " of them: at least " +
                 std::to_string(report.least_at_least) + ", at most ";
         return text + (report.least_at_most > 0 ? std::to_string(report.least_at_most) : "unknown");
     }
@@ -1314,8 +1316,8 @@ class Reporter {
         else if (verdict.status() == KFIFO_JUDGE_UNDECIDED)
             end(Outcome::undecided, "a round of this queue is undecided\n" + report.reason);
         else
-            end(Outcome::no_verdict, "this says nothing of the queue: a log could not be judged. A push answers done, "
-                                     "full, busy or worn, a pop got, empty, busy or worn.\n" + report.reason);
+            end(Outcome::no_verdict, "this says nothing of the queue: a round could not be judged\n" + report.reason +
+                                         "a push answers done, full, busy or worn, a pop got, empty, busy or worn");
         while (!report.text.empty() && report.text.back() == '\n') report.text.pop_back();
         return finish(index, calls, KFIFO_DRAW_EVIDENCE);
     }
@@ -1412,9 +1414,9 @@ class Progress {
         next = seconds + 0.2;
         has_shown = true;
         const std::uint64_t sampled = board.sampled, share = sampled ? 100 * board.overlapping / sampled : 0;
-        std::fprintf(stderr, "\r\033[K%s rounds, %s calls, %d %% overlapping, undecided %s, %.1f s",
-                     grouped(board.rounds).c_str(), grouped(board.calls).c_str(), int(share),
-                     grouped(board.undecided).c_str(), seconds);
+        std::fprintf(stderr, "\r\033[K%.1f s, %s calls, %d %% overlapping, %s rounds legal, %s undecided", seconds,
+                     grouped(board.calls).c_str(), int(share), grouped(board.rounds - board.undecided).c_str(),
+                     grouped(board.undecided).c_str());
     }
 
   private:
@@ -1500,7 +1502,7 @@ inline CheckReport run_here(const Settings &settings, const Maker &make, const S
 
 // Waits until the child ends, which closes its end of the pipe. One that neither plays nor judges for a long time is
 // killed: a faulty queue may have damaged its memory.
-inline int wait_for_child(pid_t child, int pipe_end, const Board &board, const CheckOptions &options,
+inline int wait_for_child(pid_t child, int pipe_end, Board &board, const CheckOptions &options,
                           std::uint64_t began) {
     Progress progress(options);
     std::uint64_t pulse = 0, alive = nanoseconds();
@@ -1508,7 +1510,9 @@ inline int wait_for_child(pid_t child, int pipe_end, const Board &board, const C
     while (poll(&end, 1, 100) <= 0) {
         progress.show(board, seconds_since(began));
         if (std::exchange(pulse, board.pulse.load()) != board.pulse) alive = nanoseconds();
-        if (seconds_since(alive) > 120 + 20 * options.hang_seconds) kill(child, SIGKILL);
+        if (seconds_since(alive) < 120 + 20 * options.hang_seconds) continue;
+        board.write_note("it was killed, since no round ended for a long time");
+        kill(child, SIGKILL);
     }
     int status = 0;
     while (waitpid(child, &status, 0) < 0)

@@ -146,7 +146,7 @@ void options_out_of_range() {
 void limits_and_counts() {
     const CheckReport rounds = run(Fault::none, some(40));
     expect(rounds.passed() && rounds.rounds == 40 && rounds.calls > 40 * 150, "a limit of rounds", rounds);
-    expect(rounds.seed != 0 && rounds.log.empty() && has(rounds.text, "40 rounds"), "what is said of a pass", rounds);
+    expect(rounds.seed != 0 && rounds.log.empty() && has(rounds.text, "rounds 40, "), "what is said of a pass", rounds);
     expect(rounds.least_at_least == 0, "the least k only where it is asked for", rounds);
     CheckOptions options = some(0);
     options.seconds = 0.3;
