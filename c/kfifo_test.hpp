@@ -118,14 +118,14 @@ struct CheckOptions {
 
 // How a check ended.
 enum class Outcome {
-    passed,    // each round has a legal order, or was undecided where options.fail_undecided is not set
+    passed,    // each round has a legal order, or was undecided where options.fail_undecided is not set, but not all
     no_order,  // a round has no legal order: the queue is not a FIFO queue for this k
     hang,      // a call did not return
     crash,     // the child process died by a signal, or ended by itself
     threw,     // the maker, a push or a pop threw an exception
     undecided, // the judge found neither an order nor evidence, and options.fail_undecided is set
-    no_verdict // a log could not be judged, as where a push answers got, or the check could not go on; this says
-               // nothing of the queue
+    no_verdict // this says nothing of the queue: a round could not be judged, as where a push answers got, the check
+               // could not go on, no pop took an item, or each round was undecided
 };
 
 // What a check found.
@@ -161,6 +161,7 @@ class CheckFailed : public std::runtime_error {
 namespace checking {
 
 constexpr unsigned MAX_THREADS = 64;
+constexpr std::size_t MAX_CALLS = 65536;      // of a round: so many can be judged
 constexpr unsigned SLOTS = 8;                 // how many rounds are run before they are judged together
 constexpr unsigned ROUNDS_OF_A_QUEUE = 2000;  // after so many rounds a queue gives way to a new one
 constexpr std::uint32_t MAX_ITEM = 16777215;
@@ -211,14 +212,14 @@ inline std::vector<int> processors() {
     std::vector<int> found;
     if (pthread_getaffinity_np(pthread_self(), sizeof set, &set) == 0)
         for (int i = 0; i < CPU_SETSIZE; i++)
-            if (CPU_ISSET(i, &set)) found.push_back(i);
+            if (CPU_ISSET(std::size_t(i), &set)) found.push_back(i);
     return found;
 }
 
 inline void run_on(const std::vector<int> &allowed) noexcept {
     cpu_set_t set;
     CPU_ZERO(&set);
-    for (int i : allowed) CPU_SET(i, &set);
+    for (int i : allowed) CPU_SET(std::size_t(i), &set);
     if (!allowed.empty()) (void)pthread_setaffinity_np(pthread_self(), sizeof set, &set);
 }
 
@@ -428,7 +429,7 @@ struct Board {
     std::atomic<bool> has_note{false};
     std::atomic<std::uint64_t> rounds{0}, calls{0}, undecided{0}, sampled{0}, overlapping{0}, pulse{0};
     std::atomic<std::uint32_t> least_rounds{0}, least_at_least{0}, least_at_most{0}, least_unknown{0};
-    std::atomic<bool> has_ticks{false};
+    std::atomic<bool> has_ticks{false}, has_got{false}; // whether times are ticks, and whether any pop took an item
     char note[512] = {}; // of an exception: what it says
     Lane lanes[MAX_THREADS + 1];
     Slot slots[SLOTS];
@@ -1165,6 +1166,7 @@ class Conductor {
         const std::vector<kfifo_judge_call> calls = calls_of(memory, index);
         slot.verdict = std::uint8_t(Verdict(calls, options).status());
         board.pulse++;
+        if (!board.has_got && std::any_of(calls.begin(), calls.end(), has_got)) board.has_got = true;
         if (slot.number % 16 == 1) {
             const std::size_t working = calls.size() - slot.complete[settings.threads];
             board.sampled += working;
@@ -1172,6 +1174,8 @@ class Conductor {
         }
         if ((options.least || options.k > 1) && slot.number % 64 == 1) find_least(calls);
     }
+
+    static bool has_got(const kfifo_judge_call &call) noexcept { return call.answer == KFIFO_JUDGE_GOT; }
 
     void find_least(const std::vector<kfifo_judge_call> &calls) {
         kfifo_judge_report report{};
@@ -1246,7 +1250,7 @@ class Reporter {
         report.seconds = seconds;
         count();
         const Ended ended = board.ended;
-        if (ended == Ended::in_time && status == 0) return passed();
+        if (ended == Ended::in_time && status == 0) return no_fault();
         // A round that was played before may already show what led to a hang or a crash, and says more.
         if (const std::optional<unsigned> bad = bad_slot()) return bad_round(*bad);
         // The thread whose call threw waits for the others, which looks like a hang of that call.
@@ -1276,20 +1280,22 @@ class Reporter {
     }
 
     std::string counts() const {
-        std::string text = "rounds " + grouped(report.rounds) + ", undecided " + grouped(report.undecided) + ", calls " +
-                           grouped(report.calls) + ", overlapping " + rounded(100 * report.overlapping, 0) + " %, " +
-                           rounded(report.seconds, 2) + " s, seed " + std::to_string(report.seed);
+        std::string text = "rounds " + grouped(report.rounds) + ", undecided " + grouped(report.undecided) +
+                           ", calls " + grouped(report.calls) + ", overlapping " +
+                           rounded(100 * report.overlapping, 0) + " %, " + rounded(report.seconds, 2) + " s, seed " +
+                           std::to_string(report.seed);
         if (report.least_at_least == 0) return text;
         text += "\nleast k of some rounds, " + grouped(board.least_rounds) + " of them: at least " +
                 std::to_string(report.least_at_least) + ", at most ";
         return text + (report.least_at_most > 0 ? std::to_string(report.least_at_most) : "unknown");
     }
 
-    CheckReport passed() {
-        end(Outcome::passed, report.rounds == report.undecided
-                                 ? "no round has a verdict"
-                                 : "no fault was found; each round with a verdict is legal for k = " +
-                                       std::to_string(settings.options.k));
+    // A check that could not have found a fault has not passed.
+    CheckReport no_fault() {
+        if (report.rounds == report.undecided) end(Outcome::no_verdict, "no round has a verdict");
+        else if (!board.has_got) end(Outcome::no_verdict, "no pop took an item, so this says nothing of the queue");
+        else end(Outcome::passed, "no fault was found; each round with a verdict is legal for k = " +
+                                      std::to_string(settings.options.k));
         report.text += "\n" + counts();
         return report;
     }
@@ -1457,8 +1463,8 @@ inline Settings settings_of(const CheckOptions &options, bool takes_capacity) {
     const unsigned filled = (takes_capacity ? most(options.capacities) : FILLED_WITHOUT_CAPACITY) / 2 + 1;
     of.room = most(options.calls) + filled;
     const std::size_t pushes = std::size_t(of.threads) * most(options.calls) + filled + of.threads;
-    of.drained = unsigned(std::min<std::size_t>(pushes, KFIFO_JUDGE_MAX_CALLS) + BUSY_GETS);
-    refuse_if(2 * pushes + BUSY_GETS > KFIFO_JUDGE_MAX_CALLS,
+    of.drained = unsigned(std::min(pushes, MAX_CALLS) + BUSY_GETS);
+    refuse_if(2 * pushes + BUSY_GETS > MAX_CALLS,
               "a round has too many calls: threads times calls, with half a capacity, are at most 32,000");
     return of;
 }

@@ -7,6 +7,20 @@
 #include <iterator>
 #include <string>
 
+// What the judge is made to say, in place of its verdict: KFIFO_JUDGE_LEGAL leaves it alone.
+static kfifo_judge_status pretended = KFIFO_JUDGE_LEGAL;
+
+extern "C" kfifo_judge_status __real_kfifo_judge_calls(const kfifo_judge_call *, std::size_t, std::uint32_t,
+                                                       std::uint64_t, kfifo_judge_report *);
+extern "C" kfifo_judge_status __wrap_kfifo_judge_calls(const kfifo_judge_call *calls, std::size_t count,
+                                                       std::uint32_t k, std::uint64_t tries,
+                                                       kfifo_judge_report *report) {
+    if (pretended == KFIFO_JUDGE_LEGAL) return __real_kfifo_judge_calls(calls, count, k, tries, report);
+    *report = {};
+    if (pretended == KFIFO_JUDGE_UNDECIDED) report->text = strdup("undecided for k = 1: the tries ran out\n");
+    return report->status = pretended;
+}
+
 namespace {
 
 using kfifo::Answer;
@@ -326,6 +340,24 @@ void wrong_use() {
         [](Queue &queue, std::uint32_t item) { return queue.push(item); }, [](Queue &queue) { return queue.pop(); },
         some(10));
     expect(maker.outcome == Outcome::threw && has(maker.text, "the maker: no queue today"), "a maker throws", maker);
+    const CheckReport full = kfifo::run_check([] { return Queue(); }, [](Queue &, std::uint32_t) { return false; },
+                                              [](Queue &queue) { return queue.pop(); }, some(20));
+    expect(full.outcome == Outcome::no_verdict && has(full.text, "no pop took an item"), "an idle queue", full);
+}
+
+void other_verdicts() {
+    pretended = KFIFO_JUDGE_UNDECIDED;
+    const CheckReport all = run(Fault::none, some(20));
+    expect(all.outcome == Outcome::no_verdict && all.undecided == 20, "each round is undecided", all);
+    CheckOptions options = some(20);
+    options.fail_undecided = true;
+    const CheckReport first = run(Fault::none, options);
+    expect(first.outcome == Outcome::undecided && first.undecided == 1, "an undecided round is a failure", first);
+    expect(has(first.text, "undecided for k = 1") && has(content(first.log), "enq"), "its log", first);
+    pretended = KFIFO_JUDGE_NO_MEMORY;
+    const CheckReport memory = run(Fault::none, some(20));
+    expect(memory.outcome == Outcome::no_verdict && has(memory.text, "ran out of memory"), "no memory", memory);
+    pretended = KFIFO_JUDGE_LEGAL;
 }
 
 void threw() {
@@ -413,6 +445,7 @@ int main(int, char **words) {
     no_order();
     relaxed();
     wrong_use();
+    other_verdicts();
     threw();
 #ifndef FEWER
     ends_of_the_child();
