@@ -181,13 +181,6 @@ inline void relax() noexcept {
 #endif
 }
 
-// Waits without sleeping. Where it takes long, other threads need the processor.
-template <class Ready> void spin_until(Ready ready) {
-    for (unsigned turn = 0; !ready(); turn++)
-        if (turn < 1000) relax();
-        else sched_yield();
-}
-
 // Random numbers, by SplitMix64.
 class Random {
   public:
@@ -222,6 +215,35 @@ inline void run_on(const std::vector<int> &allowed) noexcept {
     for (int i : allowed) CPU_SET(std::size_t(i), &set);
     if (!allowed.empty()) (void)pthread_setaffinity_np(pthread_self(), sizeof set, &set);
 }
+
+// Asks for short time slices for this thread while it lives, so that on a busy machine the thread soon gets a processor.
+// Linux has this since 6.12; an older one leaves all as it is.
+class ShortSlices {
+  public:
+    ShortSlices() noexcept {
+        before.size = sizeof before;
+        if (syscall(SYS_sched_getattr, 0, &before, sizeof before, 0) != 0 || before.policy != SCHED_OTHER) return;
+        Attributes shorter = before;
+        shorter.runtime = 100000; // nanoseconds, the least that is allowed
+        is_set = syscall(SYS_sched_setattr, 0, &shorter, 0) == 0;
+    }
+    ShortSlices(const ShortSlices &) = delete;
+    ShortSlices &operator=(const ShortSlices &) = delete;
+    ~ShortSlices() {
+        if (is_set) (void)syscall(SYS_sched_setattr, 0, &before, 0);
+    }
+
+  private:
+    struct Attributes { // the kernel's sched_attr
+        std::uint32_t size, policy;
+        std::uint64_t flags;
+        std::int32_t nice;
+        std::uint32_t priority;
+        std::uint64_t runtime, deadline, period;
+    };
+    Attributes before{};
+    bool is_set = false;
+};
 
 // ---- The clock ----
 
@@ -329,7 +351,7 @@ struct Design {
     bool pauses = false;    // 0 to 50 spins before each call
     bool pinned = false;    // each thread to a processor
     bool signals = false;   // a timer's signal keeps threads inside their calls
-    bool fresh = false;     // new threads, as when the machine is busy with other work
+    bool busy = false;      // other programs use the processors too
     std::uint64_t seed = 0; // what the threads draw from
 
     bool pushes(unsigned thread) const noexcept { return callers == Callers::any || is_pusher(thread); }
@@ -353,7 +375,7 @@ inline std::string text(const Design &design) {
            (design.callers == Callers::any ? mixes[int(design.mix)] : callers[int(design.callers)]) + ", " +
            (design.capacity ? "capacity " + std::to_string(design.capacity) + ", " : "") +
            (design.pauses ? "pauses" : "no pauses") + (design.pinned ? ", pinned" : "") +
-           (design.signals ? ", interrupted by signals" : "") + (design.fresh ? ", fresh threads" : "");
+           (design.signals ? ", interrupted by signals" : "") + (design.busy ? ", the machine was busy" : "");
 }
 
 // Says before each call of a thread whether it is a push.
@@ -654,33 +676,69 @@ template <class Make, class Handle, class Push, class Pop> class Subject final :
 
 // ---- Threads ----
 
-// Where the threads of a round wait for each other.
-class Barrier {
+// How a thread waits for others: it spins first, and then sleeps until the bell is rung. On a busy machine it sleeps
+// soon. A thread that spins or yields there uses up its share of the processor, and then waits long for the next one.
+class Bell {
   public:
-    void reset() noexcept { arrived = 0; }
-    void wait(unsigned threads) noexcept {
-        arrived.fetch_add(1);
-        spin_until([&] { return arrived.load() >= threads; });
+    // What makes `ready` true rings the bell after it.
+    template <class Ready> void wait(Ready ready, bool is_busy) {
+        for (unsigned turn = 0; turn < (is_busy ? 200 : 3000); turn++) {
+            if (ready()) return;
+            if (turn < 1000) relax();
+            else sched_yield();
+        }
+        std::unique_lock<std::mutex> lock(mutex);
+        condition.wait(lock, ready);
+    }
+    void ring() {
+        // A thread that has just found nothing ready either sleeps by now, or looks once more.
+        { const std::lock_guard<std::mutex> guard(mutex); }
+        condition.notify_all();
     }
 
   private:
+    std::mutex mutex;
+    std::condition_variable condition;
+};
+
+// Where the threads of a round wait for each other, so that they begin together.
+class Barrier {
+  public:
+    void reset() noexcept { arrived = 0; }
+    void wait(unsigned threads, bool is_busy) {
+        const unsigned number = arrived.fetch_add(1) + 1;
+        if (is_busy) wait_for_partner(std::min(number + number % 2, threads));
+        else if (number == threads) bell.ring();
+        else bell.wait([&] { return arrived.load() >= threads; }, false);
+    }
+
+  private:
+    // On a busy machine few of the threads have a processor at a time, so they begin in pairs. A thread that slept or
+    // yielded might lose its processor before the other one has one.
+    void wait_for_partner(unsigned number) noexcept {
+        const std::uint64_t end = nanoseconds() + 5000000;
+        while (arrived.load() < number && nanoseconds() < end) relax();
+    }
     std::atomic<unsigned> arrived{0};
+    Bell bell;
 };
 
 // A timer whose signal keeps its thread where it is for 0 to 30 microseconds, so also inside a call: other threads then
-// make many steps between two of its own. It belongs to the thread that arms it.
+// make many steps between two of its own. It belongs to the thread that arms it first.
 class StallTimer {
   public:
     StallTimer() = default;
-    StallTimer(StallTimer &&other) noexcept : timer(other.timer), owner(std::exchange(other.owner, 0)) {}
-    ~StallTimer() { forget(); }
+    StallTimer(const StallTimer &) = delete;
+    StallTimer &operator=(const StallTimer &) = delete;
+    ~StallTimer() {
+        if (is_made) timer_delete(timer);
+    }
 
     static int signal() noexcept { return SIGRTMAX - 2; }
 
     void arm(Random &random) noexcept {
-        const pid_t here = pid_t(syscall(SYS_gettid));
-        if (here != owner) make(here);
-        if (owner == 0) return;
+        if (!is_made) make();
+        if (!is_made) return;
         itimerspec when{};
         when.it_interval.tv_nsec = PERIOD;
         when.it_value.tv_nsec = 1 + long(random.below(PERIOD));
@@ -688,7 +746,7 @@ class StallTimer {
     }
     void disarm() noexcept {
         const itimerspec never{};
-        if (owner != 0) timer_settime(timer, 0, &never, nullptr);
+        if (is_made) timer_settime(timer, 0, &never, nullptr);
     }
 
     static void stay(int) noexcept {
@@ -699,12 +757,8 @@ class StallTimer {
   private:
     static constexpr long PERIOD = 100000; // nanoseconds
 
-    void forget() noexcept {
-        if (owner != 0) timer_delete(timer);
-        owner = 0;
-    }
-    void make(pid_t here) noexcept {
-        forget();
+    void make() noexcept {
+        const pid_t here = pid_t(syscall(SYS_gettid));
         sigevent event{};
         event.sigev_notify = SIGEV_THREAD_ID;
         event.sigev_signo = signal();
@@ -713,10 +767,10 @@ class StallTimer {
 #else
         event._sigev_un._tid = here;
 #endif
-        if (timer_create(CLOCK_MONOTONIC, &event, &timer) == 0) owner = here;
+        is_made = timer_create(CLOCK_MONOTONIC, &event, &timer) == 0;
     }
     timer_t timer{};
-    pid_t owner = 0; // 0: there is no timer
+    bool is_made = false;
 };
 
 // Takes the timers' signal while it lives.
@@ -750,76 +804,48 @@ class Crew {
     ~Crew() { stop(); }
 
     // Runs job(0) to job(threads - 1), each in its thread, and returns when all have ended.
-    void run(unsigned threads, const std::function<void(unsigned)> &job) {
+    void run(unsigned threads, const std::function<void(unsigned)> &job, bool busy) {
         current = &job;
         ended = 0;
-        ring(word.load() / 256 * 256 + 256 + threads);
+        is_busy = busy;
+        start(word.load() / 256 * 256 + 256 + threads);
         job(0);
-        spin_until([&] { return ended.load() + 1 >= threads; });
-    }
-
-    // The same with threads that end with the job.
-    static void run_fresh(unsigned threads, const std::function<void(unsigned)> &job) {
-        std::atomic<int> go{0}; // 1: run the job, 2: a thread could not be started
-        std::vector<std::thread> fresh;
-        const auto finish = [&](int how) {
-            go = how;
-            if (how == 1) job(0);
-            for (std::thread &thread : fresh) thread.join();
-        };
-        try {
-            for (unsigned i = 1; i < threads; i++) fresh.emplace_back([&go, &job, i] {
-                spin_until([&go] { return go != 0; });
-                if (go == 1) job(i);
-            });
-        } catch (...) {
-            finish(2);
-            throw;
-        }
-        finish(1);
+        end.wait([&] { return ended.load() + 1 >= threads; }, busy);
     }
 
   private:
     static constexpr std::uint64_t STOP = ~std::uint64_t(0);
 
-    void ring(std::uint64_t next) {
+    void start(std::uint64_t next) {
         word = next;
-        { const std::lock_guard<std::mutex> guard(mutex); }
-        bell.notify_all();
+        begin.ring();
     }
     void stop() {
-        ring(STOP);
+        start(STOP);
         for (std::thread &thread : others) thread.join();
     }
     // One word says which job it is and how many threads it has. With two words a thread that looks late could join a
     // job that is just being made.
     void serve(unsigned thread) {
-        std::uint64_t seen = 0;
-        while ((seen = wait_for_other(seen)) != STOP)
-            if (thread < seen % 256) {
-                (*current)(thread);
-                ended.fetch_add(1);
-            }
-    }
-    // A thread that spun on would take the processor from the judge.
-    std::uint64_t wait_for_other(std::uint64_t seen) {
-        std::uint64_t now = 0;
-        for (unsigned turn = 0; turn < 3000; turn++) {
-            if ((now = word.load()) != seen) return now;
-            if (turn < 1000) relax();
-            else sched_yield();
+        const ShortSlices slices;
+        std::uint64_t seen = 0, now = 0;
+        for (;;) {
+            begin.wait([&] { return (now = word.load()) != seen; }, is_busy);
+            seen = now;
+            if (now == STOP) return;
+            const unsigned threads = unsigned(now % 256);
+            if (thread >= threads) continue;
+            (*current)(thread);
+            if (ended.fetch_add(1) + 2 == threads) end.ring();
         }
-        std::unique_lock<std::mutex> lock(mutex);
-        bell.wait(lock, [&] { return (now = word.load()) != seen; });
-        return now;
     }
 
-    std::vector<std::thread> others;
     const std::function<void(unsigned)> *current = nullptr;
+    std::atomic<bool> is_busy{false};
     alignas(128) std::atomic<std::uint64_t> word{0};
     alignas(128) std::atomic<unsigned> ended{0};
-    std::mutex mutex;
-    std::condition_variable bell;
+    Bell begin, end;
+    std::vector<std::thread> others; // last, since they use the rest
 };
 
 // Finds calls that do not return, from a thread of its own. Only the processor time of the very thread that is in the
@@ -1010,8 +1036,7 @@ class Conductor {
         barrier.reset();
         started = nanoseconds();
         const std::function<void(unsigned)> job = [&](unsigned thread) { take_part(index, thread, kept); };
-        if (slot.design.fresh) Crew::run_fresh(slot.design.threads, job);
-        else crew.run(slot.design.threads, job);
+        crew.run(slot.design.threads, job, slot.design.busy);
         kept.next_item += slot.design.threads * settings.room;
         kept.rounds++;
         if (board.has_note) return void(board.end(Ended::threw));
@@ -1035,10 +1060,11 @@ class Conductor {
         design.pinned = random.below(2) == 0;
         design.signals = random.below(4) == 0 && options.signals;
         design.seed = random.next();
-        // Kept threads wait for a time slice at each barrier where the machine is busy. There new ones find more.
+        // On a busy machine threads wait long before a round, and the one that shares a processor with another program
+        // even longer if it is pinned to it.
         if (busy_rounds > 0) {
             busy_rounds--;
-            design.fresh = true;
+            design.busy = true;
             design.pinned = false;
             design.calls = *std::max_element(options.calls.begin(), options.calls.end());
         }
@@ -1094,7 +1120,7 @@ class Conductor {
         std::uint32_t used = 0;
         const std::string who = "thread " + std::to_string(thread);
         const bool is_filled = is_kept([&] { used = kept.queue->fill(log, task, own); }, who);
-        barrier.wait(design.threads);
+        barrier.wait(design.threads, design.busy);
         if (thread == 0) note_wait(design);
         if (design.signals) timers[thread].arm(own);
         if (is_filled) is_kept([&] { kept.queue->work(log, task, own, used); }, who);
@@ -1118,7 +1144,7 @@ class Conductor {
     // Looks whether threads had to wait long for each other, though each could have had a processor of its own. The
     // first round after a judgement does not count, since threads may have slept.
     void note_wait(const Design &design) noexcept {
-        if (is_first || design.fresh || design.threads > allowed.size()) return;
+        if (is_first || design.busy || design.threads > allowed.size()) return;
         waits++;
         long_waits += nanoseconds() - started > 500000;
         if (waits < 16) return;
@@ -1146,7 +1172,7 @@ class Conductor {
         const unsigned judges = std::min({unsigned(allowed.size()), settings.threads, count});
         crew.run(judges, [&](unsigned) {
             for (unsigned index = next++; index < count; index = next++) judge_round(index);
-        });
+        }, busy_rounds > 0);
         for (unsigned index = 0; index < count; index++) {
             Slot &slot = board.slots[index];
             const auto verdict = kfifo_judge_status(slot.verdict.load());
@@ -1197,6 +1223,7 @@ class Conductor {
     const Maker &make;
     const SharedMemory &memory;
     Board &board;
+    const ShortSlices slices;
     std::vector<int> allowed;
     Clock clock;
     Random random;
@@ -1297,6 +1324,8 @@ class Reporter {
         else end(Outcome::passed, "no fault was found; each round with a verdict is legal for k = " +
                                       std::to_string(settings.options.k));
         report.text += "\n" + counts();
+        if (report.overlapping < 0.2)
+            report.text += "\nfew calls overlapped, so few faults could show: the threads need more processors";
         return report;
     }
 
@@ -1338,10 +1367,11 @@ class Reporter {
     }
 
     std::string crash(int status) const {
-        std::string text = "the process that made the calls ended with status " + std::to_string(WEXITSTATUS(status));
+        std::string text = "the process that made the calls ";
         if (WIFSIGNALED(status))
-            text = "the process that made the calls died by signal " + std::to_string(WTERMSIG(status)) + " (" +
-                   strsignal(WTERMSIG(status)) + ")";
+            text += "died by signal " + std::to_string(WTERMSIG(status)) + " (" + strsignal(WTERMSIG(status)) + ")";
+        else if (status != 0) text += "ended with status " + std::to_string(WEXITSTATUS(status));
+        else text += "ended before its time"; // or its status is not known, where the caller ignores SIGCHLD
         if (board.has_note) text += ": " + note();
         bool is_in_call = false;
         for (unsigned lane = 0; lane < memory.lanes(); lane++)
