@@ -216,8 +216,8 @@ inline void run_on(const std::vector<int> &allowed) noexcept {
     if (!allowed.empty()) (void)pthread_setaffinity_np(pthread_self(), sizeof set, &set);
 }
 
-// Asks for short time slices for this thread while it lives, so that on a busy machine the thread soon gets a processor.
-// Linux has this since 6.12; an older one leaves all as it is.
+// Asks for short time slices for this thread, so that on a busy machine it soon gets a processor. Linux has this since
+// 6.12; an older one leaves all as it is.
 class ShortSlices {
   public:
     ShortSlices() noexcept {

@@ -2,10 +2,10 @@
 //
 //     test_checker [--long | --measure] [QUEUE ..]
 //
-// Without a word each faulty queue has 5 seconds, on a busy machine 15, and each right one 2. --long gives a right queue
-// 30 seconds, and also tries the queue whose fault may take 20. --measure prints a table in Markdown of how long it
-// takes to find each fault, over five seeds. With FEWER, for sanitizers, it runs right queues alone, in this process.
-// The last line is 'N passed, M failed'.
+// Without a word each faulty queue has 5 seconds, on a busy machine 15, and each right one 2. --long gives a right
+// queue 30 seconds, and also tries the queue whose fault may take 20. --measure prints a table in Markdown of how long
+// it takes to find each fault, over five seeds. With FEWER, for sanitizers, it runs right queues alone, in this
+// process. The last line is 'N passed, M failed'.
 #include "checker/queues.hpp"
 #include "kfifo_test.hpp"
 
