@@ -1536,24 +1536,26 @@ inline CheckReport run_here(const Settings &settings, const Maker &make, const S
     _exit(0);
 }
 
-// Waits until the child ends, which closes its end of the pipe. One that neither plays nor judges for a long time is
-// killed: a faulty queue may have damaged its memory.
+// Waits until the child ends, and returns its status, or 0 where the caller ignores SIGCHLD. The pipe closes when the
+// child ends, but later if another thread of the caller forks meanwhile. A child that neither plays nor judges for a
+// long time is killed: a faulty queue may have damaged its memory.
 inline int wait_for_child(pid_t child, int pipe_end, Board &board, const CheckOptions &options,
                           std::uint64_t began) {
     Progress progress(options);
     std::uint64_t pulse = 0, alive = nanoseconds();
     pollfd end{pipe_end, POLLIN, 0};
-    while (poll(&end, 1, 100) <= 0) {
+    for (;;) {
+        const bool is_closed = poll(&end, 1, 100) > 0;
+        int status = 0;
+        const pid_t ended = waitpid(child, &status, is_closed ? 0 : WNOHANG);
+        if (ended == child) return status;
+        if (ended < 0 && errno != EINTR) return 0;
         progress.show(board, seconds_since(began));
         if (std::exchange(pulse, board.pulse.load()) != board.pulse) alive = nanoseconds();
         if (seconds_since(alive) < 120 + 20 * options.hang_seconds) continue;
         board.write_note("it was killed, since no round ended for a long time");
         kill(child, SIGKILL);
     }
-    int status = 0;
-    while (waitpid(child, &status, 0) < 0)
-        if (errno != EINTR) return 0; // the caller ignores SIGCHLD; what the board says counts
-    return status;
 }
 
 inline CheckReport run_apart(const Settings &settings, const Maker &make, const SharedMemory &memory) {
