@@ -988,9 +988,10 @@ class Conductor {
         board.has_ticks = clock.has_ticks();
         note_clock(board.lanes[of.threads]);
     }
+    // A queue that was found faulty is left as it is: its destructor could crash, and nobody would see the report.
     ~Conductor() {
         run_on(allowed);
-        for (auto &kept : queues) destroy(kept);
+        for (Kept &kept : queues) (void)kept.queue.release();
     }
 
     void run() {
@@ -999,6 +1000,8 @@ class Conductor {
             const unsigned count = play();
             if (board.ended == Ended::not_yet) judge(count);
         }
+        if (board.ended != Ended::not_yet) return;
+        for (Kept &kept : queues) destroy(kept);
         board.end(Ended::in_time);
     }
 
@@ -1041,6 +1044,7 @@ class Conductor {
         kept.rounds++;
         if (board.has_note) return void(board.end(Ended::threw));
         drain(index, kept);
+        if (board.has_note) return void(board.end(Ended::threw));
         slot.state = SlotState::played;
         board.pulse++;
     }
@@ -1086,7 +1090,7 @@ class Conductor {
         if (kept.queue && kept.rounds < ROUNDS_OF_A_QUEUE && kept.next_item <= MAX_ITEM - items) return true;
         destroy(kept);
         set_doing(Doing::making);
-        const bool is_made = is_kept([&] { kept.queue = make(design.capacity, settings.threads); }, "the maker");
+        const bool is_made = completes([&] { kept.queue = make(design.capacity, settings.threads); }, "the maker");
         set_doing(Doing::nothing);
         return is_made;
     }
@@ -1119,17 +1123,17 @@ class Conductor {
         Log log(board.lanes[thread], memory.log(index, thread), clock, thread, slot.number);
         std::uint32_t used = 0;
         const std::string who = "thread " + std::to_string(thread);
-        const bool is_filled = is_kept([&] { used = kept.queue->fill(log, task, own); }, who);
+        const bool is_filled = completes([&] { used = kept.queue->fill(log, task, own); }, who);
         barrier.wait(design.threads, design.busy);
         if (thread == 0) note_wait(design);
         if (design.signals) timers[thread].arm(own);
-        if (is_filled) is_kept([&] { kept.queue->work(log, task, own, used); }, who);
+        if (is_filled) completes([&] { kept.queue->work(log, task, own, used); }, who);
         if (design.signals) timers[thread].disarm();
         slot.complete[thread] = log.length();
     }
 
-    // Makes a call, and keeps the text of an exception that comes out of it.
-    template <class Call> bool is_kept(Call call, const std::string &who) noexcept {
+    // Whether a call returns. If an exception comes out of it, its text is kept.
+    template <class Call> bool completes(Call call, const std::string &who) noexcept {
         try {
             call();
             return true;
@@ -1159,11 +1163,10 @@ class Conductor {
         bool is_empty = false;
         {
             Log log(board.lanes[lane], memory.log(index, lane), clock, 0, slot.number);
-            is_kept([&] { is_empty = kept.queue->drain(log, settings.drained); }, "thread 0, as it empties the queue");
+            completes([&] { is_empty = kept.queue->drain(log, settings.drained); }, "thread 0, as it empties the queue");
             slot.complete[lane] = log.length();
         }
-        if (board.has_note) board.end(Ended::threw);
-        else if (!is_empty) destroy(kept);
+        if (!is_empty && !board.has_note) destroy(kept);
     }
 
     // Judges the rounds that were played, several at a time.

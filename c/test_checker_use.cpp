@@ -60,13 +60,16 @@ std::string content(const std::string &name) {
 }
 
 // A right queue that can be neither copied nor moved. `fault` says what goes wrong at the items that 100 divides.
-enum class Fault { none, lost, wide_item, spins, sleeps, crashes, throws, exits };
+enum class Fault { none, lost, wide_item, spins, sleeps, crashes, throws, exits, at_its_end };
 
 class Queue {
   public:
     explicit Queue(Fault of = Fault::none) : fault(of) {}
     Queue(const Queue &) = delete;
     Queue &operator=(const Queue &) = delete;
+    ~Queue() {
+        if (fault == Fault::at_its_end) std::raise(SIGSEGV);
+    }
 
     bool push(std::uint32_t item) {
         if (item % 100 == 0 && fail()) return true;
@@ -382,6 +385,8 @@ void ends_of_the_child() {
     expect(crash.outcome == Outcome::crash && has(crash.text, "died by signal 11"), "a crash", crash);
     expect(names_fault(crash, "was in the push of item ", "00"), "where it crashed", crash);
     expect(has_unfinished(crash), "the log of a crash", crash);
+    const CheckReport end = run(Fault::at_its_end, some(10));
+    expect(end.outcome == Outcome::crash && has(end.text, "was in the destructor of the queue"), "a last crash", end);
     const CheckReport exited = run(Fault::exits, some(1000));
     expect(exited.outcome == Outcome::crash && has(exited.text, "ended with status 7"), "an exit", exited);
     CheckOptions options = some(1000);
