@@ -1163,7 +1163,7 @@ class Conductor {
         bool is_empty = false;
         {
             Log log(board.lanes[lane], memory.log(index, lane), clock, 0, slot.number);
-            completes([&] { is_empty = kept.queue->drain(log, settings.drained); }, "thread 0, as it empties the queue");
+            completes([&] { is_empty = kept.queue->drain(log, settings.drained); }, "a pop that empties the queue");
             slot.complete[lane] = log.length();
         }
         if (!is_empty && !board.has_note) destroy(kept);
