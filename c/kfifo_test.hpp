@@ -991,7 +991,7 @@ class Conductor {
     // A queue that was found faulty is left as it is: its destructor could crash, and nobody would see the report.
     ~Conductor() {
         run_on(allowed);
-        for (Kept &kept : queues) (void)kept.queue.release();
+        for (Kept &kept : queues) leave(kept.queue.release());
     }
 
     void run() {
@@ -1012,6 +1012,14 @@ class Conductor {
         std::uint32_t next_item = 1;
         std::unique_ptr<Instance> queue;
     };
+
+    // Something still leads to the queue, so that a sanitizer reports no leak.
+    static void leave(Instance *queue) {
+        static std::mutex mutex;
+        static std::vector<Instance *> *const left = new std::vector<Instance *>;
+        const std::lock_guard<std::mutex> guard(mutex);
+        if (queue != nullptr) left->push_back(queue);
+    }
 
     bool is_over() const noexcept {
         return (options.seconds > 0 && double(nanoseconds() - began) >= options.seconds * 1e9) ||
