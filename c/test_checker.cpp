@@ -1,0 +1,268 @@
+// Whether kfifo_test.hpp finds the faults of faulty queues, and none in right ones.
+//
+//     test_checker [--long | --measure] [QUEUE ..]
+//
+// Without a word each faulty queue has 5 seconds, on a busy machine 15, and each right one 2. --long gives a right
+// queue 30 seconds, and also tries the queue whose fault may take 20. --measure prints a table in Markdown of how long
+// it takes to find each fault, over five seeds. With FEWER, for sanitizers, it runs right queues alone, in this
+// process. The last line is 'N passed, M failed'.
+#include "checker/queues.hpp"
+#include "kfifo_test.hpp"
+
+#include <cstdio>
+#include <cstring>
+#include <map>
+#include <string>
+#include <vector>
+
+namespace {
+
+using kfifo::Callers;
+using kfifo::CheckOptions;
+using kfifo::CheckReport;
+using kfifo::Outcome;
+using queues::Outside;
+using queues::RingFault;
+
+// What a check may find: the evidence of the judge, or a hang.
+enum Found : unsigned { NOTHING = 0, NEVER_PUT = 1, TWICE = 2, EMPTY = 4, OVERTAKEN = 8, HANG = 16, OTHER = 32 };
+
+const std::map<Found, const char *> NAMES = {
+    {NOTHING, "nothing"},     {NEVER_PUT, "never put"}, {TWICE, "taken twice"}, {EMPTY, "not empty"},
+    {OVERTAKEN, "too young"}, {HANG, "hang"},           {OTHER, "other"},
+};
+
+Found found_by(const CheckReport &report) {
+    static const std::map<const char *, Found> signs = {
+        {"which no call before its end put", NEVER_PUT},
+        {"which was taken more often than put", TWICE},
+        {"found nothing, while there were items", EMPTY},
+        {"older item", OVERTAKEN},
+    };
+    if (report.passed()) return NOTHING;
+    if (report.outcome == Outcome::hang) return HANG;
+    if (report.outcome != Outcome::no_order) return OTHER;
+    const std::string line = report.reason.substr(0, report.reason.find("\n  "));
+    for (const auto &sign : signs)
+        if (line.find(sign.first) != line.npos) return sign.second;
+    return OTHER;
+}
+
+using Run = CheckReport (*)(const CheckOptions &);
+
+template <class Queue> CheckReport run(const CheckOptions &options) {
+    return kfifo::run_check([](std::size_t capacity) { return Queue(capacity); },
+                            [](auto &queue, std::uint32_t item) { return queue.push(item); },
+                            [](auto &queue) { return queue.pop(); }, options);
+}
+
+kfifo::Answer answer_of(kfifo::Put put) {
+    switch (put) {
+    case kfifo::Put::done: return kfifo::Answer::done;
+    case kfifo::Put::full: return kfifo::Answer::full;
+    case kfifo::Put::busy: return kfifo::Answer::busy;
+    default: return kfifo::Answer::worn;
+    }
+}
+
+kfifo::Popped popped_of(const kfifo::Taken &taken) {
+    if (taken.item) return {kfifo::Answer::got, *taken.item};
+    switch (taken.why) {
+    case kfifo::Miss::empty: return {kfifo::Answer::empty, 0};
+    case kfifo::Miss::busy: return {kfifo::Answer::busy, 0};
+    default: return {kfifo::Answer::worn, 0};
+    }
+}
+
+// This repository's queue, whose threads call through passes.
+CheckReport run_kfifo(const CheckOptions &options) {
+    const std::uint32_t k = options.k;
+    return kfifo::run_check_with_handles(
+        [k](std::size_t capacity) {
+            return kfifo::Queue(k, std::max(2U, std::uint32_t(capacity) / k), kfifo::checking::MAX_THREADS);
+        },
+        [](kfifo::Queue &queue, unsigned thread) { return queue.pass(thread); },
+        [](kfifo::Pass &pass, std::uint32_t item) { return answer_of(pass.enqueue(item)); },
+        [](kfifo::Pass &pass) { return popped_of(pass.dequeue()); }, options);
+}
+#ifdef HAVE_BOOST
+constexpr Run BOOST = run<queues::Boost>;
+#else
+constexpr Run BOOST = nullptr;
+#endif
+#ifdef HAVE_TBB
+constexpr Run TBB = run<queues::Tbb>;
+#else
+constexpr Run TBB = nullptr;
+#endif
+#ifdef HAVE_CDS
+constexpr Run CDS = run<queues::CdsMichaelScott>;
+#else
+constexpr Run CDS = nullptr;
+#endif
+#ifdef HAVE_CONCURRENTQUEUE
+constexpr Run MOODYCAMEL = run<queues::Moodycamel>;
+#else
+constexpr Run MOODYCAMEL = nullptr;
+#endif
+
+struct Row {
+    const char *name;
+    unsigned faults;        // what may be found, of which one must be; NOTHING of a right queue
+    Run run;                // null where the library is not there
+    const char *needs = ""; // the package of that library
+    Callers callers = Callers::any;
+    std::uint32_t k = 1;
+    bool is_hard = false; // its fault may take 20 seconds
+    double hang_seconds = 0.5;
+};
+
+const Row ROWS[] = {
+    {"lifo", OVERTAKEN, run<queues::Lifo>},
+    {"moodycamel", EMPTY | OVERTAKEN, MOODYCAMEL, "libconcurrentqueue-dev"},
+    {"ring-early-empty", EMPTY, run<queues::Ring<RingFault::early_empty>>},
+    {"ring-paused", EMPTY, run<queues::Ring<RingFault::paused>>},
+    {"ring-lost-update", NEVER_PUT | TWICE | EMPTY | OVERTAKEN | HANG, run<queues::Ring<RingFault::lost_update>>},
+    {"ring-early-publish", NEVER_PUT | TWICE | EMPTY | OVERTAKEN, run<queues::Ring<RingFault::early_publish>>},
+    {"ring-late-read", NEVER_PUT | TWICE | EMPTY | OVERTAKEN, run<queues::Ring<RingFault::late_read>>},
+    {"empty-outside-lock", NEVER_PUT | TWICE | EMPTY | OVERTAKEN, run<queues::TwoLocks<Outside::empty>>},
+    {"full-outside-lock", NEVER_PUT | TWICE | EMPTY | OVERTAKEN, run<queues::TwoLocks<Outside::full>>},
+    {"two-thread-ring", NEVER_PUT | TWICE | EMPTY | OVERTAKEN, run<queues::TwoThreadRing>},
+    {"wrong-copy", NEVER_PUT | TWICE | EMPTY | OVERTAKEN, run<queues::WrongCopy>},
+    {"wrap-16", NEVER_PUT | TWICE | EMPTY | OVERTAKEN, run<queues::Wrap16>},
+    {"michael-scott-no-tags", NEVER_PUT | TWICE | EMPTY | OVERTAKEN | HANG, run<queues::MichaelScott<0, true>>},
+    {"michael-scott-3-bit-tags", NEVER_PUT | TWICE | EMPTY | OVERTAKEN | HANG, run<queues::MichaelScott<3, true>>},
+    {"michael-scott-6-bit-tags", NEVER_PUT | TWICE | EMPTY | OVERTAKEN | HANG, run<queues::MichaelScott<6, true>>, "",
+     Callers::any, 1, true},
+    {"michael-scott-one-look", NEVER_PUT | TWICE | EMPTY | OVERTAKEN | HANG, run<queues::MichaelScott<32, false>>},
+    {"kept-lock", HANG, run<queues::KeptLock>, "", Callers::any, 1, false, 0.2},
+    {"mutex", NOTHING, run<queues::MutexDeque>},
+    {"ring", NOTHING, run<queues::Ring<RingFault::none>>},
+    {"michael-scott", NOTHING, run<queues::MichaelScott<32, true>>},
+    {"two-thread-ring-used-rightly", NOTHING, run<queues::TwoThreadRing>, "", Callers::one_of_each},
+    {"boost", NOTHING, BOOST, "libboost-dev"},
+    {"tbb", NOTHING, TBB, "libtbb-dev"},
+    {"cds-michael-scott", NOTHING, CDS, "libcds-dev"},
+    {"moodycamel-two-threads", NOTHING, MOODYCAMEL, "libconcurrentqueue-dev", Callers::one_of_each},
+    {"kfifo-1", NOTHING, run_kfifo, "libkfifo"},
+    {"kfifo-4", NOTHING, run_kfifo, "libkfifo", Callers::any, 4},
+    {"kfifo-16", NOTHING, run_kfifo, "libkfifo", Callers::any, 16},
+};
+
+std::string names_of(unsigned faults) {
+    std::string names;
+    for (const auto &name : NAMES)
+        if (faults & name.first) names += (names.empty() ? "" : ", ") + std::string(name.second);
+    return names;
+}
+
+// The logs of the faulty queues go beside the program.
+std::string folder = ".";
+
+CheckOptions options_of(const Row &row, double seconds) {
+    CheckOptions options;
+    options.k = row.k;
+    options.callers = row.callers;
+    options.hang_seconds = row.hang_seconds;
+    options.seconds = seconds;
+    options.files = folder + "/test_checker";
+#ifdef FEWER
+    options.in_process = true;
+#endif
+    return options;
+}
+
+// Whether a check of the queue finds what it should. Prints a line, and the whole report where it does not.
+bool is_right(const Row &row, double seconds) {
+    const CheckReport report = row.run(options_of(row, seconds));
+    const Found found = found_by(report);
+    const bool is_right = row.faults == NOTHING ? found == NOTHING && report.rounds > 0 : (found & row.faults) != 0;
+    std::printf("%s: %s: found %s in %.2f s, %llu rounds, %.0f %% of the calls overlapping\n", row.name,
+                is_right ? "passed" : "FAILED", NAMES.at(found), report.seconds, (unsigned long long)report.rounds,
+                100 * report.overlapping);
+    if (!is_right)
+        std::printf("  wanted %s\n%s\n", row.faults ? names_of(row.faults).c_str() : "nothing", report.text.c_str());
+    std::fflush(stdout);
+    return is_right;
+}
+
+// Prints a row of the table: the time to the first fault in the median and at worst, calls judged a second, and what
+// was found.
+bool measure(const Row &row) {
+    constexpr int SEEDS = 5;
+    std::vector<double> times;
+    double calls = 0, seconds = 0, overlapping = 0;
+    unsigned found = 0;
+    bool is_right = true;
+    for (int seed = 1; seed <= SEEDS; seed++) {
+        CheckOptions options = options_of(row, row.faults == NOTHING ? 2 : row.is_hard ? 20 : 5);
+        options.seed = std::uint64_t(seed);
+        const CheckReport report = row.run(options);
+        times.push_back(report.seconds);
+        calls += double(report.calls);
+        seconds += report.seconds;
+        overlapping += report.overlapping / SEEDS;
+        found |= found_by(report);
+        is_right = is_right && (row.faults == NOTHING ? report.passed() : !report.passed());
+    }
+    std::sort(times.begin(), times.end());
+    std::printf(row.faults == NOTHING ? "| %s | none in %.0f s | - |" : "| %s | %.3f s | %.3f s |", row.name,
+                row.faults == NOTHING ? seconds : times[SEEDS / 2], times.back());
+    std::printf(" %.1f million | %.0f %% | %s |%s\n", calls / seconds / 1e6, 100 * overlapping,
+                found ? names_of(found).c_str() : "-", is_right ? "" : " FAILED");
+    std::fflush(stdout);
+    return is_right;
+}
+
+bool is_wanted(const Row &row, const std::vector<std::string> &names, bool is_long) {
+#ifdef FEWER
+    if (row.faults != NOTHING || *row.needs != '\0') return false;
+#endif
+    if (!names.empty()) return std::find(names.begin(), names.end(), row.name) != names.end();
+    return is_long || !row.is_hard;
+}
+
+// Where other programs use the processors too, a fault takes longer to find.
+bool is_busy() {
+    double load = 0;
+    return getloadavg(&load, 1) == 1 && load > std::thread::hardware_concurrency();
+}
+
+double seconds_of(const Row &row, bool is_long) {
+#ifdef FEWER
+    return (void)row, (void)is_long, 1;
+#endif
+    if (row.faults != NOTHING) return (row.is_hard ? 20 : 5) * (is_busy() ? 3 : 1);
+    return is_long ? 30 : 2;
+}
+
+} // namespace
+
+int main(int count, char **words) {
+    std::vector<std::string> names(words + 1, words + count);
+    const std::string mode = !names.empty() && names[0].rfind("--", 0) == 0 ? names[0] : "";
+    if (!mode.empty()) names.erase(names.begin());
+    if (!mode.empty() && mode != "--long" && mode != "--measure") {
+        std::fprintf(stderr, "test_checker [--long | --measure] [QUEUE ..]\n");
+        return 2;
+    }
+    const std::string program = words[0];
+    if (program.find('/') != program.npos) folder = program.substr(0, program.rfind('/'));
+    if (mode == "--measure")
+        std::printf("| Queue | Time to the first fault, median | Worst | Calls judged a second | Overlapping calls | "
+                    "Found |\n|---|---|---|---|---|---|\n");
+    int passed = 0, failed = 0;
+    for (const Row &row : ROWS) {
+        if (!is_wanted(row, names, !mode.empty())) continue;
+        if (row.run == nullptr) {
+            std::printf("%s: skipped, since there is no %s\n", row.name, row.needs);
+            continue;
+        }
+        if (mode == "--measure" ? measure(row) : is_right(row, seconds_of(row, mode == "--long")))
+            passed++;
+        else
+            failed++;
+    }
+    std::printf("%d passed, %d failed\n", passed, failed);
+    return failed > 0 || passed == 0;
+}

@@ -1,0 +1,469 @@
+// How kfifo_test.hpp is used: what it refuses, which calls threads make, and how each kind of failure is reported.
+#include "kfifo_test.hpp"
+
+#include <cstdio>
+#include <deque>
+#include <fstream>
+#include <iterator>
+#include <string>
+
+// What the judge is made to say, in place of its verdict: KFIFO_JUDGE_LEGAL leaves it alone.
+static kfifo_judge_status pretended = KFIFO_JUDGE_LEGAL;
+
+extern "C" kfifo_judge_status __real_kfifo_judge_calls(const kfifo_judge_call *, std::size_t, std::uint32_t,
+                                                       std::uint64_t, kfifo_judge_report *);
+extern "C" kfifo_judge_status __wrap_kfifo_judge_calls(const kfifo_judge_call *calls, std::size_t count,
+                                                       std::uint32_t k, std::uint64_t tries,
+                                                       kfifo_judge_report *report) {
+    if (pretended == KFIFO_JUDGE_LEGAL) return __real_kfifo_judge_calls(calls, count, k, tries, report);
+    *report = {};
+    if (pretended == KFIFO_JUDGE_UNDECIDED) report->text = strdup("undecided for k = 1: the tries ran out\n");
+    return report->status = pretended;
+}
+
+namespace {
+
+using kfifo::Answer;
+using kfifo::Callers;
+using kfifo::CheckOptions;
+using kfifo::CheckReport;
+using kfifo::Outcome;
+
+int failures = 0;
+
+void expect(bool holds, const char *what, const CheckReport *report = nullptr) {
+    if (holds) return;
+    std::fprintf(stderr, "failed: %s\n%s\n", what, report ? report->text.c_str() : "");
+    failures++;
+}
+void expect(bool holds, const char *what, const CheckReport &report) { expect(holds, what, &report); }
+
+bool has(const std::string &text, const std::string &part) { return text.find(part) != text.npos; }
+
+// The files of this test stand beside the program.
+std::string folder = ".";
+
+CheckOptions some(std::uint64_t rounds) {
+    CheckOptions options;
+    options.rounds = rounds;
+    options.seconds = 20;
+    options.files = folder + "/test_checker_use";
+#ifdef FEWER
+    options.in_process = true;
+#endif
+    return options;
+}
+
+std::string content(const std::string &name) {
+    std::ifstream in(name);
+    return {std::istreambuf_iterator<char>(in), {}};
+}
+
+// A right queue that can be neither copied nor moved. `fault` says what goes wrong at the items that 100 divides.
+enum class Fault { none, lost, wide_item, spins, sleeps, crashes, throws, exits, at_its_end };
+
+class Queue {
+  public:
+    explicit Queue(Fault of = Fault::none) : fault(of) {}
+    Queue(const Queue &) = delete;
+    Queue &operator=(const Queue &) = delete;
+    ~Queue() {
+        if (fault == Fault::at_its_end) std::raise(SIGSEGV);
+    }
+
+    bool push(std::uint32_t item) {
+        if (item % 100 == 0 && fail()) return true;
+        const std::lock_guard<std::mutex> guard(mutex);
+        items.push_back(item);
+        return true;
+    }
+    std::optional<std::uint64_t> pop() {
+        const std::lock_guard<std::mutex> guard(mutex);
+        if (items.empty()) return std::nullopt;
+        std::uint64_t item = items.front();
+        items.pop_front();
+        if (fault == Fault::wide_item && item % 100 == 0) item += std::uint64_t(1) << 32;
+        return item;
+    }
+
+  private:
+    // Whether the item is lost.
+    bool fail() {
+        static std::atomic<unsigned> turns{0};
+        if (fault == Fault::spins)
+            for (;;) turns++;
+        if (fault == Fault::sleeps)
+            for (;;) std::this_thread::sleep_for(std::chrono::seconds(1));
+        if (fault == Fault::crashes) std::raise(SIGSEGV);
+        if (fault == Fault::throws) throw std::runtime_error("no such item");
+        if (fault == Fault::exits) _exit(7);
+        return fault == Fault::lost;
+    }
+
+    std::mutex mutex;
+    std::deque<std::uint64_t> items;
+    Fault fault;
+};
+
+CheckReport run(Fault fault, const CheckOptions &options) {
+    return kfifo::run_check([fault] { return Queue(fault); },
+                            [](Queue &queue, std::uint32_t item) { return queue.push(item); },
+                            [](Queue &queue) { return queue.pop(); }, options);
+}
+
+// Whether the report has a line with this beginning, then a number, and this end of it.
+bool names_fault(const CheckReport &report, const std::string &before, const std::string &end) {
+    for (std::size_t at = report.text.find(before); at != std::string::npos; at = report.text.find(before, at + 1)) {
+        const std::size_t after = report.text.find_first_not_of("0123456789", at + before.size());
+        const std::string number = report.text.substr(at + before.size(), after - at - before.size());
+        if (number.size() > 2 && has(number + report.text.substr(after, 10), end)) return true;
+    }
+    return false;
+}
+
+// Whether the log has the push of such an item, with neither a last time nor an answer.
+bool has_unfinished(const CheckReport &report) {
+    std::ifstream in(report.log);
+    for (std::string line; std::getline(in, line);)
+        if (has(line, ",enq,") && has(line, "00,") && line.substr(line.size() - 2) == ",,") return true;
+    return false;
+}
+
+bool refuses(const CheckOptions &options, const char *word) {
+    try {
+        run(Fault::none, options);
+    } catch (const std::invalid_argument &refusal) {
+        return has(refusal.what(), word);
+    }
+    return false;
+}
+
+void options_out_of_range() {
+    const auto refused = [](auto set, const char *word) {
+        CheckOptions options = some(1);
+        set(options);
+        expect(refuses(options, word), word);
+    };
+    refused([](auto &of) { of.k = 0; }, "k is");
+    refused([](auto &of) { of.k = 65; }, "k is");
+    refused([](auto &of) { of.threads = {}; }, "threads are");
+    refused([](auto &of) { of.threads = {4, 1}; }, "threads are");
+    refused([](auto &of) { of.threads = {65}; }, "threads are");
+    refused([](auto &of) { of.calls = {0}; }, "the calls of a thread");
+    refused([](auto &of) { of.calls = {}; }, "the calls of a thread");
+    refused([](auto &of) { of.capacities = {0}; }, "a capacity");
+    refused([](auto &of) { of.seconds = -1; }, "the seconds");
+    refused([](auto &of) { of.seconds = std::stod("nan"); }, "the seconds");
+    refused([](auto &of) { of.seconds = 0, of.rounds = 0; }, "neither");
+    refused([](auto &of) { of.hang_seconds = 0; }, "the time of a hang");
+    refused([](auto &of) { of.different_items = 16777216; }, "different items");
+    refused([](auto &of) { of.threads = {64}, of.calls = {1000}; }, "too many calls");
+}
+
+void limits_and_counts() {
+    const CheckReport rounds = run(Fault::none, some(40));
+    expect(rounds.passed() && rounds.rounds == 40 && rounds.calls > 40 * 150, "a limit of rounds", rounds);
+    expect(rounds.seed != 0 && rounds.log.empty() && has(rounds.text, "rounds 40, "), "what is said of a pass", rounds);
+    expect(rounds.least_at_least == 0, "the least k only where it is asked for", rounds);
+    CheckOptions options = some(0);
+    options.seconds = 0.3;
+    options.least = true;
+    const CheckReport time = run(Fault::none, options);
+    expect(time.passed() && time.seconds >= 0.3 && time.seconds < 10 && time.rounds > 0, "a limit of time", time);
+    expect(time.least_at_least == 1 && time.least_at_most == 1, "the least k of a plain queue", time);
+    CheckOptions wide = some(4);
+    wide.threads = {64};
+    wide.calls = {40};
+    expect(run(Fault::none, wide).passed(), "64 threads");
+    CheckOptions seeded = some(3);
+    seeded.seed = 7;
+    expect(run(Fault::none, seeded).seed == 7, "a seed that is given");
+}
+
+void makers_and_handles() {
+    const auto push = [](auto &queue, std::uint32_t item) { return queue.push(item); };
+    const auto pop = [](auto &queue) { return queue.pop(); };
+    const auto pointer = kfifo::check([] { return std::make_unique<Queue>(); }, push, pop, some(20));
+    expect(pointer.passed(), "a unique_ptr to a queue", pointer);
+    const auto answers = kfifo::check([] { return std::make_shared<Queue>(); },
+                                      [](Queue &queue, std::uint32_t item) {
+                                          return item % 5 == 0 ? Answer::busy : (queue.push(item), Answer::done);
+                                      },
+                                      [](Queue &queue) {
+                                          const auto item = queue.pop();
+                                          return item ? kfifo::Popped{Answer::got, *item} : kfifo::Popped{};
+                                      },
+                                      some(20));
+    expect(answers.passed(), "a shared_ptr to a queue, and answers of its own", answers);
+
+    struct Handle {
+        Handle(Queue &of, unsigned number) : queue(of), thread(number) {}
+        Handle(const Handle &) = delete;
+        Queue &queue;
+        unsigned thread;
+        std::atomic<int> inside{0};
+    };
+    const auto alone = [](Handle &handle, auto call) {
+        if (handle.inside++ != 0) throw std::logic_error("two threads use one handle");
+        auto answer = call(handle.queue);
+        handle.inside--;
+        return answer;
+    };
+    const auto handles = kfifo::check_with_handles(
+        [] { return Queue(); }, [](Queue &queue, unsigned thread) { return Handle(queue, thread); },
+        [alone](Handle &handle, std::uint32_t item) { return alone(handle, [=](Queue &of) { return of.push(item); }); },
+        [alone](Handle &handle) { return alone(handle, [](Queue &of) { return of.pop(); }); }, some(50));
+    expect(handles.passed(), "a handle for each thread", handles);
+}
+
+// Each kind of caller keeps to its calls: thread 0 pops where one thread pops, and thread 1 pushes where one pushes.
+void callers() {
+    struct Handle {
+        Queue &queue;
+        unsigned thread;
+    };
+    for (const Callers kind : {Callers::any, Callers::one_producer, Callers::one_consumer, Callers::one_of_each}) {
+        CheckOptions options = some(60);
+        options.callers = kind;
+        const bool one_pushes = kind == Callers::one_producer || kind == Callers::one_of_each;
+        const bool one_pops = kind == Callers::one_consumer || kind == Callers::one_of_each;
+        const CheckReport report =
+            kfifo::run_check_with_handles([] { return Queue(); },
+                                          [](Queue &queue, unsigned thread) {
+                                              return Handle{queue, thread};
+                                          },
+                                          [=](Handle &handle, std::uint32_t item) {
+                                              if (one_pushes && handle.thread != 1)
+                                                  throw std::logic_error("a second thread pushes");
+                                              if (one_pops && handle.thread == 0)
+                                                  throw std::logic_error("the one that pops pushes");
+                                              return handle.queue.push(item);
+                                          },
+                                          [=](Handle &handle) {
+                                              if (one_pops && handle.thread != 0)
+                                                  throw std::logic_error("a second thread pops");
+                                              if (one_pushes && handle.thread == 1)
+                                                  throw std::logic_error("the one that pushes pops");
+                                              return handle.queue.pop();
+                                          },
+                                          options);
+        expect(report.passed() && report.rounds == 60, "which thread makes which calls", report);
+    }
+}
+
+// Items are distinct in a queue's life, or drawn from few.
+void items() {
+    struct Counting : Queue {
+        std::vector<std::atomic<unsigned>> pushed = std::vector<std::atomic<unsigned>>(1 << 20);
+    };
+    const auto pushes = [](std::uint32_t most) {
+        return [most](Counting &queue, std::uint32_t item) {
+            if (item == 0 || item >= queue.pushed.size()) throw std::logic_error("an item out of range");
+            if (++queue.pushed[item] > most) throw std::logic_error("an item came again");
+            return queue.push(item);
+        };
+    };
+    const auto pop = [](Counting &queue) { return queue.pop(); };
+    const CheckReport distinct = kfifo::run_check([] { return Counting(); }, pushes(1), pop, some(200));
+    expect(distinct.passed(), "distinct items", distinct);
+    CheckOptions options = some(40);
+    options.different_items = 3;
+    const CheckReport repeated = kfifo::run_check([] { return Counting(); }, pushes(1), pop, options);
+    expect(repeated.outcome == Outcome::threw && has(repeated.text, "an item came again"), "repeated items", repeated);
+    const CheckReport few = kfifo::run_check([] { return Queue(); },
+                                             [](Queue &queue, std::uint32_t item) {
+                                                 if (item < 1 || item > 3)
+                                                     throw std::logic_error("an item out of range");
+                                                 return queue.push(item);
+                                             },
+                                             [](Queue &queue) { return queue.pop(); }, options);
+    expect(few.passed() && few.rounds == 40, "items from 1 to 3", few);
+}
+
+void no_order() {
+    const CheckReport lost = run(Fault::lost, some(1000));
+    expect(lost.outcome == Outcome::no_order && has(lost.text, "no legal order"), "a lost item", lost);
+    expect(has(lost.reason, "no order for k = 1\n") && names_fault(lost, " put ", "00 from "), "its reason", lost);
+    expect(has(lost.text, lost.reason.substr(0, lost.reason.size() - 1)), "the reason in the report", lost);
+    expect(has(lost.text, "seed " + std::to_string(lost.seed)) && has(lost.text, " threads, "), "its round", lost);
+    expect(has(content(lost.picture), "<svg"), "the picture of it", lost);
+    const std::string log = content(lost.log);
+    expect(log.rfind("thread,op,item,first,last,answer\n", 0) == 0, "the header of the log", lost);
+    kfifo_judge_report again{};
+    kfifo_judge_text(log.data(), log.size(), 1, KFIFO_JUDGE_TRIES, &again);
+    expect(again.status == KFIFO_JUDGE_NO_ORDER && lost.reason == again.text, "the log has the same verdict", lost);
+    kfifo_judge_clear(&again);
+
+    CheckOptions options = some(1000);
+    options.files = "";
+    const CheckReport wide = run(Fault::wide_item, options);
+    expect(wide.outcome == Outcome::no_order && has(wide.reason, "got item 42949"), "an item of 64 bits", wide);
+    expect(wide.log.empty() && wide.picture.empty(), "no files", wide);
+    options.files = "/no/such/folder/log";
+    const CheckReport unwritten = run(Fault::lost, options);
+    expect(unwritten.log.empty() && has(unwritten.text, "could not be written"), "files that cannot be", unwritten);
+}
+
+// A last in, first out queue of four places never passes over more than three items.
+void relaxed() {
+    class Stack {
+      public:
+        bool push(std::uint32_t item) {
+            const std::lock_guard<std::mutex> guard(mutex);
+            if (items.size() == 4) return false;
+            items.push_back(item);
+            return true;
+        }
+        std::optional<std::uint32_t> pop() {
+            const std::lock_guard<std::mutex> guard(mutex);
+            if (items.empty()) return std::nullopt;
+            const std::uint32_t item = items.back();
+            items.pop_back();
+            return item;
+        }
+
+      private:
+        std::mutex mutex;
+        std::deque<std::uint32_t> items;
+    };
+    const auto run_with = [](std::uint32_t k) {
+        CheckOptions options = some(400);
+        options.k = k;
+        return kfifo::run_check([] { return Stack(); },
+                                [](Stack &stack, std::uint32_t item) { return stack.push(item); },
+                                [](Stack &stack) { return stack.pop(); }, options);
+    };
+    const CheckReport four = run_with(4), three = run_with(3);
+    expect(four.passed(), "legal for k = 4", four);
+    expect(four.least_at_least == 4 && four.least_at_most >= 4, "the least k is 4", four);
+    expect(three.outcome == Outcome::no_order && has(three.text, "no order for k = 3"), "not for k = 3", three);
+}
+
+void wrong_use() {
+    const CheckReport answer =
+        kfifo::run_check([] { return Queue(); }, [](Queue &, std::uint32_t) { return Answer::got; },
+                         [](Queue &queue) { return queue.pop(); }, some(1000));
+    expect(answer.outcome == Outcome::no_verdict && has(answer.text, "says nothing of the queue"), "a push that got",
+           answer);
+    const CheckReport maker =
+        kfifo::run_check([]() -> std::unique_ptr<Queue> { throw std::runtime_error("no queue today"); },
+                         [](Queue &queue, std::uint32_t item) { return queue.push(item); },
+                         [](Queue &queue) { return queue.pop(); }, some(10));
+    expect(maker.outcome == Outcome::threw && has(maker.text, "the maker: no queue today"), "a maker throws", maker);
+    const CheckReport full = kfifo::run_check([] { return Queue(); }, [](Queue &, std::uint32_t) { return false; },
+                                              [](Queue &queue) { return queue.pop(); }, some(20));
+    expect(full.outcome == Outcome::no_verdict && has(full.text, "no pop took an item"), "an idle queue", full);
+}
+
+void other_verdicts() {
+    pretended = KFIFO_JUDGE_UNDECIDED;
+    const CheckReport all = run(Fault::none, some(20));
+    expect(all.outcome == Outcome::no_verdict && all.undecided == 20, "each round is undecided", all);
+    CheckOptions options = some(20);
+    options.fail_undecided = true;
+    const CheckReport first = run(Fault::none, options);
+    expect(first.outcome == Outcome::undecided && first.undecided == 1, "an undecided round is a failure", first);
+    expect(has(first.text, "undecided for k = 1") && has(content(first.log), "enq"), "its log", first);
+    pretended = KFIFO_JUDGE_NO_MEMORY;
+    const CheckReport memory = run(Fault::none, some(20));
+    expect(memory.outcome == Outcome::no_verdict && has(memory.text, "ran out of memory"), "no memory", memory);
+    pretended = KFIFO_JUDGE_LEGAL;
+}
+
+void threw() {
+    const CheckReport report = run(Fault::throws, some(1000));
+    expect(report.outcome == Outcome::threw && has(report.text, "no such item"), "a push that throws", report);
+    expect(has_unfinished(report), "the log of a call that threw", report);
+    try {
+        kfifo::check([] { return Queue(Fault::throws); },
+                     [](Queue &queue, std::uint32_t item) { return queue.push(item); },
+                     [](Queue &queue) { return queue.pop(); }, some(1000));
+        expect(false, "check throws");
+    } catch (const kfifo::CheckFailed &failed) {
+        expect(failed.report().outcome == Outcome::threw && failed.what() == failed.report().text, "what it throws",
+               failed.report());
+    }
+}
+
+#ifndef FEWER
+// These end the process that makes the calls, so they need the child process.
+void ends_of_the_child() {
+    const CheckReport crash = run(Fault::crashes, some(1000));
+    expect(crash.outcome == Outcome::crash && has(crash.text, "died by signal 11"), "a crash", crash);
+    expect(names_fault(crash, "was in the push of item ", "00"), "where it crashed", crash);
+    expect(has_unfinished(crash), "the log of a crash", crash);
+    const CheckReport end = run(Fault::at_its_end, some(10));
+    expect(end.outcome == Outcome::crash && has(end.text, "was in the destructor of the queue"), "a last crash", end);
+    const CheckReport exited = run(Fault::exits, some(1000));
+    expect(exited.outcome == Outcome::crash && has(exited.text, "ended with status 7"), "an exit", exited);
+    CheckOptions options = some(1000);
+    options.hang_seconds = 0.1;
+    for (const Fault fault : {Fault::spins, Fault::sleeps}) {
+        const CheckReport hang = run(fault, options);
+        expect(hang.outcome == Outcome::hang, "a hang", hang);
+        expect(names_fault(hang, "was in the push of item ", "00, for "), "where it hangs", hang);
+        expect(has_unfinished(hang), "the log of a hang", hang);
+        expect(hang.seconds >= 0.1 && hang.seconds < 10, "the time of a hang", hang);
+    }
+}
+
+// A hang in the process itself is reported, and then the process is aborted.
+void hang_in_process() {
+    int ends[2];
+    if (pipe(ends) != 0) return expect(false, "a pipe");
+    const pid_t child = fork();
+    if (child == 0) {
+        dup2(ends[1], 2);
+        close(ends[0]);
+        close(ends[1]);
+        CheckOptions options = some(1000);
+        options.in_process = true;
+        options.hang_seconds = 0.1;
+        run(Fault::spins, options);
+        _exit(0);
+    }
+    close(ends[1]);
+    std::string said;
+    char bytes[4096];
+    for (ssize_t count = 0; (count = read(ends[0], bytes, sizeof bytes)) > 0;) said.append(bytes, std::size_t(count));
+    close(ends[0]);
+    int status = 0;
+    waitpid(child, &status, 0);
+    expect(WIFSIGNALED(status) && WTERMSIG(status) == SIGABRT, "the process is aborted");
+    expect(has(said, "was in the push of item ") && has(said, "cannot be stopped"), said.c_str());
+}
+
+void in_process() {
+    CheckOptions options = some(50);
+    options.in_process = true;
+    expect(run(Fault::none, options).passed(), "a right queue in this process");
+    options.rounds = 1000;
+    const CheckReport lost = run(Fault::lost, options);
+    expect(lost.outcome == Outcome::no_order, "a lost item in this process", lost);
+    expect(names_fault(lost, " put ", "00 from "), "its reason in this process", lost);
+}
+#endif
+
+} // namespace
+
+int main(int, char **words) {
+    const std::string program = words[0];
+    if (program.find('/') != program.npos) folder = program.substr(0, program.rfind('/'));
+    options_out_of_range();
+    limits_and_counts();
+    makers_and_handles();
+    callers();
+    items();
+    no_order();
+    relaxed();
+    wrong_use();
+    other_verdicts();
+    threw();
+#ifndef FEWER
+    ends_of_the_child();
+    hang_in_process();
+    in_process();
+#endif
+    if (failures == 0) std::puts("test_checker_use passed");
+    return failures > 0;
+}
