@@ -1,0 +1,265 @@
+//! Rounds until the time is up or a fault is found.
+use super::clock::Random;
+use super::options::{BadOption, CAPACITIES, Design, Options};
+use super::report::{Outcome, Report};
+use super::rounds::{Pool, Round, Subject};
+use super::verdict::{Answer, Call, Least, MAX_ITEM, Verdict, judge, least};
+use super::watch::{Watch, describe};
+use std::io::{IsTerminal, Write, stderr};
+use std::process;
+use std::sync::Arc;
+use std::thread;
+use std::time::{Duration, Instant, SystemTime, UNIX_EPOCH};
+
+/// For how many rounds a queue is kept. Faults of an index that wraps show in an old queue alone.
+const KEPT_ROUNDS: u32 = 2_000;
+/// Of how many rounds one is looked at for overlapping calls, and of how many one for its least k.
+const SAMPLED: u64 = 32;
+const SAMPLED_FOR_K: u64 = 16;
+/// How often the workers are looked at, and how often the terminal is told.
+const LOOK: Duration = Duration::from_millis(20);
+const TELL: Duration = Duration::from_millis(500);
+
+/// A queue that is used again.
+struct Kept<Q> {
+    queue: Arc<Q>,
+    rounds: u32,
+    next_item: u32,
+}
+
+struct Check<Q, H> {
+    pool: Pool<Q, H>,
+    options: Options,
+    random: Random,
+    kept: [Option<Kept<Q>>; CAPACITIES.len()],
+    report: Report,
+    /// Calls of the sampled rounds, and those of them that overlap.
+    sampled: u64,
+    overlapped: u64,
+    told: Instant,
+}
+
+/// A number that no other check begins with.
+fn new_seed() -> u64 {
+    let time = SystemTime::now()
+        .duration_since(UNIX_EPOCH)
+        .unwrap_or_default();
+    let mixed = Random((time.as_nanos() as u64) ^ (u64::from(process::id()) << 40)).next();
+    mixed >> 32
+}
+
+/// Makes rounds as the options say, and returns what came of them.
+pub(super) fn run<Q: Send + Sync + 'static, H: 'static>(
+    subject: Subject<Q, H>,
+    options: Options,
+) -> Result<Report, BadOption> {
+    options.check()?;
+    let seed = options.seed.unwrap_or_else(new_seed);
+    let mut check = Check {
+        pool: Pool::new(subject, options.most_threads(), |thread| {
+            options.room(thread)
+        }),
+        random: Random(seed),
+        kept: [const { None }; CAPACITIES.len()],
+        report: Report::new(&options, seed),
+        options,
+        sampled: 0,
+        overlapped: 0,
+        told: Instant::now(),
+    };
+    check.make_rounds();
+    Ok(check.report)
+}
+
+impl<Q: Send + Sync + 'static, H: 'static> Check<Q, H> {
+    fn make_rounds(&mut self) {
+        let start = Instant::now();
+        let most = self.options.rounds.unwrap_or(u64::MAX);
+        loop {
+            self.make_round();
+            self.tell();
+            let is_over = self.report.rounds >= most || start.elapsed() >= self.options.time;
+            if is_over || !self.report.has_passed() {
+                break;
+            }
+        }
+        if self.sampled > 0 {
+            self.report.overlapping = self.overlapped as f64 / self.sampled as f64;
+        }
+        if self.report.has_passed() && self.report.taken == 0 {
+            self.report.outcome = Outcome::NothingTaken;
+        }
+        if !self.options.quiet && self.report.has_passed() {
+            self.tell_end();
+        }
+    }
+
+    /// The queue for a round, and its least item: a new queue where the old one has served, or has no numbers left.
+    fn queue_for(&mut self, design: &Design) -> (Arc<Q>, u32) {
+        let kept = &mut self.kept[design.size];
+        let items = design.items() as u32;
+        let is_good = |it: &Kept<Q>| it.rounds < KEPT_ROUNDS && it.next_item + items <= MAX_ITEM;
+        if !kept.as_ref().is_some_and(is_good) {
+            *kept = None; // the old queue goes before the new one comes
+        }
+        let make = &self.pool.shared.subject.make;
+        let kept = kept.get_or_insert_with(|| Kept {
+            queue: Arc::new(make(CAPACITIES[design.size])),
+            rounds: 0,
+            next_item: 1,
+        });
+        let base = kept.next_item;
+        kept.rounds += 1;
+        kept.next_item += items;
+        (Arc::clone(&kept.queue), base)
+    }
+
+    fn make_round(&mut self) {
+        let is_sized = self.pool.shared.subject.is_sized;
+        let design = self.options.draw(&mut self.random, is_sized);
+        let (queue, base) = self.queue_for(&design);
+        let repeated = self.options.repeated;
+        self.pool.begin(Round {
+            design,
+            queue,
+            seed: self.random.next(),
+            base,
+            repeated,
+        });
+        let hangs = self.wait(&design);
+        self.report.rounds += 1;
+        let calls = self.calls();
+        self.report.calls += calls.len() as u64;
+        if let Some((thread, message)) = self.pool.shared.panic() {
+            self.pool.is_stuck = hangs;
+            self.fail(Outcome::Panicked { thread, message }, &design, &calls);
+        } else if hangs {
+            self.pool.is_stuck = true;
+            let lanes = self.pool.shared.lanes[..design.threads].iter().enumerate();
+            let threads = lanes.map(|(thread, lane)| describe(thread, lane)).collect();
+            self.fail(Outcome::Hang { threads }, &design, &calls);
+        } else {
+            self.judge_round(&design, &calls);
+        }
+        if !self.pool.shared.is_emptied() {
+            self.kept[design.size] = None;
+        }
+    }
+
+    /// Sleeps until each thread has done its part, and returns whether one hangs.
+    fn wait(&mut self, design: &Design) -> bool {
+        let shared = &self.pool.shared;
+        let mut watch = Watch::new(design.threads);
+        let mut looked = Instant::now();
+        while shared.done() < design.threads {
+            thread::park_timeout(LOOK);
+            if looked.elapsed() < LOOK {
+                continue;
+            }
+            looked = Instant::now();
+            let (lanes, workers) = (&shared.lanes[..design.threads], &self.pool.workers);
+            if watch.sees_hang(lanes, workers, self.options.hang) {
+                return true;
+            }
+        }
+        false
+    }
+
+    /// The calls of the round in ascending order of first time, so that their numbers are their places.
+    fn calls(&self) -> Vec<Call> {
+        let lanes = self.pool.shared.lanes.iter().enumerate();
+        let mut calls: Vec<Call> = lanes
+            .flat_map(|(thread, lane)| lane.calls(thread))
+            .collect();
+        calls.sort_by_key(|call| call.first);
+        calls
+    }
+
+    fn judge_round(&mut self, design: &Design, calls: &[Call]) {
+        self.report.taken += calls
+            .iter()
+            .filter(|call| call.answer == Answer::Got)
+            .count() as u64;
+        if self.report.rounds % SAMPLED == 1 {
+            self.count_overlaps(calls);
+        }
+        match judge(calls, self.options.k, self.options.tries) {
+            Ok(Verdict::Legal { .. }) => {}
+            Ok(Verdict::NoOrder { text, .. }) => {
+                self.fail(Outcome::NoOrder { text }, design, calls)
+            }
+            Ok(Verdict::Undecided { text }) => {
+                self.report.undecided += 1;
+                if self.options.undecided_fails {
+                    self.fail(Outcome::Undecided { text }, design, calls);
+                }
+            }
+            Err(fault) => {
+                let text = fault.to_string();
+                self.fail(Outcome::Fault { text }, design, calls);
+            }
+        }
+        if self.options.k > 1 && self.report.rounds % SAMPLED_FOR_K == 1 {
+            self.look_for_least(calls);
+        }
+    }
+
+    fn look_for_least(&mut self, calls: &[Call]) {
+        let found = least(calls, self.options.tries);
+        if let Ok(Least::Between {
+            at_least,
+            at_most: Some(at_most),
+        }) = found
+        {
+            let (low, high) = self.report.least.unwrap_or((1, 1));
+            self.report.least = Some((low.max(at_least), high.max(at_most)));
+        }
+    }
+
+    fn count_overlaps(&mut self, calls: &[Call]) {
+        let mut latest = 0;
+        for (place, call) in calls.iter().enumerate() {
+            let next = calls.get(place + 1).map_or(u64::MAX, |next| next.first);
+            self.overlapped += u64::from(latest >= call.first || next <= call.last);
+            latest = latest.max(call.last);
+        }
+        self.sampled += calls.len() as u64;
+    }
+
+    fn fail(&mut self, outcome: Outcome, design: &Design, calls: &[Call]) {
+        let is_sized = self.pool.shared.subject.is_sized;
+        self.report.outcome = outcome;
+        self.report
+            .name_round(design, is_sized.then(|| CAPACITIES[design.size]));
+        self.report.write_files(&self.options, calls);
+    }
+
+    /// Says on a terminal how far the check is.
+    fn tell(&mut self) {
+        if self.options.quiet || self.told.elapsed() < TELL || !stderr().is_terminal() {
+            return;
+        }
+        self.told = Instant::now();
+        let share = 100 * self.overlapped / self.sampled.max(1);
+        let Report {
+            name,
+            rounds,
+            calls,
+            undecided,
+            ..
+        } = &self.report;
+        // Not with `eprint!`, which a test's output is caught of. What the terminal says of it does not matter.
+        let _ = write!(
+            stderr(),
+            "\r{name}: {rounds} rounds, {calls} calls, {share} % overlapping, {undecided} undecided "
+        );
+    }
+
+    /// Says what came of a check that passed. Where it failed, the caller has the report.
+    fn tell_end(&self) {
+        if stderr().is_terminal() {
+            let _ = writeln!(stderr());
+        }
+        println!("{}", self.report);
+    }
+}
