@@ -1,8 +1,9 @@
 //! The clock of the logs, and random numbers.
+use std::hint;
 use std::sync::OnceLock;
-use std::sync::atomic::{AtomicU64, Ordering, compiler_fence, fence};
+use std::sync::atomic::{AtomicBool, AtomicU64, Ordering, compiler_fence, fence};
 use std::thread;
-use std::time::Instant;
+use std::time::{Duration, Instant};
 
 /// The clock of all threads: the counter of an x86-64 processor where it runs alike on all cores, else `Instant`.
 #[derive(Clone, Copy)]
@@ -45,19 +46,25 @@ fn counter_after() -> u64 {
     0
 }
 
-/// Whether the counter never runs backwards from thread to thread: two threads hand a time to and fro.
+/// Whether the counter never runs backwards from thread to thread: two threads hand a time to and fro, for a hundredth of
+/// a second at most, since on a busy machine each turn may take long.
 fn counter_is_common() -> bool {
     const TURNS: u64 = 2_000;
+    const LIMIT: Duration = Duration::from_millis(10);
+    let start = Instant::now();
     let (turn, time) = (AtomicU64::new(0), AtomicU64::new(0));
-    let is_common = AtomicU64::new(u64::from(cfg!(target_arch = "x86_64")));
+    let is_common = AtomicBool::new(cfg!(target_arch = "x86_64"));
     let play = |mine: u64| {
         for number in (mine..TURNS).step_by(2) {
             while turn.load(Ordering::Acquire) != number {
-                thread::yield_now();
+                if start.elapsed() > LIMIT {
+                    return;
+                }
+                hint::spin_loop();
             }
             let now = counter_after();
             if now < time.load(Ordering::Relaxed) {
-                is_common.store(0, Ordering::Relaxed);
+                is_common.store(false, Ordering::Relaxed);
             }
             time.store(now, Ordering::Relaxed);
             turn.store(number + 1, Ordering::Release);
@@ -67,7 +74,7 @@ fn counter_is_common() -> bool {
         scope.spawn(|| play(1));
         play(0);
     });
-    is_common.into_inner() == 1
+    is_common.into_inner()
 }
 
 impl Clock {

@@ -9,14 +9,18 @@ use std::panic::{AssertUnwindSafe, catch_unwind};
 use std::sync::atomic::{AtomicBool, AtomicU32, AtomicU64, AtomicUsize, Ordering};
 use std::sync::{Arc, Mutex, PoisonError};
 use std::thread::{self, JoinHandle, Thread};
+use std::time::Duration;
+
+type MakeHandle<Q, H> = Box<dyn Fn(&Arc<Q>, usize) -> H + Send + Sync>;
+type PutItem<H> = Box<dyn Fn(&mut H, u32) -> Put + Send + Sync>;
 
 /// The queue under test: how it is made, and how a thread makes its calls.
 pub(super) struct Subject<Q, H> {
     pub(super) make: Box<dyn Fn(usize) -> Q + Send + Sync>,
     /// Whether `make` reads the capacity that it is given.
     pub(super) is_sized: bool,
-    pub(super) handle: Box<dyn Fn(&Arc<Q>, usize) -> H + Send + Sync>,
-    pub(super) put: Box<dyn Fn(&mut H, u32) -> Put + Send + Sync>,
+    pub(super) handle: MakeHandle<Q, H>,
+    pub(super) put: PutItem<H>,
     pub(super) get: Box<dyn Fn(&mut H) -> Got + Send + Sync>,
 }
 
@@ -151,6 +155,7 @@ pub(super) struct Shared<Q, H> {
     /// could join a round that is not its own.
     word: Alone<AtomicU64>,
     arrived: Alone<AtomicUsize>,
+    awake: Alone<AtomicUsize>,
     done: Alone<AtomicUsize>,
     /// Whether the queue was seen empty after the round.
     is_emptied: AtomicBool,
@@ -160,16 +165,24 @@ pub(super) struct Shared<Q, H> {
     judge: Thread,
 }
 
-/// Waits for others that run: it spins, and then gives its processor away.
-fn spin_until(is_ready: impl Fn() -> bool) {
-    let mut turns = 0;
-    while !is_ready() {
-        turns += 1;
-        if turns < 1000 {
-            hint::spin_loop();
-        } else {
-            thread::yield_now();
-        }
+/// How many turns a thread spins for others before it sleeps.
+const SPINS: u32 = 1_000;
+/// How long it sleeps at a time.
+const NAP: Duration = Duration::from_micros(20);
+
+/// Spins for others, and returns whether they came.
+fn spin_for(is_ready: &impl Fn() -> bool) -> bool {
+    (0..SPINS).any(|_| {
+        hint::spin_loop();
+        is_ready()
+    })
+}
+
+/// Waits for others: it spins, and then sleeps. A thread that only gave its processor away would use up its time on a
+/// busy machine, and the threads would make their calls one after the other.
+fn wait_until(is_ready: impl Fn() -> bool) {
+    while !spin_for(&is_ready) {
+        thread::sleep(NAP);
     }
 }
 
@@ -310,14 +323,17 @@ impl<Q, H> Shared<Q, H> {
         }
         lane.enter(Phase::WaitingForStart);
         self.arrived.0.fetch_add(1, Ordering::AcqRel);
-        spin_until(|| {
+        wait_until(|| {
             self.arrived.0.load(Ordering::Acquire) >= design.threads || self.has_panicked()
         });
+        // Some of them slept. So that all begin at once, they wait again, but only for a short time.
+        self.awake.0.fetch_add(1, Ordering::AcqRel);
+        spin_for(&|| self.awake.0.load(Ordering::Acquire) >= design.threads);
         lane.enter(Phase::Calling);
         caller.make_calls(thread, round, &mut random);
         if thread == 0 {
             lane.enter(Phase::WaitingForOthers);
-            spin_until(|| self.done.0.load(Ordering::Acquire) + 1 == design.threads);
+            wait_until(|| self.done.0.load(Ordering::Acquire) + 1 == design.threads);
             lane.enter(Phase::Emptying);
             self.is_emptied.store(caller.empty(), Ordering::Release);
         }
@@ -410,6 +426,7 @@ impl<Q: Send + Sync + 'static, H: 'static> Pool<Q, H> {
             round: Mutex::new(None),
             word: Alone(AtomicU64::new(0)),
             arrived: Alone(AtomicUsize::new(0)),
+            awake: Alone(AtomicUsize::new(0)),
             done: Alone(AtomicUsize::new(0)),
             is_emptied: AtomicBool::new(false),
             panic: Mutex::new(None),
@@ -440,6 +457,7 @@ impl<Q: Send + Sync + 'static, H: 'static> Pool<Q, H> {
             lane.enter(Phase::MakingHandle);
         }
         shared.arrived.0.store(0, Ordering::Release);
+        shared.awake.0.store(0, Ordering::Release);
         shared.done.0.store(0, Ordering::Release);
         shared.is_emptied.store(false, Ordering::Release);
         *shared.round.lock().unwrap_or_else(PoisonError::into_inner) = Some(round);
