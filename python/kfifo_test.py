@@ -34,6 +34,7 @@ import ctypes.util
 import enum
 import functools
 import itertools
+import operator
 import os
 import pathlib
 import queue
@@ -405,9 +406,10 @@ def _draw_design(options: Options, dice: random.Random) -> _Design:
     mix = dice.choice(_MIXES)
     capacity = dice.choice(_CAPACITIES) if options.sized else 0
     traced = options.bytecode_switches and dice.randrange(5) == 0
+    counts = (50,) if traced else (50, 100, 200)  # a call that is traced takes fifty times as long
     return _Design(
         threads=dice.choice((3, 4, 4, 8)) if drawn else options.most_threads(),
-        calls=dice.choice((50, 100, 200)) if options.calls is None else options.calls,
+        calls=dice.choice(counts) if options.calls is None else options.calls,
         mix=mix,
         capacity=capacity,
         interval=dice.choice(_INTERVALS),
@@ -416,6 +418,10 @@ def _draw_design(options: Options, dice: random.Random) -> _Design:
         one_producer=options.one_producer,
         one_consumer=options.one_consumer,
     )
+
+
+class _Stopped(BaseException):
+    """Ends a worker that hangs in code of Python's."""
 
 
 class NotAnItem(Exception):
@@ -443,16 +449,19 @@ class _Lane:
         self.thread.start()
 
     def _work(self) -> None:
-        while True:
-            job = self.inbox.get()  # a worker sleeps here between rounds
-            if job is None:
-                return
-            try:
-                job(self)
-            except Exception:
-                self.error = traceback.format_exc()
-            self.phase = "had ended its calls"
-            self.done.put(self.number)
+        try:
+            while True:
+                job = self.inbox.get()  # a worker sleeps here between rounds
+                if job is None:
+                    return
+                try:
+                    job(self)
+                except Exception:
+                    self.error = traceback.format_exc()
+                self.phase = "had ended its calls"
+                self.done.put(self.number)
+        except _Stopped:
+            pass  # it hung in a call, and the report has named it
 
     def _before(self) -> int:
         """The time before a call, greater than that at which the thread's call before it ended.
@@ -775,10 +784,10 @@ class _Check:
         return False
 
     def _end_round(self, design: _Design, lanes: list[_Lane], hangs: bool) -> None:
-        calls = sorted((call for lane in lanes for call in list(lane.log)), key=lambda call: call.first)
+        calls = [call for lane in lanes for call in list(lane.log)]
         begun = [(lane.number, lane.begun) for lane in lanes if lane.begun]
         calls += [Call(number, op, item, first, 0, "") for number, (op, item, first) in begun]
-        calls.sort(key=lambda call: call.first)
+        calls.sort(key=operator.attrgetter("first"))
         self.report.calls += len(calls)
         self.report.taken += sum(call.answer == "got" for call in calls)
         errors = [lane for lane in lanes if lane.error]
@@ -862,10 +871,6 @@ def _describe(lanes: list[_Lane]) -> str:
         own = [frame for frame in stack if frame.filename != __file__][-4:]
         lines += [line.rstrip() for line in traceback.format_list(own) if "threading.py" not in line or len(own) < 3]
     return "\n".join(lines)
-
-
-class _Stopped(BaseException):
-    """Ends a worker that hangs in code of Python's."""
 
 
 def _stop(lanes: list[_Lane]) -> None:
