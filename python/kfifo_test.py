@@ -8,10 +8,10 @@ own queue:
 
     kfifo_test.check(queue.Queue, lambda q, x: q.put_nowait(x), lambda q: q.get_nowait())
 
-Threads put and get for some seconds, in short rounds. The judge looks for a legal order of each round: one in which each
-get takes one of the k oldest items. Where a round has none, `check` raises AssertionError with the reason, and leaves the
-log (CSV) and a picture (SVG). That verdict is proved. That a check passes proves nothing: another schedule may have a
-fault.
+Threads put and get for some seconds, in short rounds. The judge looks for a legal order of each round: one in which
+each get takes one of the k oldest items. Where a round has none, `check` raises AssertionError with the reason, and
+leaves the log (CSV) and a picture (SVG). That verdict is proved. That a check passes proves nothing: another schedule
+may have a fault.
 
 What a call says:
 
@@ -69,8 +69,8 @@ class LibraryMissing(RuntimeError):
 class Fault(ValueError):
     """A log cannot be judged. It is never the fault of the queue that was logged.
 
-    `number` is the number of the fault, 2 to 8, as docs/JUDGE.md has it, or 0; `place` is the line of the log, from 1, or
-    0.
+    `number` is the number of the fault, 2 to 8, as docs/JUDGE.md has it, or 0; `place` is the line of the log, from 1,
+    or 0.
     """
 
     def __init__(self, text: str, number: int = 0, place: int = 0) -> None:
@@ -91,7 +91,7 @@ class Call(NamedTuple):
     item: int  # of a put, 1 to MAX_ITEM, or what a get got; not read of other calls
     first: int  # when it began, 0 to 2**64 - 1
     last: int  # when it ended; not read of an unfinished call
-    answer: str  # "done" or "full" of a put, "got" or "empty" of a get, "busy" or "worn" of both, "" of an unfinished one
+    answer: str  # of a put "done" or "full", of a get "got" or "empty", of both "busy" or "worn", "" if unfinished
 
 
 @dataclass(frozen=True)
@@ -100,7 +100,7 @@ class Verdict:
 
     status: str  # "legal" or "no order", which are proved, or "undecided"
     text: str
-    named: tuple[int, ...] = ()  # the numbers of the calls that the reason names, in ascending order of first time, from 0
+    named: tuple[int, ...] = ()  # the calls that the reason names, numbered in ascending order of first time, from 0
 
 
 @dataclass(frozen=True)
@@ -221,8 +221,8 @@ def _verdict(answer: _Answer) -> Verdict:
 def judge(calls: Iterable[Call], k: int = 1, tries: int = TRIES) -> Verdict:
     """Judges calls, in any order and MAX_CALLS at most, for a queue whose gets may give any of its k oldest items.
 
-    k is 1 to 64; `tries` is how many choices the search may take back. Raises Fault where the calls are no log, ValueError
-    where an argument is out of range.
+    k is 1 to 64; `tries` is how many choices the search may take back. Raises Fault where the calls are no log, and
+    ValueError where an argument is out of range.
 
     >>> judge([Call(0, "put", 1, 10, 20, "done"), Call(1, "get", 0, 30, 40, "empty")]).status
     'no order'
@@ -830,9 +830,8 @@ class _Check:
         report.outcome, report.text = outcome, text
         capacity = f", capacity {design.capacity}" if self.options.sized else ""
         switches = ", switches between bytecodes" if design.traced else ""
-        report.failed_round = (
-            f"round {report.rounds}: {design.threads} threads, {design.calls} calls each, {design.mix}{capacity}{switches}"
-        )
+        made = f"{design.threads} threads, {design.calls} calls each, {design.mix}"
+        report.failed_round = f"round {report.rounds}: {made}{capacity}{switches}"
         folder = pathlib.Path(self.options.folder or tempfile.gettempdir())
         stem = folder / f"kfifo-{report.name}-{os.getpid()}-{next(_files)}"
         try:
@@ -892,8 +891,8 @@ def run_check(make: Make, put: Put, get: Get, **options: Any) -> Report:
 def check(make: Make, put: Put, get: Get, **options: Any) -> Report:
     """Checks a queue: makes it by `make()`, and has threads call `put(queue, item)` and `get(queue)`.
 
-    Items are numbers from 1 to MAX_ITEM. The head of this file says what puts and gets return, and Options which options
-    there are. It takes `seconds`, 5 where it is left out.
+    Items are numbers from 1 to MAX_ITEM. The head of this file says what puts and gets return, and Options which
+    options there are. It takes `seconds`, 5 where it is left out.
 
     Raises AssertionError with the report where a round has no legal order, a call does not return or raises, or no get
     took an item; ValueError where an option is out of range; LibraryMissing where the judge is not there.

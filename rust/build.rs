@@ -1,5 +1,6 @@
 //! Finds the static library `libkfifo.a` and links it. It lies beside this crate in a release, `make -C c` of the
-//! repository builds it, or it is installed. With the feature `judge` it links `libkfifo_judge.a` from the same folder too.
+//! repository builds it, or it is installed. With the feature `judge` it links `libkfifo_judge.a` from the same folder
+//! too.
 use std::env;
 use std::path::{Path, PathBuf};
 use std::process::{Command, exit};
@@ -70,7 +71,8 @@ fn main() {
         }
         _ => {
             eprintln!(
-                "libkfifo.a was not found. It lies in the lib/ of a release; in the repository `make -C c` builds it and `make -C c install` installs it,"
+                "libkfifo.a was not found. It lies in the lib/ of a release; in the repository `make -C c` \
+                 builds it and `make -C c install` installs it,"
             );
             eprintln!("or set KFIFO_LIB_DIR to the folder that holds it.");
             exit(1);

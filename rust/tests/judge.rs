@@ -415,85 +415,56 @@ fn the_panic_of_a_check_has_the_report() {
     );
 }
 
+/// Options that are changed in one way, and why they are refused.
+const REFUSED: [(fn(&mut Options), &str); 11] = [
+    (|it| it.k = 0, "k is not 1 to 64"),
+    (|it| it.k = 65, "k is not 1 to 64"),
+    (
+        |it| it.threads = Some(1),
+        "the number of threads is not 2 to 64",
+    ),
+    (
+        |it| it.threads = Some(65),
+        "the number of threads is not 2 to 64",
+    ),
+    (|it| it.calls = Some(0), "there are no calls"),
+    (
+        |it| it.calls = Some(5000),
+        "a round would have more calls than can be judged",
+    ),
+    (
+        |it| it.calls = Some(usize::MAX),
+        "a round would have more calls than can be judged",
+    ),
+    (
+        |it| (it.one_producer, it.one_consumer, it.threads) = (true, true, Some(3)),
+        "with one producer and one consumer there are two threads",
+    ),
+    (
+        |it| it.repeated = Some(0),
+        "the number of different items is not 1 to 16,777,215",
+    ),
+    (
+        |it| it.hang = Duration::ZERO,
+        "the time after which a call hangs is 0",
+    ),
+    (
+        |it| it.name = String::from("a/b"),
+        "the name is empty, or cannot stand in the name of a file",
+    ),
+];
+
 #[test]
 fn options_out_of_range_are_refused() {
-    let refused = |options: Options| {
+    for (change, text) in REFUSED {
+        let mut options = Options::default();
+        change(&mut options);
         let result = run_check(Locked::default, Locked::push, Locked::pop, options);
-        result.expect_err("an option is out of range").to_string()
-    };
-    let default = Options::default;
-    assert_eq!(refused(Options { k: 0, ..default() }), "k is not 1 to 64");
-    assert_eq!(refused(Options { k: 65, ..default() }), "k is not 1 to 64");
-    let threads = "the number of threads is not 2 to 64";
-    assert_eq!(
-        refused(Options {
-            threads: Some(1),
-            ..default()
-        }),
-        threads
-    );
-    assert_eq!(
-        refused(Options {
-            threads: Some(65),
-            ..default()
-        }),
-        threads
-    );
-    assert_eq!(
-        refused(Options {
-            calls: Some(0),
-            ..default()
-        }),
-        "there are no calls"
-    );
-    let many = "a round would have more calls than can be judged";
-    assert_eq!(
-        refused(Options {
-            calls: Some(5000),
-            ..default()
-        }),
-        many
-    );
-    assert_eq!(
-        refused(Options {
-            calls: Some(usize::MAX),
-            ..default()
-        }),
-        many
-    );
-    let pair = Options {
-        one_producer: true,
-        one_consumer: true,
-        threads: Some(3),
-        ..default()
-    };
-    assert_eq!(
-        refused(pair),
-        "with one producer and one consumer there are two threads"
-    );
-    let items = "the number of different items is not 1 to 16,777,215";
-    assert_eq!(
-        refused(Options {
-            repeated: Some(0),
-            ..default()
-        }),
-        items
-    );
-    assert_eq!(
-        refused(Options {
-            hang: Duration::ZERO,
-            ..default()
-        }),
-        "the time after which a call hangs is 0"
-    );
-    let name = "the name is empty, or cannot stand in the name of a file";
-    assert_eq!(
-        refused(Options {
-            name: String::from("a/b"),
-            ..default()
-        }),
-        name
-    );
+        assert_eq!(
+            result.expect_err("an option is out of range").to_string(),
+            text
+        );
+    }
 }
 
 fn call(thread: u32, op: Op, item: u64, first: u64, answer: Answer) -> Call {

@@ -46,8 +46,8 @@ fn counter_after() -> u64 {
     0
 }
 
-/// Whether the counter never runs backwards from thread to thread: two threads hand a time to and fro, for a hundredth of
-/// a second at most, since on a busy machine each turn may take long.
+/// Whether the counter never runs backwards from thread to thread: two threads hand a time to and fro, for a hundredth
+/// of a second at most, since on a busy machine each turn may take long.
 fn counter_is_common() -> bool {
     const TURNS: u64 = 2_000;
     const LIMIT: Duration = Duration::from_millis(10);

@@ -1,9 +1,9 @@
 //! A proved judge of logs of queues, and a check of any concurrent queue by thousands of short logged runs.
 //!
 //! [`check`] goes into a test of your own queue. Threads make calls on the queue for some seconds, in short rounds, and
-//! the judge looks for a legal order of each round: one in which each get takes one of the k oldest items. If a round has
-//! none, the test fails and prints why. That verdict is proved. That a check passes proves nothing: another schedule may
-//! have a fault.
+//! the judge looks for a legal order of each round: one in which each get takes one of the k oldest items. If a round
+//! has none, the test fails and prints why. That verdict is proved. That a check passes proves nothing: another
+//! schedule may have a fault.
 //!
 //! ```
 //! use kfifo::judge::{Options, check};
@@ -19,14 +19,15 @@
 //! );
 //! ```
 //!
-//! A put returns nothing or `true` where the item is in the queue, and `false` where the queue was full; a get returns an
-//! `Option`. [`Put`] and [`Got`] say the other answers. Neither may wait: a call that does not return is a hang.
+//! A put returns nothing or `true` where the item is in the queue, and `false` where the queue was full; a get returns
+//! an `Option`. [`Put`] and [`Got`] say the other answers. Neither may wait: a call that does not return is a hang.
 //!
 //! # A call that hangs
 //!
 //! No thread can be ended from outside. [`check`] panics with the report in the thread that called it, and the worker
 //! threads that hang stay behind, with the queue and the closures, until the process ends. One that spins keeps its
-//! processor busy meanwhile, so later tests of the same process are slower. A process whose main thread returns ends them.
+//! processor busy meanwhile, so later tests of the same process are slower. A process whose main thread returns ends
+//! them.
 //!
 //! # Traps
 //!
@@ -56,8 +57,8 @@ use crate::{PopError, PushError};
 use rounds::Subject;
 use std::sync::Arc;
 
-/// What a put returned. `()` and `true` are `Done`, `false` is `Full`; refusals of a [`Handle`](crate::Handle) are taken
-/// as what they are.
+/// What a put returned. `()` and `true` are `Done`, `false` is `Full`; refusals of a [`Handle`](crate::Handle) are
+/// taken as what they are.
 #[derive(Clone, Copy, Debug, PartialEq, Eq)]
 pub enum Put {
     /// The item is in the queue.
@@ -104,8 +105,8 @@ impl From<Result<(), PushError<u32>>> for Put {
     }
 }
 
-/// What a get returned. An `Option` is an item or `Empty`; refusals of a [`Handle`](crate::Handle) are taken as what they
-/// are.
+/// What a get returned. An `Option` is an item or `Empty`; refusals of a [`Handle`](crate::Handle) are taken as what
+/// they are.
 #[derive(Clone, Copy, Debug, PartialEq, Eq)]
 pub enum Got {
     /// This item was taken.

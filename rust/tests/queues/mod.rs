@@ -290,8 +290,8 @@ struct Node {
     item: AtomicU64,
 }
 
-/// Michael and Scott's queue of nodes in an array, which are used again. Without tags a link that was changed and changed
-/// back is taken for unchanged.
+/// Michael and Scott's queue of nodes in an array, which are used again. Without tags a link that was changed and
+/// changed back is taken for unchanged.
 pub struct Linked {
     has_tags: bool,
     nodes: Vec<Node>,

@@ -1,5 +1,5 @@
-//! Checks crossbeam's queues, for as many seconds each as the argument says. tests/judge.rs runs it where Debian's crates
-//! are installed.
+//! Checks crossbeam's queues, for as many seconds each as the argument says. tests/judge.rs runs it where Debian's
+//! crates are installed.
 use crossbeam_queue::{ArrayQueue, SegQueue};
 use kfifo::judge::{Options, check, check_sized};
 use std::time::Duration;
