@@ -1,14 +1,13 @@
-"""Checks queue.Queue, or with the argument `broken` a stack: thousands of calls in short runs, each run judged."""
+"""Checks queue.Queue, or with the argument `broken` a stack: short runs of some thousand calls, each run judged."""
 import queue
 import sys
 
 import kfifo_test
 
 
-def main() -> None:
-    make = queue.LifoQueue if "broken" in sys.argv[1:] else queue.Queue
-    kfifo_test.check(make, lambda q, item: q.put_nowait(item), lambda q: q.get_nowait())
+def check_queue(make):
+    kfifo_test.check(make, lambda q, x: q.put_nowait(x), lambda q: q.get_nowait())
 
 
 if __name__ == "__main__":
-    main()
+    check_queue(queue.LifoQueue if "broken" in sys.argv else queue.Queue)

@@ -1,22 +1,26 @@
-//! Checks a queue behind a lock: thousands of short runs, each judged. With the argument `broken` the queue is a stack,
-//! and the check says so.
+//! Checks a queue behind a lock: thousands of short runs, each judged. With the argument `broken` it checks a stack, and
+//! the check says what is wrong.
 use kfifo::judge::{Options, check};
 use std::collections::VecDeque;
 use std::sync::Mutex;
 
+fn check_stack() {
+    check(
+        || Mutex::new(Vec::new()),
+        |stack, item| stack.lock().unwrap().push(item),
+        |stack| stack.lock().unwrap().pop(),
+        Options::default(),
+    );
+}
+
 fn main() {
-    let is_broken = std::env::args().nth(1).as_deref() == Some("broken");
+    if std::env::args().any(|word| word == "broken") {
+        return check_stack();
+    }
     check(
         || Mutex::new(VecDeque::new()),
         |queue, item| queue.lock().unwrap().push_back(item),
-        move |queue| {
-            let mut items = queue.lock().unwrap();
-            if is_broken {
-                items.pop_back()
-            } else {
-                items.pop_front()
-            }
-        },
+        |queue| queue.lock().unwrap().pop_front(),
         Options::default(),
     );
 }

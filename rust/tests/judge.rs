@@ -10,7 +10,7 @@ use kfifo::judge::{
 };
 use queues::{Linked, Locked, Pair, Ring, RingFault, Stack, TestOutside, Wrapping};
 use std::path::{Path, PathBuf};
-use std::process::Command;
+use std::process::{Command, Output};
 use std::sync::{Mutex, MutexGuard, PoisonError, mpsc};
 use std::time::{Duration, Instant};
 use std::{env, fs, thread};
@@ -291,6 +291,38 @@ fn the_queues_of_crossbeam_pass() {
         .status()
         .expect("cargo runs");
     assert!(status.success());
+}
+
+/// Runs examples/check_queue.rs, which the page on the check shows.
+fn run_example(word: &str) -> Output {
+    Command::new(env!("CARGO"))
+        .args(["run", "--quiet", "--offline", "-j1", "--features", "judge"])
+        .args(["--example", "check_queue", "--", word])
+        .current_dir(env!("CARGO_MANIFEST_DIR"))
+        .env(
+            "CARGO_TARGET_DIR",
+            Path::new(env!("CARGO_TARGET_TMPDIR")).join("example"),
+        )
+        .output()
+        .expect("cargo runs")
+}
+
+#[test]
+fn the_example_passes_and_a_stack_fails() {
+    let _turn = turn();
+    let right = run_example("right");
+    assert!(right.status.success(), "{right:?}");
+    assert!(
+        String::from_utf8_lossy(&right.stdout).contains("no fault found"),
+        "{right:?}"
+    );
+    let wrong = run_example("broken");
+    assert!(!wrong.status.success(), "{wrong:?}");
+    let text = String::from_utf8_lossy(&wrong.stderr);
+    assert!(
+        text.contains("no legal order: an item overtook an older one"),
+        "{text}"
+    );
 }
 
 #[test]
