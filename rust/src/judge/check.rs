@@ -13,6 +13,10 @@ use std::time::{Duration, Instant, SystemTime, UNIX_EPOCH};
 
 /// For how many rounds a queue is kept. Faults of an index that wraps show in an old queue alone.
 const KEPT_ROUNDS: u32 = 2_000;
+/// Of how many rounds of a queue one has an aged queue, where counts of 16 bits wrap, and how many puts before that at most.
+const AGED_ROUNDS: u32 = 64;
+const WRAP: u64 = 1 << 16;
+const SHORT_OF_WRAP: u64 = 2_048;
 /// Of how many rounds one is looked at for overlapping calls, and of how many one for its least k.
 const SAMPLED: u64 = 32;
 const SAMPLED_FOR_K: u64 = 16;
@@ -25,6 +29,8 @@ struct Kept<Q> {
     queue: Arc<Q>,
     rounds: u32,
     next_item: u32,
+    /// How many items it has had.
+    puts: u64,
 }
 
 struct Check<Q, H> {
@@ -32,6 +38,8 @@ struct Check<Q, H> {
     options: Options,
     random: Random,
     kept: [Option<Kept<Q>>; CAPACITIES.len()],
+    /// Whether queues are aged: one thread may both put and get, and does so fast enough.
+    ages: bool,
     report: Report,
     /// Calls of the sampled rounds, and those of them that overlap.
     sampled: u64,
@@ -61,6 +69,7 @@ pub(super) fn run<Q: Send + Sync + 'static, H: 'static>(
         }),
         random: Random(seed),
         kept: [const { None }; CAPACITIES.len()],
+        ages: options.lets_one_thread_do_both(),
         report: Report::new(&options, seed),
         options,
         sampled: 0,
@@ -107,6 +116,7 @@ impl<Q: Send + Sync + 'static, H: 'static> Check<Q, H> {
             queue: Arc::new(make(CAPACITIES[design.size])),
             rounds: 0,
             next_item: 1,
+            puts: 0,
         });
         let base = kept.next_item;
         kept.rounds += 1;
@@ -114,34 +124,72 @@ impl<Q: Send + Sync + 'static, H: 'static> Check<Q, H> {
         (Arc::clone(&kept.queue), base)
     }
 
-    fn make_round(&mut self) {
-        let is_sized = self.pool.shared.subject.is_sized;
-        let design = self.options.draw(&mut self.random, is_sized);
-        let (queue, base) = self.queue_for(&design);
-        let repeated = self.options.repeated;
+    /// Ages a queue now and then: one thread puts and gets until counts of 16 bits are about to wrap. So many calls could
+    /// not be judged in the time.
+    fn age_queue(&mut self, design: &Design) {
+        let Some(kept) = &mut self.kept[design.size] else {
+            return;
+        };
+        let left = WRAP - kept.puts % WRAP;
+        let pairs = left.saturating_sub(self.random.below(SHORT_OF_WRAP)) as u32;
+        let is_due = self.ages && kept.rounds % AGED_ROUNDS == 1 && pairs > 0;
+        if !is_due || kept.next_item + pairs > MAX_ITEM {
+            return;
+        }
+        let (queue, base) = (Arc::clone(&kept.queue), kept.next_item);
+        kept.next_item += pairs;
+        kept.puts += u64::from(pairs);
+        let design = design.alone();
         self.pool.begin(Round {
             design,
             queue,
-            seed: self.random.next(),
+            seed: 0,
+            base,
+            repeated: None,
+            pairs,
+        });
+        let hangs = self.wait(&design);
+        self.ages = self.pool.shared.is_emptied();
+        self.note_stop(hangs, &design);
+    }
+
+    fn make_round(&mut self) {
+        let is_sized = self.pool.shared.subject.is_sized;
+        let design = self.options.draw(&mut self.random, is_sized);
+        self.age_queue(&design);
+        if !self.report.has_passed() {
+            return;
+        }
+        let (queue, base) = self.queue_for(&design);
+        let (seed, repeated) = (self.random.next(), self.options.repeated);
+        self.pool.begin(Round {
+            design,
+            queue,
+            seed,
             base,
             repeated,
+            pairs: 0,
         });
         let hangs = self.wait(&design);
         self.report.rounds += 1;
-        let calls = self.calls();
-        self.report.calls += calls.len() as u64;
+        self.note_stop(hangs, &design);
+        if self.report.has_passed() {
+            self.judge_round(&design);
+        }
+    }
+
+    /// Notes a hang or a panic, and gives up a queue that is not empty.
+    fn note_stop(&mut self, hangs: bool, design: &Design) {
+        self.pool.is_stuck = hangs;
         if let Some((thread, message)) = self.pool.shared.panic() {
-            self.pool.is_stuck = hangs;
-            self.fail(Outcome::Panicked { thread, message }, &design, &calls);
+            let calls = self.calls();
+            self.fail(Outcome::Panicked { thread, message }, design, &calls);
         } else if hangs {
-            self.pool.is_stuck = true;
             let lanes = self.pool.shared.lanes[..design.threads].iter().enumerate();
             let threads = lanes.map(|(thread, lane)| describe(thread, lane)).collect();
-            self.fail(Outcome::Hang { threads }, &design, &calls);
-        } else {
-            self.judge_round(&design, &calls);
-        }
-        if !self.pool.shared.is_emptied() {
+            let calls = self.calls();
+            self.fail(Outcome::Hang { threads }, design, &calls);
+        } else if !self.pool.shared.is_emptied() {
             self.kept[design.size] = None;
         }
     }
@@ -162,6 +210,7 @@ impl<Q: Send + Sync + 'static, H: 'static> Check<Q, H> {
                 return true;
             }
         }
+        shared.forget_round();
         false
     }
 
@@ -175,11 +224,19 @@ impl<Q: Send + Sync + 'static, H: 'static> Check<Q, H> {
         calls
     }
 
-    fn judge_round(&mut self, design: &Design, calls: &[Call]) {
+    fn judge_round(&mut self, design: &Design) {
+        let calls = &self.calls();
+        self.report.calls += calls.len() as u64;
         self.report.taken += calls
             .iter()
             .filter(|call| call.answer == Answer::Got)
             .count() as u64;
+        if let Some(kept) = &mut self.kept[design.size] {
+            kept.puts += calls
+                .iter()
+                .filter(|call| call.answer == Answer::Done)
+                .count() as u64;
+        }
         if self.report.rounds % SAMPLED == 1 {
             self.count_overlaps(calls);
         }

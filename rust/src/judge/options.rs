@@ -41,8 +41,8 @@ pub struct Options {
     pub repeated: Option<u32>,
     /// Whether a round without a verdict fails: no. It is counted in any case.
     pub undecided_fails: bool,
-    /// How much processor time one call may take before the thread hangs, or a tenth of how much time on the clock:
-    /// half a second, and so 5 seconds on the clock.
+    /// A call hangs when it has used so much processor time, or has taken ten times as long on the clock: half a second,
+    /// and so 5 seconds.
     pub hang: Duration,
     /// How many choices the search for an order may take back in a round: [`TRIES`].
     pub tries: u64,
@@ -151,6 +151,15 @@ impl Design {
             }
     }
 
+    /// The same for one thread.
+    pub(super) fn alone(&self) -> Design {
+        Design {
+            threads: 1,
+            before: 0,
+            ..*self
+        }
+    }
+
     /// How many different items the round needs.
     pub(super) fn items(&self) -> usize {
         self.threads * self.most_puts() + self.before
@@ -213,6 +222,11 @@ impl Options {
     pub(super) fn most_threads(&self) -> usize {
         let is_pair = self.one_producer && self.one_consumer;
         self.threads.unwrap_or(if is_pair { 2 } else { 8 })
+    }
+
+    /// Whether one thread may put and get distinct items on its own.
+    pub(super) fn lets_one_thread_do_both(&self) -> bool {
+        !self.one_producer && !self.one_consumer && self.repeated.is_none()
     }
 
     /// How many calls all threads make in a round at most, with the puts before it.

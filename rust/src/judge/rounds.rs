@@ -9,7 +9,7 @@ use std::panic::{AssertUnwindSafe, catch_unwind};
 use std::sync::atomic::{AtomicBool, AtomicU32, AtomicU64, AtomicUsize, Ordering};
 use std::sync::{Arc, Mutex, PoisonError};
 use std::thread::{self, JoinHandle, Thread};
-use std::time::Duration;
+use std::time::{Duration, Instant};
 
 type MakeHandle<Q, H> = Box<dyn Fn(&Arc<Q>, usize) -> H + Send + Sync>;
 type PutItem<H> = Box<dyn Fn(&mut H, u32) -> Put + Send + Sync>;
@@ -30,15 +30,17 @@ pub(super) struct Subject<Q, H> {
 pub(super) enum Phase {
     Idle,
     MakingHandle,
+    Aging,
     WaitingForStart,
     Calling,
     WaitingForOthers,
     Emptying,
 }
 
-const PHASES: [Phase; 6] = [
+const PHASES: [Phase; 7] = [
     Phase::Idle,
     Phase::MakingHandle,
+    Phase::Aging,
     Phase::WaitingForStart,
     Phase::Calling,
     Phase::WaitingForOthers,
@@ -124,6 +126,8 @@ pub(super) struct Round<Q> {
     pub(super) base: u32,
     /// How many different items there are, where they repeat.
     pub(super) repeated: Option<u32>,
+    /// How many times one thread puts and gets an item, without a log and instead of a round; 0 of a round.
+    pub(super) pairs: u32,
 }
 
 impl<Q> Clone for Round<Q> {
@@ -134,6 +138,7 @@ impl<Q> Clone for Round<Q> {
             seed: self.seed,
             base: self.base,
             repeated: self.repeated,
+            pairs: self.pairs,
         }
     }
 }
@@ -165,6 +170,8 @@ pub(super) struct Shared<Q, H> {
     judge: Thread,
 }
 
+/// How long a queue may be aged.
+pub(super) const AGING: Duration = Duration::from_millis(100);
 /// How many turns a thread spins for others before it sleeps.
 const SPINS: u32 = 1_000;
 /// How long it sleeps at a time.
@@ -300,7 +307,22 @@ impl<Q> Round<Q> {
 }
 
 impl<Q, H> Shared<Q, H> {
+    /// Puts and gets items without a log, and returns whether each came out and the time did not run out.
+    fn age(&self, round: &Round<Q>) -> bool {
+        self.lanes[0].enter(Phase::Aging);
+        let start = Instant::now();
+        let mut handle = (self.subject.handle)(&round.queue, 0);
+        (round.base..round.base + round.pairs).all(|item| {
+            (self.subject.put)(&mut handle, item) == Put::Done
+                && (self.subject.get)(&mut handle) == Got::Item(u64::from(item))
+                && start.elapsed() < AGING
+        })
+    }
+
     fn take_part(&self, thread: usize, round: &Round<Q>) {
+        if round.pairs > 0 {
+            return self.is_emptied.store(self.age(round), Ordering::Release);
+        }
         let (design, lane) = (&round.design, &self.lanes[thread]);
         let mut random = Random(
             round
@@ -354,6 +376,11 @@ impl<Q, H> Shared<Q, H> {
 
     pub(super) fn is_emptied(&self) -> bool {
         self.is_emptied.load(Ordering::Acquire)
+    }
+
+    /// Lets go of the queue of a round that has ended.
+    pub(super) fn forget_round(&self) {
+        *self.round.lock().unwrap_or_else(PoisonError::into_inner) = None;
     }
 
     /// How many threads have done their part of the round.

@@ -1,6 +1,6 @@
 //! Finds threads that hang: one call that takes too much processor time, or far too long on the clock.
 use super::ffi;
-use super::rounds::{Lane, Phase};
+use super::rounds::{AGING, Lane, Phase};
 use super::verdict::{Answer, Op};
 use std::os::unix::thread::JoinHandleExt;
 use std::thread::JoinHandle;
@@ -79,12 +79,16 @@ impl Watch {
 fn is_in_call(phase: Phase) -> bool {
     matches!(
         phase,
-        Phase::MakingHandle | Phase::Calling | Phase::Emptying
+        Phase::MakingHandle | Phase::Aging | Phase::Calling | Phase::Emptying
     )
 }
 
 /// Whether a call has taken too much time.
 fn has_passed(then: &Progress, now: &Progress, limit: Duration) -> bool {
+    let limit = match now.phase {
+        Phase::Aging => limit + AGING, // of many calls
+        _ => limit,
+    };
     let processor = match (then.processor, now.processor) {
         (Some(then), Some(now)) => now.saturating_sub(then),
         _ => Duration::ZERO,
@@ -101,6 +105,7 @@ pub(super) fn describe(thread: usize, lane: &Lane) -> String {
     let what = match (lane.phase(), call) {
         (Phase::Idle, _) => String::from("had ended its calls"),
         (Phase::MakingHandle, _) => String::from("was making its handle"),
+        (Phase::Aging, _) => String::from("was in a call that is not logged, before the round"),
         (Phase::WaitingForStart, _) => String::from("waited for the others to begin"),
         (Phase::WaitingForOthers, _) => String::from("waited for the others to end"),
         (_, Some(call)) if call.op == Op::Put => format!("was in a put of item {}", call.item),
