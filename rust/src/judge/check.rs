@@ -13,12 +13,13 @@ use std::time::{Duration, Instant, SystemTime, UNIX_EPOCH};
 
 /// For how many rounds a queue is kept. Faults of an index that wraps show in an old queue alone.
 const KEPT_ROUNDS: u32 = 2_000;
-/// Of how many rounds of a queue one has an aged queue, where counts of 16 bits wrap, and how many puts before that at most.
-const AGED_ROUNDS: u32 = 64;
+/// How many puts bring a count of 16 bits back to 0, and how many of them are left for the rounds at most.
 const WRAP: u64 = 1 << 16;
 const SHORT_OF_WRAP: u64 = 2_048;
+/// One part in so many of the time goes into it.
+const AGING_SHARE: u32 = 4;
 /// Of how many rounds one is looked at for overlapping calls, and of how many one for its least k.
-const SAMPLED: u64 = 32;
+const SAMPLED: u64 = 8;
 const SAMPLED_FOR_K: u64 = 16;
 /// How often the workers are looked at, and how often the terminal is told.
 const LOOK: Duration = Duration::from_millis(20);
@@ -38,8 +39,11 @@ struct Check<Q, H> {
     options: Options,
     random: Random,
     kept: [Option<Kept<Q>>; CAPACITIES.len()],
-    /// Whether queues are aged: one thread may both put and get, and does so fast enough.
+    /// Whether queues are aged: one thread may both put and get, and gets what it has put.
     ages: bool,
+    /// How long that has taken.
+    aging: Duration,
+    start: Instant,
     report: Report,
     /// Calls of the sampled rounds, and those of them that overlap.
     sampled: u64,
@@ -70,6 +74,8 @@ pub(super) fn run<Q: Send + Sync + 'static, H: 'static>(
         random: Random(seed),
         kept: [const { None }; CAPACITIES.len()],
         ages: options.lets_one_thread_do_both(),
+        aging: Duration::ZERO,
+        start: Instant::now(),
         report: Report::new(&options, seed),
         options,
         sampled: 0,
@@ -82,12 +88,11 @@ pub(super) fn run<Q: Send + Sync + 'static, H: 'static>(
 
 impl<Q: Send + Sync + 'static, H: 'static> Check<Q, H> {
     fn make_rounds(&mut self) {
-        let start = Instant::now();
         let most = self.options.rounds.unwrap_or(u64::MAX);
         loop {
             self.make_round();
             self.tell();
-            let is_over = self.report.rounds >= most || start.elapsed() >= self.options.time;
+            let is_over = self.report.rounds >= most || self.start.elapsed() >= self.options.time;
             if is_over || !self.report.has_passed() {
                 break;
             }
@@ -124,22 +129,24 @@ impl<Q: Send + Sync + 'static, H: 'static> Check<Q, H> {
         (Arc::clone(&kept.queue), base)
     }
 
-    /// Ages a queue now and then: one thread puts and gets until counts of 16 bits are about to wrap. So many calls could
-    /// not be judged in the time.
+    /// Ages a queue, where there is time for it: one thread puts and gets until counts of 16 bits are about to wrap. So
+    /// many calls could not be judged in the time.
     fn age_queue(&mut self, design: &Design) {
+        let has_time = self.aging * AGING_SHARE <= self.start.elapsed();
         let Some(kept) = &mut self.kept[design.size] else {
             return;
         };
         let left = WRAP - kept.puts % WRAP;
-        let pairs = left.saturating_sub(self.random.below(SHORT_OF_WRAP)) as u32;
-        let is_due = self.ages && kept.rounds % AGED_ROUNDS == 1 && pairs > 0;
-        if !is_due || kept.next_item + pairs > MAX_ITEM {
+        if !self.ages || !has_time || left <= SHORT_OF_WRAP {
+            return;
+        }
+        let pairs = (left - self.random.below(SHORT_OF_WRAP)) as u32;
+        if kept.next_item + pairs > MAX_ITEM {
             return;
         }
         let (queue, base) = (Arc::clone(&kept.queue), kept.next_item);
-        kept.next_item += pairs;
-        kept.puts += u64::from(pairs);
         let design = design.alone();
+        let start = Instant::now();
         self.pool.begin(Round {
             design,
             queue,
@@ -149,6 +156,12 @@ impl<Q: Send + Sync + 'static, H: 'static> Check<Q, H> {
             pairs,
         });
         let hangs = self.wait(&design);
+        self.aging += start.elapsed();
+        let aged = self.pool.shared.aged();
+        if let Some(kept) = &mut self.kept[design.size] {
+            kept.next_item += aged;
+            kept.puts += u64::from(aged);
+        }
         self.ages = self.pool.shared.is_emptied();
         self.note_stop(hangs, &design);
     }

@@ -164,14 +164,16 @@ pub(super) struct Shared<Q, H> {
     done: Alone<AtomicUsize>,
     /// Whether the queue was seen empty after the round.
     is_emptied: AtomicBool,
+    /// How many items a queue had that was aged instead.
+    aged: AtomicU32,
     /// The thread that panicked first in a call, and its message.
     panic: Mutex<Option<(usize, String)>>,
     has_panicked: AtomicBool,
     judge: Thread,
 }
 
-/// How long a queue may be aged.
-pub(super) const AGING: Duration = Duration::from_millis(100);
+/// How long a queue is aged at a time.
+pub(super) const AGING: Duration = Duration::from_millis(20);
 /// How many turns a thread spins for others before it sleeps.
 const SPINS: u32 = 1_000;
 /// How long it sleeps at a time.
@@ -307,16 +309,22 @@ impl<Q> Round<Q> {
 }
 
 impl<Q, H> Shared<Q, H> {
-    /// Puts and gets items without a log, and returns whether each came out and the time did not run out.
+    /// Puts and gets items without a log, for a short time, and returns whether each came out.
     fn age(&self, round: &Round<Q>) -> bool {
         self.lanes[0].enter(Phase::Aging);
         let start = Instant::now();
         let mut handle = (self.subject.handle)(&round.queue, 0);
-        (round.base..round.base + round.pairs).all(|item| {
-            (self.subject.put)(&mut handle, item) == Put::Done
-                && (self.subject.get)(&mut handle) == Got::Item(u64::from(item))
-                && start.elapsed() < AGING
-        })
+        for item in round.base..round.base + round.pairs {
+            if start.elapsed() >= AGING {
+                break;
+            }
+            self.aged.fetch_add(1, Ordering::Relaxed);
+            let is_put = (self.subject.put)(&mut handle, item) == Put::Done;
+            if !is_put || (self.subject.get)(&mut handle) != Got::Item(u64::from(item)) {
+                return false;
+            }
+        }
+        true
     }
 
     fn take_part(&self, thread: usize, round: &Round<Q>) {
@@ -376,6 +384,11 @@ impl<Q, H> Shared<Q, H> {
 
     pub(super) fn is_emptied(&self) -> bool {
         self.is_emptied.load(Ordering::Acquire)
+    }
+
+    /// How many items a queue had that was aged.
+    pub(super) fn aged(&self) -> u32 {
+        self.aged.load(Ordering::Acquire)
     }
 
     /// Lets go of the queue of a round that has ended.
@@ -456,6 +469,7 @@ impl<Q: Send + Sync + 'static, H: 'static> Pool<Q, H> {
             awake: Alone(AtomicUsize::new(0)),
             done: Alone(AtomicUsize::new(0)),
             is_emptied: AtomicBool::new(false),
+            aged: AtomicU32::new(0),
             panic: Mutex::new(None),
             has_panicked: AtomicBool::new(false),
             judge: thread::current(),
@@ -487,6 +501,7 @@ impl<Q: Send + Sync + 'static, H: 'static> Pool<Q, H> {
         shared.awake.0.store(0, Ordering::Release);
         shared.done.0.store(0, Ordering::Release);
         shared.is_emptied.store(false, Ordering::Release);
+        shared.aged.store(0, Ordering::Release);
         *shared.round.lock().unwrap_or_else(PoisonError::into_inner) = Some(round);
         self.rounds += 1;
         let word = self.rounds * 128 + threads as u64;
