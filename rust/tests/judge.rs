@@ -447,8 +447,10 @@ fn the_panic_of_a_check_has_the_report() {
     );
 }
 
+type Change = fn(&mut Options);
+
 /// Options that are changed in one way, and why they are refused.
-const REFUSED: [(fn(&mut Options), &str); 11] = [
+const REFUSED: [(Change, &str); 11] = [
     (|it| it.k = 0, "k is not 1 to 64"),
     (|it| it.k = 65, "k is not 1 to 64"),
     (
