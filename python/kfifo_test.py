@@ -69,7 +69,7 @@ class LibraryMissing(RuntimeError):
 class Fault(ValueError):
     """A log cannot be judged. It is never the fault of the queue that was logged.
 
-    `number` is the number of the fault, 2 to 8, as docs/JUDGE.md has it, or 0; `place` is the line of the log, from 1,
+    `number` is the number of the fault, 1 to 8, as docs/JUDGE.md has it, or 0; `place` is the line of the log, from 1,
     or 0.
     """
 
@@ -121,9 +121,9 @@ class _Report(ctypes.Structure):
         ("place", ctypes.c_uint64),
         ("text", ctypes.c_void_p),
         ("length", ctypes.c_size_t),
-        ("named", ctypes.POINTER(ctypes.c_uint64)),
+        ("named", ctypes.POINTER(ctypes.c_size_t)),
         ("named_count", ctypes.c_size_t),
-        ("at_least", ctypes.c_uint32),
+        ("at_least", ctypes.c_size_t),
         ("at_most", ctypes.c_uint32),
     ]
 
@@ -137,7 +137,7 @@ def _library() -> ctypes.CDLL:
         places = [named]
     else:
         places = [str(beside)] if beside.exists() else []
-        places += [ctypes.util.find_library("kfifo_judge") or "libkfifo_judge.so"]
+        places += [ctypes.util.find_library("kfifo_judge") or "libkfifo_judge.so.0"]
     faults = []
     for place in places:
         try:

@@ -28,9 +28,9 @@ pub(super) struct Report {
     pub(super) place: u64,
     pub(super) text: *mut c_char,
     pub(super) length: usize,
-    pub(super) named: *mut u64,
+    pub(super) named: *mut usize,
     pub(super) named_count: usize,
-    pub(super) at_least: u32,
+    pub(super) at_least: usize,
     pub(super) at_most: u32,
 }
 

@@ -150,7 +150,7 @@ pub enum Verdict {
 pub enum Fault {
     /// The log cannot be judged, as where the calls of a thread overlap.
     Log {
-        /// The number of the fault, 2 to 8, as `docs/JUDGE.md` has it; 0 where it has none.
+        /// The number of the fault, 1 to 8, as `docs/JUDGE.md` has it; 0 where it has none.
         number: u32,
         /// The line of the log, from 1; 0 where it has none. Of calls it is the line in their CSV.
         place: u64,
@@ -227,7 +227,7 @@ fn named_in(report: &ffi::Report) -> Vec<usize> {
     }
     // SAFETY: as in `text_of`.
     let named = unsafe { std::slice::from_raw_parts(report.named, report.named_count) };
-    named.iter().map(|&number| number as usize).collect()
+    named.to_vec()
 }
 
 /// The fault that a status stands for, where it is none of a verdict.
@@ -329,7 +329,7 @@ pub fn least(calls: &[Call], tries: u64) -> Result<Least, Fault> {
     let status = unsafe { ffi::kfifo_least_calls(calls.as_ptr(), calls.len(), tries, &mut report) };
     match status {
         ffi::LEGAL => Ok(Least::Between {
-            at_least: report.at_least,
+            at_least: u32::try_from(report.at_least).unwrap_or(u32::MAX),
             at_most: (report.at_most > 0).then_some(report.at_most),
         }),
         ffi::NO_ORDER => Ok(Least::NoK {
