@@ -115,7 +115,7 @@ class Least:
 class _Report(ctypes.Structure):
     """A `kfifo_judge_report`."""
 
-    _fields_ = [
+    _fields_ = (
         ("status", ctypes.c_int),
         ("fault", ctypes.c_uint32),
         ("place", ctypes.c_uint64),
@@ -125,7 +125,7 @@ class _Report(ctypes.Structure):
         ("named_count", ctypes.c_size_t),
         ("at_least", ctypes.c_size_t),
         ("at_most", ctypes.c_uint32),
-    ]
+    )
 
 
 @functools.lru_cache(maxsize=None)
@@ -152,7 +152,8 @@ def _library() -> ctypes.CDLL:
 
 def _with_types(library: ctypes.CDLL) -> ctypes.CDLL:
     """Declares the calls of the library."""
-    report, size = ctypes.POINTER(_Report), ctypes.c_size_t
+    report: Any = ctypes.POINTER(_Report)
+    size: Any = ctypes.c_size_t
     library.kfifo_judge_calls.argtypes = [ctypes.c_char_p, size, ctypes.c_uint32, ctypes.c_uint64, report]
     library.kfifo_judge_text.argtypes = [ctypes.c_char_p, size, ctypes.c_uint32, ctypes.c_uint64, report]
     library.kfifo_least_calls.argtypes = [ctypes.c_char_p, size, ctypes.c_uint64, report]
@@ -860,20 +861,36 @@ def _describe(lanes: list[_Lane]) -> str:
     frames = sys._current_frames()
     lines = []
     for lane in lanes:
-        begun = lane.begun
-        if lane.phase != "calling" or begun is None:
-            lines.append(f"thread {lane.number} {lane.phase if lane.phase != 'calling' else 'was between two calls'}")
-            continue
-        what = f"a put of item {begun[1]}" if begun[0] == "put" else "a get"
-        lines.append(f"thread {lane.number} was in {what}, call {len(lane.log) + 1} of its own:")
-        stack = traceback.extract_stack(frames.get(lane.thread.ident or 0), limit=None)
-        own = [frame for frame in stack if frame.filename != __file__][-4:]
-        lines += [line.rstrip() for line in traceback.format_list(own) if "threading.py" not in line or len(own) < 3]
+        begun, frame = lane.begun, frames.get(lane.thread.ident or 0)
+        if lane.phase != "calling":
+            lines.append(f"thread {lane.number} {lane.phase}")
+        elif begun is None or frame is None:
+            lines.append(f"thread {lane.number} was between two calls")
+        else:
+            what = f"a put of item {begun[1]}" if begun[0] == "put" else "a get"
+            lines.append(f"thread {lane.number} was in {what}, call {len(lane.log) + 1} of its own:")
+            lines += _newest_frames(frame)
     return "\n".join(lines)
 
 
+def _newest_frames(frame: Any) -> list[str]:
+    """The lines of the newest four frames, without those of this file and below it."""
+    stack = traceback.extract_stack(frame)
+    inside = max((place for place, it in enumerate(stack) if it.filename == __file__), default=-1)
+    return "".join(traceback.format_list(stack[inside + 1 :][-4:])).splitlines()
+
+
+def _refuse(*_arguments: Any) -> None:
+    """Stands in for the calls of a worker that is to end."""
+    raise _Stopped
+
+
 def _stop(lanes: list[_Lane]) -> None:
-    """Ends the workers that hang: in one that spins in Python an exception is raised. One that sleeps stays behind."""
+    """Ends the workers of a round that hangs: one that spins in Python by an exception that is raised in it, and one that
+    is about to begin by its first call. One that sleeps stays behind.
+    """
+    for lane in lanes:
+        lane.put = lane.get = _refuse
     for lane in lanes:
         if lane.phase == "calling" and lane.thread.ident is not None:
             ident = ctypes.c_ulong(lane.thread.ident)

@@ -101,6 +101,20 @@ pub(super) enum Mix {
     HalfFull,
 }
 
+impl Mix {
+    /// Its name in the report.
+    pub(super) fn name(self) -> &'static str {
+        match self {
+            Mix::Alternating => "alternating",
+            Mix::Apart => "apart",
+            Mix::Bursts => "bursts",
+            Mix::NearlyEmpty => "nearly empty",
+            Mix::NearlyFull => "nearly full",
+            Mix::HalfFull => "half full",
+        }
+    }
+}
+
 const MIXES: [Mix; 6] = [
     Mix::Alternating,
     Mix::Apart,

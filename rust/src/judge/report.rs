@@ -107,8 +107,11 @@ impl Report {
     pub(super) fn name_round(&mut self, design: &Design, capacity: Option<usize>) {
         let capacity = capacity.map_or_else(String::new, |it| format!(", capacity {it}"));
         self.failed_round = Some(format!(
-            "round {}: {} threads, {} calls each, {:?}{capacity}",
-            self.rounds, design.threads, design.calls, design.mix
+            "round {}: {} threads, {} calls each, {}{capacity}",
+            self.rounds,
+            design.threads,
+            design.calls,
+            design.mix.name()
         ));
     }
 
