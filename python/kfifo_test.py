@@ -303,7 +303,7 @@ class Options:
     k: int = 1  # for which k each round is judged, 1 to 64
     sized: bool = False  # whether make takes a capacity: the rounds then use queues of 2, 4, 8 and 64
     threads: Optional[int] = None  # how many make calls, 2 to 64: None draws 3, 4 or 8 for each round
-    calls: Optional[int] = None  # of each thread in a round: None draws 50, 100 or 200 for each round
+    calls: Optional[int] = None  # of each thread in a round: None draws 50, 100 or 200, of a round that is traced 25
     seconds: float = 5.0  # when rounds end; the first is made in any case
     rounds: Optional[int] = None  # after how many rounds they end, where the time is not up before
     seed: Optional[int] = None  # what the designs are drawn by; it repeats the designs, not the schedules
@@ -313,7 +313,7 @@ class Options:
     repeated: Optional[int] = None  # how many different items there are: None gives each put an item of its own
     undecided_fails: bool = False  # whether a round without a verdict fails; it is counted in any case
     hang_seconds: float = 0.5  # of processor time that one call may take, or ten times as long on the clock
-    bytecode_switches: bool = True  # whether in a fifth of the rounds threads also give way between two bytecodes
+    bytecode_switches: bool = True  # whether a fifth of the rounds is traced: threads give way between bytecodes
     tries: int = TRIES  # how many choices the search for an order may take back in a round
     quiet: bool = False  # whether nothing is printed
 
@@ -407,7 +407,7 @@ def _draw_design(options: Options, dice: random.Random) -> _Design:
     mix = dice.choice(_MIXES)
     capacity = dice.choice(_CAPACITIES) if options.sized else 0
     traced = options.bytecode_switches and dice.randrange(5) == 0
-    counts = (50,) if traced else (50, 100, 200)  # a call that is traced takes fifty times as long
+    counts = (25,) if traced else (50, 100, 200)  # a call that is traced takes fifty times as long
     return _Design(
         threads=dice.choice((3, 4, 4, 8)) if drawn else options.most_threads(),
         calls=dice.choice(counts) if options.calls is None else options.calls,

@@ -171,7 +171,7 @@ class Checks(unittest.TestCase):
         self.assertEqual(report.outcome, "no order", report)
         self.assertTrue(any(reason in report.text.splitlines()[1] for reason in reasons), report)
         log = pathlib.Path(report.log).read_text()
-        self.assertTrue(log.startswith("thread,op,item,first,last,answer\n"))
+        self.assertEqual(kfifo_test.judge_text(log).text, report.text)
         self.assertIn("<svg", pathlib.Path(report.picture).read_text())
         return report
 

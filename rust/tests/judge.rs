@@ -6,7 +6,7 @@ mod queues;
 
 use kfifo::judge::{
     Answer, BadOption, Call, Fault, Least, Op, Options, Outcome, Part, Put, Report, Style, TRIES,
-    Verdict, draw, judge, least, run_check, run_check_handles, run_check_sized,
+    Verdict, draw, judge, judge_text, least, run_check, run_check_handles, run_check_sized,
 };
 use queues::{Linked, Locked, Pair, Ring, RingFault, Stack, TestOutside, Wrapping};
 use std::path::{Path, PathBuf};
@@ -62,13 +62,14 @@ fn finds(report: Result<Report, BadOption>, reasons: &[&str]) {
         reasons.iter().any(|reason| line.contains(reason)),
         "{report}"
     );
-    let log = fs::read_to_string(report.log.expect("there is a log")).expect("it can be read");
+    let log = fs::read(report.log.as_ref().expect("there is a log")).expect("it can be read");
+    let again = judge_text(&log, report.k, TRIES).expect("the log is one");
     assert!(
-        log.starts_with("thread,op,item,first,last,answer\n"),
-        "{log}"
+        matches!(again, Verdict::NoOrder { text: same, .. } if same == *text),
+        "{report}"
     );
-    let picture =
-        fs::read_to_string(report.picture.expect("there is a picture")).expect("it can be read");
+    let picture = fs::read_to_string(report.picture.as_ref().expect("there is a picture"))
+        .expect("it can be read");
     assert!(picture.contains("<svg"), "{picture}");
 }
 
