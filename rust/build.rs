@@ -1,5 +1,6 @@
-//! Finds the static library `libkfifo.a` and links it. It lies beside this crate in a release, `make -C c` of the repository builds it, or it
-//! is installed.
+//! Finds the static library `libkfifo.a` and links it. It lies beside this crate in a release, `make -C c` of the
+//! repository builds it, or it is installed. With the feature `judge` it links `libkfifo_judge.a` from the same folder
+//! too.
 use std::env;
 use std::path::{Path, PathBuf};
 use std::process::{Command, exit};
@@ -20,6 +21,25 @@ fn built_for(processor: &str) -> &'static str {
         "aarch64" => "../c/out/aarch64-linux-gnu",
         _ => "../c/out",
     }
+}
+
+/// Links the judge: from the folder that KFIFO_JUDGE_LIB_DIR names, else from that of the queue's library.
+fn link_judge(beside: &Path) {
+    println!("cargo:rerun-if-env-changed=KFIFO_JUDGE_LIB_DIR");
+    let named = env::var_os("KFIFO_JUDGE_LIB_DIR").map(PathBuf::from);
+    let folder = named.unwrap_or_else(|| beside.to_path_buf());
+    let library = folder.join("libkfifo_judge.a");
+    println!("cargo:rerun-if-changed={}", library.display());
+    if !library.exists() {
+        eprintln!(
+            "The feature judge needs libkfifo_judge.a, and {} has none.",
+            folder.display()
+        );
+        eprintln!("Set KFIFO_JUDGE_LIB_DIR to the folder that holds it.");
+        exit(1);
+    }
+    println!("cargo:rustc-link-search=native={}", folder.display());
+    println!("cargo:rustc-link-lib=static=kfifo_judge");
 }
 
 fn main() {
@@ -45,10 +65,14 @@ fn main() {
             );
             println!("cargo:rustc-link-search=native={}", folder.display());
             println!("cargo:rustc-link-lib=static=kfifo");
+            if env::var_os("CARGO_FEATURE_JUDGE").is_some() {
+                link_judge(&folder);
+            }
         }
         _ => {
             eprintln!(
-                "libkfifo.a was not found. It lies in the lib/ of a release; in the repository `make -C c` builds it and `make -C c install` installs it,"
+                "libkfifo.a was not found. It lies in the lib/ of a release; in the repository `make -C c` \
+                 builds it and `make -C c install` installs it,"
             );
             eprintln!("or set KFIFO_LIB_DIR to the folder that holds it.");
             exit(1);

@@ -32,6 +32,8 @@
 mod cells;
 mod error;
 mod ffi;
+#[cfg(feature = "judge")]
+pub mod judge;
 mod shared;
 
 pub use error::{OpenError, PopError, PushError};

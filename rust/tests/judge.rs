@@ -1,0 +1,559 @@
+//! The judge, and the check: it finds the fault of each faulty queue and passes the right ones.
+//!
+//! With the environment variable KFIFO_JUDGE_LONG each right queue is checked for 30 seconds, and each fault has 30
+//! seconds to be found. The queues are checked one after the other, since each check wants several processors.
+mod queues;
+
+use kfifo::judge::{
+    Answer, BadOption, Call, Fault, Least, Op, Options, Outcome, Part, Put, Report, Style, TRIES,
+    Verdict, draw, judge, judge_text, least, run_check, run_check_handles, run_check_sized,
+};
+use queues::{Linked, Locked, Pair, Ring, RingFault, Stack, TestOutside, Wrapping};
+use std::path::{Path, PathBuf};
+use std::process::{Command, Output};
+use std::sync::{Mutex, MutexGuard, PoisonError, mpsc};
+use std::time::{Duration, Instant};
+use std::{env, fs, thread};
+
+/// How the reasons for the evidences begin, or go on.
+const NOWHERE: &str = "which no call before its end put";
+const TWICE: &str = "taken more often than put";
+const EMPTY: &str = "found nothing";
+const OVERTAKEN: &str = "while 1 older item was there";
+
+/// Held by the check that runs.
+fn turn() -> MutexGuard<'static, ()> {
+    static TURN: Mutex<()> = Mutex::new(());
+    TURN.lock().unwrap_or_else(PoisonError::into_inner)
+}
+
+fn seconds(usual: u64) -> Duration {
+    let is_long = env::var_os("KFIFO_JUDGE_LONG").is_some();
+    Duration::from_secs(if is_long { 30 } else { usual })
+}
+
+/// Options of a check that is to find a fault.
+fn finding(name: &str) -> Options {
+    Options {
+        name: name.to_string(),
+        time: seconds(5),
+        folder: Some(PathBuf::from(env!("CARGO_TARGET_TMPDIR"))),
+        ..Options::default()
+    }
+}
+
+/// Options of a check that is to pass.
+fn passing(name: &str) -> Options {
+    Options {
+        time: seconds(2),
+        ..finding(name)
+    }
+}
+
+/// The report says that there is no order, by one of these reasons, and its files are there.
+fn finds(report: Result<Report, BadOption>, reasons: &[&str]) {
+    let report = report.expect("the options are good");
+    println!("{report}");
+    let Outcome::NoOrder { text } = &report.outcome else {
+        panic!("the fault was not found as what it is: {report}");
+    };
+    let line = text.lines().nth(1).expect("a line names the evidence");
+    assert!(
+        reasons.iter().any(|reason| line.contains(reason)),
+        "{report}"
+    );
+    let log = fs::read(report.log.as_ref().expect("there is a log")).expect("it can be read");
+    let again = judge_text(&log, report.k, TRIES).expect("the log is one");
+    assert!(
+        matches!(again, Verdict::NoOrder { text: same, .. } if same == *text),
+        "{report}"
+    );
+    let picture = fs::read_to_string(report.picture.as_ref().expect("there is a picture"))
+        .expect("it can be read");
+    assert!(picture.contains("<svg"), "{picture}");
+}
+
+fn passes(report: Result<Report, BadOption>) -> Report {
+    let report = report.expect("the options are good");
+    assert!(report.has_passed(), "{report}");
+    assert!(report.rounds > 10 && report.taken > 1000, "{report}");
+    assert_eq!(report.undecided, 0, "{report}");
+    report
+}
+
+#[test]
+fn a_stack_is_found() {
+    let _turn = turn();
+    finds(
+        run_check(Stack::default, Stack::push, Stack::pop, finding("stack")),
+        &[OVERTAKEN],
+    );
+}
+
+#[test]
+fn a_lost_update_of_the_tail_is_found() {
+    let _turn = turn();
+    let make = |capacity| Ring::new(capacity, RingFault::LostUpdate);
+    let report = run_check_sized(make, Ring::push, Ring::pop, finding("lost_update"));
+    finds(report, &[NOWHERE, TWICE, EMPTY, OVERTAKEN]);
+}
+
+#[test]
+fn a_slot_that_is_published_before_its_item_is_found() {
+    let _turn = turn();
+    let make = |capacity| Ring::new(capacity, RingFault::EarlyPublish);
+    let report = run_check_sized(make, Ring::push, Ring::pop, finding("early_publish"));
+    finds(report, &[NOWHERE, TWICE]);
+}
+
+#[test]
+fn a_test_of_the_length_outside_the_lock_is_found() {
+    let _turn = turn();
+    let report = run_check_sized(
+        TestOutside::new,
+        TestOutside::push,
+        TestOutside::pop,
+        finding("test_outside"),
+    );
+    finds(report, &[NOWHERE, TWICE]);
+}
+
+#[test]
+fn an_index_that_wraps_is_found() {
+    let _turn = turn();
+    let report = run_check_sized(
+        Wrapping::new,
+        Wrapping::push,
+        Wrapping::pop,
+        finding("wrapping"),
+    );
+    finds(report, &[NOWHERE, TWICE]);
+}
+
+#[test]
+fn a_linked_queue_without_tags_is_found() {
+    let _turn = turn();
+    let make = |capacity| Linked::new(capacity, false);
+    let report = run_check_sized(make, Linked::push, Linked::pop, finding("no_tags"));
+    let report = report.expect("the options are good");
+    println!("{report}");
+    // A link to a node that was used again makes the list a ring, or cuts it.
+    assert!(
+        matches!(
+            report.outcome,
+            Outcome::NoOrder { .. } | Outcome::Hang { .. }
+        ),
+        "{report}"
+    );
+}
+
+#[test]
+fn a_ring_for_two_threads_is_found_where_more_use_it() {
+    let _turn = turn();
+    let report = run_check_sized(Pair::new, Pair::push, Pair::pop, finding("pair_of_many"));
+    finds(report, &[NOWHERE, TWICE, EMPTY, OVERTAKEN]);
+}
+
+#[test]
+fn a_ring_for_two_threads_passes_with_two() {
+    let _turn = turn();
+    let options = Options {
+        one_producer: true,
+        one_consumer: true,
+        ..passing("pair")
+    };
+    let report = passes(run_check_sized(Pair::new, Pair::push, Pair::pop, options));
+    assert!(report.overlapping > 0.0, "{report}");
+}
+
+#[test]
+fn a_locked_queue_passes() {
+    let _turn = turn();
+    let report = passes(run_check(
+        Locked::default,
+        Locked::push,
+        Locked::pop,
+        passing("locked"),
+    ));
+    assert!(report.overlapping > 0.0, "{report}");
+}
+
+#[test]
+fn a_ring_passes() {
+    let _turn = turn();
+    let make = |capacity| Ring::new(capacity, RingFault::None);
+    passes(run_check_sized(
+        make,
+        Ring::push,
+        Ring::pop,
+        passing("ring"),
+    ));
+}
+
+#[test]
+fn a_linked_queue_with_tags_passes() {
+    let _turn = turn();
+    let make = |capacity| Linked::new(capacity, true);
+    passes(run_check_sized(
+        make,
+        Linked::push,
+        Linked::pop,
+        passing("tags"),
+    ));
+}
+
+#[test]
+fn a_channel_with_one_consumer_passes() {
+    let _turn = turn();
+    let make = || {
+        let (sender, receiver) = mpsc::channel::<u32>();
+        (sender, Mutex::new(receiver)) // one consumer, so the lock is free
+    };
+    let report = run_check(
+        make,
+        |(sender, _), item| sender.send(item).is_ok(),
+        |(_, receiver)| receiver.lock().unwrap().try_recv().ok(),
+        Options {
+            one_consumer: true,
+            ..passing("channel")
+        },
+    );
+    passes(report);
+}
+
+#[test]
+fn the_queue_of_this_crate_passes_for_its_k() {
+    let _turn = turn();
+    for k in [1, 4] {
+        let report = run_check_handles(
+            move |capacity| {
+                kfifo::Queue::new(k, capacity.max(2) as u32, 8).expect("the sizes are in range")
+            },
+            |queue, _| queue.handle().expect("a handle is free"),
+            |handle, item| handle.push(item),
+            |handle| handle.pop(),
+            Options {
+                k,
+                ..passing("kfifo")
+            },
+        );
+        let report = passes(report);
+        assert_eq!(report.least.is_some(), k > 1, "{report}");
+    }
+}
+
+#[test]
+fn a_relaxed_queue_passes_for_its_k_and_for_no_less() {
+    let _turn = turn();
+    let pop = |queue: &Locked| queue.pop_near(4);
+    let report = passes(run_check(
+        Locked::default,
+        Locked::push,
+        pop,
+        Options {
+            k: 4,
+            ..passing("relaxed")
+        },
+    ));
+    let (at_least, at_most) = report.least.expect("a sample was taken");
+    assert!((2..=4).contains(&at_least) && at_most <= 4, "{report}");
+    finds(
+        run_check(Locked::default, Locked::push, pop, finding("relaxed")),
+        &[OVERTAKEN],
+    );
+}
+
+/// Runs tests/crossbeam, a program of its own over Debian's crates.
+#[test]
+fn the_queues_of_crossbeam_pass() {
+    let _turn = turn();
+    let registry = Path::new("/usr/share/cargo/registry");
+    let entries = fs::read_dir(registry).into_iter().flatten().flatten();
+    let mut names = entries.map(|entry| entry.file_name().to_string_lossy().into_owned());
+    if !names.any(|name| name.starts_with("crossbeam-queue-")) {
+        println!("skipped: librust-crossbeam-queue-dev is not installed");
+        return;
+    }
+    let status = Command::new(env!("CARGO"))
+        .args(["run", "--quiet", "--release", "--offline", "-j1"])
+        .args(["--config", r#"source.crates-io.replace-with="debian""#])
+        .args([
+            "--config",
+            r#"source.debian.directory="/usr/share/cargo/registry""#,
+        ])
+        .arg("--manifest-path")
+        .arg(Path::new(env!("CARGO_MANIFEST_DIR")).join("tests/crossbeam/Cargo.toml"))
+        .arg("--")
+        .arg(seconds(2).as_secs().to_string())
+        .env(
+            "CARGO_TARGET_DIR",
+            Path::new(env!("CARGO_TARGET_TMPDIR")).join("crossbeam"),
+        )
+        .status()
+        .expect("cargo runs");
+    assert!(status.success());
+}
+
+/// Runs examples/check_queue.rs, which the page on the check shows.
+fn run_example(word: &str) -> Output {
+    Command::new(env!("CARGO"))
+        .args(["run", "--quiet", "--offline", "-j1", "--features", "judge"])
+        .args(["--example", "check_queue", "--", word])
+        .current_dir(env!("CARGO_MANIFEST_DIR"))
+        .env(
+            "CARGO_TARGET_DIR",
+            Path::new(env!("CARGO_TARGET_TMPDIR")).join("example"),
+        )
+        .output()
+        .expect("cargo runs")
+}
+
+#[test]
+fn the_example_passes_and_a_stack_fails() {
+    let _turn = turn();
+    let right = run_example("right");
+    assert!(right.status.success(), "{right:?}");
+    assert!(
+        String::from_utf8_lossy(&right.stdout).contains("no fault found"),
+        "{right:?}"
+    );
+    let wrong = run_example("broken");
+    assert!(!wrong.status.success(), "{wrong:?}");
+    let text = String::from_utf8_lossy(&wrong.stderr);
+    assert!(
+        text.contains("no legal order: an item overtook an older one"),
+        "{text}"
+    );
+}
+
+#[test]
+fn a_call_that_spins_hangs() {
+    let _turn = turn();
+    let get = |queue: &Locked| -> Option<u32> {
+        while queue.pop().is_none() {
+            thread::yield_now();
+        }
+        Some(1)
+    };
+    let options = Options {
+        hang: Duration::from_millis(200),
+        ..finding("spins")
+    };
+    let report =
+        run_check(Locked::default, |_: &Locked, _| (), get, options).expect("the options are good");
+    let Outcome::Hang { threads } = &report.outcome else {
+        panic!("{report}");
+    };
+    assert!(
+        threads.iter().any(|line| line.contains("was in a get")),
+        "{report}"
+    );
+    let log =
+        fs::read_to_string(report.log.as_ref().expect("there is a log")).expect("it can be read");
+    assert!(
+        log.lines()
+            .any(|line| line.contains(",deq,,") && line.ends_with(",,")),
+        "{log}"
+    );
+}
+
+#[test]
+fn a_call_that_sleeps_hangs() {
+    let _turn = turn();
+    let put = |_: &Mutex<()>, _| -> Put {
+        loop {
+            thread::park();
+        }
+    };
+    let options = Options {
+        hang: Duration::from_millis(50),
+        ..finding("sleeps")
+    };
+    let start = Instant::now();
+    let report =
+        run_check(Mutex::default, put, |_| None::<u32>, options).expect("the options are good");
+    assert!(matches!(report.outcome, Outcome::Hang { .. }), "{report}");
+    assert!(
+        report.to_string().contains("was in a put of item"),
+        "{report}"
+    );
+    assert!(start.elapsed() >= Duration::from_millis(500));
+}
+
+#[test]
+fn a_call_that_panics_is_named() {
+    let _turn = turn();
+    let get = |_: &Locked| -> Option<u32> { panic!("out of nodes") };
+    let report = run_check(Locked::default, Locked::push, get, finding("panics"))
+        .expect("the options are good");
+    let Outcome::Panicked { message, .. } = &report.outcome else {
+        panic!("{report}");
+    };
+    assert_eq!(message, "out of nodes");
+}
+
+#[test]
+fn a_queue_that_never_gives_an_item_does_not_pass() {
+    let _turn = turn();
+    let options = Options {
+        rounds: Some(20),
+        ..finding("nothing")
+    };
+    let report =
+        run_check(|| (), |_, _| false, |_| None::<u32>, options).expect("the options are good");
+    assert_eq!(report.outcome, Outcome::NothingTaken);
+    assert_eq!(report.rounds, 20);
+}
+
+#[test]
+fn repeated_items_are_judged() {
+    let _turn = turn();
+    let options = || Options {
+        repeated: Some(3),
+        threads: Some(3),
+        calls: Some(20),
+        ..passing("repeated")
+    };
+    let report = run_check(Locked::default, Locked::push, Locked::pop, options())
+        .expect("the options are good");
+    assert!(report.has_passed(), "{report}");
+    let twice = |queue: &Locked, item| {
+        queue.push(item);
+        queue.push(item);
+        Put::Done
+    };
+    let report =
+        run_check(Locked::default, twice, Locked::pop, options()).expect("the options are good");
+    assert!(
+        matches!(report.outcome, Outcome::NoOrder { .. }),
+        "{report}"
+    );
+}
+
+#[test]
+fn the_panic_of_a_check_has_the_report() {
+    let _turn = turn();
+    let check = || kfifo::judge::check(Stack::default, Stack::push, Stack::pop, finding("stack"));
+    let payload = std::panic::catch_unwind(check).expect_err("a stack is no queue");
+    let text = payload
+        .downcast_ref::<String>()
+        .expect("the panic has a text");
+    assert!(
+        text.contains("no legal order: an item overtook an older one"),
+        "{text}"
+    );
+    assert!(
+        text.contains("got by call") && text.contains("seed ") && text.contains(".svg"),
+        "{text}"
+    );
+}
+
+type Change = fn(&mut Options);
+
+/// Options that are changed in one way, and why they are refused.
+const REFUSED: [(Change, &str); 11] = [
+    (|it| it.k = 0, "k is not 1 to 64"),
+    (|it| it.k = 65, "k is not 1 to 64"),
+    (
+        |it| it.threads = Some(1),
+        "the number of threads is not 2 to 64",
+    ),
+    (
+        |it| it.threads = Some(65),
+        "the number of threads is not 2 to 64",
+    ),
+    (|it| it.calls = Some(0), "there are no calls"),
+    (
+        |it| it.calls = Some(5000),
+        "a round would have more calls than can be judged",
+    ),
+    (
+        |it| it.calls = Some(usize::MAX),
+        "a round would have more calls than can be judged",
+    ),
+    (
+        |it| (it.one_producer, it.one_consumer, it.threads) = (true, true, Some(3)),
+        "with one producer and one consumer there are two threads",
+    ),
+    (
+        |it| it.repeated = Some(0),
+        "the number of different items is not 1 to 16,777,215",
+    ),
+    (
+        |it| it.hang = Duration::ZERO,
+        "the time after which a call hangs is 0",
+    ),
+    (
+        |it| it.name = String::from("a/b"),
+        "the name is empty, or cannot stand in the name of a file",
+    ),
+];
+
+#[test]
+fn options_out_of_range_are_refused() {
+    for (change, text) in REFUSED {
+        let mut options = Options::default();
+        change(&mut options);
+        let result = run_check(Locked::default, Locked::push, Locked::pop, options);
+        assert_eq!(
+            result.expect_err("an option is out of range").to_string(),
+            text
+        );
+    }
+}
+
+fn call(thread: u32, op: Op, item: u64, first: u64, answer: Answer) -> Call {
+    Call {
+        thread,
+        op,
+        item,
+        first,
+        last: first + 5,
+        answer,
+    }
+}
+
+#[test]
+fn the_judge_names_calls_by_their_first_times() {
+    let calls = [
+        call(1, Op::Get, 1, 40, Answer::Got),
+        call(1, Op::Get, 2, 30, Answer::Got),
+        call(0, Op::Put, 2, 20, Answer::Done),
+        call(0, Op::Put, 1, 10, Answer::Done),
+    ];
+    let Ok(Verdict::NoOrder { text, named }) = judge(&calls, 1, TRIES) else {
+        panic!("item 2 overtook item 1");
+    };
+    assert!(
+        text.contains("call 2 got item 2, while 1 older item was there: calls 0"),
+        "{text}"
+    );
+    assert!(
+        text.contains("call 2, line 3: thread 1 got 2 from 30 to 35"),
+        "{text}"
+    );
+    assert_eq!(named, [2, 0]);
+    assert!(matches!(judge(&calls, 2, TRIES), Ok(Verdict::Legal { .. })));
+    assert_eq!(
+        least(&calls, TRIES),
+        Ok(Least::Between {
+            at_least: 2,
+            at_most: Some(2)
+        })
+    );
+    assert!(draw(&calls, 1, Part::Evidence, Style::Svg).is_ok_and(|svg| svg.contains("<svg")));
+}
+
+#[test]
+fn a_log_that_is_none_has_a_fault() {
+    let calls = [
+        call(0, Op::Put, 1, 10, Answer::Done),
+        call(0, Op::Put, 2, 12, Answer::Done),
+    ];
+    let Err(Fault::Log { number, place, .. }) = judge(&calls, 1, TRIES) else {
+        panic!("the calls of thread 0 overlap");
+    };
+    assert_eq!((number, place), (8, 3));
+    assert_eq!(judge(&calls[..1], 0, TRIES), Err(Fault::BadCall));
+    assert!(least(&calls, TRIES).is_err() && draw(&calls, 1, Part::All, Style::Text).is_err());
+}
