@@ -4,6 +4,15 @@ use kfifo::judge::{Options, check};
 use std::collections::VecDeque;
 use std::sync::Mutex;
 
+fn check_queue() {
+    check(
+        || Mutex::new(VecDeque::new()),
+        |queue, item| queue.lock().unwrap().push_back(item),
+        |queue| queue.lock().unwrap().pop_front(),
+        Options::default(),
+    );
+}
+
 fn check_stack() {
     check(
         || Mutex::new(Vec::new()),
@@ -15,12 +24,8 @@ fn check_stack() {
 
 fn main() {
     if std::env::args().any(|word| word == "broken") {
-        return check_stack();
+        check_stack();
+    } else {
+        check_queue();
     }
-    check(
-        || Mutex::new(VecDeque::new()),
-        |queue, item| queue.lock().unwrap().push_back(item),
-        |queue| queue.lock().unwrap().pop_front(),
-        Options::default(),
-    );
 }
