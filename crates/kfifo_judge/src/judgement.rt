@@ -34,6 +34,10 @@ fn worst_rank(alloc: Global, history: &History, k: u32, order: &[usize]) -> Resu
     requires legal { IsLegal k history.now order.now }
     ensures { IfOk result (λ rank. rank ≡ greatest (ranks_of k history.now order.now)) }
 {
+    // A plain queue passes over nothing.
+    if k == 1 {
+        return Ok(0);
+    }
     match ranks(alloc, history, k, order) {
         Ok(found) => Ok(greatest_of(found.as_slice())),
         Err(RankFault::Memory) => Err(AllocError),

@@ -1,16 +1,17 @@
 -- A chain of items of which one is certainly there at each moment of a call.
-use Rattle.std.proofs.Common.{ℕ, ◌≡◌, ◌≢◌, ◌<◌, ◌≤◌, List, [], ◌∷◌, ◌++◌, length, get_or, refl, sym, subst, inl, inr, arith}
+use Rattle.std.proofs.Common.{ℕ, ◌≡◌, ◌≢◌, ◌<◌, ◌≤◌, ◌+◌, List, [], ◌∷◌, ◌++◌, length, get_or, refl, sym, subst, inl, inr, arith}
 use Rattle.std.proofs.lemmas.Bool.{cases_lt}
 use Rattle.kfifo_verdict.proofs.Types.{Call, Stay}
 use Rattle.std.specs.List.{AllByRecursion}
 use Rattle.kfifo_model.specs.Lists.{IsIn}
-use Rattle.kfifo_model.specs.Histories.{call, EndsBelow, HasNoRepeats}
+use Rattle.kfifo_model.specs.Histories.{call, does, EndsBelow, HasNoRepeats}
 use Rattle.kfifo_model.specs.Validity.{IsHistory}
 use Rattle.kfifo_model.proofs.Lists.{in_left, in_right, each_at, each_from, pairs_push, AllByRecursion-push}
 use Rattle.kfifo_verdict.specs.Evidence.{IsCertainlyThere, IsMomentOf}
-use Rattle.kfifo_verdict.specs.Finding.{first_of, IsStay, no_stay, AreStays}
+use Rattle.kfifo_model.specs.declared.effects.Effect.TheVariants.{FindsNone}
+use Rattle.kfifo_verdict.specs.Finding.{AreStays, HasGap, HasGaps, IsStay, first_of, no_stay}
 use Rattle.kfifo_verdict.specs.Judging.{FoundNotEmpty}
-use Rattle.kfifo_verdict.proofs.Refuting.{not_ended}
+use Rattle.kfifo_verdict.proofs.Refuting.{ended_inside, found_ended, not_ended}
 use Rattle.kfifo_verdict.proofs.Moments.{rising, not_falling}
 
 -- the puts cover the moments of call e below the first step of call n, if there is one
@@ -70,3 +71,40 @@ chain_broken h e n puts stays v are inside open_ le c f =
     let t = f.1.covered (first_of h n) (moment_here h e n v c.from inside open_) in
     let lt = are.found n t.0 inside t.2 in
     omega (arith, lt, le)
+
+-- ---- gaps
+
+-- where the longest stay is over, none is there
+pub gap_at : (h : List Call) (stays : List Stay) (e n : ℕ) → AreStays h stays → e ≤ n → n < length h
+    → (EndsBelow (call h e).end (first_of h n) → ⊥) → (get_or stays n no_stay).gone ≤ n → HasGap h e
+gap_at h stays e n are from inside open_ le = (
+  n,
+  from,
+  inside,
+  open_,
+  λ p there. (
+      let lt = are.found n p inside there in
+      omega (arith, lt, le)
+      ),
+)
+
+-- each call below n that returned Empty has a gap
+abbrev pub HasGapsBelow : List Call → ℕ → Type 0
+HasGapsBelow h n = (e : ℕ) → e < n → does h e ≡ FindsNone → HasGap h e
+
+pub gaps_more : (h : List Call) (n : ℕ) → HasGapsBelow h n → (does h n ≡ FindsNone → HasGap h n) → HasGapsBelow h (n + 1)
+gaps_more h n below here e lt empty =
+    elim (cases_lt e n) [
+      | inl less ↦ below e less empty
+      | inr le ↦ (
+          let same : n ≡ e = omega (arith, lt, le) in
+          let G : ℕ → Type 0 = λ c. HasGap h c in
+          let D : ℕ → Type 0 = λ c. does h c ≡ FindsNone in
+          subst G same (here (subst D (sym same) empty))
+          )
+    ]
+
+pub gaps_all : (h : List Call) (n : ℕ) → length h ≤ n → HasGapsBelow h n → HasGaps h
+gaps_all h n le below e empty =
+    let inside = ended_inside h e (found_ended h e empty) in
+    below e (omega (arith, inside, le)) empty

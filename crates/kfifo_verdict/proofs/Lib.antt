@@ -21,3 +21,4 @@ pub mod Leaving
 pub mod Passing
 pub mod Ageing
 pub mod AtEnd
+pub mod Sufficing

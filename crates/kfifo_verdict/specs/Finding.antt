@@ -7,6 +7,7 @@ use Rattle.kfifo_model.specs.declared.calls.Call.{Call}
 use Rattle.kfifo_model.specs.declared.calls.End.{End}
 use Rattle.kfifo_model.specs.Overtaking.{adds, takes}
 use Rattle.std.specs.List.{AllByRecursion}
+use Rattle.kfifo_model.specs.declared.effects.Effect.TheVariants.{FindsNone}
 use Rattle.kfifo_model.specs.Histories.{call, does, EndsBelow}
 use Rattle.kfifo_model.specs.declared.effects.Side.{Side}
 use Rattle.kfifo_model.specs.declared.effects.Side.TheVariants.{In, Out}
@@ -115,6 +116,15 @@ abbrev pub IsCovered : List Call → List Stay → ℕ → Covered → Type 0
 IsCovered h stays e (Whole puts) = IsNotEmpty h e puts.items
 IsCovered h stays e (Gap n) = (FoundNotEmpty h e → ⊥) × (e ≤ n) × (n < length h)
     × (EndsBelow (call h e).end (first_of h n) → ⊥) × ((slice_index_or stays n no_stay).gone ≤ n)
+
+-- during call e a call begins as no item is certainly there
+abbrev pub HasGap : List Call → ℕ → Type 0
+HasGap h e = (n : ℕ) × (e ≤ n) × (n < length h) × (EndsBelow (call h e).end (first_of h n) → ⊥)
+    × ((p : ℕ) → IsCertainlyThere h p (first_of h n) → ⊥)
+
+-- each call that returned Empty has such a moment
+abbrev pub HasGaps : List Call → Type 0
+HasGaps h = (e : ℕ) → does h e ≡ FindsNone → HasGap h e
 
 -- the calls by their items
 pub record IsIndexed (h : List Call) (items : Items) : Type 0 where

@@ -9,7 +9,7 @@ ghost use Rattle.kfifo_verdict.specs.Evidence.{IsNeverPut, IsTakenTwice, IsNotEm
 ghost use Rattle.kfifo_verdict.specs.Evidence.{count_below};
 ghost use Rattle.kfifo_verdict.specs.Finding.{ArePuts, AreGets, ArePresences, IsIndexed, AreStays, AreLongest};
 ghost use Rattle.kfifo_verdict.specs.Finding.{IsBucketed, IsCovered, outlast, lasts_at};
-ghost use Rattle.kfifo_verdict.specs.Finding.{AreSkips, IsCountedTo, AreFirst, first_of};
+ghost use Rattle.kfifo_verdict.specs.Finding.{AreSkips, IsCountedTo, AreFirst, HasGaps, first_of};
 ghost use Rattle.kfifo_verdict.specs.Judging.{FoundNotEmpty, GotTooYoung, Never, NeverBefore, HasNoEvidence};
 ghost use Rattle.kfifo_verdict.specs.Judging.{IsFirstEvidence};
 ghost use Rattle.kfifo_verdict.specs.Judging.{HasNoneTo3, IsFirstTo3, HasNoneForEachK, IsFirstForEachK};
@@ -20,6 +20,7 @@ use crate::precedence::{ends_before, first_after};
 use crate::presences::{Items, Presence};
 use crate::soon::taken_too_soon;
 use crate::tallies::{Tallies, tally_of};
+use crate::turns::is_plain;
 use crate::verdicts::Evidence;
 use kfifo_model::{Call, Effect, History};
 use std::alloc::{AllocError, Global};
@@ -190,7 +191,8 @@ pub(crate) fn cover(
     Ok(Covered::Whole(puts))
 }
 
-/// The first call that returned Empty while there were items.
+/// The first call that returned Empty while there were items. Where there is none, each such call has a moment as no item
+/// is certainly there.
 fn not_empty(
     alloc: Global,
     calls: &[Call],
@@ -198,7 +200,7 @@ fn not_empty(
 ) -> Result<Option<(usize, Vec<usize>)>, AllocError>
     requires history { IsHistory calls.now }
     requires stays { AreStays calls.now stays.now }
-    ensures { IfOk result (λ found. MatchOption found (Never (FoundNotEmpty calls.now))
+    ensures { IfOk result (λ found. MatchOption found (Never (FoundNotEmpty calls.now) × HasGaps calls.now)
         (λ e. IsNotEmpty calls.now e.0 e.1.items × NeverBefore (FoundNotEmpty calls.now) e.0)) }
 {
     for n in 0..calls.len() {
@@ -378,7 +380,7 @@ fn too_young(
     Ok(None)
 }
 
-/// The evidence of the kinds 1 to 3.
+/// The evidence of the kinds 1 to 3, and where there is none, gaps as of `not_empty`.
 fn evidence_to_3(
     alloc: Global,
     calls: &[Call],
@@ -386,7 +388,8 @@ fn evidence_to_3(
 ) -> Result<Option<Evidence>, AllocError>
     requires history { IsHistory calls.now }
     requires items { IsIndexed calls.now items.now }
-    ensures { IfOk result (λ found. MatchOption found (HasNoneTo3 calls.now) (IsFirstTo3 calls.now)) }
+    ensures { IfOk result (λ found. MatchOption found (HasNoneTo3 calls.now × HasGaps calls.now)
+        (IsFirstTo3 calls.now)) }
 {
     if let Some(get) = never_put(calls, &items.puts) {
         return Ok(Some(Evidence::NeverPut(get)));
@@ -402,16 +405,25 @@ fn evidence_to_3(
 }
 
 /// The evidence among the calls of a history.
-fn evidence_among(alloc: Global, calls: &[Call], k: usize) -> Result<Option<Evidence>, AllocError>
-    requires { IsHistory calls.now }
+fn evidence_among(
+    alloc: Global,
+    calls: &[Call],
+    items: &Items,
+    k: usize,
+) -> Result<Option<Evidence>, AllocError>
+    requires history { IsHistory calls.now }
+    requires items { IsIndexed calls.now items.now }
     ensures { IfOk result (λ found. MatchOption found (HasNoEvidence k calls.now) (IsFirstEvidence k calls.now)) }
 {
-    let items = Items::of(alloc, calls)?;
-    if let Some(found) = evidence_to_3(alloc, calls, &items)? {
+    if let Some(found) = evidence_to_3(alloc, calls, items)? {
         return Ok(Some(found));
     }
-    if let Some((get, puts)) = too_young(alloc, calls, &items, k)? {
+    if let Some((get, puts)) = too_young(alloc, calls, items, k)? {
         return Ok(Some(Evidence::TooYoung { get, puts }));
+    }
+    // Where one of the kinds 5 to 7 is in a plain history, one of these was.
+    if is_plain(calls, items) {
+        return Ok(None);
     }
     if let Some(get) = taken_too_soon(alloc, calls)? {
         return Ok(Some(Evidence::TakenTooSoon(get)));
@@ -434,6 +446,9 @@ fn evidence_for_all(alloc: Global, calls: &[Call]) -> Result<Option<Evidence>, A
     if let Some(found) = evidence_to_3(alloc, calls, &items)? {
         return Ok(Some(found));
     }
+    if is_plain(calls, &items) {
+        return Ok(None);
+    }
     if let Some(get) = taken_too_soon(alloc, calls)? {
         return Ok(Some(Evidence::TakenTooSoon(get)));
     }
@@ -452,7 +467,24 @@ pub fn evidence(alloc: Global, history: &History, k: u32) -> Result<Option<Evide
         MatchOption found (HasNoEvidence k history.now) (IsFirstEvidence k history.now)) }
     ensures refutes { IfOk result (λ found. OnSome found (HasOrder k history.now → ⊥)) }
 {
-    evidence_among(alloc, history.calls(), k as usize)
+    let items = Items::of(alloc, history.calls())?;
+    evidence_by(alloc, history, &items, k)
+}
+
+/// The same, by the calls of each item.
+pub(crate) fn evidence_by(
+    alloc: Global,
+    history: &History,
+    items: &Items,
+    k: u32,
+) -> Result<Option<Evidence>, AllocError>
+    requires places { (1 ≤ k) × (k ≤ 64) }
+    requires items { IsIndexed history.now items.now }
+    ensures first { IfOk result (λ found.
+        MatchOption found (HasNoEvidence k history.now) (IsFirstEvidence k history.now)) }
+    ensures refutes { IfOk result (λ found. OnSome found (HasOrder k history.now → ⊥)) }
+{
+    evidence_among(alloc, history.calls(), items, k as usize)
 }
 
 /// Returns the evidence that a history has a legal order for no k: as `evidence`, but for the numbers 4 and 7, which

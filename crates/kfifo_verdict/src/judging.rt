@@ -1,9 +1,10 @@
 //! Verdicts, and bounds of k.
 ghost use Rattle.std.specs.Prelude.{◌≡◌, ◌≤◌, IfOk};
 ghost use Rattle.kfifo_model.specs.Validity.{IsHistory};
+ghost use Rattle.kfifo_verdict.specs.Finding.{IsIndexed};
 ghost use Rattle.kfifo_verdict.specs.Judging.{IsJudgement, IsPlain, IsDecided, IsLowerBound, AreBounds};
 
-use crate::finding::{evidence, no_skips, older_at};
+use crate::finding::{evidence_by, no_skips, older_at};
 use crate::presences::Items;
 use crate::turns::order_of_plain;
 use crate::verdicts::{Bounds, Judgement};
@@ -28,11 +29,28 @@ pub fn judge(alloc: Global, history: &History, k: u32, tries: u64) -> Result<Jud
     ensures judgement { IfOk result (IsJudgement k history.now) }
     ensures complete { k ≡ 1 → IsPlain history.now → IfOk result IsDecided }
 {
-    if let Some(found) = evidence(alloc, history, k)? {
+    let items = Items::of(alloc, history.calls())?;
+    judge_by(alloc, history, &items, k, tries)
+}
+
+/// The same, by the calls of each item.
+fn judge_by(
+    alloc: Global,
+    history: &History,
+    items: &Items,
+    k: u32,
+    tries: u64,
+) -> Result<Judgement, AllocError>
+    requires places { (1 ≤ k) × (k ≤ 64) }
+    requires items { IsIndexed history.now items.now }
+    ensures judgement { IfOk result (IsJudgement k history.now) }
+    ensures complete { k ≡ 1 → IsPlain history.now → IfOk result IsDecided }
+{
+    if let Some(found) = evidence_by(alloc, history, items, k)? {
         return Ok(Judgement::NoOrder(found));
     }
     if k == 1 {
-        if let Some(order) = order_of_plain(alloc, history.calls())? {
+        if let Some(order) = order_of_plain(alloc, history.calls(), items)? {
             return Ok(Judgement::Legal(order));
         }
     }

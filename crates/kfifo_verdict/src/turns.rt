@@ -194,7 +194,7 @@ fn by_turns(alloc: Global, turns: &[Turn]) -> Result<Vec<usize>, AllocError>
 }
 
 /// Whether each item that is put is single, and each call has ended.
-fn is_plain(calls: &[Call], items: &Items) -> bool
+pub(crate) fn is_plain(calls: &[Call], items: &Items) -> bool
     requires { IsIndexed calls.now items.now }
     ensures { IsTrue result ↔ IsPlain calls.now }
 {
@@ -234,15 +234,16 @@ fn plain_order(alloc: Global, calls: &[Call], items: &Items) -> Result<Vec<usize
 pub(crate) fn order_of_plain(
     alloc: Global,
     calls: &[Call],
+    items: &Items,
 ) -> Result<Option<Vec<usize>>, AllocError>
     requires history { IsHistory calls.now }
+    requires items { IsIndexed calls.now items.now }
     requires clear { HasNoEvidence 1 calls.now }
     ensures legal { IfOk result (λ found. IfSome found (λ order. IsLegal 1 calls.now order.items)) }
     ensures complete { IsPlain calls.now → IfOk result (λ found. IsSome found) }
 {
-    let items = Items::of(alloc, calls)?;
-    if is_plain(calls, &items) {
-        Ok(Some(plain_order(alloc, calls, &items)?))
+    if is_plain(calls, items) {
+        Ok(Some(plain_order(alloc, calls, items)?))
     } else {
         Ok(None)
     }

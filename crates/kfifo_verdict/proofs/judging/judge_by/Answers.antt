@@ -2,8 +2,8 @@ use Rattle.std.proofs.Common.{ℕ, List, sym, subst}
 use Rattle.std.proofs.lemmas.Bool.{false≢true}
 use Rattle.kfifo_verdict.proofs.Types.{Call}
 use Rattle.kfifo_verdict.specs.Judging.{HasNoEvidence, IsPlain}
-use Rattle.kfifo_verdict.proofs.judging.judge.Goals as goal
-use Rattle.kfifo_verdict.proofs.judging.judge.Goals.{then-k-eq1+in_ok-order+in_default-2, else-k-eq1}
+use Rattle.kfifo_verdict.proofs.judging.judge_by.Goals as goal
+use Rattle.kfifo_verdict.proofs.judging.judge_by.Goals.{then-k-eq1+in_ok-order+in_default-2, else-k-eq1}
 
 pub order_of_plain-requires-clause-clear : goal.order_of_plain-requires-clause-clear
 order_of_plain-requires-clause-clear c =

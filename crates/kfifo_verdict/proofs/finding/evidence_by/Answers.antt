@@ -4,7 +4,7 @@ use Rattle.std.specs.Option.{MatchOption}
 use Rattle.kfifo_verdict.proofs.Types.{Call}
 use Rattle.kfifo_verdict.specs.Judging.{HasNoEvidence, IsFirstEvidence}
 use Rattle.kfifo_verdict.proofs.Concluding.{found_refutes}
-use Rattle.kfifo_verdict.proofs.finding.evidence.Goals as goal
+use Rattle.kfifo_verdict.proofs.finding.evidence_by.Goals as goal
 
 pub returns-clause-first : goal.returns-clause-first
 returns-clause-first c =
