@@ -1,8 +1,8 @@
 -- What the search for evidence knows of a history: what its calls do, tallies of their items, and when items are there.
-use Rattle.std.specs.Prelude.{ℕ, ◌≡◌, ◌+◌, ◌<◌, ◌≤◌, ◌↔◌, ◌⊎◌, ◌&&◌, leb, min, Bool, true, List, Option, length}
+use Rattle.std.specs.Prelude.{ℕ, ◌≡◌, ◌+◌, ◌<◌, ◌≤◌, ◌↔◌, ◌⊎◌, ◌&&◌, ◌-◌, cond, leb, ltb, min, Bool, true, List, Option, length}
 use Rattle.std.specs.Prelude.{slice_index_or, unwrap_or}
 use Rattle.std.specs.Ordering.{nat_cmp}
-use Rattle.std.specs.BTreeMap.{BTreeMap, get}
+use Rattle.std.specs.BTreeMap.{get}
 use Rattle.kfifo_model.specs.declared.calls.Call.{Call}
 use Rattle.kfifo_model.specs.declared.calls.End.{End}
 use Rattle.kfifo_model.specs.Overtaking.{adds, takes}
@@ -11,6 +11,7 @@ use Rattle.kfifo_model.specs.declared.effects.Effect.TheVariants.{FindsNone}
 use Rattle.kfifo_model.specs.Histories.{call, does, EndsBelow}
 use Rattle.kfifo_model.specs.declared.effects.Side.{Side}
 use Rattle.kfifo_model.specs.declared.effects.Side.TheVariants.{In, Out}
+use Rattle.kfifo_verdict.specs.declared.tallies.ByItem.{ByItem}
 use Rattle.kfifo_verdict.specs.declared.tallies.Tally.{Tally}
 use Rattle.kfifo_verdict.specs.declared.presences.Presence.{Presence}
 use Rattle.kfifo_verdict.specs.declared.presences.Items.{Items}
@@ -51,15 +52,20 @@ pub record IsTally (test : ℕ → Bool) (first : ℕ → ℕ) (n : ℕ) (t : Ta
 abbrev pub IsTallied : List Call → Side → ℕ → (ℕ → Tally) → Type 0
 IsTallied h side n look = (x : ℕ) → IsTally (has_item side h x) (first_of h) n (look x)
 
+-- whether an item has its tally in a list of this many, the first of which is of the least item
+abbrev pub is_near : ℕ → ℕ → ℕ → Bool
+is_near least count x = leb least x && ltb (x - least) count
+
 -- the tally of an item
-abbrev pub tally_in : BTreeMap ℕ Tally → ℕ → Tally
-tally_in m x = unwrap_or (get nat_cmp m x) no_tally
+abbrev pub tally_in : ByItem → ℕ → Tally
+tally_in m x = cond (is_near m.least (length m.near.items) x) (slice_index_or m.near.items (x - m.least) no_tally)
+    (unwrap_or (get nat_cmp m.far x) no_tally)
 
 -- the tallies of all puts, and of all gets
-abbrev pub ArePuts : List Call → BTreeMap ℕ Tally → Type 0
+abbrev pub ArePuts : List Call → ByItem → Type 0
 ArePuts h m = IsTallied h In (length h) (tally_in m)
 
-abbrev pub AreGets : List Call → BTreeMap ℕ Tally → Type 0
+abbrev pub AreGets : List Call → ByItem → Type 0
 AreGets h m = IsTallied h Out (length h) (tally_in m)
 
 -- Of a single item: its put, the first call that the put precedes, and the call that gets it, or the number of calls.

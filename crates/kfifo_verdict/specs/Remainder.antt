@@ -1,13 +1,13 @@
 -- How many items are left at the end of a history.
-use Rattle.std.specs.Prelude.{ℕ, ◌≡◌, leb, eqb, false, Bool, List, Option, Some, None, length, unwrap_or}
-use Rattle.std.specs.BTreeMap.{BTreeMap, get}
-use Rattle.std.specs.Ordering.{nat_cmp}
+use Rattle.std.specs.Prelude.{ℕ, ◌≡◌, leb, eqb, false, Bool, List, Option, Some, None, length}
 use Rattle.kfifo_model.specs.declared.calls.Call.{Call}
 use Rattle.kfifo_model.specs.declared.calls.End.{End}
 use Rattle.kfifo_model.specs.declared.effects.Effect.{Effect}
 use Rattle.kfifo_model.specs.declared.effects.Effect.TheVariants.{Adds}
 use Rattle.kfifo_model.specs.Histories.{call, effect_of}
+use Rattle.kfifo_verdict.specs.declared.tallies.ByItem.{ByItem}
 use Rattle.kfifo_verdict.specs.Evidence.{count_below, gets_of}
+use Rattle.kfifo_verdict.specs.Finding.{tally_in}
 
 abbrev pub item_added : Effect → Option ℕ
 item_added (Adds x) = Some x
@@ -44,9 +44,9 @@ abbrev pub items_left : List Call → ℕ
 items_left h = left_below h (length h)
 
 -- how often an item was counted
-abbrev pub count_in : BTreeMap ℕ ℕ → ℕ → ℕ
-count_in m x = unwrap_or (get nat_cmp m x) 0
+abbrev pub count_in : ByItem → ℕ → ℕ
+count_in m x = (tally_in m x).count
 
 -- the enqueues below n that returned Done, counted by their items
-abbrev pub AreDonePuts : List Call → ℕ → BTreeMap ℕ ℕ → Type 0
+abbrev pub AreDonePuts : List Call → ℕ → ByItem → Type 0
 AreDonePuts h n m = (x : ℕ) → count_in m x ≡ done_puts h x n

@@ -19,7 +19,7 @@ use crate::older::older_left;
 use crate::precedence::{ends_before, first_after};
 use crate::presences::{Items, Presence};
 use crate::soon::taken_too_soon;
-use crate::tallies::{Tallies, tally_of};
+use crate::tallies::{ByItem, tally_of};
 use crate::turns::is_plain;
 use crate::verdicts::Evidence;
 use kfifo_model::{Call, Effect, History};
@@ -45,7 +45,7 @@ fn longer(a: Stay, b: Stay) -> Stay
 }
 
 /// Whether the call got an item before each call that puts it.
-fn is_never_put(calls: &[Call], n: usize, puts: &Tallies) -> bool
+fn is_never_put(calls: &[Call], n: usize, puts: &ByItem) -> bool
     requires inside { n < length calls.now }
     requires puts { ArePuts calls.now puts.now }
     ensures { IsTrue result ↔ IsNeverPut calls.now n }
@@ -59,7 +59,7 @@ fn is_never_put(calls: &[Call], n: usize, puts: &Tallies) -> bool
 }
 
 /// The first call that got an item before each call that puts it.
-fn never_put(calls: &[Call], puts: &Tallies) -> Option<usize>
+fn never_put(calls: &[Call], puts: &ByItem) -> Option<usize>
     requires { ArePuts calls.now puts.now }
     ensures { MatchOption result (Never (IsNeverPut calls.now))
         (λ n. IsNeverPut calls.now n × NeverBefore (IsNeverPut calls.now) n) }
@@ -73,7 +73,7 @@ fn never_put(calls: &[Call], puts: &Tallies) -> Option<usize>
 }
 
 /// Whether call n got an item that was got more often than put, as the last that got it.
-fn is_taken_twice(calls: &[Call], n: usize, puts: &Tallies, gets: &Tallies) -> bool
+fn is_taken_twice(calls: &[Call], n: usize, puts: &ByItem, gets: &ByItem) -> bool
     requires inside { n < length calls.now }
     requires puts { ArePuts calls.now puts.now }
     requires gets { AreGets calls.now gets.now }
@@ -87,7 +87,7 @@ fn is_taken_twice(calls: &[Call], n: usize, puts: &Tallies, gets: &Tallies) -> b
 }
 
 /// The first call that got an item which was got more often than put, as the last that got it.
-fn taken_twice(calls: &[Call], puts: &Tallies, gets: &Tallies) -> Option<usize>
+fn taken_twice(calls: &[Call], puts: &ByItem, gets: &ByItem) -> Option<usize>
     requires puts { ArePuts calls.now puts.now }
     requires gets { AreGets calls.now gets.now }
     ensures { MatchOption result (Never (IsTakenTwice calls.now))

@@ -4,7 +4,7 @@ ghost use Rattle.kfifo_model.specs.Validity.{IsHistory};
 ghost use Rattle.kfifo_verdict.specs.Finding.{ArePuts, AreGets, IsPresence, ArePresences, IsIndexed};
 
 use crate::precedence::first_after;
-use crate::tallies::{Tallies, tallies, tally_of};
+use crate::tallies::{ByItem, tallies, tally_of};
 use kfifo_model::{Call, Effect, Side};
 use std::alloc::{AllocError, Global};
 
@@ -21,15 +21,15 @@ pub(crate) struct Presence {
 #[derive(Drop)]
 pub(crate) struct Items {
     /// Those that put each item.
-    pub puts: Tallies,
+    pub puts: ByItem,
     /// Those that got it.
-    pub gets: Tallies,
+    pub gets: ByItem,
     /// For each call, when the single item that it put is certainly there, or never.
     pub presences: Vec<Presence>,
 }
 
 /// When the item of a call is certainly there, if it is a single item's put, or never.
-fn presence_of(calls: &[Call], puts: &Tallies, gets: &Tallies, p: usize) -> Presence
+fn presence_of(calls: &[Call], puts: &ByItem, gets: &ByItem, p: usize) -> Presence
     requires history { IsHistory calls.now }
     requires inside { p < length calls.now }
     requires puts { ArePuts calls.now puts.now }
@@ -61,8 +61,8 @@ fn presence_of(calls: &[Call], puts: &Tallies, gets: &Tallies, p: usize) -> Pres
 fn presences(
     alloc: Global,
     calls: &[Call],
-    puts: &Tallies,
-    gets: &Tallies,
+    puts: &ByItem,
+    gets: &ByItem,
 ) -> Result<Vec<Presence>, AllocError>
     requires history { IsHistory calls.now }
     requires puts { ArePuts calls.now puts.now }

@@ -1,21 +1,31 @@
 //! How many items are left at the end of a history.
-ghost use Rattle.std.specs.Prelude.{◌≡◌, IfOk};
+ghost use Rattle.std.specs.Prelude.{ℕ, ◌≡◌, ◌≢◌, IfOk, OnOk};
 ghost use Rattle.kfifo_verdict.specs.Remainder as specs;
 ghost use Rattle.kfifo_verdict.specs.Remainder.{items_left};
 
-use crate::tallies::{tallies, tally_of};
+use crate::tallies::{ByItem, Tally, no_tallies, put_tally, tallies, tally_of};
 use kfifo_model::{Call, Effect, History, Side};
 use std::alloc::{AllocError, Global};
-use std::collections::BTreeMap;
-
-/// How often each item was put.
-type Counts = BTreeMap<u32, usize>;
 
 /// How often this item was put.
-fn count_in(counts: &Counts, item: u32) -> usize
-    ensures { result ≡ specs.count_in counts.now item }
+fn count_in(puts: &ByItem, item: u32) -> usize
+    ensures { result ≡ specs.count_in puts.now item }
 {
-    counts.get(&item).copied().unwrap_or(0)
+    tally_of(puts, item).count
+}
+
+/// Says that this item was put so often.
+fn set_count(puts: &mut ByItem, item: u32, count: usize) -> Result<(), AllocError>
+    ensures set { OnOk result (specs.count_in puts.new item ≡ count) }
+    ensures others { OnOk result ((other : ℕ) → other ≢ item
+        → specs.count_in puts.new other ≡ specs.count_in puts.old other) }
+{
+    let tally = Tally {
+        count,
+        earliest: 0,
+        last: 0,
+    };
+    put_tally(puts, item, tally)
 }
 
 /// The item of an enqueue that returned Done.
@@ -45,7 +55,7 @@ fn left_of(alloc: Global, calls: &[Call]) -> Result<usize, AllocError>
     ensures { IfOk result (λ left. left ≡ items_left calls.now) }
 {
     let gets = tallies(alloc, calls, Side::Out)?;
-    let mut puts = BTreeMap::new(alloc);
+    let mut puts = no_tallies(alloc, calls, Side::In)?;
     let mut left: usize = 0;
     for (n, call) in calls.iter().enumerate() {
         if let Some(item) = done_item(call) {
@@ -53,7 +63,7 @@ fn left_of(alloc: Global, calls: &[Call]) -> Result<usize, AllocError>
             if tally_of(&gets, item).count <= before {
                 left += 1;
             }
-            puts.insert(item, before + 1)?;
+            set_count(&mut puts, item, before + 1)?;
         }
     }
     Ok(left)

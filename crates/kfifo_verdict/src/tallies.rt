@@ -1,6 +1,6 @@
 //! How often, when first and where last each item is put, or got.
-ghost use Rattle.std.specs.Prelude.{ℕ, ◌≡◌, ◌<◌, ◌+◌, ◌≤◌, ◌^◌, Bool, true, length, IfOk};
-ghost use Rattle.kfifo_verdict.specs.Finding.{IsTally, IsTallied, tally_in};
+ghost use Rattle.std.specs.Prelude.{ℕ, ◌≡◌, ◌≢◌, ◌<◌, ◌+◌, ◌-◌, ◌≤◌, ◌^◌, Bool, true, false, length, IfOk, MatchOption, OnOk};
+ghost use Rattle.kfifo_verdict.specs.Finding.{IsTally, IsTallied, is_near, no_tally, tally_in};
 
 use kfifo_model::{Call, Side};
 use std::alloc::{AllocError, Global};
@@ -17,6 +17,9 @@ pub(crate) struct Tally {
     pub last: usize,
 }
 
+/// How many items for each call a list of tallies may have.
+const MOST_PER_CALL: usize = 8;
+
 /// The tally of no calls.
 pub(crate) const NO_CALLS: Tally = Tally {
     count: 0,
@@ -24,8 +27,29 @@ pub(crate) const NO_CALLS: Tally = Tally {
     last: 0,
 };
 
-/// A tally of each item.
-pub(crate) type Tallies = BTreeMap<u32, Tally>;
+/// A tally of each item. Those of items that lie close together stand in a list, and all others in a tree.
+// A run of a test has the items of a few rounds, and a list of them costs a tenth of a tree.
+#[derive(Drop)]
+pub(crate) struct ByItem {
+    /// The item of the first tally of the list.
+    pub least: u32,
+    /// The tallies of that item and those after it.
+    pub near: Vec<Tally>,
+    /// The tallies of all other items that have one.
+    pub far: BTreeMap<u32, Tally>,
+}
+
+/// The place of an item in a list of this many tallies, the first of which is of the least item.
+fn near_place(least: u32, count: usize, item: u32) -> Option<usize>
+    ensures { MatchOption result (is_near least count item ≡ false)
+        (λ place. (is_near least count item ≡ true) × (place ≡ item - least) × (place < count)) }
+{
+    if item < least {
+        return None;
+    }
+    let place = (item - least) as usize;
+    if place < count { Some(place) } else { None }
+}
 
 /// One more call in a tally.
 fn with(tally: Tally, n: usize, first: u64) -> Tally
@@ -47,21 +71,69 @@ fn with(tally: Tally, n: usize, first: u64) -> Tally
 }
 
 /// The calls of a side that have this item.
-pub(crate) fn tally_of(tallies: &Tallies, item: u32) -> Tally
+pub(crate) fn tally_of(tallies: &ByItem, item: u32) -> Tally
     ensures { result ≡ tally_in tallies.now item }
 {
-    tallies.get(&item).copied().unwrap_or(NO_CALLS)
+    match near_place(tallies.least, tallies.near.len(), item) {
+        Some(place) => tallies.near[place],
+        None => tallies.far.get(&item).copied().unwrap_or(NO_CALLS),
+    }
+}
+
+/// Puts a tally in the place of the item's.
+pub(crate) fn put_tally(tallies: &mut ByItem, item: u32, tally: Tally) -> Result<(), AllocError>
+    ensures put { OnOk result (tally_in tallies.new item ≡ tally) }
+    ensures others { OnOk result ((other : ℕ) → other ≢ item → tally_in tallies.new other ≡ tally_in tallies.old other) }
+{
+    match near_place(tallies.least, tallies.near.len(), item) {
+        Some(place) => tallies.near[place] = tally,
+        None => {
+            tallies.far.insert(item, tally)?;
+        }
+    }
+    Ok(())
+}
+
+/// The least item on a side, and from it to the greatest one how many there are, if these are not much more than the
+/// calls; else no items.
+fn near_items(calls: &[Call], side: Side) -> (u32, usize) {
+    let mut least = u32::MAX;
+    let mut greatest = 0;
+    for call in calls {
+        if let Some(item) = side.item_of(call) {
+            least = least.min(item);
+            greatest = greatest.max(item);
+        }
+    }
+    let span = greatest.saturating_sub(least) as usize;
+    if least <= greatest && span < calls.len().saturating_mul(MOST_PER_CALL) {
+        (least, span + 1)
+    } else {
+        (0, 0)
+    }
+}
+
+/// No tallies, with a list for the items on a side of these calls if they lie close together.
+pub(crate) fn no_tallies(alloc: Global, calls: &[Call], side: Side) -> Result<ByItem, AllocError>
+    ensures { IfOk result (λ m. (item : ℕ) → tally_in m item ≡ no_tally) }
+{
+    let (least, count) = near_items(calls, side);
+    Ok(ByItem {
+        least,
+        near: vec![in alloc; NO_CALLS; count]?,
+        far: BTreeMap::new(alloc),
+    })
 }
 
 /// The tallies of the items on a side.
-pub(crate) fn tallies(alloc: Global, calls: &[Call], side: Side) -> Result<Tallies, AllocError>
+pub(crate) fn tallies(alloc: Global, calls: &[Call], side: Side) -> Result<ByItem, AllocError>
     ensures { IfOk result (λ m. IsTallied calls.now side (length calls.now) (tally_in m)) }
 {
-    let mut tallies = BTreeMap::new(alloc);
+    let mut tallies = no_tallies(alloc, calls, side)?;
     for (n, call) in calls.iter().enumerate() {
         if let Some(item) = side.item_of(call) {
             let tally = with(tally_of(&tallies, item), n, call.first);
-            tallies.insert(item, tally)?;
+            put_tally(&mut tallies, item, tally)?;
         }
     }
     Ok(tallies)

@@ -1,10 +1,9 @@
-use Rattle.std.proofs.Common.{ℕ, ◌≡◌, ◌+◌, ◌<◌, ◌^◌, leb, List, BTreeMap, Some, None, sym, ◌∙◌, ap, subst, arith, rules}
+use Rattle.std.proofs.Common.{ℕ, ◌≡◌, ◌+◌, ◌<◌, ◌^◌, leb, List, Some, None, sym, ◌∙◌, ap, subst, arith, rules}
 use Rattle.std.proofs.lemmas.Bool.{le-leb, lt-leb}
-use Rattle.std.specs.Option.{unwrap_or}
 use Rattle.kfifo_model.specs.declared.calls.Call.{Call}
 use Rattle.kfifo_model.specs.Histories.{call}
 use Rattle.kfifo_model.proofs.Checking.{read}
-use Rattle.kfifo_model.proofs.Indexing.{differs}
+use Rattle.kfifo_verdict.specs.declared.tallies.ByItem.{ByItem}
 use Rattle.kfifo_verdict.specs.declared.tallies.Tally.{Tally}
 use Rattle.kfifo_verdict.specs.Evidence.{gets_of}
 use Rattle.kfifo_verdict.specs.Finding.{AreGets, tally_in}
@@ -12,7 +11,7 @@ use Rattle.kfifo_verdict.specs.Remainder.{AreDonePuts, done_item, done_puts, is_
 use Rattle.kfifo_verdict.proofs.AtEnd.{left_more, left_skip, puts_more, puts_skip}
 use Rattle.kfifo_verdict.proofs.Younger.{count_few}
 use Rattle.kfifo_verdict.proofs.remainder.left_of.Goals as goal
-use Rattle.kfifo_verdict.proofs.remainder.left_of.Goals.{in-Some+in_ok-insert, then-tally_of-before, else-tally_of-before, in_default}
+use Rattle.kfifo_verdict.proofs.remainder.left_of.Goals.{in-Some+in_ok-set_count, then-tally_of-before, else-tally_of-before, in_default}
 
 pub overflow_add-left : goal.overflow_add-left
 overflow_add-left c =
@@ -33,7 +32,7 @@ overflow_add-before c =
     omega (arith, few, is, read, room)
 
 -- the put with this item, before which its item was put so often, leaves an item
-tells_left : (h : List Call) (n x before : ℕ) (gets : BTreeMap ℕ Tally) (tally : Tally) → AreGets h gets → tally ≡ tally_in gets x
+tells_left : (h : List Call) (n x before : ℕ) (gets : ByItem) (tally : Tally) → AreGets h gets → tally ≡ tally_in gets x
     → done_item (call h n) ≡ Some x → before ≡ done_puts h x n
     → is_left h n (done_item (call h n)) ≡ leb tally.count before
 tells_left h n x before gets tally are told is count =
@@ -46,17 +45,16 @@ loop-n-preserved c =
     let n = c.loop-n.n in
     let same = read h n _ c.loop-n-test.true in
     let said = sym (c.done_item.ensures ∙ ap done_item same) in
-    let P : BTreeMap ℕ ℕ → Type 0 = λ m. AreDonePuts h (n + 1) m in
+    let P : ByItem → Type 0 = λ m. AreDonePuts h (n + 1) m in
     let Q : ℕ → Type 0 = λ left. left ≡ left_below h (n + 1) in
     elim c.match-done_item.branch [
-      | in-Some+in_ok-insert w ↦ (
+      | in-Some+in_ok-set_count w ↦ (
           let x = w.in-Some.item in
           let before = w.count_in-before.result in
           let is = said ∙ w.in-Some.is in
           let counted = w.count_in-before.ensures ∙ c.loop-n.invariant.0 x in
-          let at = ap (λ o. unwrap_or o 0) w.in_ok-insert.ensures.updates.1 in
-          let puts = puts_more h n x c.loop-n.puts w.insert.new.self c.loop-n.invariant.0 is (at ∙ ap (λ b. b + 1) w.count_in-before.ensures)
-          (λ q ne. ap (λ o. unwrap_or o 0) (w.in_ok-insert.ensures.updates.2 q (differs x q ne))) in
+          let puts = puts_more h n x c.loop-n.puts w.set_count.new.puts c.loop-n.invariant.0 is
+          (w.in_ok-set_count.ensures.set ∙ ap (λ b. b + 1) w.count_in-before.ensures) w.in_ok-set_count.ensures.others in
           let tells = tells_left h n x before c.in_ok-gets.gets w.tally_of.result c.in_ok-gets.ensures w.tally_of.ensures is counted in
           let left : Q w.if-tally_of-before.left =
           elim w.if-tally_of-before.branch [

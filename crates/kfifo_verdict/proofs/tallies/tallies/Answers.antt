@@ -1,13 +1,12 @@
-use Rattle.std.proofs.Common.{ℕ, ◌+◌, BTreeMap, sym, ◌∙◌, ap, subst}
-use Rattle.std.specs.Option.{unwrap_or}
+use Rattle.std.proofs.Common.{◌+◌, sym, ◌∙◌, ap, subst}
 use Rattle.kfifo_model.specs.Histories.{effect_of}
 use Rattle.kfifo_model.proofs.Checking.{read}
-use Rattle.kfifo_model.proofs.Indexing.{differs}
 use Rattle.kfifo_verdict.proofs.Types.{Tally}
-use Rattle.kfifo_verdict.specs.Finding.{IsTally, IsTallied, tally_in, no_tally, has_item, first_of}
+use Rattle.kfifo_verdict.specs.declared.tallies.ByItem.{ByItem}
+use Rattle.kfifo_verdict.specs.Finding.{IsTally, IsTallied, tally_in, has_item, first_of}
 use Rattle.kfifo_verdict.proofs.Telling.{tallied_skip, tallied_more, side_here}
 use Rattle.kfifo_verdict.proofs.tallies.tallies.Goals as goal
-use Rattle.kfifo_verdict.proofs.tallies.tallies.Goals.{in-Some+in_ok-insert, in_default}
+use Rattle.kfifo_verdict.proofs.tallies.tallies.Goals.{in-Some+in_ok-put_tally, in_default}
 
 pub loop-n-preserved : goal.loop-n-preserved
 loop-n-preserved c =
@@ -15,19 +14,18 @@ loop-n-preserved c =
     let n = c.loop-n.n in
     let side = c.args.side in
     let same = read h n _ c.loop-n-test.true in
-    let P : BTreeMap ℕ Tally → Type 0 = λ m. IsTallied h side (n + 1) (tally_in m) in
+    let P : ByItem → Type 0 = λ m. IsTallied h side (n + 1) (tally_in m) in
     elim c.match-item_of.branch [
-      | in-Some+in_ok-insert w ↦ (
+      | in-Some+in_ok-put_tally w ↦ (
           let x = w.in-Some.item in
           let is = ap effect_of (sym same) ∙ w.in-Some.ensures in
           let Q : Tally → Type 0 = λ t. IsTally (has_item side h x) (first_of h) n t in
           let R : Tally → Type 0 = λ t. IsTally (has_item side h x) (first_of h) (n + 1) t in
           let now = w.with-tally.ensures (has_item side h x) (first_of h) (subst Q (sym w.tally_of.ensures) (c.loop-n.invariant x))
           (side_here side h x n is) (ap (λ t. t.first) (sym same)) in
-          let at = ap (λ o. unwrap_or o no_tally) w.in_ok-insert.ensures.updates.1 in
           subst P (sym w.tallies-is)
-          (tallied_more h side n x (tally_in c.loop-n.tallies) (tally_in w.insert.new.self) c.loop-n.invariant is (subst R (sym at) now)
-          (λ q ne. ap (λ o. unwrap_or o no_tally) (w.in_ok-insert.ensures.updates.2 q (differs x q ne))))
+          (tallied_more h side n x (tally_in c.loop-n.tallies) (tally_in w.put_tally.new.tallies) c.loop-n.invariant is
+          (subst R (sym w.in_ok-put_tally.ensures.put) now) w.in_ok-put_tally.ensures.others)
           )
       | in_default w ↦ subst P (sym w.tallies-is)
           (tallied_skip h side n (tally_in c.loop-n.tallies) c.loop-n.invariant (λ x e. w.in_default.ensures x (ap effect_of same ∙ e)))
