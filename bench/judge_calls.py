@@ -5,8 +5,8 @@
 
 It prints a table in Markdown: legal runs of 200 calls of 4 threads, and of 65,536 calls of 8, for k = 1 and 4. A rate
 is the median of N rounds (5) of N seconds (1). The shares are of instructions, by callgrind where valgrind is there:
-*log* sorts the calls and makes the record, *evidence* looks for it, *order* finds a legal order, *text* counts and
-writes. `make -C c` builds the library first.
+*log* sorts the calls and makes the record, *items* counts what each item does, *evidence* looks for it, *order* finds
+a legal order, *text* counts and writes. `make -C c` builds the library first.
 """
 import argparse
 import pathlib
@@ -23,7 +23,8 @@ CASES = [(200, 4), (65_536, 8)]
 # What callgrind calls the functions whose instructions, with those below them, make a share.
 SHARES = {
     "log": r"kfifo_judge_c::calls::log_from",
-    "evidence": r"kfifo_verdict::finding::evidence",
+    "items": r"kfifo_verdict::presences::Items::of",
+    "evidence": r"kfifo_verdict::finding::evidence_by",
     "order": r"kfifo_verdict::(?:walking::search|turns::order_of_plain)",
     "all": r"kfifo_judge_c_calls",
 }
