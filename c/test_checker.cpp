@@ -186,8 +186,8 @@ bool is_right(const Row &row, double seconds) {
     return is_right;
 }
 
-// Prints a row of the table: the time to the first fault in the median and at worst, calls judged a second, and what
-// was found.
+// Prints a row of the table: the time to the first fault in the median and at worst, calls judged a second where there
+// is no fault to stop at, and what was found.
 bool measure(const Row &row) {
     constexpr int SEEDS = 5;
     std::vector<double> times;
@@ -206,10 +206,12 @@ bool measure(const Row &row) {
         is_right = is_right && (row.faults == NOTHING ? report.passed() : !report.passed());
     }
     std::sort(times.begin(), times.end());
-    std::printf(row.faults == NOTHING ? "| %s | none in %.0f s | - |" : "| %s | %.3f s | %.3f s |", row.name,
-                row.faults == NOTHING ? seconds : times[SEEDS / 2], times.back());
-    std::printf(" %.1f million | %.0f %% | %s |%s\n", calls / seconds / 1e6, 100 * overlapping,
-                found ? names_of(found).c_str() : "-", is_right ? "" : " FAILED");
+    if (row.faults == NOTHING)
+        std::printf("| %s | none in %.0f s | - | %.1f million |", row.name, seconds, calls / seconds / 1e6);
+    else
+        std::printf("| %s | %.3f s | %.3f s | - |", row.name, times[SEEDS / 2], times.back());
+    std::printf(" %.0f %% | %s |%s\n", 100 * overlapping, found ? names_of(found).c_str() : "-",
+                is_right ? "" : " FAILED");
     std::fflush(stdout);
     return is_right;
 }
