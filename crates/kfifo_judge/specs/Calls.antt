@@ -61,7 +61,7 @@ abbrev pub taker_part : Option ℕ → List ℕ
 taker_part (Some get) = codes ", got by call " ++ decimal get
 taker_part None = codes ", never got"
 
--- behind a put, which call got its item
+-- after a put, which call got its item
 abbrev pub fate_part : List Call → Effect → List ℕ
 fate_part h (Adds x) = taker_part (taker h x)
 fate_part h (Takes x) = []

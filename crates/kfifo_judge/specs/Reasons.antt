@@ -1,5 +1,6 @@
 -- Why a history has no legal order.
-use Rattle.std.specs.Prelude.{ℕ, zero, suc, List, [], ◌∷◌, ◌++◌, codes, cond, decimal, eqb, length, not, slice_get, take}
+use Rattle.std.specs.Prelude.{ℕ, zero, suc, List, [], ◌∷◌, ◌++◌, codes, cond, decimal, eqb, length, not, slice_get}
+use Rattle.std.specs.Prelude.{take}
 use Rattle.std.specs.Prelude.{Bool, ◌&&◌, ◌||◌, Option, Some, None}
 use Rattle.kfifo_model.specs.declared.calls.Call.{Call}
 use Rattle.kfifo_model.specs.declared.effects.Effect.{Effect}
@@ -26,7 +27,7 @@ taken Wrong = 0
 abbrev pub got_item : List LoggedCall → List Call → ℕ → ℕ
 got_item logged h n = item_in (slice_get logged n) (taken (does h n))
 
--- a text, a number behind it, and what follows
+-- a text, a number after it, and what follows
 abbrev pub counted : List ℕ → ℕ → List ℕ → List ℕ
 counted text number after = text ++ (decimal number ++ after)
 
@@ -45,16 +46,18 @@ older_text before count after = counted before count (codes " " ++ (older_words 
 abbrev pub reason_text : List LoggedCall → List Call → Evidence → List ℕ
 reason_text logged h (NeverPut get) = got_text logged h get (codes ", which no call before its end put")
 reason_text logged h (TakenTwice get) = got_text logged h get (codes ", which was taken more often than put")
-reason_text logged h (NotEmpty empty puts) = counted (codes "call ") empty (codes " found nothing, while there were items")
+reason_text logged h (NotEmpty empty puts) =
+    counted (codes "call ") empty (codes " found nothing, while there were items")
 reason_text logged h (TooYoung get puts) =
     got_text logged h get (older_text (codes ", while ") (length puts.items) (codes " there"))
-reason_text logged h (TakenTooSoon get) = got_text logged h get (codes ", when more gets of it had ended than puts had begun")
+reason_text logged h (TakenTooSoon get) =
+    got_text logged h get (codes ", when more gets of it had ended than puts had begun")
 reason_text logged h (ItemsLeft empty) =
     counted (codes "call ") empty (codes " found nothing, while some item had been put more often than taken")
 reason_text logged h (OlderLeft get puts) =
     got_text logged h get (older_text (codes ", though ") (length puts.items) (codes " left"))
 
--- the puts that the evidence names, behind it
+-- the puts that the evidence names, after it
 abbrev pub puts_part : Evidence → List ℕ
 puts_part (NeverPut get) = []
 puts_part (TakenTwice get) = []
@@ -92,8 +95,8 @@ named h (TakenTooSoon get) = get ∷ others h get
 named h (ItemsLeft empty) = empty ∷ []
 named h (OlderLeft get puts) = get ∷ []
 
--- the calls that evidence names: the one that got an item or found none, and then the puts, or of an item that was taken
--- too often or too soon the first 31 others that put or got it
+-- the calls that evidence names: the one that got an item or found none, and then the puts, or of an item that was
+-- taken too often or too soon the first 31 others that put or got it
 abbrev pub named_by : List Call → Evidence → List ℕ
 named_by h (NeverPut get) = get ∷ []
 named_by h (TakenTwice get) = get ∷ take 31 (others h get)
@@ -110,5 +113,6 @@ reason_lines logged h found = line (reason_text logged h found ++ puts_part foun
 
 -- the title of a picture: whether there is evidence for this k, and what is said of it
 abbrev pub title_text : ℕ → List LoggedCall → List Call → Option Evidence → List ℕ
-title_text k logged h (Some found) = codes "no order for k = " ++ decimal k ++ (codes ": " ++ reason_text logged h found)
+title_text k logged h (Some found) =
+    codes "no order for k = " ++ decimal k ++ (codes ": " ++ reason_text logged h found)
 title_text k logged h None = codes "no evidence for k = " ++ decimal k

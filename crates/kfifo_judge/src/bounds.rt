@@ -90,7 +90,7 @@ pub fn least_text(
     Ok((text, said))
 }
 
-/// Adds what `least` says, behind evidence that is about one k alone.
+/// Adds what `least` says, after evidence that is about one k alone.
 pub(crate) fn push_following(
     alloc: Global,
     text: &mut String,

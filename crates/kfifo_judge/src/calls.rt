@@ -11,7 +11,7 @@ use kfifo_model::{Call, Effect, History, Op};
 use std::alloc::AllocError;
 use std::fmt::Write;
 
-/// How many calls have a line behind the line of the call that they are named beside: 32 calls in all.
+/// How many calls have a line after the line of the call that they are named beside: 32 calls in all.
 const MAX_OTHERS: usize = 31;
 
 /// A call past the last one.
@@ -158,7 +158,7 @@ fn push_times(text: &mut String, occurrence: Occurrence) -> Result<(), AllocErro
     }
 }
 
-/// Adds, behind a put, which call got its item.
+/// Adds, after a put, which call got its item.
 fn push_fate(text: &mut String, history: &History, effect: Effect) -> Result<(), AllocError>
     ensures { OnOk result (string_bytes text.new ≡ string_bytes text.old ++ fate_part history.now effect) }
 {
@@ -214,7 +214,7 @@ pub(crate) fn push_call(
     text.push('\n')
 }
 
-/// The first of these calls, as many as have a line after another call's: 31.
+/// The first 31 of these calls.
 #[tactic(auto, using(std::proofs::lemmas::List::take_min))]
 pub(crate) fn with_lines(calls: &[usize]) -> &[usize]
     ensures { result.now ≡ take 31 calls.now }
@@ -223,7 +223,7 @@ pub(crate) fn with_lines(calls: &[usize]) -> &[usize]
     &calls[..few]
 }
 
-/// Adds the lines of the first of these calls, so many as have a line behind another call's.
+/// Adds the lines of the first 31 of these calls.
 pub(crate) fn push_calls(
     text: &mut String,
     history: &History,

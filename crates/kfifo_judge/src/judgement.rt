@@ -65,7 +65,8 @@ fn push_shown(text: &mut String, order: &[usize], show: bool) -> Result<(), Allo
 
 /// Adds how many items are left at the end.
 fn push_left(text: &mut String, left: usize) -> Result<(), AllocError>
-    ensures { OnOk result (string_bytes text.new ≡ string_bytes text.old ++ line (codes ", items left " ++ decimal left)) }
+    ensures { OnOk result (string_bytes text.new
+        ≡ string_bytes text.old ++ line (codes ", items left " ++ decimal left)) }
 {
     writeln!(text, ", items left {left}")
 }

@@ -5,7 +5,7 @@ ghost use Rattle.kfifo_judge.specs.Numbers.{further, greatest, joined, numbers_l
 use std::alloc::AllocError;
 use std::fmt::Write;
 
-/// Adds a line of numbers joined by commas, behind a name; `none` where there are no numbers.
+/// Adds a line of numbers joined by commas, after a name; `none` where there are no numbers.
 pub fn push_numbers(text: &mut String, name: &str, numbers: &[usize]) -> Result<(), AllocError>
     ensures { OnOk result (string_bytes text.new ≡ string_bytes text.old ++ numbers_line name.now numbers.now) }
 {
@@ -25,7 +25,7 @@ pub(crate) fn push_joined(text: &mut String, numbers: &[usize]) -> Result<(), Al
     push_further(text, rest)
 }
 
-/// Adds further numbers, each behind a comma.
+/// Adds further numbers, each after a comma.
 fn push_further(text: &mut String, numbers: &[usize]) -> Result<(), AllocError>
     ensures { OnOk result (string_bytes text.new ≡ string_bytes text.old ++ further numbers.now) }
 {

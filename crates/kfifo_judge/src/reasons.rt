@@ -257,8 +257,8 @@ pub fn named_calls(
     Ok(calls)
 }
 
-/// Returns the title of a picture of evidence: that there is no order for this k, and why, or that there is no evidence.
-/// An error means that an allocation failed.
+/// Returns the title of a picture of evidence: that there is no order for this k, and why, or that there is no
+/// evidence. An error means that an allocation failed.
 pub fn title_of(
     alloc: Global,
     history: &History,

@@ -191,8 +191,8 @@ pub(crate) fn cover(
     Ok(Covered::Whole(puts))
 }
 
-/// The first call that returned Empty while there were items. Where there is none, each such call has a moment as no item
-/// is certainly there.
+/// The first call that returned Empty while there were items. Where there is none, each such call has a moment as no
+/// item is certainly there.
 fn not_empty(
     alloc: Global,
     calls: &[Call],

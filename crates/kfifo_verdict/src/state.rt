@@ -242,7 +242,7 @@ impl State {
         None
     }
 
-    /// The waiting Empties go: all puts to come stand behind them.
+    /// The waiting Empties go: all puts to come stand after them.
     pub(crate) fn find_none(&mut self, facts: &Facts, step: u64) -> Result<(), AllocError> {
         for _ in 0..self.waiting.len() {
             let Some(empty) = self.empty_that_waits(facts) else {
@@ -322,7 +322,7 @@ impl State {
 }
 
 /// The first of the other calls from number `from` on that does not stand before the put: it went at the put's moment
-/// or later, and no Empty that the put stands behind comes after it.
+/// or later, and no Empty that stands before the put comes after it.
 fn first_behind(others: &[Other], from: usize, moment: u64, placed: Placed) -> usize {
     for i in from..others.len() {
         if moment <= others[i].step && placed.behind <= i {
