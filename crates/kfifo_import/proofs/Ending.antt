@@ -1,4 +1,4 @@
--- The ends of a log's calls, one by one, and their ranks.
+-- The ends of a log's calls, one by one.
 use Rattle.std.proofs.Common.{ℕ, zero, suc, ◌≡◌, ◌+◌, ◌<◌, ◌≤◌, true, false, List, [], ◌∷◌, ◌++◌, Option, Some, None, length, count_by}
 use Rattle.std.proofs.Common.{is_some, refl, sym, ◌∙◌, ap, subst, inl, inr, arith, length-append}
 use Rattle.std.specs.List.{Contains}
@@ -11,24 +11,28 @@ use Rattle.std.proofs.lemmas.List.Sorted.{All-permutation, Contains-permutation,
 use Rattle.kfifo_model.specs.declared.calls.End.{End}
 use Rattle.kfifo_model.specs.declared.calls.Call.{Call}
 use Rattle.kfifo_model.specs.Histories.{no_call, HasEnd}
-use Rattle.kfifo_import.specs.Stamping.{AreEnds, AreEndsTo, end_at}
+use Rattle.kfifo_import.specs.declared.moments.Moment.{Moment}
+use Rattle.kfifo_import.specs.Stamping.{AreEnds, AreEndsTo, end_at, end_of}
+
+abbrev IsEnd : List Call → Moment → Type 0
+IsEnd l end = (end.number < length l) × (end ≡ end_of l end.number)
 
 pub no_ends : (l : List Call) → AreEndsTo l [] 0
-no_ends l = record { each = All-nil (λ n. n < length l); all = λ m lt. absurd (omega arith); count = refl }
+no_ends l = record { each = All-nil (IsEnd l); all = λ m lt. absurd (omega arith); count = refl }
 
-pub one_end : (l : List Call) (ends : List ℕ) (n : ℕ) → n < length l → AreEndsTo l ends n → is_some (end_at l n) ≡ true
-    → AreEndsTo l (ends ++ n ∷ []) (n + 1)
+pub one_end : (l : List Call) (ends : List Moment) (n : ℕ) → n < length l → AreEndsTo l ends n → is_some (end_at l n) ≡ true
+    → AreEndsTo l (ends ++ end_of l n ∷ []) (n + 1)
 one_end l ends n lt was is = record {
-  each = All-append (λ n. n < length l) ends (n ∷ []) was.each (All-cons (λ n. n < length l) n [] lt (All-nil (λ n. n < length l)));
+  each = All-append (IsEnd l) ends (end_of l n ∷ []) was.each (All-cons (IsEnd l) (end_of l n) [] (lt, refl) (All-nil (IsEnd l)));
   all = λ m less h. elim (cases_eq m n) [
-    | inl same ↦ subst (λ x. Contains (ends ++ n ∷ []) x) (sym same) (Contains-push ends n)
-    | inr ne ↦ Contains-append_left ends (n ∷ []) m (was.all m (omega arith) h)
+    | inl same ↦ subst (λ x. Contains (ends ++ end_of l n ∷ []) (end_of l x)) (sym same) (Contains-push ends (end_of l n))
+    | inr ne ↦ Contains-append_left ends (end_of l n ∷ []) (end_of l m) (was.all m (omega arith) h)
   ];
-  count = let a = length-append ends (n ∷ []) in let b = count_by_more_yes (λ c. is_some c.end) l n no_call lt is in let e = was.count in
+  count = let a = length-append ends (end_of l n ∷ []) in let b = count_by_more_yes (λ c. is_some c.end) l n no_call lt is in let e = was.count in
       omega (arith, a, b, e);
 }
 
-pub no_end : (l : List Call) (ends : List ℕ) (n : ℕ) → n < length l → AreEndsTo l ends n → is_some (end_at l n) ≡ false
+pub no_end : (l : List Call) (ends : List Moment) (n : ℕ) → n < length l → AreEndsTo l ends n → is_some (end_at l n) ≡ false
     → AreEndsTo l ends (n + 1)
 no_end l ends n lt was is = record {
   each = was.each;
@@ -43,7 +47,7 @@ no_end l ends n lt was is = record {
     has_nothing None e h = h
     has_nothing (Some x) e h = absurd (cc)
 
-pub all_ends : (l : List Call) (ends : List ℕ) (n : ℕ) → length l ≤ n → AreEndsTo l ends n → AreEnds l ends
+pub all_ends : (l : List Call) (ends : List Moment) (n : ℕ) → length l ≤ n → AreEndsTo l ends n → AreEnds l ends
 all_ends l ends n le was = record {
   each = was.each;
   all = λ m h. was.all m (omega (arith, inside l m h)) h;
@@ -55,9 +59,9 @@ all_ends l ends n le was = record {
     inside (c ∷ l) zero h = omega arith
     inside (c ∷ l) (suc m) h = let r = inside l m h in omega arith
 
-pub ends_moved : (l : List Call) (ends moved : List ℕ) → IsPermutation ends moved → AreEnds l ends → AreEnds l moved
+pub ends_moved : (l : List Call) (ends moved : List Moment) → IsPermutation ends moved → AreEnds l ends → AreEnds l moved
 ends_moved l ends moved p a = record {
-  each = All-permutation (λ n. n < length l) ends moved p a.each;
-  all = λ m h. Contains-permutation ends moved m p (a.all m h);
+  each = All-permutation (IsEnd l) ends moved p a.each;
+  all = λ m h. Contains-permutation ends moved (end_of l m) p (a.all m h);
   count = length_permutation ends moved p ∙ a.count;
 }

@@ -1,6 +1,6 @@
 -- Where a reader of CSV stands between two rows.
-use Rattle.std.proofs.Common.{ℕ, ◌∷◌, ◌++◌, ◌≡◌, ◌∙◌, ◌==◌, subst, Bool, true, false, List, [], Option, Some, None, ap, cond, refl}
-use Rattle.csv.specs.Machine.{Read, ends_at_end, field_after, fields_after, in_field, is_end, next_record, start_field, start_record, step}
+use Rattle.std.proofs.Common.{ℕ, ◌∷◌, ◌++◌, ◌≡◌, ◌==◌, subst, Bool, true, false, List, [], Some, None, ap, cond, refl}
+use Rattle.csv.specs.Machine.{Read, ends_at_end, field_after, fields_after, is_end, next_record, step}
 use Rattle.csv.specs.Reading.{default_config}
 use Rattle.csv.specs.declared.parser.State.{State}
 use Rattle.csv.specs.declared.parser.State.TheVariants as st

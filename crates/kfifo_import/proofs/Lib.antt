@@ -1,6 +1,8 @@
 pub mod Ending
 pub mod Points
+pub mod Steps
 pub mod Stamps
+pub mod Order
 pub mod Logs
 pub mod Rows
 pub mod Texts

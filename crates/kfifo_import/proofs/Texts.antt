@@ -1,5 +1,5 @@
 -- Numbers and fields that a row does not have.
-use Rattle.std.proofs.Common.{ℕ, zero, suc, ◌∷◌, ◌≡◌, ◌∙◌, ◌<◌, ◌≤◌, ◌^◌, List, [], Option, Some, None, codes, get_or, length, min, ap}
+use Rattle.std.proofs.Common.{ℕ, zero, suc, ◌∷◌, ◌≡◌, ◌∙◌, ◌<◌, ◌≤◌, ◌^◌, List, [], Option, Some, None, get_or, length, min, ap}
 use Rattle.std.proofs.Common.{refl, sym, subst, arith, Result, Ok, Err, MatchOption}
 use Rattle.std.specs.Result.{OkIff, result_ok}
 use Rattle.std.specs.Str.Parse.{digits_value, ParsesUnsigned}
@@ -7,7 +7,6 @@ use Rattle.std.specs.Str.{IsAscii, IsUtf8}
 use Rattle.std.proofs.lemmas.Str.{IsUtf8-from_ascii}
 use Rattle.std.proofs.lemmas.Str.Parse.{IsNumeralModel, numerals_by_value, tells_by_index, parse_digits}
 use Rattle.csv.specs.Records.{field_at}
-use Rattle.kfifo_model.specs.declared.calls.Call.{Call}
 use Rattle.kfifo_model.specs.declared.calls.End.{End}
 use Rattle.kfifo_model.specs.declared.calls.Op.{Op}
 use Rattle.kfifo_model.specs.declared.calls.Op.TheVariants.{Enqueue, Dequeue}

@@ -1,13 +1,12 @@
 -- A walk over the bytes of a text.
-use Rattle.std.proofs.Common.{ℕ, zero, suc, ◌∷◌, ◌++◌, ◌≡◌, ◌∙◌, ◌+◌, ◌-◌, ◌<◌, ◌≤◌, ◌==◌, ◌||◌, true, false, Bool, List, [], Some, None}
-use Rattle.std.proofs.Common.{cond, get_or, take, drop, length, ap, refl, sym, subst, arith, add-one, drop-cons}
+use Rattle.std.proofs.Common.{ℕ, ◌∷◌, ◌++◌, ◌≡◌, ◌∙◌, ◌+◌, ◌-◌, ◌<◌, ◌≤◌, ◌==◌, ◌||◌, true, false, Bool, List, [], Some, None}
+use Rattle.std.proofs.Common.{cond, get_or, take, drop, length, refl, sym, arith, add-one, drop-cons}
 use Rattle.std.proofs.lemmas.List.{drop_all, length-drop, take_all}
-use Rattle.csv.specs.Machine.{Read, ends_at_end, field_after, fields_after, is_end, next_record, step}
+use Rattle.csv.specs.Machine.{Read, ends_at_end, field_after, fields_after, next_record, step}
 use Rattle.csv.specs.Reading.{default_config, is_bom, strip_bom}
 use Rattle.csv.specs.declared.parser.State.TheVariants as st
-use Rattle.kfifo_import.specs.declared.walk.Place.{Place}
 use Rattle.kfifo_import.specs.declared.walk.Spot.{Spot}
-use Rattle.kfifo_import.specs.Rows.{IsPlace, behind_ends, first_row, line_feeds}
+use Rattle.kfifo_import.specs.Rows.{behind_ends, first_row}
 use Rattle.kfifo_import.specs.Spots.{MovesTo, state_at}
 
 -- ---- the byte order mark

@@ -1,5 +1,6 @@
 pub mod Stamping
 pub mod Logs
+pub mod Lines
 pub mod Rows
 pub mod Spots
 pub mod Tables

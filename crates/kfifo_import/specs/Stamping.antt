@@ -1,12 +1,13 @@
 -- Stamps for the calls of a log, whose steps are times: the places of their beginnings and ends.
 use Rattle.std.specs.Prelude.{ℕ, ◌≡◌, ◌≢◌, ◌+◌, ◌<◌, ◌≤◌, ◌↔◌, List, Option, Some, None, length, slice_index_or}
-use Rattle.std.specs.Prelude.{count_by, is_some, take}
+use Rattle.std.specs.Prelude.{count_by, is_some, option_map, take}
 use Rattle.std.specs.List.{All, Contains}
 use Rattle.std.specs.List.Sorted.{IsNonDecreasingBy, IsPartitionPoint}
 use Rattle.kfifo_model.specs.declared.calls.End.{End}
 use Rattle.kfifo_model.specs.declared.calls.Call.{Call}
 use Rattle.kfifo_model.specs.Histories.{call, HasEnd, Precedes}
 use Rattle.kfifo_model.specs.Validity.{EndsFrom}
+use Rattle.kfifo_import.specs.declared.moments.Moment.{Moment}
 
 -- the last step or time of a call, 0 of an unfinished one
 abbrev pub last_in : Option End → ℕ
@@ -60,56 +61,81 @@ pub record AreStamped (l h : List Call) : Type 0 where
 
 -- ---- how the stamps come about
 
--- the numbers of the finished calls
-pub record AreEnds (l : List Call) (ends : List ℕ) : Type 0 where
-  pub each : All (λ n. n < length l) ends
-  pub all : (n : ℕ) → HasEnd (end_at l n) → Contains ends n
+abbrev pub no_moment : Moment
+no_moment = record { time = 0; number = 0 }
+
+-- the end of call n
+abbrev pub end_of : List Call → ℕ → Moment
+end_of l n = record { time = last_of l n; number = n }
+
+-- the ends of the finished calls
+pub record AreEnds (l : List Call) (ends : List Moment) : Type 0 where
+  pub each : All (λ end. (end.number < length l) × (end ≡ end_of l end.number)) ends
+  pub all : (n : ℕ) → HasEnd (end_at l n) → Contains ends (end_of l n)
   pub count : length ends ≡ count_by (λ c. is_some c.end) l
 
 -- the same of the calls before n
-pub record AreEndsTo (l : List Call) (ends : List ℕ) (n : ℕ) : Type 0 where
-  pub each : All (λ n. n < length l) ends
-  pub all : (m : ℕ) → m < n → HasEnd (end_at l m) → Contains ends m
+pub record AreEndsTo (l : List Call) (ends : List Moment) (n : ℕ) : Type 0 where
+  pub each : All (λ end. (end.number < length l) × (end ≡ end_of l end.number)) ends
+  pub all : (m : ℕ) → m < n → HasEnd (end_at l m) → Contains ends (end_of l m)
   pub count : length ends ≡ count_by (λ c. is_some c.end) (take n l)
 
--- the same by rising last time
-pub record AreSortedEnds (l : List Call) (ends : List ℕ) : Type 0 where
+-- the same by rising time
+pub record AreSortedEnds (l : List Call) (ends : List Moment) : Type 0 where
   pub are : AreEnds l ends
-  pub rise : IsNonDecreasingBy (λ n. last_of l n) ends
+  pub rise : IsNonDecreasingBy (λ end. end.time) ends
 
--- of the numbers that stand before a place, each one's rank is a place where it stands
-pub record AreRanks (ends ranks : List ℕ) (count place : ℕ) : Type 0 where
-  pub sized : length ranks ≡ count
-  pub small : All (λ rank. rank ≤ length ends) ranks
-  pub below : (q d : ℕ) → q < place → slice_index_or ranks (slice_index_or ends q d) d < length ends
-  pub there : (q d : ℕ) → q < place → slice_index_or ends (slice_index_or ranks (slice_index_or ends q d) d) d
-      ≡ slice_index_or ends q d
-
--- so many of the finished calls, by rising last time, ended before this time
-abbrev pub HaveEnded : List Call → List ℕ → ℕ → ℕ → Type 0
-HaveEnded l ends time count = (count ≤ length ends)
-    × IsPartitionPoint (λ n. last_of l n < time) (λ n. time ≤ last_of l n) ends count
+-- so many of the ends, by rising time, are before this time
+abbrev pub HaveEnded : List Moment → ℕ → ℕ → Type 0
+HaveEnded ends time count = (count ≤ length ends)
+    × IsPartitionPoint (λ end. end.time < time) (λ end. time ≤ end.time) ends count
 
 -- so many of the calls, by rising first time, have begun by this time
 abbrev pub HaveBegun : List Call → ℕ → ℕ → Type 0
 HaveBegun l time count = (count ≤ length l) × IsPartitionPoint (λ c. c.first ≤ time) (λ c. time < c.first) l count
 
--- a call's end with a stamp: its rank among the ends and the number of the beginnings before it
-abbrev pub IsEndStamp : List Call → ℕ → Option End → Option End → Type 0
-IsEndStamp l rank None s = s ≡ None
-IsEndStamp l rank (Some end) s = (begun : ℕ) × HaveBegun l end.last begun
-    × (s ≡ Some (record end { last = rank + begun }))
+-- the stamp of the end of call n: its place among the ends and the number of the beginnings before it
+pub record IsEndStamp (l : List Call) (ends : List Moment) (n stamp : ℕ) : Type 0 where
+  pub rank : ℕ
+  pub inside : rank < length ends
+  pub there : slice_index_or ends rank no_moment ≡ end_of l n
+  pub begun : ℕ
+  pub have_begun : HaveBegun l (last_of l n) begun
+  pub is : stamp ≡ rank + begun
 
--- the call c with the number n and stamps
-pub record IsStampOf (l : List Call) (ends ranks : List ℕ) (n : ℕ) (c s : Call) : Type 0 where
-  pub thread : s.thread ≡ c.thread
-  pub op : s.op ≡ c.op
+-- the ends before a place have their stamps
+pub record AreEndStamps (l : List Call) (ends : List Moment) (place : ℕ) (stamps : List ℕ) : Type 0 where
+  pub sized : length stamps ≡ length l
+  pub each : (q : ℕ) → q < place → let n = (slice_index_or ends q no_moment).number in
+      IsEndStamp l ends n (slice_index_or stamps n 0)
+
+-- so many calls begin by each end from a place on
+pub record BeginByEnds (l : List Call) (ends : List Moment) (place begun : ℕ) : Type 0 where
+  pub inside : begun ≤ length l
+  pub before : (q k : ℕ) → place ≤ q → q < length ends → k < begun
+      → first_at l k ≤ (slice_index_or ends q no_moment).time
+
+-- so many ends are before each beginning from call n on
+pub record EndBeforeBeginnings (l : List Call) (ends : List Moment) (n ended : ℕ) : Type 0 where
+  pub inside : ended ≤ length ends
+  pub before : (m k : ℕ) → n ≤ m → m < length l → k < ended → (slice_index_or ends k no_moment).time < first_at l m
+
+-- the end at another time
+abbrev pub ending_at : ℕ → End → End
+ending_at last end = record { last = last; answer = end.answer }
+
+-- the call with these stamps in place of its first and its last time
+abbrev pub restamped : Call → ℕ → ℕ → Call
+restamped c first last = record { thread = c.thread; op = c.op; first = first; end = option_map (ending_at last) c.end }
+
+-- s is call n with stamps
+pub record IsStampOf (l : List Call) (ends : List Moment) (stamps : List ℕ) (n : ℕ) (s : Call) : Type 0 where
   pub ended : ℕ
-  pub have_ended : HaveEnded l ends c.first ended
-  pub first : s.first ≡ n + ended
-  pub end : IsEndStamp l (slice_index_or ranks n 0) c.end s.end
+  pub have_ended : HaveEnded ends (first_at l n) ended
+  pub is : s ≡ restamped (call l n) (n + ended) (slice_index_or stamps n 0)
 
 -- the calls before n have their stamps
-pub record AreStampedTo (l : List Call) (ends ranks : List ℕ) (n : ℕ) (found : List Call) : Type 0 where
+pub record AreStampedTo (l : List Call) (ends : List Moment) (stamps : List ℕ) (n : ℕ)
+    (found : List Call) : Type 0 where
   pub sized : length found ≡ n
-  pub each : (m : ℕ) → m < n → IsStampOf l ends ranks m (call l m) (call found m)
+  pub each : (m : ℕ) → m < n → IsStampOf l ends stamps m (call found m)

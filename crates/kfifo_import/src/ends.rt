@@ -1,14 +1,15 @@
 //! The ends of calls, by rising time.
-ghost use Rattle.std.specs.Prelude.{ℕ, ◌≡◌, ◌<◌, ◌≤◌, List, length, slice_index_or, IfOk, count_by, is_some};
+ghost use Rattle.std.specs.Prelude.{ℕ, ◌≡◌, ◌<◌, ◌≤◌, List, length, IfOk, count_by, is_some};
 ghost use Rattle.std.specs.List.{All, Contains};
 ghost use Rattle.kfifo_model.specs.Histories.{call};
-ghost use Rattle.kfifo_import.specs.Stamping.{AreEnds, AreRanks, AreSortedEnds, last_time};
+ghost use Rattle.kfifo_import.specs.Stamping.{AreEnds, AreSortedEnds, last_time};
 
+use crate::moments::Moment;
 use kfifo_model::{Call, End};
 use std::alloc::{AllocError, Global};
 
 /// When the call with this number ended, 0 where it has not.
-pub(crate) fn last_at(calls: &[Call], number: usize) -> u64
+fn last_at(calls: &[Call], number: usize) -> u64
     ensures { result ≡ last_time (call calls.now number) }
 {
     match calls.get(number) {
@@ -27,40 +28,25 @@ fn has_ended(calls: &[Call], number: usize) -> bool
     }
 }
 
-/// The finished calls, by their numbers.
-fn finished(alloc: Global, calls: &[Call]) -> Result<Vec<usize>, AllocError>
+/// The ends of the finished calls, by the calls' numbers.
+fn finished(alloc: Global, calls: &[Call]) -> Result<Vec<Moment>, AllocError>
     ensures { IfOk result (λ ends. AreEnds calls.now ends.items) }
 {
-    let mut ends = Vec::new(alloc);
+    let mut ends = Vec::with_capacity(alloc, calls.len())?;
     for number in 0..calls.len() {
         if has_ended(calls, number) {
-            ends.push(number)?;
+            let time = last_at(calls, number);
+            ends.push(Moment { time, number })?;
         }
     }
     Ok(ends)
 }
 
-/// The finished calls, by rising last time.
-pub(crate) fn sorted_ends(alloc: Global, calls: &[Call]) -> Result<Vec<usize>, AllocError>
+/// The ends of the finished calls, by rising time.
+pub(crate) fn sorted_ends(alloc: Global, calls: &[Call]) -> Result<Vec<Moment>, AllocError>
     ensures { IfOk result (λ ends. AreSortedEnds calls.now ends.items) }
 {
     let mut ends = finished(alloc, calls)?;
-    ends.sort_unstable_by_key(|number| last_at(calls, *number));
+    ends.sort_unstable_by_key(|end| end.time);
     Ok(ends)
-}
-
-/// The place of each finished call among the ends, 0 for the others.
-pub(crate) fn ranks_of(
-    alloc: Global,
-    ends: &[usize],
-    count: usize,
-) -> Result<Vec<usize>, AllocError>
-    requires { All (λ number. number < count) ends.now }
-    ensures { IfOk result (λ ranks. AreRanks ends.now ranks.items count (length ends.now)) }
-{
-    let mut ranks = vec![in alloc; 0; count]?;
-    for (rank, number) in ends.iter().enumerate() {
-        ranks[*number] = rank;
-    }
-    Ok(ranks)
 }

@@ -4,6 +4,7 @@
 mod ends;
 mod foreign;
 mod log;
+mod moments;
 mod stamping;
 mod table;
 mod walk;

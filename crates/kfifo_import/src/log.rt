@@ -1,11 +1,12 @@
 //! Logs of calls, whose steps are times of a clock.
-ghost use Rattle.std.specs.Prelude.{◌≡◌, IfOk, MatchResult, map};
-ghost use Rattle.kfifo_import.specs.Logs as specs;
-ghost use Rattle.kfifo_import.specs.Logs.{AreByFirst, IsImportFault, IsLogOf, IsRecordOfLog, import_fault, line_number};
-ghost use Rattle.kfifo_import.specs.Logs.{logged_call};
+ghost use Rattle.std.specs.Prelude.{◌≡◌, IfOk, MatchResult, map, slice_index_or};
+ghost use Rattle.kfifo_import.specs.Lines as specs;
+ghost use Rattle.kfifo_import.specs.Lines.{fault_among, lines_by, no_logged_call};
+ghost use Rattle.kfifo_import.specs.Logs.{AreByFirst, IsImportFault, IsLogOf, IsRecordOfLog, logged_call};
 
+use crate::moments::Moment;
 use crate::stamping::stamped;
-use kfifo_model::{Call, History, MAX_CALLS, RecordFault};
+use kfifo_model::{Call, History, MAX_CALLS, Op, RecordFault};
 use std::alloc::{AllocError, AllocFailed, Global};
 use thiserror::Error;
 
@@ -91,24 +92,24 @@ impl<T: Drop> From<AllocFailed<T>> for ImportFault {
     }
 }
 
-/// The number of the line at this place, 0 past the last one.
-fn number_at(lines: &[Line], place: usize) -> u64
-    ensures { result ≡ line_number lines.now place }
+/// The number of the line of this call, 0 past the last one.
+fn line_number(calls: &[LoggedCall], place: usize) -> u64
+    ensures { result ≡ (slice_index_or calls.now place no_logged_call).line }
 {
-    lines.get(place).map_or(0, |line| line.number)
+    calls.get(place).map_or(0, |call| call.line)
 }
 
-/// The fault of the record as one of the log, whose lines are by rising first time.
-fn fault_of(lines: &[Line], fault: RecordFault) -> ImportFault
-    ensures { result ≡ import_fault lines.now fault }
+/// The fault of the record as one of the log, whose calls these are.
+fn fault_of(calls: &[LoggedCall], fault: RecordFault) -> ImportFault
+    ensures { result ≡ fault_among calls.now fault }
 {
     match fault {
         RecordFault::NumberOutOfRange(place) => {
-            ImportFault::NumberOutOfRange(number_at(lines, place))
+            ImportFault::NumberOutOfRange(line_number(calls, place))
         }
-        RecordFault::WrongAnswer(place) => ImportFault::WrongAnswer(number_at(lines, place)),
-        RecordFault::EndsEarly(place) => ImportFault::EndsEarly(number_at(lines, place)),
-        RecordFault::Overlap(place) => ImportFault::Overlap(number_at(lines, place)),
+        RecordFault::WrongAnswer(place) => ImportFault::WrongAnswer(line_number(calls, place)),
+        RecordFault::EndsEarly(place) => ImportFault::EndsEarly(line_number(calls, place)),
+        RecordFault::Overlap(place) => ImportFault::Overlap(line_number(calls, place)),
         RecordFault::TooMany => ImportFault::TooMany,
         RecordFault::NotAList
         | RecordFault::NotACall(_)
@@ -117,20 +118,57 @@ fn fault_of(lines: &[Line], fault: RecordFault) -> ImportFault
     }
 }
 
-/// The lines by rising first time, of equal ones the earlier first.
-fn by_first(lines: Vec<Line>) -> Result<Vec<Line>, AllocError>
-    ensures { IfOk result (λ sorted. AreByFirst lines.items sorted.items) }
+/// A line past the last one.
+const NO_LINE: Line = Line {
+    number: 0,
+    call: Call {
+        thread: 0,
+        op: Op::Dequeue,
+        first: 0,
+        end: None,
+    },
+    item: None,
+};
+
+/// The line at this place.
+fn line_at(lines: &[Line], place: usize) -> Line
+    ensures { result ≡ specs.line_at lines.now place }
 {
-    let mut lines = lines;
-    lines.sort_by_key(|line| line.call.first)?;
-    Ok(lines)
+    lines.get(place).copied().unwrap_or(NO_LINE)
 }
 
-/// The calls of the lines.
-fn calls_of(alloc: Global, lines: &[Line]) -> Result<Vec<Call>, AllocError>
-    ensures { IfOk result (λ calls. calls.items ≡ specs.calls_of lines.now) }
+/// When the calls of the lines begin, and the lines' places.
+fn beginnings(alloc: Global, lines: &[Line]) -> Result<Vec<Moment>, AllocError>
+    ensures { IfOk result (λ begins. begins.items ≡ specs.beginnings lines.now) }
 {
-    lines.iter().map(|line| line.call).collect(alloc)
+    lines
+        .iter()
+        .enumerate()
+        .map(|(number, line)| Moment {
+            time: line.call.first,
+            number,
+        })
+        .collect(alloc)
+}
+
+/// When the calls of the lines begin, by rising time, of equal ones the earlier line first.
+fn by_first(alloc: Global, lines: &[Line]) -> Result<Vec<Moment>, AllocError>
+    ensures { IfOk result (λ order. AreByFirst lines.now (lines_by lines.now order.items)) }
+{
+    let mut order = beginnings(alloc, lines)?;
+    order.sort_by_key(|begin| begin.time)?;
+    Ok(order)
+}
+
+/// The calls of the lines in this order.
+fn calls_of(alloc: Global, lines: &[Line], order: &[Moment]) -> Result<Vec<Call>, AllocError>
+    ensures { IfOk result (λ calls. calls.items
+        ≡ map (λ begin. (specs.line_at lines.now begin.number).call) order.now) }
+{
+    order
+        .iter()
+        .map(|begin| line_at(lines, begin.number).call)
+        .collect(alloc)
 }
 
 /// Where the call of a line stands and when it was.
@@ -145,11 +183,19 @@ fn logged(line: &Line) -> LoggedCall
     }
 }
 
-/// Where the calls of the lines stand and when they were.
-fn all_logged(alloc: Global, lines: &[Line]) -> Result<Vec<LoggedCall>, AllocError>
-    ensures { IfOk result (λ calls. calls.items ≡ map logged_call lines.now) }
+/// Where the calls of the lines in this order stand and when they were.
+fn all_logged(
+    alloc: Global,
+    lines: &[Line],
+    order: &[Moment],
+) -> Result<Vec<LoggedCall>, AllocError>
+    ensures { IfOk result (λ calls. calls.items
+        ≡ map (λ begin. logged_call (specs.line_at lines.now begin.number)) order.now) }
 {
-    lines.iter().map(|line| logged(line)).collect(alloc)
+    order
+        .iter()
+        .map(|begin| logged(&line_at(lines, begin.number)))
+        .collect(alloc)
 }
 
 /// The log that has these lines: its record, with the calls by rising first time, of equal ones the earlier line first,
@@ -165,16 +211,17 @@ pub fn log_of(alloc: Global, lines: Vec<Line>) -> Result<Log, ImportFault>
     if lines.len() > MAX_CALLS {
         return Err(ImportFault::TooMany);
     }
-    let lines = by_first(lines)?;
-    let calls = calls_of(alloc, lines.as_slice())?;
+    let lines = lines.as_slice();
+    let order = by_first(alloc, lines)?;
+    let calls = calls_of(alloc, lines, order.as_slice())?;
     let found = stamped(alloc, calls.as_slice())?;
-    let logged = all_logged(alloc, lines.as_slice())?;
+    let logged = all_logged(alloc, lines, order.as_slice())?;
     match History::new(found) {
         Ok(history) => Ok(Log {
             history,
             calls: logged,
         }),
-        Err(fault) => Err(fault_of(lines.as_slice(), fault)),
+        Err(fault) => Err(fault_of(logged.as_slice(), fault)),
     }
 }
 

@@ -1,69 +1,75 @@
 //! Calls with stamps in place of times.
 ghost use Rattle.std.specs.Prelude.{ℕ, ◌≡◌, ◌+◌, ◌^◌, ◌<◌, ◌≤◌, length, slice_index_or, IfOk};
+ghost use Rattle.std.specs.List.{AllWithin};
 ghost use Rattle.std.specs.List.Sorted.{IsNonDecreasingBy};
-ghost use Rattle.kfifo_import.specs.Stamping.{AreRanks, AreSortedEnds, AreStamped, HaveBegun, HaveEnded, IsEndStamp};
-ghost use Rattle.kfifo_import.specs.Stamping.{IsStampOf, last_of};
+ghost use Rattle.kfifo_import.specs.Stamping as specs;
+ghost use Rattle.kfifo_import.specs.Stamping.{AreEndStamps, AreSortedEnds, AreStamped, HaveBegun, HaveEnded};
 
-use crate::ends::{last_at, ranks_of, sorted_ends};
+use crate::ends::sorted_ends;
+use crate::moments::Moment;
 use kfifo_model::{Call, End};
 use std::alloc::{AllocError, Global};
 
-/// How many of the finished calls, by rising last time, ended before this time.
-fn ended_before(calls: &[Call], ends: &[usize], time: u64) -> usize
-    requires { IsNonDecreasingBy (λ n. last_of calls.now n) ends.now }
-    ensures { HaveEnded calls.now ends.now time result }
+/// How many of the ends, by rising time, are before this time. The first `from` of them are.
+fn ended_before(ends: &[Moment], time: u64, from: usize) -> usize
+    requires by_last { IsNonDecreasingBy (λ end. end.time) ends.now }
+    requires from { (from ≤ length ends.now) × AllWithin (λ end. end.time < time) ends.now 0 from }
+    ensures { HaveEnded ends.now time result }
 {
-    ends.partition_point(|number| last_at(calls, *number) < time)
+    for place in from..ends.len() {
+        if time <= ends[place].time {
+            return place;
+        }
+    }
+    ends.len()
 }
 
-/// How many of the calls, by rising first time, have begun by this time.
-fn begun_by(calls: &[Call], time: u64) -> usize
-    requires { IsNonDecreasingBy (λ c. c.first) calls.now }
+/// How many of the calls, by rising first time, have begun by this time. The first `from` of them have.
+fn begun_by(calls: &[Call], time: u64, from: usize) -> usize
+    requires by_first { IsNonDecreasingBy (λ c. c.first) calls.now }
+    requires from { (from ≤ length calls.now) × AllWithin (λ c. c.first ≤ time) calls.now 0 from }
     ensures { HaveBegun calls.now time result }
 {
-    calls.partition_point(|call| call.first <= time)
-}
-
-/// A call's end with a stamp: its rank among the ends and the number of the beginnings before it.
-fn end_stamp(calls: &[Call], rank: usize, end: Option<End>) -> Option<End>
-    requires few { (length calls.now < 2 ^ 32) × (rank < 2 ^ 32) }
-    requires by_first { IsNonDecreasingBy (λ c. c.first) calls.now }
-    ensures { IsEndStamp calls.now rank end result }
-{
-    match end {
-        Some(end) => {
-            let begun = begun_by(calls, end.last);
-            Some(End {
-                last: (rank + begun) as u64,
-                answer: end.answer,
-            })
+    for number in from..calls.len() {
+        if time < calls[number].first {
+            return number;
         }
-        None => None,
     }
+    calls.len()
 }
 
-/// The rank of the call with this number.
-fn rank_at(ranks: &[usize], number: usize) -> usize
-    ensures { result ≡ slice_index_or ranks.now number 0 }
-{
-    ranks.get(number).copied().unwrap_or(0)
-}
-
-/// The call, which has this number, with stamps.
-fn stamp(calls: &[Call], ends: &[usize], ranks: &[usize], number: usize, call: &Call) -> Call
-    requires few { (number < 2 ^ 32) × (length calls.now < 2 ^ 32) × (length ends.now < 2 ^ 32)
-        × (slice_index_or ranks.now number 0 < 2 ^ 32) }
+/// The stamps of the ends, by the numbers of their calls: the place of the end and the number of beginnings before it.
+fn end_stamps(alloc: Global, calls: &[Call], ends: &[Moment]) -> Result<Vec<u64>, AllocError>
+    requires few { (length calls.now < 2 ^ 31) × (length ends.now < 2 ^ 31) }
     requires by_first { IsNonDecreasingBy (λ c. c.first) calls.now }
-    requires by_last { IsNonDecreasingBy (λ n. last_of calls.now n) ends.now }
-    ensures { IsStampOf calls.now ends.now ranks.now number call.now result }
+    requires by_last { AreSortedEnds calls.now ends.now }
+    ensures { IfOk result (λ stamps. AreEndStamps calls.now ends.now (length ends.now) stamps.items) }
 {
-    let ended = ended_before(calls, ends, call.first);
-    let rank = rank_at(ranks, number);
+    let mut stamps = vec![in alloc; 0; calls.len()]?;
+    let mut begun = 0;
+    for (rank, end) in ends.iter().enumerate() {
+        begun = begun_by(calls, end.time, begun);
+        stamps[end.number] = (rank + begun) as u64;
+    }
+    Ok(stamps)
+}
+
+/// The call with these stamps in place of its first and its last time.
+fn restamped(call: &Call, first: u64, last: u64) -> Call
+    ensures { result ≡ specs.restamped call.now first last }
+{
+    let end = match call.end {
+        Some(end) => Some(End {
+            last,
+            answer: end.answer,
+        }),
+        None => None,
+    };
     Call {
         thread: call.thread,
         op: call.op,
-        first: (number + ended) as u64,
-        end: end_stamp(calls, rank, call.end),
+        first,
+        end,
     }
 }
 
@@ -74,10 +80,13 @@ pub(crate) fn stamped(alloc: Global, calls: &[Call]) -> Result<Vec<Call>, AllocE
     ensures { IfOk result (λ found. AreStamped calls.now found.items) }
 {
     let ends = sorted_ends(alloc, calls)?;
-    let ranks = ranks_of(alloc, ends.as_slice(), calls.len())?;
+    let ends = ends.as_slice();
+    let stamps = end_stamps(alloc, calls, ends)?;
     let mut found = Vec::with_capacity(alloc, calls.len())?;
+    let mut ended = 0;
     for (number, call) in calls.iter().enumerate() {
-        found.push(stamp(calls, ends.as_slice(), ranks.as_slice(), number, call))?;
+        ended = ended_before(ends, call.first, ended);
+        found.push(restamped(call, (number + ended) as u64, stamps[number]))?;
     }
     Ok(found)
 }

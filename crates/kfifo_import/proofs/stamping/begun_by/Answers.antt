@@ -1,13 +1,15 @@
-use Rattle.std.proofs.Common.{leb, rules}
-use Rattle.std.proofs.lemmas.List.Sorted.{IsPartitionPoint-from_clause, IsPartitionedBy-leb}
-use Rattle.kfifo_import.proofs.Points.{up_to_point}
+use Rattle.std.proofs.Common.{arith}
+use Rattle.std.proofs.lemmas.List.{get_or_default}
+use Rattle.kfifo_import.proofs.Steps.{other_call}
+use Rattle.kfifo_import.proofs.Points.{up_to_here}
 use Rattle.kfifo_import.proofs.stamping.begun_by.Goals as goal
 
-pub returns : goal.returns
-returns c = (
-  c.partition_point.ensures.bound,
-  up_to_point (λ y. y.first) c.args.calls.now c.args.time c.partition_point.result
-      (IsPartitionPoint-from_clause (λ y. leb y.first c.args.time) c.args.calls.now c.partition_point.result
-      c.partition_point.ensures.partitioned
-      (IsPartitionedBy-leb (λ y. y.first) c.args.calls.now c.args.time c.requires) (λ a r q k. search rules)),
-)
+pub returns-then-time-calls : goal.returns-then-time-calls
+returns-then-time-calls c =
+    let calls = c.args.calls.now in
+    let n = c.loop-number.number in (
+      omega arith,
+      up_to_here (λ c. c.first) calls c.args.time n c.requires.by_first c.loop-number.invariant (λ d lt.
+          let e = get_or_default calls n d other_call lt in
+          rw e c.if-time-calls.true),
+    )

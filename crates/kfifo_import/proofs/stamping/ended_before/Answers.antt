@@ -1,15 +1,15 @@
-use Rattle.std.proofs.Common.{ltb, rules}
-use Rattle.std.proofs.lemmas.List.Sorted.{IsPartitionPoint-from_clause, IsPartitionedBy-ltb}
-use Rattle.kfifo_import.specs.Stamping.{last_of}
-use Rattle.kfifo_import.proofs.Points.{below_point}
+use Rattle.std.proofs.Common.{arith}
+use Rattle.std.proofs.lemmas.List.{get_or_default}
+use Rattle.kfifo_import.specs.Stamping.{no_moment}
+use Rattle.kfifo_import.proofs.Points.{below_here}
 use Rattle.kfifo_import.proofs.stamping.ended_before.Goals as goal
 
-pub returns : goal.returns
-returns c =
-    let ends = c.args.ends.now in (
-      c.partition_point.ensures.bound,
-      below_point (λ n. last_of c.args.calls.now n) ends c.args.time c.partition_point.result
-          (IsPartitionPoint-from_clause (λ n. ltb (last_of c.args.calls.now n) c.args.time) ends c.partition_point.result
-          c.partition_point.ensures.partitioned
-          (IsPartitionedBy-ltb (λ n. last_of c.args.calls.now n) ends c.args.time c.requires) (λ a r q k. search rules)),
+pub returns-then-time-ends : goal.returns-then-time-ends
+returns-then-time-ends c =
+    let ends = c.args.ends.now in
+    let place = c.loop-place.place in (
+      omega arith,
+      below_here (λ end. end.time) ends c.args.time place c.requires.by_last c.loop-place.invariant (λ d lt.
+          let e = get_or_default ends place d no_moment lt in
+          rw e c.if-time-ends.true),
     )

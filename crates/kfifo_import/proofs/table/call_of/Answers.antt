@@ -1,7 +1,7 @@
-use Rattle.std.proofs.Common.{List, ℕ, Some, option_map, rules}
+use Rattle.std.proofs.Common.{Some, option_map, rules}
 use Rattle.csv.specs.Records.{field_at, fields_of}
 use Rattle.kfifo_import.specs.Fields.{GivesText, WritesSmall}
-use Rattle.kfifo_import.proofs.Texts.{gives_nothing, no_end, no_op}
+use Rattle.kfifo_import.proofs.Texts.{gives_nothing, no_end}
 use Rattle.kfifo_import.proofs.table.call_of.Goals as goal
 
 pub returns-in_err-thread : goal.returns-in_err-thread

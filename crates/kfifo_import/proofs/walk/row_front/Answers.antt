@@ -1,4 +1,4 @@
-use Rattle.std.proofs.Common.{◌∙◌, ap, sym, arith, rules}
+use Rattle.std.proofs.Common.{◌∙◌, sym, arith, rules}
 use Rattle.kfifo_import.proofs.Walks.{front_more, front_none, front_stop}
 use Rattle.kfifo_import.proofs.walk.row_front.Goals as goal
 
