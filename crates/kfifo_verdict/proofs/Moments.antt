@@ -1,6 +1,7 @@
 -- The first steps of a history's calls rise with their numbers.
 use Rattle.std.proofs.Common.{ℕ, zero, suc, ◌≡◌, ◌+◌, ◌<◌, ◌≤◌, true, false, leb, List, length, sym, ap, subst, inl, inr, arith, Option}
 use Rattle.std.proofs.Common.{Some, None}
+use Rattle.std.specs.List.{AllWithin}
 use Rattle.std.specs.List.Sorted.{IsNonDecreasingBy, IsPartitionPoint}
 use Rattle.std.proofs.lemmas.Bool.{cases_lt, leb-true, leb-false}
 use Rattle.std.proofs.lemmas.List.{get_or_default}
@@ -54,15 +55,39 @@ by_first h v i j d le inside =
     let r = not_falling h i j v le inside in
     omega (arith, a, b, r)
 
+-- the calls up to one that begins by a step begin by it
+pub begun_to : (h : List Call) (n step : ℕ) → IsHistory h → n < length h → first_of h n ≤ step
+    → AllWithin (λ (c : Call). c.first ≤ step) h 0 (n + 1)
+begun_to h n step v inside begun k d low lt =
+    let e = ap (λ (c : Call). c.first) (get_or_default h k d no_call (omega (arith, lt, inside))) in
+    let r = not_falling h k n v (omega (arith, lt)) inside in
+    omega (arith, e, r, begun)
+
+-- the first call that begins after a step
+pub up_to_here : (h : List Call) (i step : ℕ) → IsHistory h → i < length h → AllWithin (λ (c : Call). c.first ≤ step) h 0 i
+    → step < first_of h i → IsPartitionPoint (λ (c : Call). c.first ≤ step) (λ (c : Call). step < c.first) h i
+up_to_here h i step v inside begun after = (
+  begun,
+  λ k d le lt.
+      let e = ap (λ (c : Call). c.first) (get_or_default h k d no_call lt) in
+      let r = not_falling h i k v le lt in
+      omega (arith, e, r, after),
+)
+
+pub up_to_point : (h : List Call) (step i : ℕ)
+    → IsPartitionPoint (λ (c : Call). leb c.first step ≡ true) (λ (c : Call). leb c.first step ≡ false) h i
+    → IsPartitionPoint (λ (c : Call). c.first ≤ step) (λ (c : Call). step < c.first) h i
+up_to_point h step i p = (λ k d a b. leb-true _ _ (p.0 k d a b), λ k d a b. leb-false _ _ (p.1 k d a b))
+
 pub start_found : (h : List Call) (end : End) (i : ℕ) → i ≤ length h
-    → IsPartitionPoint (λ c. leb c.first end.last ≡ true) (λ c. leb c.first end.last ≡ false) h i → IsStart h (Some end) i
+    → IsPartitionPoint (λ (c : Call). c.first ≤ end.last) (λ (c : Call). end.last < c.first) h i → IsStart h (Some end) i
 start_found h end i le p = record {
   bound = le;
   starts = λ d inside. (
     λ lt. elim (cases_lt d i) [
-      | inl below ↦ (let t = leb-true (first_of h d) end.last (p.0 d no_call (omega arith) below) in absurd (omega (arith, t, lt)))
+      | inl below ↦ (let t = p.0 d no_call (omega arith) below in absurd (omega (arith, t, lt)))
       | inr ge ↦ ge
     ],
-    λ ge. leb-false (first_of h d) end.last (p.1 d no_call ge inside),
+    λ ge. p.1 d no_call ge inside,
   );
 }

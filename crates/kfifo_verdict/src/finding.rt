@@ -327,7 +327,7 @@ pub(crate) fn older_at(
     let Some(put) = single_put(calls, items, n) else {
         return None;
     };
-    let after = first_after(calls, &calls[n]);
+    let after = first_after(calls, n, &calls[n]);
     let limit = calls.len();
     Some(count_older(&items.presences, skips, n, put, after, limit))
 }
@@ -352,7 +352,7 @@ fn too_young_at(
     let Some(put) = single_put(calls, items, n) else {
         return Ok(None);
     };
-    let after = first_after(calls, &calls[n]);
+    let after = first_after(calls, n, &calls[n]);
     if count_older(&items.presences, skips, n, put, after, k) < k {
         return Ok(None);
     }

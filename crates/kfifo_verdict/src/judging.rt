@@ -3,9 +3,11 @@ ghost use Rattle.std.specs.Prelude.{◌≡◌, ◌≤◌, IfOk};
 ghost use Rattle.kfifo_model.specs.Validity.{IsHistory};
 ghost use Rattle.kfifo_verdict.specs.Finding.{IsIndexed};
 ghost use Rattle.kfifo_verdict.specs.Judging.{IsJudgement, IsPlain, IsDecided, IsLowerBound, AreBounds};
+ghost use Rattle.kfifo_verdict.specs.Remainder.{items_left};
 
 use crate::finding::{evidence_by, no_skips, older_at};
 use crate::presences::Items;
+use crate::remainder::left_by;
 use crate::turns::order_of_plain;
 use crate::verdicts::{Bounds, Judgement};
 use crate::walking::{search, witness};
@@ -33,7 +35,30 @@ pub fn judge(alloc: Global, history: &History, k: u32, tries: u64) -> Result<Jud
     judge_by(alloc, history, &items, k, tries)
 }
 
-/// The same, by the calls of each item.
+/// Returns the verdict of `judge` on the history, and how many items are left at its end, as `items_remaining` counts
+/// them. An error means that an allocation failed.
+///
+/// ```rust
+/// let (judgement, left) = judge_and_count(alloc, history, k, tries)?;
+/// ```
+pub fn judge_and_count(
+    alloc: Global,
+    history: &History,
+    k: u32,
+    tries: u64,
+) -> Result<(Judgement, usize), AllocError>
+    requires { (1 ≤ k) × (k ≤ 64) }
+    ensures judgement { IfOk result (λ found. IsJudgement k history.now found.0) }
+    ensures complete { k ≡ 1 → IsPlain history.now → IfOk result (λ found. IsDecided found.0) }
+    ensures left { IfOk result (λ found. found.1 ≡ items_left history.now) }
+{
+    let items = Items::of(alloc, history.calls())?;
+    let judgement = judge_by(alloc, history, &items, k, tries)?;
+    let left = left_by(alloc, history.calls(), &items)?;
+    Ok((judgement, left))
+}
+
+/// The verdict on a history, by the calls of each item.
 fn judge_by(
     alloc: Global,
     history: &History,

@@ -21,7 +21,7 @@ mod verdicts;
 mod walking;
 
 pub use finding::{evidence, evidence_for_each_k};
-pub use judging::{judge, least_k};
+pub use judging::{judge, judge_and_count, least_k};
 pub use remainder::items_remaining;
 pub use verdicts::{Bounds, Evidence, Judgement, Stuck};
 pub use walking::witness;

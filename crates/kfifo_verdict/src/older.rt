@@ -104,7 +104,7 @@ fn copy_of(calls: &[Call], listed: &Listed, p: usize) -> Presence
     };
     let sooner = count_before(&listed.ended_puts, item, end.last);
     Presence {
-        start: first_after(calls, &calls[p]),
+        start: first_after(calls, p, &calls[p]),
         gone: nth(calls, Side::Out, &listed.gets, item, sooner).unwrap_or(calls.len()),
     }
 }
@@ -158,7 +158,7 @@ fn older_left_at(
     let Some(put) = put_of_get(calls, listed, n) else {
         return Ok(None);
     };
-    let after = first_after(calls, &calls[n]);
+    let after = first_after(calls, n, &calls[n]);
     if count_older(copies, skips, n, put, after, k) < k {
         return Ok(None);
     }

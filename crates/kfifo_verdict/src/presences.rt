@@ -4,7 +4,7 @@ ghost use Rattle.kfifo_model.specs.Validity.{IsHistory};
 ghost use Rattle.kfifo_verdict.specs.Finding.{ArePuts, AreGets, IsPresence, ArePresences, IsIndexed};
 
 use crate::precedence::first_after;
-use crate::tallies::{ByItem, tallies, tally_of};
+use crate::tallies::{ByItem, item_ranges, tallies, tally_of};
 use kfifo_model::{Call, Effect, Side};
 use std::alloc::{AllocError, Global};
 
@@ -48,7 +48,7 @@ fn presence_of(calls: &[Call], puts: &ByItem, gets: &ByItem, p: usize) -> Presen
         return never;
     }
     Presence {
-        start: first_after(calls, &calls[p]),
+        start: first_after(calls, p, &calls[p]),
         gone: if got.count == 0 {
             calls.len()
         } else {
@@ -82,8 +82,9 @@ impl Items {
         requires { IsHistory calls.now }
         ensures { IfOk result (IsIndexed calls.now) }
     {
-        let puts = tallies(alloc, calls, Side::In)?;
-        let gets = tallies(alloc, calls, Side::Out)?;
+        let (put, got) = item_ranges(calls);
+        let puts = tallies(alloc, calls, Side::In, put)?;
+        let gets = tallies(alloc, calls, Side::Out, got)?;
         let presences = presences(alloc, calls, &puts, &gets)?;
         Ok(Items {
             puts,

@@ -1,9 +1,11 @@
 //! How many items are left at the end of a history.
-ghost use Rattle.std.specs.Prelude.{ℕ, ◌≡◌, ◌≢◌, IfOk, OnOk};
+ghost use Rattle.std.specs.Prelude.{ℕ, ◌≡◌, ◌≢◌, IfOk, IfSome, OnOk};
+ghost use Rattle.kfifo_verdict.specs.Finding.{IsIndexed};
 ghost use Rattle.kfifo_verdict.specs.Remainder as specs;
 ghost use Rattle.kfifo_verdict.specs.Remainder.{items_left};
 
-use crate::tallies::{ByItem, Tally, no_tallies, put_tally, tallies, tally_of};
+use crate::presences::Items;
+use crate::tallies::{ByItem, Tally, item_ranges, no_tallies, put_tally, tallies, tally_of};
 use kfifo_model::{Call, Effect, History, Side};
 use std::alloc::{AllocError, Global};
 
@@ -54,8 +56,9 @@ pub fn items_remaining(alloc: Global, history: &History) -> Result<usize, AllocE
 fn left_of(alloc: Global, calls: &[Call]) -> Result<usize, AllocError>
     ensures { IfOk result (λ left. left ≡ items_left calls.now) }
 {
-    let gets = tallies(alloc, calls, Side::Out)?;
-    let mut puts = no_tallies(alloc, calls, Side::In)?;
+    let (put, got) = item_ranges(calls);
+    let gets = tallies(alloc, calls, Side::Out, got)?;
+    let mut puts = no_tallies(alloc, calls.len(), put)?;
     let mut left: usize = 0;
     for (n, call) in calls.iter().enumerate() {
         if let Some(item) = done_item(call) {
@@ -67,4 +70,34 @@ fn left_of(alloc: Global, calls: &[Call]) -> Result<usize, AllocError>
         }
     }
     Ok(left)
+}
+
+/// How many items are left at the end of these calls, if each item that an enqueue put is put by no other.
+fn left_of_single(calls: &[Call], items: &Items) -> Option<usize>
+    requires { IsIndexed calls.now items.now }
+    ensures { IfSome result (λ left. left ≡ items_left calls.now) }
+{
+    let mut left: usize = 0;
+    for (n, call) in calls.iter().enumerate() {
+        if let Some(item) = done_item(call) {
+            if tally_of(&items.puts, item).count != 1 {
+                return None;
+            }
+            if tally_of(&items.gets, item).count == 0 {
+                left += 1;
+            }
+        }
+    }
+    Some(left)
+}
+
+/// How many items are left at the end of these calls, by the calls of each item.
+pub(crate) fn left_by(alloc: Global, calls: &[Call], items: &Items) -> Result<usize, AllocError>
+    requires { IsIndexed calls.now items.now }
+    ensures { IfOk result (λ left. left ≡ items_left calls.now) }
+{
+    match left_of_single(calls, items) {
+        Some(left) => Ok(left),
+        None => left_of(alloc, calls),
+    }
 }

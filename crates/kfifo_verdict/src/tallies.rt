@@ -1,8 +1,9 @@
 //! How often, when first and where last each item is put, or got.
-ghost use Rattle.std.specs.Prelude.{ℕ, ◌≡◌, ◌≢◌, ◌<◌, ◌+◌, ◌-◌, ◌≤◌, ◌^◌, Bool, true, false, length, IfOk, MatchOption, OnOk};
+ghost use Rattle.std.specs.Prelude.{ℕ, ◌≡◌, ◌≢◌, ◌<◌, ◌+◌, ◌-◌, ◌≤◌, ◌^◌, Bool, true, false, length, IfOk, MatchOption};
+ghost use Rattle.std.specs.Prelude.{OnOk};
 ghost use Rattle.kfifo_verdict.specs.Finding.{IsTally, IsTallied, is_near, no_tally, tally_in};
 
-use kfifo_model::{Call, Side};
+use kfifo_model::{Call, Effect, Side};
 use std::alloc::{AllocError, Global};
 use std::collections::BTreeMap;
 
@@ -83,7 +84,8 @@ pub(crate) fn tally_of(tallies: &ByItem, item: u32) -> Tally
 /// Puts a tally in the place of the item's.
 pub(crate) fn put_tally(tallies: &mut ByItem, item: u32, tally: Tally) -> Result<(), AllocError>
     ensures put { OnOk result (tally_in tallies.new item ≡ tally) }
-    ensures others { OnOk result ((other : ℕ) → other ≢ item → tally_in tallies.new other ≡ tally_in tallies.old other) }
+    ensures others { OnOk result ((other : ℕ) → other ≢ item
+        → tally_in tallies.new other ≡ tally_in tallies.old other) }
 {
     match near_place(tallies.least, tallies.near.len(), item) {
         Some(place) => tallies.near[place] = tally,
@@ -94,42 +96,81 @@ pub(crate) fn put_tally(tallies: &mut ByItem, item: u32, tally: Tally) -> Result
     Ok(())
 }
 
-/// The least item on a side, and from it to the greatest one how many there are, if these are not much more than the
-/// calls; else no items.
-fn near_items(calls: &[Call], side: Side) -> (u32, usize) {
-    let mut least = u32::MAX;
-    let mut greatest = 0;
-    for call in calls {
-        if let Some(item) = side.item_of(call) {
-            least = least.min(item);
-            greatest = greatest.max(item);
+/// The items from the least to the greatest of some, or none where the least is the greater.
+#[derive(Clone, Copy)]
+pub(crate) struct ItemRange {
+    least: u32,
+    greatest: u32,
+}
+
+impl ItemRange {
+    /// The range of no items.
+    fn empty() -> ItemRange {
+        ItemRange {
+            least: u32::MAX,
+            greatest: 0,
         }
     }
-    let span = greatest.saturating_sub(least) as usize;
-    if least <= greatest && span < calls.len().saturating_mul(MOST_PER_CALL) {
-        (least, span + 1)
-    } else {
-        (0, 0)
+
+    /// The range that has this item too.
+    fn reaching(self, item: u32) -> ItemRange {
+        ItemRange {
+            least: self.least.min(item),
+            greatest: self.greatest.max(item),
+        }
+    }
+
+    /// How many items there are, if these are not much more than this many calls; else 0.
+    fn few(self, calls: usize) -> usize {
+        let span = self.greatest.saturating_sub(self.least) as usize;
+        if self.least <= self.greatest && span < calls.saturating_mul(MOST_PER_CALL) {
+            span + 1
+        } else {
+            0
+        }
     }
 }
 
-/// No tallies, with a list for the items on a side of these calls if they lie close together.
-pub(crate) fn no_tallies(alloc: Global, calls: &[Call], side: Side) -> Result<ByItem, AllocError>
+/// The ranges of the items that calls put and that calls got.
+pub(crate) fn item_ranges(calls: &[Call]) -> (ItemRange, ItemRange) {
+    let mut puts = ItemRange::empty();
+    let mut gets = ItemRange::empty();
+    for call in calls {
+        match call.effect() {
+            Effect::Adds(item) => puts = puts.reaching(item),
+            Effect::Takes(item) => gets = gets.reaching(item),
+            _ => {}
+        }
+    }
+    (puts, gets)
+}
+
+/// No tallies of this many calls, with a list for the items of the range if they lie close together.
+pub(crate) fn no_tallies(
+    alloc: Global,
+    calls: usize,
+    range: ItemRange,
+) -> Result<ByItem, AllocError>
     ensures { IfOk result (λ m. (item : ℕ) → tally_in m item ≡ no_tally) }
 {
-    let (least, count) = near_items(calls, side);
+    let count = range.few(calls);
     Ok(ByItem {
-        least,
+        least: range.least,
         near: vec![in alloc; NO_CALLS; count]?,
         far: BTreeMap::new(alloc),
     })
 }
 
-/// The tallies of the items on a side.
-pub(crate) fn tallies(alloc: Global, calls: &[Call], side: Side) -> Result<ByItem, AllocError>
+/// The tallies of the items on a side, which lie in this range.
+pub(crate) fn tallies(
+    alloc: Global,
+    calls: &[Call],
+    side: Side,
+    range: ItemRange,
+) -> Result<ByItem, AllocError>
     ensures { IfOk result (λ m. IsTallied calls.now side (length calls.now) (tally_in m)) }
 {
-    let mut tallies = no_tallies(alloc, calls, side)?;
+    let mut tallies = no_tallies(alloc, calls.len(), range)?;
     for (n, call) in calls.iter().enumerate() {
         if let Some(item) = side.item_of(call) {
             let tally = with(tally_of(&tallies, item), n, call.first);

@@ -38,7 +38,7 @@ fn late_of(calls: &[Call], gone: usize) -> usize
     ensures { IsLate calls.now gone result }
 {
     if gone < calls.len() {
-        first_after(calls, &calls[gone])
+        first_after(calls, gone, &calls[gone])
     } else {
         calls.len() + 1
     }
