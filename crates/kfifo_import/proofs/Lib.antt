@@ -1,3 +1,4 @@
+pub mod Sinking
 pub mod Ending
 pub mod Points
 pub mod Steps

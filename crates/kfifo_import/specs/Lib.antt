@@ -1,6 +1,7 @@
 pub mod Stamping
 pub mod Logs
 pub mod Lines
+pub mod Sorting
 pub mod Rows
 pub mod Spots
 pub mod Tables

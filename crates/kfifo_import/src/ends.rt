@@ -4,7 +4,7 @@ ghost use Rattle.std.specs.List.{All, Contains};
 ghost use Rattle.kfifo_model.specs.Histories.{call};
 ghost use Rattle.kfifo_import.specs.Stamping.{AreEnds, AreSortedEnds, last_time};
 
-use crate::moments::Moment;
+use crate::moments::{Moment, by_time};
 use kfifo_model::{Call, End};
 use std::alloc::{AllocError, Global};
 
@@ -46,7 +46,6 @@ fn finished(alloc: Global, calls: &[Call]) -> Result<Vec<Moment>, AllocError>
 pub(crate) fn sorted_ends(alloc: Global, calls: &[Call]) -> Result<Vec<Moment>, AllocError>
     ensures { IfOk result (λ ends. AreSortedEnds calls.now ends.items) }
 {
-    let mut ends = finished(alloc, calls)?;
-    ends.sort_unstable_by_key(|end| end.time);
-    Ok(ends)
+    let ends = finished(alloc, calls)?;
+    by_time(alloc, ends)
 }

@@ -4,7 +4,7 @@ ghost use Rattle.kfifo_import.specs.Lines as specs;
 ghost use Rattle.kfifo_import.specs.Lines.{fault_among, lines_by, no_logged_call};
 ghost use Rattle.kfifo_import.specs.Logs.{AreByFirst, IsImportFault, IsLogOf, IsRecordOfLog, logged_call};
 
-use crate::moments::Moment;
+use crate::moments::{Moment, by_time};
 use crate::stamping::stamped;
 use kfifo_model::{Call, History, MAX_CALLS, Op, RecordFault};
 use std::alloc::{AllocError, AllocFailed, Global};
@@ -155,9 +155,8 @@ fn beginnings(alloc: Global, lines: &[Line]) -> Result<Vec<Moment>, AllocError>
 fn by_first(alloc: Global, lines: &[Line]) -> Result<Vec<Moment>, AllocError>
     ensures { IfOk result (λ order. AreByFirst lines.now (lines_by lines.now order.items)) }
 {
-    let mut order = beginnings(alloc, lines)?;
-    order.sort_by_key(|begin| begin.time)?;
-    Ok(order)
+    let begins = beginnings(alloc, lines)?;
+    by_time(alloc, begins)
 }
 
 /// The calls of the lines in this order.
