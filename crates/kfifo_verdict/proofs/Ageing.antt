@@ -7,9 +7,8 @@ use Rattle.std.proofs.lemmas.Bool.{false_from_ne_true}
 use Rattle.std.proofs.lemmas.List.{get_or_default, get_or_append_left}
 use Rattle.std.proofs.Math.Seq.{get_or-append_seam}
 use Rattle.std.proofs.lemmas.List.Sums.{sum_by-cons}
-use Rattle.std.proofs.lemmas.List.Sorted.{sum_by-IsPermutation}
 use Rattle.std.specs.List.{AllByRecursion}
-use Rattle.std.specs.List.Sorted.{IsPermutation, IsSortedBy, IsPartitionedBy}
+use Rattle.std.specs.List.Sorted.{IsSortedBy, IsPartitionedBy}
 use Rattle.std.specs.Prelude.{unwrap_or, MatchOption}
 use Rattle.kfifo_model.specs.declared.calls.Call.{Call}
 use Rattle.kfifo_model.specs.declared.calls.End.{End}
@@ -22,7 +21,6 @@ use Rattle.kfifo_model.specs.declared.effects.Side.{Side}
 use Rattle.kfifo_model.specs.declared.effects.Side.TheVariants.{In, Out}
 use Rattle.kfifo_verdict.specs.declared.presences.Presence.{Presence}
 use Rattle.kfifo_verdict.specs.Evidence.{Puts, Gets, count_below, last_step, puts_ended, gets_begun, gets_before, IsOlderCopy, IsOlderLeft}
-use Rattle.kfifo_model.specs.Index.{side_effect}
 use Rattle.kfifo_verdict.specs.Finding.{has_item, IsStart, no_presence, lasts_at, IsCountedTo, AreFirst}
 use Rattle.kfifo_verdict.specs.Judging.{GotOlderLeft}
 use Rattle.kfifo_verdict.specs.Plain.{lower, place}
@@ -31,8 +29,8 @@ use Rattle.kfifo_verdict.specs.Soon.{is_by, has_by}
 use Rattle.kfifo_verdict.specs.Steps.{AreSorted, is_below}
 use Rattle.kfifo_verdict.specs.Left.{is_at, is_up_to, rank}
 use Rattle.kfifo_verdict.specs.Older.{IsNth, IsCopy, AreCopies, IsPutOfGet}
-use Rattle.kfifo_verdict.proofs.Counting.{count_push, below_more, count_within}
-use Rattle.kfifo_verdict.proofs.Telling.{side_passes, side_is, same_item, puts_pass}
+use Rattle.kfifo_verdict.proofs.Counting.{below_more, count_within}
+use Rattle.kfifo_verdict.proofs.Telling.{same_item, puts_pass}
 use Rattle.kfifo_verdict.proofs.Being.{same_put}
 use Rattle.kfifo_verdict.proofs.Moments.{precedes_below}
 use Rattle.kfifo_verdict.proofs.Refuting.{put_inside, got_ended, below_end, from_last, not_ended, rising_distinct, takes_is, adds_is}

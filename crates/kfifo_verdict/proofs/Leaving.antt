@@ -1,17 +1,16 @@
 -- The search for Empties while items were left: entries sorted by items and steps, and until when items are left.
-use Rattle.std.proofs.Common.{ℕ, zero, suc, ◌≡◌, ◌≢◌, ◌+◌, ◌<◌, ◌≤◌, ◌⊎◌, ◌↔◌, ◌&&◌, ◌||◌, Bool, true, false, cond, count_by, eqb, leb, ltb}
+use Rattle.std.proofs.Common.{ℕ, zero, suc, ◌≡◌, ◌≢◌, ◌+◌, ◌<◌, ◌≤◌, ◌⊎◌, ◌↔◌, ◌||◌, Bool, true, false, cond, count_by, eqb, leb, ltb}
 use Rattle.std.proofs.Common.{max}
-use Rattle.std.proofs.Common.{List, [], ◌∷◌, ◌++◌, length, get_or, set, refl, sym, ◌∙◌, ap, subst, inl, inr, arith, Some, None}
+use Rattle.std.proofs.Common.{List, [], ◌∷◌, ◌++◌, length, get_or, set, refl, sym, ◌∙◌, ap, subst, inl, inr, arith}
 use Rattle.std.proofs.Common.{length-append, length-set, get_or-set_other, get_or-set_same}
 use Rattle.std.proofs.lemmas.Bool.{cases_Bool, cases_lt, cases_eq, eq-eqb, ne_eqb, eqb-true, lt-ltb, ltb-true, leb-true, le-leb, leb-false}
 use Rattle.std.proofs.lemmas.Bool.{ltb-false}
-use Rattle.std.proofs.lemmas.Bool.{and_from, and_parts, and_left, and_right, or_left, or_right, false≢true, false_from_ne_true}
+use Rattle.std.proofs.lemmas.Bool.{and_from, and_parts, and_left, or_left, or_right, false≢true, false_from_ne_true}
 use Rattle.std.proofs.lemmas.List.{get_or_append_left}
 use Rattle.std.proofs.lemmas.List.Sums.{sum_by-cons, count_by-le-length}
-use Rattle.std.proofs.lemmas.List.Sorted.{sum_by-IsPermutation}
 use Rattle.std.proofs.Math.Seq.{get_or-append_seam}
 use Rattle.std.proofs.Math.Nat.{le-max_left, le-max_right}
-use Rattle.std.specs.List.Sorted.{IsPermutation, IsSortedBy, IsPartitionPoint}
+use Rattle.std.specs.List.Sorted.{IsSortedBy, IsPartitionPoint}
 use Rattle.kfifo_model.specs.declared.calls.Call.{Call}
 use Rattle.kfifo_model.specs.declared.effects.Effect.TheVariants.{FindsNone}
 use Rattle.kfifo_model.specs.Histories.{call, no_call, does, EndsBelow}
@@ -20,16 +19,13 @@ use Rattle.kfifo_model.specs.declared.effects.Side.{Side}
 use Rattle.kfifo_model.specs.declared.effects.Side.TheVariants.{In, Out}
 use Rattle.kfifo_verdict.specs.declared.presences.Presence.{Presence}
 use Rattle.kfifo_verdict.specs.Evidence.{HasItemsLeft, gets_begun}
-use Rattle.kfifo_model.specs.Index.{side_effect}
-use Rattle.kfifo_verdict.specs.Finding.{has_item, first_of}
+use Rattle.kfifo_verdict.specs.Finding.{first_of}
 use Rattle.kfifo_verdict.specs.Plain.{lower, place}
 use Rattle.kfifo_verdict.specs.declared.steps.Key.TheVariants.{Inner}
 use Rattle.kfifo_verdict.specs.Steps.{passes, AreSorted, is_below}
-use Rattle.kfifo_verdict.specs.Left.{has_at, is_at, is_up_to, rank, IsSpan, HasSpan}
+use Rattle.kfifo_verdict.specs.Left.{is_at, is_up_to, rank, IsSpan, HasSpan}
 use Rattle.kfifo_verdict.specs.Left.{IsKept, AreEnds, IsSomeLeft, AreFar}
-use Rattle.kfifo_verdict.proofs.Counting.{count_push, below_more}
 use Rattle.kfifo_verdict.proofs.Queueing.{Lex, line_rises}
-use Rattle.kfifo_verdict.proofs.Telling.{side_passes, side_is}
 use Rattle.kfifo_verdict.proofs.Covering.{moment_here}
 use Rattle.kfifo_verdict.proofs.Moments.{rising, not_falling, reached}
 

@@ -22,3 +22,4 @@ pub mod Passing
 pub mod Ageing
 pub mod AtEnd
 pub mod Sufficing
+pub mod Sinking

@@ -10,7 +10,7 @@ use Rattle.std.proofs.Math.Seq.{get_or-append_seam}
 use Rattle.std.specs.List.{All}
 use Rattle.std.proofs.lemmas.List.Sorted.{All-permutation, Contains-permutation}
 use Rattle.std.specs.List.Sorted.{IsPermutation, IsPartitionPoint, IsNonDecreasingBy}
-use Rattle.kfifo_verdict.proofs.Types.{Call, Effect, End, Presence, Stay, Turn}
+use Rattle.kfifo_verdict.proofs.Types.{Call, End, Presence, Stay, Turn}
 use Rattle.kfifo_model.specs.declared.effects.Effect.TheVariants.{Adds, Takes, FindsNone}
 use Rattle.kfifo_model.specs.Histories.{call, does, HasEnd, IsFinished}
 use Rattle.kfifo_model.specs.Validity.{IsHistory}

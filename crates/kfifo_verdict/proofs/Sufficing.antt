@@ -1,15 +1,14 @@
 -- For a plain history the kinds 1 to 4 are enough: where one of the kinds 5 to 7 is there, one of these is.
 use Rattle.std.proofs.Common.{ℕ, zero, suc, ◌≡◌, ◌<◌, ◌≤◌, ◌+◌, ◌&&◌, Bool, true, false, List, Option, Some, None, cond, leb, length}
 use Rattle.std.proofs.Common.{refl, sym, subst, inl, inr, arith, ◌∙◌}
-use Rattle.std.proofs.lemmas.Bool.{and_from, and_parts, cases_lt, le-leb, leb-true, lt-ltb, ltb-true}
+use Rattle.std.proofs.lemmas.Bool.{and_from, and_parts, cases_lt, le-leb, ltb-true}
 use Rattle.kfifo_verdict.proofs.Types.{Call, End}
-use Rattle.kfifo_model.specs.Histories.{call, does, EndsBelow, HasEnd, Precedes}
-use Rattle.kfifo_model.specs.Lists.{IsIn}
+use Rattle.kfifo_model.specs.Histories.{call, does, EndsBelow, HasEnd}
 use Rattle.kfifo_model.specs.Overtaking.{adds, takes, ends_below}
 use Rattle.kfifo_model.specs.Validity.{IsHistory}
 use Rattle.kfifo_model.proofs.Lists.{each_at, each_from}
 use Rattle.kfifo_verdict.specs.Evidence.{Gets, HasItemsLeft, IsCertainlyThere, IsLeft, IsNeverPut, IsOlder, IsOlderCopy}
-use Rattle.kfifo_verdict.specs.Evidence.{IsOlderLeft, IsSingle, IsTakenTooSoon, IsTooYoung, Puts, count_below, gets_begun}
+use Rattle.kfifo_verdict.specs.Evidence.{IsOlderLeft, IsTakenTooSoon, IsTooYoung, count_below, gets_begun}
 use Rattle.kfifo_verdict.specs.Evidence.{gets_ended, last_step, puts_begun, puts_ended}
 use Rattle.kfifo_verdict.specs.Finding.{HasGaps}
 use Rattle.kfifo_verdict.specs.Judging.{GotTooYoung, HasNoEvidence, HasNoneForEachK, HasNoneTo3, IsPlain, Never}

@@ -1,18 +1,15 @@
 -- Which items are certainly left as calls begin: puts are counted by their ends, gets by their beginnings.
-use Rattle.std.specs.Prelude.{ℕ, ◌≡◌, ◌<◌, ◌≤◌, ◌-◌, ◌↔◌, ◌&&◌, ◌||◌, eqb, leb, ltb, false, Bool, List, Option, Some}
-use Rattle.std.specs.Prelude.{None, length}
+use Rattle.std.specs.Prelude.{ℕ, ◌≡◌, ◌<◌, ◌≤◌, ◌-◌, ◌↔◌, ◌&&◌, ◌||◌, eqb, ltb, Bool, List}
+use Rattle.std.specs.Prelude.{length}
 use Rattle.std.specs.Prelude.{slice_index_or}
 use Rattle.std.specs.List.{count_by}
-use Rattle.std.specs.List.Sorted.{IsSortedBy}
 use Rattle.kfifo_model.specs.declared.calls.Call.{Call}
 use Rattle.kfifo_model.specs.Histories.{call}
-use Rattle.kfifo_model.specs.Overtaking.{ends_below}
 use Rattle.kfifo_model.specs.declared.effects.Side.{Side}
-use Rattle.kfifo_model.specs.declared.effects.Side.TheVariants.{In, Out}
 use Rattle.kfifo_verdict.specs.declared.presences.Presence.{Presence}
-use Rattle.kfifo_verdict.specs.Evidence.{count_below, puts_ended, gets_begun, IsLeft}
+use Rattle.kfifo_verdict.specs.Evidence.{puts_ended, gets_begun, IsLeft}
 use Rattle.kfifo_verdict.specs.Finding.{has_item, first_of}
-use Rattle.kfifo_verdict.specs.Plain.{lower, place}
+use Rattle.kfifo_verdict.specs.Plain.{place}
 use Rattle.kfifo_verdict.specs.Steps.{counts_at, passes, is_below}
 
 -- whether call c is one of the side that has item x, and counts at a step

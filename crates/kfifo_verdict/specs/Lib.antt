@@ -7,3 +7,4 @@ pub mod Soon
 pub mod Left
 pub mod Older
 pub mod Remainder
+pub mod Sorting

@@ -13,6 +13,7 @@ mod remainder;
 mod rings;
 mod seen;
 mod soon;
+mod sorting;
 mod state;
 mod steps;
 mod tallies;

@@ -16,6 +16,7 @@ ghost use Rattle.kfifo_verdict.specs.Plain.{IsByTurns};
 use crate::finding::{Covered, Stay, cover, longest_stays};
 use crate::precedence::first_after;
 use crate::presences::{Items, Presence};
+use crate::sorting::sort_nearly;
 use crate::tallies::tally_of;
 use kfifo_model::{Call, Effect};
 use std::alloc::{AllocError, Global};
@@ -77,7 +78,7 @@ fn places(
     requires longest { AreLongest presences.now stays.now }
     ensures { IfOk result (λ places. ArePlaces calls.now presences.now (length calls.now) places.items) }
 {
-    let mut places = Vec::new(alloc);
+    let mut places = Vec::with_capacity(alloc, calls.len())?;
     for p in 0..calls.len() {
         if let Effect::Adds(_) = calls[p].effect() {
             let late = late_of(calls, gone_of(presences, p));
@@ -101,7 +102,7 @@ fn line_of(
     ensures { IfOk result (λ line. IsLine calls.now presences.now line.items) }
 {
     let mut line = places(alloc, calls, presences, stays)?;
-    line.sort_unstable();
+    sort_nearly(&mut line);
     Ok(line)
 }
 
@@ -189,7 +190,7 @@ fn by_turns(alloc: Global, turns: &[Turn]) -> Result<Vec<usize>, AllocError>
     ensures { IfOk result (λ order. IsByTurns turns.now order.items) }
 {
     let mut numbered = numbered(alloc, turns)?;
-    numbered.sort_unstable();
+    sort_nearly(&mut numbered);
     calls_of(alloc, numbered.as_slice())
 }
 
