@@ -5,6 +5,7 @@ ghost use Rattle.kfifo_model.specs.Histories.{IsLegal};
 ghost use Rattle.kfifo_model.specs.Ranks.{ranks_of};
 ghost use Rattle.kfifo_judge.specs.Bounds.{FollowsReason};
 ghost use Rattle.kfifo_verdict.specs.Judging.{IsJudgement};
+ghost use Rattle.kfifo_verdict.specs.Remainder.{items_left};
 ghost use Rattle.kfifo_judge.specs.Judgements.{IsJudgeAnswer, IsJudgementText, IsNoOrderText, IsUndecidedText};
 ghost use Rattle.kfifo_judge.specs.Judgements.{about, legal_text};
 ghost use Rattle.kfifo_judge.specs.Judgements.{counts_line, outcome, shown_line, stuck_text, worst_line};
@@ -17,7 +18,7 @@ use crate::outcome::Outcome;
 use crate::reasons::push_reasons;
 use kfifo_import::LoggedCall;
 use kfifo_model::{History, RankFault, items_repeat, ranks};
-use kfifo_verdict::{Evidence, Judgement, Stuck, items_remaining, judge};
+use kfifo_verdict::{Evidence, Judgement, Stuck, judge_and_count};
 use std::alloc::{AllocError, Global};
 use std::fmt::Write;
 
@@ -72,11 +73,11 @@ fn push_left(text: &mut String, left: usize) -> Result<(), AllocError>
 }
 
 /// Adds how many calls there are, and how many items are left at the end.
-fn push_counts(alloc: Global, text: &mut String, history: &History) -> Result<(), AllocError>
+fn push_counts(text: &mut String, history: &History, left: usize) -> Result<(), AllocError>
+    requires { left ≡ items_left history.now }
     ensures { OnOk result (string_bytes text.new ≡ string_bytes text.old ++ counts_line history.now) }
 {
     let calls = history.calls().len();
-    let left = items_remaining(alloc, history)?;
     write!(text, "calls {calls}")?;
     push_left(text, left)
 }
@@ -88,9 +89,11 @@ fn legal(
     k: u32,
     order: &[usize],
     show: bool,
+    left: usize,
 ) -> Result<String, AllocError>
     requires places { (1 ≤ k) × (k ≤ 64) }
     requires legal { IsLegal k history.now order.now }
+    requires left { left ≡ items_left history.now }
     ensures { IfOk result (λ text. string_bytes text ≡ legal_text k show history.now order.now) }
 {
     let worst = worst_rank(alloc, history, k, order)?;
@@ -98,7 +101,7 @@ fn legal(
     push_about(&mut text, "legal", k)?;
     push_worst(&mut text, worst)?;
     push_shown(&mut text, order, show)?;
-    push_counts(alloc, &mut text, history)?;
+    push_counts(&mut text, history, left)?;
     Ok(text)
 }
 
@@ -110,13 +113,15 @@ fn no_order(
     k: u32,
     tries: u64,
     found: &Evidence,
+    left: usize,
 ) -> Result<String, AllocError>
+    requires { left ≡ items_left history.now }
     ensures { IfOk result (λ text. IsNoOrderText k logged.now history.now found.now (string_bytes text)) }
 {
     let mut text = String::new(alloc);
     push_about(&mut text, "no order", k)?;
     push_reasons(alloc, &mut text, history, logged, found)?;
-    push_counts(alloc, &mut text, history)?;
+    push_counts(&mut text, history, left)?;
     push_following(alloc, &mut text, history, logged, tries, found)?;
     Ok(text)
 }
@@ -179,10 +184,10 @@ pub fn judged_text(
     ensures judged { IfOk result (λ a. IsJudgement k history.now a.1) }
     ensures told { IfOk result (λ a. IsJudgementText k show logged.now history.now a.1 (string_bytes a.0)) }
 {
-    let judgement = judge(alloc, history, k, tries)?;
+    let (judgement, left) = judge_and_count(alloc, history, k, tries)?;
     let text = match &judgement {
-        Judgement::Legal(order) => legal(alloc, history, k, order, show)?,
-        Judgement::NoOrder(found) => no_order(alloc, history, logged, k, tries, found)?,
+        Judgement::Legal(order) => legal(alloc, history, k, order, show, left)?,
+        Judgement::NoOrder(found) => no_order(alloc, history, logged, k, tries, found, left)?,
         Judgement::Undecided(stuck) => undecided(alloc, history, k, *stuck)?,
     };
     Ok((text, judgement))

@@ -1,4 +1,4 @@
-use Rattle.std.proofs.Common.{rules, string_bytes, sym, ◌∙◌, ap}
+use Rattle.std.proofs.Common.{string_bytes, ◌∙◌, ap}
 use Rattle.kfifo_judge.specs.Judgements.{IsJudgementText, legal_text}
 use Rattle.kfifo_judge.proofs.judgement.judged_text.Goals as goal
 use Rattle.kfifo_judge.proofs.judgement.judged_text.Goals.{in-Legal+in_ok-text-in-Legal, in-NoOrder+in_ok-text-in-NoOrder}

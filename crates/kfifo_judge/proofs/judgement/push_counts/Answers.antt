@@ -12,6 +12,6 @@ returns c =
     let left : List ℕ = line (codes ", items left " ++ decimal (items_left h)) in
     let first : string_bytes c.write.new.self ≡ old ++ called = rw c.calls.ensures.calls at c.in_ok-write.ensures.bytes in
     let second : OnOk c.push_left.result (string_bytes c.push_left.new.text ≡ string_bytes c.write.new.self ++ left) =
-    rw c.in_ok-left.ensures at c.push_left.ensures in
+    rw c.requires at c.push_left.ensures in
     on_ok c.push_left.result (string_bytes c.push_left.new.text) (string_bytes c.write.new.self ++ left) (old ++ (called ++ left))
     (ap (λ t. t ++ left) first ∙ append_assoc old called left) second
