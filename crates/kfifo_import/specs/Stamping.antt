@@ -85,12 +85,12 @@ pub record AreSortedEnds (l : List Call) (ends : List Moment) : Type 0 where
   pub are : AreEnds l ends
   pub rise : IsNonDecreasingBy (λ end. end.time) ends
 
--- so many of the ends, by rising time, are before this time
+-- this many of the ends, by rising time, are before this time
 abbrev pub HaveEnded : List Moment → ℕ → ℕ → Type 0
 HaveEnded ends time count = (count ≤ length ends)
     × IsPartitionPoint (λ end. end.time < time) (λ end. time ≤ end.time) ends count
 
--- so many of the calls, by rising first time, have begun by this time
+-- this many of the calls, by rising first time, have begun by this time
 abbrev pub HaveBegun : List Call → ℕ → ℕ → Type 0
 HaveBegun l time count = (count ≤ length l) × IsPartitionPoint (λ c. c.first ≤ time) (λ c. time < c.first) l count
 
@@ -109,13 +109,13 @@ pub record AreEndStamps (l : List Call) (ends : List Moment) (place : ℕ) (stam
   pub each : (q : ℕ) → q < place → let n = (slice_index_or ends q no_moment).number in
       IsEndStamp l ends n (slice_index_or stamps n 0)
 
--- so many calls begin by each end from a place on
+-- this many calls begin by each end from a place on
 pub record BeginByEnds (l : List Call) (ends : List Moment) (place begun : ℕ) : Type 0 where
   pub inside : begun ≤ length l
   pub before : (q k : ℕ) → place ≤ q → q < length ends → k < begun
       → first_at l k ≤ (slice_index_or ends q no_moment).time
 
--- so many ends are before each beginning from call n on
+-- this many ends are before each beginning from call n on
 pub record EndBeforeBeginnings (l : List Call) (ends : List Moment) (n ended : ℕ) : Type 0 where
   pub inside : ended ≤ length ends
   pub before : (m k : ℕ) → n ≤ m → m < length l → k < ended → (slice_index_or ends k no_moment).time < first_at l m

@@ -17,7 +17,7 @@ pub(crate) fn ends_before(call: &Call, step: u64) -> bool
     }
 }
 
-/// How many calls are looked at before the first one is searched for that another precedes.
+/// How many calls, from a call on, are looked at before a search among all calls.
 const NEXT_CALLS: usize = 8;
 
 /// The first call that begins after this step, if call n does not and one of the next few does.
