@@ -1,22 +1,10 @@
 //! What faults and answers mean: found in the help, by their words as they are printed.
 
+use kfifo_cli_requests::Topic;
 use std::alloc::{AllocError, Global};
 
 /// How a line of help begins that goes on with the line before it.
 const CONTINUED: &str = "               ";
-
-/// A fault or an answer.
-#[derive(Clone, Copy)]
-pub struct Topic {
-    /// The words that it is printed with, up to where they tell it from others; in them `#` stands for a number.
-    pub words: &'static str,
-    /// The number of the help that says what it means.
-    pub help: usize,
-    /// How the line begins that says so.
-    pub line: &'static str,
-    /// What is allowed, and what to do: whole lines.
-    pub advice: &'static str,
-}
 
 /// Whether the word is the one of the pattern.
 fn fits(word: &str, pattern: &str) -> bool {

@@ -1,7 +1,7 @@
 //! The answers of the other commands.
 
 use crate::topics::{CHECK, EXPLAIN, REPLAY, RUN};
-use kfifo_cli_texts::Topic;
+use kfifo_cli_requests::Topic;
 
 /// If two begin alike, the longer one comes first.
 const TOPICS: &[Topic] = &[

@@ -1,7 +1,7 @@
 //! Faults of the command line and of what its arguments ask for.
 
 use crate::topics::{CHECK, DISPATCH, DRAW, EXPLAIN, RECORD, REPLAY, RUN};
-use kfifo_cli_texts::Topic;
+use kfifo_cli_requests::Topic;
 
 /// If two begin alike, the longer one comes first.
 const TOPICS: &[Topic] = &[

@@ -1,7 +1,7 @@
 //! Faults of what is read, and of the machine that the program runs on.
 
 use crate::topics::{CHECK, IMPORT, JUDGE, MEASURE};
-use kfifo_cli_texts::Topic;
+use kfifo_cli_requests::Topic;
 
 /// If two begin alike, the longer one comes first.
 const TOPICS: &[Topic] = &[

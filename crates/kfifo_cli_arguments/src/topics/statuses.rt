@@ -1,7 +1,7 @@
 //! Exit statuses, and the statuses of the library for C, by their names.
 
 use crate::topics::EXPLAIN;
-use kfifo_cli_texts::Topic;
+use kfifo_cli_requests::Topic;
 
 /// No two begin alike.
 const TOPICS: &[Topic] = &[

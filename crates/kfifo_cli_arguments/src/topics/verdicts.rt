@@ -1,7 +1,7 @@
 //! The answers of `judge` and `least`, and evidence by its name.
 
 use crate::topics::{JUDGE, LEAST};
-use kfifo_cli_texts::Topic;
+use kfifo_cli_requests::Topic;
 
 const NEVER_PUT: &str = "\
 To do: look for a dequeue that returns what was not put, or too soon; or for a

@@ -2,7 +2,8 @@
 ghost use Rattle.std.specs.Prelude.{◌≢◌, IfErr};
 ghost use Rattle.kfifo_cli_commands.specs.Explanations.{IsExplainRefusal};
 
-use kfifo_cli_texts::{ExplainOptions, Fault, explanation};
+use kfifo_cli_requests::ExplainOptions;
+use kfifo_cli_texts::{Fault, explanation};
 use std::alloc::Global;
 
 /// What the words mean, what is allowed, and what to do.
