@@ -10,4 +10,4 @@ pub use requests::{
     LeastOptions, RecordOptions, ReplayOptions, Request, RunOptions,
 };
 pub use sizes::Sizes;
-pub use topics::Topic;
+pub use topics::{Help, HelpTexts, Topic};

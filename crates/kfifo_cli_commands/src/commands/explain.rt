@@ -11,19 +11,19 @@ pub fn answer(alloc: Global, options: ExplainOptions<'_>) -> Result<String, Faul
     ensures err { IfErr result IsExplainRefusal }
     ensures silent { IfErr result (λ fault. fault ≢ Fault.Output) }
 {
-    if let Some(text) = explanation(alloc, options.words, options.first_topics, options.helps)? {
+    if let Some(text) = explanation(alloc, options.words, options.first_topics, &options.helps)? {
         return Ok(text);
     }
-    if let Some(text) = explanation(alloc, options.words, options.second_topics, options.helps)? {
+    if let Some(text) = explanation(alloc, options.words, options.second_topics, &options.helps)? {
         return Ok(text);
     }
-    if let Some(text) = explanation(alloc, options.words, options.third_topics, options.helps)? {
+    if let Some(text) = explanation(alloc, options.words, options.third_topics, &options.helps)? {
         return Ok(text);
     }
-    if let Some(text) = explanation(alloc, options.words, options.fourth_topics, options.helps)? {
+    if let Some(text) = explanation(alloc, options.words, options.fourth_topics, &options.helps)? {
         return Ok(text);
     }
-    match explanation(alloc, options.words, options.last_topics, options.helps)? {
+    match explanation(alloc, options.words, options.last_topics, &options.helps)? {
         Some(text) => Ok(text),
         None => Err(Fault::Unexplained),
     }
