@@ -3,7 +3,7 @@ use Rattle.std.specs.Prelude.{◌≡◌, ◌⊎◌, ℕ, List, [], Option}
 use Rattle.clap.specs.Words.{Text}
 use Rattle.kfifo_cli_texts.specs.declared.fault.Fault.{Fault}
 use Rattle.kfifo_cli_texts.specs.declared.fault.Fault.TheVariants.{Memory}
-use Rattle.kfifo_cli_texts.specs.declared.requests.Request.{Request}
+use Rattle.kfifo_cli_requests.specs.declared.requests.Request.{Request}
 use Rattle.kfifo_cli_texts.specs.Printing.{Nothing, Tells, Written}
 use Rattle.kfifo_cli_commands.specs.Endings.{IsAnswered, IsRefused}
 use Rattle.kfifo_cli_arguments.specs.CommandLine.{NamesNone, kinds, named}

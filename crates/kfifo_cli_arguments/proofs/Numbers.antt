@@ -5,8 +5,8 @@ use Rattle.std.specs.Str.Parse.{digits_value, ParsesUnsigned, ExplainsUnsignedEr
 use Rattle.std.specs.declared.num.ParseIntError.{ParseIntError}
 use Rattle.clap.specs.Words.{ReadsOne}
 use Rattle.kfifo_cli_arguments.specs.Options.{GivesNumber}
-use Rattle.kfifo_cli_texts.specs.Words.{IsDigits}
-use Rattle.kfifo_cli_texts.proofs.Numbers.{own}
+use Rattle.kfifo_cli_requests.specs.Digits.{IsDigits}
+use Rattle.kfifo_cli_requests.proofs.Digits.{own}
 
 -- what `parse` says of an unsigned number of so many bits
 abbrev ParsesTo : ℕ → List ℕ → Result ℕ ParseIntError → Type 0

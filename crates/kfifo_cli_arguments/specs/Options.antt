@@ -5,17 +5,17 @@ use Rattle.std.specs.Str.Parse.{digits_value}
 use denote.Ref.{Bor}
 use Rattle.clap.specs.declared.parser.matches.Found.{Found}
 use Rattle.clap.specs.Words.{first_value, matched_of, one_text, raw_values}
-use Rattle.kfifo_cli_texts.specs.declared.requests.CheckOptions.{CheckOptions}
-use Rattle.kfifo_cli_texts.specs.declared.requests.DispatchOptions.{DispatchOptions}
-use Rattle.kfifo_cli_texts.specs.declared.requests.DrawOptions.{DrawOptions}
-use Rattle.kfifo_cli_texts.specs.declared.requests.ExplainOptions.{ExplainOptions}
-use Rattle.kfifo_cli_texts.specs.declared.requests.JudgeOptions.{JudgeOptions}
-use Rattle.kfifo_cli_texts.specs.declared.requests.LeastOptions.{LeastOptions}
-use Rattle.kfifo_cli_texts.specs.declared.requests.RecordOptions.{RecordOptions}
-use Rattle.kfifo_cli_texts.specs.declared.requests.ReplayOptions.{ReplayOptions}
-use Rattle.kfifo_cli_texts.specs.declared.requests.RunOptions.{RunOptions}
-use Rattle.kfifo_cli_texts.specs.declared.sizes.Sizes.{Sizes}
-use Rattle.kfifo_cli_texts.specs.Words.{IsDigits}
+use Rattle.kfifo_cli_requests.specs.declared.requests.CheckOptions.{CheckOptions}
+use Rattle.kfifo_cli_requests.specs.declared.requests.DispatchOptions.{DispatchOptions}
+use Rattle.kfifo_cli_requests.specs.declared.requests.DrawOptions.{DrawOptions}
+use Rattle.kfifo_cli_requests.specs.declared.requests.ExplainOptions.{ExplainOptions}
+use Rattle.kfifo_cli_requests.specs.declared.requests.JudgeOptions.{JudgeOptions}
+use Rattle.kfifo_cli_requests.specs.declared.requests.LeastOptions.{LeastOptions}
+use Rattle.kfifo_cli_requests.specs.declared.requests.RecordOptions.{RecordOptions}
+use Rattle.kfifo_cli_requests.specs.declared.requests.ReplayOptions.{ReplayOptions}
+use Rattle.kfifo_cli_requests.specs.declared.requests.RunOptions.{RunOptions}
+use Rattle.kfifo_cli_requests.specs.declared.sizes.Sizes.{Sizes}
+use Rattle.kfifo_cli_requests.specs.Digits.{IsDigits}
 
 -- an option with no text gives no number, and one whose digits write a number of so many bits gives that number
 abbrev pub GivesNumber : ℕ → Option (List ℕ) → Option ℕ → Type 0

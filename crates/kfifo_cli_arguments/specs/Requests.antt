@@ -5,9 +5,9 @@ use Rattle.clap.specs.Words.{Row, Text}
 use Rattle.clap.specs.declared.error.kind.ErrorKind.{ErrorKind}
 use Rattle.clap.specs.declared.error.kind.ErrorKind.TheVariants.{DisplayHelp, DisplayVersion}
 use Rattle.clap.specs.declared.parser.matches.Found.{Found}
-use Rattle.kfifo_cli_texts.specs.declared.requests.Request.{Request}
-use Rattle.kfifo_cli_texts.specs.declared.requests.Request.TheVariants.{Run, Check, Measure, Replay, Judge, Least}
-use Rattle.kfifo_cli_texts.specs.declared.requests.Request.TheVariants.{Record, Import, Draw, Dispatch, Explain}
+use Rattle.kfifo_cli_requests.specs.declared.requests.Request.{Request}
+use Rattle.kfifo_cli_requests.specs.declared.requests.Request.TheVariants.{Run, Check, Measure, Replay, Judge, Least}
+use Rattle.kfifo_cli_requests.specs.declared.requests.Request.TheVariants.{Record, Import, Draw, Dispatch, Explain}
 use Rattle.kfifo_cli_arguments.specs.CommandLine.{Names, kinds, named}
 use Rattle.kfifo_cli_arguments.specs.Options.{GivesCheck, GivesDispatch, GivesDraw, GivesExplain, GivesFile}
 use Rattle.kfifo_cli_arguments.specs.Options.{GivesJudge, GivesLeast, GivesRecord, GivesReplay, GivesRun}

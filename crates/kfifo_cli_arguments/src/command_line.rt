@@ -9,7 +9,7 @@ use crate::commands::{
     check, dispatch, draw, explain, import, judge, least, measure, record, replay, run,
 };
 use clap::{ArgMatches, Command, Error};
-use kfifo_cli_texts::Request;
+use kfifo_cli_requests::Request;
 use std::alloc::{AllocError, Global};
 
 /// The version of the program.

@@ -7,7 +7,7 @@ ghost use Rattle.kfifo_cli_arguments.specs.Options.{GivesFile, GivesOr, GivesPla
 ghost use Rattle.kfifo_cli_arguments.specs.Options.{GivesTurns};
 
 use clap::{Arg, ArgAction, ArgMatches, Command, value_parser};
-use kfifo_cli_texts::Sizes;
+use kfifo_cli_requests::Sizes;
 use kfifo_words::MAX_VERSION;
 use std::alloc::{AllocError, Global};
 

@@ -6,9 +6,9 @@ use Rattle.kfifo_dispatch.specs.declared.fault.DispatchFault.TheVariants as refu
 use Rattle.kfifo_dispatch.specs.declared.task.Task.{Task}
 use Rattle.kfifo_dispatch.specs.Tasks.{HasRepeatedId}
 use Rattle.kfifo_cli_texts.specs.declared.fault.Fault.TheVariants.{Dispatch, Memory, Word}
-use Rattle.kfifo_cli_texts.specs.declared.requests.DispatchOptions.{DispatchOptions}
+use Rattle.kfifo_cli_requests.specs.declared.requests.DispatchOptions.{DispatchOptions}
 use Rattle.kfifo_cli_commands.specs.Dispatches.{IsDispatchRefusal, IsTasksFault}
-use Rattle.kfifo_cli_texts.specs.Sizes.{IsShapeOf}
+use Rattle.kfifo_cli_requests.specs.Sizes.{IsShapeOf}
 use Rattle.kfifo_cli_texts.specs.Tasks.{IsFirstUnreadTask, WriteTasks}
 
 -- why tasks are refused, by the fault

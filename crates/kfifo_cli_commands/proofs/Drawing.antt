@@ -6,7 +6,7 @@ use Rattle.kfifo_cli_texts.specs.declared.fault.Fault.TheVariants.{Shape, Word, 
 use Rattle.kfifo_cli_texts.specs.declared.fault.Fault.TheVariants.{NotJson, Record, Search, RepeatedItem, Import, TooManyDrawn}
 use Rattle.kfifo_cli_texts.specs.declared.fault.Fault.TheVariants.{Contradiction, Stretch, NoLines, NoEvidence, Unexplained, Memory, Output}
 use Rattle.kfifo_cli_commands.specs.declared.cut.Cut.{Cut}
-use Rattle.kfifo_cli_texts.specs.declared.requests.DrawOptions.{DrawOptions}
+use Rattle.kfifo_cli_requests.specs.declared.requests.DrawOptions.{DrawOptions}
 use Rattle.kfifo_cli_commands.specs.Cuts.{AsksFor, IsCutFault}
 use Rattle.kfifo_cli_commands.specs.Pictures.{IsDrawRefusal, IsNoPicture, IsUndrawn}
 use Rattle.kfifo_cli_commands.specs.Records.{IsInput, IsOrderFault, IsUnread, ReadsWell}

@@ -11,7 +11,7 @@ use Rattle.kfifo_replay.specs.Steps.{AreSteps}
 use Rattle.kfifo_replay.specs.Traces.{IsTrace, Traces, Tracing, max_steps}
 use Rattle.kfifo_cli_texts.specs.declared.fault.Fault.TheVariants.{Memory, Replay, Trace}
 use Rattle.kfifo_cli_texts.specs.TraceLines.{trace_lines}
-use Rattle.kfifo_cli_texts.specs.declared.requests.ReplayOptions.{ReplayOptions}
+use Rattle.kfifo_cli_requests.specs.declared.requests.ReplayOptions.{ReplayOptions}
 use Rattle.kfifo_cli_commands.specs.Replays.{IsLong, IsReportText, IsTracedText, IsUnplayed, Makes, traces}
 
 module _ (shape : Shape) (scripts : List (List Begin)) (picks : List ℕ) (count : ℕ)

@@ -2,9 +2,9 @@
 use Rattle.std.proofs.Common.{◌≡◌, ℕ, ◌+◌, sym, subst, refl, inl, inr, ◌⊎◌}
 use Rattle.kfifo_cli_commands.proofs.Types.{Fault, Shape}
 use Rattle.kfifo_cli_texts.specs.declared.fault.Fault.TheVariants.{Word, Memory}
-use Rattle.kfifo_cli_texts.specs.declared.requests.RunOptions.{RunOptions}
+use Rattle.kfifo_cli_requests.specs.declared.requests.RunOptions.{RunOptions}
 use Rattle.kfifo_cli_commands.specs.Runs.{IsRunRefusal}
-use Rattle.kfifo_cli_texts.specs.Sizes.{IsShapeOf}
+use Rattle.kfifo_cli_requests.specs.Sizes.{IsShapeOf}
 use Rattle.kfifo_cli_texts.specs.Words.{IsFirstUnread}
 
 -- the fault of the words is one of the command

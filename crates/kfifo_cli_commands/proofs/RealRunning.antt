@@ -7,10 +7,10 @@ use Rattle.kfifo_live.specs.declared.fault.OpenFault.TheVariants as opens
 use Rattle.kfifo_record.specs.Repeats.{IsFirstOver, all_repeated, last_shift}
 use Rattle.kfifo_record.specs.Scripts.{AreScripts, IsCall, longest}
 use Rattle.kfifo_cli_texts.specs.declared.fault.Fault.TheVariants.{Memory, Open, Word}
-use Rattle.kfifo_cli_texts.specs.declared.requests.RecordOptions.{RecordOptions}
+use Rattle.kfifo_cli_requests.specs.declared.requests.RecordOptions.{RecordOptions}
 use Rattle.kfifo_cli_texts.specs.Orders.{comma_parts}
 use Rattle.kfifo_cli_commands.specs.RealRuns.{GivesScripts, IsQueueFault, IsRealRunRefusal}
-use Rattle.kfifo_cli_texts.specs.Sizes.{IsShapeOf}
+use Rattle.kfifo_cli_requests.specs.Sizes.{IsShapeOf}
 use Rattle.kfifo_cli_texts.specs.Scripts.{IsFirstUnreadScript, WriteScripts, WritesScript, texts_of}
 use Rattle.kfifo_cli_texts.specs.Words.{EachWrites, WritesCall}
 

@@ -7,7 +7,7 @@ use Rattle.kfifo_judge.specs.Check.{IsCheckFault}
 use Rattle.kfifo_judge.specs.Measure.{IsMeasuringFault}
 use Rattle.kfifo_cli_commands.proofs.Types.{Fault}
 use Rattle.kfifo_cli_texts.specs.declared.fault.Fault.TheVariants.{Memory, Order, Input, Output}
-use Rattle.kfifo_cli_texts.specs.declared.requests.CheckOptions.{CheckOptions}
+use Rattle.kfifo_cli_requests.specs.declared.requests.CheckOptions.{CheckOptions}
 use Rattle.kfifo_cli_texts.specs.Faults.{stream_fault}
 use Rattle.kfifo_cli_texts.specs.Orders.{GivesNoOrder, GivesOrder}
 use Rattle.kfifo_cli_commands.specs.Records.{IsCheckRefusal, IsInput, IsMeasureRefusal, IsOfInput, IsOrder, IsStreamFault, GivesSomeOrder}

@@ -3,11 +3,11 @@ use Rattle.std.proofs.Common.{◌≡◌, ◌⊎◌, ℕ, ◌+◌, Bool, true, fa
 use Rattle.kfifo_cli_commands.proofs.Types.{Begin, Fault, Group, Shape}
 use Rattle.kfifo_replay.specs.declared.fault.ReplayFault.{ReplayFault}
 use Rattle.kfifo_cli_texts.specs.declared.fault.Fault.TheVariants.{Memory, Picks, Word}
-use Rattle.kfifo_cli_texts.specs.declared.requests.ReplayOptions.{ReplayOptions}
+use Rattle.kfifo_cli_requests.specs.declared.requests.ReplayOptions.{ReplayOptions}
 use Rattle.kfifo_cli_texts.specs.Picks.{GivesGroups, GivesNoGroups, picks_of}
 use Rattle.kfifo_cli_commands.specs.Replays.{Gives, IsLongTrace, IsPlainText, IsRefusal, IsReplayFault, IsReplayRefusal, IsReplayText}
 use Rattle.kfifo_cli_commands.specs.Replays.{IsTraceFault, IsTracedText, IsUnplayed, traces}
-use Rattle.kfifo_cli_texts.specs.Sizes.{IsShapeOf}
+use Rattle.kfifo_cli_requests.specs.Sizes.{IsShapeOf}
 use Rattle.kfifo_cli_texts.specs.Scripts.{IsFirstUnreadScript, WriteScripts}
 
 module _ (options : ReplayOptions) (shape : Shape) (shaped : IsShapeOf options.sizes shape) (k : ℕ) (same : k ≡ shape.k) where

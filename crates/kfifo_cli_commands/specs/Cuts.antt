@@ -10,7 +10,7 @@ use Rattle.kfifo_cli_texts.specs.declared.fault.Fault.{Fault}
 use Rattle.kfifo_cli_texts.specs.declared.fault.Fault.TheVariants as faults
 use Rattle.kfifo_cli_texts.specs.declared.stretch.Stretch.{Stretch}
 use Rattle.kfifo_cli_texts.specs.Stretches.{WritesStretch}
-use Rattle.kfifo_cli_texts.specs.declared.requests.DrawOptions.{DrawOptions}
+use Rattle.kfifo_cli_requests.specs.declared.requests.DrawOptions.{DrawOptions}
 use Rattle.kfifo_cli_commands.specs.declared.cut.Cut.{Cut}
 use Rattle.kfifo_cli_commands.specs.declared.cut.Cut.TheVariants as cuts
 

@@ -9,8 +9,8 @@ use Rattle.kfifo_dispatch.specs.Tasks.{HasRepeatedId, IsFinishedList}
 use Rattle.kfifo_dispatch.specs.Working.{HasRun, SaysNothing}
 use Rattle.kfifo_cli_texts.specs.declared.fault.Fault.{Fault}
 use Rattle.kfifo_cli_texts.specs.declared.fault.Fault.TheVariants as faults
-use Rattle.kfifo_cli_texts.specs.declared.requests.DispatchOptions.{DispatchOptions}
-use Rattle.kfifo_cli_texts.specs.Sizes.{IsShapeFault, IsShapeOf}
+use Rattle.kfifo_cli_requests.specs.declared.requests.DispatchOptions.{DispatchOptions}
+use Rattle.kfifo_cli_requests.specs.Sizes.{IsShapeFault, IsShapeOf}
 use Rattle.kfifo_cli_texts.specs.Tasks.{IsFirstUnreadTask, WriteTasks, finished_line}
 
 -- the shape and the tasks that the options give

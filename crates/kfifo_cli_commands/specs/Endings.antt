@@ -2,9 +2,9 @@
 use Rattle.std.specs.Prelude.{◌≡◌, ◌≢◌, ◌⊎◌, ◌≤◌, ℕ, List, Option}
 use Rattle.kfifo_cli_texts.specs.declared.fault.Fault.{Fault}
 use Rattle.kfifo_cli_texts.specs.declared.fault.Fault.TheVariants.{Input}
-use Rattle.kfifo_cli_texts.specs.declared.requests.Request.{Request}
-use Rattle.kfifo_cli_texts.specs.declared.requests.Request.TheVariants.{Run, Check, Measure, Replay, Judge, Least}
-use Rattle.kfifo_cli_texts.specs.declared.requests.Request.TheVariants.{Record, Import, Draw, Dispatch, Explain}
+use Rattle.kfifo_cli_requests.specs.declared.requests.Request.{Request}
+use Rattle.kfifo_cli_requests.specs.declared.requests.Request.TheVariants.{Run, Check, Measure, Replay, Judge, Least}
+use Rattle.kfifo_cli_requests.specs.declared.requests.Request.TheVariants.{Record, Import, Draw, Dispatch, Explain}
 use Rattle.kfifo_cli_commands.specs.Dispatches.{IsDispatch, IsDispatchRefusal}
 use Rattle.kfifo_cli_texts.specs.Faults.{fault_line}
 use Rattle.kfifo_cli_texts.specs.Printing.{Nothing, Part, Tells, Whole, Written}

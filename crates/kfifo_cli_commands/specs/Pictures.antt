@@ -11,7 +11,7 @@ use Rattle.kfifo_cli_texts.specs.declared.fault.Fault.{Fault}
 use Rattle.kfifo_cli_texts.specs.declared.fault.Fault.TheVariants.{Order, Input, NoInput, NotJson, Record, Import}
 use Rattle.kfifo_cli_texts.specs.declared.fault.Fault.TheVariants.{TooManyDrawn, Contradiction, Stretch, NoLines}
 use Rattle.kfifo_cli_texts.specs.declared.fault.Fault.TheVariants.{NoEvidence, Memory}
-use Rattle.kfifo_cli_texts.specs.declared.requests.DrawOptions.{DrawOptions}
+use Rattle.kfifo_cli_requests.specs.declared.requests.DrawOptions.{DrawOptions}
 use Rattle.kfifo_cli_commands.specs.declared.cut.Cut.{Cut}
 use Rattle.kfifo_cli_commands.specs.Cuts.{AsksFor, IsCutFault, IsOfLines, IsPartOf, LacksEvidence}
 use Rattle.kfifo_judge.specs.Inputs.{BeginsRecord}

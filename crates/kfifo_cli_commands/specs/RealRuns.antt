@@ -11,10 +11,10 @@ use Rattle.kfifo_record.specs.Scripts.{IsRecord, longest}
 use Rattle.kfifo_judge.specs.Inputs.{IsRecordText}
 use Rattle.kfifo_cli_texts.specs.declared.fault.Fault.{Fault}
 use Rattle.kfifo_cli_texts.specs.declared.fault.Fault.TheVariants as faults
-use Rattle.kfifo_cli_texts.specs.declared.requests.RecordOptions.{RecordOptions}
+use Rattle.kfifo_cli_requests.specs.declared.requests.RecordOptions.{RecordOptions}
 use Rattle.kfifo_cli_texts.specs.Lines.{line}
 use Rattle.kfifo_cli_texts.specs.RecordTexts.{record_text}
-use Rattle.kfifo_cli_texts.specs.Sizes.{IsShapeFault, IsShapeOf}
+use Rattle.kfifo_cli_requests.specs.Sizes.{IsShapeFault, IsShapeOf}
 use Rattle.kfifo_cli_texts.specs.Scripts.{IsFirstUnreadScript, WriteScripts}
 
 -- the shape and the scripts that the options give

@@ -10,7 +10,7 @@ use Rattle.kfifo_judge.specs.Streams.{CountsOne}
 use Rattle.kfifo_cli_texts.specs.declared.fault.Fault.{Fault}
 use Rattle.kfifo_cli_texts.specs.declared.fault.Fault.TheVariants.{Order, Input, NotJson, Record, Search, RepeatedItem}
 use Rattle.kfifo_cli_texts.specs.declared.fault.Fault.TheVariants.{Memory}
-use Rattle.kfifo_cli_texts.specs.declared.requests.CheckOptions.{CheckOptions}
+use Rattle.kfifo_cli_requests.specs.declared.requests.CheckOptions.{CheckOptions}
 use Rattle.kfifo_cli_texts.specs.Faults.{stream_fault}
 use Rattle.kfifo_cli_texts.specs.Orders.{GivesNoOrder, GivesOrder}
 

@@ -4,8 +4,8 @@ use Rattle.kfifo_words.specs.declared.shape.Shape.{Shape}
 use Rattle.kfifo_machine.specs.declared.event.Begin.{Begin}
 use Rattle.kfifo_cli_texts.specs.declared.fault.Fault.{Fault}
 use Rattle.kfifo_cli_texts.specs.declared.fault.Fault.TheVariants.{Shape as AtShape, Word, Memory}
-use Rattle.kfifo_cli_texts.specs.declared.requests.RunOptions.{RunOptions}
-use Rattle.kfifo_cli_texts.specs.Sizes.{IsShapeFault, IsShapeOf}
+use Rattle.kfifo_cli_requests.specs.declared.requests.RunOptions.{RunOptions}
+use Rattle.kfifo_cli_requests.specs.Sizes.{IsShapeFault, IsShapeOf}
 use Rattle.kfifo_cli_commands.specs.Reports.{IsReport}
 use Rattle.kfifo_cli_texts.specs.Words.{IsFirstUnread, WritesCalls}
 

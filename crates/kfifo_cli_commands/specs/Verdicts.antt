@@ -7,7 +7,7 @@ use Rattle.kfifo_judge.specs.Bounds.{IsLeastAnswer}
 use Rattle.kfifo_judge.specs.Judgements.{IsJudgeAnswer}
 use Rattle.kfifo_cli_texts.specs.declared.fault.Fault.{Fault}
 use Rattle.kfifo_cli_texts.specs.declared.fault.Fault.TheVariants.{Input, Memory}
-use Rattle.kfifo_cli_texts.specs.declared.requests.JudgeOptions.{JudgeOptions}
+use Rattle.kfifo_cli_requests.specs.declared.requests.JudgeOptions.{JudgeOptions}
 use Rattle.kfifo_cli_commands.specs.Inputs.{IsCalls, IsNoCalls, logged_calls}
 use Rattle.kfifo_cli_commands.specs.Records.{IsInput, IsUnread}
 use Rattle.kfifo_cli_commands.specs.Statuses.{outcome_status, status_number}

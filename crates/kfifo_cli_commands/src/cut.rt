@@ -4,7 +4,8 @@ ghost use Rattle.kfifo_cli_commands.specs.Cuts.{AsksFor, Contradict, IsCutFault,
 ghost use Rattle.kfifo_cli_texts.specs.declared.stretch.Stretch.{Stretch as StretchData};
 ghost use Rattle.kfifo_cli_texts.specs.Stretches.{WritesStretch};
 
-use kfifo_cli_texts::{DrawOptions, Fault, Stretch, read_stretch};
+use kfifo_cli_requests::DrawOptions;
+use kfifo_cli_texts::{Fault, Stretch, read_stretch};
 use kfifo_draw::Part;
 
 /// Within how many calls of a named one further calls are drawn.

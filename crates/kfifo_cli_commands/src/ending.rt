@@ -12,7 +12,8 @@ use crate::commands::{
 use crate::explaining::reads_calls;
 use crate::progress::Progress;
 use crate::status::Status;
-use kfifo_cli_texts::{Fault, Printer, Request};
+use kfifo_cli_requests::Request;
+use kfifo_cli_texts::{Fault, Printer};
 use kfifo_judge::Source;
 use std::alloc::Global;
 use std::fmt::Display;

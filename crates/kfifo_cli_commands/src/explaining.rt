@@ -1,6 +1,7 @@
 //! What is wrong, in words: the line behind that of a fault.
 
-use kfifo_cli_texts::{Fault, Request};
+use kfifo_cli_requests::Request;
+use kfifo_cli_texts::Fault;
 use kfifo_import::WrongField;
 use std::io::Write;
 

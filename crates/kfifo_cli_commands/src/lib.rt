@@ -1,5 +1,5 @@
 //! What the program `kfifo` does: its commands over plain options, their answers and statuses. No command line is read
-//! here; `kfifo_cli_texts` has the options, and how words, lines and faults are written.
+//! here; `kfifo_cli_requests` has the options, and `kfifo_cli_texts` how words, lines and faults are written.
 #![tactic(auto)]
 
 mod commands;

@@ -10,7 +10,8 @@ ghost use Rattle.kfifo_cli_commands.specs.Replays.{IsLong, IsRefusal, IsTracedTe
 
 use crate::commands::replay::{behind, count_picks, report_of};
 use crate::progress::{Meter, Progress};
-use kfifo_cli_texts::{Fault, Group, ReplayOptions, push_trace};
+use kfifo_cli_requests::ReplayOptions;
+use kfifo_cli_texts::{Fault, Group, push_trace};
 use kfifo_machine::Begin;
 use kfifo_replay::{MAX_STEPS, ReplayFault, Tracer};
 use kfifo_words::Shape;

@@ -5,7 +5,7 @@ use Rattle.kfifo_machine.specs.declared.event.Begin.{Begin}
 use Rattle.kfifo_machine.specs.declared.event.Begin.TheVariants.{Enqueue, Dequeue, Tick}
 use Rattle.kfifo_cli_texts.specs.Words.{Cuts, WritesNumber, WritesStart, WritesEnqueue, WritesDequeue, WritesCall}
 use Rattle.kfifo_cli_texts.proofs.FirstCut.{IsPlain, IsRest, cut_once, plain_cons}
-use Rattle.kfifo_cli_texts.proofs.Numbers.{own}
+use Rattle.kfifo_cli_requests.proofs.Digits.{own}
 
 rest_of_start : (rest : List ℕ) (start : ℕ) → WritesStart rest start → IsRest 58 rest
 rest_of_start rest start (inl none) = inl none.0

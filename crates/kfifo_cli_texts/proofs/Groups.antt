@@ -8,7 +8,7 @@ use Rattle.kfifo_cli_texts.specs.Orders.{comma_parts}
 use Rattle.kfifo_cli_texts.specs.Scripts.{texts_of}
 use Rattle.kfifo_cli_texts.specs.Words.{EachWrites, WritesNumber}
 use Rattle.kfifo_cli_texts.proofs.FirstCut.{IsPlain, cut_once}
-use Rattle.kfifo_cli_texts.proofs.Numbers.{own}
+use Rattle.kfifo_cli_requests.proofs.Digits.{own}
 
 digits_plain : (number : List ℕ) (n : ℕ) → WritesNumber number n → IsPlain 120 number
 digits_plain number n w = not_in_digits own number 120 w.digits (λ h. omega (arith, h.0, h.1))

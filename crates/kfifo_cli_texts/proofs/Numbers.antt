@@ -1,12 +1,11 @@
 -- Numbers on the command line, in std's words.
 use Rattle.std.proofs.Common.{ℕ, ◌<◌, ◌≤◌, ◌^◌, List, length, arith, Result, Ok, Err, MatchOption}
-use Rattle.std.proofs.lemmas.Str.Parse.{IsNumeralModel, numerals_by_value, tells_by_index, parse_digits, digits_value_short}
+use Rattle.std.proofs.lemmas.Str.Parse.{parse_digits, digits_value_short}
 use Rattle.std.specs.Result.{OkIff, result_ok}
 use Rattle.std.specs.Str.Parse.{digits_value, ParsesUnsigned}
-use Rattle.kfifo_cli_texts.specs.Words.{IsDigits, WritesNumber}
-
-pub own : IsNumeralModel IsDigits (digits_value 10)
-own = numerals_by_value IsDigits tells_by_index
+use Rattle.kfifo_cli_requests.specs.Digits.{IsDigits}
+use Rattle.kfifo_cli_requests.proofs.Digits.{own}
+use Rattle.kfifo_cli_texts.specs.Words.{WritesNumber}
 
 -- what `parse` gives for at most 10 digits is the number that they write
 pub parsed : {E : Type 0} (text : List ℕ) (r : Result ℕ E) → ParsesUnsigned 64 10 text r → IsDigits text → length text ≤ 10

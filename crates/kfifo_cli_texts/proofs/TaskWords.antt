@@ -5,7 +5,7 @@ use Rattle.kfifo_dispatch.specs.declared.task.Task.{Task}
 use Rattle.kfifo_cli_texts.specs.Tasks.{WritesTask}
 use Rattle.kfifo_cli_texts.specs.Words.{WritesNumber}
 use Rattle.kfifo_cli_texts.proofs.FirstCut.{IsPlain, cut_once}
-use Rattle.kfifo_cli_texts.proofs.Numbers.{own}
+use Rattle.kfifo_cli_requests.proofs.Digits.{own}
 
 digits_plain : (number : List ℕ) (n : ℕ) → WritesNumber number n → IsPlain 58 number
 digits_plain number n w = not_in_digits own number 58 w.digits (λ h. omega (arith, h.0, h.1))

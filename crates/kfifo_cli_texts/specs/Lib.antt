@@ -5,7 +5,6 @@ pub mod Picks
 pub mod Printing
 pub mod RecordTexts
 pub mod Scripts
-pub mod Sizes
 pub mod Stretches
 pub mod Tasks
 pub mod TraceLines

@@ -2,15 +2,11 @@
 use Rattle.std.specs.Prelude.{◌≡◌, ◌≢◌, ℕ, ◌<◌, ◌≤◌, ◌⊎◌, List, [], ◌∷◌, ◌++◌, length, slice_index, slice_index_or}
 use Rattle.std.specs.Prelude.{EachIndex}
 use denote.Ref.{Bor}
-use Rattle.std.specs.Int.{IsInRange}
 use Rattle.std.specs.Str.Parse.{digits_value}
 use Rattle.kfifo_words.specs.declared.word.TheConstants.{VALUES}
+use Rattle.kfifo_cli_requests.specs.Digits.{IsDigits}
 use Rattle.kfifo_machine.specs.declared.event.Begin.{Begin}
 use Rattle.kfifo_machine.specs.declared.event.Begin.TheVariants.{Enqueue, Dequeue, Tick}
-
--- each byte is a decimal digit
-abbrev pub IsDigits : List ℕ → Type 0
-IsDigits text = EachIndex text (λ i. IsInRange 48 57 (slice_index text i))
 
 -- 1 to 10 decimal digits write this number
 pub record WritesNumber (text : List ℕ) (number : ℕ) : Type 0 where

@@ -1,6 +1,5 @@
-//! What a command of the program `kfifo` is asked to do, and how the program reads its words and writes its lines:
-//! numbers, calls, orders, picks and tasks, the records of histories, the lines of calls, of traces and of faults, and
-//! the printer that all of it goes to.
+//! How the program `kfifo` reads its words and writes its lines: numbers, calls, orders, picks and tasks, the records of
+//! histories, the lines of calls, of traces and of faults, and the printer that all of it goes to.
 #![tactic(auto)]
 
 mod fault;
@@ -9,8 +8,6 @@ mod picks;
 mod printing;
 mod recording;
 mod report;
-mod requests;
-mod sizes;
 mod stretch;
 mod tasks;
 mod topics;
@@ -23,13 +20,8 @@ pub use picks::{Group, MAX_PICKS, read_picks};
 pub use printing::Printer;
 pub use recording::{record_line, record_text};
 pub use report::{push_dequeue, push_ends, push_enqueue, push_slot};
-pub use requests::{
-    CheckOptions, DispatchOptions, DrawOptions, ExplainOptions, ImportOptions, JudgeOptions,
-    LeastOptions, RecordOptions, ReplayOptions, Request, RunOptions,
-};
-pub use sizes::Sizes;
 pub use stretch::{Stretch, read_stretch};
 pub use tasks::{finished_lines, read_tasks};
-pub use topics::{Topic, explanation};
+pub use topics::explanation;
 pub use trace::push_trace;
 pub use words::{order_of, read_calls, read_scripts};

@@ -1,22 +1,10 @@
 //! What faults and answers mean: found in the help, by their words as they are printed.
 
+use kfifo_cli_requests::{Help, HelpTexts, Topic};
 use std::alloc::{AllocError, Global};
 
 /// How a line of help begins that goes on with the line before it.
 const CONTINUED: &str = "               ";
-
-/// A fault or an answer.
-#[derive(Clone, Copy)]
-pub struct Topic {
-    /// The words that it is printed with, up to where they tell it from others; in them `#` stands for a number.
-    pub words: &'static str,
-    /// The number of the help that says what it means.
-    pub help: usize,
-    /// How the line begins that says so.
-    pub line: &'static str,
-    /// What is allowed, and what to do: whole lines.
-    pub advice: &'static str,
-}
 
 /// Whether the word is the one of the pattern.
 fn fits(word: &str, pattern: &str) -> bool {
@@ -53,6 +41,23 @@ fn words_in<'a>(alloc: Global, arguments: &[&'a str]) -> Result<Vec<&'a str>, Al
     Ok(words)
 }
 
+/// The text of a help.
+fn text_of<'a>(helps: &HelpTexts<'a>, help: Help) -> &'a str {
+    match help {
+        Help::Run => helps.run,
+        Help::Check => helps.check,
+        Help::Measure => helps.measure,
+        Help::Replay => helps.replay,
+        Help::Judge => helps.judge,
+        Help::Least => helps.least,
+        Help::Record => helps.record,
+        Help::Import => helps.import,
+        Help::Draw => helps.draw,
+        Help::Dispatch => helps.dispatch,
+        Help::Explain => helps.explain,
+    }
+}
+
 /// Adds the lines of a help that say what a topic means.
 fn push_meaning(text: &mut String, help: &str, topic: &Topic) -> Result<(), AllocError> {
     let mut inside = false;
@@ -67,20 +72,18 @@ fn push_meaning(text: &mut String, help: &str, topic: &Topic) -> Result<(), Allo
 }
 
 /// What is said of the first of the topics with which the arguments begin, none where they begin with none: its lines
-/// of the help, and what is allowed and what to do. The topics name the helps by their places.
+/// of the help, and what is allowed and what to do.
 pub fn explanation(
     alloc: Global,
     arguments: &[&str],
     topics: &[Topic],
-    helps: &[&str],
+    helps: &HelpTexts<'_>,
 ) -> Result<Option<String>, AllocError> {
     let words = words_in(alloc, arguments)?;
     for topic in topics {
         if begin_with(words.as_slice(), topic.words) {
             let mut text = String::new(alloc);
-            if let Some(help) = helps.get(topic.help) {
-                push_meaning(&mut text, help, topic)?;
-            }
+            push_meaning(&mut text, text_of(helps, topic.help), topic)?;
             text.push_str(topic.advice)?;
             return Ok(Some(text));
         }

@@ -2,7 +2,8 @@
 ghost use Rattle.std.specs.Prelude.{◌≡◌, ℕ, ◌+◌, ◌^◌, ◌<◌, ◌≤◌, ◌↔◌, ◌⊎◌, IsTrue, List, MatchOption, MatchResult, IfOk};
 ghost use Rattle.std.specs.Prelude.{IfErr, length, map};
 ghost use Rattle.kfifo_judge.specs.declared.streams.TheConstants.{MAX_BYTES};
-ghost use Rattle.kfifo_cli_texts.specs.Words.{Cuts, EachWrites, IsDigits, WritesNumber, WritesStart, WritesCall};
+ghost use Rattle.kfifo_cli_requests.specs.Digits.{IsDigits};
+ghost use Rattle.kfifo_cli_texts.specs.Words.{Cuts, EachWrites, WritesNumber, WritesStart, WritesCall};
 ghost use Rattle.kfifo_cli_texts.specs.Words.{WritesCalls, IsFirstUnread};
 ghost use Rattle.kfifo_cli_texts.specs.Orders.{GivesNoOrder, GivesOrder, WriteNumbers, WritesOrder, WritesSpacedOrder};
 ghost use Rattle.kfifo_cli_texts.specs.Orders.{part_of};

@@ -1,2 +1,4 @@
+mod Answering
 mod Logs
 mod Pictures
+mod Refusing

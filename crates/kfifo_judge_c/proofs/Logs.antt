@@ -1,10 +1,12 @@
 -- The log that the calls of C are.
-use Rattle.std.proofs.Common.{ℕ, ◌≡◌, ◌∙◌, ◌<◌, ◌≤◌, ◌+◌, List, MatchResult, None, Option, Result, Ok, Err, Some, arith, length, map}
+use Rattle.std.proofs.Common.{ℕ, ◌≡◌, ◌∙◌, ◌<◌, ◌≤◌, ◌+◌, List, MatchResult, None, Result, Ok, Err, Some, arith}
+use Rattle.std.proofs.Common.{length, map, sym}
 use Rattle.std.specs.Prelude.{position}
 use Rattle.std.specs.List.{enumerate_from}
 use Rattle.std.proofs.lemmas.List.{length-map}
 use Rattle.std.proofs.lemmas.List.FromFn.{length-enumerate_from}
 use Rattle.std.proofs.lemmas.List.Quantifiers.{position-Some}
+use Rattle.std.proofs.lemmas.Option.{none-some}
 use Rattle.kfifo_import.specs.declared.log.ImportFault.{ImportFault}
 use Rattle.kfifo_import.specs.declared.log.ImportFault.TheVariants as faults
 use Rattle.kfifo_import.specs.declared.log.Line.{Line}
@@ -13,7 +15,7 @@ use Rattle.kfifo_import.specs.Foreign.{AreToJudge, line_with}
 use Rattle.kfifo_import.specs.Logs.{IsImportFault, IsLogOf}
 use Rattle.kfifo_model.specs.declared.reading.TheConstants.{MAX_CALLS}
 use Rattle.kfifo_judge_c.specs.declared.calls.LogCall.{LogCall}
-use Rattle.kfifo_judge_c.specs.Lines.{IsCallsFault, IsLogOfCalls, is_unknown, line_of, lines_of}
+use Rattle.kfifo_judge_c.specs.Lines.{AreKnownToTheLimit, IsCallsFault, IsLogOfCalls, is_unknown, line_of, lines_of}
 
 -- there are as many lines as calls
 pub as_many : (calls : List LogCall) → length (lines_of calls) ≡ length calls
@@ -33,6 +35,10 @@ all_known calls place is far small =
     let inside = (position-Some is_unknown calls place none is).0 in
     absurd (omega (arith, inside, small, far))
 
+-- where no call is unknown, none is among the first that may be there
+pub known_to_the_limit : (calls : List LogCall) → position is_unknown calls ≡ None → AreKnownToTheLimit calls
+known_to_the_limit calls known place is = absurd (none-some place (sym known ∙ is))
+
 -- the log of the lines is that of the calls
 pub of_calls : (calls : List LogCall) (judged : List Line) (r : Result Log ImportFault) → position is_unknown calls ≡ None
     → AreToJudge (lines_of calls) judged
@@ -45,10 +51,10 @@ of_calls calls judged (Err faults.TooMany) known to_judge is =
     let mapped = length-map (lines_of calls) (line_with to_judge.0) in
     let same = as_many calls in
     let many : MAX_CALLS < length (map (line_with to_judge.0) (lines_of calls)) = rw to_judge.3 at is in
-    omega (arith, mapped, same, many)
+    (omega (arith, mapped, same, many), known_to_the_limit calls known)
 of_calls calls judged (Err (faults.NotACall n)) known to_judge is = absurd is
-of_calls calls judged (Err (faults.NumberOutOfRange n)) known to_judge is = (judged, to_judge, is)
-of_calls calls judged (Err (faults.WrongAnswer n)) known to_judge is = (judged, to_judge, is)
-of_calls calls judged (Err (faults.EndsEarly n)) known to_judge is = (judged, to_judge, is)
-of_calls calls judged (Err (faults.Overlap n)) known to_judge is = (judged, to_judge, is)
+of_calls calls judged (Err (faults.NumberOutOfRange n)) known to_judge is = (known, (judged, to_judge, is))
+of_calls calls judged (Err (faults.WrongAnswer n)) known to_judge is = (known, (judged, to_judge, is))
+of_calls calls judged (Err (faults.EndsEarly n)) known to_judge is = (known, (judged, to_judge, is))
+of_calls calls judged (Err (faults.Overlap n)) known to_judge is = (known, (judged, to_judge, is))
 of_calls calls judged (Err faults.Memory) known to_judge is = tt

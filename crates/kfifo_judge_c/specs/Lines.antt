@@ -1,5 +1,6 @@
 -- The calls of C as the lines of a log in CSV, which has a header and then a line for each call.
-use Rattle.std.specs.Prelude.{ℕ, ◌≡◌, ◌+◌, ◌<◌, ◌||◌, List, Bool, Option, Some, None, cond, eqb, ltb, length, map, position}
+use Rattle.std.specs.Prelude.{ℕ, ◌≡◌, ◌+◌, ◌<◌, ◌≤◌, ◌||◌, List, Bool, Option, Some, None, cond}
+use Rattle.std.specs.Prelude.{eqb, ltb, length, map, position}
 use Rattle.std.specs.List.{enumerate_from}
 use Rattle.kfifo_model.specs.declared.calls.Answer.{Answer}
 use Rattle.kfifo_model.specs.declared.calls.Answer.TheVariants.{Done, Full, Got, Empty, Busy, Worn}
@@ -62,6 +63,10 @@ lines_of calls = map (λ e. line_of (e.0 + 2) e.1) (enumerate_from 0 calls)
 abbrev pub is_unknown : LogCall → Bool
 is_unknown c = ltb GET c.op
 
+-- no call among the first MAX_CALLS is unknown
+abbrev pub AreKnownToTheLimit : List LogCall → Type 0
+AreKnownToTheLimit calls = (place : ℕ) → position is_unknown calls ≡ Some place → MAX_CALLS ≤ place
+
 -- The history is the record of these calls, to be judged, and this is what the log says of its calls.
 pub record IsLogOfCalls (calls : List LogCall) (h : List Call) (logged : List LoggedCall) : Type 0 where
   pub known : position is_unknown calls ≡ None
@@ -69,16 +74,17 @@ pub record IsLogOfCalls (calls : List LogCall) (h : List Call) (logged : List Lo
   pub to_judge : AreToJudge (lines_of calls) judged
   pub log : IsLogOf judged h logged
 
--- the lines of these calls, to be judged, have this fault
+-- no call is unknown, and the lines of these calls, to be judged, have this fault
 abbrev pub IsFaultOfLines : List LogCall → ImportFault → Type 0
-IsFaultOfLines calls fault = (judged : List Line) × AreToJudge (lines_of calls) judged × IsImportFault judged fault
+IsFaultOfLines calls fault = (position is_unknown calls ≡ None)
+    × ((judged : List Line) × AreToJudge (lines_of calls) judged × IsImportFault judged fault)
 
 -- Why the calls are no log: first of those that may be read one that is neither a put nor a get, then too many, and then
 -- the first fault of the lines.
 abbrev pub IsCallsFault : List LogCall → ImportFault → Type 0
 IsCallsFault calls (NotACall n) = (place : ℕ) × (position is_unknown calls ≡ Some place) × (place < MAX_CALLS)
     × (n ≡ place + 2)
-IsCallsFault calls TooMany = MAX_CALLS < length calls
+IsCallsFault calls TooMany = (MAX_CALLS < length calls) × AreKnownToTheLimit calls
 IsCallsFault calls (Csv n) = ⊥
 IsCallsFault calls (NumberOutOfRange n) = IsFaultOfLines calls (NumberOutOfRange n)
 IsCallsFault calls (WrongAnswer n) = IsFaultOfLines calls (WrongAnswer n)

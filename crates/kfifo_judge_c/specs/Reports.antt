@@ -1,5 +1,5 @@
 -- What an export answers: a report, handed to C by its status and what it writes.
-use Rattle.std.specs.Prelude.{ℕ, ◌≡◌, ◌≤◌, ◌⊎◌, ◌++◌, List, [], Option, Some, None, Bool, false, drop, length, string_bytes, take}
+use Rattle.std.specs.Prelude.{ℕ, ◌≡◌, ◌≤◌, ◌⊎◌, ◌++◌, List, [], false, drop, length, string_bytes, take}
 use Rattle.std.specs.Prelude.{unwrap_or}
 use Rattle.kfifo_model.specs.declared.calls.Call.{Call}
 use Rattle.kfifo_import.specs.declared.log.ImportFault.{ImportFault}
@@ -18,6 +18,10 @@ use Rattle.kfifo_judge_c.specs.declared.report.Found.{Found}
 use Rattle.kfifo_judge_c.specs.declared.report.Report.{Report}
 use Rattle.kfifo_judge_c.specs.declared.status.TheConstants.{LEGAL, NO_ORDER, UNDECIDED, FAULT, BAD_CALL, NO_MEMORY}
 use Rattle.kfifo_judge_c.specs.Lines.{IsCallsFault, IsLogOfCalls}
+
+-- the report has no bounds of the least k
+abbrev pub HasNoBounds : Report → Type 0
+HasNoBounds r = (r.at_least ≡ 0) × (r.at_most ≡ 0)
 
 -- As much of a list as there is room for is written over what was there.
 abbrev pub Writes : List ℕ → List ℕ → List ℕ → Type 0
@@ -84,12 +88,13 @@ pub record IsVerdictOn (k : ℕ) (h : List Call) (logged : List LoggedCall) (r :
   pub status_is : r.status ≡ judgement_status judgement
   pub named_are : r.named.items ≡ named_in h judgement
   pub no_fault : (r.fault ≡ 0) × (r.place ≡ 0)
+  pub no_bounds : HasNoBounds r
 
 -- The report is of bounds of the least k, as `kfifo least` prints them.
 pub record IsLeastOn (h : List Call) (logged : List LoggedCall) (r : Report) : Type 0 where
   pub no_fault : (r.fault ≡ 0) × (r.place ≡ 0)
   pub none_named : r.named.items ≡ []
-  pub least : ((r.status ≡ NO_ORDER) × HasNoLeast logged h (string_bytes r.text) × (r.at_least ≡ 0) × (r.at_most ≡ 0))
+  pub least : ((r.status ≡ NO_ORDER) × HasNoLeast logged h (string_bytes r.text) × HasNoBounds r)
       ⊎ ((r.status ≡ LEGAL) × ((bounds : Bounds) × HasBounds h bounds (string_bytes r.text)
       × (r.at_least ≡ bounds.at_least) × (r.at_most ≡ unwrap_or bounds.at_most 0)))
 
@@ -99,18 +104,24 @@ pub record IsFaultReport (fault : ImportFault) (r : Report) : Type 0 where
   pub number : r.fault ≡ fault_number fault
   pub line : r.place ≡ fault_line fault
   pub none_named : r.named.items ≡ []
+  pub no_bounds : HasNoBounds r
 
 -- what is found of these calls: P of their log, or the fault that they have
 abbrev pub IsFoundOf : (List Call → List LoggedCall → Report → Type 0) → List LogCall → Report → Type 0
 IsFoundOf P calls r = ((h : List Call) × (logged : List LoggedCall) × IsLogOfCalls calls h logged × P h logged r)
     ⊎ ((fault : ImportFault) × IsCallsFault calls fault × IsFaultReport fault r)
 
+-- nothing is written
+abbrev pub IsUnwritten : List ℕ → List ℕ → List ℕ → List ℕ → Found → Found → Type 0
+IsUnwritten old_text new_text old_named new_named old_found new_found =
+    (new_text ≡ old_text) × (new_named ≡ old_named) × (new_found ≡ old_found)
+
 -- An export's answer: BAD_CALL where an argument is out of range, NO_MEMORY where an allocation failed, with nothing
 -- written, or a report of which P holds.
 abbrev pub Answers : Type 0 → (Report → Type 0) → ℕ → List ℕ → List ℕ → List ℕ → List ℕ → Found → Found → Type 0
 Answers InRange P status old_text new_text old_named new_named old_found new_found =
-    ((status ≡ BAD_CALL) × ¬ InRange × (new_text ≡ old_text) × (new_named ≡ old_named) × (new_found ≡ old_found))
-    ⊎ (InRange × (status ≡ NO_MEMORY) × (new_text ≡ old_text) × (new_named ≡ old_named) × (new_found ≡ old_found))
+    ((status ≡ BAD_CALL) × ¬ InRange × IsUnwritten old_text new_text old_named new_named old_found new_found)
+    ⊎ (InRange × (status ≡ NO_MEMORY) × IsUnwritten old_text new_text old_named new_named old_found new_found)
     ⊎ (InRange × ((r : Report) × P r × IsHanded r status old_text new_text old_named new_named new_found))
 
 abbrev pub IsK : ℕ → Type 0

@@ -12,7 +12,7 @@ use Rattle.kfifo_judge.specs.Inputs.{BeginsRecord, IsRecordText}
 use Rattle.kfifo_judge.specs.TextFaults.{IsTextFault}
 use Rattle.kfifo_judge_c.specs.declared.report.Report.{Report}
 use Rattle.kfifo_judge_c.specs.declared.status.TheConstants.{FAULT}
-use Rattle.kfifo_judge_c.specs.Reports.{IsFaultReport, IsVerdictOn}
+use Rattle.kfifo_judge_c.specs.Reports.{HasNoBounds, IsFaultReport, IsVerdictOn}
 
 -- The calls of the text are judged.
 abbrev pub IsJudgedText : ℕ → List ℕ → Report → Type 0
@@ -35,6 +35,7 @@ pub record IsRecordReport (fault : StreamFault) (r : Report) : Type 0 where
   pub status_is : r.status ≡ FAULT
   pub place_is : (r.fault, r.place) ≡ record_place fault
   pub none_named : r.named.items ≡ []
+  pub no_bounds : HasNoBounds r
 
 -- The text has a fault as a record, or as a log.
 abbrev pub IsFaultyText : List ℕ → Report → Type 0

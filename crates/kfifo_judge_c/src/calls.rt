@@ -167,7 +167,8 @@ fn first_unknown(calls: &[LogCall]) -> Option<usize>
     calls.iter().position(|call| call.op > GET)
 }
 
-/// The log that these calls are, to be judged.
+/// The log that these calls are, to be judged. The first of these faults is reported: a call that is neither a put nor
+/// a get, among the first MAX_CALLS; more than MAX_CALLS calls; and then the first fault of the lines.
 pub(crate) fn log_from(alloc: Global, calls: &[LogCall]) -> Result<Log, ImportFault>
     ensures { MatchResult result (λ log. IsLogOfCalls calls.now log.history log.calls.items)
         (IsCallsFault calls.now) }

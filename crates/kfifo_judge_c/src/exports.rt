@@ -8,8 +8,8 @@ ghost use Rattle.kfifo_judge_c.specs.Texts.{IsFoundOfText};
 use crate::calls::LogCall;
 use crate::drawing::draw_calls;
 use crate::judging::{judge_calls, least_of_calls};
-use crate::report::Found;
-use crate::status::{BAD_CALL, NO_MEMORY};
+use crate::report::{Found, hand_over};
+use crate::status::BAD_CALL;
 use crate::texts::judge_bytes;
 use std::alloc::Global;
 
@@ -21,9 +21,11 @@ fn is_k(k: u32) -> bool
 }
 
 /// Judges these calls for a queue whose gets may give any of its k oldest items, 1 to 64, with at most `tries` choices
-/// of the search for an order undone. Returns LEGAL, NO_ORDER, UNDECIDED or FAULT, and writes as much of the text and of
-/// the numbers of the calls that it names as there is room for, and how many they are; BAD_CALL where k is out of range,
-/// and NO_MEMORY where an allocation failed, with nothing written.
+/// of the search for an order undone. Returns LEGAL, NO_ORDER, UNDECIDED or FAULT, and writes as much of the text and
+/// of the numbers of the calls that it names as there is room for, and how many they are. The bounds of the least k
+/// that it writes are 0. Of several faults it reports the first: of the first 65,536 calls one that is neither a put
+/// nor a get, then too many calls, and then the first fault of the lines. Returns BAD_CALL where k is out of range, and
+/// NO_MEMORY where an allocation failed, with nothing written.
 #[unsafe(no_mangle)]
 pub extern "C" fn kfifo_judge_c_calls(
     alloc: Global,
@@ -40,10 +42,7 @@ pub extern "C" fn kfifo_judge_c_calls(
     if !is_k(k) {
         return BAD_CALL;
     }
-    match judge_calls(alloc, calls, k, tries) {
-        Ok(report) => report.hand_over(text, named, found),
-        Err(_) => NO_MEMORY,
-    }
+    hand_over(judge_calls(alloc, calls, k, tries), text, named, found)
 }
 
 /// Judges a text, a log in CSV or a record in JSON, as `kfifo_judge_c_calls` judges calls.
@@ -63,14 +62,11 @@ pub extern "C" fn kfifo_judge_c_text(
     if !is_k(k) {
         return BAD_CALL;
     }
-    match judge_bytes(alloc, bytes, k, tries) {
-        Ok(report) => report.hand_over(text, named, found),
-        Err(_) => NO_MEMORY,
-    }
+    hand_over(judge_bytes(alloc, bytes, k, tries), text, named, found)
 }
 
 /// Says between which bounds the least k lies for which these calls have a legal order. Returns LEGAL with the bounds,
-/// NO_ORDER where there is evidence for each k, FAULT or NO_MEMORY.
+/// NO_ORDER where there is evidence for each k, FAULT or NO_MEMORY. Bounds other than 0 are written with LEGAL alone.
 #[unsafe(no_mangle)]
 pub extern "C" fn kfifo_judge_c_least(
     alloc: Global,
@@ -83,14 +79,11 @@ pub extern "C" fn kfifo_judge_c_least(
     ensures { Answers ⊤ (IsFoundOf IsLeastOn calls.now) result text.old text.new named.old named.new
         found.old found.new }
 {
-    match least_of_calls(alloc, calls, tries) {
-        Ok(report) => report.hand_over(text, named, found),
-        Err(_) => NO_MEMORY,
-    }
+    hand_over(least_of_calls(alloc, calls, tries), text, named, found)
 }
 
 /// Draws these calls, or, where `evidence` is true, those near the calls that the evidence against this k names, as an
-/// SVG document or in characters. Returns DRAWN, FAULT, BAD_CALL or NO_MEMORY.
+/// SVG document or in characters. Returns DRAWN, FAULT, BAD_CALL or NO_MEMORY. The bounds that it writes are 0.
 #[unsafe(no_mangle)]
 pub extern "C" fn kfifo_judge_c_draw(
     alloc: Global,
@@ -108,8 +101,10 @@ pub extern "C" fn kfifo_judge_c_draw(
     if !is_k(k) {
         return BAD_CALL;
     }
-    match draw_calls(alloc, calls, k, evidence, svg) {
-        Ok(report) => report.hand_over(text, named, found),
-        Err(_) => NO_MEMORY,
-    }
+    hand_over(
+        draw_calls(alloc, calls, k, evidence, svg),
+        text,
+        named,
+        found,
+    )
 }

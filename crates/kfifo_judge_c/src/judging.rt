@@ -49,15 +49,10 @@ pub(crate) fn fault_report(alloc: Global, fault: ImportFault) -> Result<Report, 
     }
     let mut text = String::new(alloc);
     writeln!(text, "{fault}")?;
-    Ok(Report {
-        status: FAULT,
-        fault: fault_number(fault),
-        place: fault_line(fault),
-        text,
-        named: Vec::new(alloc),
-        at_least: 0,
-        at_most: 0,
-    })
+    let mut report = Report::plain(alloc, FAULT, text);
+    report.fault = fault_number(fault);
+    report.place = fault_line(fault);
+    Ok(report)
 }
 
 /// The calls that a verdict names.
@@ -86,16 +81,9 @@ pub(crate) fn verdict_on(
     ensures { IfOk result (IsVerdictOn k history.now logged.now) }
 {
     let (text, judgement) = judged_text(alloc, history, logged, k, tries, false)?;
-    let named = calls_named(alloc, history, &judgement)?;
-    Ok(Report {
-        status: status_of(&judgement),
-        fault: 0,
-        place: 0,
-        text,
-        named,
-        at_least: 0,
-        at_most: 0,
-    })
+    let mut report = Report::plain(alloc, status_of(&judgement), text);
+    report.named = calls_named(alloc, history, &judgement)?;
+    Ok(report)
 }
 
 /// The report of the bounds of the least k of a history.

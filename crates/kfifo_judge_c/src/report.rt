@@ -1,8 +1,9 @@
 //! What an export finds, and how it is handed to C.
-ghost use Rattle.std.specs.Prelude.{◌≡◌, []};
-ghost use Rattle.kfifo_judge_c.specs.Reports.{IsHanded, Writes};
+ghost use Rattle.std.specs.Prelude.{◌≡◌, [], MatchResult};
+ghost use Rattle.kfifo_judge_c.specs.Reports.{HasNoBounds, IsHanded, IsUnwritten, Writes};
 
-use std::alloc::Global;
+use crate::status::NO_MEMORY;
+use std::alloc::{AllocError, Global};
 
 /// What is found of some calls.
 #[derive(Drop)]
@@ -45,7 +46,7 @@ impl Report {
     /// A report with nothing but a status and a text.
     pub(crate) fn plain(alloc: Global, status: u32, text: String) -> Report
         ensures { (result.status ≡ status) × (result.text ≡ text) × (result.fault ≡ 0) × (result.place ≡ 0)
-            × (result.named.items ≡ []) × (result.at_least ≡ 0) × (result.at_most ≡ 0) }
+            × (result.named.items ≡ []) × HasNoBounds result }
     {
         Report {
             status,
@@ -59,7 +60,7 @@ impl Report {
     }
 
     /// Writes as much of the text and of the named calls as there is room for, and all numbers, and returns the status.
-    pub(crate) fn hand_over(&self, text: &mut [u8], named: &mut [usize], found: &mut Found) -> u32
+    fn write_to(&self, text: &mut [u8], named: &mut [usize], found: &mut Found) -> u32
         ensures { IsHanded self.now result text.old text.new named.old named.new found.new }
     {
         write_bytes(text, self.text.as_bytes());
@@ -73,6 +74,23 @@ impl Report {
             at_most: self.at_most,
         };
         self.status
+    }
+}
+
+/// Writes a report, and returns its status; or returns NO_MEMORY, with nothing written, where there is none.
+pub(crate) fn hand_over(
+    report: Result<Report, AllocError>,
+    text: &mut [u8],
+    named: &mut [usize],
+    found: &mut Found,
+) -> u32
+    ensures { MatchResult report (λ r. IsHanded r result text.old text.new named.old named.new found.new)
+        (λ _. (result ≡ NO_MEMORY)
+        × IsUnwritten text.old text.new named.old named.new found.old found.new) }
+{
+    match report {
+        Ok(report) => report.write_to(text, named, found),
+        Err(_) => NO_MEMORY,
     }
 }
 

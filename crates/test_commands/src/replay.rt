@@ -1,7 +1,8 @@
 //! What a replay tells of how far it has come.
 
 use kfifo_cli_commands::{Progress, Status, carry_out};
-use kfifo_cli_texts::{Fault, Printer, ReplayOptions, Request, Sizes};
+use kfifo_cli_requests::{ReplayOptions, Request, Sizes};
+use kfifo_cli_texts::{Fault, Printer};
 use kfifo_judge::FromStd;
 use kfifo_words::MAX_VERSION;
 use std::alloc::{AllocError, Global};

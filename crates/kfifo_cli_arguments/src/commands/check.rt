@@ -6,7 +6,7 @@ ghost use Rattle.kfifo_cli_arguments.specs.Options.{GivesCheck};
 
 use crate::options;
 use clap::{ArgMatches, Command};
-use kfifo_cli_texts::CheckOptions;
+use kfifo_cli_requests::CheckOptions;
 use std::alloc::{AllocError, Global};
 
 /// The name of the command.

@@ -10,7 +10,7 @@ ghost use Rattle.kfifo_cli_arguments.specs.Options.{GivesDraw, GivesPlaces};
 use crate::commands::check;
 use crate::options;
 use clap::{ArgMatches, Command, value_parser};
-use kfifo_cli_texts::{CheckOptions, DrawOptions};
+use kfifo_cli_requests::{CheckOptions, DrawOptions};
 use std::alloc::{AllocError, Global};
 
 /// The name of the command.

@@ -6,7 +6,7 @@ ghost use Rattle.kfifo_cli_arguments.specs.Options.{GivesExplain};
 
 use crate::topics::{answers, arguments, helps, inputs, statuses, verdicts};
 use clap::{Arg, ArgAction, ArgMatches, Command};
-use kfifo_cli_texts::ExplainOptions;
+use kfifo_cli_requests::ExplainOptions;
 use std::alloc::{AllocError, Global};
 
 /// The name of the command.

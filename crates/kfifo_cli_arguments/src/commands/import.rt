@@ -6,7 +6,7 @@ ghost use Rattle.kfifo_cli_arguments.specs.Options.{GivesFile};
 
 use crate::options;
 use clap::{ArgMatches, Command};
-use kfifo_cli_texts::ImportOptions;
+use kfifo_cli_requests::ImportOptions;
 use std::alloc::{AllocError, Global};
 
 /// The name of the command.

@@ -6,7 +6,7 @@ ghost use Rattle.kfifo_cli_arguments.specs.Options.{GivesJudge};
 
 use crate::options;
 use clap::{ArgMatches, Command};
-use kfifo_cli_texts::JudgeOptions;
+use kfifo_cli_requests::JudgeOptions;
 use std::alloc::{AllocError, Global};
 
 /// The name of the command.

@@ -6,7 +6,7 @@ ghost use Rattle.kfifo_cli_arguments.specs.Options.{GivesLeast};
 
 use crate::options;
 use clap::{ArgMatches, Command};
-use kfifo_cli_texts::LeastOptions;
+use kfifo_cli_requests::LeastOptions;
 use std::alloc::{AllocError, Global};
 
 /// The name of the command.

@@ -6,7 +6,7 @@ ghost use Rattle.kfifo_cli_arguments.specs.Options.{GivesRecord, GivesTimes};
 
 use crate::options;
 use clap::{Arg, ArgAction, ArgMatches, Command, value_parser};
-use kfifo_cli_texts::RecordOptions;
+use kfifo_cli_requests::RecordOptions;
 use std::alloc::{AllocError, Global};
 
 /// The name of the command.

@@ -6,7 +6,7 @@ ghost use Rattle.kfifo_cli_arguments.specs.Options.{GivesReplay};
 
 use crate::options;
 use clap::{Arg, ArgAction, ArgMatches, Command, value_parser};
-use kfifo_cli_texts::ReplayOptions;
+use kfifo_cli_requests::ReplayOptions;
 use std::alloc::{AllocError, Global};
 
 /// The name of the command.

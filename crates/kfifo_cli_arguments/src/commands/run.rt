@@ -6,7 +6,7 @@ ghost use Rattle.kfifo_cli_arguments.specs.Options.{GivesRun};
 
 use crate::options;
 use clap::{Arg, ArgAction, ArgMatches, Command};
-use kfifo_cli_texts::RunOptions;
+use kfifo_cli_requests::RunOptions;
 use std::alloc::{AllocError, Global};
 
 /// The name of the command.

@@ -1,13 +1,12 @@
 //! The answers of the other commands.
 
-use crate::topics::{CHECK, EXPLAIN, REPLAY, RUN};
-use kfifo_cli_texts::Topic;
+use kfifo_cli_requests::{Help, Topic};
 
 /// If two begin alike, the longer one comes first.
 const TOPICS: &[Topic] = &[
     Topic {
         words: "fault 1 repeats",
-        help: CHECK,
+        help: Help::Check,
         line: "  fault 1 repeats",
         advice: "\
 To do: name each call once in --order.
@@ -15,7 +14,7 @@ To do: name each call once in --order.
     },
     Topic {
         words: "fault 2 not a call",
-        help: CHECK,
+        help: Help::Check,
         line: "  fault 2 not a call",
         advice: "\
 To do: name finished calls and unfinished enqueues, by their places from 0.
@@ -23,7 +22,7 @@ To do: name finished calls and unfinished enqueues, by their places from 0.
     },
     Topic {
         words: "fault 3 leaves out",
-        help: CHECK,
+        help: Help::Check,
         line: "  fault 3 leaves out",
         advice: "\
 To do: name each finished call in --order.
@@ -31,7 +30,7 @@ To do: name each finished call in --order.
     },
     Topic {
         words: "fault 4 breaks before",
-        help: CHECK,
+        help: Help::Check,
         line: "  fault 4 breaks before",
         advice: "\
 To do: put a call that has ended before another began in front of that one.
@@ -39,7 +38,7 @@ To do: put a call that has ended before another began in front of that one.
     },
     Topic {
         words: "fault 5 not a run at",
-        help: CHECK,
+        help: Help::Check,
         line: "  fault 5 not a run at",
         advice: "\
 To do: look at the call at this place of the order, from 0: an Empty needs an
@@ -48,7 +47,7 @@ empty list, a Got one of the k oldest items.
     },
     Topic {
         words: "the order",
-        help: EXPLAIN,
+        help: Help::Explain,
         line: "  the order fails",
         advice: "\
 To do: look at the call that is marked.
@@ -56,7 +55,7 @@ To do: look at the call that is marked.
     },
     Topic {
         words: "legal",
-        help: EXPLAIN,
+        help: Help::Explain,
         line: "  legal",
         advice: "\
 To do: nothing.
@@ -64,7 +63,7 @@ To do: nothing.
     },
     Topic {
         words: "call # item # overtaken",
-        help: EXPLAIN,
+        help: Help::Explain,
         line: "  call <N> item <X> overtaken <C>",
         advice: "\
 To do: nothing: in a plain queue each count is 0.
@@ -72,7 +71,7 @@ To do: nothing: in a plain queue each count is 0.
     },
     Topic {
         words: "most",
-        help: EXPLAIN,
+        help: Help::Explain,
         line: "  most <C>",
         advice: "\
 To do: nothing: in a plain queue it is 0.
@@ -80,7 +79,7 @@ To do: nothing: in a plain queue it is 0.
     },
     Topic {
         words: "enqueue #: done",
-        help: RUN,
+        help: Help::Run,
         line: "  done ",
         advice: "\
 To do: nothing.
@@ -88,7 +87,7 @@ To do: nothing.
     },
     Topic {
         words: "enqueue #: full",
-        help: RUN,
+        help: Help::Run,
         line: "  full ",
         advice: "\
 To do: take items first, or make the queue larger by --segments.
@@ -96,7 +95,7 @@ To do: take items first, or make the queue larger by --segments.
     },
     Topic {
         words: "enqueue #: busy",
-        help: RUN,
+        help: Help::Run,
         line: "  busy ",
         advice: "\
 To do: give more --turns: the number of segments plus 2 is enough where no other
@@ -105,7 +104,7 @@ call disturbs.
     },
     Topic {
         words: "enqueue #: worn",
-        help: RUN,
+        help: Help::Run,
         line: "  worn ",
         advice: "\
 To do: make a new queue, or give a greater --last.
@@ -113,7 +112,7 @@ To do: make a new queue, or give a greater --last.
     },
     Topic {
         words: "dequeue: got",
-        help: RUN,
+        help: Help::Run,
         line: "  got <ITEM> ",
         advice: "\
 To do: nothing.
@@ -121,7 +120,7 @@ To do: nothing.
     },
     Topic {
         words: "dequeue: empty",
-        help: RUN,
+        help: Help::Run,
         line: "  empty ",
         advice: "\
 To do: nothing.
@@ -129,7 +128,7 @@ To do: nothing.
     },
     Topic {
         words: "dequeue: busy",
-        help: RUN,
+        help: Help::Run,
         line: "  busy ",
         advice: "\
 To do: give more --turns: the number of segments plus 2 is enough where no other
@@ -138,7 +137,7 @@ call disturbs.
     },
     Topic {
         words: "dequeue: worn",
-        help: RUN,
+        help: Help::Run,
         line: "  worn ",
         advice: "\
 To do: make a new queue, or give a greater --last.
@@ -146,7 +145,7 @@ To do: make a new queue, or give a greater --last.
     },
     Topic {
         words: "done",
-        help: RUN,
+        help: Help::Run,
         line: "  done ",
         advice: "\
 To do: nothing.
@@ -154,7 +153,7 @@ To do: nothing.
     },
     Topic {
         words: "full",
-        help: RUN,
+        help: Help::Run,
         line: "  full ",
         advice: "\
 To do: take items first, or make the queue larger by --segments.
@@ -162,7 +161,7 @@ To do: take items first, or make the queue larger by --segments.
     },
     Topic {
         words: "got",
-        help: RUN,
+        help: Help::Run,
         line: "  got <ITEM> ",
         advice: "\
 To do: nothing.
@@ -170,7 +169,7 @@ To do: nothing.
     },
     Topic {
         words: "empty",
-        help: RUN,
+        help: Help::Run,
         line: "  empty ",
         advice: "\
 To do: nothing.
@@ -178,7 +177,7 @@ To do: nothing.
     },
     Topic {
         words: "busy",
-        help: RUN,
+        help: Help::Run,
         line: "  busy ",
         advice: "\
 To do: give more --turns: the number of segments plus 2 is enough where no other
@@ -187,7 +186,7 @@ call disturbs.
     },
     Topic {
         words: "worn",
-        help: RUN,
+        help: Help::Run,
         line: "  worn ",
         advice: "\
 To do: make a new queue, or give a greater --last.
@@ -195,7 +194,7 @@ To do: make a new queue, or give a greater --last.
     },
     Topic {
         words: "head",
-        help: EXPLAIN,
+        help: Help::Explain,
         line: "  head <S> v<V>",
         advice: "\
 To do: nothing.
@@ -203,7 +202,7 @@ To do: nothing.
     },
     Topic {
         words: "tail",
-        help: EXPLAIN,
+        help: Help::Explain,
         line: "  tail <S> v<V>",
         advice: "\
 To do: nothing.
@@ -211,7 +210,7 @@ To do: nothing.
     },
     Topic {
         words: "slot",
-        help: EXPLAIN,
+        help: Help::Explain,
         line: "  slot <S>.<P> <X> v<V>",
         advice: "\
 To do: nothing.
@@ -219,7 +218,7 @@ To do: nothing.
     },
     Topic {
         words: "steps",
-        help: REPLAY,
+        help: Help::Replay,
         line: "  steps <N>",
         advice: "\
 To do: nothing.
@@ -227,7 +226,7 @@ To do: nothing.
     },
     Topic {
         words: "points",
-        help: REPLAY,
+        help: Help::Replay,
         line: "  points <STEPS>",
         advice: "\
 To do: nothing.
@@ -235,7 +234,7 @@ To do: nothing.
     },
     Topic {
         words: "rollbacks",
-        help: REPLAY,
+        help: Help::Replay,
         line: "  rollbacks <N>",
         advice: "\
 To do: nothing.
@@ -243,7 +242,7 @@ To do: nothing.
     },
     Topic {
         words: "completed",
-        help: REPLAY,
+        help: Help::Replay,
         line: "  completed <N>",
         advice: "\
 To do: nothing.
@@ -251,7 +250,7 @@ To do: nothing.
     },
     Topic {
         words: "# thread #",
-        help: REPLAY,
+        help: Help::Replay,
         line: "  <N> thread <T>",
         advice: "\
 To do: nothing.
@@ -259,7 +258,7 @@ To do: nothing.
     },
     Topic {
         words: "order",
-        help: EXPLAIN,
+        help: Help::Explain,
         line: "  order",
         advice: "\
 To do: of `check`, use `kfifo judge --show` to see the order.
@@ -267,7 +266,7 @@ To do: of `check`, use `kfifo judge --show` to see the order.
     },
     Topic {
         words: "no calls",
-        help: EXPLAIN,
+        help: Help::Explain,
         line: "  no calls",
         advice: "\
 To do: nothing.
@@ -275,7 +274,7 @@ To do: nothing.
     },
     Topic {
         words: "# #",
-        help: EXPLAIN,
+        help: Help::Explain,
         line: "  <ID> <SUM>",
         advice: "\
 To do: nothing.

@@ -1,13 +1,12 @@
 //! Faults of the command line and of what its arguments ask for.
 
-use crate::topics::{CHECK, DISPATCH, DRAW, EXPLAIN, RECORD, REPLAY, RUN};
-use kfifo_cli_texts::Topic;
+use kfifo_cli_requests::{Help, Topic};
 
 /// If two begin alike, the longer one comes first.
 const TOPICS: &[Topic] = &[
     Topic {
         words: "shape fault 1",
-        help: RUN,
+        help: Help::Run,
         line: "  kfifo: shape fault 1",
         advice: "\
 Allowed: -k from 1 to 64, by default 2.
@@ -16,7 +15,7 @@ To do: give another -k.
     },
     Topic {
         words: "shape fault 2",
-        help: RUN,
+        help: Help::Run,
         line: "  kfifo: shape fault 2",
         advice: "\
 Allowed: --segments from 2 to 1024, by default 2.
@@ -25,7 +24,7 @@ To do: give another --segments.
     },
     Topic {
         words: "shape fault 3",
-        help: RUN,
+        help: Help::Run,
         line: "  kfifo: shape fault 3",
         advice: "\
 Allowed: --last from 2 to 1099511627775, the default.
@@ -34,7 +33,7 @@ To do: give another --last, or none.
     },
     Topic {
         words: "shape fault 4",
-        help: RUN,
+        help: Help::Run,
         line: "  kfifo: shape fault 4",
         advice: "\
 Allowed: --probes from 1 to the k of -k, by default k.
@@ -43,7 +42,7 @@ To do: give another --probes, or none.
     },
     Topic {
         words: "word fault",
-        help: RUN,
+        help: Help::Run,
         line: "  kfifo: word fault",
         advice: "\
 Allowed: e<ITEM>, e<ITEM>:<START>, d and d:<START>, an item from 1 to 16777215
@@ -55,7 +54,7 @@ To do: correct the word with this number, counted from 1; of `replay` and
     },
     Topic {
         words: "order fault",
-        help: CHECK,
+        help: Help::Check,
         line: "  kfifo: order fault",
         advice: "\
 Allowed: call numbers of 1 to 10 digits joined by commas, `none`, or @ and the
@@ -65,7 +64,7 @@ To do: correct the value of --order, or the file, of at most 16777216 bytes.
     },
     Topic {
         words: "picks fault",
-        help: REPLAY,
+        help: Help::Replay,
         line: "  kfifo: picks fault",
         advice: "\
 Allowed: `none`, or groups <THREAD> or <THREAD>x<COUNT> joined by commas, at
@@ -75,7 +74,7 @@ To do: correct the value of --picks.
     },
     Topic {
         words: "replay fault 1",
-        help: REPLAY,
+        help: Help::Replay,
         line: "  kfifo: replay fault 1",
         advice: "\
 Allowed: the numbers of scripts, from 0, that have not ended.
@@ -84,7 +83,7 @@ To do: leave this pick out, or give its thread a longer script.
     },
     Topic {
         words: "replay fault 2",
-        help: REPLAY,
+        help: Help::Replay,
         line: "  kfifo: replay fault 2",
         advice: "\
 To do: give the program more memory, or make fewer picks.
@@ -92,7 +91,7 @@ To do: give the program more memory, or make fewer picks.
     },
     Topic {
         words: "replay fault 3",
-        help: REPLAY,
+        help: Help::Replay,
         line: "  kfifo: replay fault 3",
         advice: "\
 Allowed: 1 to 64 scripts of at most 64 calls, and with --stop the number of one
@@ -102,7 +101,7 @@ To do: make fewer or shorter scripts, or name another thread.
     },
     Topic {
         words: "trace fault",
-        help: REPLAY,
+        help: Help::Replay,
         line: "  kfifo: trace fault",
         advice: "\
 Allowed: at most 65536 steps with --trace.
@@ -111,7 +110,7 @@ To do: make fewer picks, or leave out --trace.
     },
     Topic {
         words: "open fault 1",
-        help: RECORD,
+        help: Help::Record,
         line: "  kfifo: open fault 1",
         advice: "\
 Allowed: 1 to 64 scripts, a thread for each.
@@ -120,7 +119,7 @@ To do: make fewer scripts.
     },
     Topic {
         words: "open fault 2",
-        help: RECORD,
+        help: Help::Record,
         line: "  kfifo: open fault 2",
         advice: "\
 To do: give the program more memory, or make the queue smaller.
@@ -128,7 +127,7 @@ To do: give the program more memory, or make the queue smaller.
     },
     Topic {
         words: "open fault 4",
-        help: RECORD,
+        help: Help::Record,
         line: "  kfifo: open fault 4",
         advice: "\
 Allowed: at most 1024 calls of a script times --repeat.
@@ -137,7 +136,7 @@ To do: make the script shorter, or --repeat less.
     },
     Topic {
         words: "dispatch fault 1",
-        help: DISPATCH,
+        help: Help::Dispatch,
         line: "  kfifo: dispatch fault 1",
         advice: "\
 Allowed: at most 1024 tasks.
@@ -146,7 +145,7 @@ To do: dispatch them in several runs.
     },
     Topic {
         words: "dispatch fault 2",
-        help: DISPATCH,
+        help: Help::Dispatch,
         line: "  kfifo: dispatch fault 2",
         advice: "\
 Allowed: each ID once.
@@ -155,7 +154,7 @@ To do: give one of the two tasks another ID.
     },
     Topic {
         words: "dispatch fault 3",
-        help: DISPATCH,
+        help: Help::Dispatch,
         line: "  kfifo: dispatch fault 3",
         advice: "\
 To do: give the program more memory, or dispatch fewer tasks.
@@ -163,7 +162,7 @@ To do: give the program more memory, or dispatch fewer tasks.
     },
     Topic {
         words: "dispatch fault 4",
-        help: DISPATCH,
+        help: Help::Dispatch,
         line: "  kfifo: dispatch fault 4",
         advice: "\
 Allowed: --workers from 1 to 63, by default 2.
@@ -172,7 +171,7 @@ To do: give another --workers.
     },
     Topic {
         words: "draw fault 1",
-        help: DRAW,
+        help: Help::Draw,
         line: "  kfifo: draw fault 1",
         advice: "\
 Allowed: at most 4096 calls in a picture.
@@ -181,7 +180,7 @@ To do: draw a part of the run by --evidence, --calls or --lines.
     },
     Topic {
         words: "draw fault 2",
-        help: DRAW,
+        help: Help::Draw,
         line: "  kfifo: draw fault 2",
         advice: "\
 Allowed: options that do not contradict each other, as `kfifo draw --help` says.
@@ -190,7 +189,7 @@ To do: leave one of them out.
     },
     Topic {
         words: "draw fault 3",
-        help: DRAW,
+        help: Help::Draw,
         line: "  kfifo: draw fault 3",
         advice: "\
 Allowed: two numbers joined by -, the first no greater than the second.
@@ -199,7 +198,7 @@ To do: correct the value of --calls or --lines.
     },
     Topic {
         words: "draw fault 4",
-        help: DRAW,
+        help: Help::Draw,
         line: "  kfifo: draw fault 4",
         advice: "\
 Allowed: --lines of a log in CSV.
@@ -208,7 +207,7 @@ To do: use --calls of a record.
     },
     Topic {
         words: "draw fault 5",
-        help: DRAW,
+        help: Help::Draw,
         line: "  kfifo: draw fault 5",
         advice: "\
 Allowed: at most 4096 calls in a picture.
@@ -218,7 +217,7 @@ evidence for another k.
     },
     Topic {
         words: "explain fault 1",
-        help: EXPLAIN,
+        help: Help::Explain,
         line: "  kfifo: explain fault 1",
         advice: "\
 Allowed: the words of a fault or an answer, as they were printed.
@@ -228,7 +227,7 @@ printed them.
     },
     Topic {
         words: "error:",
-        help: EXPLAIN,
+        help: Help::Explain,
         line: "  error:",
         advice: "\
 To do: see the usage below the error, or `kfifo --help`.

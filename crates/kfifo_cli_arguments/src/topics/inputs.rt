@@ -1,13 +1,12 @@
 //! Faults of what is read, and of the machine that the program runs on.
 
-use crate::topics::{CHECK, IMPORT, JUDGE, MEASURE};
-use kfifo_cli_texts::Topic;
+use kfifo_cli_requests::{Help, Topic};
 
 /// If two begin alike, the longer one comes first.
 const TOPICS: &[Topic] = &[
     Topic {
         words: "input",
-        help: JUDGE,
+        help: Help::Judge,
         line: "  kfifo: input",
         advice: "\
 Allowed: at most 16777216 bytes.
@@ -16,7 +15,7 @@ To do: see that the file is there and can be read, or judge a shorter run.
     },
     Topic {
         words: "not json",
-        help: CHECK,
+        help: Help::Check,
         line: "  kfifo: not json",
         advice: "\
 Allowed: a JSON array of calls, as `kfifo check --help` shows, of at most 127
@@ -28,7 +27,7 @@ prints.
     },
     Topic {
         words: "record fault 1",
-        help: CHECK,
+        help: Help::Check,
         line: "  kfifo: record fault 1",
         advice: "\
 Allowed: a JSON array, with an object for each call.
@@ -37,7 +36,7 @@ To do: put the calls between [ and ].
     },
     Topic {
         words: "record fault 2",
-        help: CHECK,
+        help: Help::Check,
         line: "  kfifo: record fault 2",
         advice: "\
 Allowed: at most 65536 calls.
@@ -46,7 +45,7 @@ To do: judge a shorter run.
     },
     Topic {
         words: "record fault 3 at line",
-        help: IMPORT,
+        help: Help::Import,
         line: "  kfifo: record fault 3 at line",
         advice: "\
 Allowed: `thread`, `op` and `first` always; `item` in each enq, and in a deq
@@ -58,7 +57,7 @@ from 1.
     },
     Topic {
         words: "record fault 3",
-        help: CHECK,
+        help: Help::Check,
         line: "  kfifo: record fault 3",
         advice: "\
 Allowed: `thread`, `op` and `first` always; `item` in each enq, and in a deq
@@ -70,7 +69,7 @@ from 1.
     },
     Topic {
         words: "record fault 4 at line",
-        help: IMPORT,
+        help: Help::Import,
         line: "  kfifo: record fault 4 at line",
         advice: "\
 Allowed: a thread from 0 to 63, an item from 1 to 16777215.
@@ -79,7 +78,7 @@ To do: number threads from 0, and items from 1, each with a number of its own.
     },
     Topic {
         words: "record fault 4",
-        help: CHECK,
+        help: Help::Check,
         line: "  kfifo: record fault 4",
         advice: "\
 Allowed: a thread from 0 to 63, an item from 1 to 16777215.
@@ -88,7 +87,7 @@ To do: number threads from 0, and items from 1, each with a number of its own.
     },
     Topic {
         words: "record fault 5 at line",
-        help: IMPORT,
+        help: Help::Import,
         line: "  kfifo: record fault 5 at line",
         advice: "\
 Allowed: done, full, busy and worn of an enq; got, empty, busy and worn of a
@@ -98,7 +97,7 @@ To do: correct the answer, or the op.
     },
     Topic {
         words: "record fault 5",
-        help: CHECK,
+        help: Help::Check,
         line: "  kfifo: record fault 5",
         advice: "\
 Allowed: done, full, busy and worn of an enq; got, empty, busy and worn of a
@@ -108,7 +107,7 @@ To do: correct the answer, or the op.
     },
     Topic {
         words: "record fault 6 at line",
-        help: IMPORT,
+        help: Help::Import,
         line: "  kfifo: record fault 6 at line",
         advice: "\
 Allowed: `last` equal to `first` or greater.
@@ -118,7 +117,7 @@ value as `first`.
     },
     Topic {
         words: "record fault 6",
-        help: CHECK,
+        help: Help::Check,
         line: "  kfifo: record fault 6",
         advice: "\
 Allowed: `last` equal to `first` or greater.
@@ -128,7 +127,7 @@ value as `first`.
     },
     Topic {
         words: "record fault 7",
-        help: CHECK,
+        help: Help::Check,
         line: "  kfifo: record fault 7",
         advice: "\
 Allowed: calls by rising `first`, no two of which begin at one stamp.
@@ -138,7 +137,7 @@ and two calls may begin at one time.
     },
     Topic {
         words: "record fault 8 at line",
-        help: IMPORT,
+        help: Help::Import,
         line: "  kfifo: record fault 8 at line",
         advice: "\
 Allowed: calls of one thread that follow one another: the next begins after the
@@ -149,7 +148,7 @@ makes no more calls.
     },
     Topic {
         words: "record fault 8",
-        help: CHECK,
+        help: Help::Check,
         line: "  kfifo: record fault 8",
         advice: "\
 Allowed: calls of one thread that follow one another: the next begins after the
@@ -160,7 +159,7 @@ makes no more calls.
     },
     Topic {
         words: "record fault 9",
-        help: CHECK,
+        help: Help::Check,
         line: "  kfifo: record fault 9",
         advice: "\
 To do: give the program more memory, or judge a shorter run.
@@ -168,7 +167,7 @@ To do: give the program more memory, or judge a shorter run.
     },
     Topic {
         words: "no input",
-        help: JUDGE,
+        help: Help::Judge,
         line: "  kfifo: no input",
         advice: "\
 Allowed: a record in JSON or a log in CSV on standard input.
@@ -179,7 +178,7 @@ failed, and printed why.
     },
     Topic {
         words: "csv fault",
-        help: IMPORT,
+        help: Help::Import,
         line: "  kfifo: csv fault",
         advice: "\
 Allowed: a header with thread, op, item, first, last and answer, each once and
@@ -190,7 +189,7 @@ To do: look at this line, counted from 1. A record in JSON begins with [.
     },
     Topic {
         words: "search fault 1",
-        help: CHECK,
+        help: Help::Check,
         line: "  kfifo: search fault 1",
         advice: "\
 Allowed: at most 12 calls where no order is given.
@@ -199,7 +198,7 @@ To do: use `kfifo judge`, which takes 65536 calls, or give an --order.
     },
     Topic {
         words: "search fault 2",
-        help: CHECK,
+        help: Help::Check,
         line: "  kfifo: search fault 2",
         advice: "\
 To do: give the program more memory, or use `kfifo judge`.
@@ -207,7 +206,7 @@ To do: give the program more memory, or use `kfifo judge`.
     },
     Topic {
         words: "measure fault 2",
-        help: MEASURE,
+        help: Help::Measure,
         line: "  kfifo: measure fault 2",
         advice: "\
 Allowed: items of which no two enqueues that are done or unfinished carry one,
@@ -217,7 +216,7 @@ To do: give each item a number of its own.
     },
     Topic {
         words: "memory",
-        help: CHECK,
+        help: Help::Check,
         line: "  kfifo: memory",
         advice: "\
 To do: give the program more memory, or judge a shorter run.

@@ -1,13 +1,12 @@
 //! Exit statuses, and the statuses of the library for C, by their names.
 
-use crate::topics::EXPLAIN;
-use kfifo_cli_texts::Topic;
+use kfifo_cli_requests::{Help, Topic};
 
 /// No two begin alike.
 const TOPICS: &[Topic] = &[
     Topic {
         words: "status 0",
-        help: EXPLAIN,
+        help: Help::Explain,
         line: "  status 0 ",
         advice: "\
 To do: nothing.
@@ -15,7 +14,7 @@ To do: nothing.
     },
     Topic {
         words: "status 1",
-        help: EXPLAIN,
+        help: Help::Explain,
         line: "  status 1 ",
         advice: "\
 To do: read the line on standard error, and explain that one. There is none if
@@ -24,7 +23,7 @@ standard output could not be written.
     },
     Topic {
         words: "status 2",
-        help: EXPLAIN,
+        help: Help::Explain,
         line: "  status 2 ",
         advice: "\
 To do: read the text on standard error, or the help of the command.
@@ -32,7 +31,7 @@ To do: read the text on standard error, or the help of the command.
     },
     Topic {
         words: "status 3",
-        help: EXPLAIN,
+        help: Help::Explain,
         line: "  status 3 ",
         advice: "\
 To do: nothing is wrong with the program: read the answer, which says why.
@@ -40,7 +39,7 @@ To do: nothing is wrong with the program: read the answer, which says why.
     },
     Topic {
         words: "status 4",
-        help: EXPLAIN,
+        help: Help::Explain,
         line: "  status 4 ",
         advice: "\
 To do: nothing is wrong with the program: read the last line of the answer,
@@ -49,7 +48,7 @@ which says why the search stopped.
     },
     Topic {
         words: "KFIFO_DONE",
-        help: EXPLAIN,
+        help: Help::Explain,
         line: "  KFIFO_DONE ",
         advice: "\
 To do: nothing.
@@ -57,7 +56,7 @@ To do: nothing.
     },
     Topic {
         words: "KFIFO_FULL",
-        help: EXPLAIN,
+        help: Help::Explain,
         line: "  KFIFO_FULL ",
         advice: "\
 To do: take something and put it again, or open a queue with more segments.
@@ -65,7 +64,7 @@ To do: take something and put it again, or open a queue with more segments.
     },
     Topic {
         words: "KFIFO_GOT",
-        help: EXPLAIN,
+        help: Help::Explain,
         line: "  KFIFO_GOT ",
         advice: "\
 To do: nothing.
@@ -73,7 +72,7 @@ To do: nothing.
     },
     Topic {
         words: "KFIFO_EMPTY",
-        help: EXPLAIN,
+        help: Help::Explain,
         line: "  KFIFO_EMPTY ",
         advice: "\
 To do: nothing, or take again later.
@@ -81,7 +80,7 @@ To do: nothing, or take again later.
     },
     Topic {
         words: "KFIFO_BUSY",
-        help: EXPLAIN,
+        help: Help::Explain,
         line: "  KFIFO_BUSY ",
         advice: "\
 To do: make the call again, or give it more turns.
@@ -89,7 +88,7 @@ To do: make the call again, or give it more turns.
     },
     Topic {
         words: "KFIFO_WORN",
-        help: EXPLAIN,
+        help: Help::Explain,
         line: "  KFIFO_WORN ",
         advice: "\
 Allowed: a greatest version of at most 1099511627775.
@@ -98,7 +97,7 @@ To do: close this queue and open another.
     },
     Topic {
         words: "KFIFO_BAD_CALL",
-        help: EXPLAIN,
+        help: Help::Explain,
         line: "  KFIFO_BAD_CALL ",
         advice: "\
 To do: compare the arguments with what kfifo.h says of the call.
@@ -106,7 +105,7 @@ To do: compare the arguments with what kfifo.h says of the call.
     },
     Topic {
         words: "KFIFO_NO_MEMORY",
-        help: EXPLAIN,
+        help: Help::Explain,
         line: "  KFIFO_NO_MEMORY ",
         advice: "\
 To do: free memory, and make the call again.
@@ -114,7 +113,7 @@ To do: free memory, and make the call again.
     },
     Topic {
         words: "KFIFO_BAD_THREADS",
-        help: EXPLAIN,
+        help: Help::Explain,
         line: "  KFIFO_BAD_THREADS ",
         advice: "\
 Allowed: 1 to 64 threads.
@@ -123,7 +122,7 @@ To do: open a queue for fewer threads.
     },
     Topic {
         words: "KFIFO_LOST",
-        help: EXPLAIN,
+        help: Help::Explain,
         line: "  KFIFO_LOST ",
         advice: "\
 To do: take all that is left before you close a queue.
@@ -131,7 +130,7 @@ To do: take all that is left before you close a queue.
     },
     Topic {
         words: "KFIFO_NO_TOKEN",
-        help: EXPLAIN,
+        help: Help::Explain,
         line: "  KFIFO_NO_TOKEN ",
         advice: "\
 To do: take a value and give again, or open a queue with more tokens a thread.
@@ -139,7 +138,7 @@ To do: take a value and give again, or open a queue with more tokens a thread.
     },
     Topic {
         words: "KFIFO_BAD_K",
-        help: EXPLAIN,
+        help: Help::Explain,
         line: "  KFIFO_BAD_K ",
         advice: "\
 Allowed: k from 1 to 64.
@@ -148,7 +147,7 @@ To do: open a queue with such a k.
     },
     Topic {
         words: "KFIFO_BAD_SEGMENTS",
-        help: EXPLAIN,
+        help: Help::Explain,
         line: "  KFIFO_BAD_SEGMENTS ",
         advice: "\
 Allowed: 2 to 1024 segments.
@@ -157,7 +156,7 @@ To do: open a queue with so many.
     },
     Topic {
         words: "KFIFO_BAD_LAST",
-        help: EXPLAIN,
+        help: Help::Explain,
         line: "  KFIFO_BAD_LAST ",
         advice: "\
 Allowed: a greatest version from 2 to 1099511627775.
@@ -166,7 +165,7 @@ To do: open a queue with KFIFO_LAST.
     },
     Topic {
         words: "KFIFO_BAD_PROBES",
-        help: EXPLAIN,
+        help: Help::Explain,
         line: "  KFIFO_BAD_PROBES ",
         advice: "\
 Allowed: 1 to k probes.
@@ -175,7 +174,7 @@ To do: open a queue with k probes.
     },
     Topic {
         words: "KFIFO_BAD_TOKENS",
-        help: EXPLAIN,
+        help: Help::Explain,
         line: "  KFIFO_BAD_TOKENS ",
         advice: "\
 Allowed: 1 to 1024 tokens a thread.

@@ -1,7 +1,6 @@
 //! The answers of `judge` and `least`, and evidence by its name.
 
-use crate::topics::{JUDGE, LEAST};
-use kfifo_cli_texts::Topic;
+use kfifo_cli_requests::{Help, Topic};
 
 const NEVER_PUT: &str = "\
 To do: look for a dequeue that returns what was not put, or too soon; or for a
@@ -43,7 +42,7 @@ number to see which calls got the others.
 const TOPICS: &[Topic] = &[
     Topic {
         words: "no order for",
-        help: JUDGE,
+        help: Help::Judge,
         line: "  no order for k = <K>",
         advice: "\
 To do: read the line below it: it names the calls because of which no order is
@@ -52,7 +51,7 @@ legal.
     },
     Topic {
         words: "legal for",
-        help: JUDGE,
+        help: Help::Judge,
         line: "  legal for k = <K>",
         advice: "\
 To do: nothing: the calls may be those of a queue that gives any of its k oldest
@@ -61,7 +60,7 @@ items. `--show` prints the order.
     },
     Topic {
         words: "calls #, items left",
-        help: JUDGE,
+        help: Help::Judge,
         line: "  calls <N>, items left <M>",
         advice: "\
 To do: make sure that the calls are as many as were made. If the queue was emptied at the end, items left are lost.
@@ -69,7 +68,7 @@ To do: make sure that the calls are as many as were made. If the queue was empti
     },
     Topic {
         words: "undecided",
-        help: JUDGE,
+        help: Help::Judge,
         line: "  undecided for k = <K>",
         advice: "\
 To do: read the line below it: it says why the search stopped, and `kfifo explain` what helps.
@@ -77,7 +76,7 @@ To do: read the line below it: it says why the search stopped, and `kfifo explai
     },
     Topic {
         words: "the tries ran",
-        help: JUDGE,
+        help: Help::Judge,
         line: "  the tries ran out",
         advice: "\
 Allowed: --tries from 0 to 4294967295, by default 1000000.
@@ -86,7 +85,7 @@ To do: give more --tries, or judge a shorter run.
     },
     Topic {
         words: "nothing is left",
-        help: JUDGE,
+        help: Help::Judge,
         line: "  nothing is left to try",
         advice: "\
 To do: give each item a number of its own, let each call end, and judge a
@@ -95,7 +94,7 @@ shorter run.
     },
     Topic {
         words: "items repeat",
-        help: JUDGE,
+        help: Help::Judge,
         line: "  ; items repeat",
         advice: "\
 To do: give each item a number of its own: then k = 1 is always decided if each
@@ -104,7 +103,7 @@ call ends.
     },
     Topic {
         words: "; items repeat",
-        help: JUDGE,
+        help: Help::Judge,
         line: "  ; items repeat",
         advice: "\
 To do: give each item a number of its own: then k = 1 is always decided if each
@@ -113,7 +112,7 @@ call ends.
     },
     Topic {
         words: "no order",
-        help: LEAST,
+        help: Help::Least,
         line: "  no order ",
         advice: "\
 To do: of `check`, use `kfifo judge`, which says why; of `least`, read the line
@@ -122,91 +121,91 @@ below it.
     },
     Topic {
         words: "call # got item #, which no",
-        help: JUDGE,
+        help: Help::Judge,
         line: "  call <N> got item <X>, which no",
         advice: NEVER_PUT,
     },
     Topic {
         words: "NeverPut",
-        help: JUDGE,
+        help: Help::Judge,
         line: "  call <N> got item <X>, which no",
         advice: NEVER_PUT,
     },
     Topic {
         words: "call # got item #, which was",
-        help: JUDGE,
+        help: Help::Judge,
         line: "  call <N> got item <X>, which was",
         advice: TAKEN_TWICE,
     },
     Topic {
         words: "TakenTwice",
-        help: JUDGE,
+        help: Help::Judge,
         line: "  call <N> got item <X>, which was",
         advice: TAKEN_TWICE,
     },
     Topic {
         words: "call # found nothing, while some",
-        help: JUDGE,
+        help: Help::Judge,
         line: "  call <N> found nothing, while some",
         advice: ITEMS_LEFT,
     },
     Topic {
         words: "ItemsLeft",
-        help: JUDGE,
+        help: Help::Judge,
         line: "  call <N> found nothing, while some",
         advice: ITEMS_LEFT,
     },
     Topic {
         words: "call # found nothing,",
-        help: JUDGE,
+        help: Help::Judge,
         line: "  call <N> found nothing, while there",
         advice: NOT_EMPTY,
     },
     Topic {
         words: "NotEmpty",
-        help: JUDGE,
+        help: Help::Judge,
         line: "  call <N> found nothing, while there",
         advice: NOT_EMPTY,
     },
     Topic {
         words: "call # got item #, while",
-        help: JUDGE,
+        help: Help::Judge,
         line: "  call <N> got item <X>, while",
         advice: TOO_YOUNG,
     },
     Topic {
         words: "TooYoung",
-        help: JUDGE,
+        help: Help::Judge,
         line: "  call <N> got item <X>, while",
         advice: TOO_YOUNG,
     },
     Topic {
         words: "call # got item #, when",
-        help: JUDGE,
+        help: Help::Judge,
         line: "  call <N> got item <X>, when",
         advice: TAKEN_TOO_SOON,
     },
     Topic {
         words: "TakenTooSoon",
-        help: JUDGE,
+        help: Help::Judge,
         line: "  call <N> got item <X>, when",
         advice: TAKEN_TOO_SOON,
     },
     Topic {
         words: "call # got item #, though",
-        help: JUDGE,
+        help: Help::Judge,
         line: "  call <N> got item <X>, though",
         advice: OLDER_LEFT,
     },
     Topic {
         words: "OlderLeft",
-        help: JUDGE,
+        help: Help::Judge,
         line: "  call <N> got item <X>, though",
         advice: OLDER_LEFT,
     },
     Topic {
         words: "call #: thread",
-        help: JUDGE,
+        help: Help::Judge,
         line: "  call <N>: thread",
         advice: "\
 To do: compare its stamps with those of the other calls that are named.
@@ -214,7 +213,7 @@ To do: compare its stamps with those of the other calls that are named.
     },
     Topic {
         words: "call #, line #:",
-        help: JUDGE,
+        help: Help::Judge,
         line: "  call <N>, line <L>: thread",
         advice: "\
 To do: see this line of the log, counted from 1.
@@ -222,7 +221,7 @@ To do: see this line of the log, counted from 1.
     },
     Topic {
         words: ", got by call",
-        help: JUDGE,
+        help: Help::Judge,
         line: "  , got by call",
         advice: "\
 To do: see call M: it got the item after the call that found nothing, or after
@@ -231,7 +230,7 @@ one that got a younger item.
     },
     Topic {
         words: "got by call",
-        help: JUDGE,
+        help: Help::Judge,
         line: "  , got by call",
         advice: "\
 To do: see call M: it got the item after the call that found nothing, or after
@@ -240,7 +239,7 @@ one that got a younger item.
     },
     Topic {
         words: ", never got",
-        help: JUDGE,
+        help: Help::Judge,
         line: "  , never got",
         advice: "\
 To do: drain the queue until it answers empty before the log ends: what is never
@@ -249,7 +248,7 @@ got then is lost.
     },
     Topic {
         words: "never got",
-        help: JUDGE,
+        help: Help::Judge,
         line: "  , never got",
         advice: "\
 To do: drain the queue until it answers empty before the log ends: what is never
@@ -258,7 +257,7 @@ got then is lost.
     },
     Topic {
         words: "k at least",
-        help: LEAST,
+        help: Help::Least,
         line: "  k at least",
         advice: "\
 To do: nothing: it is a bound that is proved.
@@ -266,7 +265,7 @@ To do: nothing: it is a bound that is proved.
     },
     Topic {
         words: "k at most",
-        help: LEAST,
+        help: Help::Least,
         line: "  k at most",
         advice: "\
 To do: nothing: an order is legal for this k. A greater --tries may find one for
@@ -275,7 +274,7 @@ a lesser k.
     },
     Topic {
         words: "k unknown",
-        help: LEAST,
+        help: Help::Least,
         line: "  k unknown",
         advice: "\
 To do: give a greater --tries, if the bound is at most 64.
@@ -283,7 +282,7 @@ To do: give a greater --tries, if the bound is at most 64.
     },
     Topic {
         words: "worst rank",
-        help: JUDGE,
+        help: Help::Judge,
         line: "  worst rank",
         advice: "\
 To do: nothing: it is at most k - 1, and 0 in a plain queue.

@@ -7,7 +7,8 @@ ghost use Rattle.kfifo_cli_commands.specs.Records.{IsCheck, IsCheckRefusal, IsIn
 ghost use Rattle.kfifo_cli_commands.specs.Statuses.{status_number};
 
 use crate::status::Status;
-use kfifo_cli_texts::{CheckOptions, Fault, order_of};
+use kfifo_cli_requests::CheckOptions;
+use kfifo_cli_texts::{Fault, order_of};
 use kfifo_judge::{FromStd, Source, check_stream};
 use std::alloc::Global;
 use std::rt::Files;

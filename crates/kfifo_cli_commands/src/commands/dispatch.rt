@@ -2,7 +2,8 @@
 ghost use Rattle.std.specs.Prelude.{◌≢◌, IfOk, IfErr, string_bytes};
 ghost use Rattle.kfifo_cli_commands.specs.Dispatches.{IsDispatch, IsDispatchRefusal};
 
-use kfifo_cli_texts::{DispatchOptions, Fault, finished_lines, read_tasks};
+use kfifo_cli_requests::DispatchOptions;
+use kfifo_cli_texts::{Fault, finished_lines, read_tasks};
 use kfifo_dispatch::{OpenGate, dispatch};
 use std::alloc::Global;
 use std::thread::Threads;

@@ -6,7 +6,8 @@ ghost use Rattle.kfifo_cli_commands.specs.Records.{ReadsWell};
 
 use crate::input::{import_telling, read_given};
 use crate::progress::Progress;
-use kfifo_cli_texts::{Fault, ImportOptions, record_line};
+use kfifo_cli_requests::ImportOptions;
+use kfifo_cli_texts::{Fault, record_line};
 use kfifo_judge::Source;
 use std::alloc::Global;
 use std::rt::Files;

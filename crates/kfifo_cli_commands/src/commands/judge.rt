@@ -8,7 +8,8 @@ ghost use Rattle.kfifo_cli_commands.specs.Verdicts.{IsJudge, IsJudged, IsVerdict
 use crate::input::{read_calls, read_given};
 use crate::progress::Progress;
 use crate::status::{Status, status_of};
-use kfifo_cli_texts::{Fault, JudgeOptions};
+use kfifo_cli_requests::JudgeOptions;
+use kfifo_cli_texts::Fault;
 use kfifo_judge::{Source, judge_text};
 use std::alloc::Global;
 use std::rt::Files;

@@ -8,7 +8,8 @@ ghost use Rattle.kfifo_cli_commands.specs.Verdicts.{IsLeast, IsBounded, IsVerdic
 use crate::input::{read_calls, read_given};
 use crate::progress::Progress;
 use crate::status::{Status, status_of};
-use kfifo_cli_texts::{Fault, LeastOptions};
+use kfifo_cli_requests::LeastOptions;
+use kfifo_cli_texts::Fault;
 use kfifo_judge::{Source, least_text};
 use std::alloc::Global;
 use std::rt::Files;

@@ -4,7 +4,8 @@ ghost use Rattle.kfifo_record.specs.Repeats.{IsFirstOver, all_repeated, last_shi
 ghost use Rattle.kfifo_record.specs.Scripts.{AreScripts, scripts_in};
 ghost use Rattle.kfifo_cli_commands.specs.RealRuns.{IsRealRun, IsRealRunRefusal};
 
-use kfifo_cli_texts::{Fault, RecordOptions, read_scripts, record_line};
+use kfifo_cli_requests::RecordOptions;
+use kfifo_cli_texts::{Fault, read_scripts, record_line};
 use kfifo_machine::Begin;
 use kfifo_record::{OpenGate, first_over, record_scripts, repeat_scripts};
 use std::alloc::Global;

@@ -10,9 +10,8 @@ ghost use Rattle.kfifo_cli_commands.specs.Runs.{IsRunAnswer, IsRunRefusal};
 ghost use Rattle.kfifo_cli_texts.specs.Words.{IsCall};
 ghost use Rattle.kfifo_cli_commands.specs.Reports.{IsAlone, IsReport, RunInTurn, call_line, slot_lines, world_lines};
 
-use kfifo_cli_texts::{
-    Fault, RunOptions, push_dequeue, push_ends, push_enqueue, push_slot, read_calls,
-};
+use kfifo_cli_requests::RunOptions;
+use kfifo_cli_texts::{Fault, push_dequeue, push_ends, push_enqueue, push_slot, read_calls};
 use kfifo_live::{Pass, Queue};
 use kfifo_machine::Begin;
 use kfifo_words::{Ends, Shape, Word};

@@ -2,7 +2,7 @@
 ghost use Rattle.std.specs.Prelude.{◌≤◌};
 
 use crate::sizes::Sizes;
-use crate::topics::Topic;
+use crate::topics::{HelpTexts, Topic};
 
 /// What `run` is given.
 #[derive(Clone, Copy)]
@@ -146,7 +146,7 @@ pub struct ExplainOptions<'a> {
     /// The last part.
     pub last_topics: &'a [Topic],
     /// The helps of the commands, which say what they mean.
-    pub helps: &'a [&'a str],
+    pub helps: HelpTexts<'a>,
 }
 
 /// A command with its options.

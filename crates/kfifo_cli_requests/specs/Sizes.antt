@@ -3,7 +3,7 @@ use Rattle.std.specs.Prelude.{◌≡◌, Some, unwrap_or}
 use Rattle.kfifo_words.specs.declared.shape.Shape.{Shape}
 use Rattle.kfifo_words.specs.declared.fault.ShapeFault.{ShapeFault}
 use Rattle.kfifo_words.specs.Sizes.{fault_of}
-use Rattle.kfifo_cli_texts.specs.declared.sizes.Sizes.{Sizes}
+use Rattle.kfifo_cli_requests.specs.declared.sizes.Sizes.{Sizes}
 
 -- the shape has these sizes, and k probes where none are given
 pub record IsShapeOf (sizes : Sizes) (shape : Shape) : Type 0 where

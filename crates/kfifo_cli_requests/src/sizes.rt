@@ -17,7 +17,7 @@ pub struct Sizes {
 }
 
 impl Sizes {
-    ghost use Rattle.kfifo_cli_texts.specs.Sizes.{IsShapeFault, IsShapeOf};
+    ghost use Rattle.kfifo_cli_requests.specs.Sizes.{IsShapeFault, IsShapeOf};
 
     /// The shape of these sizes, or the first fault of them.
     pub fn shape(self) -> Result<Shape, ShapeFault>
