@@ -6,12 +6,12 @@ use Rattle.kfifo_replay.proofs.steps.follow.Goals as goal
 
 pub word-requires : goal.word-requires
 word-requires c =
-    let index : c.index-index.result ≡ accessed (access c.args.state.now.shape c.in-Some.place) =
-    c.index-index.ensures ∙ ap accessed (c.access-access.ensures ∙ ap (λ s. access s c.in-Some.place) c.shape-shape.ensures) in
-    omega (arith, index, in_table c.args.state.now.shape c.in-Some.place c.in-Some.ensures.sound)
+    let index : c.index-index.result ≡ accessed (access c.args.linearizer.now.shape c.in-Some.place) =
+    c.index-index.ensures ∙ ap accessed (c.access-access.ensures ∙ ap (λ s. access s c.in-Some.place) c.requires.shape) in
+    omega (arith, index, in_table c.args.linearizer.now.shape c.in-Some.place c.in-Some.ensures.sound)
 
 pub word-requires-in-Ok : goal.word-requires-in-Ok
 word-requires-in-Ok c =
-    let index : c.index-index.result ≡ accessed (access c.args.state.now.shape c.in-Some.place) =
-    c.index-index.ensures ∙ ap accessed (c.access-access.ensures ∙ ap (λ s. access s c.in-Some.place) c.shape-shape.ensures) in
-    rw c.step.ensures.shape (omega (arith, index, in_table c.args.state.now.shape c.in-Some.place c.in-Some.ensures.sound))
+    let index : c.index-index.result ≡ accessed (access c.args.linearizer.now.shape c.in-Some.place) =
+    c.index-index.ensures ∙ ap accessed (c.access-access.ensures ∙ ap (λ s. access s c.in-Some.place) c.requires.shape) in
+    rw c.feed.ensures.shape (omega (arith, index, in_table c.args.linearizer.now.shape c.in-Some.place c.in-Some.ensures.sound))
