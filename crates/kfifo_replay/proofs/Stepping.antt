@@ -1,15 +1,20 @@
 -- The steps of a schedule with one event more.
-use Rattle.std.proofs.Common.{◌≡◌, ℕ, suc, ◌<◌, List, [], ◌∷◌, ◌++◌, length, take, Option, Some, None, refl, sym, ◌∙◌, ap, subst}
+use Rattle.std.proofs.Common.{◌≡◌, ℕ, suc, ◌<◌, List, [], ◌∷◌, ◌++◌, length, take, Option, Some, None, Ok, refl, sym, ◌∙◌, ap, subst}
 use Rattle.std.proofs.Common.{inl, inr, arith, length-append}
 use Rattle.std.proofs.lemmas.Bool.{cases_lt}
-use Rattle.std.proofs.lemmas.List.{length-take-le, take_all, take-append-le}
-use Rattle.kfifo_replay.proofs.Types.{Begin, Event, Running, Shape}
-use Rattle.kfifo_machine.specs.Machine.{World, begun, run, step, world_of}
+use Rattle.std.proofs.lemmas.List.{append-nil, length-take-le, take_all, take-append-le}
+use Rattle.std.specs.Prelude.{IfSome}
+use Rattle.kfifo_replay.proofs.Types.{Begin, Event, Outcome, Running, Shape}
+use Rattle.kfifo_machine.specs.Machine.{World, begun, place_of, run, step, word_at, world_of}
+use Rattle.kfifo_machine.specs.Program.{access, accessed}
 use Rattle.kfifo_machine.specs.Runs.{going}
 use Rattle.kfifo_machine.proofs.Paths.{begins_from}
 use Rattle.kfifo_machine.proofs.Schedules.{Some-injective}
 use Rattle.kfifo_replay.specs.declared.steps.Step.{Step}
+use Rattle.kfifo_replay.specs.declared.steps.Upcoming.{Upcoming}
+use Rattle.kfifo_replay.specs.Player.{Trace}
 use Rattle.kfifo_replay.specs.Steps.{AreSteps, IsStep}
+use Rattle.kfifo_replay.specs.Traces.{IsUpcoming, KeepsStep, step_of, step_seen}
 
 -- as many steps as events
 pub length_of : (shape : Shape) (here : World) (events : List Event) (steps : List Step) → AreSteps shape here events steps
@@ -66,6 +71,39 @@ full_stays most steps s full =
 pub keeps_all : (most : ℕ) (steps : List Step) (s : Step) → length steps < most → steps ++ s ∷ [] ≡ take most (steps ++ s ∷ [])
 keeps_all most steps s few =
     sym (take_all most (steps ++ s ∷ []) (let n = length-append steps (s ∷ []) in omega (arith, n, few)))
+
+-- a trace with this number and these steps
+trace_is : (before after : Trace) (steps : List Step) → after.most ≡ before.most → after.steps ≡ steps
+    → after ≡ record before { steps = steps }
+trace_is before after steps most is =
+    ap (λ n. record { most = n; steps = after.steps }) most ∙ ap (λ (xs : List Step). record { most = before.most; steps = xs }) is
+
+-- a step that was looked at before is kept; one that was not is told by its place, and the trace is full
+pub keeps_step : (shape : Shape) (here there : World) (e : Event) (outcome : Outcome) (look : Option Upcoming) (before after : Trace)
+    → (running : Running) × (going shape (place_of here e.thread) e.begin ≡ Some running) → step shape here e ≡ Ok (there, outcome)
+    → (look ≡ None → length before.steps ≡ before.most) → IfSome look (λ _. length before.steps < before.most)
+    → IfSome look (IsUpcoming shape here e) → after.most ≡ before.most
+    → after.steps ≡ before.steps ++ step_seen there e.thread look outcome → KeepsStep shape here e there before after
+keeps_step shape here there e outcome None before after goes made full room look most steps =
+    let s : Step = record {
+      thread = e.thread;
+      place = goes.0;
+      access = access shape goes.0;
+      before = word_at here (accessed (access shape goes.0));
+      after = word_at there (accessed (access shape goes.0));
+      outcome = outcome;
+    } in (
+      s,
+      record { thread = refl; place = goes.1; does = refl; before = refl; after = refl; made = made },
+      trace_is before after (take before.most (before.steps ++ s ∷ [])) most
+          (steps ∙ append-nil before.steps ∙ full_stays before.most before.steps s (full refl)),
+    )
+keeps_step shape here there e outcome (Some l) before after goes made full room look most steps =
+    let s : Step = step_of there e.thread l outcome in (
+      s,
+      record { thread = refl; place = look.place; does = look.does; before = look.before; after = refl; made = made },
+      trace_is before after (take before.most (before.steps ++ s ∷ [])) most (steps ∙ keeps_all before.most before.steps s room),
+    )
 
 -- the place of a thread in its call is the one from which it makes its step, and else the first place of the call that it begins
 pub stays_at : (shape : Shape) (place : Option Running) (begin : Option Begin) (running : Running) → going shape place begin ≡ Some running

@@ -1,5 +1,6 @@
 //! What one event of a schedule does.
-ghost use Rattle.std.specs.Prelude.{◌≡◌, ℕ, ◌-◌, ◌^◌, ◌<◌, List, [], ◌∷◌, ◌++◌, length, Some, Ok, IfSome, true};
+ghost use Rattle.std.specs.Prelude.{◌≡◌, ℕ, ◌+◌, ◌-◌, ◌*◌, ◌^◌, ◌<◌, List, [], ◌∷◌, ◌++◌, length, Some, None, Ok};
+ghost use Rattle.std.specs.Prelude.{IfSome, true};
 ghost use Rattle.kfifo_machine.specs.declared.event.Event.{Event as EventData};
 ghost use Rattle.kfifo_machine.specs.declared.event.Outcome.{Outcome as OutcomeData};
 ghost use Rattle.kfifo_machine.specs.declared.place.Running.{Running as RunningData};
@@ -9,8 +10,8 @@ ghost use Rattle.kfifo_machine.specs.Places.{IsPlace};
 ghost use Rattle.kfifo_machine.specs.Runs.{going};
 ghost use Rattle.kfifo_linear.specs.Notes.{begins_call};
 ghost use Rattle.kfifo_linear.specs.Following.{Follows};
-ghost use Rattle.kfifo_replay.specs.Steps.{IsStep};
-ghost use Rattle.kfifo_replay.specs.Traces.{KeepsStep};
+ghost use Rattle.kfifo_machine.specs.Program.{accessed};
+ghost use Rattle.kfifo_replay.specs.Traces.{IsUpcoming, KeepsStep, step_seen};
 
 use crate::trace::Trace;
 use kfifo_linear::Linearizer;
@@ -69,39 +70,79 @@ fn place_before(linearizer: &Linearizer, event: Event) -> Option<Running>
     }
 }
 
-/// Makes an event that is enabled and no tick, and says what it did. It is not inlined, as an event that is not kept
-/// then costs little more than its own step.
+/// What is known of a step before it is made: its place, its access, and the accessed word.
+#[derive(Clone, Copy)]
+struct Upcoming {
+    place: Running,
+    access: Access,
+    before: Word,
+}
+
+/// Looks at the step that an event will make.
 #[inline(never)]
-fn follow(linearizer: &mut Linearizer, shape: &Shape, event: Event) -> Step
-    requires shape { shape.now ≡ linearizer.old.shape }
-    requires enabled { let here = linearizer.old in (there : World) × (outcome : OutcomeData)
-        × (Machine.step here.shape here.world event ≡ Ok (there, outcome)) }
-    requires goes { let here = linearizer.old in (running : RunningData)
+fn look(linearizer: &Linearizer, shape: &Shape, event: Event) -> Upcoming
+    requires shape { shape.now ≡ linearizer.now.shape }
+    requires goes { let here = linearizer.now in (running : RunningData)
         × (going here.shape (place_of here.world event.thread) event.begin ≡ Some running) }
-    requires steps { linearizer.old.notes.step < 2 ^ 64 - 1 }
-    requires room { let notes = linearizer.old.notes in
-        begins_call event.begin ≡ true → notes.begun < length notes.calls }
-    ensures shape { linearizer.new.shape ≡ linearizer.old.shape }
-    ensures step { IsStep linearizer.old.shape linearizer.old.world event linearizer.new.world result }
-    ensures follows { (threads room : ℕ) (events : List EventData) → Follows threads room events linearizer.old
-        → Follows threads room (events ++ event ∷ []) linearizer.new }
+    ensures { IsUpcoming linearizer.now.shape linearizer.now.world event result }
 {
     let Some(place) = place_before(linearizer, event) else {
         unreachable!();
     };
     let access = place.access(shape);
-    let index = access.index();
-    let before = Word::of_bits(linearizer.word(index));
-    match linearizer.feed(event) {
-        Ok(outcome) => Step {
-            thread: event.thread,
-            place,
-            access,
-            before,
+    let before = Word::of_bits(linearizer.word(access.index()));
+    Upcoming {
+        place,
+        access,
+        before,
+    }
+}
+
+/// Looks at the step that an event will make, where the trace is not full.
+fn look_ahead(
+    linearizer: &Linearizer,
+    trace: &Trace,
+    shape: &Shape,
+    event: Event,
+) -> Option<Upcoming>
+    requires shape { shape.now ≡ linearizer.now.shape }
+    requires goes { let here = linearizer.now in (running : RunningData)
+        × (going here.shape (place_of here.world event.thread) event.begin ≡ Some running) }
+    ensures full { result ≡ None → length trace.now.steps ≡ trace.now.most }
+    ensures room { IfSome result (λ _. length trace.now.steps < trace.now.most) }
+    ensures look { IfSome result (IsUpcoming linearizer.now.shape linearizer.now.world event) }
+{
+    if trace.is_full() {
+        None
+    } else {
+        Some(look(linearizer, shape, event))
+    }
+}
+
+/// Keeps the step that an event has made, where it was looked at before.
+fn keep(
+    linearizer: &Linearizer,
+    trace: &mut Trace,
+    thread: u32,
+    look: &Option<Upcoming>,
+    outcome: Outcome,
+)
+    requires within { let shape = linearizer.now.shape in
+        IfSome look.now (λ l. accessed l.access < 2 + shape.n * shape.k) }
+    requires room { IfSome look.now (λ _. length trace.old.steps < trace.old.most) }
+    ensures most { trace.new.most ≡ trace.old.most }
+    ensures steps { trace.new.steps ≡ trace.old.steps ++ step_seen linearizer.now.world thread look.now outcome }
+{
+    if let Some(upcoming) = look {
+        let index = upcoming.access.index();
+        trace.keep(Step {
+            thread,
+            place: upcoming.place,
+            access: upcoming.access,
+            before: upcoming.before,
             after: Word::of_bits(linearizer.word(index)),
             outcome,
-        },
-        Err(_fault) => unreachable!(),
+        });
     }
 }
 
@@ -128,15 +169,12 @@ pub(crate) fn make(
     ensures trace { let here = linearizer.old in
         KeepsStep here.shape here.world event linearizer.new.world trace.old trace.new }
 {
-    if trace.is_full() {
-        match linearizer.feed(event) {
-            Ok(outcome) => outcome,
-            Err(_fault) => unreachable!(),
+    let look = look_ahead(linearizer, trace, shape, event);
+    match linearizer.feed(event) {
+        Ok(outcome) => {
+            keep(linearizer, trace, event.thread, &look, outcome);
+            outcome
         }
-    } else {
-        let step = follow(linearizer, shape, event);
-        let outcome = step.outcome;
-        trace.keep(step);
-        outcome
+        Err(_fault) => unreachable!(),
     }
 }
