@@ -79,7 +79,7 @@ struct Upcoming {
 }
 
 /// Looks at the step that an event will make.
-#[inline(never)]
+#[inline(always)]
 fn look(linearizer: &Linearizer, shape: &Shape, event: Event) -> Upcoming
     requires shape { shape.now ≡ linearizer.now.shape }
     requires goes { let here = linearizer.now in (running : RunningData)
