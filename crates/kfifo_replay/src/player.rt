@@ -180,7 +180,7 @@ impl Replay {
     }
 
     /// Returns such a replay that also keeps what each event did, of the first `most` events. It has room for all of
-    /// them, 152 bytes each. It refuses what `open` refuses.
+    /// them, some 150 bytes each. It refuses what `open` refuses.
     ///
     /// ```rust
     /// let mut replay = Replay::open_traced(alloc, shape, scripts, 1000)?;
