@@ -8,29 +8,31 @@ use Rattle.kfifo_replay.specs.declared.fault.ReplayFault.TheVariants as replays
 use Rattle.kfifo_replay.specs.declared.steps.Step.{Step}
 use Rattle.kfifo_replay.specs.Picks.{events_of}
 use Rattle.kfifo_replay.specs.Steps.{AreSteps}
-use Rattle.kfifo_replay.specs.Traces.{IsTrace, Traces, Tracing, max_steps}
+use Rattle.kfifo_replay.specs.Player.{Player, StandsFor}
+use Rattle.kfifo_replay.specs.Traces.{IsTrace}
 use Rattle.kfifo_cli_texts.specs.declared.fault.Fault.TheVariants.{Memory, Replay, Trace}
 use Rattle.kfifo_cli_texts.specs.TraceLines.{trace_lines}
 use Rattle.kfifo_cli_requests.specs.declared.requests.ReplayOptions.{ReplayOptions}
+use Rattle.kfifo_cli_commands.specs.declared.tracing.TheConstants.{MAX_STEPS}
 use Rattle.kfifo_cli_commands.specs.Replays.{IsLong, IsReportText, IsTracedText, IsUnplayed, Makes, traces}
 
 module _ (shape : Shape) (scripts : List (List Begin)) (picks : List ℕ) (count : ℕ)
     (counted : (events : List Event) → events_of shape scripts picks ≡ Some events → count ≡ length events) where
   -- more events than a trace may have
-  pub is_long : (t : Tracing) → Traces shape scripts picks t → max_steps < count → IsLong shape scripts picks
-  is_long t traced many = record {
-    events = traced.stands.events;
-    made = traced.stands.made;
-    long = let same = counted traced.stands.events traced.stands.made in omega (arith, same, many);
+  pub is_long : (p : Player) → StandsFor shape scripts picks p → MAX_STEPS < count → IsLong shape scripts picks
+  is_long p stands many = record {
+    events = stands.events;
+    made = stands.made;
+    long = let same = counted stands.events stands.made in omega (arith, same, many);
   }
 
   -- the lines of the steps of so few events are those of all, and the report stands behind them
-  pub is_traced : (steps : List Step) → IsTrace shape scripts picks steps → count ≤ max_steps
+  pub is_traced : (steps : List Step) → IsTrace shape scripts picks MAX_STEPS steps → count ≤ MAX_STEPS
       → (points : Bool) (stopped : Option ℕ) (report text : List ℕ) → IsReportText points stopped shape scripts picks report
       → text ≡ trace_lines shape.k 0 steps ++ report → IsTracedText points stopped shape scripts picks text
   is_traced steps trace few points stopped report text reported is =
       let same = counted trace.events trace.made in
-      let all : take max_steps trace.events ≡ trace.events = take_all max_steps trace.events (omega (arith, same, few)) in
+      let all : take MAX_STEPS trace.events ≡ trace.events = take_all MAX_STEPS trace.events (omega (arith, same, few)) in
       record {
         events = trace.events;
         made = trace.made;
@@ -41,13 +43,13 @@ module _ (shape : Shape) (scripts : List (List Begin)) (picks : List ℕ) (count
         text_is = is;
       }
 
-module _ (options : ReplayOptions) (shape : Shape) (scripts : List (List Begin)) (picks made : List ℕ) (t : Tracing)
+module _ (options : ReplayOptions) (shape : Shape) (scripts : List (List Begin)) (picks made : List ℕ) (p : Player)
     (asked : traces options.record options.trace ≡ true) (makes : Makes options.stopped shape scripts picks made)
-    (traced : Traces shape scripts made t) where
+    (stands : StandsFor shape scripts made p) where
   -- what has no text of its events is a refusal: memory is, and more events than a trace may have are
   pub no_text : (fault : Fault) → (fault ≡ Memory) ⊎ (fault ≡ Replay replays.Memory)
-      ⊎ ((fault ≡ Trace) × ((own : List (List Begin)) (all : List ℕ) → Traces shape own all t → IsLong shape own all))
+      ⊎ ((fault ≡ Trace) × ((own : List (List Begin)) (all : List ℕ) → StandsFor shape own all p → IsLong shape own all))
       → IsUnplayed options shape scripts picks fault
   no_text fault (inl is) = inl is
   no_text fault (inr (inl is)) = inr (inl (replays.Memory, is, tt))
-  no_text fault (inr (inr u)) = inr (inr (u.0, record { asked = asked; made = made; makes = makes; long = u.1 scripts made traced }))
+  no_text fault (inr (inr u)) = inr (inr (u.0, record { asked = asked; made = made; makes = makes; long = u.1 scripts made stands }))

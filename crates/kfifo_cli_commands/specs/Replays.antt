@@ -17,7 +17,7 @@ use Rattle.kfifo_replay.specs.Player.{IsFirstRefused}
 use Rattle.kfifo_replay.specs.Reports.{ArePoints, IsHistoryOf, IsReport}
 use Rattle.kfifo_replay.specs.Scripts.{AreScripts}
 use Rattle.kfifo_replay.specs.Steps.{AreSteps}
-use Rattle.kfifo_replay.specs.Traces.{max_steps}
+use Rattle.kfifo_cli_commands.specs.declared.tracing.TheConstants.{MAX_STEPS}
 use Rattle.kfifo_cli_texts.specs.declared.fault.Fault.{Fault}
 use Rattle.kfifo_cli_texts.specs.declared.fault.Fault.TheVariants as faults
 use Rattle.kfifo_cli_requests.specs.declared.requests.ReplayOptions.{ReplayOptions}
@@ -97,7 +97,7 @@ traces record_asked trace = trace && not record_asked
 pub record IsLong (shape : Shape) (scripts : List (List Begin)) (picks : List ℕ) : Type 0 where
   pub events : List Event
   pub made : events_of shape scripts picks ≡ Some events
-  pub long : max_steps < length events
+  pub long : MAX_STEPS < length events
 
 -- the picks that are made of those given: these, and where a thread is stopped behind them those with which each other
 -- thread goes to the end of its script

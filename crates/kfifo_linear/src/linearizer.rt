@@ -1,9 +1,10 @@
 //! Following a schedule event by event.
-ghost use Rattle.std.specs.Prelude.{◌≡◌, ℕ, ◌+◌, ◌-◌, ◌^◌, ◌<◌, ◌≤◌, ◌⊎◌, ◌↔◌, List, [], ◌∷◌, ◌++◌, length, map, true};
-ghost use Rattle.std.specs.Prelude.{IfOk, IfErr, OnErr, Ok, Err};
+ghost use Rattle.std.specs.Prelude.{◌≡◌, ℕ, ◌+◌, ◌-◌, ◌*◌, ◌^◌, ◌<◌, ◌≤◌, ◌⊎◌, ◌↔◌, List, [], ◌∷◌, ◌++◌, length, map, true};
+ghost use Rattle.std.specs.Prelude.{IfOk, IfErr, IfSome, OnErr, Ok, Err};
 ghost use Rattle.kfifo_model.specs.declared.calls.TheConstants.{MAX_THREADS};
 ghost use Rattle.kfifo_machine.specs.Machine;
-ghost use Rattle.kfifo_machine.specs.Machine.{place_of};
+ghost use Rattle.kfifo_machine.specs.Machine.{place_of, word_at};
+ghost use Rattle.kfifo_machine.specs.Places.{IsPlace};
 ghost use Rattle.kfifo_machine.specs.declared.event.Event.{Event};
 ghost use Rattle.kfifo_linear.specs.Notes.{begins_call, action_at};
 ghost use Rattle.kfifo_linear.specs.Following.{Follows};
@@ -79,9 +80,19 @@ impl Linearizer {
 
     /// The place of a thread in its call; none where it is in no call, or no thread has this number.
     pub fn place(&self, thread: u32) -> Option<Running>
-        ensures { result ≡ place_of self.now.world thread }
+        ensures place { result ≡ place_of self.now.world thread }
+        ensures sound { IfSome result (IsPlace self.now.shape) }
     {
         self.state.place(thread)
+    }
+
+    /// The bits of the word with this index: 0 is the ends word, then come the slots, segment by
+    /// segment, and last the clock.
+    pub fn word(&self, index: usize) -> u64
+        requires { index < 2 + self.now.shape.n * self.now.shape.k }
+        ensures { result ≡ word_at self.now.world index }
+    {
+        self.state.word(index)
     }
 
     /// What the next step of a thread will do; nothing, where it is in no call.

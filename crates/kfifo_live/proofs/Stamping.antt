@@ -390,7 +390,7 @@ module _ (o : Opening) (all : List Event) (here : World) (reached : world_after 
       (all_pairs ps g.1 apart.1)
       (across_logs p.pass.thread p.log (all_logs ps) g.0.mine logs (of_others p.pass.thread ps g.1 apart.0))
 
-  -- The calls of all logs by rising first stamps
+  -- The calls of all logs in ascending order of their first stamps
   module _ (ps : List Logged) (h : List Call) (g : AllByRecursion (IsGoodLog o all) ps) (apart : EachPair (λ t u. t ≢ u) (threads_of ps))
       (complete : (t : ℕ) → t < o.threads → list_any (λ p. p.thread == t) (passes_of ps) ≡ true)
       (shuffled : IsPermutation (all_logs ps) h) (sorted : IsNonDecreasingBy (λ c. c.first) h) where

@@ -130,9 +130,9 @@ IsLog p log = IsLogIn p.opened p.thread p.seen log
 abbrev pub new_logs : List PassView → List Logged
 new_logs ps = map (λ p. logged_by p []) ps
 
--- What is gathered of a queue: all logged calls by rising first stamps, each thread's in the order of its log. They are
--- a history with a legal order. By that history alone, where items are distinct, fewer than k overtakings of the item
--- of an enqueue that returned Done are certain
+-- What is gathered of a queue: all logged calls in ascending order of their first stamps, each thread's in the order of
+-- its log. They are a history with a legal order. By that history alone, where items are distinct, fewer than k
+-- overtakings of the item of an enqueue that returned Done are certain
 pub record Gathers (o : Opening) (ps : List Logged) (h : List Call) : Type 0 where
   pub each_once : IsPermutation (all_logs ps) h
   pub rising : (i j : ℕ) → i < j → j < length h → (call h i).first < (call h j).first

@@ -109,11 +109,11 @@ fn take_logs(alloc: Global, passes: Vec<StampPass>) -> Result<(Vec<Call>, Vec<Pa
     Ok((calls, plain))
 }
 
-/// Returns the record of the run, if each pass of the opening is given back: all logged calls, by rising first stamps.
-/// It has a legal order, in which no item is overtaken k times where items are distinct.
+/// Returns the record of the run, if each pass of the opening is given back: all logged calls, in ascending order of
+/// their first stamps. It has a legal order, in which no item is overtaken k times where items are distinct.
 ///
 /// ```rust
-/// let history = gather(alloc, queue, vec![in alloc; pass]?)?; // all logged calls, by rising first stamps
+/// let history = gather(alloc, queue, vec![in alloc; pass]?)?; // all logged calls, in ascending order of first stamps
 /// ```
 ///
 /// Refuses: MissingPass where not each pass of the opening is there once, which is tested first; Memory where an

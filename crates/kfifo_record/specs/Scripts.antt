@@ -73,9 +73,9 @@ pub record MayRun (queue : OpenQueue) (scripts : List (List Begin)) (pass : Logg
   pub few : queue.opened.calls ≤ MAX_STAMPED_CALLS
 
 -- What the run of scripts came to: of one queue, pass t made the calls of script t in turn, each between two stamps.
--- Before each call it passed the gate, by its thread's number and the call's own. The history has the calls by rising
--- first stamps, all of them ended. The calls of thread t are script t in its order, and no other thread made a call.
--- The history has a legal order, and little overtakes (`Gathers`)
+-- Before each call it passed the gate, by its thread's number and the call's own. The history has the calls in
+-- ascending order of their first stamps, all of them ended. The calls of thread t are script t in its order, and no
+-- other thread made a call. The history has a legal order, and little overtakes (`Gathers`)
 pub record IsRecord (passed : ℕ → ℕ → Type 0) (shape : Shape) (scripts : List (List Begin)) (h : List Call)
     : Type 0 where
   pub queue : OpenQueue

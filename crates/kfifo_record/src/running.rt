@@ -17,8 +17,8 @@ use std::alloc::{AllocError, Global};
 use std::thread::{Threads, map_vec};
 
 /// Runs scripts on one queue of this shape, and returns the record of the run. A thread of its own runs script t, call
-/// by call, with pass t. The record has the calls of all threads by rising first stamps. The calls of thread t are
-/// script t in its order: at most 65,536 in all, as many as a record may have.
+/// by call, with pass t. The record has the calls of all threads in ascending order of their first stamps. The calls of
+/// thread t are script t in its order: at most 65,536 in all, as many as a record may have.
 ///
 /// ```rust
 /// let history = record_scripts(threads, alloc, shape, scripts.as_slice(), &OpenGate)?;

@@ -7,4 +7,3 @@ pub mod Picking
 pub mod Opening
 pub mod Reporting
 pub mod Stepping
-pub mod Tracing

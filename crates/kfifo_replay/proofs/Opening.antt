@@ -1,15 +1,19 @@
 -- A replay of no pick.
-use Rattle.std.proofs.Common.{◌≡◌, ℕ, ◌+◌, ◌*◌, ◌≤◌, List, [], length, map, get_or, replicate, refl, ◌∙◌, ap, Vec, Global, arith}
+use Rattle.std.proofs.Common.{◌≡◌, ℕ, ◌+◌, ◌*◌, ◌≤◌, List, [], length, map, get_or, replicate, take, refl, sym, ◌∙◌, ap, subst, Vec}
+use Rattle.std.proofs.Common.{Global, arith}
 use Rattle.std.specs.Prelude.{sum_by}
 use Rattle.std.proofs.lemmas.List.Folds.{fold-map}
 use Rattle.std.proofs.lemmas.List.Sums.{sum_by-le}
-use Rattle.std.proofs.lemmas.List.{length-replicate}
-use Rattle.kfifo_replay.proofs.Types.{Begin, Shape}
+use Rattle.std.proofs.lemmas.List.{length-replicate, take_all}
+use Rattle.kfifo_replay.proofs.Types.{Begin, Event, Shape}
 use Rattle.kfifo_machine.specs.Calls.{blank}
+use Rattle.kfifo_machine.specs.Machine.{opening}
 use Rattle.kfifo_linear.specs.Following.{Follows}
 use Rattle.kfifo_linear.proofs.Base.{get_or_replicate}
 use Rattle.kfifo_replay.specs.Scripts.{AreScripts, calls_in}
+use Rattle.kfifo_replay.specs.declared.steps.Step.{Step}
 use Rattle.kfifo_replay.specs.Player.{Player, StandsFor}
+use Rattle.kfifo_replay.specs.Steps.{AreSteps}
 
 -- the scripts hold 4,096 calls at most
 pub few_calls : (shape : Shape) (scripts : List (List Begin)) → AreScripts shape scripts → calls_in scripts ≤ 4096
@@ -28,9 +32,9 @@ calls_in-map scripts = fold-map (λ a (s : List Begin). a + length s) (λ (scrip
 pub stands_none : (shape : Shape) (scripts : List (List Begin)) (p : Player) → AreScripts shape scripts → p.shape ≡ shape
     → p.scripts ≡ scripts → p.follower.shape ≡ shape
     → Follows (length scripts) (calls_in scripts) [] p.follower → p.begun ≡ replicate (length scripts) 0
-    → p.book.log ≡ blank (length scripts) → calls_in scripts ≤ p.book.room → p.rollbacks ≡ 0
+    → p.book.log ≡ blank (length scripts) → calls_in scripts ≤ p.book.room → p.rollbacks ≡ 0 → p.trace.steps ≡ []
     → StandsFor shape scripts [] p
-stands_none shape scripts p are shape_is scripts_are follower_shape follows begun log room rollbacks =
+stands_none shape scripts p are shape_is scripts_are follower_shape follows begun log room rollbacks none =
     record {
       events = [];
       made = refl;
@@ -44,4 +48,7 @@ stands_none shape scripts p are shape_is scripts_are follower_shape follows begu
       log = log;
       room = room;
       rollbacks = rollbacks;
+      traced = subst (λ (steps : List Step). AreSteps shape (opening shape (length scripts)) (take p.trace.most []) steps) (sym none)
+          (subst (λ (events : List Event). AreSteps shape (opening shape (length scripts)) events [])
+          (sym (take_all p.trace.most [] (omega arith))) tt);
     }

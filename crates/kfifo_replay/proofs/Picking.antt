@@ -1,15 +1,14 @@
 -- One pick of a replay: it makes an event, and the replay then stands for one pick more.
-use Rattle.std.proofs.Common.{◌≡◌, ◌⊎◌, ℕ, ◌+◌, ◌^◌, ◌<◌, ◌≤◌, List, [], ◌∷◌, ◌++◌, length, get_or, set, Option, Some, None, Result, Ok}
-use Rattle.std.proofs.Common.{Err, true, cond, sym, ◌∙◌, ap, subst, inl, inr, arith}
+use Rattle.std.proofs.Common.{◌≡◌, ◌⊎◌, ℕ, ◌+◌, ◌^◌, ◌<◌, ◌≤◌, List, [], ◌∷◌, ◌++◌, length, get_or, set, take, Option, Some, None, Ok}
+use Rattle.std.proofs.Common.{true, cond, sym, ◌∙◌, ap, subst, inl, inr, arith}
 use Rattle.std.specs.Prelude.{slice_get, is_some}
 use Rattle.std.proofs.lemmas.Bool.{cases_eq}
 use Rattle.std.proofs.lemmas.Grind.{get_or-set_at}
 use Rattle.std.proofs.lemmas.List.{get_or-set_other, length-set}
 use Rattle.kfifo_replay.proofs.Types.{Begin, Event, Outcome, Running, Shape}
 use Rattle.kfifo_machine.specs.declared.event.Begin.TheVariants as B
-use Rattle.kfifo_machine.specs.declared.event.NotEnabled.{NotEnabled}
 use Rattle.kfifo_machine.specs.Program.{advance}
-use Rattle.kfifo_machine.specs.Machine.{World, place_of, found, outcome_of, step, after}
+use Rattle.kfifo_machine.specs.Machine.{World, place_of, found, opening, outcome_of, step, after}
 use Rattle.kfifo_machine.specs.Runs.{event, going}
 use Rattle.kfifo_machine.specs.Laws.{counted}
 use Rattle.kfifo_machine.specs.Calls.{Log, logged, log_of}
@@ -17,11 +16,14 @@ use Rattle.kfifo_machine.proofs.Schedules.{Some-injective, StepsFrom, Ticks, ste
 use Rattle.kfifo_machine.proofs.Calls.{log_thread, log_call}
 use Rattle.kfifo_linear.specs.Notes.{begins_call}
 use Rattle.kfifo_linear.specs.Following.{Follower, Follows}
-use Rattle.kfifo_replay.specs.Scripts.{calls_in}
+use Rattle.kfifo_replay.specs.Scripts.{IsCall, calls_in}
 use Rattle.kfifo_replay.specs.Picks.{begun_by, script_of, next_call, event_at, and_then, events_of}
-use Rattle.kfifo_replay.specs.Player.{Book, Player, StandsFor, IsRefused, undoes, is_undoing, takes_back, undos}
+use Rattle.kfifo_replay.specs.Player.{Book, Player, StandsFor, Trace, IsRefused, undoes, is_undoing, takes_back, undos}
+use Rattle.kfifo_replay.specs.Steps.{AreSteps, IsStep}
+use Rattle.kfifo_replay.specs.Traces.{KeepsStep}
 use Rattle.kfifo_replay.proofs.Events.{events_of-snoc, picked_in, how_made, begun_by-goes_on, begun_by-own, begun_by-other}
-use Rattle.kfifo_replay.proofs.Within.{IsWithin, Makes, makes, few_events, within_picks, log_more, script_is}
+use Rattle.kfifo_replay.proofs.Stepping.{kept_more}
+use Rattle.kfifo_replay.proofs.Within.{IsWithin, Makes, makes, few_events, within_picks, log_more, next_is_call, script_is}
 use Rattle.kfifo_replay.proofs.Undos.{takes_back-false, undo_told, first_no_undo, undos-snoc, few_undos}
 
 -- the event that a replay sees for a pick of a thread
@@ -77,11 +79,32 @@ module _ (shape : Shape) (scripts : List (List Begin)) (picks : List ℕ) (p : P
     pub thread_within : thread < length p.begun
     thread_within = let t : e.thread < length scripts = makes_event.thread in omega (arith, t, own_thread, s.threads)
 
-    pub never_refused : (fault : NotEnabled) → step p.follower.shape p.follower.world e ≡ Err fault → ⊥
-    never_refused fault is =
-        let h : ◌≡◌ {A = Result (World × Outcome) NotEnabled} (Ok (makes_event.there, makes_event.outcome)) (Err fault) =
-        sym makes_event.made ∙ ap (λ (x : Shape). step x p.follower.world e) (sym s.follower_shape) ∙ is in
-        absurd (cc)
+    pub enabled : (there : World) × (outcome : Outcome) × (step p.follower.shape p.follower.world e ≡ Ok (there, outcome))
+    enabled = (
+      makes_event.there,
+      makes_event.outcome,
+      ap (λ (x : Shape). step x p.follower.world e) s.follower_shape ∙ makes_event.made,
+    )
+
+    never_ticks : e.begin ≡ Some B.Tick → ⊥
+    never_ticks ticks =
+        elim (how_made thread (place_of p.follower.world thread) (next_call scripts thread s.events) e (sym (sees_is thread) ∙ picks_e)) [
+          | inl on ↦
+              let none : e.begin ≡ None = ap (λ (x : Event). x.begin) on.is in
+              let h : None ≡ Some B.Tick = sym none ∙ ticks in
+              absurd (cc)
+          | inr begins ↦
+              let some : e.begin ≡ Some begins.call = ap (λ (x : Event). x.begin) begins.is in
+              subst (IsCall shape) (Some-injective begins.call B.Tick (sym some ∙ ticks))
+              (next_is_call shape scripts thread s.events begins.call s.are_scripts begins.next_is)
+        ]
+
+    pub goes : (running : Running) × (going p.follower.shape (place_of p.follower.world e.thread) e.begin ≡ Some running)
+    goes =
+        elim (stepped p.follower.shape p.follower.world e enabled.0 enabled.1 enabled.2) [
+          | inl from ↦ (from.running, from.goes)
+          | inr ticks ↦ absurd (never_ticks ticks.begins)
+        ]
 
     pub room_for_call : begins_call e.begin ≡ true → p.follower.notes.begun < length p.follower.notes.calls
     room_for_call begins = omega (arith, makes_event.room begins, s.follows.begun, s.follows.sizes.calls)
@@ -203,14 +226,23 @@ module _ (shape : Shape) (scripts : List (List Begin)) (picks : List ℕ) (p : P
               ]
 
       -- The replay then stands for one pick more
-      pub stands_on : (f : Follower) (book : Book) (begun : List ℕ) (rollbacks : ℕ) → f.shape ≡ p.follower.shape
+      pub stands_on : (f : Follower) (book : Book) (begun : List ℕ) (rollbacks : ℕ) (trace : Trace) → f.shape ≡ p.follower.shape
           → Follows (length scripts) (calls_in scripts) (s.events ++ e ∷ []) f
           → book.log ≡ logged p.follower.notes.step e.thread e.begin outcome p.book.log → p.book.room ≤ book.room
           → begun ≡ set p.begun thread (get_or p.begun thread 0 + cond (is_some e.begin) 1 0)
           → rollbacks ≡ p.rollbacks + cond (takes_back (is_undoing (place_of p.follower.world thread)) outcome) 1 0
+          → KeepsStep p.follower.shape p.follower.world e there p.trace trace
           → StandsFor shape scripts (picks ++ thread ∷ [])
-          (record { shape = p.shape; scripts = p.scripts; follower = f; begun = begun; book = book; rollbacks = rollbacks })
-      stands_on f book begun rollbacks same follows log room begun_is rollbacks_is =
+          (record {
+            shape = p.shape;
+            scripts = p.scripts;
+            follower = f;
+            begun = begun;
+            book = book;
+            rollbacks = rollbacks;
+            trace = trace;
+          })
+      stands_on f book begun rollbacks trace same follows log room begun_is rollbacks_is keeps =
           record {
             events = s.events ++ e ∷ [];
             made = one_more thread ∙ ap (and_then s.events) picks_e;
@@ -227,4 +259,8 @@ module _ (shape : Shape) (scripts : List (List Begin)) (picks : List ℕ) (p : P
                 ∙ sym (log_more shape (length scripts) s.events p.follower.world there outcome e reached_by made_so);
             room = omega (arith, room, s.room);
             rollbacks = rollbacks_is ∙ rollbacks_then;
+            traced = subst (λ (t : Trace). AreSteps shape (opening shape (length scripts)) (take t.most (s.events ++ e ∷ [])) t.steps)
+                (sym keeps.2)
+                (kept_more p.trace.most shape (opening shape (length scripts)) p.follower.world there s.events p.trace.steps e keeps.0
+                s.traced reached_by (subst (λ (x : Shape). IsStep x p.follower.world e there keeps.0) s.follower_shape keeps.1));
           }

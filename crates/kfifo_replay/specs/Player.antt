@@ -17,7 +17,9 @@ use Rattle.kfifo_linear.specs.Following.{Follower, Follows}
 use Rattle.kfifo_replay.specs.declared.fault.ReplayFault.{ReplayFault}
 use Rattle.kfifo_replay.specs.declared.fault.ReplayFault.TheVariants.{BadPick}
 use Rattle.kfifo_replay.specs.Scripts.{AreScripts, calls_in}
+use Rattle.kfifo_replay.specs.declared.steps.Step.{Step}
 use Rattle.kfifo_replay.specs.Picks.{begun_by, events_of}
+use Rattle.kfifo_replay.specs.Steps.{AreSteps}
 
 -- a step from this place that finds this word is a won undo: it takes back the item that the call had put
 abbrev pub undoes : Running → ℕ → Bool
@@ -43,14 +45,20 @@ pub record Book : Type 0 where
   pub log : Log
   pub room : ℕ
 
+-- what the first events did, and the greatest number of events for which this is kept
+pub record Trace : Type 0 where
+  pub most : ℕ
+  pub steps : List Step
+
 pub record Player : Type 0 where
   pub shape : Shape
   pub scripts : List (List Begin)
-  -- the linearizer, how many calls each thread has begun, the calls themselves, and the number of won undos
+  -- the linearizer, how many calls each thread has begun, the calls themselves, the number of won undos, and the trace
   pub follower : Follower
   pub begun : List ℕ
   pub book : Book
   pub rollbacks : ℕ
+  pub trace : Trace
 
 -- It stands for these picks: its fields are those that they give
 pub record StandsFor (shape : Shape) (scripts : List (List Begin)) (picks : List ℕ) (p : Player) : Type 0 where
@@ -66,6 +74,7 @@ pub record StandsFor (shape : Shape) (scripts : List (List Begin)) (picks : List
   pub log : p.book.log ≡ log_of shape (length scripts) events
   pub room : calls_in scripts ≤ p.book.room
   pub rollbacks : p.rollbacks ≡ undos shape (length scripts) events
+  pub traced : AreSteps shape (opening shape (length scripts)) (take p.trace.most events) p.trace.steps
 
 -- it stands for some picks
 pub record IsReplay (p : Player) : Type 0 where

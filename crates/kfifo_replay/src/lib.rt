@@ -6,10 +6,9 @@ mod fault;
 mod player;
 mod report;
 mod steps;
-mod tracer;
+mod trace;
 
 pub use fault::ReplayFault;
 pub use player::{MAX_SCRIPT_CALLS, Replay};
 pub use report::{Report, replay};
 pub use steps::Step;
-pub use tracer::{MAX_STEPS, Tracer};

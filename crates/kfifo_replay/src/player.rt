@@ -1,19 +1,23 @@
 //! Replays, pick by pick.
 ghost use Rattle.std.specs.Prelude.{◌≡◌, ℕ, ◌+◌, ◌^◌, ◌<◌, ◌≤◌, ◌↔◌, List, [], ◌∷◌, ◌++◌, length, map, replicate};
-ghost use Rattle.std.specs.Prelude.{get_or, slice_get, All, sum_by, true, false, IsTrue, IfOk, IfErr, OnOk, OnErr, Err};
+ghost use Rattle.std.specs.Prelude.{get_or, slice_get, All, sum_by, true, false, IsTrue, IfOk, IfErr, OnOk, OnErr};
+ghost use Rattle.std.specs.Prelude.{Some, Err};
 ghost use Rattle.kfifo_words.specs.declared.shape.Shape.{Shape};
 ghost use Rattle.kfifo_machine.specs.declared.event.Begin.{Begin};
-ghost use Rattle.kfifo_machine.specs.Machine.{place_of};
+ghost use Rattle.kfifo_machine.specs.declared.event.Event.{Event};
 ghost use Rattle.kfifo_replay.specs.Scripts.{IsCall, IsScript, AreScripts};
-ghost use Rattle.kfifo_replay.specs.Picks.{script_of, event_at};
+ghost use Rattle.kfifo_replay.specs.Picks.{script_of, event_at, events_of};
 ghost use Rattle.kfifo_replay.specs.Player.{StandsFor, IsRefused, Stops, OfItsPicks};
 ghost use Rattle.kfifo_replay.specs.Player;
 ghost use Rattle.kfifo_replay.specs.Finishing.{Ended, Finished};
 ghost use Rattle.kfifo_replay.specs.Reports.{ArePoints, IsHistoryOf, IsReport};
+ghost use Rattle.kfifo_replay.specs.Traces.{IsTrace};
 
 use crate::book::Book;
 use crate::fault::ReplayFault;
 use crate::report::{Report, count_unfinished, greatest_of};
+use crate::steps::{Step, make};
+use crate::trace::Trace;
 use kfifo_linear::Linearizer;
 use kfifo_machine::{Begin, EnqueuePhase, Event, MAX_THREADS, Outcome, Running};
 use kfifo_model::{Answer, History, MAX_ITEM, RankFault, ranks};
@@ -29,7 +33,7 @@ pub const MAX_SCRIPT_CALLS: usize = 64;
 /// ```rust
 /// let mut replay = Replay::open(alloc, shape, scripts)?;
 /// replay.feed(picks)?; // these picks, one by one
-/// replay.feed_many(thread, count)?; // one pick so many times, with no list
+/// replay.feed_many(thread, count)?; // one pick, repeated a given number of times, with no list
 /// replay.finish(stopped)?; // all threads but this one go to the ends of their scripts
 /// let report = replay.report(alloc)?;
 /// ```
@@ -44,6 +48,7 @@ pub struct Replay {
     begun: Vec<usize>,
     book: Book,
     rollbacks: u64,
+    trace: Trace,
 }
 
 impl Model for Replay {
@@ -59,6 +64,7 @@ impl Model for Replay {
       begun = r.begun.items;
       book = r.book;
       rollbacks = r.rollbacks;
+      trace = r.trace;
     } };
 
     ghost invariant = { λ r. IsReplay (record {
@@ -68,6 +74,7 @@ impl Model for Replay {
       begun = r.begun.items;
       book = r.book;
       rollbacks = r.rollbacks;
+      trace = r.trace;
     }) };
 }
 
@@ -169,6 +176,31 @@ impl Replay {
             ↔ (AreScripts shape (map (λ script. script.items) scripts.now) → ⊥) }
         ensures no_pick { (place : ℕ) → result ≡ Err (ReplayFault.BadPick place) → ⊥ }
     {
+        Replay::open_traced(alloc, shape, scripts, 0)
+    }
+
+    /// Returns such a replay that also keeps what each event did, of the first `most` events. It has room for all of
+    /// them, some 150 bytes each. It refuses what `open` refuses.
+    ///
+    /// ```rust
+    /// let mut replay = Replay::open_traced(alloc, shape, scripts, 1000)?;
+    /// replay.finish(thread)?;
+    /// push_trace(&mut text, shape.k(), replay.steps())?;
+    /// ```
+    ///
+    /// Here `push_trace` of `kfifo_cli_texts` writes a line for each step.
+    pub fn open_traced(
+        alloc: Global,
+        shape: Shape,
+        scripts: &[Vec<Begin>],
+        most: usize,
+    ) -> Result<Replay, ReplayFault>
+        ensures opened { IfOk result (λ r. StandsFor shape (map (λ script. script.items) scripts.now) [] r) }
+        ensures most { IfOk result (λ r. r.trace.most ≡ most) }
+        ensures refused { (result ≡ Err ReplayFault.BadScript)
+            ↔ (AreScripts shape (map (λ script. script.items) scripts.now) → ⊥) }
+        ensures no_pick { (place : ℕ) → result ≡ Err (ReplayFault.BadPick place) → ⊥ }
+    {
         if !are_scripts(&shape, scripts) {
             return Err(ReplayFault::BadScript);
         }
@@ -185,6 +217,7 @@ impl Replay {
             begun: vec![in alloc; 0; threads]?,
             book: Book::new(alloc, threads, room)?,
             rollbacks: 0,
+            trace: Trace::new(alloc, most)?,
         })
     }
 
@@ -210,30 +243,8 @@ impl Replay {
         Some(Event { thread, begin })
     }
 
-    /// The number of its threads.
-    pub(crate) fn threads(&self) -> u32
-        ensures { result ≡ length self.now.scripts }
-    {
-        self.scripts.len() as u32
-    }
-
-    /// The number of events that it has made.
-    pub(crate) fn count(&self) -> u64
-        ensures { result ≡ self.now.follower.notes.step }
-    {
-        self.linearizer.steps()
-    }
-
-    /// The event that a pick of this thread makes next; none where the pick is refused.
-    pub(crate) fn next_event(&self, thread: u32) -> Option<Event>
-        ensures { result ≡ event_at thread (place_of self.now.follower.world thread)
-            (slice_get (script_of self.now.scripts thread) (get_or self.now.begun thread 0)) }
-    {
-        self.event(thread, &self.linearizer.place(thread))
-    }
-
     /// Makes the event of this pick, or returns false where it is refused, and stays as it was.
-    pub(crate) fn pick(&mut self, thread: u32) -> bool
+    fn pick(&mut self, thread: u32) -> bool
         ensures made { result ≡ true → OfItsPicks self.old
             (λ shape scripts earlier. StandsFor shape scripts (earlier ++ thread ∷ []) self.new) }
         ensures refused { result ≡ false → OfItsPicks self.old
@@ -241,6 +252,7 @@ impl Replay {
         ensures unchanged { result ≡ false → self.new ≡ self.old }
         ensures steps { result ≡ true → self.new.follower.notes.step ≡ self.old.follower.notes.step + 1 }
         ensures few { self.new.follower.notes.step < 2 ^ 64 }
+        ensures most { self.new.trace.most ≡ self.old.trace.most }
     {
         let place = self.linearizer.place(thread);
         let undoing = is_undoing(&place);
@@ -248,10 +260,7 @@ impl Replay {
             return false;
         };
         let step = self.linearizer.steps();
-        let outcome = match self.linearizer.feed(event) {
-            Ok(outcome) => outcome,
-            Err(_fault) => unreachable!(),
-        };
+        let outcome = make(&mut self.linearizer, &mut self.trace, &self.shape, event);
         self.book.note(step, event, outcome);
         self.begun[thread as usize] += usize::from(event.begin.is_some());
         self.rollbacks += u64::from(takes_back(undoing, outcome));
@@ -268,6 +277,7 @@ impl Replay {
             (λ shape scripts earlier. StandsFor shape scripts (earlier ++ picks.now) self.new)) }
         ensures refused { IfErr result (λ fault.
             OfItsPicks self.old (λ shape scripts earlier. Stops shape scripts earlier picks.now fault self.new)) }
+        ensures most { self.new.trace.most ≡ self.old.trace.most }
     {
         for (place, thread) in picks.iter().enumerate() {
             if !self.pick(*thread) {
@@ -277,13 +287,14 @@ impl Replay {
         Ok(())
     }
 
-    /// Makes the events of this pick so many times, and refuses as `feed` does with such a list.
+    /// Makes the events of this pick, repeated a given number of times, and refuses as `feed` does with such a list.
     pub fn feed_many(&mut self, pick: u32, count: u32) -> Result<(), ReplayFault>
         ensures made { OnOk result (OfItsPicks self.old
             (λ shape scripts earlier. StandsFor shape scripts (earlier ++ replicate count pick) self.new)) }
         ensures refused { IfErr result (λ fault.
             OfItsPicks self.old (λ shape scripts earlier.
             Stops shape scripts earlier (replicate count pick) fault self.new)) }
+        ensures most { self.new.trace.most ≡ self.old.trace.most }
     {
         for place in 0..count {
             if !self.pick(pick) {
@@ -295,7 +306,8 @@ impl Replay {
 
     /// A thread makes all events that its script still has.
     fn go_to_end(&mut self, thread: u32)
-        ensures { OfItsPicks self.old (λ shape scripts earlier. Ended shape scripts thread earlier self.new) }
+        ensures ended { OfItsPicks self.old (λ shape scripts earlier. Ended shape scripts thread earlier self.new) }
+        ensures most { self.new.trace.most ≡ self.old.trace.most }
     {
         while self.pick(thread) {}
     }
@@ -311,6 +323,7 @@ impl Replay {
         ensures refused { IfErr result (λ fault. (fault ≡ ReplayFault.BadScript)
             × (length self.old.scripts ≤ stopped)) }
         ensures unchanged { OnErr result (self.new ≡ self.old) }
+        ensures most { self.new.trace.most ≡ self.old.trace.most }
     {
         let threads = self.scripts.len() as u32;
         if stopped >= threads {
@@ -322,6 +335,23 @@ impl Replay {
             }
         }
         Ok(())
+    }
+
+    /// The number of events that were made.
+    pub fn count(&self) -> u64
+        ensures { OfItsPicks self.now (λ shape scripts picks. (events : List Event)
+            → events_of shape scripts picks ≡ Some events → result ≡ length events) }
+    {
+        self.linearizer.steps()
+    }
+
+    /// What each event did, one after the other, from the first one on: of all events, or of the first `most` of
+    /// `open_traced` where there are more. `open` keeps none.
+    pub fn steps(&self) -> &[Step]
+        ensures { OfItsPicks self.now (λ shape scripts picks.
+            IsTrace shape scripts picks self.now.trace.most result.now) }
+    {
+        self.trace.steps()
     }
 
     /// The points of the calls in the linearization order, in turn: each is a step of the schedule, between

@@ -205,7 +205,7 @@ pub fn as_on_the_page(
 ) -> Result<Report, ReplayFault> {
     let mut replay = Replay::open(alloc, shape, scripts)?;
     replay.feed(picks)?; // these picks, one by one
-    replay.feed_many(thread, count)?; // one pick so many times, with no list
+    replay.feed_many(thread, count)?; // one pick, repeated a given number of times, with no list
     replay.finish(stopped)?; // all threads but this one go to the ends of their scripts
     let report = replay.report(alloc)?;
     Ok(report)

@@ -34,7 +34,7 @@ fn stamped_calls(rt: HostRuntime) -> Result<(), Fail> {
     let put = pass.enqueue(&queue, 7, 0, 258);
     let took = pass.dequeue(&queue, 0, 258);
     let third = pass.dequeue(&queue, 0, 258); // None, since the log is full
-    let history = gather(alloc, queue, vec![in alloc; pass]?)?; // all logged calls, by rising first stamps
+    let history = gather(alloc, queue, vec![in alloc; pass]?)?; // all logged calls, in ascending order of first stamps
     assert_eq!(rt; put, Some(Answer::Done));
     assert_eq!(rt; took, Some(Answer::Got(7)));
     assert_eq!(rt; third, None);

@@ -1,6 +1,6 @@
 //! The command `replay`: scripts run on the machine in the order of given picks.
 ghost use Rattle.std.specs.Prelude.{◌≡◌, ◌≢◌, ◌⊎◌, ◌≤◌, ◌+◌, ◌++◌, ◌∷◌, [], List, ℕ, IfOk, IfErr, OnOk, map, replicate};
-ghost use Rattle.std.specs.Prelude.{string_bytes};
+ghost use Rattle.std.specs.Prelude.{string_bytes, true};
 ghost use Rattle.kfifo_words.specs.declared.shape.Shape.{Shape as ShapeData};
 ghost use Rattle.kfifo_machine.specs.declared.event.Begin.{Begin as BeginData};
 ghost use Rattle.kfifo_replay.specs.Player.{OfItsPicks, StandsFor, Stops};
@@ -12,7 +12,7 @@ ghost use Rattle.kfifo_cli_commands.specs.Replays.{IsReplayRefusal, IsReplayText
 ghost use Rattle.kfifo_cli_commands.specs.Replays.{first_lines, last_lines, traces};
 
 use crate::progress::{Meter, Progress};
-use crate::tracing;
+use crate::tracing::{self, MAX_STEPS};
 use kfifo_cli_requests::ReplayOptions;
 use kfifo_cli_texts::{Fault, Group, read_picks, read_scripts, record_text};
 use kfifo_judge::push_numbers;
@@ -63,11 +63,10 @@ fn played<P: Progress>(
     ensures err { let own = map (λ script. script.items) scripts.now in
         IfErr result (IsUnplayed options.now shape own (picks_of groups.now)) }
 {
+    let replay = play(alloc, options, shape, scripts, groups, progress)?;
     if is_traced(options) {
-        let tracer = tracing::play(alloc, shape, scripts, groups, options.stopped, progress)?;
-        tracing::text_of(alloc, options, shape, &tracer)
+        tracing::text_of(alloc, options, shape, &replay)
     } else {
-        let replay = play(alloc, shape, scripts, groups, options.stopped, progress)?;
         text_of(alloc, options, &replay)
     }
 }
@@ -79,26 +78,35 @@ fn is_traced(options: &ReplayOptions<'_>) -> bool
     options.trace && !options.record
 }
 
+/// Of how many events the replay keeps what they did: of none where their lines are not printed.
+fn steps_kept(options: &ReplayOptions<'_>) -> usize
+    ensures { traces options.now.record options.now.trace ≡ true → result ≡ MAX_STEPS }
+{
+    if is_traced(options) { MAX_STEPS } else { 0 }
+}
+
 /// The replay that has made these picks, and has then gone on to the ends of the scripts where a thread is stopped.
 fn play<P: Progress>(
     alloc: Global,
+    options: &ReplayOptions<'_>,
     shape: Shape,
     scripts: &[Vec<Begin>],
     groups: &[Group],
-    stopped: Option<u32>,
     progress: &mut P,
 ) -> Result<Replay, ReplayFault>
     requires { count_of groups.now ≤ MAX_PICKS }
     ensures ok { let own = map (λ script. script.items) scripts.now in
-        IfOk result (λ replay. (made : List ℕ) × Makes stopped shape own (picks_of groups.now) made
+        IfOk result (λ replay. (made : List ℕ) × Makes options.now.stopped shape own (picks_of groups.now) made
         × StandsFor shape own made replay) }
-    ensures err { IfErr result (IsRefusal stopped shape (map (λ script. script.items) scripts.now)
+    ensures kept { let o = options.now in
+        IfOk result (λ replay. traces o.record o.trace ≡ true → replay.trace.most ≡ MAX_STEPS) }
+    ensures err { IfErr result (IsRefusal options.now.stopped shape (map (λ script. script.items) scripts.now)
         (picks_of groups.now)) }
 {
-    let mut replay = Replay::open(alloc, shape, scripts)?;
+    let mut replay = Replay::open_traced(alloc, shape, scripts, steps_kept(options))?;
     let mut meter = Meter::new(progress, count_picks(groups));
     feed(&mut replay, groups, &mut meter)?;
-    match stopped {
+    match options.stopped {
         Some(thread) => {
             replay.finish(thread)?;
             Ok(replay)
@@ -108,7 +116,7 @@ fn play<P: Progress>(
 }
 
 /// How many picks the groups are.
-pub(crate) fn count_picks(groups: &[Group]) -> u64
+fn count_picks(groups: &[Group]) -> u64
     requires { count_of groups.now ≤ MAX_PICKS }
     ensures { result ≡ count_of groups.now }
 {
@@ -128,6 +136,7 @@ fn feed<P: Progress>(
         StandsFor shape scripts (earlier ++ picks_of groups.now) replay.new)) }
     ensures refused { IfErr result (λ fault. OfItsPicks replay.old (λ shape scripts earlier.
         Stops shape scripts earlier (picks_of groups.now) fault replay.new)) }
+    ensures most { replay.new.trace.most ≡ replay.old.trace.most }
 {
     let mut made: usize = 0;
     for group in groups {
@@ -152,6 +161,7 @@ fn feed_group<P: Progress>(
         StandsFor shape scripts (earlier ++ replicate group.count group.thread) replay.new)) }
     ensures refused { IfErr result (λ fault. OfItsPicks replay.old (λ shape scripts earlier.
         Stops shape scripts earlier (replicate group.count group.thread) fault replay.new)) }
+    ensures most { replay.new.trace.most ≡ replay.old.trace.most }
 {
     let mut fed: u32 = 0;
     while fed < group.count {
@@ -166,7 +176,7 @@ fn feed_group<P: Progress>(
 }
 
 /// The fault of picks that stand behind so many.
-pub(crate) fn behind(made: usize, fault: ReplayFault) -> ReplayFault
+fn behind(made: usize, fault: ReplayFault) -> ReplayFault
     requires { (place : ℕ) → fault ≡ ReplayFault.BadPick place → made + place ≤ MAX_PICKS }
     ensures { result ≡ picks.behind made fault }
 {

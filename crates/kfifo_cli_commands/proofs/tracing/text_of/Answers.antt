@@ -1,5 +1,5 @@
-use Rattle.std.proofs.Common.{◌≡◌, ◌≤◌, ◌++◌, inr, refl, arith, string_bytes, subst, sym}
-use Rattle.kfifo_replay.specs.Player.{StandsFor}
+use Rattle.std.proofs.Common.{◌≡◌, ◌≤◌, ◌++◌, inr, refl, arith, string_bytes, subst}
+use Rattle.kfifo_replay.specs.Traces.{IsTrace}
 use Rattle.kfifo_cli_texts.specs.TraceLines.{trace_lines}
 use Rattle.kfifo_cli_commands.proofs.EventLines.{is_long, is_traced}
 use Rattle.kfifo_cli_commands.proofs.tracing.text_of.Goals as goal
@@ -7,18 +7,17 @@ use Rattle.kfifo_cli_commands.proofs.tracing.text_of.Goals as goal
 pub returns-then-count-clause-err : goal.returns-then-count-clause-err
 returns-then-count-clause-err c = inr (inr (
   refl,
-  λ scripts picks traces.
-      is_long c.args.shape scripts picks c.count.result (c.count.ensures c.args.shape scripts picks traces) c.args.tracer.now traces
+  λ scripts picks stands.
+      is_long c.args.shape scripts picks c.count.result (c.count.ensures c.args.shape scripts picks stands) c.args.replay.now stands
       (omega (arith, c.if-count.true)),
 ))
 
 pub returns-clause-ok : goal.returns-clause-ok
-returns-clause-ok c scripts picks traces =
-    let counted = c.count.ensures c.args.shape scripts picks traces in
-    let trace = c.steps.ensures c.args.shape scripts picks traces in
+returns-clause-ok c scripts picks stands =
+    let counted = c.count.ensures c.args.shape scripts picks stands in
+    let trace = subst (λ most. IsTrace c.args.shape scripts picks most c.steps.result.now) c.requires
+    (c.steps.ensures c.args.shape scripts picks stands) in
     let few : c.count.result ≤ 65536 = omega (arith, c.if-count.false) in
-    let stands : StandsFor c.args.shape scripts picks c.replay.result.now =
-    subst (StandsFor c.args.shape scripts picks) (sym c.replay.ensures) traces.stands in
     let reported = c.in_ok-report.ensures.ok c.args.shape scripts picks stands in
     let is : string_bytes c.push_str.new.self ≡ trace_lines c.args.shape.k 0 c.steps.result.now ++ string_bytes c.in_ok-report.report =
     rw (c.in_ok-push_str.ensures.bytes, c.in_ok-push_trace.ensures, c.new-text.ensures.bytes, c.k.ensures, c.as_str.ensures.value) refl in

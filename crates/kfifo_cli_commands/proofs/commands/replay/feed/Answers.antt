@@ -1,4 +1,4 @@
-use Rattle.std.proofs.Common.{arith, get_or, subst}
+use Rattle.std.proofs.Common.{◌∙◌, arith, get_or, subst}
 use Rattle.std.proofs.lemmas.List.Sums.{sum_by_more, sum_by_more_le}
 use Rattle.kfifo_replay.specs.Player.{StandsFor}
 use Rattle.kfifo_cli_commands.proofs.Feeding.{no_group, one_more, place_within, stops_on}
@@ -20,6 +20,7 @@ behind-requires g c place is =
 
 pub loop-group-preserved : goal.loop-group-preserved
 loop-group-preserved g c = record {
+  most = c.feed_group.ensures.most ∙ c.loop-group.invariant.most;
   count = let sums = sum_by_more (λ group. group.count) c.args.groups.now c.loop-group.group-index no_group c.loop-group-test.true in
       omega (arith, sums, c.loop-group.invariant.count);
   stands = λ shape scripts earlier opened.

@@ -1,4 +1,4 @@
-use Rattle.std.proofs.Common.{◌+◌, ◌-◌, ◌≤◌, arith, subst}
+use Rattle.std.proofs.Common.{◌∙◌, ◌+◌, ◌-◌, ◌≤◌, arith, subst}
 use Rattle.std.proofs.Math.Nat.{min-le_right}
 use Rattle.kfifo_replay.specs.Player.{StandsFor}
 use Rattle.kfifo_cli_commands.proofs.Types.{Group}
@@ -17,6 +17,7 @@ behind-requires g c place is =
 
 pub loop-fed-preserved : goal.loop-fed-preserved
 loop-fed-preserved g c = record {
+  most = c.feed_many.ensures.most ∙ c.loop-fed.invariant.most;
   within = let room = min-le_right c.room.result (c.args.group.count - c.loop-fed.fed) in
       omega (arith, room, c.min-piece.ensures, c.loop-fed.invariant.within);
   stands = λ shape scripts earlier opened.

@@ -1,4 +1,4 @@
-use Rattle.std.proofs.Common.{refl, map, ◌<◌, List, ◌++◌, length, subst}
+use Rattle.std.proofs.Common.{◌∙◌, refl, map, ◌<◌, List, ◌++◌, length, subst}
 use Rattle.kfifo_cli_commands.proofs.Types.{Begin}
 use Rattle.kfifo_cli_texts.specs.Picks.{picks_of}
 use Rattle.kfifo_cli_commands.proofs.commands.replay.play.Goals as goal
@@ -25,3 +25,10 @@ returns-in-None-clause-ok g c =
     let own = map (λ script. script.items) c.args.scripts.now in
     let fed = c.in_ok-feed.ensures.made c.args.shape own _ c.in_ok-replay.ensures.opened in
     rw c.in-None.is (picks_of c.args.groups.now, refl, fed)
+
+pub returns-in_ok-finish-in-Some-clause-kept : goal.returns-in_ok-finish-in-Some-clause-kept
+returns-in_ok-finish-in-Some-clause-kept g c asked =
+    c.in_ok-finish-in-Some.ensures.most ∙ c.feed.ensures.most ∙ c.in_ok-replay.ensures.most ∙ c.steps_kept.ensures asked
+
+pub returns-in-None-clause-kept : goal.returns-in-None-clause-kept
+returns-in-None-clause-kept g c asked = c.feed.ensures.most ∙ c.in_ok-replay.ensures.most ∙ c.steps_kept.ensures asked

@@ -7,7 +7,7 @@ use Rattle.kfifo_replay.proofs.player.Replay.feed_many.Goals as goal
 pub returns-then-not-pick-clause-refused : goal.returns-then-not-pick-clause-refused
 returns-then-not-pick-clause-refused c shape scripts earlier stands =
     let now : StandsFor shape scripts (earlier ++ replicate c.loop-place.place c.args.pick) c.loop-place.self =
-    c.loop-place.invariant shape scripts earlier stands in
+    c.loop-place.invariant.stands shape scripts earlier stands in
     let before : replicate c.loop-place.place c.args.pick ≡ take c.loop-place.place (replicate c.args.count c.args.pick) =
     sym (take-replicate c.loop-place.place c.args.count c.args.pick (omega (arith, c.loop-place-test.true))) in
     let next : c.args.pick ≡ get_or (replicate c.args.count c.args.pick) c.loop-place.place 0 =

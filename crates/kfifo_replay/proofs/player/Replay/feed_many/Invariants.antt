@@ -1,9 +1,12 @@
 -- So many picks were made.
-use Rattle.std.proofs.Common.{ℕ, List, ◌++◌, replicate}
+use Rattle.std.proofs.Common.{◌≡◌, ℕ, List, ◌++◌, replicate}
 use Rattle.kfifo_replay.proofs.Types.{Begin, Shape}
 use Rattle.kfifo_replay.specs.Player.{StandsFor}
 use Rattle.kfifo_replay.proofs.player.Replay.feed_many.Given as goal
 
 abbrev pub invariant-loop-place : goal.invariant-loop-place
-invariant-loop-place l = (shape : Shape) (scripts : List (List Begin)) (earlier : List ℕ) → StandsFor shape scripts earlier l.initial.self
-    → StandsFor shape scripts (earlier ++ replicate l.place l.pick) l.self
+invariant-loop-place l = record {
+  most : l.self.trace.most ≡ l.initial.self.trace.most;
+  stands : (shape : Shape) (scripts : List (List Begin)) (earlier : List ℕ) → StandsFor shape scripts earlier l.initial.self
+      → StandsFor shape scripts (earlier ++ replicate l.place l.pick) l.self;
+}

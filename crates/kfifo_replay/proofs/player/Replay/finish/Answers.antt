@@ -22,22 +22,29 @@ finished_more stopped shape scripts thread earlier before own p fin goes stands 
     )
 
 pub loop-thread-preserved : goal.loop-thread-preserved
-loop-thread-preserved c shape scripts earlier stands =
-    let was : Finished c.args.stopped shape scripts c.loop-thread.thread earlier c.loop-thread.self =
-    c.loop-thread.invariant shape scripts earlier stands in
-    elim c.if-thread-stopped.branch [
-      | then-thread-stopped w ↦
-          let gone : Ended shape scripts c.loop-thread.thread (earlier ++ was.0) w.go_to_end.new.self =
-          w.go_to_end.ensures shape scripts (earlier ++ was.0) was.2 in
-          subst (Finished c.args.stopped shape scripts (c.loop-thread.thread + 1) earlier) (sym w.self-is)
-          (finished_more c.args.stopped shape scripts c.loop-thread.thread earlier was.0 gone.0 w.go_to_end.new.self was.1
-          (inr (w.if-thread-stopped.true, gone.1)) gone.2)
-      | else-thread-stopped w ↦
-          subst (Finished c.args.stopped shape scripts (c.loop-thread.thread + 1) earlier) (sym w.self-is)
-          (finished_more c.args.stopped shape scripts c.loop-thread.thread earlier was.0 [] c.loop-thread.self was.1
-          (inl (w.if-thread-stopped.false, refl))
-          (subst (λ (xs : List ℕ). StandsFor shape scripts xs c.loop-thread.self) (sym (append-nil (earlier ++ was.0))) was.2))
-    ]
+loop-thread-preserved c = record {
+  most = elim c.if-thread-stopped.branch [
+    | then-thread-stopped w ↦
+        ap (λ (p : Player). p.trace.most) w.self-is ∙ w.go_to_end.ensures.most ∙ c.loop-thread.invariant.most
+    | else-thread-stopped w ↦ ap (λ (p : Player). p.trace.most) w.self-is ∙ c.loop-thread.invariant.most
+  ];
+  finished = λ shape scripts earlier stands.
+      let was : Finished c.args.stopped shape scripts c.loop-thread.thread earlier c.loop-thread.self =
+      c.loop-thread.invariant.finished shape scripts earlier stands in
+      elim c.if-thread-stopped.branch [
+        | then-thread-stopped w ↦
+            let gone : Ended shape scripts c.loop-thread.thread (earlier ++ was.0) w.go_to_end.new.self =
+            w.go_to_end.ensures.ended shape scripts (earlier ++ was.0) was.2 in
+            subst (Finished c.args.stopped shape scripts (c.loop-thread.thread + 1) earlier) (sym w.self-is)
+            (finished_more c.args.stopped shape scripts c.loop-thread.thread earlier was.0 gone.0 w.go_to_end.new.self was.1
+            (inr (w.if-thread-stopped.true, gone.1)) gone.2)
+        | else-thread-stopped w ↦
+            subst (Finished c.args.stopped shape scripts (c.loop-thread.thread + 1) earlier) (sym w.self-is)
+            (finished_more c.args.stopped shape scripts c.loop-thread.thread earlier was.0 [] c.loop-thread.self was.1
+            (inl (w.if-thread-stopped.false, refl))
+            (subst (λ (xs : List ℕ). StandsFor shape scripts xs c.loop-thread.self) (sym (append-nil (earlier ++ was.0))) was.2))
+      ];
+}
 
 pub returns-clause-finished : goal.returns-clause-finished
 returns-clause-finished c shape scripts earlier stands =
@@ -48,4 +55,4 @@ returns-clause-finished c shape scripts earlier stands =
     let end : c.loop-thread.thread ≡ length scripts =
     omega (arith, all, own, c.self.inside.scripts.ok, c.len-threads.ensures, c.loop-thread-test.false, c.loop-thread.auto.thread-end) in
     subst (λ t. Finished c.args.stopped shape scripts t earlier c.loop-thread.self) end
-    (c.loop-thread.invariant shape scripts earlier stands)
+    (c.loop-thread.invariant.finished shape scripts earlier stands)

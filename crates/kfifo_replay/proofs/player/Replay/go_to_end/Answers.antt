@@ -5,29 +5,31 @@ use Rattle.kfifo_replay.specs.Player.{StandsFor}
 use Rattle.kfifo_replay.proofs.player.Replay.go_to_end.Goals as goal
 
 pub loop-init : goal.loop-init
-loop-init c = (
-  0,
-  λ shape scripts earlier stands.
-      subst (λ (xs : List ℕ). StandsFor shape scripts xs c.args.self.now) (sym (append-nil earlier)) stands,
-)
+loop-init c = record {
+  most = refl;
+  count = 0;
+  stands = λ shape scripts earlier stands.
+      subst (λ (xs : List ℕ). StandsFor shape scripts xs c.args.self.now) (sym (append-nil earlier)) stands;
+}
 
 pub loop-preserved : goal.loop-preserved
 loop-preserved c =
-    let count : ℕ = c.loop.invariant.0 in (
-      count + 1,
-      λ shape scripts earlier stands.
+    let count : ℕ = c.loop.invariant.count in record {
+      most = c.pick.ensures.most ∙ c.loop.invariant.most;
+      count = count + 1;
+      stands = λ shape scripts earlier stands.
           let more : (earlier ++ replicate count c.args.thread) ++ c.args.thread ∷ [] ≡ earlier ++ replicate (count + 1) c.args.thread =
           append_assoc earlier (replicate count c.args.thread) (c.args.thread ∷ [])
           ∙ ap (λ (xs : List ℕ). earlier ++ xs) (replicate_more count c.args.thread) in
           subst (λ (xs : List ℕ). StandsFor shape scripts xs c.pick.new.self) more
           (c.pick.ensures.made c.loop-test.true shape scripts (earlier ++ replicate count c.args.thread)
-          (c.loop.invariant.1 shape scripts earlier stands)),
-    )
+          (c.loop.invariant.stands shape scripts earlier stands));
+    }
 
-pub returns : goal.returns
-returns c shape scripts earlier stands =
-    let count : ℕ = c.loop.invariant.0 in
-    let now = c.loop.invariant.1 shape scripts earlier stands in (
+pub returns-clause-ended : goal.returns-clause-ended
+returns-clause-ended c shape scripts earlier stands =
+    let count : ℕ = c.loop.invariant.count in
+    let now = c.loop.invariant.stands shape scripts earlier stands in (
       replicate count c.args.thread,
       record {
         count = count;

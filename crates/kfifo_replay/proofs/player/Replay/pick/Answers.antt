@@ -12,7 +12,7 @@ use Rattle.kfifo_replay.specs.Scripts.{calls_in}
 use Rattle.kfifo_replay.specs.Picks.{script_of, event_at}
 use Rattle.kfifo_replay.specs.Player.{Player, StandsFor, is_undoing, takes_back}
 use Rattle.kfifo_replay.specs.contracts.player.Replay.{the_view}
-use Rattle.kfifo_replay.proofs.Picking.{sees, few_steps, few_rollbacks, is_refused, thread_within, never_refused, room_for_call}
+use Rattle.kfifo_replay.proofs.Picking.{sees, few_steps, few_rollbacks, is_refused, thread_within, enabled, goes, room_for_call}
 use Rattle.kfifo_replay.proofs.Picking.{room_in_book, thread_in_book, call_in_book, few_begun, stands_on}
 use Rattle.kfifo_replay.proofs.player.Replay.pick.Goals as goal
 
@@ -35,7 +35,7 @@ seen p q thread place found same at is =
 
 none_seen : (c : goal.In_default) → sees (the_view c.self.inside) c.args.thread ≡ None
 none_seen c = seen (the_view c.self.inside) c.args.self.now c.args.thread c.place-place.result c.event.result c.self.view_is
-    c.place-place.ensures c.event.ensures ∙ c.in_default.is
+    c.place-place.ensures.place c.event.ensures ∙ c.in_default.is
 
 pub returns-in_default-clause-refused : goal.returns-in_default-clause-refused
 returns-in_default-clause-refused c isnt shape scripts earlier stands =
@@ -50,62 +50,72 @@ returns-in_default-clause-few c =
     ap (λ (p : Player). p.follower.notes.step) c.self.view_is in
     omega (arith, few, same)
 
-pub feed-requires-clause-steps : goal.feed-requires-clause-steps
-feed-requires-clause-steps c = let i = c.self.invariant in
+pub make-outcome-requires-clause-shape : goal.make-outcome-requires-clause-shape
+make-outcome-requires-clause-shape c = let i = c.self.invariant in i.stands.shape_is ∙ sym i.stands.follower_shape
+
+pub make-outcome-requires-clause-enabled : goal.make-outcome-requires-clause-enabled
+make-outcome-requires-clause-enabled c =
+    let i = c.self.invariant in
+    enabled i.shape i.scripts i.picks (the_view c.self.inside) i.stands c.args.thread c.in-Some.event
+    (seen (the_view c.self.inside) c.args.self.now c.args.thread c.place-place.result c.event.result c.self.view_is
+    c.place-place.ensures.place c.event.ensures ∙ c.in-Some.is)
+
+pub make-outcome-requires-clause-goes : goal.make-outcome-requires-clause-goes
+make-outcome-requires-clause-goes c =
+    let i = c.self.invariant in
+    goes i.shape i.scripts i.picks (the_view c.self.inside) i.stands c.args.thread c.in-Some.event
+    (seen (the_view c.self.inside) c.args.self.now c.args.thread c.place-place.result c.event.result c.self.view_is
+    c.place-place.ensures.place c.event.ensures ∙ c.in-Some.is)
+
+pub make-outcome-requires-clause-steps : goal.make-outcome-requires-clause-steps
+make-outcome-requires-clause-steps c = let i = c.self.invariant in
     omega (arith, few_steps i.shape i.scripts i.picks (the_view c.self.inside) i.stands)
 
-pub feed-requires-clause-room : goal.feed-requires-clause-room
-feed-requires-clause-room c begins =
+pub make-outcome-requires-clause-room : goal.make-outcome-requires-clause-room
+make-outcome-requires-clause-room c begins =
     let i = c.self.invariant in
     room_for_call i.shape i.scripts i.picks (the_view c.self.inside) i.stands c.args.thread c.in-Some.event
-    (seen (the_view c.self.inside) c.args.self.now c.args.thread c.place-place.result c.event.result c.self.view_is c.place-place.ensures
-    c.event.ensures ∙ c.in-Some.is) begins
-
-pub unreachable-requires : goal.unreachable-requires
-unreachable-requires c =
-    let i = c.self.invariant in
-    never_refused i.shape i.scripts i.picks (the_view c.self.inside) i.stands c.args.thread c.in-Some.event
-    (seen (the_view c.self.inside) c.args.self.now c.args.thread c.place-place.result c.event.result c.self.view_is c.place-place.ensures
-    c.event.ensures ∙ c.in-Some.is) c.in-Err._fault c.in-Err.ensures.refused
+    (seen (the_view c.self.inside) c.args.self.now c.args.thread c.place-place.result c.event.result c.self.view_is
+    c.place-place.ensures.place c.event.ensures ∙ c.in-Some.is) begins
 
 pub note-requires-clause-thread : goal.note-requires-clause-thread
 note-requires-clause-thread c =
     let i = c.self.invariant in
     thread_in_book i.shape i.scripts i.picks (the_view c.self.inside) i.stands c.args.thread c.in-Some.event
-    (seen (the_view c.self.inside) c.args.self.now c.args.thread c.place-place.result c.event.result c.self.view_is c.place-place.ensures
-    c.event.ensures ∙ c.in-Some.is)
+    (seen (the_view c.self.inside) c.args.self.now c.args.thread c.place-place.result c.event.result c.self.view_is
+    c.place-place.ensures.place c.event.ensures ∙ c.in-Some.is)
 
 pub note-requires-clause-room : goal.note-requires-clause-room
 note-requires-clause-room c begins =
     let i = c.self.invariant in
     room_in_book i.shape i.scripts i.picks (the_view c.self.inside) i.stands c.args.thread c.in-Some.event
-    (seen (the_view c.self.inside) c.args.self.now c.args.thread c.place-place.result c.event.result c.self.view_is c.place-place.ensures
-    c.event.ensures ∙ c.in-Some.is) begins
+    (seen (the_view c.self.inside) c.args.self.now c.args.thread c.place-place.result c.event.result c.self.view_is
+    c.place-place.ensures.place c.event.ensures ∙ c.in-Some.is) begins
 
 pub note-requires-clause-call : goal.note-requires-clause-call
 note-requires-clause-call c answer none ended =
     let i = c.self.invariant in
     call_in_book i.shape i.scripts i.picks (the_view c.self.inside) i.stands c.args.thread c.in-Some.event
-    (seen (the_view c.self.inside) c.args.self.now c.args.thread c.place-place.result c.event.result c.self.view_is c.place-place.ensures
-    c.event.ensures ∙ c.in-Some.is) none
+    (seen (the_view c.self.inside) c.args.self.now c.args.thread c.place-place.result c.event.result c.self.view_is
+    c.place-place.ensures.place c.event.ensures ∙ c.in-Some.is) none
 
 pub index_mut-requires : goal.index_mut-requires
 index_mut-requires c =
     let i = c.self.invariant in
     let within = thread_within i.shape i.scripts i.picks (the_view c.self.inside) i.stands c.args.thread c.in-Some.event
-    (seen (the_view c.self.inside) c.args.self.now c.args.thread c.place-place.result c.event.result c.self.view_is c.place-place.ensures
-    c.event.ensures ∙ c.in-Some.is) in
+    (seen (the_view c.self.inside) c.args.self.now c.args.thread c.place-place.result c.event.result c.self.view_is
+    c.place-place.ensures.place c.event.ensures ∙ c.in-Some.is) in
     grind (arith, within)
 
 pub overflow_add-index_mut : goal.overflow_add-index_mut
 overflow_add-index_mut c =
     let i = c.self.invariant in
     let few = few_begun i.shape i.scripts i.picks (the_view c.self.inside) i.stands c.args.thread c.in-Some.event
-    (seen (the_view c.self.inside) c.args.self.now c.args.thread c.place-place.result c.event.result c.self.view_is c.place-place.ensures
-    c.event.ensures ∙ c.in-Some.is) in
+    (seen (the_view c.self.inside) c.args.self.now c.args.thread c.place-place.result c.event.result c.self.view_is
+    c.place-place.ensures.place c.event.ensures ∙ c.in-Some.is) in
     let within = thread_within i.shape i.scripts i.picks (the_view c.self.inside) i.stands c.args.thread c.in-Some.event
-    (seen (the_view c.self.inside) c.args.self.now c.args.thread c.place-place.result c.event.result c.self.view_is c.place-place.ensures
-    c.event.ensures ∙ c.in-Some.is) in
+    (seen (the_view c.self.inside) c.args.self.now c.args.thread c.place-place.result c.event.result c.self.view_is
+    c.place-place.ensures.place c.event.ensures ∙ c.in-Some.is) in
     let value : c.index_mut.result.now ≡ get_or c.self.inside.begun.items c.args.thread 0 =
     c.index_mut.ensures.value ∙ get_or_default_zero c.self.inside.begun.items c.args.thread c.index_mut.result.now within in
     let one : c.from.result ≤ 1 = subst (λ n. n ≤ 1) (sym c.from.ensures) (from_bool-le c.is_some.result) in
@@ -125,32 +135,35 @@ stands_then : (c : goal.After-self-2-1) (shape : Shape) (scripts : List (List Be
     (record {
       shape = (the_view c.self.inside).shape;
       scripts = (the_view c.self.inside).scripts;
-      follower = c.feed.new.self;
+      follower = c.make-outcome.new.linearizer;
       begun = set c.self.inside.begun.items c.args.thread (c.index_mut.result.now + c.from.result);
       book = c.note.new.self;
       rollbacks = c.self.inside.rollbacks + c.from-2.result;
+      trace = c.make-outcome.new.trace;
     })
 stands_then c shape scripts earlier stands =
     stands_on shape scripts earlier (the_view c.self.inside) stands c.args.thread c.in-Some.event
-    (seen (the_view c.self.inside) c.args.self.now c.args.thread c.place-place.result c.event.result c.self.view_is c.place-place.ensures
-    c.event.ensures ∙ c.in-Some.is)
-    c.feed.new.self.world c.in-Ok.outcome c.in-Ok.ensures.made c.feed.new.self c.note.new.self
+    (seen (the_view c.self.inside) c.args.self.now c.args.thread c.place-place.result c.event.result c.self.view_is
+    c.place-place.ensures.place c.event.ensures ∙ c.in-Some.is)
+    c.make-outcome.new.linearizer.world c.make-outcome.result c.make-outcome.ensures.made c.make-outcome.new.linearizer c.note.new.self
     (set c.self.inside.begun.items c.args.thread (c.index_mut.result.now + c.from.result))
     (c.self.inside.rollbacks + c.from-2.result)
-    c.feed.ensures.shape
-    (c.in-Ok.ensures.follows (length scripts) (calls_in scripts) stands.events stands.follows)
-    (c.note.ensures.log ∙ ap (λ n. logged n c.in-Some.event.thread c.in-Some.event.begin c.in-Ok.outcome c.self.inside.book.log)
+    c.make-outcome.new.trace
+    c.make-outcome.ensures.shape
+    (c.make-outcome.ensures.follows (length scripts) (calls_in scripts) stands.events stands.follows)
+    (c.note.ensures.log ∙ ap (λ n. logged n c.in-Some.event.thread c.in-Some.event.begin c.make-outcome.result c.self.inside.book.log)
     c.steps-step.ensures)
     c.note.ensures.room
     (ap (set c.self.inside.begun.items c.args.thread)
     (ap (λ n. n + c.from.result) value ∙ ap (λ n. get_or c.self.inside.begun.items c.args.thread 0 + n) began))
     (ap (λ n. c.self.inside.rollbacks + n) undone)
+    c.make-outcome.ensures.trace
   where
     within : c.args.thread < length c.self.inside.begun.items
     within =
         thread_within shape scripts earlier (the_view c.self.inside) stands c.args.thread c.in-Some.event
         (seen (the_view c.self.inside) c.args.self.now c.args.thread c.place-place.result c.event.result c.self.view_is
-        c.place-place.ensures c.event.ensures ∙ c.in-Some.is)
+        c.place-place.ensures.place c.event.ensures ∙ c.in-Some.is)
 
     value : c.index_mut.result.now ≡ get_or c.self.inside.begun.items c.args.thread 0
     value = c.index_mut.ensures.value ∙ get_or_default_zero c.self.inside.begun.items c.args.thread c.index_mut.result.now within
@@ -158,12 +171,12 @@ stands_then c shape scripts earlier stands =
     began : c.from.result ≡ cond (is_some c.in-Some.event.begin) 1 0
     began = c.from.ensures ∙ from_bool-cond c.is_some.result ∙ ap (λ b. cond {A = ℕ} b 1 0) c.is_some.ensures
 
-    undone : c.from-2.result ≡ cond (takes_back (is_undoing (place_of c.self.inside.linearizer.world c.args.thread)) c.in-Ok.outcome) 1 0
+    undone : c.from-2.result ≡ cond (takes_back (is_undoing (place_of c.self.inside.linearizer.world c.args.thread)) c.make-outcome.result) 1 0
     undone =
         c.from-2.ensures
         ∙ from_bool-cond c.takes_back.result
         ∙ ap (λ b. cond {A = ℕ} b 1 0) (c.takes_back.ensures
-        ∙ ap (λ b. takes_back b c.in-Ok.outcome) (c.is_undoing-undoing.ensures ∙ ap is_undoing c.place-place.ensures))
+        ∙ ap (λ b. takes_back b c.make-outcome.result) (c.is_undoing-undoing.ensures ∙ ap is_undoing c.place-place.ensures.place))
 
 pub invariant_of-self : goal.invariant_of-self
 invariant_of-self c =
@@ -182,8 +195,8 @@ returns-clause-made c isnt shape scripts earlier stands =
 pub returns-clause-steps : goal.returns-clause-steps
 returns-clause-steps c is =
     let i = c.self.invariant in
-    let follows : Follows (length i.scripts) (calls_in i.scripts) (i.stands.events ++ c.in-Some.event ∷ []) c.feed.new.self =
-    c.in-Ok.ensures.follows (length i.scripts) (calls_in i.scripts) i.stands.events i.stands.follows in
+    let follows : Follows (length i.scripts) (calls_in i.scripts) (i.stands.events ++ c.in-Some.event ∷ []) c.make-outcome.new.linearizer =
+    c.make-outcome.ensures.follows (length i.scripts) (calls_in i.scripts) i.stands.events i.stands.follows in
     let more : length (i.stands.events ++ c.in-Some.event ∷ []) ≡ length i.stands.events + 1 =
     length-append i.stands.events (c.in-Some.event ∷ []) in
     let same : (the_view c.self.inside).follower.notes.step ≡ c.args.self.now.follower.notes.step =

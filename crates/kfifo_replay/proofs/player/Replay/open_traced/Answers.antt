@@ -8,7 +8,7 @@ use Rattle.kfifo_linear.specs.Following.{Follower, Follows}
 use Rattle.kfifo_replay.specs.Scripts.{AreScripts, calls_in}
 use Rattle.kfifo_replay.specs.Player.{StandsFor}
 use Rattle.kfifo_replay.proofs.Opening.{few_calls, calls_in-map, stands_none}
-use Rattle.kfifo_replay.proofs.player.Replay.open.Goals as goal
+use Rattle.kfifo_replay.proofs.player.Replay.open_traced.Goals as goal
 
 -- the scripts by their calls
 abbrev by_calls : List (Vec Begin Global) → List (List Begin)
@@ -20,7 +20,7 @@ count_calls-room-requires c =
     omega (arith, few_calls c.args.shape (by_calls c.args.scripts.now) are, calls_in-map c.args.scripts.now)
 
 -- what it holds
-stands : (c : goal.In_ok-new) → StandsFor c.args.shape (by_calls c.args.scripts.now) []
+stands : (c : goal.In_ok-new-2) → StandsFor c.args.shape (by_calls c.args.scripts.now) []
     (record {
       shape = c.args.shape;
       scripts = by_calls c.in_ok-copy_scripts.field-0.items;
@@ -28,6 +28,7 @@ stands : (c : goal.In_ok-new) → StandsFor c.args.shape (by_calls c.args.script
       begun = c.in_ok-vec.field-0.items;
       book = c.in_ok-new.field-0;
       rollbacks = 0;
+      trace = c.in_ok-new-2.field-0;
     })
 stands c =
     let are : AreScripts c.args.shape (by_calls c.args.scripts.now) = c.are_scripts.ensures.0 c.if-not-are_scripts.false in
@@ -44,7 +45,7 @@ stands c =
     (c.in_ok-vec.ensures.items_if_clones_equal (λ y is. is) ∙ ap (λ n. replicate n 0) size)
     (c.in_ok-new.ensures.log ∙ ap blank size)
     (subst (λ n. n ≤ c.in_ok-new.field-0.room) calls c.in_ok-new.ensures.room)
-    refl
+    refl c.in_ok-new-2.ensures.none
 
 pub invariant_of-result-2 : goal.invariant_of-result-2
 invariant_of-result-2 c = record { shape = c.args.shape; scripts = by_calls c.args.scripts.now; picks = []; stands = stands c }
