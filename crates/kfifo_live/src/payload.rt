@@ -19,7 +19,7 @@ use crate::seats::{draw_token, lay_back};
 use crate::view::{Opening, ThreadSeat, View, Words};
 use atomic_table::Table;
 use kfifo_model::Answer;
-use kfifo_words::Shape;
+use kfifo_words::{Ends, Shape};
 use std::alloc::Global;
 use std::marker::Model;
 
@@ -103,6 +103,15 @@ impl<T: Drop> PayQueue<T> {
         ensures { result ≡ self.now.opened.shape }
     {
         self.shape
+    }
+
+    /// How many versions the ends word has left, as one load finds it. Each move of an end uses one up, and a call that
+    /// needs one when there is none returns Worn.
+    pub fn versions_left(&self) -> u64
+        ensures { result ≤ self.now.opened.shape.last }
+    {
+        let ends = Ends::of_bits(self.table.shared.peek(0));
+        self.shape.last().saturating_sub(ends.version())
     }
 
     /// The index of the clock. No thread of a queue of payloads writes it, so a load of it meets nobody.

@@ -1,0 +1,5 @@
+pub mod Parts
+pub mod Following
+pub mod Looking
+pub mod Giving
+pub mod Closing

@@ -1,0 +1,5 @@
+use Rattle.kfifo_renewing.specs.Renewing.{Follows}
+use Rattle.kfifo_renewing.proofs.handle.RenewingHandle.follow.Given as goal
+
+abbrev pub invariant-loop : goal.invariant-loop
+invariant-loop g l = Follows l.fn.self l.self

@@ -1,0 +1,9 @@
+-- The handle follows others, and then takes.
+use Rattle.std.proofs.Common.{inl, inr, refl}
+use Rattle.kfifo_renewing.proofs.handle.RenewingHandle.take.Goals as goal
+
+pub returns-then-not-keep_up : goal.returns-then-not-keep_up
+returns-then-not-keep_up g c = (c.keep_up.new.self, c.keep_up.ensures, inr (refl, refl))
+
+pub returns : goal.returns
+returns g c = (c.keep_up.new.self, c.keep_up.ensures, inl c.take_oldest.ensures)

@@ -1,0 +1,179 @@
+//! A generation: a queue of payloads, with the passes that wait in it for their threads.
+ghost use Rattle.std.specs.Prelude.{◌≡◌, All, IfOk, IfSome, map};
+ghost use Rattle.kfifo_live.specs.Pass.{IsPassOf, OpenQueue};
+ghost use Rattle.kfifo_live.specs.Schedule.{count_up};
+ghost use Rattle.kfifo_renewing.specs.Renewing.{opening_of};
+
+use counted_slot::{Counted, FREE, Fits, TAKEN};
+use kfifo_live::{CloseFault, OpenFault, PayPass, PayQueue};
+use kfifo_words::Shape;
+use std::alloc::{AllocError, Global};
+use std::marker::Model;
+use std::sync::atomic::AtomicU64;
+use std::sync::atomic::Ordering::SeqCst;
+
+/// What each generation of a queue is opened with.
+#[derive(Clone, Copy)]
+pub struct Sizes {
+    pub shape: Shape,
+    pub threads: u32,
+    pub tokens: u32,
+}
+
+/// A pass that waits for its thread.
+#[derive(Drop)]
+pub(crate) struct Waiting<T: Drop> {
+    pass: PayPass<T>,
+}
+
+impl<T: Drop> Fits for Waiting<T> {
+    type Tag = PayQueue<T>;
+
+    ghost fits = { λ queue waiting. IsPassOf queue waiting.pass.pass };
+}
+
+/// A queue of payloads with its number, the passes that wait in it, and how many handles may give to it.
+///
+/// Clauses see it as its queue.
+#[derive(Drop)]
+pub(crate) struct Generation<T: Drop> {
+    queue: PayQueue<T>,
+    number: u32,
+    waiting: Vec<Counted<Option<Waiting<T>>>>,
+    givers: AtomicU64,
+}
+
+impl<T: Drop> Model for Generation<T> {
+    ghost Value = { OpenQueue };
+
+    ghost view = { λ g. g.queue };
+
+    ghost invariant = { λ g. All (λ queue. queue ≡ g.queue) g.waiting.items };
+}
+
+/// A place for each of these passes, in which it waits, in their order.
+fn seat_all<T: Drop>(
+    alloc: Global,
+    queue: &PayQueue<T>,
+    passes: Vec<PayPass<T>>,
+) -> Result<Vec<Counted<Option<Waiting<T>>>>, AllocError>
+    requires { All (λ p. IsPassOf queue.now p.pass) passes.items }
+    ensures { IfOk result (λ waiting. All (λ q. q ≡ queue.now) waiting.items) }
+{
+    let mut waiting = Vec::with_capacity(alloc, passes.len())?;
+    for pass in passes {
+        waiting.push(Counted::new(Some(Waiting { pass }), queue))?;
+    }
+    Ok(waiting)
+}
+
+impl<T: Drop> Generation<T> {
+    /// A new generation with this number, to which no handle gives yet.
+    pub(crate) fn open(
+        alloc: Global,
+        sizes: &Sizes,
+        number: u32,
+    ) -> Result<Generation<T>, OpenFault>
+        ensures { IfOk result (λ g. g.opened ≡ opening_of sizes.now) }
+    {
+        let (queue, passes) = PayQueue::open_with_pool(
+            alloc,
+            sizes.shape,
+            sizes.threads,
+            sizes.tokens,
+        )?;
+        let waiting = seat_all(alloc, &queue, passes)?;
+        Ok(Generation {
+            queue,
+            number,
+            waiting,
+            givers: AtomicU64::new(0),
+        })
+    }
+
+    /// The queue.
+    #[inline(always)]
+    pub(crate) fn queue(&self) -> &PayQueue<T>
+        ensures { result.now ≡ self.now }
+    {
+        &self.queue
+    }
+
+    /// The number.
+    pub(crate) fn number(&self) -> u32 {
+        self.number
+    }
+
+    /// The pass of this thread, unless its thread has it already.
+    pub(crate) fn take_pass(&self, thread: u32) -> Option<PayPass<T>>
+        ensures { IfSome result (λ p. IsPassOf self.now p.pass) }
+    {
+        let place = self.waiting.get(thread as usize)?;
+        let (found, claim) = place.turn(FREE, TAKEN);
+        if found != FREE {
+            claim.done();
+            return None;
+        }
+        let Waiting { pass } = claim.put(None, FREE)?;
+        Some(pass)
+    }
+
+    /// Lets the pass of this thread wait here again.
+    pub(crate) fn give_back(&self, thread: u32, pass: PayPass<T>)
+        requires { IsPassOf self.now pass.pass }
+    {
+        let Some(place) = self.waiting.get(thread as usize) else {
+            return;
+        };
+        let (found, claim) = place.turn(FREE, TAKEN);
+        if found != FREE {
+            claim.done();
+            return;
+        }
+        let _ = claim.put(Some(Waiting { pass }), FREE);
+    }
+
+    /// One handle more gives to it.
+    pub(crate) fn add_giver(&self) {
+        self.givers.fetch_add(1, SeqCst);
+    }
+
+    /// One handle less gives to it.
+    pub(crate) fn remove_giver(&self) {
+        self.givers.fetch_sub(1, SeqCst);
+    }
+
+    /// Whether a handle may still give to it.
+    pub(crate) fn has_givers(&self) -> bool {
+        self.givers.load(SeqCst) != 0
+    }
+
+    /// The queue and its passes, in the order of their threads, if all of them wait here.
+    pub(crate) fn into_parts(
+        self,
+        alloc: Global,
+        threads: u32,
+    ) -> Result<(PayQueue<T>, Vec<PayPass<T>>), CloseFault>
+        ensures queue { IfOk result (λ r. r.0 ≡ self) }
+        ensures of { IfOk result (λ r. All (λ p. IsPassOf self p.pass) r.1.items) }
+        ensures all { IfOk result (λ r. map (λ p. p.pass.thread) r.1.items ≡ count_up 0 threads) }
+    {
+        let Generation { queue, waiting, .. } = self;
+        let mut passes = Vec::with_capacity(alloc, threads as usize)?;
+        let mut thread = 0;
+        for place in waiting {
+            let Some(Waiting { pass }) = place.into_inner() else {
+                return Err(CloseFault::MissingPass);
+            };
+            if thread >= threads || pass.thread() != thread {
+                return Err(CloseFault::MissingPass);
+            }
+            passes.push_reserved(pass);
+            thread += 1;
+        }
+        if thread < threads {
+            return Err(CloseFault::MissingPass);
+        }
+        Ok((queue, passes))
+    }
+}

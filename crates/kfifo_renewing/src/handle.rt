@@ -1,0 +1,379 @@
+//! Calls of a renewing queue.
+ghost use Rattle.std.specs.Prelude.{◌≡◌, ◌⊎◌, List, [], All, IfOk};
+ghost use Rattle.kfifo_live.specs.Handles.{PayHeld};
+ghost use Rattle.kfifo_renewing.specs.Renewing.{Follows, Generations, GivesToNewest, HasOne, IsOpenedAs, IsPartOf};
+ghost use Rattle.kfifo_renewing.specs.Renewing.{TakesFirst, TakesFromOldest, TakesOldest, TakesThere, TriesToGive, opening_of};
+
+use crate::joined::Joined;
+use crate::queue::Shared;
+use kfifo_live::{Given, Taken};
+use std::alloc::{AllocError, Global};
+use std::marker::Model;
+use std::mem::replace;
+use std::sync::Arc;
+
+/// The number of no generation.
+const NONE: u64 = 0;
+
+/// How often a handle tries to follow others to a generation that is newer still.
+const TRIES: u32 = 64;
+
+/// What a caller gives and takes payloads with, in a queue that does not wear out.
+///
+/// A handle that is dropped leaves the queue: nobody waits for it, and what it gave is still taken.
+///
+/// ```rust
+/// let mut handles = open::<u64>(alloc, Shape::new(4, 8, MAX_VERSION)?, 2, 16, DEFAULT_RESERVE)?;
+/// let (Some(mut taker), Some(mut giver)) = (handles.pop(), handles.pop()) else {
+///     unreachable!()
+/// };
+/// let given = giver.give(7); // Done
+/// let taken = taker.take(); // Got(7)
+/// let left = close(alloc, vec![in alloc; giver, taker]?)?; // the payloads that are left: none
+/// ```
+///
+/// Clauses see it as the generations that it has joined: its handle in each.
+pub struct RenewingHandle<T: Drop> {
+    shared: Arc<Shared<T>, Global>,
+    newest: Joined<T>,
+    /// The generations before it that may still have payloads, the oldest first.
+    older: Vec<Joined<T>>,
+    thread: u32,
+    /// The number of the newest generation, while the handle counts among those that give to it, and NONE else.
+    seen: u64,
+    gives_left: u64,
+    gives_between_looks: u64,
+}
+
+impl<T: Drop> Model for RenewingHandle<T> {
+    ghost Value = { Generations T };
+
+    ghost view = { λ h. record { opened = opening_of h.shared.value; older = h.older.items; newest = h.newest } };
+
+    ghost invariant = { λ h. IsOpenedAs (opening_of h.shared.value) h.newest
+        × All (IsOpenedAs (opening_of h.shared.value)) h.older.items };
+}
+
+impl<T: Drop> RenewingHandle<T> {
+    /// The handle of this thread, which has joined the first generation.
+    pub(crate) fn new(
+        alloc: Global,
+        shared: Arc<Shared<T>, Global>,
+        newest: Joined<T>,
+        thread: u32,
+    ) -> Result<RenewingHandle<T>, AllocError>
+        requires { IsOpenedAs (opening_of shared.value) newest }
+        ensures { IfOk result (λ h. (h.opened ≡ opening_of shared.value) × (h.older ≡ []) × (h.newest ≡ newest)) }
+    {
+        let older = Vec::with_capacity(alloc, shared.places().count())?;
+        newest.generation().add_giver();
+        let gives_between_looks = shared.gives_between_looks();
+        let seen = shared.newest();
+        Ok(RenewingHandle {
+            shared,
+            newest,
+            older,
+            thread,
+            seen,
+            gives_left: gives_between_looks,
+            gives_between_looks,
+        })
+    }
+
+    /// Whether a generation has been opened that this handle has not joined.
+    #[inline(always)]
+    fn is_late(&self) -> bool {
+        self.shared.newest() != self.seen
+    }
+
+    /// Joins the generation with this number at this place, which is then the newest one of the handle.
+    fn join(&mut self, place: usize, number: u32) -> bool
+        ensures { Follows self.old self.new }
+    {
+        let Some(generation) = self.shared.places().read(place, number) else {
+            return false;
+        };
+        if self.older.reserve(1).is_err() {
+            return false;
+        }
+        let Some(joined) = Joined::join(generation, place, self.thread) else {
+            return false;
+        };
+        let before = replace(&mut self.newest, joined);
+        self.older.push_reserved(before);
+        true
+    }
+
+    /// Joins each generation up to the one with this number. Returns whether that one was there.
+    fn join_up_to(&mut self, number: u64) -> bool
+        ensures { Follows self.old self.new }
+    {
+        for _ in 0..TRIES {
+            let Some((place, next)) = self
+                .shared
+                .places()
+                .next_after(self.newest.number(), number)
+            else {
+                break;
+            };
+            if !self.join(place, next) {
+                break;
+            }
+        }
+        u64::from(self.newest.number()) == number
+    }
+
+    /// Stops giving to the generation that is the newest one of the handle.
+    fn stop_giving(&mut self)
+        ensures { self.new ≡ self.old }
+    {
+        if self.seen != NONE {
+            self.newest.generation().remove_giver();
+            self.seen = NONE;
+        }
+    }
+
+    /// Leaves those of the older generations that are gone from their places: nobody gives to them any more, and they
+    /// were found empty.
+    fn leave_gone(&mut self)
+        ensures opened { self.new.opened ≡ self.old.opened }
+        ensures older { IsPartOf self.new.older self.old.older }
+        ensures newest { self.new.newest ≡ self.old.newest }
+    {
+        let mut index = 0;
+        while index < self.older.len() {
+            let joined = &self.older[index];
+            if self.shared.places().has(joined.place, joined.number()) {
+                index += 1;
+            } else {
+                let gone = self.older.remove(index);
+                gone.leave(self.thread);
+            }
+        }
+    }
+
+    /// The number of the oldest generation of the handle.
+    fn oldest(&self) -> u32 {
+        match self.older.first() {
+            Some(joined) => joined.number(),
+            None => self.newest.number(),
+        }
+    }
+
+    /// Joins the newest generation, and each before it that the handle has not joined. Returns false where it did not
+    /// come to that, since others opened newer ones all the time.
+    #[cold]
+    #[inline(never)]
+    fn follow(&mut self) -> bool
+        ensures { Follows self.old self.new }
+    {
+        self.stop_giving();
+        self.leave_gone();
+        self.shared.places().retire_below(self.oldest());
+        for _ in 0..TRIES {
+            let number = self.shared.newest();
+            if self.join_up_to(number) {
+                self.newest.generation().add_giver();
+                if self.shared.newest() == number {
+                    self.seen = number;
+                    return true;
+                }
+                self.newest.generation().remove_giver();
+            }
+        }
+        false
+    }
+
+    /// Looks at the versions that the newest generation has left, and opens the next one where they are too few.
+    #[cold]
+    #[inline(never)]
+    fn look(&mut self)
+        ensures { self.new ≡ self.old }
+    {
+        self.gives_left = self.gives_between_looks;
+        if self.shared.is_spent(self.newest.generation()) {
+            self.shared.renew(self.seen);
+        }
+    }
+
+    /// Follows others if they have opened a generation. Returns false where it did not come to that.
+    #[inline(always)]
+    fn keep_up(&mut self) -> bool
+        ensures { Follows self.old self.new }
+    {
+        if self.is_late() {
+            return self.follow();
+        }
+        true
+    }
+
+    /// Gives to the newest generation, once it has followed others to it.
+    #[inline(always)]
+    fn try_to_give(&mut self, payload: T) -> Given<T>
+        ensures { TriesToGive payload result self.old self.new }
+    {
+        if !self.keep_up() {
+            return Given::Busy(payload);
+        }
+        self.newest.give(payload)
+    }
+
+    /// Gives a payload for which the newest generation had no version left, to the next one.
+    #[cold]
+    #[inline(never)]
+    fn give_to_next(&mut self, payload: T) -> Given<T>
+        ensures { TriesToGive payload result self.old self.new }
+    {
+        self.shared.renew(self.seen);
+        self.try_to_give(payload)
+    }
+
+    /// Counts a give, and looks at the versions that are left once the handle has made so many.
+    #[inline(always)]
+    fn count_give(&mut self)
+        ensures { self.new ≡ self.old }
+    {
+        if self.gives_left == 0 {
+            self.look();
+        } else {
+            self.gives_left -= 1;
+        }
+    }
+
+    /// Gives a payload to the newest generation, as `PayHandle::give` does.
+    ///
+    /// The handle first follows others that have opened a newer one. Each 4,096th call looks at the versions that the
+    /// generation has left, and opens the next one where they are fewer than the reserve. So does a call that comes to
+    /// a generation with no version left, which then tries once more.
+    ///
+    /// Returns Done, or NoToken, Full, Busy or Worn with the payload. Busy comes where others changed the queue during
+    /// the call. Worn comes only where the next generation could not be opened: memory is missing, or old generations
+    /// have all places. It never waits or locks, and allocates only where it opens or joins a generation.
+    #[inline(always)]
+    pub fn give(&mut self, payload: T) -> Given<T>
+        ensures { GivesToNewest payload result self.old self.new }
+    {
+        self.count_give();
+        match self.try_to_give(payload) {
+            Given::Worn(back) => self.give_to_next(back),
+            given => given,
+        }
+    }
+
+    /// Takes from the first of the older generations that is not found empty. Returns None where each was. The handle
+    /// leaves those that are over.
+    #[cold]
+    #[inline(never)]
+    fn take_older(&mut self) -> Option<Taken<T>>
+        ensures opened { self.new.opened ≡ self.old.opened }
+        ensures takes { (looked : List (PayHeld T)) × TakesFirst result self.old.older looked
+            × IsPartOf self.new.older looked }
+        ensures newest { self.new.newest ≡ self.old.newest }
+    {
+        let taken = take_first(self.older.as_mut_slice());
+        for joined in self.older.iter() {
+            if joined.is_over {
+                self.shared.places().retire(joined.place, joined.number());
+            }
+        }
+        self.leave_gone();
+        taken
+    }
+
+    /// Takes from the newest generation, where each older one is empty.
+    #[inline(always)]
+    fn take_newest(&mut self) -> Taken<T>
+        ensures opened { self.new.opened ≡ self.old.opened }
+        ensures older { self.new.older ≡ self.old.older }
+        ensures takes { (taken : Taken T) × TakesThere taken self.old.newest self.new.newest
+            × ((result ≡ taken) ⊎ ((taken ≡ Taken.Empty) × (result ≡ Taken.Busy))) }
+    {
+        let taken = self.newest.take();
+        if let Taken::Empty = taken {
+            // A value may lie in the generation that others have opened meanwhile.
+            if self.is_late() {
+                return Taken::Busy;
+            }
+        }
+        taken
+    }
+
+    /// Takes from the oldest generation that is not empty.
+    #[inline(always)]
+    fn take_oldest(&mut self) -> Taken<T>
+        ensures { TakesOldest result self.old self.new }
+    {
+        if self.older.is_empty() {
+            return self.take_newest();
+        }
+        match self.take_older() {
+            Some(taken) => taken,
+            None => self.take_newest(),
+        }
+    }
+
+    /// Takes one of the k oldest payloads of the oldest generation that has one, as `PayHandle::take` does.
+    ///
+    /// The handle first follows others that have opened a newer generation. It looks into the older generations first,
+    /// and into the next one only where it found one empty. It leaves an older one that it found empty when nobody gave
+    /// to it any more.
+    ///
+    /// Returns Got with the payload, Empty where it found each generation empty, Busy where others changed the queue
+    /// during the call, or opened a generation, or Worn where a generation used up all its versions, its reserve too. It
+    /// never waits or locks, and allocates only where it joins a generation.
+    #[inline(always)]
+    pub fn take(&mut self) -> Taken<T>
+        ensures { TakesFromOldest result self.old self.new }
+    {
+        if !self.keep_up() {
+            return Taken::Busy;
+        }
+        self.take_oldest()
+    }
+
+    /// Leaves all generations, and returns what the handles share.
+    pub(crate) fn leave(self) -> Result<Arc<Shared<T>, Global>, AllocError>
+        ensures { IfOk result (λ shared. opening_of shared.value ≡ self.opened) }
+    {
+        Arc::try_clone(&self.shared)
+    }
+}
+
+/// Takes from the first of these generations that is not empty. One that was empty, and to which nobody gave any more
+/// before that, is over.
+fn take_first<T: Drop>(generations: &mut [Joined<T>]) -> Option<Taken<T>>
+    ensures { TakesFirst result generations.old generations.new }
+{
+    let (first, rest) = generations.split_first_mut()?;
+    // This look comes before the take: a payload that is given after the take would be lost with the generation.
+    let has_givers = first.generation().has_givers();
+    match first.take() {
+        Taken::Empty => {
+            first.is_over = !has_givers;
+            take_first(rest)
+        }
+        taken => Some(taken),
+    }
+}
+
+impl<T: Drop> Drop for RenewingHandle<T> {
+    /// Leaves all generations: the passes wait there again, so a close finds what is left.
+    fn drop(self) {
+        let Self {
+            shared: _,
+            newest,
+            older,
+            thread,
+            seen,
+            gives_left: _,
+            gives_between_looks: _,
+        } = self;
+        if seen != NONE {
+            newest.generation().remove_giver();
+        }
+        for joined in older {
+            joined.leave(thread);
+        }
+        newest.leave(thread);
+    }
+}

@@ -1,0 +1,333 @@
+//! What the handles of a renewing queue share, its opening and its end.
+ghost use Rattle.std.specs.Prelude.{◌≡◌, ◌<◌, ◌≤◌, ◌++◌, ◌⊎◌, ◌↔◌, All, IfOk, IfSome, IsErrOf, List, [], ◌∷◌, length};
+ghost use Rattle.kfifo_live.specs.Payloads.{pay_opening};
+ghost use Rattle.kfifo_live.specs.declared.fault.OpenFault.TheVariants.{ThreadsOutOfRange, TokensOutOfRange};
+ghost use Rattle.kfifo_renewing.specs.declared.fault.RenewFault.TheVariants.{Open, ReserveOutOfRange};
+ghost use Rattle.kfifo_renewing.specs.declared.generation.Sizes.{Sizes};
+ghost use Rattle.kfifo_renewing.specs.Renewing.{ClosesAll, Generations, HasOne, WereLeft, opening_of};
+
+use crate::fault::RenewFault;
+use crate::generation::{Generation, Sizes};
+use crate::handle::RenewingHandle;
+use crate::joined::Joined;
+use crate::places::Places;
+use kfifo_live::{CloseFault, MAX_TOKENS, OpenFault};
+use kfifo_model::MAX_THREADS;
+use kfifo_words::Shape;
+use std::alloc::{AllocError, Global};
+use std::marker::Model;
+use std::sync::Arc;
+use std::sync::atomic::AtomicU64;
+use std::sync::atomic::Ordering::SeqCst;
+
+/// The reserve of versions that a queue has unless it is opened with another: with fewer left, a generation is followed
+/// by the next one.
+pub const DEFAULT_RESERVE: u64 = 0x1_0000_0000;
+
+/// The most gives of a handle from one look at the versions that are left to the next.
+const GIVES_BETWEEN_LOOKS: u64 = 4_096;
+
+/// The number of the first generation.
+const FIRST: u32 = 1;
+
+/// What the handles of a queue share.
+#[derive(Drop)]
+pub(crate) struct Shared<T: Drop> {
+    places: Places<T>,
+    /// The number of the newest generation.
+    newest: AtomicU64,
+    /// The greatest number that a generation has.
+    numbers: AtomicU64,
+    reserve: u64,
+    alloc: Global,
+}
+
+impl<T: Drop> Model for Shared<T> {
+    ghost Value = { Sizes };
+
+    ghost view = { λ s. s.places };
+}
+
+impl<T: Drop> Shared<T> {
+    /// The places.
+    pub(crate) fn places(&self) -> &Places<T>
+        ensures { result.now ≡ self.now }
+    {
+        &self.places
+    }
+
+    /// The number of the newest generation.
+    #[inline(always)]
+    pub(crate) fn newest(&self) -> u64 {
+        self.newest.load(SeqCst)
+    }
+
+    /// Whether a generation has too few versions left.
+    pub(crate) fn is_spent(&self, generation: &Generation<T>) -> bool {
+        generation.queue().versions_left() < self.reserve
+    }
+
+    /// How many gives a handle makes from one look at the versions to the next.
+    // Meanwhile the handles together use fewer versions up than an eighth of the reserve, two for each pair of calls.
+    pub(crate) fn gives_between_looks(&self) -> u64 {
+        let each = self.reserve / 16 / u64::from(self.places.sizes.threads).max(1);
+        each.min(GIVES_BETWEEN_LOOKS)
+    }
+
+    /// A new generation, with a number of its own.
+    fn make(&self) -> Option<Arc<Generation<T>, Global>>
+        ensures { IfSome result (λ g. g.value.opened ≡ opening_of self.now) }
+    {
+        let number = self.numbers.fetch_add(1, SeqCst).wrapping_add(1);
+        let number = u32::try_from(number).ok()?;
+        let generation = Generation::open(self.alloc, &self.places.sizes, number).ok()?;
+        Arc::new(self.alloc, generation).ok()
+    }
+
+    /// Opens the next generation, unless another handle has opened one since the newest one was `seen`, or memory or
+    /// room is missing.
+    pub(crate) fn renew(&self, seen: u64) {
+        if self.newest() != seen || !self.places.has_room() {
+            return;
+        }
+        let Some(generation) = self.make() else {
+            return;
+        };
+        let number = generation.number();
+        let Some(place) = self.places.put(number, generation) else {
+            return;
+        };
+        if self
+            .newest
+            .compare_exchange(seen, u64::from(number), SeqCst, SeqCst)
+            .is_err()
+        {
+            // Another handle was faster. Nobody has given to this one, and nobody will.
+            self.places.retire(place, number);
+        }
+    }
+
+    /// The places, at the end.
+    fn into_places(self) -> Places<T>
+        ensures { result ≡ self }
+    {
+        let Shared { places, .. } = self;
+        places
+    }
+}
+
+/// The state that the handles share, with a first generation, and the place of that.
+fn share<T: Drop>(
+    alloc: Global,
+    generation: &Arc<Generation<T>, Global>,
+    sizes: Sizes,
+    reserve: u64,
+) -> Result<(Arc<Shared<T>, Global>, usize), AllocError>
+    requires threads { sizes.threads ≤ MAX_THREADS }
+    requires of { generation.now.value.opened ≡ opening_of sizes }
+    ensures { IfOk result (λ r. r.0.value ≡ sizes) }
+{
+    // Handles keep at most one old generation each, and two are there while a change goes on: so there is room for a
+    // generation that comes too late too.
+    let places = Places::new(alloc, sizes, 2 * sizes.threads as usize + 2)?;
+    let place = places
+        .put(FIRST, Arc::try_clone(generation)?)
+        .ok_or(AllocError)?;
+    let shared = Shared {
+        places,
+        newest: AtomicU64::new(u64::from(FIRST)),
+        numbers: AtomicU64::new(u64::from(FIRST)),
+        reserve,
+        alloc,
+    };
+    Ok((Arc::new(alloc, shared)?, place))
+}
+
+/// The handle of this thread, which has joined the first generation.
+fn join_first<T: Drop>(
+    alloc: Global,
+    shared: &Arc<Shared<T>, Global>,
+    generation: &Arc<Generation<T>, Global>,
+    place: usize,
+    thread: u32,
+) -> Result<RenewingHandle<T>, AllocError>
+    requires { generation.now.value.opened ≡ opening_of shared.now.value }
+    ensures { IfOk result (HasOne (opening_of shared.now.value)) }
+{
+    let part = Arc::try_clone(generation)?;
+    let joined = Joined::join(part, place, thread).ok_or(AllocError)?;
+    let shared = Arc::try_clone(shared)?;
+    RenewingHandle::new(alloc, shared, joined, thread)
+}
+
+/// A handle for each of the threads, which has joined the first generation.
+fn join_all<T: Drop>(
+    alloc: Global,
+    generation: Generation<T>,
+    sizes: Sizes,
+    reserve: u64,
+) -> Result<Vec<RenewingHandle<T>>, AllocError>
+    requires threads { sizes.threads ≤ MAX_THREADS }
+    requires of { generation.opened ≡ opening_of sizes }
+    ensures { IfOk result (λ handles. All (HasOne (opening_of sizes)) handles.items
+        × (length handles.items ≡ sizes.threads)) }
+{
+    let generation = Arc::new(alloc, generation)?;
+    let (shared, place) = share(alloc, &generation, sizes, reserve)?;
+    let mut handles = Vec::with_capacity(alloc, sizes.threads as usize)?;
+    for thread in 0..sizes.threads {
+        let handle = join_first(alloc, &shared, &generation, place, thread)?;
+        handles.push(handle)?;
+    }
+    Ok(handles)
+}
+
+/// Opens the first generation, and joins it. All sizes were tested.
+fn open_first<T: Drop>(
+    alloc: Global,
+    sizes: Sizes,
+    reserve: u64,
+) -> Result<Vec<RenewingHandle<T>>, AllocError>
+    requires threads { (1 ≤ sizes.threads) × (sizes.threads ≤ MAX_THREADS) }
+    requires tokens { (1 ≤ sizes.tokens) × (sizes.tokens ≤ MAX_TOKENS) }
+    ensures { IfOk result (λ handles. All (HasOne (opening_of sizes)) handles.items
+        × (length handles.items ≡ sizes.threads)) }
+{
+    match Generation::open(alloc, &sizes, FIRST) {
+        Ok(generation) => join_all(alloc, generation, sizes, reserve),
+        // The sizes are right, so memory is missing.
+        Err(_) => Err(AllocError),
+    }
+}
+
+/// The same, with a reserve that is tested.
+fn open_tested<T: Drop>(
+    alloc: Global,
+    sizes: Sizes,
+    reserve: u64,
+) -> Result<Vec<RenewingHandle<T>>, OpenFault>
+    ensures ok { IfOk result (λ handles. All (HasOne (opening_of sizes)) handles.items
+        × (length handles.items ≡ sizes.threads)) }
+    ensures threads { IsErrOf result ThreadsOutOfRange ↔ ((sizes.threads ≡ 0) ⊎ (MAX_THREADS < sizes.threads)) }
+    ensures tokens { IsErrOf result TokensOutOfRange
+        ↔ ((1 ≤ sizes.threads) × (sizes.threads ≤ MAX_THREADS) × ((sizes.tokens ≡ 0) ⊎ (MAX_TOKENS < sizes.tokens))) }
+{
+    if sizes.threads == 0 || sizes.threads > MAX_THREADS {
+        return Err(OpenFault::ThreadsOutOfRange);
+    }
+    if sizes.tokens == 0 || sizes.tokens > MAX_TOKENS {
+        return Err(OpenFault::TokensOutOfRange);
+    }
+    let handles = open_first(alloc, sizes, reserve)?;
+    Ok(handles)
+}
+
+/// Opens a queue of owned payloads that does not wear out, and returns a handle for each thread.
+///
+/// Its first generation is a queue with a pool, as `PayQueue::open_with_pool` opens it, with so many tokens a thread.
+/// Each later one is opened like it, once the newest has fewer versions left than the reserve: `DEFAULT_RESERVE`, or
+/// less for tests. A reserve has to last until the generation is empty, which takes a version for each segment and each
+/// call that is under way.
+///
+/// ```rust
+/// let mut handles = open::<u64>(alloc, Shape::new(4, 8, MAX_VERSION)?, 2, 16, DEFAULT_RESERVE)?;
+/// ```
+///
+/// ReserveOutOfRange where the reserve is not below the shape's greatest version; then Open with ThreadsOutOfRange
+/// where the number of threads is not 1 to 64; then Open with TokensOutOfRange where the number of tokens is not 1 to
+/// 1,024; Open with Memory where an allocation failed. Nothing is kept after a refusal.
+pub fn open<T: Drop>(
+    alloc: Global,
+    shape: Shape,
+    threads: u32,
+    tokens: u32,
+    reserve: u64,
+) -> Result<Vec<RenewingHandle<T>>, RenewFault>
+    ensures ok { IfOk result (λ handles. All (HasOne (pay_opening shape threads tokens)) handles.items
+        × (length handles.items ≡ threads)) }
+    ensures reserve { IsErrOf result ReserveOutOfRange ↔ (shape.last ≤ reserve) }
+    ensures threads { IsErrOf result (Open ThreadsOutOfRange) ↔ ((reserve < shape.last)
+        × ((threads ≡ 0) ⊎ (MAX_THREADS < threads))) }
+    ensures tokens { IsErrOf result (Open TokensOutOfRange)
+        ↔ ((reserve < shape.last) × (1 ≤ threads) × (threads ≤ MAX_THREADS) × ((tokens ≡ 0) ⊎ (MAX_TOKENS < tokens))) }
+{
+    if reserve >= shape.last() {
+        return Err(RenewFault::ReserveOutOfRange);
+    }
+    let sizes = Sizes {
+        shape,
+        threads,
+        tokens,
+    };
+    match open_tested(alloc, sizes, reserve) {
+        Ok(handles) => Ok(handles),
+        Err(fault) => Err(RenewFault::Open(fault)),
+    }
+}
+
+/// The payloads that are left in a generation.
+fn close_one<T: Drop>(
+    alloc: Global,
+    generation: Arc<Generation<T>, Global>,
+    sizes: &Sizes,
+) -> Result<Vec<T>, CloseFault>
+    requires { generation.value.opened ≡ opening_of sizes.now }
+    ensures { IfOk result (λ left. WereLeft (opening_of sizes.now) left.items) }
+{
+    let Some(generation) = Arc::into_inner(generation) else {
+        return Err(CloseFault::MissingPass);
+    };
+    let (queue, mut passes) = generation.into_parts(alloc, sizes.threads)?;
+    let Some(pass) = passes.pop() else {
+        return Err(CloseFault::MissingPass);
+    };
+    let left = queue.close_with(alloc, pass, passes)?;
+    Ok(left)
+}
+
+/// The payloads that are left in these generations, those of the first one first.
+fn close_each<T: Drop>(
+    alloc: Global,
+    generations: Vec<Arc<Generation<T>, Global>>,
+    sizes: &Sizes,
+) -> Result<Vec<T>, CloseFault>
+    requires { All (λ g. g.value.opened ≡ opening_of sizes.now) generations.items }
+    ensures { IfOk result (λ left. ClosesAll (opening_of sizes.now) left.items) }
+{
+    let mut left = Vec::new(alloc);
+    for generation in generations {
+        let mut values = close_one(alloc, generation, sizes)?;
+        left.append(&mut values)?;
+    }
+    Ok(left)
+}
+
+/// Closes a queue by all its handles, and returns the payloads that are left, those of the oldest generation first.
+///
+/// Of each generation they are what is left after the one schedule of all calls there, in the order of
+/// `PayQueue::close`.
+///
+/// MissingPass where one of its handles is still elsewhere, or none is given; Memory where an allocation failed. The
+/// payloads are then dropped.
+pub fn close<T: Drop>(
+    alloc: Global,
+    mut handles: Vec<RenewingHandle<T>>,
+) -> Result<Vec<T>, CloseFault>
+    ensures { IfOk result (λ left. (last : Generations T) × (others : List (Generations T))
+        × (handles.items ≡ others ++ last ∷ []) × ClosesAll last.opened left.items) }
+{
+    let Some(last) = handles.pop() else {
+        return Err(CloseFault::MissingPass);
+    };
+    let shared = last.leave()?;
+    drop(handles);
+    let Some(shared) = Arc::into_inner(shared) else {
+        return Err(CloseFault::MissingPass);
+    };
+    let places = shared.into_places();
+    let sizes = places.sizes;
+    let mut generations = places.into_all(alloc)?;
+    generations.sort_by_key(|generation| generation.number())?;
+    let left = close_each(alloc, generations, &sizes)?;
+    Ok(left)
+}

@@ -1,0 +1,131 @@
+//! Changes from one generation to the next, by one thread.
+use crate::plain::{close, give, open, open_with, take};
+use kfifo_live::{CloseFault, Given, OpenFault, Taken};
+use kfifo_renewing::{RenewFault, RenewingHandle};
+use kfifo_words::{MAX_VERSION, Shape};
+use std::process::Abort;
+use std::test::Fail;
+
+/// Gives a value and takes one, so many times. Each comes out as it was given, and in order.
+fn give_and_take(rt: &impl Abort, handle: &mut RenewingHandle<u64>, first: u64, count: u64) {
+    for index in 0..count {
+        let value = first.wrapping_add(index);
+        assert_eq!(rt; give(handle, value), Given::Done, "give {value}");
+        assert_eq!(rt; take(handle), Taken::Got(value), "take {value}");
+    }
+}
+
+/// A queue with 8 versions wears out after 4 pairs of calls. This one makes 4,000.
+#[test]
+fn outlives_its_versions(rt: HostRuntime) -> Result<(), Fail> {
+    let shape = Shape::new(1, 2, 8)?;
+    let mut handles = open::<u64>(rt.alloc(), shape, 1, 4)?;
+    if let Some(handle) = handles.first_mut() {
+        give_and_take(&rt, handle, 0, 4_000);
+        assert_eq!(rt; take(handle), Taken::Empty);
+    }
+    assert_eq!(rt; close(rt.alloc(), handles)?.len(), 0);
+    Ok(())
+}
+
+/// Two values stay inside all the time, so each change finds the older generation with values in it.
+#[test]
+fn keeps_the_order_over_changes(rt: HostRuntime) -> Result<(), Fail> {
+    let shape = Shape::new(1, 4, 16)?;
+    let mut handles = open::<u64>(rt.alloc(), shape, 1, 8)?;
+    if let Some(handle) = handles.first_mut() {
+        assert_eq!(rt; give(handle, 0), Given::Done);
+        assert_eq!(rt; give(handle, 1), Given::Done);
+        for value in 2..2_000 {
+            assert_eq!(rt; give(handle, value), Given::Done, "give {value}");
+            assert_eq!(rt; take(handle), Taken::Got(value - 2), "take {value}");
+        }
+    }
+    let left = close(rt.alloc(), handles)?;
+    assert_eq!(rt; left.as_slice(), [1_998, 1_999].as_slice());
+    Ok(())
+}
+
+/// One handle makes no calls while the other goes on through hundreds of generations. What it gave is taken first, and
+/// it goes on as well as the other.
+#[test]
+fn waits_for_nobody(rt: HostRuntime) -> Result<(), Fail> {
+    let shape = Shape::new(1, 2, 16)?;
+    let mut handles = open::<u64>(rt.alloc(), shape, 2, 8)?;
+    if let [idle, busy] = handles.as_mut_slice() {
+        assert_eq!(rt; give(idle, 7), Given::Done);
+        assert_eq!(rt; take(busy), Taken::Got(7));
+        give_and_take(&rt, busy, 0, 2_000);
+        assert_eq!(rt; give(idle, 8), Given::Done);
+        assert_eq!(rt; take(busy), Taken::Got(8));
+        give_and_take(&rt, idle, 0, 2_000);
+        assert_eq!(rt; take(busy), Taken::Empty);
+    }
+    assert_eq!(rt; close(rt.alloc(), handles)?.len(), 0);
+    Ok(())
+}
+
+/// A handle that only gives and one that only takes, with values inside at each change.
+#[test]
+fn carries_values_from_one_handle_to_another(rt: HostRuntime) -> Result<(), Fail> {
+    let shape = Shape::new(1, 4, 32)?;
+    let mut handles = open::<u64>(rt.alloc(), shape, 2, 8)?;
+    if let [giver, taker] = handles.as_mut_slice() {
+        assert_eq!(rt; give(giver, 0), Given::Done);
+        for value in 1..2_000 {
+            assert_eq!(rt; give(giver, value), Given::Done, "give {value}");
+            assert_eq!(rt; take(taker), Taken::Got(value - 1), "take {value}");
+        }
+    }
+    let left = close(rt.alloc(), handles)?;
+    assert_eq!(rt; left.as_slice(), [1_999].as_slice());
+    Ok(())
+}
+
+/// A handle that is dropped gives to no generation any more, so the others do not look into its old one for ever, and
+/// what it gave is still taken.
+#[test]
+fn takes_what_a_dropped_handle_gave(rt: HostRuntime) -> Result<(), Fail> {
+    let shape = Shape::new(1, 2, 16)?;
+    let mut handles = open::<u64>(rt.alloc(), shape, 2, 8)?;
+    if let Some(mut gone) = handles.pop() {
+        assert_eq!(rt; give(&mut gone, 7), Given::Done);
+    }
+    if let Some(handle) = handles.first_mut() {
+        assert_eq!(rt; take(handle), Taken::Got(7));
+        give_and_take(&rt, handle, 0, 2_000);
+    }
+    assert_eq!(rt; close(rt.alloc(), handles)?.len(), 0);
+    Ok(())
+}
+
+#[test]
+fn refuses_bad_sizes(rt: HostRuntime) -> Result<(), Fail> {
+    let shape = Shape::new(2, 4, 100)?;
+    let rows = [
+        (1, 1, 100, RenewFault::ReserveOutOfRange),
+        (0, 0, 100, RenewFault::ReserveOutOfRange),
+        (0, 0, 99, RenewFault::Open(OpenFault::ThreadsOutOfRange)),
+        (65, 1, 99, RenewFault::Open(OpenFault::ThreadsOutOfRange)),
+        (1, 0, 99, RenewFault::Open(OpenFault::TokensOutOfRange)),
+        (64, 1_025, 99, RenewFault::Open(OpenFault::TokensOutOfRange)),
+    ];
+    for (threads, tokens, reserve, wanted) in rows {
+        let fault = open_with::<u64>(rt.alloc(), shape, threads, tokens, reserve).err();
+        assert_eq!(rt; fault, Some(wanted), "{threads} {tokens} {reserve}");
+    }
+    Ok(())
+}
+
+/// A close wants all handles.
+#[test]
+fn refuses_to_close_with_a_handle_missing(rt: HostRuntime) -> Result<(), Fail> {
+    let shape = Shape::new(2, 4, MAX_VERSION)?;
+    let mut handles = open_with::<u64>(rt.alloc(), shape, 2, 4, 1)?;
+    let kept = handles.pop();
+    assert_eq!(rt; close(rt.alloc(), handles).err(), Some(CloseFault::MissingPass));
+    drop(kept);
+    let none = close(rt.alloc(), Vec::<RenewingHandle<u64>>::new(rt.alloc()));
+    assert_eq!(rt; none.err(), Some(CloseFault::MissingPass));
+    Ok(())
+}

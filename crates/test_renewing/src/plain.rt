@@ -1,0 +1,40 @@
+//! The calls that the tests make, with nothing said of them: no test needs it, and proofs of tests are faster without.
+use kfifo_live::{CloseFault, Given, Taken};
+use kfifo_renewing::{RenewFault, RenewingHandle};
+use kfifo_words::Shape;
+use std::alloc::Global;
+
+/// The handles of a queue whose reserve is half of its versions.
+pub fn open<T: Drop>(
+    alloc: Global,
+    shape: Shape,
+    threads: u32,
+    tokens: u32,
+) -> Result<Vec<RenewingHandle<T>>, RenewFault> {
+    kfifo_renewing::open(alloc, shape, threads, tokens, shape.last() / 2)
+}
+
+pub fn open_with<T: Drop>(
+    alloc: Global,
+    shape: Shape,
+    threads: u32,
+    tokens: u32,
+    reserve: u64,
+) -> Result<Vec<RenewingHandle<T>>, RenewFault> {
+    kfifo_renewing::open(alloc, shape, threads, tokens, reserve)
+}
+
+pub fn give<T: Drop>(handle: &mut RenewingHandle<T>, payload: T) -> Given<T> {
+    handle.give(payload)
+}
+
+pub fn take<T: Drop>(handle: &mut RenewingHandle<T>) -> Taken<T> {
+    handle.take()
+}
+
+pub fn close<T: Drop>(
+    alloc: Global,
+    handles: Vec<RenewingHandle<T>>,
+) -> Result<Vec<T>, CloseFault> {
+    kfifo_renewing::close(alloc, handles)
+}
