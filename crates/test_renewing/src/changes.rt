@@ -123,7 +123,10 @@ fn refuses_to_close_with_a_handle_missing(rt: HostRuntime) -> Result<(), Fail> {
     let shape = Shape::new(2, 4, MAX_VERSION)?;
     let mut handles = open_with::<u64>(rt.alloc(), shape, 2, 4, 1)?;
     let kept = handles.pop();
-    assert_eq!(rt; close(rt.alloc(), handles).err(), Some(CloseFault::MissingPass));
+    assert_eq!(rt;
+        close(rt.alloc(), handles).err(),
+        Some(CloseFault::MissingPass)
+    );
     drop(kept);
     let none = close(rt.alloc(), Vec::<RenewingHandle<u64>>::new(rt.alloc()));
     assert_eq!(rt; none.err(), Some(CloseFault::MissingPass));

@@ -7,7 +7,13 @@ use std::test::Fail;
 #[test]
 fn the_renewing_queue(rt: HostRuntime) -> Result<(), Fail> {
     let alloc = rt.alloc();
-    let mut handles = open::<u64>(alloc, Shape::new(4, 8, MAX_VERSION)?, 2, 16, DEFAULT_RESERVE)?;
+    let mut handles = open::<u64>(
+        alloc,
+        Shape::new(4, 8, MAX_VERSION)?,
+        2,
+        16,
+        DEFAULT_RESERVE,
+    )?;
     let (Some(mut taker), Some(mut giver)) = (handles.pop(), handles.pop()) else {
         unreachable!()
     };
