@@ -183,12 +183,11 @@ impl Replay {
     /// them, some 150 bytes each. It refuses what `open` refuses.
     ///
     /// ```rust
-    /// let mut replay = Replay::open_traced(alloc, shape, scripts, 1000)?;
+    /// let mut replay = Replay::open_traced(alloc, shape, scripts, steps_kept(options))?;
     /// replay.finish(thread)?;
-    /// push_trace(&mut text, shape.k(), replay.steps())?;
     /// ```
     ///
-    /// Here `push_trace` of `kfifo_cli_texts` writes a line for each step.
+    /// `steps` then has what each event did, and `push_trace` of `kfifo_cli_texts` writes a line for each.
     pub fn open_traced(
         alloc: Global,
         shape: Shape,

@@ -19,11 +19,9 @@ use std::alloc::{AllocError, Global};
 /// whatever `tries` is, if each call has ended and each item that is put is put by one call and got by at most one.
 ///
 /// ```rust
-/// let judgement = judge(alloc, history, k, tries)?;
-/// let text = match &judgement {
-///     Judgement::Legal(order) => legal(alloc, history, k, order, show)?,
-///     Judgement::NoOrder(found) => no_order(alloc, history, logged, k, tries, found)?,
-///     Judgement::Undecided(stuck) => undecided(alloc, history, k, *stuck)?,
+/// let legal = match judge(alloc, &history, k, 1_000)? {
+///     Judgement::Legal(_) => true,
+///     _ => false,
 /// };
 /// ```
 pub fn judge(alloc: Global, history: &History, k: u32, tries: u64) -> Result<Judgement, AllocError>

@@ -42,10 +42,6 @@ fn done_item(call: &Call) -> Option<u32>
 
 /// Returns how many items are left at the end of the history: each item as often as calls that returned Done put it
 /// more than calls got it. An item whose put has not ended counts for none. An error means that an allocation failed.
-///
-/// ```rust
-/// let left = items_remaining(alloc, history)?;
-/// ```
 pub fn items_remaining(alloc: Global, history: &History) -> Result<usize, AllocError>
     ensures { IfOk result (λ left. left ≡ items_left history.now) }
 {
