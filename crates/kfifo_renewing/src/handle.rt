@@ -23,7 +23,8 @@ const TRIES: u32 = 64;
 /// A handle that is dropped leaves the queue: nobody waits for it, and what it gave is still taken.
 ///
 /// ```rust
-/// let mut handles = open::<u64>(alloc, Shape::new(4, 8, MAX_VERSION)?, 2, 16, DEFAULT_RESERVE)?;
+/// let shape = Shape::new(4, 8, MAX_VERSION)?; // k, segments, greatest version
+/// let mut handles = open::<u64>(alloc, shape, 2, 16, DEFAULT_RESERVE)?; // threads, tokens
 /// let (Some(mut taker), Some(mut giver)) = (handles.pop(), handles.pop()) else {
 ///     unreachable!()
 /// };

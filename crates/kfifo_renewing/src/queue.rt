@@ -230,7 +230,8 @@ fn open_tested<T: Drop>(
 /// call that is under way.
 ///
 /// ```rust
-/// let mut handles = open::<u64>(alloc, Shape::new(4, 8, MAX_VERSION)?, 2, 16, DEFAULT_RESERVE)?;
+/// let shape = Shape::new(4, 8, MAX_VERSION)?; // k, segments, greatest version
+/// let mut handles = open::<u64>(alloc, shape, 2, 16, DEFAULT_RESERVE)?; // threads, tokens
 /// ```
 ///
 /// ReserveOutOfRange where the reserve is not below the shape's greatest version; then Open with ThreadsOutOfRange

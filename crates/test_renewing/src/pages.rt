@@ -7,13 +7,8 @@ use std::test::Fail;
 #[test]
 fn the_renewing_queue(rt: HostRuntime) -> Result<(), Fail> {
     let alloc = rt.alloc();
-    let mut handles = open::<u64>(
-        alloc,
-        Shape::new(4, 8, MAX_VERSION)?,
-        2,
-        16,
-        DEFAULT_RESERVE,
-    )?;
+    let shape = Shape::new(4, 8, MAX_VERSION)?; // k, segments, greatest version
+    let mut handles = open::<u64>(alloc, shape, 2, 16, DEFAULT_RESERVE)?; // threads, tokens
     let (Some(mut taker), Some(mut giver)) = (handles.pop(), handles.pop()) else {
         unreachable!()
     };
