@@ -1,11 +1,11 @@
 -- The generations of a renewing queue, as a handle has joined them, and what its calls do to each.
-use Rattle.std.specs.Prelude.{◌≡◌, ◌≢◌, ◌⊎◌, List, [], ◌∷◌, ◌++◌, flat_map, map, Option, Some, None}
+use Rattle.std.specs.Prelude.{◌≡◌, ◌≢◌, ◌⊎◌, List, [], ◌∷◌, ◌++◌, All, flat_map, map, Option, Some, None}
 use Rattle.kfifo_live.specs.declared.payload.Given.{Given}
 use Rattle.kfifo_live.specs.declared.payload.Given.TheVariants as G
 use Rattle.kfifo_live.specs.declared.payload.Taken.{Taken}
 use Rattle.kfifo_live.specs.declared.payload.Taken.TheVariants as K
 use Rattle.kfifo_live.specs.Handles.{PayHeld, PicksUpAndGives, TakesAndLaysDown}
-use Rattle.kfifo_live.specs.Pass.{IsSamePass, OpenQueue}
+use Rattle.kfifo_live.specs.Pass.{IsPassOf, IsSamePass, OpenQueue}
 use Rattle.kfifo_live.specs.Payloads.{PayCloses, PayPassView, pay_opening}
 use Rattle.kfifo_live.specs.Promise.{KeepsPromise}
 use Rattle.kfifo_live.specs.Schedule.{count_up}
@@ -42,9 +42,13 @@ module _ {T : Type 0} where
   abbrev pub Follows : Generations T → Generations T → Type 0
   Follows old new = (new.opened ≡ old.opened) × ((later : List (PayHeld T)) × IsPartOf (all_of new) (all_of old ++ later))
 
-  -- a handle that has only just joined: it has one generation
-  abbrev pub HasOne : Opening → Generations T → Type 0
-  HasOne o g = (g.opened ≡ o) × (g.older ≡ []) × IsOpenedAs o g.newest
+  -- a handle that has joined one generation alone, of this queue
+  abbrev pub HasOne : OpenQueue → Generations T → Type 0
+  HasOne q g = (g.opened ≡ q.opened) × (g.older ≡ []) × IsPassOf q g.newest.pass.pass
+
+  -- handles that have joined one generation, the same each, which has this opening
+  abbrev pub HaveOne : Opening → List (Generations T) → Type 0
+  HaveOne o handles = (q : OpenQueue) × (q.opened ≡ o) × All (HasOne q) handles
 
   -- one give, to the newest generation, whose promise is then kept. The others stay as they are
   pub record GivesThere (payload : T) (answer : Given T) (old new : Generations T) : Type 0 where

@@ -1,7 +1,7 @@
 //! Calls of a renewing queue.
 ghost use Rattle.std.specs.Prelude.{◌≡◌, ◌⊎◌, List, [], All, IfOk};
 ghost use Rattle.kfifo_live.specs.Handles.{PayHeld};
-ghost use Rattle.kfifo_renewing.specs.Renewing.{Follows, Generations, GivesToNewest, HasOne, IsOpenedAs, IsPartOf};
+ghost use Rattle.kfifo_renewing.specs.Renewing.{Follows, Generations, GivesToNewest, IsOpenedAs, IsPartOf};
 ghost use Rattle.kfifo_renewing.specs.Renewing.{TakesFirst, TakesFromOldest, TakesOldest, TakesThere, TriesToGive, opening_of};
 
 use crate::joined::Joined;

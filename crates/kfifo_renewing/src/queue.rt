@@ -4,7 +4,7 @@ ghost use Rattle.kfifo_live.specs.Payloads.{pay_opening};
 ghost use Rattle.kfifo_live.specs.declared.fault.OpenFault.TheVariants.{ThreadsOutOfRange, TokensOutOfRange};
 ghost use Rattle.kfifo_renewing.specs.declared.fault.RenewFault.TheVariants.{Open, ReserveOutOfRange};
 ghost use Rattle.kfifo_renewing.specs.declared.generation.Sizes.{Sizes};
-ghost use Rattle.kfifo_renewing.specs.Renewing.{ClosesAll, Generations, HasOne, WereLeft, opening_of};
+ghost use Rattle.kfifo_renewing.specs.Renewing.{ClosesAll, Generations, HasOne, HaveOne, WereLeft, opening_of};
 
 use crate::fault::RenewFault;
 use crate::generation::{Generation, Sizes};
@@ -152,7 +152,7 @@ fn join_first<T: Drop>(
     thread: u32,
 ) -> Result<RenewingHandle<T>, AllocError>
     requires { generation.now.value.opened ≡ opening_of shared.now.value }
-    ensures { IfOk result (HasOne (opening_of shared.now.value)) }
+    ensures { IfOk result (HasOne generation.now.value) }
 {
     let part = Arc::try_clone(generation)?;
     let joined = Joined::join(part, place, thread).ok_or(AllocError)?;
@@ -169,7 +169,7 @@ fn join_all<T: Drop>(
 ) -> Result<Vec<RenewingHandle<T>>, AllocError>
     requires threads { sizes.threads ≤ MAX_THREADS }
     requires of { generation.opened ≡ opening_of sizes }
-    ensures { IfOk result (λ handles. All (HasOne (opening_of sizes)) handles.items
+    ensures { IfOk result (λ handles. All (HasOne generation) handles.items
         × (length handles.items ≡ sizes.threads)) }
 {
     let generation = Arc::new(alloc, generation)?;
@@ -190,11 +190,14 @@ fn open_first<T: Drop>(
 ) -> Result<Vec<RenewingHandle<T>>, AllocError>
     requires threads { (1 ≤ sizes.threads) × (sizes.threads ≤ MAX_THREADS) }
     requires tokens { (1 ≤ sizes.tokens) × (sizes.tokens ≤ MAX_TOKENS) }
-    ensures { IfOk result (λ handles. All (HasOne (opening_of sizes)) handles.items
+    ensures { IfOk result (λ handles. HaveOne (opening_of sizes) handles.items
         × (length handles.items ≡ sizes.threads)) }
 {
     match Generation::open(alloc, &sizes, FIRST) {
-        Ok(generation) => join_all(alloc, generation, sizes, reserve),
+        Ok(generation) => {
+            let handles = join_all(alloc, generation, sizes, reserve)?;
+            Ok(handles)
+        }
         // The sizes are right, so memory is missing.
         Err(_) => Err(AllocError),
     }
@@ -206,7 +209,7 @@ fn open_tested<T: Drop>(
     sizes: Sizes,
     reserve: u64,
 ) -> Result<Vec<RenewingHandle<T>>, OpenFault>
-    ensures ok { IfOk result (λ handles. All (HasOne (opening_of sizes)) handles.items
+    ensures ok { IfOk result (λ handles. HaveOne (opening_of sizes) handles.items
         × (length handles.items ≡ sizes.threads)) }
     ensures threads { IsErrOf result ThreadsOutOfRange ↔ ((sizes.threads ≡ 0) ⊎ (MAX_THREADS < sizes.threads)) }
     ensures tokens { IsErrOf result TokensOutOfRange
@@ -244,7 +247,7 @@ pub fn open<T: Drop>(
     tokens: u32,
     reserve: u64,
 ) -> Result<Vec<RenewingHandle<T>>, RenewFault>
-    ensures ok { IfOk result (λ handles. All (HasOne (pay_opening shape threads tokens)) handles.items
+    ensures ok { IfOk result (λ handles. HaveOne (pay_opening shape threads tokens) handles.items
         × (length handles.items ≡ threads)) }
     ensures reserve { IsErrOf result ReserveOutOfRange ↔ (shape.last ≤ reserve) }
     ensures threads { IsErrOf result (Open ThreadsOutOfRange) ↔ ((reserve < shape.last)
