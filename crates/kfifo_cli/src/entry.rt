@@ -11,7 +11,7 @@ use clap::Error;
 use clap::error::ErrorKind;
 use kfifo_cli_arguments::{mistake, parse, request_of};
 use kfifo_cli_commands::{
-    Notice, Progress, Silent, Status, carry_out, end_with_fault, end_with_text,
+    Notes, Notice, Progress, Silent, Status, carry_out, end_with_fault, end_with_text,
 };
 use kfifo_cli_texts::{Fault, Printer};
 use kfifo_judge::{FromStd, Source};
@@ -42,9 +42,9 @@ pub fn program<T: Threads + Files + Sync, R: Read, W: Write, F: Write>(
     program_showing(threads, alloc, words, input, output, faults, &mut Silent)
 }
 
-/// Does what `program` does, and tells the progress how far long work has come. What the progress does with that is
-/// not among what is said of the streams.
-pub fn program_showing<T: Threads + Files + Sync, R: Read, W: Write, F: Write, P: Progress>(
+/// Does what `program` does, and tells the progress how far long work has come, and what is wrong with an input of
+/// calls. What the progress does with that is not among what is said of the streams.
+pub fn program_showing<T: Threads + Files + Sync, R: Read, W: Write, F: Write, P: Progress + Notes>(
     threads: &T,
     alloc: Global,
     words: &[String],
@@ -75,7 +75,7 @@ pub fn program_showing<T: Threads + Files + Sync, R: Read, W: Write, F: Write, P
 
 /// The same over a source and printers, which count the calls that failed: the input is at fault, and a text
 /// breaks off, only where one did.
-fn perform<H: Threads + Files + Sync, S: Source, W: Write, F: Write, P: Progress>(
+fn perform<H: Threads + Files + Sync, S: Source, W: Write, F: Write, P: Progress + Notes>(
     alloc: Global,
     rt: &H,
     words: &[String],

@@ -1,6 +1,5 @@
 -- Why the command `draw` has no answer.
-use Rattle.std.proofs.Common.{◌≡◌, ◌≢◌, ℕ, List, Option, Some, subst, sym, ◌⊎◌, inl, inr, option_map, Result, Ok, Err, IfErr, IfOk}
-use Rattle.std.proofs.Common.{MatchResult}
+use Rattle.std.proofs.Common.{◌≡◌, ◌≢◌, ℕ, List, Option, Some, subst, sym, ◌⊎◌, inl, inr, option_map}
 use Rattle.kfifo_cli_commands.proofs.Types.{Fault}
 use Rattle.kfifo_cli_texts.specs.declared.fault.Fault.TheVariants.{Shape, Word, Order, Picks, Replay, Trace, Open, Dispatch, Input, NoInput}
 use Rattle.kfifo_cli_texts.specs.declared.fault.Fault.TheVariants.{NotJson, Record, Search, RepeatedItem, Import, TooManyDrawn}
@@ -9,7 +8,7 @@ use Rattle.kfifo_cli_commands.specs.declared.cut.Cut.{Cut}
 use Rattle.kfifo_cli_requests.specs.declared.requests.DrawOptions.{DrawOptions}
 use Rattle.kfifo_cli_commands.specs.Cuts.{AsksFor, IsCutFault}
 use Rattle.kfifo_cli_commands.specs.Pictures.{IsDrawRefusal, IsNoPicture, IsUndrawn}
-use Rattle.kfifo_cli_commands.specs.Records.{IsInput, IsOrderFault, IsUnread, ReadsWell}
+use Rattle.kfifo_cli_commands.specs.Records.{IsInput, IsOrderFault, IsUnread}
 
 module _ (input : Option (List ℕ)) (before after : ℕ) (options : DrawOptions) where
   -- options that ask for no calls are a refusal
@@ -86,22 +85,3 @@ module _ (input : Option (List ℕ)) (before after : ℕ) (options : DrawOptions
   refusal_told fault u is =
       let w : IsUndrawn options input Output = subst (λ f. IsDrawRefusal options input before after f) is u in
       w.unpictured
-
-  -- what the fault of a result has, where a refusal gives it
-  pub told : {T : Type 0} (r : Result T Fault) → IfErr r (IsDrawRefusal options input before after) → IfErr r (λ fault. fault ≢ Output)
-  told (Ok x) h = tt
-  told (Err fault) h = refusal_told fault h
-
--- where nothing more was read, no read failed
-pub read_well : {T : Type 0} (r : Result T Fault) (before after : ℕ) → after ≡ before → ReadsWell r before after
-read_well (Ok x) before after same = same
-read_well (Err fault) before after same = λ other. same
-
--- what the value of a result has, and what its fault has
-pub ok_of : {T E : Type 0} (P : T → Type 0) (Q : E → Type 0) (r : Result T E) → MatchResult r P Q → IfOk r P
-ok_of P Q (Ok x) h = h
-ok_of P Q (Err e) h = tt
-
-pub err_of : {T E : Type 0} (P : T → Type 0) (Q : E → Type 0) (r : Result T E) → MatchResult r P Q → IfErr r Q
-err_of P Q (Ok x) h = tt
-err_of P Q (Err e) h = h

@@ -1,5 +1,5 @@
 -- What the calls of an input come to: a picture, or why there is none.
-use Rattle.std.proofs.Common.{◌≡◌, ℕ, Bool, true, false, List, Option, Some, None, IsSome, refl, length, Result, Ok, Err, MatchResult}
+use Rattle.std.proofs.Common.{◌≡◌, ℕ, Bool, true, false, List, Option, Some, None, IsSome, refl, length}
 use Rattle.std.proofs.Common.{subst, sym}
 use Rattle.kfifo_model.specs.declared.calls.Call.{Call}
 use Rattle.kfifo_import.specs.declared.log.LoggedCall.{LoggedCall}
@@ -19,7 +19,7 @@ use Rattle.kfifo_cli_commands.specs.declared.cut.Cut.TheVariants as cuts
 use Rattle.kfifo_judge.specs.Reasons.{named_by}
 use Rattle.kfifo_cli_commands.specs.Cuts.{IsOfLines, IsPartOf, LacksEvidence}
 use Rattle.kfifo_cli_commands.specs.Inputs.{IsCalls, IsNoCalls, logged_calls}
-use Rattle.kfifo_cli_commands.specs.Pictures.{AreCallsOf, HasAll, HasFew, HasMany, IsNoPicture, IsNotDrawn, IsPicture, IsPictureOf}
+use Rattle.kfifo_cli_commands.specs.Pictures.{AreCallsOf, HasAll, HasFew, HasMany, IsNoPicture, IsNotDrawn, IsPictureOf}
 
 module _ (k : ℕ) (asked : Bool) (cut : Cut) (bytes : List ℕ) where
   -- an input that has no calls has no picture
@@ -50,11 +50,11 @@ module _ (k : ℕ) (asked : Bool) (cut : Cut) (bytes : List ℕ) where
 
   module _ (history : List Call) (logged : Option (List LoggedCall)) (calls : IsCalls bytes history logged)
       (lines : IsOfLines cut → IsSome logged) where
-    of_calls : (Has : Option Evidence → (ℕ → Type 0) → ℕ → Type 0) → IsPictureOf Has k asked cut history (logged_calls logged)
+    pub of_calls : (Has : Option Evidence → (ℕ → Type 0) → ℕ → Type 0) → IsPictureOf Has k asked cut history (logged_calls logged)
         → AreCallsOf Has k asked cut bytes
     of_calls Has number = record { history = history; logged = logged; calls = calls; lines = lines; number = number }
 
-    not_drawn : (fault : Fault) → IsNotDrawn k asked cut history (logged_calls logged) fault → IsNoPicture k asked cut bytes fault
+    pub not_drawn : (fault : Fault) → IsNotDrawn k asked cut history (logged_calls logged) fault → IsNoPicture k asked cut bytes fault
     not_drawn TooManyDrawn u = of_calls (HasMany asked cut) u
     not_drawn NoEvidence u = of_calls (HasAll asked cut) u
     not_drawn Memory u = tt
@@ -78,13 +78,6 @@ module _ (k : ℕ) (asked : Bool) (cut : Cut) (bytes : List ℕ) where
     not_drawn NoLines u = absurd u
     not_drawn Unexplained u = absurd u
     not_drawn Output u = absurd u
-
-    -- what the calls of an input come to, the input comes to
-    pub pictured : {T : Type 0} (r : Result T Fault)
-        → MatchResult r (λ _. IsPictureOf HasFew k asked cut history (logged_calls logged)) (IsNotDrawn k asked cut history (logged_calls logged))
-        → MatchResult r (λ _. IsPicture k asked cut bytes) (IsNoPicture k asked cut bytes)
-    pictured (Ok x) few = of_calls HasFew few
-    pictured (Err fault) u = not_drawn fault u
 
 module _ (k : ℕ) (cut : Cut) (h : List Call) (logged : List LoggedCall) (part : Part) where
   -- calls that are not drawn, where no evidence is asked for

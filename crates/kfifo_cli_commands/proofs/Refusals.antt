@@ -10,58 +10,43 @@ use Rattle.kfifo_cli_texts.specs.declared.fault.Fault.TheVariants.{Memory, Order
 use Rattle.kfifo_cli_requests.specs.declared.requests.CheckOptions.{CheckOptions}
 use Rattle.kfifo_cli_texts.specs.Faults.{stream_fault}
 use Rattle.kfifo_cli_texts.specs.Orders.{GivesNoOrder, GivesOrder}
-use Rattle.kfifo_cli_commands.specs.Records.{IsCheckRefusal, IsInput, IsMeasureRefusal, IsOfInput, IsOrder, IsStreamFault, GivesSomeOrder}
-use Rattle.kfifo_cli_commands.specs.Records.{IsUnread}
+use Rattle.kfifo_cli_commands.specs.Records.{IsCheckRefusal, IsMeasureRefusal, IsOfInput, IsOrder, IsRecordRefusal, GivesSomeOrder}
 use Rattle.kfifo_cli_commands.specs.Inputs.{IsNoCalls}
 
--- bytes that an input of at most 16,777,216 gives are what was read of it
-pub of_short : (input : Option (List ℕ)) (bytes : List ℕ) → IfSome input (λ given. given ≡ bytes)
-    → IfSome input (λ given. length given ≤ 16777216) → IsInput input bytes
-of_short None bytes same short = tt
-of_short (Some given) bytes same short = (same, short)
+-- neither side of a fault that no text and no history has
+never : {A : Type 0} {B : A → Type 0} → ⊥ ⊎ ((a : A) × B a × ⊥) → ⊥
+never (inl bad) = bad
+never (inr bad) = bad.2
 
 module _ (input : Option (List ℕ)) (before after : ℕ) where
   module _ (options : CheckOptions) (order : Option (List ℕ)) (ordered : IsOrder options order) where
-    refused : (given : StreamFault) → (given ≡ streams.Input → IsUnread input before after)
-        → (given ≢ streams.Input → given ≢ streams.Output → given ≢ streams.Memory → IsOfInput input (IsCheckFault order) given)
+    refused : (given : StreamFault) → IsOfInput input (IsCheckFault order) given
         → IsCheckRefusal options input before after (stream_fault given)
-    refused streams.Input unread h = unread refl
-    refused streams.NotJson unread h = let x = h (λ e. cc) (λ e. cc) (λ e. cc) in
-        record { order = order; order_given = ordered; bytes = x.0; read = x.1; faulty = x.2 }
-    refused (streams.Record f) unread h = let x = h (λ e. cc) (λ e. cc) (λ e. cc) in
-        record { order = order; order_given = ordered; bytes = x.0; read = x.1; faulty = x.2 }
-    refused (streams.Search f) unread h = let x = h (λ e. cc) (λ e. cc) (λ e. cc) in
-        record { order = order; order_given = ordered; bytes = x.0; read = x.1; faulty = x.2 }
-    refused streams.RepeatedItem unread h = let x = h (λ e. cc) (λ e. cc) (λ e. cc) in elim x.2 [
-      | inl bad ↦ bad
-      | inr bad ↦ bad.2
-    ]
-    refused streams.Memory unread h = tt
-    refused streams.Output unread h = tt
+    refused streams.Input x = absurd (never x.2)
+    refused streams.NotJson x = record { order = order; order_given = ordered; bytes = x.0; read = x.1; faulty = x.2 }
+    refused (streams.Record f) x = record { order = order; order_given = ordered; bytes = x.0; read = x.1; faulty = x.2 }
+    refused (streams.Search f) x = record { order = order; order_given = ordered; bytes = x.0; read = x.1; faulty = x.2 }
+    refused streams.RepeatedItem x = absurd (never x.2)
+    refused streams.Memory x = tt
+    refused streams.Output x = tt
 
-    -- a fault of the stream of `check` is a refusal
-    pub check_refused : (fault : Fault) → IsStreamFault input before after (IsCheckFault order) fault
+    -- a record without an answer is a refusal of `check`
+    pub check_refused : (fault : Fault) → IsRecordRefusal input before after (IsCheckFault order) fault
         → IsCheckRefusal options input before after fault
-    check_refused fault f = subst (λ f. IsCheckRefusal options input before after f) (sym f.1) (refused f.0 f.2 f.3)
+    check_refused fault (inl memory) = subst (λ f. IsCheckRefusal options input before after f) (sym memory) tt
+    check_refused fault (inr (inl unread)) = subst (λ f. IsCheckRefusal options input before after f) (sym unread.0) unread.1
+    check_refused fault (inr (inr f)) = subst (λ f. IsCheckRefusal options input before after f) (sym f.1) (refused f.0 f.2)
 
-  unmeasured : (given : StreamFault) → (given ≡ streams.Input → IsUnread input before after)
-      → (given ≢ streams.Input → given ≢ streams.Output → given ≢ streams.Memory → IsOfInput input IsMeasuringFault given)
+  -- a record that is not measured is a refusal of `measure`
+  pub measure_refused : (given : StreamFault) → IsOfInput input IsMeasuringFault given
       → IsMeasureRefusal input before after (stream_fault given)
-  unmeasured streams.Input unread h = unread refl
-  unmeasured streams.NotJson unread h = h (λ e. cc) (λ e. cc) (λ e. cc)
-  unmeasured (streams.Record f) unread h = h (λ e. cc) (λ e. cc) (λ e. cc)
-  unmeasured (streams.Search f) unread h = let x = h (λ e. cc) (λ e. cc) (λ e. cc) in elim x.2 [
-    | inl bad ↦ bad
-    | inr bad ↦ bad.2
-  ]
-  unmeasured streams.RepeatedItem unread h = h (λ e. cc) (λ e. cc) (λ e. cc)
-  unmeasured streams.Memory unread h = tt
-  unmeasured streams.Output unread h = tt
-
-  -- a fault of the stream of `measure` is a refusal
-  pub measure_refused : (fault : Fault) → IsStreamFault input before after IsMeasuringFault fault
-      → IsMeasureRefusal input before after fault
-  measure_refused fault f = subst (λ f. IsMeasureRefusal input before after f) (sym f.1) (unmeasured f.0 f.2 f.3)
+  measure_refused streams.Input x = absurd (never x.2)
+  measure_refused streams.NotJson x = x
+  measure_refused (streams.Record f) x = x
+  measure_refused (streams.Search f) x = absurd (never x.2)
+  measure_refused streams.RepeatedItem x = x
+  measure_refused streams.Memory x = tt
+  measure_refused streams.Output x = tt
 
   -- a text that writes no order is a refusal
   pub order_refused : (options : CheckOptions) (text : List ℕ) (fault : Fault) → option_map (λ t. t.now) options.order ≡ Some text

@@ -6,7 +6,7 @@ use Rattle.kfifo_import.specs.Tables.{IsImported, IsUnimported}
 use Rattle.kfifo_judge.specs.Inputs.{IsRecordText}
 use Rattle.kfifo_cli_texts.specs.declared.fault.Fault.{Fault}
 use Rattle.kfifo_cli_texts.specs.declared.fault.Fault.TheVariants.{Input, Import, Memory}
-use Rattle.kfifo_cli_texts.specs.Lines.{line}
+use Rattle.kfifo_judge.specs.Check.{line}
 use Rattle.kfifo_cli_texts.specs.RecordTexts.{record_text}
 use Rattle.kfifo_cli_commands.specs.Records.{IsInput, IsUnread}
 

@@ -12,7 +12,7 @@ use Rattle.kfifo_judge.specs.Inputs.{IsRecordText}
 use Rattle.kfifo_cli_texts.specs.declared.fault.Fault.{Fault}
 use Rattle.kfifo_cli_texts.specs.declared.fault.Fault.TheVariants as faults
 use Rattle.kfifo_cli_requests.specs.declared.requests.RecordOptions.{RecordOptions}
-use Rattle.kfifo_cli_texts.specs.Lines.{line}
+use Rattle.kfifo_judge.specs.Check.{line}
 use Rattle.kfifo_cli_texts.specs.RecordTexts.{record_text}
 use Rattle.kfifo_cli_requests.specs.Sizes.{IsShapeFault, IsShapeOf}
 use Rattle.kfifo_cli_texts.specs.Scripts.{IsFirstUnreadScript, WriteScripts}

@@ -2,6 +2,7 @@
 use Rattle.std.specs.Prelude.{◌≡◌, ◌≢◌, ◌⊎◌, ◌<◌, ◌≤◌, ℕ, List, Option, Some, None, IfSome, Result, MatchResult, length}
 use Rattle.std.specs.Prelude.{option_map}
 use Rattle.kfifo_judge.specs.declared.streams.TheConstants.{MAX_BYTES}
+use Rattle.kfifo_judge.specs.declared.outcome.Outcome.{Outcome}
 use Rattle.kfifo_judge.specs.declared.record.StreamFault.{StreamFault}
 use Rattle.kfifo_judge.specs.declared.record.StreamFault.TheVariants as streams
 use Rattle.kfifo_judge.specs.Check.{IsChecked, IsCheckFault}
@@ -11,6 +12,8 @@ use Rattle.kfifo_cli_texts.specs.declared.fault.Fault.{Fault}
 use Rattle.kfifo_cli_texts.specs.declared.fault.Fault.TheVariants.{Order, Input, NotJson, Record, Search, RepeatedItem}
 use Rattle.kfifo_cli_texts.specs.declared.fault.Fault.TheVariants.{Memory}
 use Rattle.kfifo_cli_requests.specs.declared.requests.CheckOptions.{CheckOptions}
+use Rattle.kfifo_cli_commands.specs.declared.failure.Failure.{Failure}
+use Rattle.kfifo_cli_commands.specs.Statuses.{outcome_status, status_number}
 use Rattle.kfifo_cli_texts.specs.Faults.{stream_fault}
 use Rattle.kfifo_cli_texts.specs.Orders.{GivesNoOrder, GivesOrder}
 
@@ -27,15 +30,19 @@ IsUnread input before after = CountsOne before after
 abbrev pub ReadsWell : {T : Type 0} → Result T Fault → ℕ → ℕ → Type 0
 ReadsWell result before after = MatchResult result (λ answer. after ≡ before) (λ fault. fault ≢ Input → after ≡ before)
 
+-- the same of a command whose failure has more to say than its fault
+abbrev pub FailsWell : {T : Type 0} → Result T Failure → ℕ → ℕ → Type 0
+FailsWell result before after =
+    MatchResult result (λ answer. after ≡ before) (λ failure. failure.fault ≢ Input → after ≡ before)
+
 -- the bytes of the input have this fault
 abbrev pub IsOfInput : Option (List ℕ) → (List ℕ → StreamFault → Type 0) → StreamFault → Type 0
 IsOfInput input IsFaulty given = (bytes : List ℕ) × IsInput input bytes × IsFaulty bytes given
 
--- the fault of a command whose stream was refused: the stream's, with its cause
-abbrev pub IsStreamFault : Option (List ℕ) → ℕ → ℕ → (List ℕ → StreamFault → Type 0) → Fault → Type 0
-IsStreamFault input before after IsFaulty fault = (given : StreamFault) × (fault ≡ stream_fault given)
-    × (given ≡ streams.Input → IsUnread input before after)
-    × (given ≢ streams.Input → given ≢ streams.Output → given ≢ streams.Memory → IsOfInput input IsFaulty given)
+-- why a record of the input has no answer: memory was refused, the input was not read whole, or its bytes have a fault
+abbrev pub IsRecordRefusal : Option (List ℕ) → ℕ → ℕ → (List ℕ → StreamFault → Type 0) → Fault → Type 0
+IsRecordRefusal input before after IsFaulty fault = (fault ≡ Memory) ⊎ ((fault ≡ Input) × IsUnread input before after)
+    ⊎ ((given : StreamFault) × (fault ≡ stream_fault given) × IsOfInput input IsFaulty given)
 
 -- the order that a text gives, or none where there is no text
 abbrev pub GivesSomeOrder : Option (List ℕ) → Option (List ℕ) → Type 0
@@ -52,7 +59,9 @@ pub record IsCheck (options : CheckOptions) (input : Option (List ℕ)) (text : 
   pub order_given : IsOrder options order
   pub bytes : List ℕ
   pub read : IsInput input bytes
-  pub checked : IsChecked options.k order bytes text status
+  pub said : Outcome
+  pub checked : IsChecked options.k order bytes text said
+  pub ended : status ≡ status_number (outcome_status said)
 
 -- the input of `check` has this fault
 pub record IsUnchecked (options : CheckOptions) (input : Option (List ℕ)) (fault : StreamFault) : Type 0 where
@@ -82,7 +91,7 @@ IsCheckRefusal options input before after _ = ⊥
 pub record IsMeasure (input : Option (List ℕ)) (text : List ℕ) : Type 0 where
   pub bytes : List ℕ
   pub read : IsInput input bytes
-  pub measured : IsMeasured bytes text 0
+  pub measured : IsMeasured bytes text
 
 -- why `measure` has no answer
 abbrev pub IsMeasureRefusal : Option (List ℕ) → ℕ → ℕ → Fault → Type 0

@@ -3,14 +3,15 @@ ghost use Rattle.std.specs.Prelude.{◌≡◌, ◌≢◌, ℕ, List, IfSome, IfO
 ghost use Rattle.kfifo_cli_commands.specs.Endings.{Answers, Ends, IsAnswered, IsRefused};
 ghost use Rattle.kfifo_cli_texts.specs.Faults.{fault_line};
 ghost use Rattle.kfifo_cli_texts.specs.Printing.{Breaks, OnPrinter, Tells, Writes};
-ghost use Rattle.kfifo_cli_commands.specs.Records.{ReadsWell};
+ghost use Rattle.kfifo_cli_commands.specs.Records.{FailsWell};
 ghost use Rattle.kfifo_cli_commands.specs.Statuses.{status_number};
 
 use crate::commands::{
     check, dispatch, draw, explain, import, judge, least, measure, record, replay, run,
 };
 use crate::explaining::reads_calls;
-use crate::progress::Progress;
+use crate::failure::Failure;
+use crate::progress::{Notes, Progress};
 use crate::status::Status;
 use kfifo_cli_requests::Request;
 use kfifo_cli_texts::{Fault, Printer};
@@ -32,9 +33,9 @@ pub enum Notice {
 
 /// Does what is requested, and writes its answer or the line of its fault. Files may be named,
 /// and `record` and `dispatch` start threads: `rt` may do both. `replay` tells the progress how far it has
-/// come, and that it has ended before anything is written; `judge`, `least`, `import` and `draw` tell it behind the line
-/// of a fault what is wrong.
-pub fn carry_out<H: Threads + Files + Sync, S: Source, W: Write, F: Write, P: Progress>(
+/// come, and that it has ended before anything is written; of `judge`, `least`, `import` and `draw` it is told behind the
+/// line of a fault what is wrong.
+pub fn carry_out<H: Threads + Files + Sync, S: Source, W: Write, F: Write, P: Progress + Notes>(
     alloc: Global,
     rt: &H,
     request: Request<'_>,
@@ -51,18 +52,18 @@ pub fn carry_out<H: Threads + Files + Sync, S: Source, W: Write, F: Write, P: Pr
     let explains = reads_calls(&request);
     match answer(alloc, rt, request, input, output, progress) {
         Ok(status) => status,
-        Err(fault) => {
-            let status = end_with_fault(fault, faults);
-            explain(explains, fault, progress);
+        Err(failure) => {
+            let status = end_with_fault(failure.fault, faults);
+            explain(explains, &failure, progress);
             status
         }
     }
 }
 
-/// Tells the progress of a fault, if the command is one whose faults are explained.
-fn explain<P: Progress>(explains: bool, fault: Fault, progress: &mut P) {
+/// Tells why there is no answer, if the command is one whose faults are explained.
+fn explain<P: Notes>(explains: bool, failure: &Failure, notes: &mut P) {
     if explains {
-        progress.explained(fault);
+        notes.explained(failure);
     }
 }
 
@@ -116,18 +117,18 @@ fn answer<H: Threads + Files + Sync, S: Source, W: Write, P: Progress>(
     input: &mut S,
     output: &mut Printer<'_, W>,
     progress: &mut P,
-) -> Result<Status, Fault>
+) -> Result<Status, Failure>
     ensures statuses { IfOk result (λ status. (status ≢ Status.Failed) × (status ≢ Status.Misused)) }
     ensures printed { IfOk result (λ status. (text : List ℕ)
         × Answers request.entry (S.remaining input.old) text (status_number status)
         × Writes W.contents output.old text output.new) }
-    ensures broken { IfErr result (λ fault. fault ≡ Fault.Output → (text : List ℕ) × (status : ℕ)
+    ensures broken { IfErr result (λ failure. failure.fault ≡ Fault.Output → (text : List ℕ) × (status : ℕ)
         × Answers request.entry (S.remaining input.old) text status
         × Breaks W.contents output.old text output.new) }
-    ensures refused { IfErr result (λ fault. fault ≢ Fault.Output
-        → IsRefused request.entry (S.remaining input.old) (S.failed input.old) (S.failed input.new) fault
+    ensures refused { IfErr result (λ failure. failure.fault ≢ Fault.Output
+        → IsRefused request.entry (S.remaining input.old) (S.failed input.old) (S.failed input.new) failure.fault
         × (output.new ≡ output.old)) }
-    ensures reads { ReadsWell result (S.failed input.old) (S.failed input.new) }
+    ensures reads { FailsWell result (S.failed input.old) (S.failed input.new) }
 {
     match request {
         Request::Run(options) => {
@@ -137,12 +138,12 @@ fn answer<H: Threads + Files + Sync, S: Source, W: Write, P: Progress>(
         }
         Request::Check(options) => {
             let (text, status) = check::answer(alloc, rt, options, input)?;
-            output.print(text.as_slice())?;
+            output.print(text.as_bytes())?;
             Ok(status)
         }
         Request::Measure => {
             let text = measure::answer(alloc, input)?;
-            output.print(text.as_slice())?;
+            output.print(text.as_bytes())?;
             Ok(Status::Answered)
         }
         Request::Replay(options) => {
@@ -153,12 +154,12 @@ fn answer<H: Threads + Files + Sync, S: Source, W: Write, P: Progress>(
             Ok(Status::Answered)
         }
         Request::Judge(options) => {
-            let (text, status) = judge::answer(alloc, rt, options, input, progress)?;
+            let (text, status) = judge::answer(alloc, rt, options, input)?;
             output.print(text.as_bytes())?;
             Ok(status)
         }
         Request::Least(options) => {
-            let (text, status) = least::answer(alloc, rt, options, input, progress)?;
+            let (text, status) = least::answer(alloc, rt, options, input)?;
             output.print(text.as_bytes())?;
             Ok(status)
         }
@@ -168,12 +169,12 @@ fn answer<H: Threads + Files + Sync, S: Source, W: Write, P: Progress>(
             Ok(Status::Answered)
         }
         Request::Import(options) => {
-            let text = import::answer(alloc, rt, options, input, progress)?;
+            let text = import::answer(alloc, rt, options, input)?;
             output.print(text.as_bytes())?;
             Ok(Status::Answered)
         }
         Request::Draw(options) => {
-            let text = draw::answer(alloc, rt, options, input, progress)?;
+            let text = draw::answer(alloc, rt, options, input)?;
             output.print(text.as_bytes())?;
             Ok(Status::Answered)
         }

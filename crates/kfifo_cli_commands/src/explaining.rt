@@ -1,8 +1,8 @@
 //! What is wrong, in words: the line behind that of a fault.
 
+use crate::failure::Failure;
 use kfifo_cli_requests::Request;
 use kfifo_cli_texts::Fault;
-use kfifo_import::WrongField;
 use std::io::Write;
 
 /// Whether the command reads calls as a record or a log, so that a line in words stands behind that of a fault.
@@ -46,9 +46,9 @@ fn words_of(fault: Fault) -> &'static str {
 }
 
 /// Writes a line that says what is wrong: of a line of a log that is no call, which field it is and what is allowed.
-pub(crate) fn write_words<W: Write>(notes: &mut W, fault: Fault, wrong: &Option<WrongField>) {
+pub(crate) fn write_words<W: Write>(notes: &mut W, failure: &Failure) {
     // A line that cannot be written changes nothing.
-    let _ = match (fault, wrong) {
+    let _ = match (failure.fault, &failure.wrong) {
         (Fault::Output, _) => Ok(()),
         (Fault::Import(_), Some(wrong)) => writeln!(notes, "{wrong}"),
         (Fault::Import(fault), None) => writeln!(notes, "{fault}"),

@@ -1,15 +1,11 @@
 //! What the commands read.
-ghost use Rattle.std.specs.Prelude.{◌≡◌, ◌≤◌, ◌⊎◌, IfErr, IfOk, IsSome, MatchResult};
-ghost use Rattle.std.specs.Prelude.{length, option_map};
-ghost use Rattle.kfifo_model.specs.declared.reading.TheConstants.{MAX_CALLS};
-ghost use Rattle.kfifo_import.specs.Foreign.{IsJudgedLog, IsUnjudged};
-ghost use Rattle.kfifo_import.specs.Tables.{IsImported, IsUnimported};
+ghost use Rattle.std.specs.Prelude.{◌≡◌, ◌⊎◌, IfErr, IfOk, IsSome, MatchResult, option_map};
 ghost use Rattle.kfifo_cli_commands.specs.Inputs.{IsCalls, IsNoCalls, logged_calls, read_from};
 ghost use Rattle.kfifo_cli_commands.specs.Records.{IsInput, IsUnread, ReadsWell};
 
-use crate::progress::Progress;
+use crate::failure::Failure;
 use kfifo_cli_texts::{Fault, read_file};
-use kfifo_import::{ImportFault, Log, LoggedCall, import_text, read_log_to_judge};
+use kfifo_import::{LoggedCall, read_log_to_judge};
 use kfifo_judge::{ReadFault, Source, begins_record, read_all, read_record};
 use kfifo_model::History;
 use std::alloc::Global;
@@ -81,55 +77,18 @@ fn read_named<H: Files>(alloc: Global, files: &H, path: &str) -> Result<Vec<u8>,
     }
 }
 
-/// The log that these bytes are, to be judged. If a line is no call, the progress is told.
-fn read_log_telling<P: Progress>(
-    alloc: Global,
-    bytes: &[u8],
-    progress: &mut P,
-) -> Result<Log, ImportFault>
-    ensures read { MatchResult result (λ log. IsJudgedLog bytes.now log.history log.calls.items)
-        (IsUnjudged bytes.now) }
-    ensures each { IfOk result (λ log. length log.calls.items ≡ length log.history) }
-{
-    let found = read_log_to_judge(alloc, bytes);
-    if let Err(ImportFault::NotACall(_)) = &found {
-        progress.refused(alloc, bytes);
-    }
-    found
-}
-
-/// The record of the log that these bytes are. If a line is no call, the progress is told.
-pub(crate) fn import_telling<P: Progress>(
-    alloc: Global,
-    bytes: &[u8],
-    progress: &mut P,
-) -> Result<History, ImportFault>
-    ensures read { MatchResult result (IsImported bytes.now) (IsUnimported bytes.now) }
-    ensures few { IfOk result (λ history. length history ≤ MAX_CALLS) }
-{
-    let found = import_text(alloc, bytes);
-    if let Err(ImportFault::NotACall(_)) = &found {
-        progress.refused(alloc, bytes);
-    }
-    found
-}
-
 /// The calls of an input. Where its first byte that is no white space is `[` it is a record in JSON, read as `check`
 /// reads it and with its faults; else it is a log in CSV, read as `import` reads it and with its faults, except that a get
 /// of an item that no call can put is none. An input of
 /// white space alone is a log that lacks its header. One with no byte is neither: the command before it in a pipe has
-/// probably failed. If a line of a log is no call, the progress is told.
-pub(crate) fn read_calls<P: Progress>(
-    alloc: Global,
-    bytes: &[u8],
-    progress: &mut P,
-) -> Result<Calls, Fault>
+/// probably failed.
+pub(crate) fn read_calls(alloc: Global, bytes: &[u8]) -> Result<Calls, Failure>
     ensures { MatchResult result (λ calls.
         IsCalls bytes.now calls.history (option_map (λ logged. logged.items) calls.logged))
-        (IsNoCalls bytes.now) }
+        (λ failure. IsNoCalls bytes.now failure.fault) }
 {
     if bytes.is_empty() {
-        return Err(Fault::NoInput);
+        return Err(Failure::from(Fault::NoInput));
     }
     if begins_record(bytes) {
         let history = read_record(alloc, bytes)?;
@@ -138,7 +97,7 @@ pub(crate) fn read_calls<P: Progress>(
             logged: None,
         });
     }
-    let log = read_log_telling(alloc, bytes, progress)?;
+    let log = read_log_to_judge(alloc, bytes)?;
     Ok(Calls {
         history: log.history,
         logged: Some(log.calls),

@@ -6,6 +6,7 @@ mod commands;
 mod cut;
 mod ending;
 mod explaining;
+mod failure;
 mod input;
 mod progress;
 mod start;
@@ -13,6 +14,7 @@ mod status;
 mod tracing;
 
 pub use ending::{Notice, carry_out, end_with_fault, end_with_text};
-pub use progress::{Progress, Silent};
+pub use failure::Failure;
+pub use progress::{Notes, Progress, Silent};
 pub use start::{Prompting, Showing, Started, start as start_program};
 pub use status::Status;

@@ -1,22 +1,21 @@
 //! Where long work tells how far it has come, and a command what is wrong with its input.
 ghost use Rattle.std.specs.Prelude.{◌≤◌};
 
-use kfifo_cli_texts::Fault;
-use std::alloc::Global;
+use crate::failure::Failure;
 
-/// Gets told how far a piece of work has come, and why calls are refused. No answer depends on what it does with that.
+/// Gets told how far a piece of work has come. No answer depends on what it does with that.
 pub trait Progress {
     /// So many steps of so many in all are made.
     fn told(&mut self, made: u64, all: u64);
 
     /// The work is done, or was given up.
     fn ended(&mut self);
+}
 
-    /// A line of this log is no call. The line of that fault is still to be written.
-    fn refused(&mut self, alloc: Global, log: &[u8]);
-
-    /// The line of this fault is written. What is wrong follows in words.
-    fn explained(&mut self, fault: Fault);
+/// Gets told why there is no answer. No answer depends on what it does with that.
+pub trait Notes {
+    /// The line of the fault is written. What is wrong follows in words.
+    fn explained(&mut self, failure: &Failure);
 }
 
 /// Tells nobody.
@@ -27,10 +26,10 @@ impl Progress for Silent {
     fn told(&mut self, _made: u64, _all: u64) {}
 
     fn ended(&mut self) {}
+}
 
-    fn refused(&mut self, _alloc: Global, _log: &[u8]) {}
-
-    fn explained(&mut self, _fault: Fault) {}
+impl Notes for Silent {
+    fn explained(&mut self, _failure: &Failure) {}
 }
 
 /// The steps that are made between two calls of a progress.

@@ -5,11 +5,10 @@ ghost use Rattle.kfifo_cli_texts.specs.Printing.{OnPrinter, Tells};
 
 use crate::ending::end_with_fault;
 use crate::explaining::write_words;
-use crate::progress::Progress;
+use crate::failure::Failure;
+use crate::progress::{Notes, Progress};
 use crate::status::Status;
 use kfifo_cli_texts::{Fault, Printer};
-use kfifo_import::{WrongField, wrong_field};
-use std::alloc::Global;
 use std::env;
 use std::io::{self, ErrorKind, IsTerminal, Read, Write};
 use std::rt::{Env, Stderr, Stdin, Stdout};
@@ -120,7 +119,6 @@ pub struct Showing<'a, C, W> {
     screen: Option<W>,
     notes: W,
     shown: bool,
-    wrong: Option<WrongField>,
 }
 
 impl<'a, C: Clock, W: Write> Showing<'a, C, W> {
@@ -138,7 +136,6 @@ impl<'a, C: Clock, W: Write> Showing<'a, C, W> {
             screen,
             notes,
             shown: false,
-            wrong: None,
         }
     }
 
@@ -176,13 +173,10 @@ impl<C: Clock, W: Write> Progress for Showing<'_, C, W> {
             self.shown = false;
         }
     }
+}
 
-    fn refused(&mut self, alloc: Global, log: &[u8]) {
-        // Where memory is short the fault is told without the field.
-        self.wrong = wrong_field(alloc, log).unwrap_or(None);
-    }
-
-    fn explained(&mut self, fault: Fault) {
-        write_words(&mut self.notes, fault, &self.wrong);
+impl<C: Clock, W: Write> Notes for Showing<'_, C, W> {
+    fn explained(&mut self, failure: &Failure) {
+        write_words(&mut self.notes, failure);
     }
 }

@@ -1,8 +1,6 @@
 -- The faults of commands, and how the program tells them.
 use Rattle.std.specs.Prelude.{ℕ, List, [], ◌++◌, Option, Some, None, codes, decimal}
-use Rattle.kfifo_words.specs.declared.fault.ShapeFault.{ShapeFault}
-use Rattle.kfifo_words.specs.declared.fault.ShapeFault.TheVariants.{KOutOfRange, SegmentsOutOfRange, LastOutOfRange}
-use Rattle.kfifo_words.specs.declared.fault.ShapeFault.TheVariants.{ProbesOutOfRange}
+use Rattle.kfifo_words.specs.Sizes.{shape_fault_number}
 use Rattle.kfifo_model.specs.declared.history.RecordFault.{RecordFault}
 use Rattle.kfifo_model.specs.FaultNumbers.{fault_number, fault_call}
 use Rattle.kfifo_model.specs.Searching.{search_fault_number}
@@ -19,7 +17,7 @@ use Rattle.kfifo_replay.specs.declared.fault.ReplayFault.TheVariants as replays
 use Rattle.kfifo_replay.specs.Faults.{replay_fault_number}
 use Rattle.kfifo_cli_texts.specs.declared.fault.Fault.{Fault}
 use Rattle.kfifo_cli_texts.specs.declared.fault.Fault.TheVariants as faults
-use Rattle.kfifo_cli_texts.specs.Lines.{line}
+use Rattle.kfifo_judge.specs.Check.{line}
 
 -- a number, with a place behind it where there is one, and what stands before that
 abbrev pub number_at : List ℕ → ℕ → Option ℕ → List ℕ
@@ -70,13 +68,6 @@ import_fault_text (logs.WrongAnswer n) = codes "record fault " ++ at_line_text 5
 import_fault_text (logs.EndsEarly n) = codes "record fault " ++ at_line_text 6 n
 import_fault_text (logs.Overlap n) = codes "record fault " ++ at_line_text 8 n
 import_fault_text logs.Memory = codes "memory"
-
--- the number of a fault of the sizes
-abbrev pub shape_fault_number : ShapeFault → ℕ
-shape_fault_number KOutOfRange = 1
-shape_fault_number SegmentsOutOfRange = 2
-shape_fault_number LastOutOfRange = 3
-shape_fault_number ProbesOutOfRange = 4
 
 -- the place of the pick that is refused
 abbrev pub refused_pick : ReplayFault → Option ℕ

@@ -1,18 +1,15 @@
 -- The lines that are printed for calls and for words of the table.
-use Rattle.std.specs.Prelude.{ℕ, List, [], ◌∷◌, ◌++◌, codes, decimal}
+use Rattle.std.specs.Prelude.{ℕ, List, ◌++◌, codes, decimal}
 use Rattle.kfifo_model.specs.declared.calls.Answer.{Answer}
 use Rattle.kfifo_model.specs.declared.calls.Answer.TheVariants.{Got}
 use Rattle.kfifo_model.specs.Words.{answer_word}
+use Rattle.kfifo_judge.specs.Check.{line}
 use Rattle.kfifo_words.specs.Words.{value_of, version_of, head_of, tail_of}
 
 -- an answer as it is printed: its word, and behind it the item that it gives
 abbrev pub answer_text : Answer → List ℕ
 answer_text (Got item) = answer_word (Got item) ++ (codes " " ++ decimal item)
 answer_text answer = answer_word answer
-
--- a text with a line feed behind it
-abbrev pub line : List ℕ → List ℕ
-line text = text ++ 10 ∷ []
 
 abbrev pub enqueue_line : ℕ → Answer → List ℕ
 enqueue_line item answer = line (codes "enqueue " ++ decimal item ++ codes ": " ++ answer_text answer)

@@ -4,6 +4,7 @@
 
 mod fault;
 mod files;
+mod order;
 mod picks;
 mod printing;
 mod recording;
@@ -16,6 +17,7 @@ mod words;
 
 pub use fault::Fault;
 pub use files::read_file;
+pub use order::order_of;
 pub use picks::{Group, MAX_PICKS, read_picks};
 pub use printing::Printer;
 pub use recording::{record_line, record_text};
@@ -24,4 +26,4 @@ pub use stretch::{Stretch, read_stretch};
 pub use tasks::{finished_lines, read_tasks};
 pub use topics::explanation;
 pub use trace::push_trace;
-pub use words::{order_of, read_calls, read_scripts};
+pub use words::{read_calls, read_scripts};

@@ -5,7 +5,7 @@ ghost use Rattle.serde_json.specs.View.{view};
 ghost use Rattle.serde_json.specs.Written.{compact_text};
 ghost use Rattle.kfifo_judge.specs.Inputs.{IsRecordText};
 ghost use Rattle.kfifo_model.specs.declared.calls.Call.{Call};
-ghost use Rattle.kfifo_cli_texts.specs.Lines.{line};
+ghost use Rattle.kfifo_judge.specs.Check.{line};
 ghost use Rattle.kfifo_cli_texts.specs.RecordTexts as words;
 
 use kfifo_model::{Answer, Call, End, History, Op};

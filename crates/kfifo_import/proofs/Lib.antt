@@ -5,6 +5,7 @@ pub mod Steps
 pub mod Stamps
 pub mod Order
 pub mod Logs
+pub mod Kept
 pub mod Rows
 pub mod Texts
 pub mod Walks

@@ -1,5 +1,5 @@
 -- The calls of a log's lines, and the faults of logs.
-use Rattle.std.proofs.Common.{◌≡◌, ◌∙◌, ◌<◌, ◌≤◌, List, IfOk, MatchResult, Result, Ok, Err, None, length, get_or, subst, refl, arith}
+use Rattle.std.proofs.Common.{◌≡◌, ◌∙◌, ◌<◌, ◌≤◌, List, None, length, get_or, subst, refl, arith}
 use Rattle.std.specs.List.Sorted.{IsNonDecreasingBy}
 use Rattle.std.proofs.lemmas.List.{length-map}
 use Rattle.std.proofs.lemmas.List.Sorted.{length_permutation}
@@ -9,7 +9,6 @@ use Rattle.kfifo_model.specs.declared.history.RecordFault.{RecordFault}
 use Rattle.kfifo_model.specs.declared.history.RecordFault.TheVariants as records
 use Rattle.kfifo_model.specs.Validity.{IsFault}
 use Rattle.kfifo_import.specs.declared.log.Line.{Line}
-use Rattle.kfifo_import.specs.declared.log.Log.{Log}
 use Rattle.kfifo_import.specs.declared.log.LoggedCall.{LoggedCall}
 use Rattle.kfifo_import.specs.Logs.{AreByFirst, IsImportFault, IsLogOf, calls_of, first_time, import_fault, logged_call}
 use Rattle.kfifo_import.specs.Stamping.{AreStamped}
@@ -41,7 +40,7 @@ refused lines sorted calls (records.NotACall n) b s f = absurd f
 refused lines sorted calls records.Memory b s f = absurd f
 
 -- a log has a call for each of its record
-same_count : (lines : List Line) (h : List Call) (calls : List LoggedCall) → IsLogOf lines h calls → length calls ≡ length h
+pub same_count : (lines : List Line) (h : List Call) (calls : List LoggedCall) → IsLogOf lines h calls → length calls ≡ length h
 same_count lines h calls r =
     let mapped = length-map r.sorted (λ (x : Line). x.call) in
     let logged = length-map r.sorted logged_call in
@@ -49,20 +48,10 @@ same_count lines h calls r =
     rw (r.logged, stamped) logged
 
 -- the record of a log is not longer than a record may be
-few_calls : (lines : List Line) (h : List Call) (calls : List LoggedCall) → IsLogOf lines h calls → length h ≤ 65536
+pub few_calls : (lines : List Line) (h : List Call) (calls : List LoggedCall) → IsLogOf lines h calls → length h ≤ 65536
 few_calls lines h calls r =
     let moved = length_permutation lines r.sorted r.by_first.moved in
     let mapped = length-map r.sorted (λ (x : Line). x.call) in
     let sized : length h ≡ length lines = r.stamped.sized ∙ (mapped ∙ moved) in
     let few = r.few in
     omega (arith, sized, few)
-
-pub few_ok : {E : Type 0} (lines : List Line) (P : E → Type 0) (r : Result Log E)
-    → MatchResult r (λ log. IsLogOf lines log.history log.calls.items) P → IfOk r (λ log. length log.history ≤ 65536)
-few_ok lines P (Ok log) m = few_calls lines log.history log.calls.items m
-few_ok lines P (Err e) m = tt
-
-pub same_ok : {E : Type 0} (lines : List Line) (P : E → Type 0) (r : Result Log E)
-    → MatchResult r (λ log. IsLogOf lines log.history log.calls.items) P → IfOk r (λ log. length log.calls.items ≡ length log.history)
-same_ok lines P (Ok log) m = same_count lines log.history log.calls.items m
-same_ok lines P (Err e) m = tt

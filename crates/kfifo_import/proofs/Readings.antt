@@ -1,7 +1,6 @@
 -- What a reader of CSV reads, and the line at which it stands.
 use Rattle.std.proofs.Common.{ℕ, ◌≡◌, ◌≢◌, ◌∙◌, ◌+◌, ◌≤◌, ◌==◌, cond, true, false, List, [], ◌∷◌, Option, Some, None}
 use Rattle.std.proofs.Common.{drop, take, length, length-append, ap, inl, inr, refl, sym, subst, arith}
-use Rattle.std.specs.Prelude.{IfSome}
 use Rattle.std.proofs.lemmas.List.Sums.{sum_by-take-drop}
 use Rattle.csv.specs.Machine.{Read, next_record}
 use Rattle.csv.specs.Reading.{ExplainsRead, NextIs, ReadRecord, ReadsNext, Ready, default_config, pending_of, source_of}
@@ -15,13 +14,12 @@ use Rattle.kfifo_import.specs.declared.log.ImportFault.{ImportFault}
 use Rattle.kfifo_import.specs.declared.log.ImportFault.TheVariants as faults
 use Rattle.kfifo_import.specs.declared.log.Line.{Line}
 use Rattle.kfifo_import.specs.declared.table.Columns.{Columns}
-use Rattle.kfifo_import.specs.declared.table.Refused.{Refused}
-use Rattle.csv.specs.Records.{fields_of}
 use Rattle.kfifo_import.specs.declared.walk.Place.{Place}
+use Rattle.kfifo_import.specs.declared.wrong.WrongField.{WrongField}
 use Rattle.kfifo_import.specs.Rows.{IsNextRow, IsPlace, behind_ends, first_row, line_feeds, line_of}
 use Rattle.kfifo_import.specs.Tables.{IsTextFault}
-use Rattle.kfifo_import.specs.Taking.{IsNotTaken, IsReadFault, IsRefused, Takes, row_at}
-use Rattle.kfifo_import.specs.Wrong.{IsRowBehind}
+use Rattle.kfifo_import.specs.Taking.{IsNotTaken, IsReadFault, IsWrongIn, Takes, row_at}
+use Rattle.kfifo_import.specs.Wrong.{TellsWrong}
 use Rattle.kfifo_import.proofs.Fronts.{IsFront, front_behind}
 use Rattle.kfifo_import.proofs.Rows.{Holds}
 
@@ -183,33 +181,31 @@ not_taken text rest (Some columns) lines wide number fields (faults.WrongAnswer 
 not_taken text rest (Some columns) lines wide number fields (faults.EndsEarly n) next same few h f = absurd f
 not_taken text rest (Some columns) lines wide number fields (faults.Overlap n) next same few h f = absurd f
 
--- a row that is refused is behind lines
-abbrev pub IsBehind : List ℕ → Option Refused → Type 0
-IsBehind text refused = IfSome refused (λ r. IsRowBehind text r.columns (row_at r.number (fields_of r.row)))
-
-pub row_behind : (text rest : List ℕ) (columns : Option Columns) (lines : List Line) (wide : Option ℕ) (number : ℕ) (fields : List (List ℕ))
-    (fault : ImportFault) (refused : Option Refused)
+-- what is told of a row that is not taken is told of the text
+pub wrong_told : (text rest : List ℕ) (columns : Option Columns) (lines : List Line) (wide : Option ℕ) (number : ℕ) (fields : List (List ℕ))
+    (wrong : Option WrongField) (fault : ImportFault)
     → IsNextRow text rest (row_at number fields) → ((width : ℕ) → wide ≡ Some width → length fields ≡ width)
-    → Holds text columns lines wide rest → IsRefused columns number fields fault refused → IsBehind text refused
-row_behind text rest columns lines wide number fields fault None next same h r = tt
-row_behind text rest None lines wide number fields (faults.NotACall n) (Some refused) next same h r = absurd (cc (r.2))
-row_behind text rest (Some columns) lines wide number fields (faults.NotACall n) (Some refused) next same h r =
-    let is : columns ≡ refused.columns = cc (r.2) in
-    rw (r.0, r.1) (subst (λ (c : Columns). IsRowBehind text c (row_at number fields)) is (record {
-      width = h.0;
-      lines = lines;
-      rest = rest;
-      read = h.2;
-      next = next;
-      is_wide = same h.0 h.1;
-    }))
-row_behind text rest columns lines wide number fields faults.Memory (Some refused) next same h r = absurd r
-row_behind text rest columns lines wide number fields (faults.Csv n) (Some refused) next same h r = absurd r
-row_behind text rest columns lines wide number fields faults.TooMany (Some refused) next same h r = absurd r
-row_behind text rest columns lines wide number fields (faults.NumberOutOfRange n) (Some refused) next same h r = absurd r
-row_behind text rest columns lines wide number fields (faults.WrongAnswer n) (Some refused) next same h r = absurd r
-row_behind text rest columns lines wide number fields (faults.EndsEarly n) (Some refused) next same h r = absurd r
-row_behind text rest columns lines wide number fields (faults.Overlap n) (Some refused) next same h r = absurd r
+    → Holds text columns lines wide rest → IsNotTaken columns lines number fields fault → IsWrongIn columns number fields wrong fault
+    → TellsWrong text wrong fault
+wrong_told text rest columns lines wide number fields None fault next same h t w = tt
+wrong_told text rest (Some columns) lines wide number fields (Some wrong) (faults.NotACall n) next same h t w = (
+  w.0 ∙ sym t.0,
+  (
+    columns,
+    row_at number fields,
+    record { width = h.0; lines = lines; rest = rest; read = h.2; next = next; is_wide = same h.0 h.1 },
+    w.0,
+    w.1,
+  ),
+)
+wrong_told text rest (Some columns) lines wide number fields (Some wrong) faults.Memory next same h t w = absurd w
+wrong_told text rest (Some columns) lines wide number fields (Some wrong) (faults.Csv n) next same h t w = absurd w
+wrong_told text rest (Some columns) lines wide number fields (Some wrong) faults.TooMany next same h t w = absurd w
+wrong_told text rest (Some columns) lines wide number fields (Some wrong) (faults.NumberOutOfRange n) next same h t w = absurd w
+wrong_told text rest (Some columns) lines wide number fields (Some wrong) (faults.WrongAnswer n) next same h t w = absurd w
+wrong_told text rest (Some columns) lines wide number fields (Some wrong) (faults.EndsEarly n) next same h t w = absurd w
+wrong_told text rest (Some columns) lines wide number fields (Some wrong) (faults.Overlap n) next same h t w = absurd w
+wrong_told text rest None lines wide number fields (Some wrong) fault next same h t w = absurd w
 
 -- a row more is none too many
 pub takes_few : (columns after : Option Columns) (lines more : List Line) (number : ℕ) (fields : List (List ℕ))

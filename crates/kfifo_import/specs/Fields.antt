@@ -12,6 +12,17 @@ use Rattle.kfifo_model.specs.declared.calls.Op.{Op}
 use Rattle.kfifo_model.specs.declared.calls.Op.TheVariants.{Enqueue, Dequeue}
 use Rattle.kfifo_model.specs.Words.{answer_word, op_word}
 use Rattle.kfifo_import.specs.declared.table.Columns.{Columns}
+use Rattle.kfifo_import.specs.declared.wrong.Field.{Field}
+use Rattle.kfifo_import.specs.declared.wrong.Field.TheVariants as fields
+
+-- the name of a field in the header
+abbrev pub name_of : Field → List ℕ
+name_of fields.Thread = codes "thread"
+name_of fields.Op = codes "op"
+name_of fields.Item = codes "item"
+name_of fields.First = codes "first"
+name_of fields.Last = codes "last"
+name_of fields.Answer = codes "answer"
 
 -- a header has a field of this name at this place, and at no other
 pub record IsOnlyAt (names : List (List ℕ)) (name : List ℕ) (place : ℕ) : Type 0 where
@@ -20,12 +31,12 @@ pub record IsOnlyAt (names : List (List ℕ)) (name : List ℕ) (place : ℕ) : 
 
 -- the header has each of the six fields once, at its place
 pub record HasColumns (names : List (List ℕ)) (columns : Columns) : Type 0 where
-  pub thread : IsOnlyAt names (codes "thread") columns.thread
-  pub op : IsOnlyAt names (codes "op") columns.op
-  pub item : IsOnlyAt names (codes "item") columns.item
-  pub first : IsOnlyAt names (codes "first") columns.first
-  pub last : IsOnlyAt names (codes "last") columns.last
-  pub answer : IsOnlyAt names (codes "answer") columns.answer
+  pub thread : IsOnlyAt names (name_of fields.Thread) columns.thread
+  pub op : IsOnlyAt names (name_of fields.Op) columns.op
+  pub item : IsOnlyAt names (name_of fields.Item) columns.item
+  pub first : IsOnlyAt names (name_of fields.First) columns.first
+  pub last : IsOnlyAt names (name_of fields.Last) columns.last
+  pub answer : IsOnlyAt names (name_of fields.Answer) columns.answer
 
 -- each byte is a decimal digit
 abbrev pub IsDigits : List ℕ → Type 0

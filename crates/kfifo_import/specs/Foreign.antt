@@ -1,5 +1,6 @@
 -- Logs that are to be judged. A get of an item that no call can put is no fault of the log, but one of its queue.
-use Rattle.std.specs.Prelude.{ℕ, ◌≡◌, ◌≢◌, ◌&&◌, ltb, leb, Bool, cond, List, [], ◌∷◌, map, option_map}
+use Rattle.std.specs.Prelude.{ℕ, ◌≡◌, ◌≢◌, ◌&&◌, not, ltb, leb, Bool, false, cond, List, [], ◌∷◌, map, option_map}
+use Rattle.std.specs.Prelude.{unwrap_or}
 use Rattle.std.specs.List.{All, flat_map}
 use Rattle.csv.specs.Reading.{strip_bom}
 use Rattle.kfifo_model.specs.declared.calls.Answer.{Answer}
@@ -44,6 +45,15 @@ call_with free c = record { thread = c.thread; op = c.op; first = c.first; end =
 -- the line, where a get of an item that no call can put has got this item in its place
 abbrev pub line_with : ℕ → Line → Line
 line_with free line = record { number = line.number; call = call_with free line.call; item = line.item }
+
+-- whether the answer is a Got of an item that no call can put
+abbrev pub is_foreign_answer : Answer → Bool
+is_foreign_answer (Got x) = not (is_puttable x)
+is_foreign_answer answer = false
+
+-- whether the call of the line got an item that no call can put
+abbrev pub is_foreign : Line → Bool
+is_foreign line = unwrap_or (option_map (λ end. is_foreign_answer end.answer) line.call.end) false
 
 -- In the lines to be judged an item that a call can put, but that no line puts, stands for those that no call can put.
 abbrev pub AreToJudge : List Line → List Line → Type 0

@@ -7,11 +7,11 @@ use Rattle.kfifo_import.specs.declared.log.ImportFault.{ImportFault}
 use Rattle.kfifo_import.specs.declared.log.ImportFault.TheVariants.{Csv, TooMany, NotACall, Memory}
 use Rattle.kfifo_import.specs.declared.log.Line.{Line}
 use Rattle.kfifo_import.specs.declared.table.Columns.{Columns}
-use Rattle.kfifo_import.specs.declared.table.Refused.{Refused}
-use Rattle.csv.specs.Records.{fields_of}
+use Rattle.kfifo_import.specs.declared.wrong.WrongField.{WrongField}
 use Rattle.kfifo_import.specs.Fields.{HasColumns}
 use Rattle.kfifo_import.specs.Rows.{Row}
 use Rattle.kfifo_import.specs.Tables.{IsLineOf, IsNoCall, LacksColumns}
+use Rattle.kfifo_import.specs.Wrong.{IsFirstWrong}
 
 -- a row with these fields, which begins at this line
 abbrev pub row_at : ℕ → List (List ℕ) → Row
@@ -34,13 +34,12 @@ IsNotTaken (Some columns) lines number fields (NotACall n) = (n ≡ number) × (
     × IsNoCall columns fields
 IsNotTaken (Some columns) lines number fields _ = ⊥
 
--- a row that is refused comes with the fault where it is no call, and with no other fault
-abbrev pub IsRefused : Option Columns → ℕ → List (List ℕ) → ImportFault → Option Refused → Type 0
-IsRefused columns number fields (NotACall n) None = ⊥
-IsRefused columns number fields (NotACall n) (Some refused) = (refused.number ≡ number)
-    × (fields_of refused.row ≡ fields) × (columns ≡ Some refused.columns)
-IsRefused columns number fields _ None = Unit {0}
-IsRefused columns number fields _ (Some refused) = ⊥
+-- the wrong field that comes with a fault is the first one of the row, which is no call
+abbrev pub IsWrongIn : Option Columns → ℕ → List (List ℕ) → Option WrongField → ImportFault → Type 0
+IsWrongIn columns number fields None fault = Unit {0}
+IsWrongIn (Some columns) number fields (Some wrong) (NotACall n) = (wrong.line ≡ number)
+    × IsFirstWrong columns fields wrong.field wrong.allowed
+IsWrongIn _ number fields (Some wrong) _ = ⊥
 
 -- what an error of the reader at a line says of the text
 abbrev pub IsReadFault : ErrorKind → ℕ → ImportFault → Type 0

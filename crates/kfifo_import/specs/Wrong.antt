@@ -5,27 +5,21 @@ use Rattle.csv.specs.Records.{field_at}
 use Rattle.kfifo_model.specs.declared.calls.Answer.TheVariants as answers
 use Rattle.kfifo_model.specs.declared.calls.Op.TheVariants as ops
 use Rattle.kfifo_model.specs.Words.{answer_word, op_word}
+use Rattle.kfifo_import.specs.declared.log.ImportFault.{ImportFault}
+use Rattle.kfifo_import.specs.declared.log.ImportFault.TheVariants.{NotACall}
 use Rattle.kfifo_import.specs.declared.log.Line.{Line}
 use Rattle.kfifo_import.specs.declared.table.Columns.{Columns}
 use Rattle.kfifo_import.specs.declared.wrong.Allowed.{Allowed}
 use Rattle.kfifo_import.specs.declared.wrong.Allowed.TheVariants as may
 use Rattle.kfifo_import.specs.declared.wrong.Field.{Field}
 use Rattle.kfifo_import.specs.declared.wrong.Field.TheVariants.{Thread, Op, Item, First, Last, Answer}
-use Rattle.kfifo_import.specs.Fields.{WritesWhole}
+use Rattle.kfifo_import.specs.declared.wrong.WrongField.{WrongField}
+use Rattle.kfifo_import.specs.Fields.{WritesWhole, name_of}
 use Rattle.kfifo_import.specs.Rows.{IsNextRow, Row}
 use Rattle.kfifo_import.specs.Tables.{HasRead}
 
 abbrev pub all_fields : List Field
 all_fields = Thread ∷ Op ∷ Item ∷ First ∷ Last ∷ Answer ∷ []
-
--- the name of a field in the header
-abbrev pub name_of : Field → List ℕ
-name_of Thread = codes "thread"
-name_of Op = codes "op"
-name_of Item = codes "item"
-name_of First = codes "first"
-name_of Last = codes "last"
-name_of Answer = codes "answer"
 
 -- the texts that are allowed, in words
 abbrev pub words_of : Allowed → List ℕ
@@ -127,3 +121,9 @@ pub record IsRowBehind (text : List ℕ) (columns : Columns) (row : Row) : Type 
 abbrev pub IsWrongField : List ℕ → ℕ → Field → Allowed → Type 0
 IsWrongField text line field allowed = (columns : Columns) × (row : Row) × IsRowBehind text columns row
     × (line ≡ row.number) × IsFirstWrong columns row.fields field allowed
+
+-- what comes beside a fault: the wrong field of the line that is no call, or nothing
+abbrev pub TellsWrong : List ℕ → Option WrongField → ImportFault → Type 0
+TellsWrong text None fault = Unit {0}
+TellsWrong text (Some wrong) (NotACall n) = (wrong.line ≡ n) × IsWrongField text wrong.line wrong.field wrong.allowed
+TellsWrong text (Some wrong) _ = ⊥

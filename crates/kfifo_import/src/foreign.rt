@@ -1,6 +1,6 @@
 //! Gets of items that no call can put.
 ghost use Rattle.std.specs.Prelude.{◌≡◌, ◌≢◌, ◌≤◌, IfOk, length, map};
-ghost use Rattle.std.specs.List.{All};
+ghost use Rattle.std.specs.List.{All, list_any};
 ghost use Rattle.std.specs.List.Sorted.{IsNonDecreasingBy};
 ghost use Rattle.kfifo_model.specs.declared.reading.TheConstants.{MAX_CALLS};
 ghost use Rattle.kfifo_model.specs.Validity.{IsItem};
@@ -62,7 +62,7 @@ fn line_with(line: &Line, free: u32) -> Line
 fn items_put(alloc: Global, lines: &[Line]) -> Result<Vec<u32>, AllocError>
     ensures { IfOk result (λ items. (items.items ≡ items_put lines.now) × (length items.items ≤ length lines.now)) }
 {
-    let mut items = Vec::new(alloc);
+    let mut items = Vec::with_capacity(alloc, lines.len())?;
     for line in lines {
         if let Op::Enqueue(item) = line.call.op {
             items.push(item)?;
@@ -107,18 +107,43 @@ fn all_with(alloc: Global, lines: &[Line], free: u32) -> Result<Vec<Line>, Alloc
         .collect(alloc)
 }
 
+/// Whether a call got an item that no call can put.
+fn is_foreign(line: &Line) -> bool
+    ensures { result ≡ specs.is_foreign line.now }
+{
+    match line.call.end {
+        Some(
+            End {
+                answer: Answer::Got(item),
+                ..
+            },
+        ) => !is_puttable(item),
+        _ => false,
+    }
+}
+
+/// Whether some call got such an item.
+fn has_foreign(lines: &[Line]) -> bool
+    ensures { result ≡ list_any specs.is_foreign lines.now }
+{
+    lines.iter().any(|line| is_foreign(line))
+}
+
 /// Returns the lines of a log as they are to be judged: an item that none of them puts stands for each that no call can
 /// put. There are at most 65,536 lines. An error means that an allocation failed.
 ///
 /// ```rust
-/// let judged = with_puttable_items(alloc, lines.as_slice())?;
+/// let judged = with_puttable_items(alloc, lines)?;
 /// log_of(alloc, judged)
 /// ```
-pub fn with_puttable_items(alloc: Global, lines: &[Line]) -> Result<Vec<Line>, AllocError>
-    requires { length lines.now ≤ MAX_CALLS }
-    ensures { IfOk result (λ judged. AreToJudge lines.now judged.items) }
+pub fn with_puttable_items(alloc: Global, lines: Vec<Line>) -> Result<Vec<Line>, AllocError>
+    requires { length lines.items ≤ MAX_CALLS }
+    ensures { IfOk result (λ judged. AreToJudge lines.items judged.items) }
 {
-    let free = free_item(alloc, lines)?;
-    let judged = all_with(alloc, lines, free)?;
-    Ok(judged)
+    let free = free_item(alloc, lines.as_slice())?;
+    if has_foreign(lines.as_slice()) {
+        all_with(alloc, lines.as_slice(), free)
+    } else {
+        Ok(lines)
+    }
 }

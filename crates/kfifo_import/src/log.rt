@@ -130,11 +130,14 @@ const NO_LINE: Line = Line {
     item: None,
 };
 
-/// The line at this place.
-fn line_at(lines: &[Line], place: usize) -> Line
-    ensures { result ≡ specs.line_at lines.now place }
+/// The call of the line at this place.
+fn call_at(lines: &[Line], place: usize) -> Call
+    ensures { result ≡ (specs.line_at lines.now place).call }
 {
-    lines.get(place).copied().unwrap_or(NO_LINE)
+    match lines.get(place) {
+        Some(line) => line.call,
+        None => NO_LINE.call,
+    }
 }
 
 /// When the calls of the lines begin, and the lines' places.
@@ -166,7 +169,7 @@ fn calls_of(alloc: Global, lines: &[Line], order: &[Moment]) -> Result<Vec<Call>
 {
     order
         .iter()
-        .map(|begin| line_at(lines, begin.number).call)
+        .map(|begin| call_at(lines, begin.number))
         .collect(alloc)
 }
 
@@ -182,6 +185,16 @@ fn logged(line: &Line) -> LoggedCall
     }
 }
 
+/// The same of the line at this place.
+fn logged_at(lines: &[Line], place: usize) -> LoggedCall
+    ensures { result ≡ logged_call (specs.line_at lines.now place) }
+{
+    match lines.get(place) {
+        Some(line) => logged(line),
+        None => logged(&NO_LINE),
+    }
+}
+
 /// Where the calls of the lines in this order stand and when they were.
 fn all_logged(
     alloc: Global,
@@ -193,7 +206,7 @@ fn all_logged(
 {
     order
         .iter()
-        .map(|begin| logged(&line_at(lines, begin.number)))
+        .map(|begin| logged_at(lines, begin.number))
         .collect(alloc)
 }
 

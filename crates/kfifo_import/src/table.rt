@@ -1,5 +1,5 @@
 //! Logs as tables of comma-separated fields.
-ghost use Rattle.std.specs.Prelude.{◌≡◌, ◌≤◌, ◌↔◌, ℕ, IfErr, IfOk, IfSome, IsTrue, List, None, OnOk, Option, Some};
+ghost use Rattle.std.specs.Prelude.{◌≡◌, ◌≤◌, ◌↔◌, ℕ, IfErr, IfOk, IsTrue, List, None, OnOk, Option, Some};
 ghost use Rattle.std.specs.Prelude.{MatchOption, MatchResult, length, option_map};
 ghost use Rattle.kfifo_model.specs.declared.calls.Answer.{Answer};
 ghost use Rattle.kfifo_model.specs.declared.calls.End.{End};
@@ -8,19 +8,20 @@ ghost use Rattle.csv.specs.Reading.{strip_bom};
 ghost use Rattle.csv.specs.Records.{field_at, fields_of};
 ghost use Rattle.kfifo_model.specs.Words.{IsAnswerWord};
 ghost use Rattle.kfifo_import.specs.Fields.{Gives, GivesText, HasColumns, IsAnswer, IsCallOf, IsDigits, IsEnd, IsOp};
-ghost use Rattle.kfifo_import.specs.Fields.{IsOnlyAt, IsPutAnswer, IsTakeAnswer, WritesSmall, WritesWhole};
+ghost use Rattle.kfifo_import.specs.Fields.{IsOnlyAt, IsPutAnswer, IsTakeAnswer, WritesSmall, WritesWhole, name_of};
 ghost use Rattle.kfifo_import.specs.Tables.{IsImported, IsNoCall, IsReadLog, IsTextFault, IsUnimported, LacksColumns};
 ghost use Rattle.kfifo_import.specs.Tables.{ReadsLog};
 ghost use Rattle.kfifo_import.specs.Foreign.{IsJudgedLog, IsUnjudged};
-ghost use Rattle.kfifo_import.specs.Taking.{IsNotTaken, IsReadFault, IsRefused, Takes, row_at};
-ghost use Rattle.kfifo_import.specs.Wrong.{IsRowBehind};
+ghost use Rattle.kfifo_import.specs.Taking.{IsNotTaken, IsReadFault, IsWrongIn, Takes};
+ghost use Rattle.kfifo_import.specs.Wrong.{TellsWrong};
 
 use crate::foreign::with_puttable_items;
 use crate::log::{ImportFault, Line, Log, log_of};
 use crate::walk::{Place, row_end, row_front, without_mark};
+use crate::wrong::{Field, Refusal, wrong_field};
 use csv::{ByteRecord, ErrorKind, ReaderBuilder};
 use kfifo_model::{Answer, AnswerWord, Call, End, History, MAX_CALLS, Op, OpWord};
-use std::alloc::{AllocFailed, Global};
+use std::alloc::Global;
 
 /// Where the fields of a call stand in a line.
 #[derive(Clone, Copy)]
@@ -51,17 +52,25 @@ fn place_of(header: &ByteRecord, name: &[u8]) -> Option<usize>
     found
 }
 
+/// The place of a field, if the header has it once.
+fn column_of(header: &ByteRecord, field: Field) -> Option<usize>
+    ensures { MatchOption result ((place : ℕ) → ¬ (IsOnlyAt (fields_of header.now) (name_of field) place))
+        (IsOnlyAt (fields_of header.now) (name_of field)) }
+{
+    place_of(header, field.name().as_bytes())
+}
+
 /// The places of the six fields, if the header has each of them once.
 fn columns_of(header: &ByteRecord) -> Option<Columns>
     ensures { MatchOption result (LacksColumns (fields_of header.now)) (HasColumns (fields_of header.now)) }
 {
     Some(Columns {
-        thread: place_of(header, b"thread")?,
-        op: place_of(header, b"op")?,
-        item: place_of(header, b"item")?,
-        first: place_of(header, b"first")?,
-        last: place_of(header, b"last")?,
-        answer: place_of(header, b"answer")?,
+        thread: column_of(header, Field::Thread)?,
+        op: column_of(header, Field::Op)?,
+        item: column_of(header, Field::Item)?,
+        first: column_of(header, Field::First)?,
+        last: column_of(header, Field::Last)?,
+        answer: column_of(header, Field::Answer)?,
     })
 }
 
@@ -256,55 +265,6 @@ fn fault_of(kind: &ErrorKind, number: u64) -> ImportFault
     }
 }
 
-/// A row behind the header that is no call.
-#[derive(Drop)]
-pub(crate) struct Refused {
-    /// The number of the line that it begins in.
-    pub(crate) number: u64,
-    /// Its fields.
-    pub(crate) row: ByteRecord,
-    /// Where the fields of a call stand in it.
-    pub(crate) columns: Columns,
-}
-
-/// Why a text is no table of calls.
-#[derive(Drop)]
-pub(crate) struct Refusal {
-    /// The first fault of its rows.
-    pub(crate) fault: ImportFault,
-    /// The row with this fault, where it is no call.
-    pub(crate) refused: Option<Refused>,
-}
-
-impl From<ImportFault> for Refusal {
-    ghost from_gives = { λ given refusal. (refusal.fault ≡ given) × (refusal.refused ≡ None) };
-
-    fn from(fault: ImportFault) -> Refusal {
-        Refusal {
-            fault,
-            refused: None,
-        }
-    }
-}
-
-impl From<AllocFailed<Line>> for Refusal {
-    ghost use Rattle.kfifo_import.specs.declared.log.ImportFault.TheVariants.{Memory};
-
-    ghost from_gives = { λ _ refusal. (refusal.fault ≡ Memory) × (refusal.refused ≡ None) };
-
-    fn from(_failed: AllocFailed<Line>) -> Refusal {
-        Refusal::from(ImportFault::Memory)
-    }
-}
-
-impl From<Refusal> for ImportFault {
-    ghost from_gives = { λ given fault. fault ≡ given.fault };
-
-    fn from(refusal: Refusal) -> ImportFault {
-        refusal.fault
-    }
-}
-
 /// What was read of a table so far.
 #[derive(Drop)]
 struct Table {
@@ -316,30 +276,26 @@ struct Table {
 
 impl Table {
     /// Takes in the next row, which begins at this line: the header, and then lines.
-    fn take(&mut self, row: ByteRecord, number: u64) -> Result<(), Refusal>
-        ensures ok { OnOk result (Takes self.old.columns self.old.lines.items number (fields_of row)
+    fn take(&mut self, alloc: Global, row: &ByteRecord, number: u64) -> Result<(), Refusal>
+        ensures ok { OnOk result (Takes self.old.columns self.old.lines.items number (fields_of row.now)
             self.new.columns self.new.lines.items) }
         ensures err { IfErr result (λ refusal.
-            IsNotTaken self.old.columns self.old.lines.items number (fields_of row) refusal.fault) }
-        ensures row { IfErr result (λ refusal.
-            IsRefused self.old.columns number (fields_of row) refusal.fault refusal.refused) }
+            IsNotTaken self.old.columns self.old.lines.items number (fields_of row.now) refusal.fault) }
+        ensures wrong { IfErr result (λ refusal.
+            IsWrongIn self.old.columns number (fields_of row.now) refusal.wrong refusal.fault) }
     {
         let Some(columns) = self.columns else {
-            let columns = columns_of(&row).ok_or(ImportFault::Csv(number))?;
+            let columns = columns_of(row).ok_or(ImportFault::Csv(number))?;
             self.columns = Some(columns);
             return Ok(());
         };
         if self.lines.len() >= MAX_CALLS {
             return Err(Refusal::from(ImportFault::TooMany));
         }
-        let Some(line) = line_of(&row, &columns, number) else {
+        let Some(line) = line_of(row, &columns, number) else {
             return Err(Refusal {
                 fault: ImportFault::NotACall(number),
-                refused: Some(Refused {
-                    number,
-                    row,
-                    columns,
-                }),
+                wrong: wrong_field(alloc, row, &columns, number),
             });
         };
         self.lines.push(line)?;
@@ -352,8 +308,7 @@ pub(crate) fn lines_of(alloc: Global, text: &[u8]) -> Result<Vec<Line>, Refusal>
     ensures ok { IfOk result (λ lines. ReadsLog text.now lines.items) }
     ensures few { IfOk result (λ lines. length lines.items ≤ MAX_CALLS) }
     ensures err { IfErr result (λ refusal. IsTextFault (strip_bom text.now) refusal.fault) }
-    ensures row { IfErr result (λ refusal. IfSome refusal.refused (λ refused.
-        IsRowBehind (strip_bom text.now) refused.columns (row_at refused.number (fields_of refused.row)))) }
+    ensures wrong { IfErr result (λ refusal. TellsWrong (strip_bom text.now) refusal.wrong refusal.fault) }
 {
     let reader = ReaderBuilder::new()
         .has_headers(false)
@@ -367,7 +322,7 @@ pub(crate) fn lines_of(alloc: Global, text: &[u8]) -> Result<Vec<Line>, Refusal>
     for row in reader.into_byte_records() {
         let front = row_front(plain, place);
         match row {
-            Ok(row) => table.take(row, front.line)?,
+            Ok(row) => table.take(alloc, &row, front.line)?,
             Err(error) => return Err(Refusal::from(fault_of(error.kind(), front.line))),
         }
         place = row_end(plain, front);
@@ -386,15 +341,18 @@ pub(crate) fn lines_of(alloc: Global, text: &[u8]) -> Result<Vec<Line>, Refusal>
 /// let found = read_log(alloc, bytes);
 /// ```
 ///
-/// Refused: first what a line itself has wrong, by lines: Csv, NotACall, and TooMany at line 65,537; then as by
-/// `log_of`.
-pub fn read_log(alloc: Global, text: &[u8]) -> Result<Log, ImportFault>
-    ensures read { MatchResult result (λ log. IsReadLog text.now log.history log.calls.items) (IsUnimported text.now) }
+/// Refused: first what a line itself has wrong, by lines: Csv, NotACall with the field that makes the line none, and
+/// TooMany at line 65,537; then as by `log_of`.
+pub fn read_log(alloc: Global, text: &[u8]) -> Result<Log, Refusal>
+    ensures read { MatchResult result (λ log. IsReadLog text.now log.history log.calls.items)
+        (λ refusal. IsUnimported text.now refusal.fault) }
+    ensures wrong { IfErr result (λ refusal. TellsWrong (strip_bom text.now) refusal.wrong refusal.fault) }
     ensures few { IfOk result (λ log. length log.history ≤ MAX_CALLS) }
     ensures each { IfOk result (λ log. length log.calls.items ≡ length log.history) }
 {
     let lines = lines_of(alloc, text)?;
-    log_of(alloc, lines)
+    let log = log_of(alloc, lines)?;
+    Ok(log)
 }
 
 /// The log that a text in CSV is, to be judged: as `read_log` reads it, but for gets of items that no call can put, which
@@ -406,22 +364,26 @@ pub fn read_log(alloc: Global, text: &[u8]) -> Result<Log, ImportFault>
 /// ```
 ///
 /// Refused: what `read_log` refuses, but for these gets.
-pub fn read_log_to_judge(alloc: Global, text: &[u8]) -> Result<Log, ImportFault>
-    ensures read { MatchResult result (λ log. IsJudgedLog text.now log.history log.calls.items) (IsUnjudged text.now) }
+pub fn read_log_to_judge(alloc: Global, text: &[u8]) -> Result<Log, Refusal>
+    ensures read { MatchResult result (λ log. IsJudgedLog text.now log.history log.calls.items)
+        (λ refusal. IsUnjudged text.now refusal.fault) }
+    ensures wrong { IfErr result (λ refusal. TellsWrong (strip_bom text.now) refusal.wrong refusal.fault) }
     ensures few { IfOk result (λ log. length log.history ≤ MAX_CALLS) }
     ensures each { IfOk result (λ log. length log.calls.items ≡ length log.history) }
 {
     let lines = lines_of(alloc, text)?;
-    let judged = with_puttable_items(alloc, lines.as_slice())?;
-    log_of(alloc, judged)
+    let judged = with_puttable_items(alloc, lines)?;
+    let log = log_of(alloc, judged)?;
+    Ok(log)
 }
 
 /// Returns the record of a log in CSV, without the lines and times of its calls.
 ///
 /// A log has a line for each of at most 65,536 calls, under the header `thread,op,item,first,last,answer`. `alloc`, the
 /// runtime's allocator, makes room for the lines and the calls. Refuses what `read_log` refuses.
-pub fn import_text(alloc: Global, text: &[u8]) -> Result<History, ImportFault>
-    ensures record { MatchResult result (IsImported text.now) (IsUnimported text.now) }
+pub fn import_text(alloc: Global, text: &[u8]) -> Result<History, Refusal>
+    ensures record { MatchResult result (IsImported text.now) (λ refusal. IsUnimported text.now refusal.fault) }
+    ensures wrong { IfErr result (λ refusal. TellsWrong (strip_bom text.now) refusal.wrong refusal.fault) }
     ensures few { IfOk result (λ history. length history ≤ MAX_CALLS) }
 {
     let log = read_log(alloc, text)?;

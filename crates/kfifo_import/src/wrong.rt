@@ -1,18 +1,19 @@
-//! Which field makes a line of a log no call.
-ghost use Rattle.std.specs.Prelude.{◌≡◌, ◌↔◌, ℕ, IfOk, IfSome, IsTrue, MatchOption, Some, string_bytes};
-ghost use Rattle.csv.specs.Reading.{strip_bom};
+//! Why a log is refused, and which field makes a line of it no call.
+ghost use Rattle.std.specs.Prelude.{◌≡◌, ◌↔◌, ℕ, IfSome, IsTrue, MatchOption, None, Some, string_bytes};
 ghost use Rattle.csv.specs.Records.{fields_of};
-ghost use Rattle.kfifo_import.specs.Wrong.{Fits, FitsRule, IsFirstWrong, IsItemRule, IsLastRule, IsRule, IsWrongField};
+ghost use Rattle.kfifo_import.specs.Fields.{name_of};
+ghost use Rattle.kfifo_import.specs.Wrong.{Fits, FitsRule, IsFirstWrong, IsItemRule, IsLastRule, IsRule};
 ghost use Rattle.kfifo_import.specs.Wrong.{IsAnswerRule, Misses, wrong_text, words_of};
 ghost use Rattle.kfifo_model.specs.Words.{op_word};
 ghost use Rattle.kfifo_import.specs.Wrong as specs;
 ghost use Rattle.kfifo_import.specs.declared.wrong.Allowed.{Allowed};
 ghost use Rattle.kfifo_import.specs.declared.wrong.Field.{Field};
 
-use crate::table::{Columns, Refusal, lines_of, whole};
+use crate::log::{ImportFault, Line};
+use crate::table::{Columns, whole};
 use csv::ByteRecord;
 use kfifo_model::{Answer, Op};
-use std::alloc::{AllocError, Global};
+use std::alloc::{AllocError, AllocFailed, Global};
 use std::fmt;
 
 /// How many bytes of a field are shown.
@@ -47,8 +48,8 @@ const FIELDS: [Field; 6] = [
 
 impl Field {
     /// The name of the field in the header.
-    fn name(self) -> &'static str
-        ensures { result.now ≡ specs.name_of self }
+    pub(crate) fn name(self) -> &'static str
+        ensures { result.now ≡ name_of self }
     {
         match self {
             Field::Thread => "thread",
@@ -274,29 +275,68 @@ fn shown(alloc: Global, text: &[u8]) -> Result<String, AllocError> {
     Ok(shown)
 }
 
-/// Returns the field that makes a line of a log no call, or none where each line is a call or an earlier fault comes.
-/// It is the first of its line in the order of the header. So it tells more of the fault `NotACall` of `read_log`.
-pub fn wrong_field(alloc: Global, text: &[u8]) -> Result<Option<WrongField>, AllocError>
-    ensures { IfOk result (λ found. IfSome found (λ wrong.
-        IsWrongField (strip_bom text.now) wrong.line wrong.field wrong.allowed)) }
+/// The first field of a row, which begins at this line, that makes it no call; none also where memory runs out.
+pub(crate) fn wrong_field(
+    alloc: Global,
+    row: &ByteRecord,
+    columns: &Columns,
+    number: u64,
+) -> Option<WrongField>
+    ensures { IfSome result (λ wrong. (wrong.line ≡ number)
+        × IsFirstWrong columns.now (fields_of row.now) wrong.field wrong.allowed) }
 {
-    let Err(
-        Refusal {
-            refused: Some(refused),
-            ..
-        },
-    ) = lines_of(alloc, text)
-    else {
-        return Ok(None);
-    };
-    let Some((field, allowed)) = wrong_in(&refused.row, &refused.columns) else {
-        return Ok(None);
-    };
-    let text = text_in(&refused.row, column(&refused.columns, field));
-    Ok(Some(WrongField {
-        line: refused.number,
+    let (field, allowed) = wrong_in(row, columns)?;
+    let text = text_in(row, column(columns, field));
+    let text = shown(alloc, text).ok()?;
+    Some(WrongField {
+        line: number,
         field,
         allowed,
-        text: shown(alloc, text)?,
-    }))
+        text,
+    })
+}
+
+/// Why a log gives no record.
+#[derive(Drop)]
+pub struct Refusal {
+    /// The first fault.
+    pub fault: ImportFault,
+    /// Of a line that is no call, the field that makes it none. None of other faults, and where memory ran out for it.
+    pub wrong: Option<WrongField>,
+}
+
+impl From<ImportFault> for Refusal {
+    ghost from_gives = { λ given refusal. (refusal.fault ≡ given) × (refusal.wrong ≡ None) };
+
+    fn from(fault: ImportFault) -> Refusal {
+        Refusal { fault, wrong: None }
+    }
+}
+
+impl From<AllocError> for Refusal {
+    ghost use Rattle.kfifo_import.specs.declared.log.ImportFault.TheVariants.{Memory};
+
+    ghost from_gives = { λ _ refusal. (refusal.fault ≡ Memory) × (refusal.wrong ≡ None) };
+
+    fn from(_: AllocError) -> Refusal {
+        Refusal::from(ImportFault::Memory)
+    }
+}
+
+impl From<AllocFailed<Line>> for Refusal {
+    ghost use Rattle.kfifo_import.specs.declared.log.ImportFault.TheVariants.{Memory};
+
+    ghost from_gives = { λ _ refusal. (refusal.fault ≡ Memory) × (refusal.wrong ≡ None) };
+
+    fn from(_failed: AllocFailed<Line>) -> Refusal {
+        Refusal::from(ImportFault::Memory)
+    }
+}
+
+impl From<Refusal> for ImportFault {
+    ghost from_gives = { λ given fault. fault ≡ given.fault };
+
+    fn from(refusal: Refusal) -> ImportFault {
+        refusal.fault
+    }
 }

@@ -1,12 +1,11 @@
 -- What `least` says of a history.
-use Rattle.std.specs.Prelude.{ℕ, ◌≡◌, List, [], ◌++◌, Option, Some, None, codes, decimal}
+use Rattle.std.specs.Prelude.{ℕ, ◌≡◌, ◌⊎◌, List, [], ◌++◌, Option, Some, None, codes, decimal}
 use Rattle.kfifo_model.specs.declared.calls.Call.{Call}
 use Rattle.kfifo_model.specs.Searching.{HasOrder}
 use Rattle.kfifo_verdict.specs.declared.verdicts.Bounds.{Bounds}
 use Rattle.kfifo_verdict.specs.declared.verdicts.Evidence.{Evidence}
 use Rattle.kfifo_verdict.specs.Judging.{AreBounds, HasNoneForEachK, IsFirstForEachK}
-use Rattle.kfifo_verdict.specs.declared.verdicts.Evidence.TheVariants.{NeverPut, TakenTwice, NotEmpty, TooYoung}
-use Rattle.kfifo_verdict.specs.declared.verdicts.Evidence.TheVariants.{TakenTooSoon, ItemsLeft, OlderLeft}
+use Rattle.kfifo_verdict.specs.Naming.{IsForEachK}
 use Rattle.kfifo_import.specs.declared.log.LoggedCall.{LoggedCall}
 use Rattle.kfifo_judge.specs.Check.{line}
 use Rattle.kfifo_judge.specs.declared.outcome.Outcome.{Outcome}
@@ -19,16 +18,6 @@ at_most_line None = line (codes "k unknown")
 
 abbrev pub bounds_text : Bounds → List ℕ
 bounds_text b = line (codes "k at least " ++ decimal b.at_least) ++ at_most_line b.at_most
-
--- the evidence is of another kind than 4 and 7, in which a k is named
-abbrev pub NamesNoK : Evidence → Type 0
-NamesNoK (NeverPut get) = Unit {0}
-NamesNoK (TakenTwice get) = Unit {0}
-NamesNoK (NotEmpty empty puts) = Unit {0}
-NamesNoK (TooYoung get puts) = ⊥
-NamesNoK (TakenTooSoon get) = Unit {0}
-NamesNoK (ItemsLeft empty) = Unit {0}
-NamesNoK (OlderLeft get puts) = ⊥
 
 abbrev pub no_least_text : List LoggedCall → List Call → Evidence → List ℕ
 no_least_text logged h found = line (codes "no order") ++ reason_lines logged h found
@@ -52,12 +41,7 @@ IsLeastAnswer logged h text Unordered = HasNoLeast logged h text
 IsLeastAnswer logged h text Answered = (bounds : Bounds) × HasBounds h bounds text
 IsLeastAnswer logged h text Undecided = ⊥
 
--- what follows the evidence against one k: what `least` says, where the evidence names a k
+-- what follows the evidence against one k: what `least` says, unless the evidence is for each k
 abbrev pub FollowsReason : List LoggedCall → List Call → Evidence → List ℕ → Type 0
-FollowsReason logged h (NeverPut get) text = text ≡ []
-FollowsReason logged h (TakenTwice get) text = text ≡ []
-FollowsReason logged h (NotEmpty empty puts) text = text ≡ []
-FollowsReason logged h (TooYoung get puts) text = (said : Outcome) × IsLeastAnswer logged h text said
-FollowsReason logged h (TakenTooSoon get) text = text ≡ []
-FollowsReason logged h (ItemsLeft empty) text = text ≡ []
-FollowsReason logged h (OlderLeft get puts) text = (said : Outcome) × IsLeastAnswer logged h text said
+FollowsReason logged h found text = (IsForEachK found × (text ≡ []))
+    ⊎ ((IsForEachK found → ⊥) × (said : Outcome) × IsLeastAnswer logged h text said)

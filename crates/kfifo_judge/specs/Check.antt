@@ -1,4 +1,4 @@
--- What `check` writes, and the statuses that it ends with.
+-- What `check` says of a record.
 use Rattle.std.specs.Prelude.{ℕ, ◌≡◌, ◌<◌, ◌≤◌, ◌⊎◌, List, [], ◌∷◌, ◌++◌, Option, Some, None, length, codes}
 use Rattle.std.specs.Fmt.{decimal}
 use Rattle.kfifo_model.specs.declared.calls.Call.{Call}
@@ -8,6 +8,8 @@ use Rattle.kfifo_model.specs.declared.orders.Verdict.TheVariants.{NotARun}
 use Rattle.kfifo_model.specs.declared.search.SearchFault.TheVariants as searches
 use Rattle.kfifo_model.specs.Verdicts.{IsVerdict}
 use Rattle.kfifo_model.specs.Searching.{HasOrder}
+use Rattle.kfifo_judge.specs.declared.outcome.Outcome.{Outcome}
+use Rattle.kfifo_judge.specs.declared.outcome.Outcome.TheVariants.{Answered, Unordered}
 use Rattle.kfifo_judge.specs.declared.record.StreamFault.{StreamFault}
 use Rattle.kfifo_judge.specs.declared.record.StreamFault.TheVariants as faults
 use Rattle.kfifo_judge.specs.Inputs.{IsRecordText}
@@ -25,30 +27,25 @@ verdict_text LeavesOut = line (codes "fault 3 leaves out")
 verdict_text BreaksBefore = line (codes "fault 4 breaks before")
 verdict_text (NotARun place) = line (codes "fault 5 not a run at " ++ decimal place)
 
--- 3 where an order is not legal
-abbrev pub verdict_status : Verdict → ℕ
-verdict_status Legal = 0
-verdict_status Repeats = 3
-verdict_status NotACall = 3
-verdict_status LeavesOut = 3
-verdict_status BreaksBefore = 3
-verdict_status (NotARun place) = 3
+abbrev pub verdict_outcome : Verdict → Outcome
+verdict_outcome Legal = Answered
+verdict_outcome _ = Unordered
 
--- The text and the status for a history: whether some order of its 12 calls or fewer is legal, or what is to be said of
+-- The text and the outcome for a history: whether some order of its 12 calls or fewer is legal, or what is to be said of
 -- the given one.
-abbrev pub IsCheckAnswer : ℕ → Option (List ℕ) → List Call → List ℕ → ℕ → Type 0
-IsCheckAnswer k None h text status =
+abbrev pub IsCheckAnswer : ℕ → Option (List ℕ) → List Call → List ℕ → Outcome → Type 0
+IsCheckAnswer k None h text said =
     (length h ≤ 12)
-    × ((HasOrder k h × (text ≡ line (codes "order")) × (status ≡ 0))
-    ⊎ ((HasOrder k h → ⊥) × (text ≡ line (codes "no order")) × (status ≡ 3)))
-IsCheckAnswer k (Some order) h text status = (v : Verdict) × IsVerdict k h order v × (text ≡ verdict_text v)
-    × (status ≡ verdict_status v)
+    × ((HasOrder k h × (text ≡ line (codes "order")) × (said ≡ Answered))
+    ⊎ ((HasOrder k h → ⊥) × (text ≡ line (codes "no order")) × (said ≡ Unordered)))
+IsCheckAnswer k (Some order) h text said = (v : Verdict) × IsVerdict k h order v × (text ≡ verdict_text v)
+    × (said ≡ verdict_outcome v)
 
--- This is the text and the status for the record that the bytes are.
-pub record IsChecked (k : ℕ) (order : Option (List ℕ)) (bytes text : List ℕ) (status : ℕ) : Type 0 where
+-- This is the text and the outcome for the record that the bytes are.
+pub record IsChecked (k : ℕ) (order : Option (List ℕ)) (bytes text : List ℕ) (said : Outcome) : Type 0 where
   pub calls : List Call
   pub recorded : IsRecordText bytes calls
-  pub answer : IsCheckAnswer k order calls text status
+  pub answer : IsCheckAnswer k order calls text said
 
 -- why a history has no answer
 abbrev pub IsUnanswered : Option (List ℕ) → List Call → StreamFault → Type 0

@@ -4,6 +4,7 @@ pub mod Inputs
 pub mod Check
 pub mod TextFaults
 pub mod Measure
+pub mod StreamAnswers
 pub mod Numbers
 pub mod Calls
 pub mod Reasons

@@ -24,16 +24,15 @@ abbrev pub most : List Overtaken → ℕ
 most [] = 0
 most (o ∷ os) = max o.count (most os)
 
-abbrev pub measure_text : List Overtaken → List ℕ
-measure_text os = overtaken_lines os ++ line (codes "most " ++ decimal (most os))
+abbrev pub overtakings_text : List Overtaken → List ℕ
+overtakings_text os = overtaken_lines os ++ line (codes "most " ++ decimal (most os))
 
--- This is the text and the status for the record that the bytes are.
-pub record IsMeasured (bytes text : List ℕ) (status : ℕ) : Type 0 where
+-- This is the text for the record that the bytes are.
+pub record IsMeasured (bytes text : List ℕ) : Type 0 where
   pub calls : List Call
   pub recorded : IsRecordText bytes calls
   pub distinct : (n : ℕ) → IsDoneEnqueue calls n → HasDistinctItems calls
-  pub told : text ≡ measure_text (measured calls (length calls))
-  pub ended : status ≡ 0
+  pub told : text ≡ overtakings_text (measured calls (length calls))
 
 -- why a history is not measured: it has a finished enqueue with answer Done, and an item is repeated
 abbrev pub IsUnmeasured : List Call → StreamFault → Type 0

@@ -1,6 +1,6 @@
 -- Why a history has no legal order.
 use Rattle.std.specs.Prelude.{ℕ, zero, suc, List, [], ◌∷◌, ◌++◌, codes, cond, decimal, eqb, length, not, slice_get}
-use Rattle.std.specs.Prelude.{take}
+use Rattle.std.specs.Prelude.{take, unwrap_or}
 use Rattle.std.specs.Prelude.{Bool, ◌&&◌, ◌||◌, Option, Some, None}
 use Rattle.kfifo_model.specs.declared.calls.Call.{Call}
 use Rattle.kfifo_model.specs.declared.effects.Effect.{Effect}
@@ -10,6 +10,7 @@ use Rattle.kfifo_model.specs.Overtaking.{adds, takes}
 use Rattle.kfifo_verdict.specs.declared.verdicts.Evidence.{Evidence}
 use Rattle.kfifo_verdict.specs.declared.verdicts.Evidence.TheVariants.{NeverPut, TakenTwice, NotEmpty, TooYoung}
 use Rattle.kfifo_verdict.specs.declared.verdicts.Evidence.TheVariants.{TakenTooSoon, ItemsLeft, OlderLeft}
+use Rattle.kfifo_verdict.specs.Naming.{call_in, puts_in}
 use Rattle.kfifo_import.specs.declared.log.LoggedCall.{LoggedCall}
 use Rattle.kfifo_judge.specs.Check.{line}
 use Rattle.kfifo_judge.specs.Calls.{call_lines, item_in}
@@ -58,14 +59,9 @@ reason_text logged h (OlderLeft get puts) =
     got_text logged h get (older_text (codes ", though ") (length puts.items) (codes " left"))
 
 -- the puts that the evidence names, after it
-abbrev pub puts_part : Evidence → List ℕ
-puts_part (NeverPut get) = []
-puts_part (TakenTwice get) = []
-puts_part (NotEmpty empty puts) = codes ": calls " ++ joined puts.items
-puts_part (TooYoung get puts) = codes ": calls " ++ joined puts.items
-puts_part (TakenTooSoon get) = []
-puts_part (ItemsLeft empty) = []
-puts_part (OlderLeft get puts) = codes ": calls " ++ joined puts.items
+abbrev pub puts_part : Option (List ℕ) → List ℕ
+puts_part (Some puts) = codes ": calls " ++ joined puts
+puts_part None = []
 
 -- whether a call puts the item or gets it
 abbrev pub moves : ℕ → Effect → Bool
@@ -84,32 +80,27 @@ numbers_below test (suc n) = numbers_below test n ++ cond (test n) (n ∷ []) []
 abbrev pub others : List Call → ℕ → List ℕ
 others h get = numbers_below (is_other h get) (length h)
 
--- the calls that have a line: those that the evidence names, in its order, but for the puts of older items that may
--- repeat; and all that put or got an item that was taken too often or too soon
-abbrev pub named : List Call → Evidence → List ℕ
-named h (NeverPut get) = get ∷ []
-named h (TakenTwice get) = get ∷ others h get
-named h (NotEmpty empty puts) = empty ∷ puts.items
-named h (TooYoung get puts) = get ∷ puts.items
-named h (TakenTooSoon get) = get ∷ others h get
-named h (ItemsLeft empty) = empty ∷ []
-named h (OlderLeft get puts) = get ∷ []
+-- the calls that evidence names beside the first: the puts, or of an item that was taken too often or too soon the
+-- first 31 others that put or got it
+abbrev pub also_named : List Call → Evidence → List ℕ
+also_named h (TakenTwice get) = take 31 (others h get)
+also_named h (TakenTooSoon get) = take 31 (others h get)
+also_named h found = unwrap_or (puts_in found) []
 
--- the calls that evidence names: the one that got an item or found none, and then the puts, or of an item that was
--- taken too often or too soon the first 31 others that put or got it
+-- the calls that evidence names: the one that got an item or found none, and then those beside it
 abbrev pub named_by : List Call → Evidence → List ℕ
-named_by h (NeverPut get) = get ∷ []
-named_by h (TakenTwice get) = get ∷ take 31 (others h get)
-named_by h (NotEmpty empty puts) = empty ∷ puts.items
-named_by h (TooYoung get puts) = get ∷ puts.items
-named_by h (TakenTooSoon get) = get ∷ take 31 (others h get)
-named_by h (ItemsLeft empty) = empty ∷ []
-named_by h (OlderLeft get puts) = get ∷ puts.items
+named_by h found = call_in found ∷ also_named h found
 
--- the evidence in a line, and a line for each of the first 32 calls that it names
+-- How many of them have a line: the first 32. Of puts of older items that may repeat none has, since nobody knows which
+-- get took which of them.
+abbrev pub lines_for : Evidence → ℕ
+lines_for (OlderLeft get puts) = 1
+lines_for found = 32
+
+-- the evidence in a line, and the lines of the calls that it names
 abbrev pub reason_lines : List LoggedCall → List Call → Evidence → List ℕ
-reason_lines logged h found = line (reason_text logged h found ++ puts_part found) ++ call_lines logged h
-    (take 32 (named h found))
+reason_lines logged h found = line (reason_text logged h found ++ puts_part (puts_in found)) ++ call_lines logged h
+    (take (lines_for found) (named_by h found))
 
 -- the title of a picture: whether there is evidence for this k, and what is said of it
 abbrev pub title_text : ℕ → List LoggedCall → List Call → Option Evidence → List ℕ

@@ -1,6 +1,6 @@
 //! The answer of the command `least`.
-ghost use Rattle.std.specs.Prelude.{ℕ, ◌≡◌, ◌++◌, ◌↔◌, List, OnOk, IfOk, IsTrue, MatchOption, string_bytes};
-ghost use Rattle.kfifo_judge.specs.Bounds.{FollowsReason, HasBounds, HasNoLeast, IsLeastAnswer, NamesNoK};
+ghost use Rattle.std.specs.Prelude.{ℕ, ◌≡◌, ◌++◌, List, OnOk, IfOk, MatchOption, string_bytes};
+ghost use Rattle.kfifo_judge.specs.Bounds.{FollowsReason, HasBounds, HasNoLeast, IsLeastAnswer};
 ghost use Rattle.kfifo_judge.specs.Bounds.{bounds_text, no_least_text};
 
 use crate::outcome::Outcome;
@@ -10,17 +10,6 @@ use kfifo_model::History;
 use kfifo_verdict::{Bounds, Evidence, evidence_for_each_k, least_k};
 use std::alloc::{AllocError, Global};
 use std::fmt::Write;
-
-/// Whether the evidence is there for each k.
-fn names_no_k(found: &Evidence) -> bool
-    ensures { IsTrue result ↔ NamesNoK found.now }
-{
-    match found {
-        Evidence::NeverPut(_) | Evidence::TakenTwice(_) | Evidence::NotEmpty { .. } => true,
-        Evidence::TooYoung { .. } | Evidence::OlderLeft { .. } => false,
-        Evidence::TakenTooSoon(_) | Evidence::ItemsLeft(_) => true,
-    }
-}
 
 /// Adds the lines of the bounds.
 fn push_bounds(text: &mut String, bounds: Bounds) -> Result<(), AllocError>
@@ -102,7 +91,7 @@ pub(crate) fn push_following(
     ensures { OnOk result ((rest : List ℕ) × FollowsReason logged.now history.now found.now rest
         × (string_bytes text.new ≡ string_bytes text.old ++ rest)) }
 {
-    if names_no_k(found) {
+    if found.is_for_each_k() {
         return Ok(());
     }
     let (least, _outcome) = least_text(alloc, history, logged, tries)?;

@@ -11,9 +11,6 @@ use kfifo_model::{Call, Effect, History, Op};
 use std::alloc::AllocError;
 use std::fmt::Write;
 
-/// How many calls have a line after the line of the call that they are named beside: 32 calls in all.
-const MAX_OTHERS: usize = 31;
-
 /// A call past the last one.
 const NO_CALL: Call = Call {
     thread: 0,
@@ -190,7 +187,7 @@ fn push_details(
 }
 
 /// Adds the line of the call with this number.
-pub(crate) fn push_call(
+fn push_call(
     text: &mut String,
     history: &History,
     logged: &[LoggedCall],
@@ -214,16 +211,16 @@ pub(crate) fn push_call(
     text.push('\n')
 }
 
-/// The first 31 of these calls.
+/// The first of these calls, so many at most.
 #[tactic(auto, using(std::proofs::lemmas::List::take_min))]
-pub(crate) fn with_lines(calls: &[usize]) -> &[usize]
-    ensures { result.now ≡ take 31 calls.now }
+pub(crate) fn first_of(calls: &[usize], most: usize) -> &[usize]
+    ensures { result.now ≡ take most calls.now }
 {
-    let few = MAX_OTHERS.min(calls.len());
+    let few = most.min(calls.len());
     &calls[..few]
 }
 
-/// Adds the lines of the first 31 of these calls.
+/// Adds the lines of these calls.
 pub(crate) fn push_calls(
     text: &mut String,
     history: &History,
@@ -231,10 +228,9 @@ pub(crate) fn push_calls(
     calls: &[usize],
 ) -> Result<(), AllocError>
     ensures { OnOk result (string_bytes text.new
-        ≡ string_bytes text.old ++ call_lines logged.now history.now (take 31 calls.now)) }
+        ≡ string_bytes text.old ++ call_lines logged.now history.now calls.now) }
 {
-    let named = with_lines(calls);
-    for call in named {
+    for call in calls {
         push_call(text, history, logged, *call)?;
     }
     Ok(())

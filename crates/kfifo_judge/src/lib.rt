@@ -1,5 +1,5 @@
-//! What the program says of records and logs: the streams of `check` and `measure`, and the verdicts of `judge` and
-//! `least` with their reasons, as texts.
+//! What the program says of records and logs, as texts: the answers of `check` and `measure`, also over streams, and the
+//! verdicts of `judge` and `least` with their reasons.
 #![tactic(auto)]
 
 mod bounds;
@@ -11,14 +11,16 @@ mod numbers;
 mod outcome;
 mod reasons;
 mod record;
+mod stream_answers;
 mod streams;
 
 pub use bounds::{bounded_text, least_text};
-pub use check::check_stream;
+pub use check::check_text;
 pub use judgement::{judge_text, judged_text};
-pub use measure::measure_stream;
+pub use measure::measure_text;
 pub use numbers::push_numbers;
 pub use outcome::Outcome;
 pub use reasons::{named_calls, title_of};
 pub use record::{StreamFault, begins_record, read_record};
+pub use stream_answers::{check_stream, measure_stream};
 pub use streams::{FromStd, MAX_BYTES, ReadFault, Sink, Source, read_all, write_all};

@@ -1,17 +1,22 @@
 //! Why a history has no legal order: the evidence, and the calls that it names.
-ghost use Rattle.std.specs.Prelude.{◌≡◌, ◌++◌, ◌∷◌, IfOk, OnOk, string_bytes, take};
-ghost use Rattle.kfifo_judge.specs.Calls.{call_line, call_lines};
+ghost use Rattle.std.specs.Prelude.{◌≡◌, ◌++◌, IfOk, OnOk, option_map, string_bytes, take};
 ghost use Rattle.kfifo_judge.specs.Reasons as specs;
 ghost use Rattle.kfifo_judge.specs.Reasons.{title_text};
-ghost use Rattle.kfifo_judge.specs.Reasons.{got_item, named, named_by, others, puts_part, reason_lines, reason_text};
+ghost use Rattle.kfifo_judge.specs.Reasons.{got_item, named_by, others, puts_part, reason_lines, reason_text};
 
-use crate::calls::{effect_at, item_in, logged_at, push_call, push_calls, with_lines};
+use crate::calls::{effect_at, first_of, item_in, logged_at, push_calls};
 use crate::numbers::push_joined;
 use kfifo_import::LoggedCall;
 use kfifo_model::{Effect, History};
 use kfifo_verdict::Evidence;
 use std::alloc::{AllocError, Global};
 use std::fmt::Write;
+
+/// How many of the calls that evidence names have a line.
+const MAX_LINES: usize = 32;
+
+/// How many calls are named beside a get whose item was taken too often or too soon.
+const MAX_OTHERS: usize = 31;
 
 /// The item that is taken, 0 where none is.
 fn taken(effect: Effect) -> u32
@@ -103,19 +108,15 @@ fn push_reason(
 }
 
 /// Adds the numbers of the puts that the evidence names, where it names any.
-fn push_puts_named(text: &mut String, found: &Evidence) -> Result<(), AllocError>
-    ensures { OnOk result (string_bytes text.new ≡ string_bytes text.old ++ puts_part found.now) }
+fn push_puts_named(text: &mut String, puts: Option<&[usize]>) -> Result<(), AllocError>
+    ensures { let named = option_map (λ numbers. numbers.now) puts.entry in
+        OnOk result (string_bytes text.new ≡ string_bytes text.old ++ puts_part named) }
 {
-    match found {
-        Evidence::NotEmpty { puts, .. }
-        | Evidence::TooYoung { puts, .. }
-        | Evidence::OlderLeft { puts, .. } => {
-            text.push_str(": calls ")?;
-            push_joined(text, puts.as_slice())
-        }
-        Evidence::NeverPut(_) | Evidence::TakenTwice(_) => Ok(()),
-        Evidence::TakenTooSoon(_) | Evidence::ItemsLeft(_) => Ok(()),
+    if let Some(puts) = puts {
+        text.push_str(": calls ")?;
+        push_joined(text, puts)?;
     }
+    Ok(())
 }
 
 /// Whether a call puts the item or gets it.
@@ -149,80 +150,17 @@ fn others_of(alloc: Global, history: &History, get: usize) -> Result<Vec<usize>,
     Ok(calls)
 }
 
-/// Adds the line of a get, and those of the first others that put or got its item.
-fn push_moves(
-    alloc: Global,
-    text: &mut String,
-    history: &History,
-    logged: &[LoggedCall],
-    get: usize,
-) -> Result<(), AllocError>
-    ensures { OnOk result (string_bytes text.new ≡ string_bytes text.old
-        ++ (call_line logged.now history.now get
-        ++ call_lines logged.now history.now (take 31 (others history.now get)))) }
-{
-    let others = others_of(alloc, history, get)?;
-    push_call(text, history, logged, get)?;
-    push_calls(text, history, logged, others.as_slice())
-}
-
-/// Adds a line for each of the first 32 calls that the evidence names.
-fn push_named(
-    alloc: Global,
-    text: &mut String,
-    history: &History,
-    logged: &[LoggedCall],
-    found: &Evidence,
-) -> Result<(), AllocError>
-    ensures { OnOk result (string_bytes text.new
-        ≡ string_bytes text.old ++ call_lines logged.now history.now (take 32 (named history.now found.now))) }
-{
-    match found {
-        Evidence::NeverPut(get) => push_call(text, history, logged, *get),
-        Evidence::TakenTwice(get) => push_moves(alloc, text, history, logged, *get),
-        Evidence::NotEmpty { empty, puts } => {
-            push_call(text, history, logged, *empty)?;
-            push_calls(text, history, logged, puts.as_slice())
-        }
-        Evidence::TooYoung { get, puts } => {
-            push_call(text, history, logged, *get)?;
-            push_calls(text, history, logged, puts.as_slice())
-        }
-        Evidence::TakenTooSoon(get) => push_moves(alloc, text, history, logged, *get),
-        Evidence::ItemsLeft(empty) => push_call(text, history, logged, *empty),
-        Evidence::OlderLeft { get, .. } => push_call(text, history, logged, *get),
-    }
-}
-
-/// Adds the evidence in a line, and a line for each of the first 32 calls that it names.
-pub(crate) fn push_reasons(
-    alloc: Global,
-    text: &mut String,
-    history: &History,
-    logged: &[LoggedCall],
-    found: &Evidence,
-) -> Result<(), AllocError>
-    ensures { OnOk result (string_bytes text.new
-        ≡ string_bytes text.old ++ reason_lines logged.now history.now found.now) }
-{
-    push_reason(text, history, logged, found)?;
-    push_puts_named(text, found)?;
-    text.push('\n')?;
-    push_named(alloc, text, history, logged, found)
-}
-
-/// Adds a get, and the first of the others that put or got its item.
-fn add_moves(
+/// Adds the others that put or got the item that a call got, 31 at most.
+fn add_others(
     alloc: Global,
     calls: &mut Vec<usize>,
     history: &History,
     get: usize,
 ) -> Result<(), AllocError>
-    ensures { OnOk result (calls.new.items ≡ calls.old.items ++ (get ∷ take 31 (others history.now get))) }
+    ensures { OnOk result (calls.new.items ≡ calls.old.items ++ take 31 (others history.now get)) }
 {
     let others = others_of(alloc, history, get)?;
-    calls.push(get)?;
-    calls.extend_from_slice(with_lines(others.as_slice()))
+    calls.extend_from_slice(first_of(others.as_slice(), MAX_OTHERS))
 }
 
 /// Returns the calls that evidence names: the one that got an item or found none, and then the puts, or of an item that
@@ -236,25 +174,47 @@ pub fn named_calls(
     ensures { IfOk result (λ calls. calls.items ≡ named_by history.now found.now) }
 {
     let mut calls = Vec::new(alloc);
+    calls.push(found.call())?;
     match found {
-        Evidence::NeverPut(get) => calls.push(*get)?,
-        Evidence::TakenTwice(get) => add_moves(alloc, &mut calls, history, *get)?,
-        Evidence::TakenTooSoon(get) => add_moves(alloc, &mut calls, history, *get)?,
-        Evidence::ItemsLeft(empty) => calls.push(*empty)?,
-        Evidence::NotEmpty { empty, puts } => {
-            calls.push(*empty)?;
-            calls.extend_from_slice(puts.as_slice())?;
+        Evidence::TakenTwice(get) | Evidence::TakenTooSoon(get) => {
+            add_others(alloc, &mut calls, history, *get)?;
         }
-        Evidence::TooYoung { get, puts } => {
-            calls.push(*get)?;
-            calls.extend_from_slice(puts.as_slice())?;
-        }
-        Evidence::OlderLeft { get, puts } => {
-            calls.push(*get)?;
-            calls.extend_from_slice(puts.as_slice())?;
-        }
+        Evidence::NotEmpty { puts, .. }
+        | Evidence::TooYoung { puts, .. }
+        | Evidence::OlderLeft { puts, .. } => calls.extend_from_slice(puts.as_slice())?,
+        Evidence::NeverPut(_) | Evidence::ItemsLeft(_) => {}
     }
     Ok(calls)
+}
+
+/// How many of the calls that evidence names have a line.
+fn lines_for(found: &Evidence) -> usize
+    ensures { result ≡ specs.lines_for found.now }
+{
+    match found {
+        Evidence::OlderLeft { .. } => 1,
+        Evidence::NeverPut(_) | Evidence::TakenTwice(_) | Evidence::NotEmpty { .. } => MAX_LINES,
+        Evidence::TooYoung { .. } | Evidence::TakenTooSoon(_) | Evidence::ItemsLeft(_) => MAX_LINES,
+    }
+}
+
+/// Adds the evidence in a line, and the lines of the calls that it names.
+pub(crate) fn push_reasons(
+    alloc: Global,
+    text: &mut String,
+    history: &History,
+    logged: &[LoggedCall],
+    found: &Evidence,
+) -> Result<(), AllocError>
+    ensures { OnOk result (string_bytes text.new
+        ≡ string_bytes text.old ++ reason_lines logged.now history.now found.now) }
+{
+    push_reason(text, history, logged, found)?;
+    push_puts_named(text, found.puts())?;
+    text.push('\n')?;
+    let named = named_calls(alloc, history, found)?;
+    let told = first_of(named.as_slice(), lines_for(found));
+    push_calls(text, history, logged, told)
 }
 
 /// Returns the title of a picture of evidence: that there is no order for this k, and why, or that there is no

@@ -44,10 +44,10 @@ pub trait Sink {
         ensures failures { CountsWrite result (length piece.now) (failed self.old) (failed self.new) };
 }
 
-/// A reader or a writer of std as a source or a sink. This sink keeps in memory what is written:
+/// A reader or a writer of std as a source or a sink. This reads a file whole:
 ///
 /// ```rust
-/// let mut sink = FromStd::new(Vec::new(alloc));
+/// read_all(alloc, &mut FromStd::new(file))
 /// ```
 #[derive(Drop)]
 pub struct FromStd<T> {

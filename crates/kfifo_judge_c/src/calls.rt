@@ -182,6 +182,6 @@ pub(crate) fn log_from(alloc: Global, calls: &[LogCall]) -> Result<Log, ImportFa
         return Err(ImportFault::TooMany);
     }
     let lines = lines_of(alloc, calls)?;
-    let judged = with_puttable_items(alloc, lines.as_slice())?;
+    let judged = with_puttable_items(alloc, lines)?;
     log_of(alloc, judged)
 }

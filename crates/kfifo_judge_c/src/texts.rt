@@ -63,6 +63,6 @@ pub(crate) fn judge_bytes(
     }
     match read_log_to_judge(alloc, bytes) {
         Ok(log) => verdict_on(alloc, &log.history, log.calls.as_slice(), k, tries),
-        Err(fault) => fault_report(alloc, fault),
+        Err(refusal) => fault_report(alloc, refusal.fault),
     }
 }

@@ -1,5 +1,7 @@
 -- What the checker returns.
-use Rattle.std.specs.Prelude.{ℕ, ◌≡◌, ◌+◌, ◌<◌, List, [], ◌∷◌, Option, Some, None, map, take, length}
+use Rattle.std.specs.Prelude.{ℕ, ◌≡◌, ◌+◌, ◌<◌, ◌↔◌, Bool, false, IsTrue, List, [], ◌∷◌, Option, Some, None}
+use Rattle.std.specs.Prelude.{map, take, length, slice_index_or}
+use Rattle.kfifo_model.specs.Lists.{IsIn}
 use Rattle.kfifo_model.specs.declared.calls.Call.{Call}
 use Rattle.kfifo_model.specs.declared.orders.Verdict.{Verdict}
 use Rattle.kfifo_model.specs.declared.orders.Verdict.TheVariants.{Legal, Repeats, NotACall, LeavesOut, BreaksBefore}
@@ -22,6 +24,10 @@ IsVerdict k h order BreaksBefore = HasNoRepeats order × HasOnlyCalls h order ×
     × (KeepsBefore h order → ⊥)
 IsVerdict k h order (NotARun p) = IsOrder h order × (p < length order) × IsRun k [] (map (does h) (take p order))
     × (IsRun k [] (map (does h) (take (p + 1) order)) → ⊥)
+
+-- the marks are true at the numbers that stand in the order
+abbrev pub AreMarks : List Bool → List ℕ → Type 0
+AreMarks marks order = (c : ℕ) → IsTrue (slice_index_or marks c false) ↔ IsIn c order
 
 -- what became of a call's effect that was tried in the list before
 abbrev pub IsTried : ℕ → List ℕ → List ℕ → Effect → Tried → Type 0

@@ -1,14 +1,12 @@
 //! The checker of orders.
 ghost use Rattle.std.specs.Prelude.{ℕ, ◌≡◌, ◌+◌, ◌<◌, ◌≤◌, ◌↔◌, List, [], map, take, length, IsTrue, IfOk, MatchOption};
-ghost use Rattle.std.specs.Prelude.{Some, None};
-ghost use Rattle.std.specs.BTreeSet.{contains};
-ghost use Rattle.std.specs.Ordering.{nat_cmp};
-ghost use Rattle.kfifo_model.specs.Lists.{IsIn, place};
+ghost use Rattle.std.specs.Prelude.{Some, None, MatchBool, false, slice_index_or};
+ghost use Rattle.kfifo_model.specs.Lists.{place};
 ghost use Rattle.kfifo_model.specs.declared.effects.Effect.TheVariants.{Takes};
 ghost use Rattle.kfifo_model.specs.Relaxed.{IsRun, next};
 ghost use Rattle.kfifo_model.specs.Histories.{does, effect_of, HasNoRepeats, HasOnlyCalls, HasEachFinished};
 ghost use Rattle.kfifo_model.specs.Histories.{KeepsBefore};
-ghost use Rattle.kfifo_model.specs.Verdicts.{IsVerdict, IsTried, verdict_number};
+ghost use Rattle.kfifo_model.specs.Verdicts.{AreMarks, IsVerdict, IsTried, verdict_number};
 
 use crate::calls::{Call, Op};
 use crate::effects::Effect;
@@ -60,18 +58,17 @@ pub enum Tried {
     Took(usize),
 }
 
-/// The numbers of an order, or none where one stands twice.
-fn distinct_numbers(alloc: Global, order: &[usize]) -> Result<Option<BTreeSet<usize>>, AllocError>
-    ensures { IfOk result (λ r. MatchOption r (HasNoRepeats order.now → ⊥)
-        (λ s. HasNoRepeats order.now × ((c : ℕ) → IsTrue (contains nat_cmp s c) ↔ IsIn c order.now))) }
+/// Whether a number of an order stands twice.
+fn has_repeats(alloc: Global, order: &[usize]) -> Result<bool, AllocError>
+    ensures { IfOk result (λ repeats. MatchBool repeats (HasNoRepeats order.now → ⊥) (HasNoRepeats order.now)) }
 {
     let mut seen = BTreeSet::new(alloc);
     for n in order {
         if !seen.insert(*n)? {
-            return Ok(None);
+            return Ok(true);
         }
     }
-    Ok(Some(seen))
+    Ok(false)
 }
 
 /// Whether a finished call or an unfinished enqueue has each number.
@@ -90,13 +87,35 @@ fn has_only_calls(calls: &[Call], order: &[usize]) -> bool
     true
 }
 
-/// Whether each finished call is among the numbers.
-fn has_each_finished(calls: &[Call], numbers: &BTreeSet<usize>) -> bool
-    ensures { (order : List ℕ) → ((c : ℕ) → IsTrue (contains nat_cmp numbers.now c) ↔ IsIn c order)
-        → (IsTrue result ↔ HasEachFinished calls.now order) }
+/// For each call, whether its number stands in the order, or none where a number stands twice.
+fn marks_of(alloc: Global, calls: &[Call], order: &[usize]) -> Result<Option<Vec<bool>>, AllocError>
+    requires { HasOnlyCalls calls.now order.now }
+    ensures { IfOk result (λ r. MatchOption r (HasNoRepeats order.now → ⊥)
+        (λ marks. HasNoRepeats order.now × AreMarks marks.items order.now)) }
+{
+    let mut marks = vec![in alloc; false; calls.len()]?;
+    for n in order {
+        if marks[*n] {
+            return Ok(None);
+        }
+        marks[*n] = true;
+    }
+    Ok(Some(marks))
+}
+
+/// Whether the call with this number is marked.
+fn is_marked(marks: &[bool], n: usize) -> bool
+    ensures { result ≡ slice_index_or marks.now n false }
+{
+    marks.get(n).copied().unwrap_or(false)
+}
+
+/// Whether each finished call is marked.
+fn has_each_finished(calls: &[Call], marks: &[bool]) -> bool
+    ensures { (order : List ℕ) → AreMarks marks.now order → (IsTrue result ↔ HasEachFinished calls.now order) }
 {
     for (n, call) in calls.iter().enumerate() {
-        if call.end.is_some() && !numbers.contains(&n) {
+        if call.end.is_some() && !is_marked(marks, n) {
             return false;
         }
     }
@@ -209,13 +228,17 @@ pub(crate) fn judge(
 ) -> Result<Verdict, AllocError>
     ensures { IfOk result (IsVerdict k calls.now order.now) }
 {
-    let Some(numbers) = distinct_numbers(alloc, order)? else {
+    if !has_only_calls(calls, order) {
+        return Ok(if has_repeats(alloc, order)? {
+            Verdict::Repeats
+        } else {
+            Verdict::NotACall
+        });
+    }
+    let Some(marks) = marks_of(alloc, calls, order)? else {
         return Ok(Verdict::Repeats);
     };
-    if !has_only_calls(calls, order) {
-        return Ok(Verdict::NotACall);
-    }
-    if !has_each_finished(calls, &numbers) {
+    if !has_each_finished(calls, &marks) {
         return Ok(Verdict::LeavesOut);
     }
     if !keeps_before(calls, order) {

@@ -8,7 +8,8 @@ use Rattle.kfifo_words.specs.declared.shape.Shape.{Shape}
 use Rattle.kfifo_machine.specs.declared.event.Begin.{Begin}
 use Rattle.kfifo_machine.specs.declared.event.Begin.TheVariants as B
 use Rattle.kfifo_record.specs.Scripts.{AreScripts, IsCall, script_of, scripts_in}
-use Rattle.kfifo_record.specs.Repeats.{AllFit, FitsTo, all_repeated, greatest_item, item_of, last_shift, repeated, shifted}
+use Rattle.kfifo_linear.specs.Ledger.{item_of}
+use Rattle.kfifo_record.specs.Repeats.{AllFit, FitsTo, all_repeated, greatest_item, last_shift, repeated, shifted}
 
 -- ---- a script of a list, by its place
 

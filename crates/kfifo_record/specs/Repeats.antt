@@ -1,15 +1,11 @@
 -- Scripts made several times over, with items of their own each time.
-use Rattle.std.specs.Prelude.{ℕ, zero, suc, ◌+◌, ◌-◌, ◌*◌, ◌^◌, ◌<◌, List, [], ◌++◌, length, map, max, All}
+use Rattle.std.specs.Prelude.{ℕ, zero, suc, ◌+◌, ◌-◌, ◌*◌, ◌<◌, List, [], ◌++◌, length, map, max, All}
 use Rattle.std.specs.List.{fold}
+use Rattle.kfifo_words.specs.declared.word.TheConstants.{VALUES}
 use Rattle.kfifo_machine.specs.declared.event.Begin.{Begin}
 use Rattle.kfifo_machine.specs.declared.event.Begin.TheVariants as B
+use Rattle.kfifo_linear.specs.Ledger.{item_of}
 use Rattle.kfifo_record.specs.Scripts.{script_of}
-
--- the item that a call puts, 0 where it puts none
-abbrev pub item_of : Begin → ℕ
-item_of (B.Enqueue item start turns) = item
-item_of (B.Dequeue start turns) = 0
-item_of B.Tick = 0
 
 -- the greatest item of a script, and of all scripts
 abbrev pub greatest_of : List Begin → ℕ
@@ -39,7 +35,7 @@ last_shift count scripts = (count - 1) * greatest_item scripts
 
 -- no item of the script goes over 2^24 - 1 where each is greater by so much
 abbrev pub FitsTo : ℕ → List Begin → Type 0
-FitsTo by script = All (λ call. item_of (shifted by call) < 2 ^ 24) script
+FitsTo by script = All (λ call. item_of (shifted by call) < VALUES) script
 
 -- none of any script does
 abbrev pub AllFit : ℕ → List (List Begin) → Type 0

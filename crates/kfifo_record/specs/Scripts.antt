@@ -1,8 +1,9 @@
 -- Scripts that threads run on a stamped queue, and the record of the run.
-use Rattle.std.specs.Prelude.{◌≡◌, ℕ, suc, ◌^◌, ◌<◌, ◌≤◌, List, [], ◌∷◌, length, map, max, All, get_or, IsSome, Vec}
+use Rattle.std.specs.Prelude.{◌≡◌, ℕ, suc, ◌<◌, ◌≤◌, List, [], ◌∷◌, length, map, max, All, get_or, IsSome, Vec}
 use Rattle.std.specs.List.{fold, AllByRecursion}
 use Rattle.kfifo_live.specs.declared.recording.TheConstants.{MAX_STAMPED_CALLS}
 use Rattle.kfifo_words.specs.declared.shape.Shape.{Shape}
+use Rattle.kfifo_words.specs.declared.word.TheConstants.{VALUES}
 use Rattle.kfifo_model.specs.declared.calls.Answer.{Answer}
 use Rattle.kfifo_model.specs.declared.calls.Call.{Call}
 use Rattle.kfifo_machine.specs.declared.event.Begin.{Begin}
@@ -14,7 +15,7 @@ use Rattle.kfifo_live.specs.Stamps.{Gathers, Logged, MakesStamped, calls_by, new
 
 -- a call with its start below k, at least one round, and an item from 1 to 2^24 - 1. A tick is none
 abbrev pub IsCall : Shape → Begin → Type 0
-IsCall shape (B.Enqueue item start turns) = (1 ≤ item) × (item < 2 ^ 24) × (start < shape.k) × (1 ≤ turns)
+IsCall shape (B.Enqueue item start turns) = (1 ≤ item) × (item < VALUES) × (start < shape.k) × (1 ≤ turns)
 IsCall shape (B.Dequeue start turns) = (start < shape.k) × (1 ≤ turns)
 IsCall shape B.Tick = ⊥
 

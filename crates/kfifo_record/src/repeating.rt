@@ -1,10 +1,12 @@
 //! Scripts made several times over, with items of their own each time.
-ghost use Rattle.std.specs.Prelude.{◌≡◌, ◌+◌, ◌-◌, ◌*◌, ◌^◌, ◌<◌, ◌≤◌, ◌↔◌, ℕ, IsTrue, IfOk, MatchOption, length, map};
+ghost use Rattle.std.specs.Prelude.{◌≡◌, ◌+◌, ◌-◌, ◌*◌, ◌<◌, ◌≤◌, ◌↔◌, ℕ, IsTrue, IfOk, MatchOption, length, map};
 ghost use Rattle.std.specs.List.{fold};
+ghost use Rattle.kfifo_linear.specs.Ledger.{item_of};
 ghost use Rattle.kfifo_record.specs.Scripts.{scripts_in};
 ghost use Rattle.kfifo_record.specs.Repeats as words;
 ghost use Rattle.kfifo_record.specs.Repeats.{AllFit, FitsTo, IsFirstOver, all_repeated, greatest_item, last_shift};
 ghost use Rattle.kfifo_record.specs.Repeats.{repeated, shifted};
+ghost use Rattle.kfifo_words.specs.declared.word.TheConstants.{VALUES};
 
 use kfifo_machine::Begin;
 use kfifo_model::MAX_ITEM;
@@ -67,7 +69,7 @@ fn greatest_of(script: &[Begin]) -> u32
 
 /// The item that the call puts, 0 where it puts none.
 fn item_of(call: Begin) -> u32
-    ensures { result ≡ words.item_of call }
+    ensures { result ≡ item_of call }
 {
     match call {
         Begin::Enqueue { item, .. } => item,
@@ -84,7 +86,7 @@ fn fits(script: &[Begin], by: u64) -> bool
 
 /// Whether the item of the call does not go over 2^24 - 1 where it is greater by so much.
 fn is_small(call: Begin, by: u64) -> bool
-    ensures { IsTrue result ↔ (words.item_of (shifted by call) < 2 ^ 24) }
+    ensures { IsTrue result ↔ (item_of (shifted by call) < VALUES) }
 {
     match call {
         Begin::Enqueue { item, .. } => u64::from(item).saturating_add(by) <= u64::from(MAX_ITEM),
@@ -125,7 +127,7 @@ fn shift_script(alloc: Global, script: &[Begin], by: u64) -> Result<Vec<Begin>, 
 
 /// The call with an item greater by so much.
 fn shift(call: Begin, by: u64) -> Begin
-    requires { words.item_of (shifted by call) < 2 ^ 24 }
+    requires { item_of (shifted by call) < VALUES }
     ensures { result ≡ shifted by call }
 {
     match call {

@@ -3,13 +3,14 @@ use Rattle.std.specs.Prelude.{ℕ, ◌^◌, ◌<◌, ◌≤◌, List, length, Al
 use Rattle.kfifo_replay.specs.declared.player.TheConstants.{MAX_SCRIPT_CALLS}
 use Rattle.kfifo_model.specs.declared.calls.TheConstants.{MAX_THREADS}
 use Rattle.kfifo_words.specs.declared.shape.Shape.{Shape}
+use Rattle.kfifo_words.specs.declared.word.TheConstants.{VALUES}
 use Rattle.kfifo_machine.specs.declared.event.Begin.{Begin}
 use Rattle.kfifo_machine.specs.declared.event.Begin.TheVariants as B
 
 -- a call with its start below k, 1 to 65,535 rounds, and an item from 1 to 2^24 - 1. A tick is none
 abbrev pub IsCall : Shape → Begin → Type 0
 IsCall shape (B.Enqueue item start turns) = (start < shape.k) × (0 < turns) × (turns < 2 ^ 16) × (0 < item)
-    × (item < 2 ^ 24)
+    × (item < VALUES)
 IsCall shape (B.Dequeue start turns) = (start < shape.k) × (0 < turns) × (turns < 2 ^ 16)
 IsCall shape B.Tick = ⊥
 

@@ -8,8 +8,8 @@ use Rattle.kfifo_model.specs.Overtaking.{adds, takes, ends_below}
 use Rattle.kfifo_model.specs.Validity.{IsHistory}
 use Rattle.kfifo_model.proofs.Lists.{each_at, each_from}
 use Rattle.kfifo_verdict.specs.Evidence.{Gets, HasItemsLeft, IsCertainlyThere, IsLeft, IsNeverPut, IsOlder, IsOlderCopy}
-use Rattle.kfifo_verdict.specs.Evidence.{IsOlderLeft, IsTakenTooSoon, IsTooYoung, count_below, gets_begun}
-use Rattle.kfifo_verdict.specs.Evidence.{gets_ended, last_step, puts_begun, puts_ended}
+use Rattle.kfifo_verdict.specs.Evidence.{IsOlderLeft, IsTakenTooSoon, IsTakenTwice, IsTooYoung, count_below, gets_begun, gets_of}
+use Rattle.kfifo_verdict.specs.Evidence.{gets_ended, last_step, puts_begun, puts_ended, puts_of}
 use Rattle.kfifo_verdict.specs.Finding.{HasGaps}
 use Rattle.kfifo_verdict.specs.Judging.{GotTooYoung, HasNoEvidence, HasNoneForEachK, HasNoneTo3, IsPlain, Never}
 use Rattle.kfifo_verdict.proofs.Ageing.{count_mono}
@@ -142,6 +142,23 @@ too_soon_never h get plain s = (
         | inr le ↦ absurd (none_below (λ c. adds x (does h c) && leb (call h c).first step) (length h) p none (put_inside h x p puts)
             (and_from (adds x (does h p)) (leb (call h p).first step) (puts_pass h x p puts) (le-leb (call h p).first step le)))
       ])
+      ),
+)
+
+-- ---- 2: then it is 1
+
+pub twice_never : (h : List Call) (get : ℕ) → IsPlain h → IsTakenTwice h get → IsNeverPut h get
+twice_never h get plain twice = (
+  twice.0,
+  twice.1,
+  λ p puts. (
+      let x = twice.0 in
+      let single = plain.0 x p puts in
+      let one : gets_of h x ≤ 1 = at_most_one (λ c. takes x (does h c)) (length h)
+      (λ c d lt more holds too. single.once c d (takes_is x (does h c) holds) (takes_is x (does h d) too)) in
+      let over = twice.3 in
+      let none : puts_of h x ≤ 0 = omega (arith, one, over) in
+      absurd (none_below (λ c. adds x (does h c)) (length h) p none (put_inside h x p puts) (puts_pass h x p puts))
       ),
 )
 

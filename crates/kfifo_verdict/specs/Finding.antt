@@ -1,6 +1,6 @@
 -- What the search for evidence knows of a history: what its calls do, tallies of their items, and when items are there.
 use Rattle.std.specs.Prelude.{ℕ, ◌≡◌, ◌+◌, ◌<◌, ◌≤◌, ◌↔◌, ◌⊎◌, ◌&&◌, ◌-◌, cond, leb, ltb, min, Bool, true, List, Option, length}
-use Rattle.std.specs.Prelude.{slice_index_or, unwrap_or}
+use Rattle.std.specs.Prelude.{IsTrue, slice_index_or, unwrap_or}
 use Rattle.std.specs.Ordering.{nat_cmp}
 use Rattle.std.specs.BTreeMap.{get}
 use Rattle.kfifo_model.specs.declared.calls.Call.{Call}
@@ -19,7 +19,7 @@ use Rattle.kfifo_verdict.specs.declared.finding.Stay.{Stay}
 use Rattle.kfifo_verdict.specs.declared.finding.Covered.{Covered}
 use Rattle.kfifo_verdict.specs.declared.finding.Covered.TheVariants.{Whole, Gap}
 use Rattle.kfifo_verdict.specs.Evidence.{Puts, Gets, count_below, IsSingle, IsCertainlyThere, IsNotEmpty, IsOlder, Rise}
-use Rattle.kfifo_verdict.specs.Judging.{FoundNotEmpty}
+use Rattle.kfifo_verdict.specs.Judging.{FoundNotEmpty, IsPlain}
 
 -- whether call c is one of the side that has item x
 abbrev pub has_item : Side → List Call → ℕ → ℕ → Bool
@@ -137,6 +137,9 @@ pub record IsIndexed (h : List Call) (items : Items) : Type 0 where
   pub puts : ArePuts h items.puts
   pub gets : AreGets h items.gets
   pub presences : ArePresences h (length h) items.presences.items
+  pub stays : AreStays h items.stays.items
+  pub longest : AreLongest items.presences.items items.stays.items
+  pub plain : IsTrue items.plain ↔ IsPlain h
 
 -- Of the items of the puts below n that are certainly there from call c on, and from no earlier one, none is there
 -- longer than the one at place c.

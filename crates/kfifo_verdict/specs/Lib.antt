@@ -1,4 +1,5 @@
 pub mod Evidence
+pub mod Naming
 pub mod Finding
 pub mod Judging
 pub mod Plain

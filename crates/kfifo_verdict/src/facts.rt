@@ -1,5 +1,7 @@
 //! What the search for an order knows of a history from the beginning.
 
+use crate::sorting::sort_nearly;
+use crate::tallies::{item_ranges, near_place};
 use kfifo_model::{Call, Effect};
 use std::alloc::{AllocError, Global};
 use std::collections::BTreeMap;
@@ -9,7 +11,7 @@ use std::collections::BTreeMap;
 pub(crate) struct Fact {
     /// What it does to the list of items.
     pub effect: Effect,
-    /// The number of its item, from 0 on in the order in which items first occur, or 0 where it has none.
+    /// The number of its item, or 0 where it has none.
     pub item: usize,
     /// Its first step.
     pub first: u64,
@@ -35,25 +37,58 @@ pub(crate) struct Facts {
     calls: Vec<Fact>,
     /// The calls that have ended, by rising last step.
     pub due: Vec<usize>,
-    /// How many items there are.
+    /// All items have lower numbers.
     pub items: usize,
 }
 
-/// The number of an item: the next one where it is new.
-fn number_of(numbers: &mut BTreeMap<u32, usize>, item: u32) -> Result<usize, AllocError> {
-    if let Some(number) = numbers.get(&item).copied() {
-        return Ok(number);
+/// The numbers of items. Where items lie close together, a number says how far an item is from the least of them; else
+/// numbers stand in a tree.
+#[derive(Drop)]
+struct Numbers {
+    /// The item with the number 0, where items lie close together.
+    least: u32,
+    /// How many numbers there are for items that lie close together.
+    near: usize,
+    /// The numbers of all other items, from 0 on in the order in which these first occur.
+    far: BTreeMap<u32, usize>,
+}
+
+impl Numbers {
+    /// Numbers for the items of these calls.
+    fn new(alloc: Global, calls: &[Call]) -> Numbers {
+        let (puts, gets) = item_ranges(calls);
+        let range = puts.with(gets);
+        Numbers {
+            least: range.least,
+            near: range.few(calls.len()),
+            far: BTreeMap::new(alloc),
+        }
     }
-    let number = numbers.len();
-    numbers.insert(item, number)?;
-    Ok(number)
+
+    /// The number of an item: the next one where it is new.
+    fn of(&mut self, item: u32) -> Result<usize, AllocError> {
+        if let Some(number) = near_place(self.least, self.near, item) {
+            return Ok(number);
+        }
+        if let Some(number) = self.far.get(&item).copied() {
+            return Ok(number);
+        }
+        let number = self.far.len();
+        self.far.insert(item, number)?;
+        Ok(number)
+    }
+
+    /// A number above those of all items.
+    fn bound(&self) -> usize {
+        self.near.max(self.far.len())
+    }
 }
 
 /// What is known of a call.
-fn fact_of(call: &Call, numbers: &mut BTreeMap<u32, usize>) -> Result<Fact, AllocError> {
+fn fact_of(call: &Call, numbers: &mut Numbers) -> Result<Fact, AllocError> {
     let effect = call.effect();
     let item = match effect {
-        Effect::Adds(item) | Effect::Takes(item) => number_of(numbers, item)?,
+        Effect::Adds(item) | Effect::Takes(item) => numbers.of(item)?,
         Effect::FindsNone | Effect::Refused | Effect::Wrong => 0,
     };
     let last = match call.end {
@@ -74,24 +109,30 @@ fn fact_at(facts: &[Fact], n: usize) -> Fact {
     facts.get(n).copied().unwrap_or(NO_FACT)
 }
 
+/// The calls that have ended, by rising last step.
+fn by_end(alloc: Global, facts: &[Fact]) -> Result<Vec<usize>, AllocError> {
+    let mut ends = Vec::with_capacity(alloc, facts.len())?;
+    for (n, fact) in facts.iter().enumerate() {
+        if fact.ended {
+            ends.push((fact.last as usize, n, 0))?;
+        }
+    }
+    sort_nearly(&mut ends);
+    ends.iter().map(|(_last, n, _)| *n).collect(alloc)
+}
+
 impl Facts {
     /// What is known of these calls.
     pub(crate) fn of(alloc: Global, calls: &[Call]) -> Result<Facts, AllocError> {
-        let mut numbers = BTreeMap::new(alloc);
+        let mut numbers = Numbers::new(alloc, calls);
         let mut facts = Vec::with_capacity(alloc, calls.len())?;
-        let mut due = Vec::new(alloc);
-        for (n, call) in calls.iter().enumerate() {
-            let fact = fact_of(call, &mut numbers)?;
-            if fact.ended {
-                due.push(n)?;
-            }
-            facts.push(fact)?;
+        for call in calls {
+            facts.push(fact_of(call, &mut numbers)?)?;
         }
-        due.sort_unstable_by_key(|n| fact_at(&facts, *n).last);
         Ok(Facts {
+            due: by_end(alloc, &facts)?,
             calls: facts,
-            due,
-            items: numbers.len(),
+            items: numbers.bound(),
         })
     }
 

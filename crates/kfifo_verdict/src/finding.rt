@@ -20,7 +20,6 @@ use crate::precedence::{ends_before, first_after};
 use crate::presences::{Items, Presence};
 use crate::soon::taken_too_soon;
 use crate::tallies::{ByItem, tally_of};
-use crate::turns::is_plain;
 use crate::verdicts::Evidence;
 use kfifo_model::{Call, Effect, History};
 use std::alloc::{AllocError, Global};
@@ -99,6 +98,20 @@ fn taken_twice(calls: &[Call], puts: &ByItem, gets: &ByItem) -> Option<usize>
         }
     }
     None
+}
+
+/// The same, where each item that was got is put before the end of the call that got it.
+fn repeatedly_taken(calls: &[Call], items: &Items) -> Option<usize>
+    requires items { IsIndexed calls.now items.now }
+    requires put { Never (IsNeverPut calls.now) }
+    ensures { MatchOption result (Never (IsTakenTwice calls.now))
+        (λ n. IsTakenTwice calls.now n × NeverBefore (IsTakenTwice calls.now) n) }
+{
+    // In a plain history each such item is put once and got once.
+    if items.plain {
+        return None;
+    }
+    taken_twice(calls, &items.puts, &items.gets)
 }
 
 /// For each call, the item that stays longest of all that are certainly there from that call on.
@@ -226,7 +239,7 @@ pub(crate) fn no_skips(alloc: Global, count: usize) -> Result<Vec<usize>, AllocE
     ensures { IfOk result (λ v. (length v.items ≡ count + 1)
         × ((i : ℕ) → i < count + 1 → slice_index_or v.items i 0 ≡ i)) }
 {
-    let mut skips = Vec::new(alloc);
+    let mut skips = Vec::with_capacity(alloc, count + 1)?;
     for n in 0..count + 1 {
         skips.push(n)?;
     }
@@ -291,6 +304,7 @@ pub(crate) fn first_older(
 }
 
 /// The put of the item that a call got, where the item is single.
+#[inline(always)]
 fn single_put(calls: &[Call], items: &Items, n: usize) -> Option<usize>
     requires inside { n < length calls.now }
     requires items { IsIndexed calls.now items.now }
@@ -394,11 +408,10 @@ fn evidence_to_3(
     if let Some(get) = never_put(calls, &items.puts) {
         return Ok(Some(Evidence::NeverPut(get)));
     }
-    if let Some(get) = taken_twice(calls, &items.puts, &items.gets) {
+    if let Some(get) = repeatedly_taken(calls, items) {
         return Ok(Some(Evidence::TakenTwice(get)));
     }
-    let stays = longest_stays(alloc, calls, &items.presences)?;
-    if let Some((empty, puts)) = not_empty(alloc, calls, &stays)? {
+    if let Some((empty, puts)) = not_empty(alloc, calls, &items.stays)? {
         return Ok(Some(Evidence::NotEmpty { empty, puts }));
     }
     Ok(None)
@@ -422,7 +435,7 @@ fn evidence_among(
         return Ok(Some(Evidence::TooYoung { get, puts }));
     }
     // Where one of the kinds 5 to 7 is in a plain history, one of these was.
-    if is_plain(calls, items) {
+    if items.plain {
         return Ok(None);
     }
     if let Some(get) = taken_too_soon(alloc, calls)? {
@@ -446,7 +459,7 @@ fn evidence_for_all(alloc: Global, calls: &[Call]) -> Result<Option<Evidence>, A
     if let Some(found) = evidence_to_3(alloc, calls, &items)? {
         return Ok(Some(found));
     }
-    if is_plain(calls, &items) {
+    if items.plain {
         return Ok(None);
     }
     if let Some(get) = taken_too_soon(alloc, calls)? {

@@ -3,9 +3,11 @@ ghost use Rattle.std.specs.Prelude.{ℕ, ◌≡◌, ◌<◌, length, IfOk};
 ghost use Rattle.kfifo_model.specs.Validity.{IsHistory};
 ghost use Rattle.kfifo_verdict.specs.Finding.{ArePuts, AreGets, IsPresence, ArePresences, IsIndexed};
 
+use crate::finding::{Stay, longest_stays};
 use crate::precedence::first_after;
-use crate::tallies::{ByItem, item_ranges, tallies, tally_of};
-use kfifo_model::{Call, Effect, Side};
+use crate::tallies::{ByItem, both_tallies, item_ranges, tally_of};
+use crate::turns::is_plain;
+use kfifo_model::{Call, Effect};
 use std::alloc::{AllocError, Global};
 
 /// The calls that begin while the item of a put is certainly there: from number `start` on, below number `gone`.
@@ -26,6 +28,10 @@ pub(crate) struct Items {
     pub gets: ByItem,
     /// For each call, when the single item that it put is certainly there, or never.
     pub presences: Vec<Presence>,
+    /// For each call, the item that stays longest of all that are certainly there from that call or an earlier one on.
+    pub stays: Vec<Stay>,
+    /// Whether each item that is put is single, and each call has ended.
+    pub plain: bool,
 }
 
 /// When the item of a call is certainly there, if it is a single item's put, or never.
@@ -83,13 +89,16 @@ impl Items {
         ensures { IfOk result (IsIndexed calls.now) }
     {
         let (put, got) = item_ranges(calls);
-        let puts = tallies(alloc, calls, Side::In, put)?;
-        let gets = tallies(alloc, calls, Side::Out, got)?;
+        let (puts, gets) = both_tallies(alloc, calls, put, got)?;
         let presences = presences(alloc, calls, &puts, &gets)?;
+        let stays = longest_stays(alloc, calls, &presences)?;
+        let plain = is_plain(calls, &puts, &gets);
         Ok(Items {
             puts,
             gets,
             presences,
+            stays,
+            plain,
         })
     }
 }

@@ -12,8 +12,10 @@ const KEPT_PER_CALL: usize = 16;
 /// its slot: then it is searched once more.
 #[derive(Drop)]
 pub(crate) struct Seen {
-    /// The number of a state in each slot, or 0.
+    /// The number of a state in each slot, or 0. There are none before the first state is kept.
     slots: Vec<u64>,
+    /// How many slots there are to be.
+    count: usize,
 }
 
 /// A number that looks random, of another.
@@ -26,25 +28,28 @@ pub(crate) fn scattered(number: u64) -> u64 {
 
 impl Seen {
     /// None yet.
-    pub(crate) fn new(alloc: Global, calls: usize) -> Result<Seen, AllocError> {
-        let count = calls.saturating_mul(KEPT_PER_CALL).min(MAX_KEPT);
-        Ok(Seen {
-            slots: vec![in alloc; 0; count]?,
-        })
+    pub(crate) fn new(alloc: Global, calls: usize) -> Seen {
+        Seen {
+            slots: Vec::new(alloc),
+            count: calls.saturating_mul(KEPT_PER_CALL).min(MAX_KEPT),
+        }
     }
 
     /// Keeps the state; returns whether it was there before.
-    pub(crate) fn meet(&mut self, state: u64) -> bool {
+    pub(crate) fn meet(&mut self, alloc: Global, state: u64) -> Result<bool, AllocError> {
+        if self.slots.is_empty() {
+            self.slots = vec![in alloc; 0; self.count]?;
+        }
         let count = self.slots.len();
         if count == 0 {
-            return false;
+            return Ok(false);
         }
         let slot = (state % count as u64) as usize;
         if slot >= count {
-            return false;
+            return Ok(false);
         }
         let met = self.slots[slot] == state;
         self.slots[slot] = state;
-        met
+        Ok(met)
     }
 }

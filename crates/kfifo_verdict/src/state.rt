@@ -87,10 +87,10 @@ impl State {
             gone: vec![in alloc; false; facts.count()]?,
             front: Vec::new(alloc),
             loose: Loose::of(alloc, facts)?,
-            puts: Vec::new(alloc),
-            others: Vec::new(alloc),
+            puts: Vec::with_capacity(alloc, facts.count())?,
+            others: Vec::with_capacity(alloc, facts.count())?,
             behind: 0,
-            moves: Vec::new(alloc),
+            moves: Vec::with_capacity(alloc, facts.count())?,
             print: 0,
         })
     }
@@ -321,15 +321,22 @@ impl State {
     }
 }
 
-/// The first of the other calls from number `from` on that does not stand before the put: it went at the put's moment
-/// or later, and no Empty that stands before the put comes after it.
-fn first_behind(others: &[Other], from: usize, moment: u64, placed: Placed) -> usize {
+/// Adds the other calls from number `from` on that stand before the put, and returns the number of the first that does
+/// not: it went at the put's moment or later, and no Empty that stands before the put comes after it.
+fn push_before(
+    order: &mut Vec<usize>,
+    others: &[Other],
+    from: usize,
+    moment: u64,
+    placed: Placed,
+) -> Result<usize, AllocError> {
     for i in from..others.len() {
         if moment <= others[i].step && placed.behind <= i {
-            return i;
+            return Ok(i);
         }
+        order.push(others[i].call)?;
     }
-    others.len()
+    Ok(others.len())
 }
 
 /// The puts and the other calls in one order.
@@ -339,20 +346,16 @@ fn merged(
     puts: &[Placed],
     others: &[Other],
 ) -> Result<Vec<usize>, AllocError> {
-    let mut order = Vec::new(alloc);
+    let mut order = Vec::with_capacity(alloc, facts.count())?;
     let mut moment = 0;
     let mut passed = 0;
     for placed in puts {
         moment = facts.at(placed.put).first.max(moment);
-        let next = first_behind(others, passed, moment, *placed);
-        for other in others.iter().take(next).skip(passed) {
-            order.push(other.call)?;
-        }
-        passed = next;
+        passed = push_before(&mut order, others, passed, moment, *placed)?;
         order.push(placed.put)?;
     }
-    for other in others.iter().skip(passed) {
-        order.push(other.call)?;
+    for i in passed..others.len() {
+        order.push(others[i].call)?;
     }
     Ok(order)
 }

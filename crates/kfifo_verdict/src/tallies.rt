@@ -1,6 +1,7 @@
 //! How often, when first and where last each item is put, or got.
 ghost use Rattle.std.specs.Prelude.{ℕ, ◌≡◌, ◌≢◌, ◌<◌, ◌+◌, ◌-◌, ◌≤◌, ◌^◌, Bool, true, false, length, IfOk, MatchOption};
 ghost use Rattle.std.specs.Prelude.{OnOk};
+ghost use Rattle.kfifo_model.specs.declared.effects.Side.TheVariants.{In, Out};
 ghost use Rattle.kfifo_verdict.specs.Finding.{IsTally, IsTallied, is_near, no_tally, tally_in};
 
 use kfifo_model::{Call, Effect, Side};
@@ -41,7 +42,7 @@ pub(crate) struct ByItem {
 }
 
 /// The place of an item in a list of this many tallies, the first of which is of the least item.
-fn near_place(least: u32, count: usize, item: u32) -> Option<usize>
+pub(crate) fn near_place(least: u32, count: usize, item: u32) -> Option<usize>
     ensures { MatchOption result (is_near least count item ≡ false)
         (λ place. (is_near least count item ≡ true) × (place ≡ item - least) × (place < count)) }
 {
@@ -72,6 +73,7 @@ fn with(tally: Tally, n: usize, first: u64) -> Tally
 }
 
 /// The calls of a side that have this item.
+#[inline(always)]
 pub(crate) fn tally_of(tallies: &ByItem, item: u32) -> Tally
     ensures { result ≡ tally_in tallies.now item }
 {
@@ -82,6 +84,7 @@ pub(crate) fn tally_of(tallies: &ByItem, item: u32) -> Tally
 }
 
 /// Puts a tally in the place of the item's.
+#[inline(always)]
 pub(crate) fn put_tally(tallies: &mut ByItem, item: u32, tally: Tally) -> Result<(), AllocError>
     ensures put { OnOk result (tally_in tallies.new item ≡ tally) }
     ensures others { OnOk result ((other : ℕ) → other ≢ item
@@ -99,8 +102,10 @@ pub(crate) fn put_tally(tallies: &mut ByItem, item: u32, tally: Tally) -> Result
 /// The items from the least to the greatest of some, or none where the least is the greater.
 #[derive(Clone, Copy)]
 pub(crate) struct ItemRange {
-    least: u32,
-    greatest: u32,
+    /// The least item.
+    pub least: u32,
+    /// The greatest item.
+    pub greatest: u32,
 }
 
 impl ItemRange {
@@ -120,8 +125,16 @@ impl ItemRange {
         }
     }
 
+    /// The range that has the items of both.
+    pub(crate) fn with(self, other: ItemRange) -> ItemRange {
+        ItemRange {
+            least: self.least.min(other.least),
+            greatest: self.greatest.max(other.greatest),
+        }
+    }
+
     /// How many items there are, if these are not much more than this many calls; else 0.
-    fn few(self, calls: usize) -> usize {
+    pub(crate) fn few(self, calls: usize) -> usize {
         let span = self.greatest.saturating_sub(self.least) as usize;
         if self.least <= self.greatest && span < calls.saturating_mul(MOST_PER_CALL) {
             span + 1
@@ -161,6 +174,43 @@ pub(crate) fn no_tallies(
     })
 }
 
+/// Counts a call, with this number and this first step, in the tally of its item.
+#[inline(always)]
+fn count_call(tallies: &mut ByItem, item: u32, n: usize, first: u64) -> Result<(), AllocError>
+    requires few { (tally_in tallies.old item).count ≤ n }
+    requires room { n < 2 ^ 63 }
+    ensures counted { OnOk result ((test : ℕ → Bool) (firsts : ℕ → ℕ)
+        → IsTally test firsts n (tally_in tallies.old item) → test n ≡ true → firsts n ≡ first
+        → IsTally test firsts (n + 1) (tally_in tallies.new item)) }
+    ensures others { OnOk result ((other : ℕ) → other ≢ item
+        → tally_in tallies.new other ≡ tally_in tallies.old other) }
+{
+    let tally = with(tally_of(tallies, item), n, first);
+    put_tally(tallies, item, tally)
+}
+
+/// The tallies of the items that calls put, and those of the items that calls got, which lie in these ranges.
+pub(crate) fn both_tallies(
+    alloc: Global,
+    calls: &[Call],
+    put: ItemRange,
+    got: ItemRange,
+) -> Result<(ByItem, ByItem), AllocError>
+    ensures { IfOk result (λ both. IsTallied calls.now In (length calls.now) (tally_in both.0)
+        × IsTallied calls.now Out (length calls.now) (tally_in both.1)) }
+{
+    let mut puts = no_tallies(alloc, calls.len(), put)?;
+    let mut gets = no_tallies(alloc, calls.len(), got)?;
+    for (n, call) in calls.iter().enumerate() {
+        match call.effect() {
+            Effect::Adds(item) => count_call(&mut puts, item, n, call.first)?,
+            Effect::Takes(item) => count_call(&mut gets, item, n, call.first)?,
+            _ => {}
+        }
+    }
+    Ok((puts, gets))
+}
+
 /// The tallies of the items on a side, which lie in this range.
 pub(crate) fn tallies(
     alloc: Global,
@@ -173,8 +223,7 @@ pub(crate) fn tallies(
     let mut tallies = no_tallies(alloc, calls.len(), range)?;
     for (n, call) in calls.iter().enumerate() {
         if let Some(item) = side.item_of(call) {
-            let tally = with(tally_of(&tallies, item), n, call.first);
-            put_tally(&mut tallies, item, tally)?;
+            count_call(&mut tallies, item, n, call.first)?;
         }
     }
     Ok(tallies)

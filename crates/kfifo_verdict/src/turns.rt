@@ -8,16 +8,16 @@ ghost use Rattle.std.specs.Prelude.{ℕ, ◌≡◌, ◌+◌, ◌<◌, ◌≤◌,
 ghost use Rattle.std.specs.Prelude.{IfSome, IsSome};
 ghost use Rattle.kfifo_model.specs.Histories.{IsLegal};
 ghost use Rattle.kfifo_model.specs.Validity.{IsHistory};
-ghost use Rattle.kfifo_verdict.specs.Finding.{ArePresences, AreStays, AreLongest, IsIndexed};
+ghost use Rattle.kfifo_verdict.specs.Finding.{ArePuts, AreGets, ArePresences, AreStays, AreLongest, IsIndexed};
 ghost use Rattle.kfifo_verdict.specs.Judging.{HasNoEvidence, IsPlain};
 ghost use Rattle.kfifo_verdict.specs.Plain.{presence, IsLate, IsDue, ArePlaces, IsLine, AreIdle, AreTurns, AreNumbered};
 ghost use Rattle.kfifo_verdict.specs.Plain.{IsByTurns};
 
-use crate::finding::{Covered, Stay, cover, longest_stays};
+use crate::finding::{Covered, Stay, cover};
 use crate::precedence::first_after;
 use crate::presences::{Items, Presence};
 use crate::sorting::sort_nearly;
-use crate::tallies::tally_of;
+use crate::tallies::{ByItem, tally_of};
 use kfifo_model::{Call, Effect};
 use std::alloc::{AllocError, Global};
 
@@ -195,8 +195,9 @@ fn by_turns(alloc: Global, turns: &[Turn]) -> Result<Vec<usize>, AllocError>
 }
 
 /// Whether each item that is put is single, and each call has ended.
-pub(crate) fn is_plain(calls: &[Call], items: &Items) -> bool
-    requires { IsIndexed calls.now items.now }
+pub(crate) fn is_plain(calls: &[Call], puts: &ByItem, gets: &ByItem) -> bool
+    requires puts { ArePuts calls.now puts.now }
+    requires gets { AreGets calls.now gets.now }
     ensures { IsTrue result ↔ IsPlain calls.now }
 {
     for n in 0..calls.len() {
@@ -204,7 +205,7 @@ pub(crate) fn is_plain(calls: &[Call], items: &Items) -> bool
             return false;
         }
         if let Effect::Adds(item) = calls[n].effect() {
-            if tally_of(&items.puts, item).count != 1 || tally_of(&items.gets, item).count > 1 {
+            if tally_of(puts, item).count != 1 || tally_of(gets, item).count > 1 {
                 return false;
             }
         }
@@ -221,11 +222,11 @@ fn plain_order(alloc: Global, calls: &[Call], items: &Items) -> Result<Vec<usize
     ensures { IfOk result (λ order. IsLegal 1 calls.now order.items) }
 {
     let presences = items.presences.as_slice();
-    let stays = longest_stays(alloc, calls, presences)?;
-    let places = line_of(alloc, calls, presences, stays.as_slice())?;
+    let stays = items.stays.as_slice();
+    let places = line_of(alloc, calls, presences, stays)?;
     let line = places.as_slice();
     let rank = line.len() + line.len();
-    let idle = idle_turns(alloc, calls, presences, stays.as_slice(), rank)?;
+    let idle = idle_turns(alloc, calls, presences, stays, rank)?;
     let turns = with_items(calls, presences, line, idle);
     by_turns(alloc, turns.as_slice())
 }
@@ -243,7 +244,7 @@ pub(crate) fn order_of_plain(
     ensures legal { IfOk result (λ found. IfSome found (λ order. IsLegal 1 calls.now order.items)) }
     ensures complete { IsPlain calls.now → IfOk result (λ found. IsSome found) }
 {
-    if is_plain(calls, items) {
+    if items.plain {
         Ok(Some(plain_order(alloc, calls, items)?))
     } else {
         Ok(None)

@@ -1,4 +1,6 @@
 //! What can be said of a history.
+ghost use Rattle.std.specs.Prelude.{◌≡◌, ◌↔◌, IsTrue, option_map};
+ghost use Rattle.kfifo_verdict.specs.Naming.{IsForEachK, call_in, puts_in};
 
 /// A few calls that leave a history no legal order. Calls are named by their numbers.
 #[derive(Debug, PartialEq, Eq, Drop)]
@@ -33,6 +35,44 @@ pub enum Evidence {
         /// The puts of k of them, by rising number.
         puts: Vec<usize>,
     },
+}
+
+impl Evidence {
+    /// Returns the number of the call that got an item or found none.
+    pub fn call(&self) -> usize
+        ensures { result ≡ call_in self.now }
+    {
+        match self {
+            Evidence::NeverPut(get) | Evidence::TakenTwice(get) | Evidence::TakenTooSoon(get) =>
+                *get,
+            Evidence::TooYoung { get, .. } | Evidence::OlderLeft { get, .. } => *get,
+            Evidence::NotEmpty { empty, .. } | Evidence::ItemsLeft(empty) => *empty,
+        }
+    }
+
+    /// Returns the numbers of the puts that it names; none of the kinds 1, 2, 5 and 6, which name no puts.
+    pub fn puts(&self) -> Option<&[usize]>
+        ensures { option_map (λ puts. puts.now) result ≡ puts_in self.now }
+    {
+        match self {
+            Evidence::NotEmpty { puts, .. }
+            | Evidence::TooYoung { puts, .. }
+            | Evidence::OlderLeft { puts, .. } => Some(puts.as_slice()),
+            Evidence::NeverPut(_) | Evidence::TakenTwice(_) => None,
+            Evidence::TakenTooSoon(_) | Evidence::ItemsLeft(_) => None,
+        }
+    }
+
+    /// Whether it leaves no order for any k. The kinds 4 and 7 are about one k.
+    pub fn is_for_each_k(&self) -> bool
+        ensures { IsTrue result ↔ IsForEachK self.now }
+    {
+        match self {
+            Evidence::NeverPut(_) | Evidence::TakenTwice(_) | Evidence::NotEmpty { .. } => true,
+            Evidence::TakenTooSoon(_) | Evidence::ItemsLeft(_) => true,
+            Evidence::TooYoung { .. } | Evidence::OlderLeft { .. } => false,
+        }
+    }
 }
 
 /// Why the search for an order found none.

@@ -63,6 +63,8 @@ struct Exit {
 /// The search for an order.
 #[derive(Drop)]
 struct Walk {
+    /// Where memory comes from.
+    alloc: Global,
     /// What is known of the calls.
     facts: Facts,
     /// How many of the oldest items may be got.
@@ -89,17 +91,23 @@ impl Walk {
         let facts = Facts::of(alloc, calls)?;
         let state = State::new(alloc, &facts)?;
         Ok(Walk {
+            alloc,
             facts,
             k,
             state,
             choices: Vec::new(alloc),
-            seen: Seen::new(alloc, calls.len())?,
+            seen: Seen::new(alloc, calls.len()),
         })
     }
 
     /// The order.
-    fn into_order(self, alloc: Global) -> Result<Vec<usize>, AllocError> {
-        let Walk { facts, state, .. } = self;
+    fn into_order(self) -> Result<Vec<usize>, AllocError> {
+        let Walk {
+            alloc,
+            facts,
+            state,
+            ..
+        } = self;
         state.into_order(alloc, &facts)
     }
 
@@ -310,7 +318,7 @@ impl Walk {
         state: Option<u64>,
     ) -> Result<bool, AllocError> {
         if let Some(print) = state {
-            if self.seen.meet(print) {
+            if self.seen.meet(self.alloc, print)? {
                 return Ok(true);
             }
         }
@@ -403,7 +411,7 @@ fn found_order(
 ) -> Result<Result<Vec<usize>, Stuck>, AllocError> {
     let mut walk = Walk::new(alloc, calls, k)?;
     match walk.run(tries)? {
-        None => Ok(Ok(walk.into_order(alloc)?)),
+        None => Ok(Ok(walk.into_order()?)),
         Some(stuck) => Ok(Err(stuck)),
     }
 }

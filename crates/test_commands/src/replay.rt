@@ -1,8 +1,8 @@
 //! What a replay tells of how far it has come.
 
-use kfifo_cli_commands::{Progress, Status, carry_out};
+use kfifo_cli_commands::{Failure, Notes, Progress, Status, carry_out};
 use kfifo_cli_requests::{ReplayOptions, Request, Sizes};
-use kfifo_cli_texts::{Fault, Printer};
+use kfifo_cli_texts::Printer;
 use kfifo_judge::FromStd;
 use kfifo_words::MAX_VERSION;
 use std::alloc::{AllocError, Global};
@@ -12,9 +12,9 @@ use std::rt::Files;
 use std::test::Fail;
 use std::thread::Threads;
 
-/// Notes what it is told.
+/// Counts what it is told.
 #[derive(Drop)]
-struct Notes {
+struct Counted {
     calls: u64,
     made: u64,
     all: u64,
@@ -22,7 +22,7 @@ struct Notes {
     endings: u64,
 }
 
-impl Progress for Notes {
+impl Progress for Counted {
     fn told(&mut self, made: u64, all: u64) {
         self.calls = self.calls.saturating_add(1);
         self.fell = self.fell || made < self.made || all < made;
@@ -33,10 +33,10 @@ impl Progress for Notes {
     fn ended(&mut self) {
         self.endings = self.endings.saturating_add(1);
     }
+}
 
-    fn refused(&mut self, _alloc: Global, _log: &[u8]) {}
-
-    fn explained(&mut self, _fault: Fault) {}
+impl Notes for Counted {
+    fn explained(&mut self, _failure: &Failure) {}
 }
 
 /// So many rounds of 64 threads, in which each is picked once, and a pick more.
@@ -70,7 +70,7 @@ fn scripts(alloc: Global) -> Result<String, AllocError> {
 fn notes_of<R: Threads + Files + AllocGlobal + Sync>(
     rt: &R,
     rounds: u32,
-) -> Result<Option<Notes>, AllocError> {
+) -> Result<Option<Counted>, AllocError> {
     let alloc = rt.alloc();
     let picks = picks(alloc, rounds)?;
     let line = scripts(alloc)?;
@@ -93,7 +93,7 @@ fn notes_of<R: Threads + Files + AllocGlobal + Sync>(
     };
     let mut input = FromStd::new(io::empty());
     let (mut output, mut faults) = (Vec::new(alloc), Vec::new(alloc));
-    let mut notes = Notes {
+    let mut notes = Counted {
         calls: 0,
         made: 0,
         all: 0,

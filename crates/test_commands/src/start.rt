@@ -1,8 +1,7 @@
 //! The hint of a reader that waits, and the line of the progress.
 
-use kfifo_cli_commands::{Progress, Prompting, Showing};
-use kfifo_cli_texts::Fault;
-use kfifo_import::ImportFault;
+use kfifo_cli_commands::{Failure, Notes, Progress, Prompting, Showing};
+use kfifo_import::import_text;
 use std::io;
 use std::io::Read;
 use std::test::Fail;
@@ -66,8 +65,10 @@ const WRONG: &str = "line 3: op is \"push\", allowed are enq and deq\n";
 fn shows_the_wrong_field_of_a_log(rt: HostRuntime) -> Result<(), Fail> {
     let mut notes = Vec::new(rt.alloc());
     let mut progress = Showing::new(&Still(2), None, None, &mut notes);
-    progress.refused(rt.alloc(), LOG.as_bytes());
-    progress.explained(Fault::Import(ImportFault::NotACall(3)));
+    let Err(refusal) = import_text(rt.alloc(), LOG.as_bytes()) else {
+        return Err(Fail::new("a log with an operation that there is not is refused"));
+    };
+    progress.explained(&Failure::from(refusal));
     drop(progress);
     assert_eq!(rt; notes.as_slice(), WRONG.as_bytes());
     Ok(())

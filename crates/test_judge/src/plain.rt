@@ -85,15 +85,15 @@ pub fn least_record(
 }
 
 pub fn read_log(alloc: Global, text: &[u8]) -> Result<Log, ImportFault> {
-    kfifo_import::read_log(alloc, text)
+    Ok(kfifo_import::read_log(alloc, text)?)
 }
 
 pub fn read_log_to_judge(alloc: Global, text: &[u8]) -> Result<Log, ImportFault> {
-    kfifo_import::read_log_to_judge(alloc, text)
+    Ok(kfifo_import::read_log_to_judge(alloc, text)?)
 }
 
 pub fn import_text(alloc: Global, text: &[u8]) -> Result<History, ImportFault> {
-    kfifo_import::import_text(alloc, text)
+    Ok(kfifo_import::import_text(alloc, text)?)
 }
 
 pub fn draw(

@@ -32,6 +32,7 @@ use crate::input::input_of;
 use crate::pictures::{add_picture, form_line};
 use crate::plain;
 use crate::streams::{Input, Output, Page, Pieces};
+use kfifo_import::Refusal;
 use kfifo_judge::FromStd;
 use kfifo_model::History;
 use serde_json::Value;
@@ -221,15 +222,20 @@ fn add_of_record(
 fn add_log(alloc: Global, input: &str, lines: &mut Vec<String>) -> Result<(), AllocError> {
     match plain::import_text(alloc, input.as_bytes()) {
         Ok(history) => add_calls(alloc, &history, lines),
-        Err(fault) => Ok(lines.push(plain::told(alloc, &fault)?)?),
+        Err(refusal) => Ok(lines.push(plain::told(alloc, &refusal.fault)?)?),
     }
 }
 
 /// The line of the field of a log that is wrong.
 fn wrong_line(alloc: Global, input: &str) -> Result<String, AllocError> {
-    match plain::wrong_field(alloc, input.as_bytes())? {
-        Some(wrong) => wrong.to_string(alloc),
-        None => "none".to_string(alloc),
+    match plain::import_text(alloc, input.as_bytes()) {
+        Err(
+            Refusal {
+                wrong: Some(wrong),
+                ..
+            },
+        ) => wrong.to_string(alloc),
+        _ => "none".to_string(alloc),
     }
 }
 

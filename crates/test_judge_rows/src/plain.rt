@@ -3,7 +3,7 @@
 
 use crate::streams::{Input, Output};
 use kfifo_draw::{DrawFault, Drawing, Marking, Part, Style};
-use kfifo_import::{ImportFault, WrongField};
+use kfifo_import::Refusal;
 use kfifo_judge::{Outcome, StreamFault};
 use kfifo_model::History;
 use serde_json::Value;
@@ -100,12 +100,8 @@ pub(crate) fn read_record(alloc: Global, bytes: &[u8]) -> Result<History, Stream
     kfifo_judge::read_record(alloc, bytes)
 }
 
-pub(crate) fn import_text(alloc: Global, bytes: &[u8]) -> Result<History, ImportFault> {
+pub(crate) fn import_text(alloc: Global, bytes: &[u8]) -> Result<History, Refusal> {
     kfifo_import::import_text(alloc, bytes)
-}
-
-pub(crate) fn wrong_field(alloc: Global, bytes: &[u8]) -> Result<Option<WrongField>, AllocError> {
-    kfifo_import::wrong_field(alloc, bytes)
 }
 
 pub(crate) fn evidence(alloc: Global, history: &History, k: u32) -> Result<String, AllocError> {

@@ -5,12 +5,12 @@ ghost use Rattle.kfifo_cli_commands.specs.Cuts.{LacksEvidence};
 ghost use Rattle.kfifo_cli_commands.specs.Inputs.{read_from};
 ghost use Rattle.kfifo_cli_commands.specs.Pictures.{HasFew, IsDraw, IsDrawRefusal, IsNoPicture, IsNotDrawn};
 ghost use Rattle.kfifo_cli_commands.specs.Pictures.{IsPicture, IsPictureOf};
-ghost use Rattle.kfifo_cli_commands.specs.Records.{IsOrder, IsOrderFault, ReadsWell};
+ghost use Rattle.kfifo_cli_commands.specs.Records.{IsOrder, IsOrderFault, FailsWell};
 ghost use Rattle.kfifo_draw.specs.Drawing.{AreFew, AreMany, IsInPart};
 
 use crate::cut::{Cut, cut_of, is_of_lines, part_of};
+use crate::failure::Failure;
 use crate::input::{read_calls, read_given};
-use crate::progress::Progress;
 use kfifo_cli_requests::DrawOptions;
 use kfifo_cli_texts::{Fault, order_of};
 use kfifo_draw::{DEFAULT_WIDTH, DrawFault, Drawing, Marking, Part, Style, draw};
@@ -22,25 +22,25 @@ use std::alloc::Global;
 use std::rt::Files;
 
 /// The picture of the calls of the file, or of the input where no file is named: of all of them, or of the part that
-/// the options ask for. If a line of a log is no call, the progress is told.
-pub fn answer<H: Files, S: Source, P: Progress>(
+/// the options ask for.
+pub fn answer<H: Files, S: Source>(
     alloc: Global,
     files: &H,
     options: DrawOptions<'_>,
     input: &mut S,
-    progress: &mut P,
-) -> Result<String, Fault>
+) -> Result<String, Failure>
     ensures ok { IfOk result (λ _. IsDraw options.entry (read_from options.entry.file (S.remaining input.old))) }
-    ensures err { IfErr result (IsDrawRefusal options.entry (read_from options.entry.file (S.remaining input.old))
-        (S.failed input.old) (S.failed input.new)) }
-    ensures silent { IfErr result (λ fault. fault ≢ Fault.Output) }
-    ensures reads { ReadsWell result (S.failed input.old) (S.failed input.new) }
+    ensures err { IfErr result (λ failure. IsDrawRefusal options.entry
+        (read_from options.entry.file (S.remaining input.old)) (S.failed input.old) (S.failed input.new) failure.fault) }
+    ensures silent { IfErr result (λ failure. failure.fault ≢ Fault.Output) }
+    ensures reads { FailsWell result (S.failed input.old) (S.failed input.new) }
     ensures aside { IsSome options.entry.file → input.new ≡ input.old }
 {
     let cut = cut_of(options)?;
     let order = order_given(alloc, files, options)?;
     let bytes = read_given(alloc, files, options.file, input)?;
-    picture(alloc, bytes.as_slice(), options, cut, &order, progress)
+    let text = picture(alloc, bytes.as_slice(), options, cut, &order)?;
+    Ok(text)
 }
 
 /// The order that is to be drawn too, where one is given.
@@ -72,26 +72,27 @@ fn style_of(options: DrawOptions<'_>) -> Style {
 }
 
 /// The picture of these calls of an input, with this order.
-fn picture<P: Progress>(
+fn picture(
     alloc: Global,
     bytes: &[u8],
     options: DrawOptions<'_>,
     cut: Cut,
     order: &Option<Vec<usize>>,
-    progress: &mut P,
-) -> Result<String, Fault>
+) -> Result<String, Failure>
     ensures { MatchResult result (λ _. IsPicture options.entry.check.k options.entry.evidence cut bytes.now)
-        (IsNoPicture options.entry.check.k options.entry.evidence cut bytes.now) }
+        (λ failure. IsNoPicture options.entry.check.k options.entry.evidence cut bytes.now failure.fault) }
 {
-    let calls = read_calls(alloc, bytes, progress)?;
+    let calls = read_calls(alloc, bytes)?;
     let history = &calls.history;
     if let Some(logged) = &calls.logged {
-        return picture_of(alloc, history, logged.as_slice(), options, cut, order);
+        let text = picture_of(alloc, history, logged.as_slice(), options, cut, order)?;
+        return Ok(text);
     }
     if is_of_lines(cut) {
-        return Err(Fault::NoLines);
+        return Err(Failure::from(Fault::NoLines));
     }
-    picture_of(alloc, history, &[], options, cut, order)
+    let text = picture_of(alloc, history, &[], options, cut, order)?;
+    Ok(text)
 }
 
 /// The picture of these calls of a history, with this order.

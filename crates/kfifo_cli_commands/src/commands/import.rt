@@ -2,35 +2,34 @@
 ghost use Rattle.std.specs.Prelude.{◌≡◌, ◌≢◌, IfErr, IfOk, IsSome, string_bytes};
 ghost use Rattle.kfifo_cli_commands.specs.Imports.{IsImport, IsImportRefusal};
 ghost use Rattle.kfifo_cli_commands.specs.Inputs.{read_from};
-ghost use Rattle.kfifo_cli_commands.specs.Records.{ReadsWell};
+ghost use Rattle.kfifo_cli_commands.specs.Records.{FailsWell};
 
-use crate::input::{import_telling, read_given};
-use crate::progress::Progress;
+use crate::failure::Failure;
+use crate::input::read_given;
 use kfifo_cli_requests::ImportOptions;
 use kfifo_cli_texts::{Fault, record_line};
+use kfifo_import::import_text;
 use kfifo_judge::Source;
 use std::alloc::Global;
 use std::rt::Files;
 
-/// The line of the record of the log in the file, or in the input where no file is named. If a line of it is no call,
-/// the progress is told.
-pub fn answer<H: Files, S: Source, P: Progress>(
+/// The line of the record of the log in the file, or in the input where no file is named.
+pub fn answer<H: Files, S: Source>(
     alloc: Global,
     files: &H,
     options: ImportOptions<'_>,
     input: &mut S,
-    progress: &mut P,
-) -> Result<String, Fault>
+) -> Result<String, Failure>
     ensures ok { IfOk result (λ text. IsImport (read_from options.entry.file (S.remaining input.old))
         (string_bytes text)) }
-    ensures err { IfErr result (IsImportRefusal (read_from options.entry.file (S.remaining input.old))
-        (S.failed input.old) (S.failed input.new)) }
-    ensures silent { IfErr result (λ fault. fault ≢ Fault.Output) }
-    ensures reads { ReadsWell result (S.failed input.old) (S.failed input.new) }
+    ensures err { IfErr result (λ failure. IsImportRefusal (read_from options.entry.file (S.remaining input.old))
+        (S.failed input.old) (S.failed input.new) failure.fault) }
+    ensures silent { IfErr result (λ failure. failure.fault ≢ Fault.Output) }
+    ensures reads { FailsWell result (S.failed input.old) (S.failed input.new) }
     ensures aside { IsSome options.entry.file → input.new ≡ input.old }
 {
     let bytes = read_given(alloc, files, options.file, input)?;
-    let history = import_telling(alloc, bytes.as_slice(), progress)?;
+    let history = import_text(alloc, bytes.as_slice())?;
     let text = record_line(alloc, &history)?;
     Ok(text)
 }

@@ -13,17 +13,17 @@ returns-in_err-print-in-Run-clause-broken g c = any_err c.from_residual-in_err-p
 
 pub returns-in_err-print-in-Check-clause-broken : goal.returns-in_err-print-in-Check-clause-broken
 returns-in_err-print-in-Check-clause-broken g c = any_err c.from_residual-in_err-print-in-Check.result _ (λ fault is. (
-  c.as_slice.result.now,
+  c.as_bytes-in-Check.result.now,
   status_number c.in_ok-text-in-Check.status,
-  rw (c.in-Check.is, c.as_slice.ensures.value) c.in_ok-text-in-Check.ensures.ok,
+  rw (c.in-Check.is, c.as_bytes-in-Check.ensures.value) c.in_ok-text-in-Check.ensures.ok,
   c.in_err-print-in-Check.ensures.err,
 ))
 
 pub returns-in_err-print-in-Measure-clause-broken : goal.returns-in_err-print-in-Measure-clause-broken
 returns-in_err-print-in-Measure-clause-broken g c = any_err c.from_residual-in_err-print-in-Measure.result _ (λ fault is. (
-  c.as_slice-in-Measure.result.now,
+  c.as_bytes-in-Measure.result.now,
   0,
-  rw (c.in-Measure.is, c.as_slice-in-Measure.ensures.value) (c.in_ok-text-in-Measure.ensures.ok, refl),
+  rw (c.in-Measure.is, c.as_bytes-in-Measure.ensures.value) (c.in_ok-text-in-Measure.ensures.ok, refl),
   c.in_err-print-in-Measure.ensures.err,
 ))
 

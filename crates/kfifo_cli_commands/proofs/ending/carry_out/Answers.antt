@@ -9,7 +9,7 @@ use Rattle.kfifo_cli_commands.proofs.ending.carry_out.Goals as goal
 
 pub returns-in-Err : goal.returns-in-Err
 returns-in-Err g c =
-    let fault = c.in-Err.fault in
+    let fault = c.in-Err.failure.fault in
     let input = g.S.Source.remaining c.args.input.now in
     let before = g.S.Source.failed c.args.input.now in
     let after = g.S.Source.failed c.answer.new.input in

@@ -4,8 +4,9 @@ use Rattle.csv.specs.Records.{fields_of}
 use Rattle.kfifo_import.specs.Rows.{IsNextRow, behind_ends, first_row}
 use Rattle.kfifo_import.specs.Tables.{IsTextFault}
 use Rattle.kfifo_import.specs.Taking.{row_at}
+use Rattle.kfifo_import.specs.Wrong.{TellsWrong}
 use Rattle.kfifo_import.proofs.Fronts.{behind_same}
-use Rattle.kfifo_import.proofs.Readings.{IsBehind, next_row, not_taken, read_fault, row_behind, stands_next, takes_few, width_same}
+use Rattle.kfifo_import.proofs.Readings.{next_row, not_taken, read_fault, stands_next, takes_few, width_same, wrong_told}
 use Rattle.kfifo_import.proofs.Rows.{Holds, takes_row}
 use Rattle.kfifo_import.proofs.table.lines_of.Goals as goal
 
@@ -77,8 +78,8 @@ returns-in-Err-clause-err c =
     (read_fault rem plain inv.3 a b table.columns table.lines.items front c.in-Err.error.kind c.fault_of.result inv.4
     c.row_front-front.ensures.is at inv.7 step (rw c.kind.ensures at c.fault_of.ensures)))
 
-pub returns-in_err-take-in-Ok-clause-row : goal.returns-in_err-take-in-Ok-clause-row
-returns-in_err-take-in-Ok-clause-row c =
+pub returns-in_err-take-in-Ok-clause-wrong : goal.returns-in_err-take-in-Ok-clause-wrong
+returns-in_err-take-in-Ok-clause-wrong c =
     let inv = c.loop-row.invariant in
     let plain = c.without_mark-plain.result.now in
     let table = c.loop-row.table in
@@ -92,8 +93,8 @@ returns-in_err-take-in-Ok-clause-row c =
     let next : IsNextRow plain inv.3 (row_at front.line fields) =
     next_row rem plain inv.3 a b front fields inv.4 c.row_front-front.ensures.is at step.0 in
     let width = width_same rem a b inv.3 fields inv.4 step.0 in
-    let behind : IsBehind (strip_bom c.args.text.now) refusal.refused =
-    subst (λ t. IsBehind t refusal.refused) inv.1
-    (row_behind plain inv.3 table.columns table.lines.items a.expected front.line fields refusal.fault refusal.refused next width.1
-    inv.7 c.in_err-take-in-Ok.ensures.row) in
+    let told : TellsWrong (strip_bom c.args.text.now) refusal.wrong refusal.fault =
+    subst (λ t. TellsWrong t refusal.wrong refusal.fault) inv.1
+    (wrong_told plain inv.3 table.columns table.lines.items a.expected front.line fields refusal.wrong refusal.fault next width.1
+    inv.7 c.in_err-take-in-Ok.ensures.err c.in_err-take-in-Ok.ensures.wrong) in
     search rules

@@ -10,7 +10,7 @@ use Rattle.kfifo_judge_c.proofs.calls.log_from.Goals.{in-Some+else-place-lt-MAX_
 
 pub with_puttable_items-requires : goal.with_puttable_items-requires
 with_puttable_items-requires c =
-    subst (λ (lines : List Line). length lines ≤ MAX_CALLS) (sym (c.as_slice.ensures.value ∙ c.in_ok-lines.ensures))
+    subst (λ (lines : List Line). length lines ≤ MAX_CALLS) (sym c.in_ok-lines.ensures)
     (few c.args.calls.now c.if-calls-gt-MAX_CALLS.false)
 
 pub returns : goal.returns
@@ -22,6 +22,5 @@ returns c =
       | in_default w ↦ sym c.first_unknown.ensures ∙ w.in_default.is
     ] in
     let to_judge : AreToJudge (lines_of calls) c.in_ok-judged.judged.items =
-    subst (λ (lines : List Line). AreToJudge lines c.in_ok-judged.judged.items) (c.as_slice.ensures.value ∙ c.in_ok-lines.ensures)
-    c.in_ok-judged.ensures in
+    subst (λ (lines : List Line). AreToJudge lines c.in_ok-judged.judged.items) c.in_ok-lines.ensures c.in_ok-judged.ensures in
     of_calls calls c.in_ok-judged.judged.items c.log_of.result known to_judge c.log_of.ensures

@@ -11,7 +11,7 @@ returns c =
     let h = c.args.calls.now in
     let ps = c.as_slice-presences.result.now in
     let line = c.as_slice-line.result.now in
-    let ts = c.as_slice-3.result.now in
+    let ts = c.as_slice.result.now in
     let P : List Presence → Type 0 = λ w. ArePresences h (length h) w in
     let L : List (ℕ × ℕ × ℕ) → Type 0 = λ w. IsLine h ps w in
     let T : List Turn → Type 0 = λ w. AreTurns h ps line (length line) w in
@@ -22,5 +22,5 @@ returns c =
       clear = c.requires.clear;
     } in
     let is_line = subst L (sym c.as_slice-line.ensures.value) c.in_ok-places.ensures in
-    let turns = subst T (sym c.as_slice-3.ensures.value) c.with_items-turns.ensures in
+    let turns = subst T (sym c.as_slice.ensures.value) c.with_items-turns.ensures in
     IfOk-weaker c.by_turns.result _ _ (λ order b. legal_by_turns h ps line ts scene is_line turns order.items b) c.by_turns.ensures

@@ -1,12 +1,9 @@
 use Rattle.std.proofs.Common.{◌≡◌, ◌≢◌, List, ℕ, rules, subst, sym}
 use Rattle.kfifo_cli_texts.specs.declared.fault.Fault.TheVariants.{Output}
-use Rattle.kfifo_cli_texts.proofs.Outcomes.{ok_to}
 use Rattle.kfifo_cli_commands.specs.Inputs.{read_from}
 use Rattle.kfifo_cli_commands.specs.Pictures.{IsDrawRefusal}
 use Rattle.kfifo_cli_commands.specs.Records.{IsInput}
-use Rattle.kfifo_cli_commands.proofs.Drawing.{cut_refused, err_of, input_refused, ok_of, order_refused, picture_refused, read_well}
-use Rattle.kfifo_cli_commands.proofs.Drawing.{refusal_told, told}
-use Rattle.kfifo_cli_commands.proofs.Refusals.{err_to}
+use Rattle.kfifo_cli_commands.proofs.Drawing.{cut_refused, input_refused, order_refused, picture_refused, refusal_told}
 use Rattle.kfifo_cli_commands.proofs.commands.draw.answer.Goals as goal
 
 pub returns-in_err-cut-clause-err : goal.returns-in_err-cut-clause-err
@@ -40,37 +37,38 @@ returns-in_err-bytes-clause-err g c =
     input_refused (read_from c.args.options.file (g.S.Source.remaining c.args.input.now)) before after c.args.options c.in_err-bytes.field-0.0 c.in_err-bytes.ensures.err in
     search (rules, refusal)
 
+pub returns-in_err-text-clause-err : goal.returns-in_err-text-clause-err
+returns-in_err-text-clause-err g c =
+    let input = read_from c.args.options.file (g.S.Source.remaining c.args.input.now) in
+    let before = g.S.Source.failed c.args.input.now in
+    let after = g.S.Source.failed c.read_given.new.input in
+    let read = subst (λ (b : List ℕ). IsInput input b) (sym c.as_slice.ensures.value) c.in_ok-bytes.ensures.ok in
+    let fault = c.in_err-text.field-0.0.fault in
+    let refusal : IsDrawRefusal c.args.options input before after fault =
+    picture_refused input before after c.args.options c.in_ok-cut.cut c.in_ok-cut.ensures c.as_slice.result.now read fault
+    c.in_err-text.ensures in
+    search (rules, refusal)
+
+pub returns-in_err-text-clause-silent : goal.returns-in_err-text-clause-silent
+returns-in_err-text-clause-silent g c =
+    let input = read_from c.args.options.file (g.S.Source.remaining c.args.input.now) in
+    let at = g.S.Source.failed c.args.input.now in
+    let read = subst (λ (b : List ℕ). IsInput input b) (sym c.as_slice.ensures.value) c.in_ok-bytes.ensures.ok in
+    let fault = c.in_err-text.field-0.0.fault in
+    let told : fault ≢ Output = refusal_told input at at c.args.options fault
+    (picture_refused input at at c.args.options c.in_ok-cut.cut c.in_ok-cut.ensures c.as_slice.result.now read fault
+    c.in_err-text.ensures) in
+    search (rules, told)
+
 pub returns-clause-ok : goal.returns-clause-ok
 returns-clause-ok g c =
     let input = read_from c.args.options.file (g.S.Source.remaining c.args.input.now) in
-    let read = subst (λ (b : List ℕ). IsInput input b) (sym c.as_slice.ensures.value) c.in_ok-bytes.ensures.ok in
-    ok_to _ _ (λ text pictured. record {
+    record {
       cut = c.in_ok-cut.cut;
       asked = c.in_ok-cut.ensures;
       order = _;
       order_given = c.in_ok-order.ensures.ok;
       bytes = c.as_slice.result.now;
-      read = read;
-      pictured = pictured;
-    }) c.picture.result (ok_of _ _ c.picture.result c.picture.ensures)
-
-pub returns-clause-err : goal.returns-clause-err
-returns-clause-err g c =
-    let input = read_from c.args.options.file (g.S.Source.remaining c.args.input.now) in
-    let read = subst (λ (b : List ℕ). IsInput input b) (sym c.as_slice.ensures.value) c.in_ok-bytes.ensures.ok in
-    err_to _ _ (λ fault given. picture_refused input _ _ c.args.options c.in_ok-cut.cut c.in_ok-cut.ensures c.as_slice.result.now read fault
-    given)
-    c.picture.result (err_of _ _ c.picture.result c.picture.ensures)
-
-pub returns-clause-silent : goal.returns-clause-silent
-returns-clause-silent g c =
-    let input = read_from c.args.options.file (g.S.Source.remaining c.args.input.now) in
-    let at = g.S.Source.failed c.args.input.now in
-    let read = subst (λ (b : List ℕ). IsInput input b) (sym c.as_slice.ensures.value) c.in_ok-bytes.ensures.ok in
-    told input at at c.args.options c.picture.result
-    (err_to _ _ (λ fault given. picture_refused input at at c.args.options c.in_ok-cut.cut c.in_ok-cut.ensures c.as_slice.result.now
-    read fault given)
-    c.picture.result (err_of _ _ c.picture.result c.picture.ensures))
-
-pub returns-clause-reads : goal.returns-clause-reads
-returns-clause-reads g c = read_well c.picture.result _ _ c.in_ok-bytes.ensures.reads
+      read = subst (λ (b : List ℕ). IsInput input b) (sym c.as_slice.ensures.value) c.in_ok-bytes.ensures.ok;
+      pictured = c.in_ok-text.ensures;
+    }

@@ -2,7 +2,7 @@ use Rattle.std.proofs.Common.{◌≡◌, true, false, lit<}
 use Rattle.std.proofs.lemmas.Iterator.Consumers.{map_from_collect}
 use Rattle.std.proofs.lemmas.Iterator.Splits.{YieldsList-from_str_split}
 use Rattle.kfifo_cli_texts.proofs.Orders.{order_told}
-use Rattle.kfifo_cli_texts.proofs.words.read_order.Goals as goal
+use Rattle.kfifo_cli_texts.proofs.order.read_order.Goals as goal
 
 pub returns : goal.returns
 returns c =

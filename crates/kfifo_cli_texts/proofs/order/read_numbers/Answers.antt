@@ -2,7 +2,7 @@ use Rattle.std.proofs.Common.{inr, refl}
 use Rattle.kfifo_cli_texts.specs.Orders.{part_of}
 use Rattle.kfifo_cli_texts.specs.Words.{WritesNumber}
 use Rattle.kfifo_cli_texts.proofs.Each.{read_more, text_unread}
-use Rattle.kfifo_cli_texts.proofs.words.read_numbers.Goals as goal
+use Rattle.kfifo_cli_texts.proofs.order.read_numbers.Goals as goal
 
 pub loop-text-preserved : goal.loop-text-preserved
 loop-text-preserved c = rw c.in_ok-push-in-Some.ensures.items

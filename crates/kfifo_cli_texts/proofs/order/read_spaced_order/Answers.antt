@@ -3,7 +3,7 @@ use Rattle.std.proofs.lemmas.Iterator.Consumers.{map_from_collect}
 use Rattle.std.proofs.lemmas.Iterator.Splits.{YieldsList-from_str_split}
 use Rattle.kfifo_cli_texts.specs.Orders.{trimmed}
 use Rattle.kfifo_cli_texts.proofs.Orders.{spaced_told, trim_is}
-use Rattle.kfifo_cli_texts.proofs.words.read_spaced_order.Goals as goal
+use Rattle.kfifo_cli_texts.proofs.order.read_spaced_order.Goals as goal
 
 pub returns-then-eq : goal.returns-then-eq
 returns-then-eq c =

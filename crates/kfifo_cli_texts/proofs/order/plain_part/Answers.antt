@@ -1,7 +1,7 @@
 use Rattle.std.proofs.Common.{◌≡◌}
 use Rattle.kfifo_cli_texts.specs.Orders.{trimmed}
 use Rattle.kfifo_cli_texts.proofs.Orders.{trim_is}
-use Rattle.kfifo_cli_texts.proofs.words.plain_part.Goals as goal
+use Rattle.kfifo_cli_texts.proofs.order.plain_part.Goals as goal
 
 pub returns-then-is_spaced : goal.returns-then-is_spaced
 returns-then-is_spaced c =
