@@ -35,6 +35,7 @@ int main() {
             }
         } catch (const std::exception &error) {
             std::fprintf(stderr, "the consumer ended: %s\n", error.what());
+            handle.finish(); // the producer ends too
         }
     });
     producer.join();

@@ -4,6 +4,7 @@
 
 #include <stddef.h>
 #include <stdint.h>
+#include <string.h>
 
 #ifdef __cplusplus
 extern "C" {
@@ -20,20 +21,21 @@ typedef enum kfifo_status {
     KFIFO_GOT = 2,           /* an item, a value or a cell was taken */
     KFIFO_EMPTY = 3,         /* the queue was empty */
     KFIFO_BUSY = 4,          /* the call used up its rounds, and nothing was done: see kfifo_put and kfifo_enqueue */
-    KFIFO_WORN = 5,          /* a version would pass the greatest one; close this queue and open another */
+    KFIFO_WORN = 5,          /* the versions are used up, and were not renewed; close this queue and open another */
     KFIFO_BAD_CALL = 6,      /* a null pointer, an argument out of range, a handle closed or missing, or one that has no
                                 cell to publish, cancel or release; nothing done */
     KFIFO_NO_MEMORY = 7,     /* an allocation failed; nothing was done */
     KFIFO_BAD_THREADS = 8,   /* the number of threads is not 1 to 64; nothing was done */
     KFIFO_LOST = 9,          /* of a close: an allocation failed; the queue is closed, what was left in it is lost */
-    KFIFO_NO_TOKEN = 10,     /* of a give or a reserve: the handle has no token, and the pool none; nothing was done */
+    KFIFO_NO_TOKEN = 10,     /* of values and cells: the handle has no token, and the pool none; nothing was done */
     KFIFO_BAD_K = 11,        /* k is not 1 to 64 */
     KFIFO_BAD_SEGMENTS = 12, /* the number of segments is not 2 to 1,024 */
     KFIFO_BAD_LAST = 13,     /* the greatest version is not 2 to 2^40 - 1 */
     KFIFO_BAD_PROBES = 14,   /* the number of probes is not 1 to k */
     KFIFO_BAD_TOKENS = 15,   /* the number of tokens a thread is not 1 to 1,024 */
     KFIFO_TIMED_OUT = 16,    /* of a call that waits: its time was up; nothing was put or taken */
-    KFIFO_FINISHED = 17      /* of a queue whose threads wait: it was finished; nothing was put, or it was empty then */
+    KFIFO_FINISHED = 17,     /* of a queue whose threads wait: it was finished; nothing was put, or it was empty then */
+    KFIFO_BAD_RESERVE = 18   /* the reserve is not below the greatest version */
 } kfifo_status;
 
 /* The name of a status, as "KFIFO_EMPTY". */
@@ -42,7 +44,7 @@ static inline const char *kfifo_status_name(kfifo_status status) {
         "KFIFO_DONE",       "KFIFO_FULL",      "KFIFO_GOT",          "KFIFO_EMPTY",       "KFIFO_BUSY",
         "KFIFO_WORN",       "KFIFO_BAD_CALL",  "KFIFO_NO_MEMORY",    "KFIFO_BAD_THREADS", "KFIFO_LOST",
         "KFIFO_NO_TOKEN",   "KFIFO_BAD_K",     "KFIFO_BAD_SEGMENTS", "KFIFO_BAD_LAST",    "KFIFO_BAD_PROBES",
-        "KFIFO_BAD_TOKENS", "KFIFO_TIMED_OUT", "KFIFO_FINISHED",
+        "KFIFO_BAD_TOKENS", "KFIFO_TIMED_OUT", "KFIFO_FINISHED",     "KFIFO_BAD_RESERVE",
     };
     return (size_t)status < sizeof names / sizeof names[0] ? names[status] : "no status of this library";
 }
@@ -69,6 +71,7 @@ static inline const char *kfifo_status_text(kfifo_status status) {
     case KFIFO_BAD_TOKENS: return "the number of tokens a thread is not 1 to 1,024";
     case KFIFO_TIMED_OUT: return "the time was up";
     case KFIFO_FINISHED: return "the queue is finished";
+    case KFIFO_BAD_RESERVE: return "the reserve is not below the greatest version";
     }
     return "no status of this library";
 }
@@ -81,6 +84,8 @@ static inline int kfifo_may_retry(kfifo_status status) {
 
 /* The greatest version that a word can have, 2^40 - 1: what `last` should be. */
 #define KFIFO_LAST UINT64_C(1099511627775)
+/* The reserve of versions of a queue of values or cells, 2^32: with fewer left it goes on in its next generation. */
+#define KFIFO_RESERVE UINT64_C(4294967296)
 /* The greatest number of threads of a queue. The least is 1. */
 #define KFIFO_MAX_THREADS ((size_t)64)
 /* The greatest item, 2^24 - 1. The least is 1. */
@@ -103,10 +108,11 @@ typedef struct kfifo_value_pass {
     uint32_t starts;
 } kfifo_value_pass;
 
-/* A handle of a queue of cells, likewise. It is a type of its own, so that the compiler refuses a call with a handle of
-   the other kind of queue. */
+/* A handle of a queue of cells, likewise. */
 typedef struct kfifo_cell_pass {
-    kfifo_value_pass pass;
+    void *inside;
+    void *address;
+    uint32_t starts;
 } kfifo_cell_pass;
 
 /* The exports of the library, which test all but null pointers, and at a close that the handles are of one queue. Call
@@ -121,21 +127,28 @@ uint32_t kfifo_c_word(kfifo_pass *pass, size_t index, uint64_t *word);
 uint32_t kfifo_c_close(kfifo_pass *passes, size_t threads, uint32_t *items, size_t room, size_t *count);
 void kfifo_c_abandon(kfifo_pass *passes, size_t threads);
 uint32_t kfifo_c_open_values(uint32_t k, uint32_t segments, uint32_t probes, uint64_t last, uint32_t tokens,
-                             kfifo_value_pass *passes, size_t threads);
+                             uint64_t reserve, kfifo_value_pass *passes, size_t threads);
 uint32_t kfifo_c_give(kfifo_value_pass *pass, uint64_t value);
 uint32_t kfifo_c_take(kfifo_value_pass *pass, uint64_t *value);
-uint32_t kfifo_c_reserve(kfifo_value_pass *pass, uint64_t *cell);
-uint32_t kfifo_c_publish(kfifo_value_pass *pass);
-uint32_t kfifo_c_cancel(kfifo_value_pass *pass);
-uint32_t kfifo_c_receive(kfifo_value_pass *pass, uint64_t *cell);
-uint32_t kfifo_c_release(kfifo_value_pass *pass);
+size_t kfifo_c_values_room(kfifo_value_pass *passes, size_t threads);
 uint32_t kfifo_c_close_values(kfifo_value_pass *passes, size_t threads, uint64_t *values, size_t room, size_t *count);
 void kfifo_c_abandon_values(kfifo_value_pass *passes, size_t threads);
+uint32_t kfifo_c_open_cells(uint32_t k, uint32_t segments, uint32_t probes, uint64_t last, uint32_t tokens,
+                            uint64_t reserve, kfifo_cell_pass *passes, size_t threads);
+uint32_t kfifo_c_reserve(kfifo_cell_pass *pass, uint64_t *cell);
+uint32_t kfifo_c_publish(kfifo_cell_pass *pass);
+uint32_t kfifo_c_cancel(kfifo_cell_pass *pass);
+uint32_t kfifo_c_receive(kfifo_cell_pass *pass, uint64_t *cell);
+uint32_t kfifo_c_release(kfifo_cell_pass *pass);
+uint32_t kfifo_c_close_cells(kfifo_cell_pass *passes, size_t threads, uint64_t *cells, size_t room, size_t *count);
+void kfifo_c_abandon_cells(kfifo_cell_pass *passes, size_t threads);
 
 /* ThreadSanitizer does not see into the library. So the calls below tell it what the queue ensures: what a thread wrote
    before it put an item is seen by whoever takes that item, and what it did with a cell before it released it comes
    before what the next one to reserve that cell does. The second is told at another address, so that the one does not
-   hide that the other is missing. Without the sanitizer these are nothing. */
+   hide that the other is missing. `address` is the same in all generations of a queue. One thread may free a generation
+   that another one made, so what the library itself asks for and frees is left out. Without the sanitizer these are
+   nothing. */
 #if defined(__SANITIZE_THREAD__)
 #define KFIFO_TSAN 1
 #elif defined(__has_feature)
@@ -146,12 +159,18 @@ void kfifo_c_abandon_values(kfifo_value_pass *passes, size_t threads);
 #ifdef KFIFO_TSAN
 void __tsan_acquire(void *address);
 void __tsan_release(void *address);
+void AnnotateIgnoreWritesBegin(const char *file, int line);
+void AnnotateIgnoreWritesEnd(const char *file, int line);
+#define KFIFO_ENTER() AnnotateIgnoreWritesBegin(__FILE__, __LINE__)
+#define KFIFO_LEAVE() AnnotateIgnoreWritesEnd(__FILE__, __LINE__)
 #define KFIFO_BEFORE_PUT(pass) __tsan_release((pass)->address)
 #define KFIFO_AFTER_GOT(pass, status) ((status) == KFIFO_GOT ? __tsan_acquire((pass)->address) : (void)0)
 #define KFIFO_RELEASED(pass) ((void *)((char *)(pass)->address + 8))
 #define KFIFO_BEFORE_RELEASE(pass) ((pass)->starts ? __tsan_release(KFIFO_RELEASED(pass)) : (void)0)
 #define KFIFO_AFTER_RESERVE(pass, status) ((status) == KFIFO_DONE ? __tsan_acquire(KFIFO_RELEASED(pass)) : (void)0)
 #else
+#define KFIFO_ENTER() ((void)0)
+#define KFIFO_LEAVE() ((void)0)
 #define KFIFO_BEFORE_PUT(pass) ((void)0)
 #define KFIFO_AFTER_GOT(pass, status) ((void)0)
 #define KFIFO_BEFORE_RELEASE(pass) ((void)0)
@@ -163,6 +182,12 @@ static inline size_t kfifo_at_most_one_over(size_t threads) {
     return threads <= KFIFO_MAX_THREADS ? threads : KFIFO_MAX_THREADS + 1;
 }
 
+/* Closes the handles of an array that is to be opened. More than 64 are refused, so nothing beyond them is touched: a
+   number that is wrong says nothing about the array. */
+static inline void kfifo_zero(void *passes, size_t size, size_t threads) {
+    memset(passes, 0, size * (threads < KFIFO_MAX_THREADS ? threads : KFIFO_MAX_THREADS));
+}
+
 /* ---- A queue of items, which are numbers from 1 to KFIFO_MAX_ITEM ---- */
 
 /* Opens a queue of `segments` segments of k slots, and writes a handle for each thread into the array `passes`, whose
@@ -171,13 +196,7 @@ static inline size_t kfifo_at_most_one_over(size_t threads) {
 static inline kfifo_status kfifo_open(uint32_t k, uint32_t segments, uint32_t probes, uint64_t last, kfifo_pass *passes,
                                       size_t threads) {
     if (!passes) return KFIFO_BAD_CALL;
-    /* More than 64 handles are refused, so nothing beyond them is touched: a number that is wrong says nothing about
-       the array. */
-    for (size_t i = 0; i < threads && i < KFIFO_MAX_THREADS; i++) {
-        passes[i].inside = NULL;
-        passes[i].address = NULL;
-        passes[i].starts = 0;
-    }
+    kfifo_zero(passes, sizeof *passes, threads);
     return (kfifo_status)kfifo_c_open(k, segments, probes, last, passes, kfifo_at_most_one_over(threads));
 }
 
@@ -256,39 +275,53 @@ static inline kfifo_status kfifo_abandon(kfifo_pass *passes, size_t threads) {
     return KFIFO_DONE;
 }
 
-/* ---- A queue of values, which are 64-bit numbers or pointers ---- */
+/* ---- A queue of values, which are 64-bit numbers or pointers ----
 
-/* Opens a queue of values. Each thread begins with `tokens` tokens, 1 to KFIFO_MAX_TOKENS. A value in the queue has a
-   token, and the thread that takes the value gets it. A thread that has a batch more than it began with, 16 or
-   tokens / threads at most, returns a batch to the pool. So a thread has at most about `tokens` values that it gave and
-   nobody took.
-   DONE; BAD_CALL of a null pointer; BAD_K, BAD_SEGMENTS, BAD_THREADS, BAD_TOKENS, NO_MEMORY, and all handles are then
-   closed, at most the first 64. */
+   It does not wear out: before the versions of its words are used up, it goes on in a new *generation*, a queue of the
+   same sizes. Takes empty the old one first. Where generations meet, some 2^40 calls apart, a value may be overtaken by
+   one more for each other handle. A generation takes as much memory as the queue did at its opening, and is freed when
+   it is empty and no handle gives to it any more. A handle that makes no calls keeps the one it is in. A give or a take
+   asks for memory only where it opens or joins a generation. Where there is none, later gives ask again; only when the
+   reserve is used up too, calls return WORN. Then close the queue to have what is left, and open another. */
+
+/* Opens a queue of values with versions up to `last`, 2 to KFIFO_LAST, and a `reserve`, KFIFO_RESERVE unless you test
+   something: with fewer versions left, the queue goes on in its next generation. With reserve 0 it does not, and wears
+   out as a queue of items does. A reserve has to last until the old generation is empty: half of a small `last` will
+   do. Each thread begins with `tokens` tokens, 1 to KFIFO_MAX_TOKENS. A value in the queue has a token, and the thread
+   that takes the value gets it. A thread that has a batch more than it began with, 16 or tokens / threads at most,
+   returns a batch to the pool. So a thread has at most about `tokens` values that it gave and nobody took. DONE;
+   BAD_CALL of a null pointer; BAD_K, BAD_SEGMENTS, BAD_LAST, BAD_RESERVE of one that is not below `last`, BAD_THREADS,
+   BAD_TOKENS, NO_MEMORY, and all handles are then closed, at most the first 64. */
+static inline kfifo_status kfifo_open_values_with(uint32_t k, uint32_t segments, uint32_t tokens, uint64_t last,
+                                                  uint64_t reserve, kfifo_value_pass *passes, size_t threads) {
+    if (!passes) return KFIFO_BAD_CALL;
+    kfifo_zero(passes, sizeof *passes, threads);
+    return (kfifo_status)kfifo_c_open_values(k, segments, k, last, tokens, reserve, passes,
+                                             kfifo_at_most_one_over(threads));
+}
+
+/* Opens a queue of values that does not wear out. Returns what kfifo_open_values_with does. */
 static inline kfifo_status kfifo_open_values(uint32_t k, uint32_t segments, uint32_t tokens, kfifo_value_pass *passes,
                                              size_t threads) {
-    if (!passes) return KFIFO_BAD_CALL;
-    /* More than 64 handles are refused, so nothing beyond them is touched: a number that is wrong says nothing about
-       the array. */
-    for (size_t i = 0; i < threads && i < KFIFO_MAX_THREADS; i++) {
-        passes[i].inside = NULL;
-        passes[i].address = NULL;
-        passes[i].starts = 0;
-    }
-    return (kfifo_status)kfifo_c_open_values(k, segments, k, KFIFO_LAST, tokens, passes,
-                                             kfifo_at_most_one_over(threads));
+    return kfifo_open_values_with(k, segments, tokens, KFIFO_LAST, KFIFO_RESERVE, passes, threads);
 }
 
 /* Gives any value to the queue: DONE; else FULL, BUSY, WORN, NO_TOKEN or BAD_CALL, and the value stays the caller's. */
 static inline kfifo_status kfifo_give(kfifo_value_pass *pass, uint64_t value) {
     if (!pass) return KFIFO_BAD_CALL;
     KFIFO_BEFORE_PUT(pass);
-    return (kfifo_status)kfifo_c_give(pass, value);
+    KFIFO_ENTER();
+    kfifo_status status = (kfifo_status)kfifo_c_give(pass, value);
+    KFIFO_LEAVE();
+    return status;
 }
 
 /* Takes one of the k oldest values: GOT, and writes it; else EMPTY, BUSY, WORN or BAD_CALL, and *value stays. */
 static inline kfifo_status kfifo_take(kfifo_value_pass *pass, uint64_t *value) {
     if (!pass || !value) return KFIFO_BAD_CALL;
+    KFIFO_ENTER();
     kfifo_status status = (kfifo_status)kfifo_c_take(pass, value);
+    KFIFO_LEAVE();
     KFIFO_AFTER_GOT(pass, status);
     return status;
 }
@@ -306,21 +339,45 @@ static inline kfifo_status kfifo_take_pointer(kfifo_value_pass *pass, void **poi
     return status;
 }
 
-/* Closes a queue of values, as kfifo_close does. */
+/* Room for how many values kfifo_close_values needs: k * segments for each generation that may have some. That is one
+   mostly, and more near a change, or where a handle made no calls since. 0 where these are not all handles of one
+   queue, or where there was no memory to look. */
+static inline size_t kfifo_values_room(kfifo_value_pass *passes, size_t threads) {
+    if (!passes || threads > KFIFO_MAX_THREADS) return 0;
+    for (size_t i = 1; i < threads; i++)
+        if (passes[i].address != passes[0].address) return 0;
+    KFIFO_ENTER();
+    size_t room = kfifo_c_values_room(passes, threads);
+    KFIFO_LEAVE();
+    return room;
+}
+
+/* Closes a queue of values, as kfifo_close does, and writes those of the oldest generation first. There has to be room
+   for kfifo_values_room values. With less it returns BAD_CALL, and nothing was done.
+
+       size_t room = kfifo_values_room(passes, THREADS), count = 0;
+       uint64_t *left = malloc(room * sizeof *left);
+       if (!left || kfifo_close_values(passes, THREADS, left, room, &count) != KFIFO_DONE) return 1;
+*/
 static inline kfifo_status kfifo_close_values(kfifo_value_pass *passes, size_t threads, uint64_t *values, size_t room,
                                               size_t *count) {
     if (!passes || !values || !count) return KFIFO_BAD_CALL;
     if (threads > KFIFO_MAX_THREADS) return KFIFO_BAD_THREADS;
     for (size_t i = 1; i < threads; i++)
         if (passes[i].address != passes[0].address) return KFIFO_BAD_CALL;
-    return (kfifo_status)kfifo_c_close_values(passes, threads, values, room, count);
+    KFIFO_ENTER();
+    kfifo_status status = (kfifo_status)kfifo_c_close_values(passes, threads, values, room, count);
+    KFIFO_LEAVE();
+    return status;
 }
 
 /* Closes these handles, as kfifo_abandon does. Values that are pointers are not freed. */
 static inline kfifo_status kfifo_abandon_values(kfifo_value_pass *passes, size_t threads) {
     if (!passes) return KFIFO_BAD_CALL;
     if (threads > KFIFO_MAX_THREADS) return KFIFO_BAD_THREADS;
+    KFIFO_ENTER();
     kfifo_c_abandon_values(passes, threads);
+    KFIFO_LEAVE();
     return KFIFO_DONE;
 }
 
@@ -328,7 +385,7 @@ static inline kfifo_status kfifo_abandon_values(kfifo_value_pass *passes, size_t
 
    The caller has an array of threads * tokens cells, of any type. The queue says whose a cell is, by its index in that
    array. A thread reserves a cell, writes into it and publishes it. Another receives it, reads it and releases it. So a
-   value stays where it was made, and no call copies it or allocates.
+   value stays where it was made, and no call copies it. The queue renews itself as one of values does.
 
        struct frame { int width, height; unsigned char pixels[4096]; };
        static struct frame frames[2 * 8];            // threads * tokens
@@ -337,8 +394,10 @@ static inline kfifo_status kfifo_abandon_values(kfifo_value_pass *passes, size_t
        if (kfifo_open_cells(1, 4, 8, passes, 2) != KFIFO_DONE) return 1;
 
        if (kfifo_reserve(&passes[0], &cell) == KFIFO_DONE) {
+           kfifo_status status;
            frames[cell].width = 64;                  // frames[cell] is this thread's alone
-           while (kfifo_may_retry(kfifo_publish(&passes[0]))) sched_yield();
+           while (kfifo_may_retry(status = kfifo_publish(&passes[0]))) sched_yield();
+           if (status != KFIFO_DONE) return 1;       // worn
        }
 
        if (kfifo_receive(&passes[1], &cell) == KFIFO_GOT) {
@@ -348,13 +407,22 @@ static inline kfifo_status kfifo_abandon_values(kfifo_value_pass *passes, size_t
        kfifo_abandon_cells(passes, 2);
 */
 
-/* Opens a queue of cells. Each thread begins with `tokens` tokens, 1 to KFIFO_MAX_TOKENS. Each token has a cell, so the
-   cells are numbers from 0 to threads * tokens - 1. A thread has about `tokens` cells in the queue at most, as with
-   kfifo_open_values. DONE; BAD_CALL of a null pointer; BAD_K, BAD_SEGMENTS, BAD_THREADS, BAD_TOKENS, NO_MEMORY, and all
-   handles are then closed, at most the first 64. */
+/* Opens a queue of cells with versions up to `last` and a reserve, as kfifo_open_values_with. Each thread begins with
+   `tokens` tokens, 1 to KFIFO_MAX_TOKENS. Each token has a cell, so the cells are numbers from 0 to
+   threads * tokens - 1, in all generations. A thread has about `tokens` cells in the queue at most. Returns what
+   kfifo_open_values_with returns. */
+static inline kfifo_status kfifo_open_cells_with(uint32_t k, uint32_t segments, uint32_t tokens, uint64_t last,
+                                                 uint64_t reserve, kfifo_cell_pass *passes, size_t threads) {
+    if (!passes) return KFIFO_BAD_CALL;
+    kfifo_zero(passes, sizeof *passes, threads);
+    return (kfifo_status)kfifo_c_open_cells(k, segments, k, last, tokens, reserve, passes,
+                                            kfifo_at_most_one_over(threads));
+}
+
+/* Opens a queue of cells that does not wear out. Returns what kfifo_open_values_with does. */
 static inline kfifo_status kfifo_open_cells(uint32_t k, uint32_t segments, uint32_t tokens, kfifo_cell_pass *passes,
                                             size_t threads) {
-    return kfifo_open_values(k, segments, tokens, passes ? &passes->pass : NULL, threads);
+    return kfifo_open_cells_with(k, segments, tokens, KFIFO_LAST, KFIFO_RESERVE, passes, threads);
 }
 
 /* Reserves a cell: DONE, and writes its number. Until kfifo_publish puts it into the queue, the cell is the handle's
@@ -362,25 +430,28 @@ static inline kfifo_status kfifo_open_cells(uint32_t k, uint32_t segments, uint3
    another one released, or BAD_CALL, and *cell stays. */
 static inline kfifo_status kfifo_reserve(kfifo_cell_pass *pass, uint64_t *cell) {
     if (!pass || !cell) return KFIFO_BAD_CALL;
-    kfifo_status status = (kfifo_status)kfifo_c_reserve(&pass->pass, cell);
-    KFIFO_AFTER_RESERVE(&pass->pass, status);
+    kfifo_status status = (kfifo_status)kfifo_c_reserve(pass, cell);
+    KFIFO_AFTER_RESERVE(pass, status);
     return status;
 }
 
-/* Puts the reserved cell into the queue: DONE, and the cell is no longer the handle's. Else FULL, BUSY or WORN, and the
-   cell is still reserved. BAD_CALL, also where none is reserved. */
+/* Puts the reserved cell into the queue: DONE, and the cell is no longer the handle's. Else FULL, BUSY, NO_TOKEN or
+   WORN, and the cell is still reserved. BAD_CALL, also where none is reserved. */
 static inline kfifo_status kfifo_publish(kfifo_cell_pass *pass) {
     if (!pass) return KFIFO_BAD_CALL;
-    KFIFO_BEFORE_PUT(&pass->pass);
-    return (kfifo_status)kfifo_c_publish(&pass->pass);
+    KFIFO_BEFORE_PUT(pass);
+    KFIFO_ENTER();
+    kfifo_status status = (kfifo_status)kfifo_c_publish(pass);
+    KFIFO_LEAVE();
+    return status;
 }
 
 /* Gives the reserved cell back: DONE, and any handle may reserve it. BAD_CALL, also where none is reserved. A cell that
    stays reserved is one that no other handle can have. */
 static inline kfifo_status kfifo_cancel(kfifo_cell_pass *pass) {
     if (!pass) return KFIFO_BAD_CALL;
-    KFIFO_BEFORE_RELEASE(&pass->pass);
-    return (kfifo_status)kfifo_c_cancel(&pass->pass);
+    KFIFO_BEFORE_RELEASE(pass);
+    return (kfifo_status)kfifo_c_cancel(pass);
 }
 
 /* Takes one of the k oldest cells: GOT, and writes its number. Until the handle's next kfifo_receive or kfifo_release
@@ -389,9 +460,11 @@ static inline kfifo_status kfifo_cancel(kfifo_cell_pass *pass) {
    once. */
 static inline kfifo_status kfifo_receive(kfifo_cell_pass *pass, uint64_t *cell) {
     if (!pass || !cell) return KFIFO_BAD_CALL;
-    KFIFO_BEFORE_RELEASE(&pass->pass);
-    kfifo_status status = (kfifo_status)kfifo_c_receive(&pass->pass, cell);
-    KFIFO_AFTER_GOT(&pass->pass, status);
+    KFIFO_BEFORE_RELEASE(pass);
+    KFIFO_ENTER();
+    kfifo_status status = (kfifo_status)kfifo_c_receive(pass, cell);
+    KFIFO_LEAVE();
+    KFIFO_AFTER_GOT(pass, status);
     return status;
 }
 
@@ -399,20 +472,33 @@ static inline kfifo_status kfifo_receive(kfifo_cell_pass *pass, uint64_t *cell) 
    received, or it is released already. */
 static inline kfifo_status kfifo_release(kfifo_cell_pass *pass) {
     if (!pass) return KFIFO_BAD_CALL;
-    KFIFO_BEFORE_RELEASE(&pass->pass);
-    return (kfifo_status)kfifo_c_release(&pass->pass);
+    KFIFO_BEFORE_RELEASE(pass);
+    return (kfifo_status)kfifo_c_release(pass);
 }
 
 /* Closes a queue of cells, as kfifo_close does, and writes the numbers of the cells that are in it, in the queue's
-   order. A cell that a handle had reserved or received is not among them. */
+   order. A cell that a handle had reserved or received is not among them. There has to be room for each cell,
+   threads * tokens: with less the call returns BAD_CALL, and nothing was done. */
 static inline kfifo_status kfifo_close_cells(kfifo_cell_pass *passes, size_t threads, uint64_t *cells, size_t room,
                                              size_t *count) {
-    return kfifo_close_values(passes ? &passes->pass : NULL, threads, cells, room, count);
+    if (!passes || !cells || !count) return KFIFO_BAD_CALL;
+    if (threads > KFIFO_MAX_THREADS) return KFIFO_BAD_THREADS;
+    for (size_t i = 1; i < threads; i++)
+        if (passes[i].address != passes[0].address) return KFIFO_BAD_CALL;
+    KFIFO_ENTER();
+    kfifo_status status = (kfifo_status)kfifo_c_close_cells(passes, threads, cells, room, count);
+    KFIFO_LEAVE();
+    return status;
 }
 
 /* Closes these handles, as kfifo_abandon does. The array of the cells stays as it is. */
 static inline kfifo_status kfifo_abandon_cells(kfifo_cell_pass *passes, size_t threads) {
-    return kfifo_abandon_values(passes ? &passes->pass : NULL, threads);
+    if (!passes) return KFIFO_BAD_CALL;
+    if (threads > KFIFO_MAX_THREADS) return KFIFO_BAD_THREADS;
+    KFIFO_ENTER();
+    kfifo_c_abandon_cells(passes, threads);
+    KFIFO_LEAVE();
+    return KFIFO_DONE;
 }
 
 #ifdef __cplusplus

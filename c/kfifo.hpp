@@ -73,7 +73,8 @@ inline kfifo_status checked(kfifo_status status) {
     case KFIFO_BAD_SEGMENTS:
     case KFIFO_BAD_LAST:
     case KFIFO_BAD_PROBES:
-    case KFIFO_BAD_TOKENS: throw Error(status);
+    case KFIFO_BAD_TOKENS:
+    case KFIFO_BAD_RESERVE: throw Error(status);
     default: return status;
     }
 }
@@ -190,6 +191,14 @@ class Queue {
 
 // ---- A queue of values of any type that can be moved ----
 
+// How long the versions of a queue of values last: each word has versions up to `last`, 2 to KFIFO_LAST, and with fewer
+// left than `reserve`, which is below it, the queue goes on in its next generation. With reserve 0 it does not, and
+// wears out as a queue of items does.
+struct Versions {
+    std::uint64_t last = KFIFO_LAST;
+    std::uint64_t reserve = KFIFO_RESERVE;
+};
+
 namespace detail {
 
 // A duration in nanoseconds: a negative one is 0, one beyond the clock is for ever.
@@ -244,10 +253,10 @@ template <typename Clock, typename Duration> class Until {
 
 // The handles of a queue of cells.
 struct CellPasses {
-    CellPasses(std::uint32_t k, std::uint32_t segments, std::size_t threads, std::uint32_t tokens)
+    CellPasses(std::uint32_t k, std::uint32_t segments, std::size_t threads, std::uint32_t tokens, Versions versions)
         : all(threads <= 64 ? threads : 65) {
         if (all.empty()) throw Error(KFIFO_BAD_THREADS);
-        checked(kfifo_open_cells(k, segments, tokens, all.data(), all.size()));
+        checked(kfifo_open_cells_with(k, segments, tokens, versions.last, versions.reserve, all.data(), all.size()));
     }
     CellPasses(const CellPasses &) = delete;
     CellPasses &operator=(const CellPasses &) = delete;
@@ -276,6 +285,8 @@ template <typename T> class Cells {
     }
 
     Cell &operator[](std::uint64_t number) { return *std::launder(reinterpret_cast<Cell *>(place(number))); }
+
+    std::size_t size() const { return count; }
 
     // The numbers of the cells that have a value.
     std::vector<std::uint64_t> with_values() {
@@ -318,8 +329,13 @@ template <typename T> struct TakenValue {
 //     kfifo::TakenValue<std::string> taken = taker.take();
 //     std::string word = taken.value.value_or("none yet");
 //
-// The queue has a cell for each token. A value is made in a cell, stays there, and is moved out of it: only the opening
-// allocates. T may be over-aligned, and needs no default constructor.
+// The queue has a cell for each token. A value is made in a cell, stays there, and is moved out of it. T may be
+// over-aligned, and needs no default constructor.
+//
+// The queue does not wear out: before the versions of its words are used up, it goes on in a new generation, as kfifo.h
+// says. Only the opening and a change of generations, after some 2^40 calls, allocate. Put::worn and Miss::worn come
+// where there was no memory for the next generation until the reserve was used up too: then close the queue, which
+// gives back what is left, and open another.
 template <typename T> class ValueQueue {
     static_assert(std::is_object_v<T> && std::is_move_constructible_v<T> && std::is_nothrow_destructible_v<T>,
                   "a value is moved or copied out of the queue, and what is left of it destroyed");
@@ -327,8 +343,8 @@ template <typename T> class ValueQueue {
     static constexpr bool moves_throw = !std::is_nothrow_move_constructible_v<T>;
 
     struct State {
-        State(std::uint32_t k, std::uint32_t segments, std::size_t threads, std::uint32_t tokens)
-            : slots(std::size_t(k) * segments), passes(k, segments, threads, tokens), cells(passes.all.size(), tokens),
+        State(std::uint32_t k, std::uint32_t segments, std::size_t threads, std::uint32_t tokens, Versions versions)
+            : passes(k, segments, threads, tokens, versions), cells(passes.all.size(), tokens),
               is_out(new std::atomic<bool>[passes.all.size()]()), kept(passes.all.size()) {}
         State(const State &) = delete;
         State &operator=(const State &) = delete;
@@ -344,10 +360,11 @@ template <typename T> class ValueQueue {
         // and nothing changes, where there is no memory for it.
         void close() {
             if (is_closed) return;
-            std::vector<std::uint64_t> all = cells.with_values(), queued(slots);
+            std::vector<std::uint64_t> all = cells.with_values(), queued(cells.size());
             std::size_t count = 0;
             left.reserve(all.size());
-            kfifo_status status = kfifo_close_cells(passes.all.data(), passes.all.size(), queued.data(), slots, &count);
+            kfifo_status status =
+                kfifo_close_cells(passes.all.data(), passes.all.size(), queued.data(), queued.size(), &count);
             // The queue is closed and has lost the order of its cells. They are here, and so are their values.
             if (status == KFIFO_LOST) {
                 left.swap(all);
@@ -361,7 +378,6 @@ template <typename T> class ValueQueue {
             is_closed = true;
         }
 
-        std::size_t slots;
         detail::CellPasses passes;
         detail::Cells<T> cells;
         std::unique_ptr<std::atomic<bool>[]> is_out;    // whether a pass is in a Handle
@@ -408,7 +424,7 @@ template <typename T> class ValueQueue {
         }
 
         // Makes a value of these arguments in its cell, and gives it. If the constructor throws, nothing was given. On
-        // any answer but done the value is destroyed; after no_token and finished none was made. It does not wait.
+        // any answer but done the value is destroyed, or none was made. It does not wait.
         template <typename... Arguments> Put emplace(Arguments &&...arguments) {
             return put(
                 detail::Once(), [&](Cell &cell) { cell.emplace(std::forward<Arguments>(arguments)...); }, [](T &) {});
@@ -450,7 +466,7 @@ template <typename T> class ValueQueue {
         }
 
         // The values that come, until the queue is finished and empty: for (T value : handle.values()). It sleeps while
-        // there is none, and throws Error with KFIFO_WORN where the versions of the queue are used up.
+        // there is none, and throws Error with KFIFO_WORN where take answers Miss::worn.
         Values values() { return Values(*this); }
 
         // Says that no more values will come, as ValueQueue::finish.
@@ -642,7 +658,11 @@ template <typename T> class ValueQueue {
         : ValueQueue(k, segments, threads, enough(k, segments)) {}
 
     ValueQueue(std::uint32_t k, std::uint32_t segments, std::size_t threads, std::uint32_t tokens)
-        : state(std::make_shared<State>(k, segments, threads, tokens)) {}
+        : ValueQueue(k, segments, threads, tokens, Versions()) {}
+
+    // The same with versions of your own. Throws Error also where there are no such ones.
+    ValueQueue(std::uint32_t k, std::uint32_t segments, std::size_t threads, std::uint32_t tokens, Versions versions)
+        : state(std::make_shared<State>(k, segments, threads, tokens, versions)) {}
 
     ValueQueue(const ValueQueue &) = delete;
     ValueQueue &operator=(const ValueQueue &) = delete;

@@ -16,7 +16,8 @@
       afterwards, its second look begins after the give had ended.
    2. If the giver's look comes before the announcement, the second look begins after the give had ended, too.
    3. A take that begins after a give has ended returns EMPTY only if the value was already taken: by proof EMPTY comes
-      only of a queue that was empty within the call. So nobody need be woken.
+      only of a queue that was empty within the call. So nobody need be woken. Of a queue of values that is said of each
+      generation; that a take sees each of them is tested, and BUSY comes where a new one was opened meanwhile.
 
    A look before the call, a word that is read after the second look, or no second look would break this. So would
    acquire and release alone: the giver's look and the taker's second look could then both miss.
@@ -132,7 +133,8 @@ static inline int kfifo_is_finished(kfifo_waits *waits) {
 /* ---- Values ----
 
    A call that waits returns DONE or GOT; TIMED_OUT, and nothing was given or taken; FINISHED; WORN; or BAD_CALL. It
-   never returns FULL, NO_TOKEN, EMPTY or BUSY. With 0 nanoseconds it looks once and does not sleep. */
+   never returns FULL, NO_TOKEN, EMPTY or BUSY. With 0 nanoseconds it looks once and does not sleep. Who gets
+   WORN calls kfifo_finish, so that the others end too, and then closes the queue. */
 
 /* As kfifo_give, for a queue whose threads wait: wakes one that waits for the value. Also FINISHED, and the value is
    still the caller's. */
@@ -197,14 +199,14 @@ static inline kfifo_status kfifo_take_pointer_wait(kfifo_value_pass *pass, kfifo
 /* As kfifo_reserve, for a queue whose threads wait. Also FINISHED. */
 static inline kfifo_status kfifo_try_reserve(kfifo_cell_pass *pass, kfifo_waits *waits, uint64_t *cell) {
     if (!pass || !waits || !cell) return KFIFO_BAD_CALL;
-    if (__builtin_expect(kfifo_is_finished(waits), 0)) return pass->pass.starts ? KFIFO_FINISHED : KFIFO_BAD_CALL;
+    if (__builtin_expect(kfifo_is_finished(waits), 0)) return pass->starts ? KFIFO_FINISHED : KFIFO_BAD_CALL;
     return kfifo_reserve(pass, cell);
 }
 
 /* As kfifo_publish, for a queue whose threads wait: wakes one that waits for a cell. Also FINISHED. */
 static inline kfifo_status kfifo_try_publish(kfifo_cell_pass *pass, kfifo_waits *waits) {
     if (!pass || !waits) return KFIFO_BAD_CALL;
-    if (__builtin_expect(kfifo_is_finished(waits), 0)) return pass->pass.starts ? KFIFO_FINISHED : KFIFO_BAD_CALL;
+    if (__builtin_expect(kfifo_is_finished(waits), 0)) return pass->starts ? KFIFO_FINISHED : KFIFO_BAD_CALL;
     return kfifo_after_give(waits, kfifo_publish(pass));
 }
 

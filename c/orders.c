@@ -30,7 +30,8 @@ static void *produce(void *argument) {
         *order = (struct order){.customer = self->number, .price = price};
         self->end = kfifo_give_pointer_wait(self->pass, &waits, order, KFIFO_FOREVER);
         if (self->end != KFIFO_DONE) {
-            free(order); /* the queue takes no more, and the order is still ours */
+            free(order);          /* the queue takes no more, and the order is still ours */
+            kfifo_finish(&waits); /* the others end too */
             break;
         }
         self->total += price; /* the order itself may be gone by now */
@@ -47,6 +48,7 @@ static void *consume(void *argument) {
         self->orders++;
         free(order);
     }
+    if (self->end != KFIFO_FINISHED) kfifo_finish(&waits); /* the others end too */
     return NULL;
 }
 
@@ -74,10 +76,11 @@ int main(void) {
         *(i < PRODUCERS ? &made : &done) += sides[i].orders;
         *(i < PRODUCERS ? &owed : &paid) += sides[i].total;
     }
-    static uint64_t left[K * SEGMENTS];
-    size_t count = 0;
-    if (kfifo_close_values(passes, THREADS, left, K * SEGMENTS, &count) != KFIFO_DONE) return 1;
+    size_t room = kfifo_values_room(passes, THREADS), count = 0;
+    uint64_t *left = malloc(room * sizeof *left);
+    if (!left || kfifo_close_values(passes, THREADS, left, room, &count) != KFIFO_DONE) return 1;
     for (size_t i = 0; i < count; i++) free((void *)(uintptr_t)left[i]);
+    free(left);
     printf("%u orders were made and %u done, for %.2f\n", (unsigned)made, (unsigned)done, paid);
     return made == PRODUCERS * EACH && done == made && owed == paid ? 0 : 1;
 }

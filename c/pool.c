@@ -23,6 +23,7 @@ static void *work(void *argument) {
         self->sum += numbers[item];
         self->jobs++;
     }
+    if (self->end != KFIFO_FINISHED) kfifo_finish(&waits); /* the others end too */
     return NULL;
 }
 

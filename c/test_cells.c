@@ -95,7 +95,7 @@ static void cancels(void) {
 static void refusals(void) {
     static kfifo_cell_pass one, many[65];
     static kfifo_waits waits;
-    uint64_t left[2], cell = 77;
+    uint64_t left[3], cell = 77;
     size_t count = 77;
     expect(kfifo_open_cells(0, 2, 1, &one, 1), KFIFO_BAD_K, "k 0");
     expect(kfifo_open_cells(65, 2, 1, &one, 1), KFIFO_BAD_K, "k 65");
@@ -106,6 +106,9 @@ static void refusals(void) {
     expect(kfifo_open_cells(1, 2, 1, many, 0), KFIFO_BAD_THREADS, "threads 0");
     expect(kfifo_open_cells(1, 2, 1, many, 65), KFIFO_BAD_THREADS, "threads 65");
     expect(kfifo_open_cells(1, 2, 1, NULL, 1), KFIFO_BAD_CALL, "no passes");
+    expect(kfifo_open_cells_with(1, 2, 1, 1, 0, &one, 1), KFIFO_BAD_LAST, "the greatest version 1");
+    expect(kfifo_open_cells_with(1, 2, 0, 8, 8, many, 65), KFIFO_BAD_RESERVE, "a reserve of all versions");
+    expect(kfifo_open_cells_with(1, 2, 1, 8, 4, NULL, 1), KFIFO_BAD_CALL, "no passes with versions");
     expect(kfifo_reserve(&one, &cell), KFIFO_BAD_CALL, "a handle that a refused open left");
     expect(kfifo_open_cells(1, 2, 3, &one, 1), KFIFO_DONE, "open");
     expect(kfifo_reserve(NULL, &cell), KFIFO_BAD_CALL, "no pass to reserve by");
@@ -145,11 +148,11 @@ static void refusals(void) {
     expect(kfifo_release(&one), KFIFO_DONE, "a release");
     expect(kfifo_reserve(&one, &last), KFIFO_DONE, "a reserve after a release");
     expect(last, cell, "the cell that was released");
-    expect(kfifo_close_cells(NULL, 1, left, 2, &count), KFIFO_BAD_CALL, "no passes to close");
-    expect(kfifo_close_cells(&one, 1, NULL, 2, &count), KFIFO_BAD_CALL, "no array");
-    expect(kfifo_close_cells(&one, 1, left, 2, NULL), KFIFO_BAD_CALL, "no count");
-    expect(kfifo_close_cells(&one, 1, left, 1, &count), KFIFO_BAD_CALL, "too little room");
-    expect(kfifo_close_cells(&one, 0, left, 2, &count), KFIFO_BAD_CALL, "a close by no handle");
+    expect(kfifo_close_cells(NULL, 1, left, 3, &count), KFIFO_BAD_CALL, "no passes to close");
+    expect(kfifo_close_cells(&one, 1, NULL, 3, &count), KFIFO_BAD_CALL, "no array");
+    expect(kfifo_close_cells(&one, 1, left, 3, NULL), KFIFO_BAD_CALL, "no count");
+    expect(kfifo_close_cells(&one, 1, left, 2, &count), KFIFO_BAD_CALL, "too little room");
+    expect(kfifo_close_cells(&one, 0, left, 3, &count), KFIFO_BAD_CALL, "a close by no handle");
     expect(kfifo_abandon_cells(NULL, 1), KFIFO_BAD_CALL, "no passes to abandon");
     expect(count, 77, "the count of closes that did nothing");
     expect(kfifo_abandon_cells(&one, 1), KFIFO_DONE, "abandon");
@@ -185,7 +188,7 @@ static void too_many_threads(void) {
 /* What a close writes: the cells that are in the queue, in its order, and neither a reserved one nor a received one. */
 static void closes(void) {
     kfifo_cell_pass two[2], other[2], mixed[2];
-    uint64_t left[8], published[5], cell = 77;
+    uint64_t left[16], published[5], cell = 77;
     size_t count = 77;
     expect(kfifo_open_cells(1, 8, 8, two, 2), KFIFO_DONE, "open for a close");
     for (int i = 0; i < 5; i++) {
@@ -198,26 +201,26 @@ static void closes(void) {
     expect(kfifo_open_cells(1, 8, 8, other, 2), KFIFO_DONE, "open another");
     mixed[0] = two[0];
     mixed[1] = other[1];
-    expect(kfifo_close_cells(mixed, 2, left, 8, &count), KFIFO_BAD_CALL, "a close by handles of two queues");
-    expect(kfifo_close_cells(two, 1, left, 8, &count), KFIFO_BAD_CALL, "a close without one of the handles");
+    expect(kfifo_close_cells(mixed, 2, left, 16, &count), KFIFO_BAD_CALL, "a close by handles of two queues");
+    expect(kfifo_close_cells(two, 1, left, 16, &count), KFIFO_BAD_CALL, "a close without one of the handles");
     expect(count, 77, "the count of a close that did nothing");
-    expect(kfifo_close_cells(two, 2, left, 8, &count), KFIFO_DONE, "close");
+    expect(kfifo_close_cells(two, 2, left, 16, &count), KFIFO_DONE, "close");
     expect(count, 4, "cells left");
     for (size_t i = 0; i < 4; i++) expect(left[i], published[i + 1], "a cell that is left, in its order");
     expect(kfifo_reserve(&two[1], &cell), KFIFO_BAD_CALL, "a reserve after the close");
     expect(kfifo_publish(&two[1]), KFIFO_BAD_CALL, "a publish of a cell that was reserved before the close");
     expect(kfifo_release(&two[0]), KFIFO_BAD_CALL, "a release of a cell that was received before the close");
-    expect(kfifo_close_cells(other, 2, left, 8, &count), KFIFO_DONE, "close the other");
+    expect(kfifo_close_cells(other, 2, left, 16, &count), KFIFO_DONE, "close the other");
     expect(count, 0, "cells left in the other");
 }
 
 /* A queue whose versions are used up: the cells stay whose they are. */
 static void worn(void) {
     kfifo_cell_pass one = {0};
-    uint64_t left[2], cell = 0, last = 77;
+    uint64_t left[4], cell = 0, last = 77;
     size_t count = 77;
     kfifo_status status = KFIFO_DONE;
-    expect(kfifo_c_open_values(1, 2, 1, 2, 4, &one.pass, 1), KFIFO_DONE, "open for few versions");
+    expect(kfifo_open_cells_with(1, 2, 4, 2, 0, &one, 1), KFIFO_DONE, "open for few versions");
     for (int i = 0; i < 100 && status != KFIFO_WORN; i++) {
         expect(kfifo_reserve(&one, &last), KFIFO_DONE, "a reserve until the end");
         status = kfifo_publish(&one);
@@ -228,7 +231,7 @@ static void worn(void) {
     expect(kfifo_publish(&one), KFIFO_WORN, "a publish to a worn queue");
     expect(kfifo_reserve(&one, &last), KFIFO_DONE, "a reserve after a publish to a worn queue");
     expect(last, cell, "the cell that a worn queue refused");
-    expect(kfifo_close_cells(&one, 1, left, 2, &count), KFIFO_DONE, "close a worn queue");
+    expect(kfifo_close_cells(&one, 1, left, 4, &count), KFIFO_DONE, "close a worn queue");
     for (size_t i = 0; i < count; i++) expect(left[i] != cell, 1, "a reserved cell is not in a worn queue");
 }
 

@@ -85,6 +85,46 @@ CheckReport run_kfifo(const CheckOptions &options) {
         [](kfifo::Pass &pass, std::uint32_t item) { return answer_of(pass.enqueue(item)); },
         [](kfifo::Pass &pass) { return popped_of(pass.dequeue()); }, options);
 }
+
+// A queue of values with so few versions that its generations change all the time.
+class Changing {
+  public:
+    static constexpr unsigned THREADS = 8;
+    Changing(std::uint32_t k, std::size_t capacity) : passes(THREADS) {
+        const std::uint32_t segments = std::max(2U, std::uint32_t(capacity) / k);
+        if (kfifo_open_values_with(k, segments, KFIFO_MAX_TOKENS, 32, 16, passes.data(), THREADS) != KFIFO_DONE)
+            throw std::bad_alloc();
+    }
+    Changing(Changing &&) noexcept = default;
+    ~Changing() {
+        if (!passes.empty()) kfifo_abandon_values(passes.data(), passes.size());
+    }
+    kfifo_value_pass *pass(unsigned thread) { return &passes.at(thread); }
+
+  private:
+    std::vector<kfifo_value_pass> passes;
+};
+
+// Up to four threads. With k slots in a segment a value may be overtaken by k - 1 others and, where generations change,
+// by one more for each other thread.
+CheckReport run_changing(const CheckOptions &options) {
+    const std::uint32_t k = options.k - 3;
+    CheckOptions of_four = options;
+    of_four.threads = {2, 3, 4};
+    return kfifo::run_check_with_handles(
+        [k](std::size_t capacity) { return Changing(k, capacity); },
+        [](Changing &queue, unsigned thread) { return queue.pass(thread % Changing::THREADS); },
+        [](kfifo_value_pass *pass, std::uint32_t item) {
+            return answer_of(static_cast<kfifo::Put>(kfifo_give(pass, item)));
+        },
+        [](kfifo_value_pass *pass) {
+            std::uint64_t value = 0;
+            const kfifo_status status = kfifo_take(pass, &value);
+            if (status == KFIFO_GOT) return kfifo::Popped{kfifo::Answer::got, std::uint32_t(value)};
+            return popped_of({std::nullopt, static_cast<kfifo::Miss>(status)});
+        },
+        of_four);
+}
 #ifdef HAVE_BOOST
 constexpr Run BOOST = run<queues::Boost>;
 #else
@@ -147,6 +187,8 @@ const Row ROWS[] = {
     {"kfifo-1", NOTHING, run_kfifo, "libkfifo"},
     {"kfifo-4", NOTHING, run_kfifo, "libkfifo", Callers::any, 4},
     {"kfifo-16", NOTHING, run_kfifo, "libkfifo", Callers::any, 16},
+    {"kfifo-1-changing", NOTHING, run_changing, "libkfifo", Callers::any, 4},
+    {"kfifo-4-changing", NOTHING, run_changing, "libkfifo", Callers::any, 7},
 };
 
 std::string names_of(unsigned faults) {

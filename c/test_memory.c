@@ -1,5 +1,5 @@
-/* Each request of an open and of a close for memory is refused in turn: it is answered, nothing is half done, and
-   nothing leaks. */
+/* Each request of an open, of a close and of a change of generations for memory is refused in turn: it is answered,
+   nothing is half done, and nothing leaks. */
 #include "kfifo.h"
 #include <stdio.h>
 #include <stdlib.h>
@@ -7,8 +7,9 @@
 enum { K = 4, SEGMENTS = 8, THREADS = 3, ROOM = K * SEGMENTS, TOKENS = 5 };
 
 static int failed;
-/* Requests so far, the one that is refused (0: none), and blocks that were not freed. */
+/* Requests so far, the one that is refused (0: none), whether all after it are too, and blocks that were not freed. */
 static long requests, refused, blocks;
+static int all_after;
 static long tried;                    /* the request that this case refuses */
 static long kept, lost;               /* closes that did nothing, and closes that lost what was left */
 static long values_kept, values_lost; /* the same of values */
@@ -17,15 +18,20 @@ void *__real_malloc(size_t size);
 void *__real_realloc(void *block, size_t size);
 void __real_free(void *block);
 
+static int is_refused(void) {
+    ++requests;
+    return requests == refused || (all_after && refused && requests > refused);
+}
+
 /* The linker hands the library's calls of malloc, realloc and free to these. */
 void *__wrap_malloc(size_t size) {
-    void *block = ++requests == refused ? NULL : __real_malloc(size);
+    void *block = is_refused() ? NULL : __real_malloc(size);
     if (block) blocks++;
     return block;
 }
 
 void *__wrap_realloc(void *block, size_t size) {
-    void *other = ++requests == refused ? NULL : __real_realloc(block, size);
+    void *other = is_refused() ? NULL : __real_realloc(block, size);
     if (other && !block) blocks++;
     return other;
 }
@@ -196,6 +202,112 @@ static void calls(void) {
     expect(blocks, 0, "blocks left by abandoned handles");
 }
 
+/* ---- Changes of generations: a queue of values or of cells with few versions ---- */
+
+enum { LAST = 128, RESERVE = 64, GIVES = 800, CELLS = THREADS * TOKENS };
+
+struct queue {
+    int of_cells;
+    kfifo_value_pass values[THREADS];
+    kfifo_cell_pass cells[THREADS];
+    uint64_t contents[CELLS];
+};
+
+static void opens_few(struct queue *queue, int of_cells) {
+    queue->of_cells = of_cells;
+    kfifo_status status = of_cells ? kfifo_open_cells_with(1, SEGMENTS, TOKENS, LAST, RESERVE, queue->cells, THREADS)
+                                   : kfifo_open_values_with(1, SEGMENTS, TOKENS, LAST, RESERVE, queue->values, THREADS);
+    expect(status, KFIFO_DONE, "an open for few versions");
+}
+
+static kfifo_status gives(struct queue *queue, uint64_t thread, uint64_t value) {
+    uint64_t cell = 0;
+    if (!queue->of_cells) return kfifo_give(&queue->values[thread], value);
+    kfifo_status status = kfifo_reserve(&queue->cells[thread], &cell);
+    if (status != KFIFO_DONE) return status;
+    queue->contents[cell] = value;
+    return kfifo_publish(&queue->cells[thread]); /* after a refusal the next reserve has the same cell */
+}
+
+static kfifo_status takes(struct queue *queue, uint64_t thread, uint64_t *value) {
+    uint64_t cell = 0;
+    if (!queue->of_cells) return kfifo_take(&queue->values[thread], value);
+    kfifo_status status = kfifo_receive(&queue->cells[thread], &cell);
+    if (status != KFIFO_GOT) return status;
+    *value = queue->contents[cell];
+    kfifo_release(&queue->cells[thread]);
+    return status;
+}
+
+/* Closes a queue, and expects the values from `first` to the one before `end` in their order. */
+static void closes_few(struct queue *queue, uint64_t first, uint64_t end) {
+    uint64_t left[32 * SEGMENTS];
+    size_t count = 77, room = queue->of_cells ? CELLS : kfifo_values_room(queue->values, THREADS);
+    expect(room <= 32 * SEGMENTS, 1, "the room of a close");
+    kfifo_status status = queue->of_cells ? kfifo_close_cells(queue->cells, THREADS, left, room, &count)
+                                          : kfifo_close_values(queue->values, THREADS, left, room, &count);
+    expect(status, KFIFO_DONE, "a close of a queue with few versions");
+    expect((long)count, (long)(end - first), "values of all generations");
+    for (size_t i = 0; i < count; i++)
+        expect((long)(queue->of_cells ? queue->contents[left[i]] : left[i]), (long)(first + i), "a value that is left");
+    expect(blocks, 0, "blocks left by a queue with few versions");
+}
+
+/* Gives and takes through some dozen changes with the request of this number refused: the change is tried again while
+   the reserve lasts, so each value goes in, and comes out in its order. Whether that request was made. */
+static int changes(int of_cells, long number) {
+    static struct queue queue;
+    uint64_t taken = 0, value = 0;
+    opens_few(&queue, of_cells);
+    refuse(number);
+    for (uint64_t given = 0; given < GIVES;) {
+        kfifo_status status = gives(&queue, given % THREADS, given);
+        /* A handle that could not join the next generation tries again at its next call. */
+        if (status == KFIFO_BUSY && requests >= number) status = gives(&queue, given % THREADS, given);
+        expect(status, KFIFO_DONE, "a give while a request is refused");
+        given++;
+        for (; given - taken > given % 4; taken++) {
+            status = takes(&queue, taken % 2, &value);
+            if (status == KFIFO_BUSY && requests >= number) status = takes(&queue, taken % 2, &value);
+            expect(status, KFIFO_GOT, "a take while a request is refused");
+            expect((long)value, (long)taken, "the oldest value");
+        }
+        if (failed) break;
+    }
+    int met = requests >= number;
+    refuse(0);
+    closes_few(&queue, taken, GIVES);
+    return !met || failed;
+}
+
+/* From the request of this number on there is no memory. WORN comes when the reserve is used up, and not before. Then
+   memory may come back, and a give goes to the next generation. The queue is closed: nothing is lost. */
+static void wears_out(int of_cells, long number, int comes_back) {
+    static struct queue queue;
+    uint64_t given = 0, taken = 0, value = 0, since = 0;
+    kfifo_status status = KFIFO_DONE;
+    opens_few(&queue, of_cells);
+    all_after = 1;
+    refuse(number);
+    while (given < 10 * GIVES && !failed) {
+        status = gives(&queue, 0, given);
+        if (status != KFIFO_DONE) break;
+        given++;
+        since += requests >= number;
+        if (given - taken < 3) continue;
+        status = takes(&queue, 0, &value);
+        if (status != KFIFO_GOT) break;
+        expect((long)value, (long)taken, "the oldest value without memory");
+        taken++;
+    }
+    expect(status, KFIFO_WORN, "a queue without memory");
+    expect(since >= RESERVE / 4, 1, "how many values are given before the reserve is used up");
+    refuse(0);
+    all_after = 0;
+    if (comes_back) expect(gives(&queue, 1, given++), KFIFO_DONE, "a give when memory is back");
+    closes_few(&queue, taken, given);
+}
+
 int main(void) {
     kfifo_pass passes[THREADS];
     kfifo_value_pass of_values[THREADS];
@@ -209,13 +321,23 @@ int main(void) {
     for (tried = 1; !closes_values(tried); tried++) values_close++;
     calls();
     abandons();
+    long of_changes[2];
+    for (int of_cells = 0; of_cells < 2; of_cells++) {
+        for (tried = 1; !changes(of_cells, tried); tried++) {
+        }
+        of_changes[of_cells] = tried - 1;
+        for (tried = 1; tried < 30; tried++) wears_out(of_cells, tried, tried % 2);
+    }
     /* A close reads its handles before it closes any: the refusal of either list that it makes for that does nothing.
      */
     expect(kept >= 2, 1, "the first two requests of a close are made before anything is done");
     expect(values_kept >= 1, 1, "the first request of a close of values is made before anything is done");
     expect(of_open > 1 && values_open > 1, 1, "an open asks for memory");
     expect(of_close > 1 && values_close > 1, 1, "a close asks for memory");
-    printf("%s: %ld requests of an open and %ld of a close refused in turn; of values %ld and %ld\n",
-           failed ? "memory fails" : "memory", of_open - 1, of_close - 1, values_open - 1, values_close - 1);
+    expect(of_changes[0] > 10 && of_changes[1] > 10, 1, "changes of generations ask for memory");
+    printf("%s: %ld requests of an open and %ld of a close refused in turn; of values %ld and %ld, of changes %ld, and "
+           "of those of cells %ld\n",
+           failed ? "memory fails" : "memory", of_open - 1, of_close - 1, values_open - 1, values_close - 1,
+           of_changes[0], of_changes[1]);
     return failed;
 }

@@ -24,8 +24,7 @@ int failures = 0;
 // Requests for memory by C++ so far.
 std::atomic<long> requests{0};
 
-// The versions of the queues that are opened next, and what their closes come to.
-std::uint64_t last = KFIFO_LAST;
+// What the closes of queues come to.
 kfifo_status closes = KFIFO_DONE;
 
 void expect(bool holds, const char *what) {
@@ -61,24 +60,16 @@ __attribute__((noinline)) void operator delete(void *block, std::size_t, std::al
     operator delete(block, alignment);
 }
 
-// The linker hands the calls of these two functions of the library to those below.
+// The linker hands the library's closes to this function.
 extern "C" {
-std::uint32_t __real_kfifo_c_open_values(std::uint32_t k, std::uint32_t segments, std::uint32_t probes,
-                                         std::uint64_t last, std::uint32_t tokens, kfifo_value_pass *passes,
-                                         std::size_t threads);
-std::uint32_t __real_kfifo_c_close_values(kfifo_value_pass *passes, std::size_t threads, std::uint64_t *values,
-                                          std::size_t room, std::size_t *count);
+std::uint32_t __real_kfifo_c_close_cells(kfifo_cell_pass *passes, std::size_t threads, std::uint64_t *cells,
+                                         std::size_t room, std::size_t *count);
 
-std::uint32_t __wrap_kfifo_c_open_values(std::uint32_t k, std::uint32_t segments, std::uint32_t probes, std::uint64_t,
-                                         std::uint32_t tokens, kfifo_value_pass *passes, std::size_t threads) {
-    return __real_kfifo_c_open_values(k, segments, probes, last, tokens, passes, threads);
-}
-
-std::uint32_t __wrap_kfifo_c_close_values(kfifo_value_pass *passes, std::size_t threads, std::uint64_t *values,
-                                          std::size_t room, std::size_t *count) {
-    if (closes == KFIFO_LOST) kfifo_c_abandon_values(passes, threads);
+std::uint32_t __wrap_kfifo_c_close_cells(kfifo_cell_pass *passes, std::size_t threads, std::uint64_t *cells,
+                                         std::size_t room, std::size_t *count) {
+    if (closes == KFIFO_LOST) kfifo_c_abandon_cells(passes, threads);
     if (closes != KFIFO_DONE) return closes;
-    return __real_kfifo_c_close_values(passes, threads, values, room, count);
+    return __real_kfifo_c_close_cells(passes, threads, cells, room, count);
 }
 }
 
@@ -279,9 +270,7 @@ template <typename T> void left() {
 // A queue whose versions are used up.
 template <typename T> void worn() {
     for (bool closed : {false, true}) {
-        last = 3;
-        kfifo::ValueQueue<T> queue(1, 2, 1);
-        last = KFIFO_LAST;
+        kfifo::ValueQueue<T> queue(1, 2, 1, 3, {3, 0});
         std::vector<int> inside;
         int next = 0;
         {

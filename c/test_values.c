@@ -188,6 +188,17 @@ static void refusals(void) {
     expect(kfifo_open_values(1, 2, 1, many, 0), KFIFO_BAD_THREADS, "threads 0");
     expect(kfifo_open_values(1, 2, 1, many, 65), KFIFO_BAD_THREADS, "threads 65");
     expect(kfifo_open_values(1, 2, 1, NULL, 1), KFIFO_BAD_CALL, "no passes");
+    expect(kfifo_open_values_with(1, 2, 1, 1, 0, &one, 1), KFIFO_BAD_LAST, "the greatest version 1");
+    expect(kfifo_open_values_with(1, 2, 1, KFIFO_LAST + 1, 0, &one, 1), KFIFO_BAD_LAST, "the greatest version 2^40");
+    expect(kfifo_open_values_with(1, 2, 1, 8, 8, &one, 1), KFIFO_BAD_RESERVE, "a reserve of all versions");
+    expect(kfifo_open_values_with(1, 2, 1, 8, UINT64_MAX, &one, 1), KFIFO_BAD_RESERVE, "a reserve beyond the versions");
+    expect(kfifo_open_values_with(1, 2, 0, 8, 8, many, 65), KFIFO_BAD_RESERVE, "a reserve before threads and tokens");
+    expect(kfifo_open_values_with(1, 2, 0, 1, 8, many, 65), KFIFO_BAD_LAST, "the versions before the reserve");
+    expect(kfifo_open_values_with(1, 2, 0, 8, 7, many, 65), KFIFO_BAD_THREADS, "threads before tokens");
+    expect(kfifo_open_values_with(1, 2, 1, 8, 4, NULL, 1), KFIFO_BAD_CALL, "no passes with versions");
+    expect(kfifo_values_room(NULL, 1), 0, "room of no handles");
+    expect(kfifo_values_room(&one, 1), 0, "room of a closed handle");
+    expect(kfifo_values_room(many, 65), 0, "room of too many handles");
     expect(kfifo_give(&one, 1), KFIFO_BAD_CALL, "a handle that a refused open left");
     expect(kfifo_open_values(1, 2, 1024, &one, 1), KFIFO_DONE, "the most tokens");
     expect(kfifo_give(NULL, 1), KFIFO_BAD_CALL, "no pass");
@@ -198,6 +209,8 @@ static void refusals(void) {
     expect(kfifo_give(&one, 3), KFIFO_FULL, "full");
     expect(kfifo_take(&one, &value), KFIFO_GOT, "got");
     expect(value, 0, "the first value");
+    expect(kfifo_values_room(&one, 1), 2, "room of a queue of two slots");
+    expect(kfifo_values_room(&one, 0), 0, "room of none of the handles");
     expect(kfifo_take_pointer(&one, NULL), KFIFO_BAD_CALL, "no pointer");
     expect(kfifo_take_pointer(&one, &pointer), KFIFO_GOT, "the pointer");
     expect(pointer == &value, 1, "which pointer");
@@ -221,7 +234,7 @@ static void ends(void) {
     uint64_t left[2], value = 0;
     size_t count = 77;
     kfifo_status status = KFIFO_DONE;
-    expect(kfifo_c_open_values(1, 2, 1, 2, 4, &one, 1), KFIFO_DONE, "open for few versions");
+    expect(kfifo_open_values_with(1, 2, 4, 2, 0, &one, 1), KFIFO_DONE, "open for few versions");
     for (int i = 0; i < 100 && status != KFIFO_WORN; i++)
         status = i % 3 == 2 ? kfifo_take(&one, &value) : kfifo_give(&one, (uint64_t)i);
     expect(status, KFIFO_WORN, "worn");
@@ -231,6 +244,9 @@ static void ends(void) {
     count = 77;
     mixed[0] = first[0];
     mixed[1] = second[1];
+    expect(kfifo_values_room(mixed, 2), 0, "room of handles of two queues");
+    expect(kfifo_values_room(first, 1), 0, "room of some of the handles");
+    expect(kfifo_values_room(first, 2), 2, "room of all handles");
     expect(kfifo_close_values(mixed, 2, left, 2, &count), KFIFO_BAD_CALL, "a close by handles of two queues");
     expect(count, 77, "the count of a close by handles of two queues");
     first[0] = mixed[0];

@@ -275,14 +275,14 @@ static void tokens(void) {
     pthread_t first = start(&calls[0], &passes[0], &waits, 1, 3, KFIFO_FOREVER),
               second = start(&calls[1], &passes[1], &waits, 1, 4, KFIFO_FOREVER);
     until_asleep(&waits, 2, KFIFO_WAITS_GIVER);
-    expect(waits.tokenless, 2, "givers that sleep without a token");
+    expect(__atomic_load_n(&waits.tokenless, __ATOMIC_SEQ_CST), 2, "givers that sleep without a token");
     for (int i = 0; i < 2; i++)
         expect(kfifo_try_take(&passes[2], &waits, &value), KFIFO_GOT, "a take that lays a token down");
     pthread_join(first, NULL);
     pthread_join(second, NULL);
     expect(calls[0].status, KFIFO_DONE, "the first give that slept for a token");
     expect(calls[1].status, KFIFO_DONE, "the second give that slept for a token");
-    expect(waits.tokenless, 0, "givers that sleep without a token afterwards");
+    expect(__atomic_load_n(&waits.tokenless, __ATOMIC_SEQ_CST), 0, "givers that sleep without a token afterwards");
     kfifo_abandon_values(passes, 3);
 }
 
@@ -450,7 +450,7 @@ static void worn(void) {
     kfifo_waits waits = {0};
     uint64_t value = 0;
     kfifo_status status = KFIFO_DONE;
-    expect(kfifo_c_open_values(1, 2, 1, 2, 4, &pass, 1), KFIFO_DONE, "open for few versions");
+    expect(kfifo_open_values_with(1, 2, 4, 2, 0, &pass, 1), KFIFO_DONE, "open for few versions");
     for (int i = 0; i < 100 && status != KFIFO_WORN; i++)
         status =
             i % 3 == 2 ? kfifo_take_wait(&pass, &waits, &value, 0) : kfifo_give_wait(&pass, &waits, (uint64_t)i, 0);

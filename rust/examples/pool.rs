@@ -17,7 +17,10 @@ fn work(handle: &Handle<Job>) -> (u64, PopError) {
     loop {
         match handle.pop_wait() {
             Ok(job) => sum += job.number * job.number,
-            Err(end) => return (sum, end),
+            Err(end) => {
+                handle.finish(); // the others end too, whatever ended this one
+                return (sum, end);
+            }
         }
     }
 }

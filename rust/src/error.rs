@@ -20,6 +20,10 @@ pub enum OpenError {
     ThreadsOutOfRange,
     /// The number of tokens a handle is not 1 to 1,024.
     TokensOutOfRange,
+    /// The greatest version is not 2 to 2^40 - 1.
+    LastOutOfRange,
+    /// The reserve is not below the greatest version.
+    ReserveOutOfRange,
     /// An allocation failed: of the queue itself, or of the cells for its values.
     OutOfMemory,
 }
@@ -31,6 +35,8 @@ impl Display for OpenError {
             OpenError::SegmentsOutOfRange => "the number of segments is not 2 to 1,024",
             OpenError::ThreadsOutOfRange => "the number of handles is not 1 to 64",
             OpenError::TokensOutOfRange => "the number of tokens a handle is not 1 to 1,024",
+            OpenError::LastOutOfRange => "the greatest version is not 2 to 2^40 - 1",
+            OpenError::ReserveOutOfRange => "the reserve is not below the greatest version",
             OpenError::OutOfMemory => "an allocation failed",
         })
     }
@@ -57,7 +63,8 @@ pub enum PushError<T> {
     /// The call used up its rounds. It makes two more than there are segments, so another thread changed the queue
     /// meanwhile.
     Busy(T),
-    /// The versions of the queue's words are used up. Open another queue.
+    /// The versions of the queue's words are used up, and there was no memory for its next generation. Have what is
+    /// left by [`Queue::into_values`](crate::Queue::into_values), and open another queue.
     Worn(T),
     /// The handle has no token, and found none in the pool: its values, as many as it has tokens, are all still in the
     /// queue.
@@ -151,7 +158,8 @@ pub enum PopError {
     /// The call used up its rounds. It makes two more than there are segments, so another thread changed the queue
     /// meanwhile.
     Busy,
-    /// The versions of the queue's words are used up. `Queue::into_values` gives back what is left.
+    /// The versions of the queue's words are used up, and there was no memory for its next generation.
+    /// [`Queue::into_values`](crate::Queue::into_values) gives back what is left.
     Worn,
     /// The time of a call that waits was up.
     TimedOut,

@@ -8,6 +8,7 @@ pub(crate) const GOT: u32 = 2;
 pub(crate) const EMPTY: u32 = 3;
 pub(crate) const BUSY: u32 = 4;
 pub(crate) const WORN: u32 = 5;
+pub(crate) const NO_MEMORY: u32 = 7;
 pub(crate) const BAD_THREADS: u32 = 8;
 pub(crate) const NO_TOKEN: u32 = 10;
 pub(crate) const BAD_K: u32 = 11;
@@ -17,6 +18,7 @@ pub(crate) const BAD_PROBES: u32 = 14;
 pub(crate) const BAD_TOKENS: u32 = 15;
 pub(crate) const TIMED_OUT: u32 = 16;
 pub(crate) const FINISHED: u32 = 17;
+pub(crate) const BAD_RESERVE: u32 = 18;
 
 /// A time that never ends, in nanoseconds.
 pub(crate) const FOREVER: u64 = u64::MAX;
@@ -88,7 +90,7 @@ impl Waiter {
     }
 }
 
-/// A handle of C's. All bytes 0 is a closed one.
+/// A handle of a queue of cells. All bytes 0 is a closed one.
 #[repr(C)]
 pub(crate) struct Pass {
     inside: *mut c_void,
@@ -117,16 +119,18 @@ impl Pass {
 // - `release`: the cell that was received may be reserved again, by any pass.
 // - Between these calls they order what threads do: what comes before a `publish` of a cell comes before what follows
 //   its `receive`, and what comes before its `release` comes before what follows its next `reserve`.
-// - `close_values`: DONE writes the numbers of the cells that are in the queue, in the order of the queue.
+// - `close_cells`: DONE writes the numbers of the cells that are in the queue, in the order of the queue. There is room
+//   for each cell, else it does nothing.
 //
 // Of the caller they require that one thread at a time uses a pass, and that it is open.
 unsafe extern "C" {
-    pub(crate) fn kfifo_c_open_values(
+    pub(crate) fn kfifo_c_open_cells(
         k: u32,
         segments: u32,
         probes: u32,
         last: u64,
         tokens: u32,
+        reserve: u64,
         passes: *mut Pass,
         threads: usize,
     ) -> u32;
@@ -135,14 +139,14 @@ unsafe extern "C" {
     pub(crate) fn kfifo_c_cancel(pass: *mut Pass) -> u32;
     pub(crate) fn kfifo_c_receive(pass: *mut Pass, cell: *mut u64) -> u32;
     pub(crate) fn kfifo_c_release(pass: *mut Pass) -> u32;
-    pub(crate) fn kfifo_c_close_values(
+    pub(crate) fn kfifo_c_close_cells(
         passes: *mut Pass,
         threads: usize,
         cells: *mut u64,
         room: usize,
         count: *mut usize,
     ) -> u32;
-    pub(crate) fn kfifo_c_abandon_values(passes: *mut Pass, threads: usize);
+    pub(crate) fn kfifo_c_abandon_cells(passes: *mut Pass, threads: usize);
     pub(crate) fn kfifo_wait_again(waiter: *mut Waiter, status: *mut u32) -> c_int;
     pub(crate) fn kfifo_wait_given(waits: *const Waits, status: u32) -> u32;
     pub(crate) fn kfifo_wait_taken(waits: *const Waits, status: u32) -> u32;

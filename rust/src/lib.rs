@@ -1,7 +1,8 @@
 //! A bounded lock-free k-FIFO queue of values, for many threads: a value that is taken is one of the k oldest.
 //!
 //! A value lies in a *cell*, which a handle has alone while it moves the value in or out. The cells are made with the
-//! queue: no call of a handle allocates or frees.
+//! queue. A queue does not wear out: before the versions of its words are used up, it goes on in its next *generation*,
+//! once in some 2^40 calls. A call of a handle allocates or frees there alone.
 //!
 //! The queue itself is proved, down to its atomic words, and so is whose a cell is. This crate is a wrapper around its
 //! C library and is not proved: it moves the values and drops them. Its README says what rests on what.
@@ -52,6 +53,40 @@ use std::time::Duration;
 /// # Ok::<(), kfifo::OpenError>(())
 /// ```
 pub const MAX_TOKENS: u32 = 1024;
+
+/// How long the versions of a queue's words last: [`Queue::with_versions`].
+///
+/// ```
+/// use kfifo::{Queue, Versions};
+///
+/// // Generations change all the time, for a test.
+/// let versions = Versions { last: 64, reserve: 32 };
+/// let queue = Queue::with_versions(1, 8, 1, 9, versions)?;
+/// let handle = queue.handle().expect("a handle is free");
+/// for number in 0..10_000 {
+///     handle.push(number).expect("the queue does not wear out");
+///     assert_eq!(handle.pop(), Ok(number));
+/// }
+/// # Ok::<(), kfifo::OpenError>(())
+/// ```
+#[derive(Clone, Copy, Debug, PartialEq, Eq)]
+pub struct Versions {
+    /// The greatest version of a word, 2 to 2^40 - 1.
+    pub last: u64,
+    /// With fewer versions left, the queue goes on in its next generation. It is below `last`. With 0 the queue does
+    /// not, and wears out.
+    pub reserve: u64,
+}
+
+impl Default for Versions {
+    /// 2^40 - 1, and a reserve of 2^32.
+    fn default() -> Versions {
+        Versions {
+            last: (1 << 40) - 1,
+            reserve: 1 << 32,
+        }
+    }
+}
 
 /// A queue of values.
 ///
@@ -132,18 +167,37 @@ impl<T> Queue<T> {
         handles: usize,
         tokens: u32,
     ) -> Result<Queue<T>, OpenError> {
-        Queue::with_versions(k, segments, handles, tokens, shared::LAST)
+        Queue::with_versions(k, segments, handles, tokens, Versions::default())
     }
 
-    /// As [`Queue::with_tokens`], with the versions up to `last`.
-    fn with_versions(
+    /// As [`Queue::with_tokens`], with versions of one's own.
+    ///
+    /// ```
+    /// use kfifo::{Queue, Versions};
+    ///
+    /// // A queue that wears out.
+    /// let versions = Versions { last: 64, reserve: 0 };
+    /// let queue = Queue::with_versions(1, 8, 1, 9, versions)?;
+    /// let handle = queue.handle().expect("a handle is free");
+    /// let end = loop {
+    ///     if let Err(refused) = handle.push(7) {
+    ///         break refused.to_string();
+    ///     }
+    ///     if let Err(end) = handle.pop() {
+    ///         break end.to_string();
+    ///     }
+    /// };
+    /// assert_eq!(end, "the versions of the queue are used up");
+    /// # Ok::<(), kfifo::OpenError>(())
+    /// ```
+    pub fn with_versions(
         k: u32,
         segments: u32,
         handles: usize,
         tokens: u32,
-        last: u64,
+        versions: Versions,
     ) -> Result<Queue<T>, OpenError> {
-        let shared = Shared::open(k, segments, handles, tokens, last)?;
+        let shared = Shared::open(k, segments, handles, tokens, versions)?;
         Ok(Queue {
             shared: Arc::new(shared),
         })
@@ -190,8 +244,8 @@ impl<T> Queue<T> {
         self.shared.finish();
     }
 
-    /// Closes the queue and gives back the values that are left, in its order. The queue comes back where a handle is
-    /// still in use.
+    /// Closes the queue and gives back the values that are left, in its order: those of the oldest generation first.
+    /// The queue comes back where a handle is still in use.
     ///
     /// Where the versions of the queue are used up and there is no memory to close it, the values come in another
     /// order.
@@ -269,7 +323,8 @@ pub struct Handle<T> {
 }
 
 impl<T> Handle<T> {
-    /// Puts a value into the queue. What is refused hands it back. It never waits, locks or allocates.
+    /// Puts a value into the queue. What is refused hands it back. It never waits or locks, and allocates only where it
+    /// opens or joins a generation.
     ///
     /// What this thread wrote before is seen by the thread that takes the value.
     ///
@@ -333,7 +388,7 @@ impl<T> Handle<T> {
         }
     }
 
-    /// Takes one of the k oldest values. It never waits, locks or frees.
+    /// Takes one of the k oldest values. It never waits or locks, and allocates only where it joins a generation.
     ///
     /// ```
     /// let queue = kfifo::Queue::new(4, 64, 1)?;
@@ -381,7 +436,7 @@ impl<T> Handle<T> {
 
     /// The values that come, until the queue is finished and empty; it sleeps while there is none.
     ///
-    /// It ends also where the versions of the queue are used up: [`Handle::pop`] then says which of the two it was.
+    /// It ends also where [`Handle::pop`] answers `Worn`: a further `pop` says which of the two it was.
     ///
     /// ```
     /// let queue = kfifo::Queue::new(1, 64, 1)?;

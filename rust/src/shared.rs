@@ -1,13 +1,11 @@
 //! What a queue and its handles share: the passes of the C library, which of them are in use, and the cells.
+use crate::Versions;
 use crate::cells::Cells;
 use crate::error::{OpenError, PopError, PushError};
 use crate::ffi;
 use std::cell::UnsafeCell;
 use std::mem::ManuallyDrop;
 use std::sync::atomic::{AtomicBool, Ordering};
-
-/// The greatest version of a word.
-pub(crate) const LAST: u64 = (1 << 40) - 1;
 
 /// The passes of a queue, which are closed when they are dropped.
 struct Passes(Box<[UnsafeCell<ffi::Pass>]>);
@@ -18,23 +16,34 @@ impl Passes {
         segments: u32,
         handles: usize,
         tokens: u32,
-        last: u64,
+        versions: Versions,
     ) -> Result<Passes, OpenError> {
         // More than 64 handles are refused as 65 are, without memory for them.
         let threads = handles.min(65);
         let mut passes: Vec<ffi::Pass> = (0..threads).map(|_| ffi::Pass::closed()).collect();
         // SAFETY: the array has as many passes as is said, and each is closed.
         let status = unsafe {
-            ffi::kfifo_c_open_values(k, segments, k, last, tokens, passes.as_mut_ptr(), threads)
+            ffi::kfifo_c_open_cells(
+                k,
+                segments,
+                k,
+                versions.last,
+                tokens,
+                versions.reserve,
+                passes.as_mut_ptr(),
+                threads,
+            )
         };
         match status {
             ffi::DONE => Ok(Passes(passes.into_iter().map(UnsafeCell::new).collect())),
             ffi::BAD_K | ffi::BAD_PROBES => Err(OpenError::KOutOfRange),
             ffi::BAD_SEGMENTS => Err(OpenError::SegmentsOutOfRange),
+            ffi::BAD_LAST => Err(OpenError::LastOutOfRange),
+            ffi::BAD_RESERVE => Err(OpenError::ReserveOutOfRange),
             ffi::BAD_THREADS => Err(OpenError::ThreadsOutOfRange),
             ffi::BAD_TOKENS => Err(OpenError::TokensOutOfRange),
             status => {
-                debug_assert_ne!(status, ffi::BAD_LAST);
+                debug_assert_eq!(status, ffi::NO_MEMORY);
                 Err(OpenError::OutOfMemory)
             }
         }
@@ -49,7 +58,7 @@ impl Drop for Passes {
     fn drop(&mut self) {
         // SAFETY: these are all passes of a queue, and nobody else uses one: `&mut self`. Those that are closed already
         // stay so.
-        unsafe { ffi::kfifo_c_abandon_values(self.0.as_mut_ptr().cast(), self.0.len()) };
+        unsafe { ffi::kfifo_c_abandon_cells(self.0.as_mut_ptr().cast(), self.0.len()) };
     }
 }
 
@@ -58,7 +67,8 @@ pub(crate) struct Shared<T> {
     passes: Passes,
     in_use: Box<[AtomicBool]>,
     cells: Cells<T>,
-    slots: usize,
+    /// How many cells there are.
+    count: usize,
     waits: ffi::Waits,
 }
 
@@ -71,21 +81,20 @@ unsafe impl<T: Send> Send for Shared<T> {}
 unsafe impl<T: Send> Sync for Shared<T> {}
 
 impl<T> Shared<T> {
-    /// A queue whose words have the versions up to `last`.
     pub(crate) fn open(
         k: u32,
         segments: u32,
         handles: usize,
         tokens: u32,
-        last: u64,
+        versions: Versions,
     ) -> Result<Shared<T>, OpenError> {
-        let passes = Passes::open(k, segments, handles, tokens, last)?;
+        let passes = Passes::open(k, segments, handles, tokens, versions)?;
         // The library has looked at the numbers, so that the sizes below are in bounds.
         Ok(Shared {
             passes,
             in_use: (0..handles).map(|_| AtomicBool::new(false)).collect(),
             cells: Cells::new(handles, tokens).ok_or(OpenError::OutOfMemory)?,
-            slots: k as usize * segments as usize,
+            count: handles * tokens as usize,
             waits: ffi::Waits::open(),
         })
     }
@@ -323,7 +332,7 @@ impl<T> Shared<T> {
                 Err(end) => break end,
             }
         };
-        if end == PopError::Worn {
+        if !matches!(end, PopError::Empty | PopError::Finished) {
             for cell in self.close() {
                 values.extend(self.cells.take(cell));
             }
@@ -333,20 +342,20 @@ impl<T> Shared<T> {
         values
     }
 
-    /// Closes a queue whose versions are used up, and returns the cells that are in it; none where there is no memory
-    /// for that.
+    /// Closes a queue whose versions are used up, and returns the cells that are in it, in its order; none where there
+    /// is no memory for that.
     fn close(&mut self) -> Vec<u64> {
         let passes = &mut self.passes.0;
         let mut cells = Vec::new();
-        if cells.try_reserve_exact(self.slots).is_err() {
+        if cells.try_reserve_exact(self.count).is_err() {
             return cells;
         }
-        cells.resize(self.slots, 0);
+        cells.resize(self.count, 0);
         let mut count = 0;
         // SAFETY: these are all passes of the queue, `&mut self` says that nobody else uses one, and there is room for
-        // a cell of each slot.
+        // each cell.
         let status = unsafe {
-            ffi::kfifo_c_close_values(
+            ffi::kfifo_c_close_cells(
                 passes.as_mut_ptr().cast(),
                 passes.len(),
                 cells.as_mut_ptr(),

@@ -115,7 +115,8 @@ fn a_test_of_the_length_outside_the_lock_is_found() {
         TestOutside::pop,
         finding("test_outside"),
     );
-    finds(report, &[NOWHERE, TWICE]);
+    // The length is two loads. Where the head moves on between them, it may be 0 with items inside.
+    finds(report, &[NOWHERE, TWICE, EMPTY, OVERTAKEN]);
 }
 
 #[test]

@@ -1,8 +1,11 @@
+mod CellHandles
+mod CellHeldValues
 mod Cells
 mod Closings
 mod HeldValues
+mod Minting
 mod Passes
 mod Tried
+mod ValueHandles
 mod ValueHeldValues
-mod ValuePasses
 mod Values

@@ -1,3 +1,7 @@
+pub mod CellHandles
+pub mod CellLent
+pub mod CellQueues
+pub mod CellSeats
 pub mod Cells
 pub mod Exports
 pub mod Handles

@@ -3,6 +3,7 @@
 
 mod address;
 mod calls;
+mod cell_queue;
 mod closing;
 mod handle;
 mod held;
@@ -13,6 +14,9 @@ mod seat;
 mod status;
 mod value_queue;
 
+pub use cell_queue::handle::CellHandle;
+pub use cell_queue::held::CellHeld;
+pub use cell_queue::seat::CellSeat;
 pub use handle::Handle;
 pub use held::Held;
 pub use seat::Seat;

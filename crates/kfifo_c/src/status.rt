@@ -18,6 +18,8 @@ pub(crate) const NO_TOKEN: u32 = 10;
 pub(crate) const BAD_THREADS: u32 = 8;
 /// The number of tokens of a thread is not 1 to 1,024.
 pub(crate) const BAD_TOKENS: u32 = 15;
+/// The reserve of versions is not below the greatest version.
+pub(crate) const BAD_RESERVE: u32 = 18;
 /// The queue was closed, and an allocation failed, so the items that were left are lost.
 pub(crate) const LOST: u32 = 9;
 

@@ -1,7 +1,5 @@
-//! Queues of values for C: 64-bit numbers, or pointers as such numbers, or the cells of an array of the caller's.
-pub(crate) mod address;
+//! Queues of values for C: 64-bit numbers, or pointers as such numbers. They do not wear out.
 pub(crate) mod calls;
-pub(crate) mod cells;
 pub(crate) mod closing;
 pub(crate) mod handle;
 pub(crate) mod held;

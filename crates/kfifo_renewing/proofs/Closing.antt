@@ -1,20 +1,17 @@
--- One queue more is closed.
-use Rattle.std.proofs.Common.{List, [], ◌∷◌, ◌++◌, ap, sym, ◌∙◌}
+-- One generation more is closed.
+use Rattle.std.proofs.Common.{List, [], ◌∷◌, ◌++◌, append_assoc, ap, refl, sym, ◌∙◌}
 use Rattle.std.proofs.lemmas.List.{append-nil}
-use Rattle.std.proofs.lemmas.Grind.{flat_map-append}
-use Rattle.std.specs.Prelude.{flat_map}
-use Rattle.kfifo_live.specs.declared.view.Opening.{Opening}
-use Rattle.kfifo_renewing.specs.Renewing.{ClosesAll, WereLeft, WereLeftInEach}
+use Rattle.kfifo_live.specs.Handles.{PayHeld}
+use Rattle.kfifo_renewing.specs.Renewing.{ClosesEach, WereLeft}
 
-module _ {T : Type 0} (o : Opening) where
-  each-more : (each : List (List T)) (left : List T) → WereLeftInEach o each → WereLeft o left → WereLeftInEach o (each ++ left ∷ [])
-  each-more [] left before here = (here, tt)
-  each-more (first ∷ each) left before here = (before.0, each-more each left before.1 here)
-
-  pub closes-more : (before left : List T) → ClosesAll o before → WereLeft o left → ClosesAll o (before ++ left)
-  closes-more before left (each, is, were) here = (
-    each ++ left ∷ [],
-    ap (λ l. l ++ left) is ∙ ap (λ l. flat_map (λ left. left) each ++ l) (sym (append-nil left))
-        ∙ sym (flat_map-append (λ left. left) each (left ∷ [])),
-    each-more each left were here,
+module _ {T : Type 0} where
+  pub closes-more : (done : List (PayHeld T)) (before : List T) (h : PayHeld T) (left : List T) → ClosesEach done before
+      → WereLeft h left → ClosesEach (done ++ h ∷ []) (before ++ left)
+  closes-more [] before h left none here = (left, [], ap (λ b. b ++ left) none ∙ sym (append-nil left), here, refl)
+  closes-more (x ∷ done) before h left (first, rest, e, were, each) here = (
+    first,
+    rest ++ left,
+    ap (λ b. b ++ left) e ∙ append_assoc first rest left,
+    were,
+    closes-more done rest h left each here,
   )

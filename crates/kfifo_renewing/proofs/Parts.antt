@@ -1,10 +1,10 @@
 -- Lists: parts of them, and what holds of all their elements.
-use Rattle.std.proofs.Common.{◌≡◌, ◌+◌, ℕ, zero, suc, List, [], ◌∷◌, ◌++◌, All, take, drop, length, refl, sym, ap, ◌∙◌, subst, inl, inr}
-use Rattle.std.proofs.Common.{⊎_elim, arith}
+use Rattle.std.proofs.Common.{◌≡◌, ◌==◌, ◌+◌, ℕ, zero, suc, not, List, [], ◌∷◌, ◌++◌, All, take, drop, length, refl, sym, ap}
+use Rattle.std.proofs.Common.{⊎_elim, arith, ◌∙◌, subst, inl, inr}
 use Rattle.std.proofs.lemmas.List.{append-nil, drop_all, take_all}
-use Rattle.std.proofs.lemmas.List.Elements.{All-append, All-cons, All-drop, All-nil, All-take}
+use Rattle.std.proofs.lemmas.List.Elements.{All-append, All-cons, All-drop, All-nil, All-take, filter-append}
 use Rattle.kfifo_live.specs.Schedule.{count_up}
-use Rattle.kfifo_renewing.specs.Renewing.{IsPartOf}
+use Rattle.kfifo_renewing.specs.Renewing.{IsPartOf, other_threads, without}
 
 module _ {A : Type 0} where
   pub part-refl : (xs : List A) → IsPartOf xs xs
@@ -71,3 +71,8 @@ count-more first zero = ap (λ k. k ∷ []) (let e : first ≡ first + 0 = omega
 count-more first (suc n) =
     ap (λ k. count_up first k) (let e : suc n + 1 ≡ suc (n + 1) = omega arith in e) ∙ ap (λ l. first ∷ l) (count-more (suc first) n)
     ∙ ap (λ k. first ∷ count_up (suc first) n ++ k ∷ []) (let e : suc first + n ≡ first + suc n = omega arith in e)
+
+-- one thread more
+pub others-more : (own n : ℕ) → other_threads own (n + 1) ≡ other_threads own n ++ without own (n ∷ [])
+others-more own n = ap (without own) (count-more 0 n) ∙ filter-append (λ thread. not (thread == own)) (count_up 0 n) ((0 + n) ∷ [])
+    ∙ ap (λ k. other_threads own n ++ without own (k ∷ [])) (let e : 0 + n ≡ n = omega arith in e)

@@ -1,5 +1,5 @@
 -- The generations of a renewing queue, as a handle has joined them, and what its calls do to each.
-use Rattle.std.specs.Prelude.{◌≡◌, ◌≢◌, ◌⊎◌, List, [], ◌∷◌, ◌++◌, All, flat_map, map, Option, Some, None}
+use Rattle.std.specs.Prelude.{◌≡◌, ◌≢◌, ◌⊎◌, ◌==◌, ℕ, not, List, [], ◌∷◌, ◌++◌, All, filter, map, Option, Some, None}
 use Rattle.kfifo_live.specs.declared.payload.Given.{Given}
 use Rattle.kfifo_live.specs.declared.payload.Given.TheVariants as G
 use Rattle.kfifo_live.specs.declared.payload.Taken.{Taken}
@@ -15,6 +15,14 @@ use Rattle.kfifo_renewing.specs.declared.generation.Sizes.{Sizes}
 -- what each generation of a queue of these sizes is opened with
 abbrev pub opening_of : Sizes → Opening
 opening_of s = pay_opening s.shape s.threads s.tokens
+
+-- these threads but one
+abbrev pub without : ℕ → List ℕ → List ℕ
+without own = filter (λ thread. not (thread == own))
+
+-- the threads of a queue but one, in their order
+abbrev pub other_threads : ℕ → ℕ → List ℕ
+other_threads own threads = without own (count_up 0 threads)
 
 module _ {A : Type 0} where
   -- a list with some of the elements of another, in its order
@@ -101,20 +109,21 @@ module _ {T : Type 0} where
   TakesFromOldest answer old new = (here : Generations T) × Follows old here
       × (TakesOldest answer here new ⊎ ((answer ≡ K.Busy) × (new ≡ here)))
 
-  -- what a close of a queue with this opening returned, by the pass of each of its threads
-  pub record WereLeft (o : Opening) (payloads : List T) : Type 0 where
+  -- What a close of a generation returned: by the pass of this handle, and the passes of all other threads
+  pub record WereLeft (h : PayHeld T) (payloads : List T) : Type 0 where
     pub queue : OpenQueue
-    pub opened : queue.opened ≡ o
-    pub last : PayPassView T
+    pub of : IsPassOf queue h.pass.pass
     pub others : List (PayPassView T)
-    pub complete : map (λ p. p.pass.thread) (others ++ last ∷ []) ≡ count_up 0 o.threads
-    pub closes : PayCloses queue last others payloads
+    pub each_other : map (λ p. p.pass.thread) others ≡ other_threads h.pass.pass.thread queue.opened.threads
+    pub closes : PayCloses queue h.pass others payloads
 
   -- what such closes returned, one after the other
-  abbrev pub WereLeftInEach : Opening → List (List T) → Type 0
-  WereLeftInEach o [] = Unit {0}
-  WereLeftInEach o (payloads ∷ rest) = WereLeft o payloads × WereLeftInEach o rest
+  abbrev pub ClosesEach : List (PayHeld T) → List T → Type 0
+  ClosesEach [] payloads = payloads ≡ []
+  ClosesEach (h ∷ hs) payloads = (first : List T) × (rest : List T) × (payloads ≡ first ++ rest) × WereLeft h first
+      × ClosesEach hs rest
 
-  -- the payloads that were left in several queues with this opening
-  abbrev pub ClosesAll : Opening → List T → Type 0
-  ClosesAll o payloads = (each : List (List T)) × (payloads ≡ flat_map (λ left. left) each) × WereLeftInEach o each
+  -- What a close returned by its last handle: the handle followed others, and each of its generations was closed, the
+  -- oldest first
+  abbrev pub ClosesAll : Generations T → List T → Type 0
+  ClosesAll last payloads = (here : Generations T) × Follows last here × ClosesEach (all_of here) payloads

@@ -1,9 +1,9 @@
 //! A generation: a queue of payloads, with the passes that wait in it for their threads.
-ghost use Rattle.std.specs.Prelude.{◌≡◌, All, IfOk, IfSome, map};
+ghost use Rattle.std.specs.Prelude.{◌≡◌, ◌<◌, ◌≤◌, ◌+◌, ◌++◌, [], ◌∷◌, All, IfOk, IfSome, length, map, vec_capacity};
 ghost use Rattle.kfifo_live.specs.Pass.{IsPassOf, OpenQueue};
-ghost use Rattle.kfifo_live.specs.Schedule.{count_up};
-ghost use Rattle.kfifo_renewing.specs.Renewing.{opening_of};
+ghost use Rattle.kfifo_renewing.specs.Renewing.{opening_of, other_threads, without};
 
+use crate::exclusive::Exclusive;
 use counted_slot::{Counted, FREE, Fits, TAKEN};
 use kfifo_live::{CloseFault, OpenFault, PayPass, PayQueue};
 use kfifo_words::Shape;
@@ -21,15 +21,35 @@ pub struct Sizes {
 }
 
 /// A pass that waits for its thread.
+// Handles of all threads share the passes that wait. What is shared may be read by any thread unless nothing can be.
 #[derive(Drop)]
 pub(crate) struct Waiting<T: Drop> {
-    pass: PayPass<T>,
+    pass: Exclusive<PayPass<T>>,
+}
+
+impl<T: Drop> Waiting<T> {
+    /// This pass, which waits.
+    fn new(pass: PayPass<T>) -> Waiting<T>
+        ensures { result.pass.inner ≡ pass }
+    {
+        Waiting {
+            pass: Exclusive::new(pass),
+        }
+    }
+
+    /// The pass.
+    fn into_pass(self) -> PayPass<T>
+        ensures { result ≡ self.pass.inner }
+    {
+        let Waiting { pass } = self;
+        pass.into_inner()
+    }
 }
 
 impl<T: Drop> Fits for Waiting<T> {
     type Tag = PayQueue<T>;
 
-    ghost fits = { λ queue waiting. IsPassOf queue waiting.pass.pass };
+    ghost fits = { λ queue waiting. IsPassOf queue waiting.pass.inner.pass };
 }
 
 /// A queue of payloads with its number, the passes that wait in it, and how many handles may give to it.
@@ -62,9 +82,48 @@ fn seat_all<T: Drop>(
 {
     let mut waiting = Vec::with_capacity(alloc, passes.len())?;
     for pass in passes {
-        waiting.push(Counted::new(Some(Waiting { pass }), queue))?;
+        let waits = Waiting::new(pass);
+        waiting.push(Counted::new(Some(waits), queue))?;
     }
     Ok(waiting)
+}
+
+/// The pass of this thread, if it waits in this place.
+fn pass_in<T: Drop>(place: Counted<Option<Waiting<T>>>, thread: u32) -> Option<PayPass<T>>
+    ensures { IfSome result (λ p. IsPassOf place p.pass × (p.pass.thread ≡ thread)) }
+{
+    let waiting = place.into_inner()?;
+    let pass = waiting.into_pass();
+    if pass.thread() == thread {
+        Some(pass)
+    } else {
+        None
+    }
+}
+
+/// Adds the pass of this thread, which waits in this place, to those of the others, unless the thread is the own one.
+fn add_other<T: Drop>(
+    others: &mut Vec<PayPass<T>>,
+    place: Counted<Option<Waiting<T>>>,
+    thread: u32,
+    own: u32,
+) -> Result<(), CloseFault>
+    requires { length others.old.items < vec_capacity others.old }
+    ensures room { IfOk result (λ _. (vec_capacity others.new ≡ vec_capacity others.old)
+        × (length others.new.items ≤ length others.old.items + 1)) }
+    ensures of { IfOk result (λ _. All (λ p. IsPassOf place p.pass) others.old.items
+        → All (λ p. IsPassOf place p.pass) others.new.items) }
+    ensures threads { IfOk result (λ _. map (λ p. p.pass.thread) others.new.items
+        ≡ map (λ p. p.pass.thread) others.old.items ++ without own (thread ∷ [])) }
+{
+    if thread == own {
+        return Ok(());
+    }
+    let Some(pass) = pass_in(place, thread) else {
+        return Err(CloseFault::MissingPass);
+    };
+    others.push_reserved(pass);
+    Ok(())
 }
 
 impl<T: Drop> Generation<T> {
@@ -114,8 +173,8 @@ impl<T: Drop> Generation<T> {
             claim.done();
             return None;
         }
-        let Waiting { pass } = claim.put(None, FREE)?;
-        Some(pass)
+        let waiting = claim.put(None, FREE)?;
+        Some(waiting.into_pass())
     }
 
     /// Lets the pass of this thread wait here again.
@@ -130,7 +189,7 @@ impl<T: Drop> Generation<T> {
             claim.done();
             return;
         }
-        let _ = claim.put(Some(Waiting { pass }), FREE);
+        let _ = claim.put(Some(Waiting::new(pass)), FREE);
     }
 
     /// One handle more gives to it.
@@ -148,32 +207,30 @@ impl<T: Drop> Generation<T> {
         self.givers.load(SeqCst) != 0
     }
 
-    /// The queue and its passes, in the order of their threads, if all of them wait here.
+    /// The queue, and the passes of all its threads but this one, in their order, if all of them wait here.
     pub(crate) fn into_parts(
         self,
         alloc: Global,
         threads: u32,
+        own: u32,
     ) -> Result<(PayQueue<T>, Vec<PayPass<T>>), CloseFault>
         ensures queue { IfOk result (λ r. r.0 ≡ self) }
         ensures of { IfOk result (λ r. All (λ p. IsPassOf self p.pass) r.1.items) }
-        ensures all { IfOk result (λ r. map (λ p. p.pass.thread) r.1.items ≡ count_up 0 threads) }
+        ensures others { IfOk result (λ r. map (λ p. p.pass.thread) r.1.items ≡ other_threads own threads) }
     {
         let Generation { queue, waiting, .. } = self;
-        let mut passes = Vec::with_capacity(alloc, threads as usize)?;
+        let mut others = Vec::with_capacity(alloc, threads as usize)?;
         let mut thread = 0;
         for place in waiting {
-            let Some(Waiting { pass }) = place.into_inner() else {
-                return Err(CloseFault::MissingPass);
-            };
-            if thread >= threads || pass.thread() != thread {
+            if thread >= threads {
                 return Err(CloseFault::MissingPass);
             }
-            passes.push_reserved(pass);
+            add_other(&mut others, place, thread, own)?;
             thread += 1;
         }
         if thread < threads {
             return Err(CloseFault::MissingPass);
         }
-        Ok((queue, passes))
+        Ok((queue, others))
     }
 }

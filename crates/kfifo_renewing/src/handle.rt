@@ -1,10 +1,12 @@
 //! Calls of a renewing queue.
-ghost use Rattle.std.specs.Prelude.{◌≡◌, ◌⊎◌, List, [], All, IfOk};
+ghost use Rattle.std.specs.Prelude.{◌≡◌, ◌⊎◌, List, [], All, IfOk, IfSome, length};
+ghost use Rattle.std.specs.Ptr.{as_ptr};
 ghost use Rattle.kfifo_live.specs.Handles.{PayHeld};
-ghost use Rattle.kfifo_renewing.specs.Renewing.{Follows, Generations, GivesToNewest, IsOpenedAs, IsPartOf};
+ghost use Rattle.kfifo_renewing.specs.Renewing.{Follows, Generations, GivesToNewest, IsOpenedAs, IsPartOf, all_of};
 ghost use Rattle.kfifo_renewing.specs.Renewing.{TakesFirst, TakesFromOldest, TakesOldest, TakesThere, TriesToGive, opening_of};
 
 use crate::joined::Joined;
+use crate::leaving::Leaving;
 use crate::queue::Shared;
 use kfifo_live::{Given, Taken};
 use std::alloc::{AllocError, Global};
@@ -34,11 +36,12 @@ const TRIES: u32 = 64;
 /// ```
 ///
 /// Clauses see it as the generations that it has joined: its handle in each.
+#[derive(Drop)]
 pub struct RenewingHandle<T: Drop> {
     shared: Arc<Shared<T>, Global>,
-    newest: Joined<T>,
+    newest: Leaving<Joined<T>>,
     /// The generations before it that may still have payloads, the oldest first.
-    older: Vec<Joined<T>>,
+    older: Vec<Leaving<Joined<T>>>,
     thread: u32,
     /// The number of the newest generation, while the handle counts among those that give to it, and NONE else.
     seen: u64,
@@ -60,14 +63,14 @@ impl<T: Drop> RenewingHandle<T> {
     pub(crate) fn new(
         alloc: Global,
         shared: Arc<Shared<T>, Global>,
-        newest: Joined<T>,
+        mut newest: Leaving<Joined<T>>,
         thread: u32,
     ) -> Result<RenewingHandle<T>, AllocError>
         requires { IsOpenedAs (opening_of shared.value) newest }
         ensures { IfOk result (λ h. (h.opened ≡ opening_of shared.value) × (h.older ≡ []) × (h.newest ≡ newest)) }
     {
         let older = Vec::with_capacity(alloc, shared.places().count())?;
-        newest.generation().add_giver();
+        newest.start_giving();
         let gives_between_looks = shared.gives_between_looks();
         let seen = shared.newest();
         Ok(RenewingHandle {
@@ -128,10 +131,8 @@ impl<T: Drop> RenewingHandle<T> {
     fn stop_giving(&mut self)
         ensures { self.new ≡ self.old }
     {
-        if self.seen != NONE {
-            self.newest.generation().remove_giver();
-            self.seen = NONE;
-        }
+        self.newest.stop_giving();
+        self.seen = NONE;
     }
 
     /// Leaves those of the older generations that are gone from their places: nobody gives to them any more, and they
@@ -144,11 +145,11 @@ impl<T: Drop> RenewingHandle<T> {
         let mut index = 0;
         while index < self.older.len() {
             let joined = &self.older[index];
-            if self.shared.places().has(joined.place, joined.number()) {
+            if self.shared.places().has(joined.place(), joined.number()) {
                 index += 1;
             } else {
                 let gone = self.older.remove(index);
-                gone.leave(self.thread);
+                drop(gone);
             }
         }
     }
@@ -159,6 +160,33 @@ impl<T: Drop> RenewingHandle<T> {
             Some(joined) => joined.number(),
             None => self.newest.number(),
         }
+    }
+
+    /// Counts the handle among those that give to the generation that it joined last, if that one is still the newest
+    /// of the queue, with this number. Returns whether it is.
+    fn give_to(&mut self, number: u64) -> bool
+        ensures { self.new ≡ self.old }
+    {
+        // Who sees the number risen and then nobody that gives takes the generation for over: so count first.
+        self.newest.start_giving();
+        if self.shared.newest() == number {
+            self.seen = number;
+            return true;
+        }
+        self.newest.stop_giving();
+        false
+    }
+
+    /// Joins each generation up to the one that is the newest now, and gives to that. Returns false where it could not,
+    /// or another one was the newest meanwhile.
+    fn try_to_follow(&mut self) -> bool
+        ensures { Follows self.old self.new }
+    {
+        let number = self.shared.newest();
+        if !self.join_up_to(number) {
+            return false;
+        }
+        self.give_to(number)
     }
 
     /// Joins the newest generation, and each before it that the handle has not joined. Returns false where it did not
@@ -172,14 +200,8 @@ impl<T: Drop> RenewingHandle<T> {
         self.leave_gone();
         self.shared.places().retire_below(self.oldest());
         for _ in 0..TRIES {
-            let number = self.shared.newest();
-            if self.join_up_to(number) {
-                self.newest.generation().add_giver();
-                if self.shared.newest() == number {
-                    self.seen = number;
-                    return true;
-                }
-                self.newest.generation().remove_giver();
+            if self.try_to_follow() {
+                return true;
             }
         }
         false
@@ -234,10 +256,9 @@ impl<T: Drop> RenewingHandle<T> {
     fn count_give(&mut self)
         ensures { self.new ≡ self.old }
     {
-        if self.gives_left == 0 {
-            self.look();
-        } else {
-            self.gives_left -= 1;
+        match self.gives_left.checked_sub(1) {
+            Some(left) => self.gives_left = left,
+            None => self.look(),
         }
     }
 
@@ -273,8 +294,8 @@ impl<T: Drop> RenewingHandle<T> {
     {
         let taken = take_first(self.older.as_mut_slice());
         for joined in self.older.iter() {
-            if joined.is_over {
-                self.shared.places().retire(joined.place, joined.number());
+            if joined.is_over() {
+                self.shared.places().retire(joined.place(), joined.number());
             }
         }
         self.leave_gone();
@@ -304,9 +325,19 @@ impl<T: Drop> RenewingHandle<T> {
     fn take_oldest(&mut self) -> Taken<T>
         ensures { TakesOldest result self.old self.new }
     {
-        if self.older.is_empty() {
-            return self.take_newest();
+        if !self.older.is_empty() {
+            return self.take_from_all();
         }
+        self.take_newest()
+    }
+
+    /// The same, where the handle has older generations.
+    // With a second take of the newest generation in one function with the first, a take costs 10 instructions more.
+    #[cold]
+    #[inline(never)]
+    fn take_from_all(&mut self) -> Taken<T>
+        ensures { TakesOldest result self.old self.new }
+    {
         match self.take_older() {
             Some(taken) => taken,
             None => self.take_newest(),
@@ -332,17 +363,55 @@ impl<T: Drop> RenewingHandle<T> {
         self.take_oldest()
     }
 
-    /// Leaves all generations, and returns what the handles share.
-    pub(crate) fn leave(self) -> Result<Arc<Shared<T>, Global>, AllocError>
-        ensures { IfOk result (λ shared. opening_of shared.value ≡ self.opened) }
+    /// Follows others that have opened a newer generation, and returns in how many generations the handle then is.
+    ///
+    /// That is 1, but for the time of a change: an older one stays until it is found empty and no handle can give to it
+    /// any more. Returns None where memory was missing, or others opened new ones all the time.
+    pub fn generations(&mut self) -> Option<usize>
+        ensures follows { Follows self.old self.new }
+        ensures count { IfSome result (λ n. n ≡ length (all_of self.new)) }
     {
-        Arc::try_clone(&self.shared)
+        if !self.keep_up() {
+            return None;
+        }
+        self.older.len().checked_add(1)
     }
+
+    /// Where its queue is: the same address for all handles of a queue, and another one for each other queue that is
+    /// open. Nothing is read or written through it.
+    pub fn address(&self) -> *mut u8 {
+        address_of(&self.shared)
+    }
+
+    /// Gives the handle up: what the handles share, and the generations that it has joined, the oldest first.
+    pub(crate) fn into_joined(
+        self,
+    ) -> Result<(Arc<Shared<T>, Global>, Vec<Leaving<Joined<T>>>), AllocError>
+        ensures shared { IfOk result (λ r. opening_of r.0.value ≡ self.opened) }
+        ensures joined { IfOk result (λ r. r.1.items ≡ all_of self) }
+        ensures of { IfOk result (λ r. All (IsOpenedAs (opening_of r.0.value)) r.1.items) }
+    {
+        let Self {
+            shared,
+            newest,
+            mut older,
+            ..
+        } = self;
+        older.push(newest)?;
+        Ok((shared, older))
+    }
+}
+
+/// The address of what the handles of a queue share.
+fn address_of<T: Drop>(shared: &Shared<T>) -> *mut u8
+    ensures { result ≡ as_ptr shared.entry }
+{
+    std::ptr::from_ref(shared) as *mut u8
 }
 
 /// Takes from the first of these generations that is not empty. One that was empty, and to which nobody gave any more
 /// before that, is over.
-fn take_first<T: Drop>(generations: &mut [Joined<T>]) -> Option<Taken<T>>
+fn take_first<T: Drop>(generations: &mut [Leaving<Joined<T>>]) -> Option<Taken<T>>
     ensures { TakesFirst result generations.old generations.new }
 {
     let (first, rest) = generations.split_first_mut()?;
@@ -350,31 +419,9 @@ fn take_first<T: Drop>(generations: &mut [Joined<T>]) -> Option<Taken<T>>
     let has_givers = first.generation().has_givers();
     match first.take() {
         Taken::Empty => {
-            first.is_over = !has_givers;
+            first.set_over(!has_givers);
             take_first(rest)
         }
         taken => Some(taken),
-    }
-}
-
-impl<T: Drop> Drop for RenewingHandle<T> {
-    /// Leaves all generations: the passes wait there again, so a close finds what is left.
-    fn drop(self) {
-        let Self {
-            shared: _,
-            newest,
-            older,
-            thread,
-            seen,
-            gives_left: _,
-            gives_between_looks: _,
-        } = self;
-        if seen != NONE {
-            newest.generation().remove_giver();
-        }
-        for joined in older {
-            joined.leave(thread);
-        }
-        newest.leave(thread);
     }
 }

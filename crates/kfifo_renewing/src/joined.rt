@@ -6,7 +6,8 @@ ghost use Rattle.kfifo_live.specs.Pass.{IsPassOf, IsSamePass};
 ghost use Rattle.kfifo_live.specs.Promise.{KeepsPromise};
 
 use crate::generation::Generation;
-use kfifo_live::{Given, PayHandle, Taken};
+use crate::leaving::{Leave, Leaving};
+use kfifo_live::{Given, PayHandle, PayPass, Taken};
 use std::alloc::Global;
 use std::marker::Model;
 use std::sync::Arc;
@@ -16,9 +17,12 @@ use std::sync::Arc;
 /// Clauses see it as that handle.
 #[derive(Drop)]
 pub(crate) struct Joined<T: Drop> {
-    pub(crate) place: usize,
+    place: usize,
     /// Whether it was found empty when nobody could give to it any more.
-    pub(crate) is_over: bool,
+    is_over: bool,
+    thread: u32,
+    /// Whether the handle counts among those that give to the generation.
+    gives: bool,
     generation: Arc<Generation<T>, Global>,
     handle: PayHandle<T>,
 }
@@ -37,27 +41,99 @@ impl<T: Drop> Joined<T> {
         generation: Arc<Generation<T>, Global>,
         place: usize,
         thread: u32,
-    ) -> Option<Joined<T>>
+    ) -> Option<Leaving<Joined<T>>>
         ensures { IfSome result (λ j. IsPassOf generation.value j.pass.pass) }
     {
         let pass = generation.take_pass(thread)?;
         let handle = PayHandle::new(generation.queue(), pass);
-        Some(Joined {
+        let part = Joined {
             place,
             is_over: false,
+            thread,
+            gives: false,
             generation,
             handle,
-        })
+        };
+        Some(Leaving { part })
+    }
+
+    /// Counts the handle no longer among those that give to the generation.
+    fn stop_giving(&mut self)
+        ensures { self.new ≡ self.old }
+    {
+        if self.gives {
+            self.generation.remove_giver();
+            self.gives = false;
+        }
+    }
+
+    /// The part in the generation, and the pass.
+    pub(crate) fn into_parts(self) -> (Arc<Generation<T>, Global>, PayPass<T>)
+        ensures pass { result.1 ≡ self.pass }
+        ensures of { IsPassOf result.0.value result.1.pass }
+    {
+        let Joined {
+            generation,
+            handle,
+            ..
+        } = self;
+        (generation, handle.into_pass())
+    }
+}
+
+impl<T: Drop> Leave for Joined<T> {
+    /// Leaves the generation: the pass of this thread waits there again.
+    fn leave(mut self) {
+        self.stop_giving();
+        let thread = self.thread;
+        let (generation, pass) = self.into_parts();
+        generation.give_back(thread, pass);
+    }
+}
+
+impl<T: Drop> Leaving<Joined<T>> {
+    /// The place of the generation.
+    pub(crate) fn place(&self) -> usize {
+        self.part.place
     }
 
     /// The number of the generation.
     pub(crate) fn number(&self) -> u32 {
-        self.generation.number()
+        self.part.generation.number()
     }
 
     /// The generation.
     pub(crate) fn generation(&self) -> &Generation<T> {
-        &self.generation
+        &self.part.generation
+    }
+
+    /// Whether the generation was found empty when nobody could give to it any more.
+    pub(crate) fn is_over(&self) -> bool {
+        self.part.is_over
+    }
+
+    /// Says whether it was.
+    pub(crate) fn set_over(&mut self, is_over: bool)
+        ensures { self.new ≡ self.old }
+    {
+        self.part.is_over = is_over;
+    }
+
+    /// Counts the handle among those that give to the generation.
+    pub(crate) fn start_giving(&mut self)
+        ensures { self.new ≡ self.old }
+    {
+        if !self.part.gives {
+            self.part.generation.add_giver();
+            self.part.gives = true;
+        }
+    }
+
+    /// Counts the handle no longer among them.
+    pub(crate) fn stop_giving(&mut self)
+        ensures { self.new ≡ self.old }
+    {
+        self.part.stop_giving();
     }
 
     /// Gives to the generation, as `PayHandle::give`.
@@ -67,7 +143,7 @@ impl<T: Drop> Joined<T> {
         ensures gives { PicksUpAndGives payload result self.old self.new }
         ensures promise { KeepsPromise self.new.pass.pass.opened self.new.pass.pass.seen }
     {
-        self.handle.give(self.generation.queue(), payload)
+        self.part.handle.give(self.part.generation.queue(), payload)
     }
 
     /// Takes from the generation, as `PayHandle::take`.
@@ -75,17 +151,6 @@ impl<T: Drop> Joined<T> {
     pub(crate) fn take(&mut self) -> Taken<T>
         ensures { TakesThere result self.old self.new }
     {
-        self.handle.take(self.generation.queue())
-    }
-
-    /// Leaves the generation: the pass of this thread waits there again.
-    pub(crate) fn leave(self, thread: u32) {
-        let Joined {
-            place: _,
-            is_over: _,
-            generation,
-            handle,
-        } = self;
-        generation.give_back(thread, handle.into_pass());
+        self.part.handle.take(self.part.generation.queue())
     }
 }

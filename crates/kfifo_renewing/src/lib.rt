@@ -2,13 +2,16 @@
 //! before it while that has versions left.
 #![tactic(auto)]
 
+mod exclusive;
 mod fault;
 mod generation;
 mod handle;
 mod joined;
+mod leaving;
 mod places;
 mod queue;
 
+pub use exclusive::Exclusive;
 pub use fault::RenewFault;
 pub use handle::RenewingHandle;
-pub use queue::{DEFAULT_RESERVE, close, open};
+pub use queue::{DEFAULT_RESERVE, NO_RENEWAL, close, open};

@@ -186,23 +186,6 @@ impl<T: Drop> Places<T> {
             }
         }
     }
-
-    /// The generations that are there, in no order.
-    pub(crate) fn into_all(
-        self,
-        alloc: Global,
-    ) -> Result<Vec<Arc<Generation<T>, Global>>, AllocError>
-        ensures { IfOk result (λ all. All (λ g. g.value.opened ≡ opening_of self) all.items) }
-    {
-        let Places { places, sizes: _ } = self;
-        let mut all = Vec::with_capacity(alloc, places.len())?;
-        for place in places {
-            if let Some(Held { generation }) = place.into_inner() {
-                all.push(generation)?;
-            }
-        }
-        Ok(all)
-    }
 }
 
 /// Empties a place whose word is this one, unless another thread changed it. The generation may go with it.

@@ -4,12 +4,14 @@ ghost use Rattle.kfifo_live.specs.Payloads.{pay_opening};
 ghost use Rattle.kfifo_live.specs.declared.fault.OpenFault.TheVariants.{ThreadsOutOfRange, TokensOutOfRange};
 ghost use Rattle.kfifo_renewing.specs.declared.fault.RenewFault.TheVariants.{Open, ReserveOutOfRange};
 ghost use Rattle.kfifo_renewing.specs.declared.generation.Sizes.{Sizes};
-ghost use Rattle.kfifo_renewing.specs.Renewing.{ClosesAll, Generations, HasOne, HaveOne, WereLeft, opening_of};
+ghost use Rattle.kfifo_renewing.specs.Renewing.{ClosesAll, ClosesEach, Generations, HasOne, HaveOne, IsOpenedAs};
+ghost use Rattle.kfifo_renewing.specs.Renewing.{WereLeft, opening_of};
 
 use crate::fault::RenewFault;
 use crate::generation::{Generation, Sizes};
 use crate::handle::RenewingHandle;
 use crate::joined::Joined;
+use crate::leaving::Leaving;
 use crate::places::Places;
 use kfifo_live::{CloseFault, MAX_TOKENS, OpenFault};
 use kfifo_model::MAX_THREADS;
@@ -23,6 +25,9 @@ use std::sync::atomic::Ordering::SeqCst;
 /// The reserve of versions that a queue has unless it is opened with another: with fewer left, a generation is followed
 /// by the next one.
 pub const DEFAULT_RESERVE: u64 = 0x1_0000_0000;
+
+/// The reserve of a queue that does not renew: it returns Worn for ever once its versions are used up.
+pub const NO_RENEWAL: u64 = 0;
 
 /// The most gives of a handle from one look at the versions that are left to the next.
 const GIVES_BETWEEN_LOOKS: u64 = 4_096;
@@ -62,6 +67,11 @@ impl<T: Drop> Shared<T> {
         self.newest.load(SeqCst)
     }
 
+    /// Whether the queue opens a next generation.
+    fn renews(&self) -> bool {
+        self.reserve != NO_RENEWAL
+    }
+
     /// Whether a generation has too few versions left.
     pub(crate) fn is_spent(&self, generation: &Generation<T>) -> bool {
         generation.queue().versions_left() < self.reserve
@@ -70,6 +80,9 @@ impl<T: Drop> Shared<T> {
     /// How many gives a handle makes from one look at the versions to the next.
     // Meanwhile the handles together use fewer versions up than an eighth of the reserve, two for each pair of calls.
     pub(crate) fn gives_between_looks(&self) -> u64 {
+        if !self.renews() {
+            return GIVES_BETWEEN_LOOKS;
+        }
         let each = self.reserve / 16 / u64::from(self.places.sizes.threads).max(1);
         each.min(GIVES_BETWEEN_LOOKS)
     }
@@ -84,10 +97,10 @@ impl<T: Drop> Shared<T> {
         Arc::new(self.alloc, generation).ok()
     }
 
-    /// Opens the next generation, unless another handle has opened one since the newest one was `seen`, or memory or
-    /// room is missing.
+    /// Opens the next generation, unless another handle has opened one since the newest one was `seen`, memory or room
+    /// is missing, or the queue opens none.
     pub(crate) fn renew(&self, seen: u64) {
-        if self.newest() != seen || !self.places.has_room() {
+        if !self.renews() || self.newest() != seen || !self.places.has_room() {
             return;
         }
         let Some(generation) = self.make() else {
@@ -107,12 +120,11 @@ impl<T: Drop> Shared<T> {
         }
     }
 
-    /// The places, at the end.
-    fn into_places(self) -> Places<T>
-        ensures { result ≡ self }
+    /// What each generation is opened with.
+    fn sizes(&self) -> Sizes
+        ensures { result ≡ self.now }
     {
-        let Shared { places, .. } = self;
-        places
+        self.places.sizes
     }
 }
 
@@ -230,7 +242,7 @@ fn open_tested<T: Drop>(
 /// Its first generation is a queue with a pool, as `PayQueue::open_with_pool` opens it, with so many tokens a thread.
 /// Each later one is opened like it, once the newest has fewer versions left than the reserve: `DEFAULT_RESERVE`, or
 /// less for tests. A reserve has to last until the generation is empty, which takes a version for each segment and each
-/// call that is under way.
+/// call that is under way. With `NO_RENEWAL` there is no later one.
 ///
 /// ```rust
 /// let shape = Shape::new(4, 8, MAX_VERSION)?; // k, segments, greatest version
@@ -269,38 +281,36 @@ pub fn open<T: Drop>(
     }
 }
 
-/// The payloads that are left in a generation.
+/// The payloads that are left in a generation, by this pass and those that wait there.
 fn close_one<T: Drop>(
     alloc: Global,
-    generation: Arc<Generation<T>, Global>,
+    joined: Leaving<Joined<T>>,
     sizes: &Sizes,
 ) -> Result<Vec<T>, CloseFault>
-    requires { generation.value.opened ≡ opening_of sizes.now }
-    ensures { IfOk result (λ left. WereLeft (opening_of sizes.now) left.items) }
+    requires { IsOpenedAs (opening_of sizes.now) joined }
+    ensures { IfOk result (λ left. WereLeft joined left.items) }
 {
+    let (generation, pass) = joined.into_part().into_parts();
     let Some(generation) = Arc::into_inner(generation) else {
         return Err(CloseFault::MissingPass);
     };
-    let (queue, mut passes) = generation.into_parts(alloc, sizes.threads)?;
-    let Some(pass) = passes.pop() else {
-        return Err(CloseFault::MissingPass);
-    };
-    let left = queue.close_with(alloc, pass, passes)?;
+    let (queue, others) = generation.into_parts(alloc, sizes.threads, pass.thread())?;
+    let left = queue.close_with(alloc, pass, others)?;
     Ok(left)
 }
 
 /// The payloads that are left in these generations, those of the first one first.
 fn close_each<T: Drop>(
     alloc: Global,
-    generations: Vec<Arc<Generation<T>, Global>>,
+    all: Vec<Leaving<Joined<T>>>,
     sizes: &Sizes,
 ) -> Result<Vec<T>, CloseFault>
-    requires { All (λ g. g.value.opened ≡ opening_of sizes.now) generations.items }
-    ensures { IfOk result (λ left. ClosesAll (opening_of sizes.now) left.items) }
+    requires { All (IsOpenedAs (opening_of sizes.now)) all.items }
+    ensures { IfOk result (λ left. ClosesEach all.items left.items) }
 {
     let mut left = Vec::new(alloc);
-    for generation in generations {
-        let mut values = close_one(alloc, generation, sizes)?;
+    for joined in all {
+        let mut values = close_one(alloc, joined, sizes)?;
         left.append(&mut values)?;
     }
     Ok(left)
@@ -308,8 +318,8 @@ fn close_each<T: Drop>(
 
 /// Closes a queue by all its handles, and returns the payloads that are left, those of the oldest generation first.
 ///
-/// Of each generation they are what is left after the one schedule of all calls there, in the order of
-/// `PayQueue::close`.
+/// The last handle first follows the others. Of each of its generations they are what is left after the one schedule of
+/// all calls there, in the order of `PayQueue::close`.
 ///
 /// MissingPass where one of its handles is still elsewhere, or none is given; Memory where an allocation failed. The
 /// payloads are then dropped.
@@ -318,20 +328,23 @@ pub fn close<T: Drop>(
     mut handles: Vec<RenewingHandle<T>>,
 ) -> Result<Vec<T>, CloseFault>
     ensures { IfOk result (λ left. (last : Generations T) × (others : List (Generations T))
-        × (handles.items ≡ others ++ last ∷ []) × ClosesAll last.opened left.items) }
+        × (handles.items ≡ others ++ last ∷ []) × ClosesAll last left.items) }
 {
-    let Some(last) = handles.pop() else {
+    let Some(mut last) = handles.pop() else {
         return Err(CloseFault::MissingPass);
     };
-    let shared = last.leave()?;
+    if last.generations().is_none() {
+        return Err(CloseFault::Memory);
+    }
+    // The passes of the others then wait in their generations.
     drop(handles);
+    let (shared, all) = last.into_joined()?;
     let Some(shared) = Arc::into_inner(shared) else {
         return Err(CloseFault::MissingPass);
     };
-    let places = shared.into_places();
-    let sizes = places.sizes;
-    let mut generations = places.into_all(alloc)?;
-    generations.sort_by_key(|generation| generation.number())?;
-    let left = close_each(alloc, generations, &sizes)?;
+    let sizes = shared.sizes();
+    // With the places the last other parts in the generations go.
+    drop(shared);
+    let left = close_each(alloc, all, &sizes)?;
     Ok(left)
 }

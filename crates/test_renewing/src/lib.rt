@@ -7,3 +7,5 @@ mod changes;
 mod pages;
 #[cfg(test)]
 mod plain;
+#[cfg(test)]
+mod threads;

@@ -1,5 +1,7 @@
-//! Queues whose versions are soon used up: each value still comes out or back once, and is dropped once.
+//! Queues that do not renew themselves, and whose versions are soon used up: each value still comes out or back once,
+//! and is dropped once.
 use super::Shared;
+use crate::Versions;
 use crate::error::{PopError, PushError};
 use crate::ffi;
 use std::rc::Rc;
@@ -15,7 +17,9 @@ struct Worn {
 
 impl Worn {
     fn open(k: u32, segments: u32, handles: usize, last: u64) -> Worn {
-        let shared = Shared::open(k, segments, handles, 8, last).expect("the sizes are in range");
+        let versions = Versions { last, reserve: 0 };
+        let shared =
+            Shared::open(k, segments, handles, 8, versions).expect("the sizes are in range");
         let alive = Rc::new(());
         Worn { shared, alive }
     }
@@ -163,7 +167,7 @@ fn what_is_left_comes_out_once_where_the_close_is_refused() {
         let last = passes.len() - 1;
         if last > 0 {
             // SAFETY: nobody uses the pass.
-            unsafe { ffi::kfifo_c_abandon_values(passes[last].get(), 1) };
+            unsafe { ffi::kfifo_c_abandon_cells(passes[last].get(), 1) };
         }
         let values = shared.into_values();
         assert_eq!(sorted(numbers_of(&values)), left);

@@ -2,8 +2,9 @@
 ghost use Rattle.std.specs.Prelude.{◌≡◌, ℕ, ⊤, None, Option, All};
 ghost use Rattle.kfifo_live.specs.declared.payload.Given.{Given as HasGiven};
 ghost use Rattle.kfifo_live.specs.declared.payload.Taken.{Taken as HasTaken};
+ghost use Rattle.kfifo_renewing.specs.Renewing.{GivesToNewest, TakesFromOldest};
 ghost use Rattle.kfifo_c.specs.Exports.{Tries};
-ghost use Rattle.kfifo_c.specs.Values.{GivesValue, TakesValue, given_number, taken_number, value_after};
+ghost use Rattle.kfifo_c.specs.Values.{given_number, taken_number, value_after};
 
 use crate::status::BAD_CALL;
 use crate::value_queue::handle::ValueHandle;
@@ -11,12 +12,12 @@ use crate::value_queue::status::{given_status, taken_status};
 use kfifo_live::Taken;
 use std::alloc::Global;
 
-/// Gives a value to the queue of the handle, as `PayHandle::give`, and returns its answer's number. Returns BAD_CALL,
-/// with nothing done, where the handle is closed.
+/// Gives a value to the queue of the handle, as `RenewingHandle::give`, and returns its answer's number. Returns
+/// BAD_CALL, with nothing done, where the handle is closed.
 #[unsafe(no_mangle)]
 pub extern "C" fn kfifo_c_give(pass: &mut ValueHandle, value: u64) -> u32
     ensures answer { (answer : Option (HasGiven ℕ)) × (result ≡ given_number answer)
-        × Tries (λ _. ⊤) (GivesValue value) answer pass.old.held.value pass.new.held.value }
+        × Tries (λ _. ⊤) (GivesToNewest value) answer pass.old.held.value pass.new.held.value }
     ensures address { pass.new.address ≡ pass.old.address }
 {
     if pass.starts == 0 {
@@ -26,13 +27,14 @@ pub extern "C" fn kfifo_c_give(pass: &mut ValueHandle, value: u64) -> u32
     given_status(&given)
 }
 
-/// Takes one of the k oldest values out of the queue of the handle, as `PayHandle::take`, writes the value if there is
-/// one, and returns its answer's number. Returns BAD_CALL, with nothing done, where the handle is closed.
+/// Takes one of the k oldest values of the oldest generation that has one out of the queue of the handle, as
+/// `RenewingHandle::take`, writes the value if there is one, and returns its answer's number. Returns BAD_CALL, with
+/// nothing done, where the handle is closed.
 #[unsafe(no_mangle)]
 pub extern "C" fn kfifo_c_take(pass: &mut ValueHandle, value: &mut u64) -> u32
     ensures answer { (answer : Option (HasTaken ℕ)) × (result ≡ taken_number answer)
         × (value.new ≡ value_after value.old answer)
-        × Tries (λ _. ⊤) TakesValue answer pass.old.held.value pass.new.held.value }
+        × Tries (λ _. ⊤) TakesFromOldest answer pass.old.held.value pass.new.held.value }
     ensures address { pass.new.address ≡ pass.old.address }
 {
     if pass.starts == 0 {

@@ -5,38 +5,35 @@ ghost use Rattle.kfifo_model.specs.declared.calls.TheConstants.{MAX_THREADS};
 ghost use Rattle.kfifo_live.specs.declared.payload_opening.TheConstants.{MAX_TOKENS};
 ghost use denote.RawPtr.{Ptr};
 ghost use Rattle.kfifo_words.specs.Sizes.{fault_of};
-ghost use Rattle.kfifo_live.specs.Pass.{IsPassOf};
 ghost use Rattle.kfifo_live.specs.declared.fault.OpenFault.TheVariants.{ThreadsOutOfRange, TokensOutOfRange};
+ghost use Rattle.kfifo_renewing.specs.declared.fault.RenewFault.TheVariants.{Open, ReserveOutOfRange};
 ghost use Rattle.kfifo_c.specs.ValueHandles.{values_behind};
 ghost use Rattle.kfifo_c.specs.Exports.{shape_number};
-ghost use Rattle.kfifo_c.specs.Values.{value_seats_of, OpensValues, OpensValueSizes};
+ghost use Rattle.kfifo_c.specs.Values.{OpensValues, OpensValueSizes};
 
 use crate::address::no_address;
-use crate::status::{BAD_THREADS, DONE, open_status, shape_status};
+use crate::status::{BAD_RESERVE, BAD_THREADS, DONE, shape_status};
 use crate::value_queue::handle::ValueHandle;
 use crate::value_queue::seat::ValueSeat;
-use kfifo_live::{OpenFault, PayPass, PayQueue};
+use crate::value_queue::status::renew_status;
+use kfifo_live::OpenFault;
+use kfifo_renewing::{RenewFault, RenewingHandle, open};
 use kfifo_words::Shape;
 use std::alloc::{AllocError, Global};
-use std::sync::Arc;
 
-/// A seat for each pass, the last pass first.
+/// A seat for each handle, the last handle first.
 fn seat_all(
     alloc: Global,
-    queue: PayQueue<u64>,
-    mut passes: Vec<PayPass<u64>>,
+    mut handles: Vec<RenewingHandle<u64>>,
+    shape: Shape,
     threads: u32,
 ) -> Result<Vec<Box<ValueSeat, Global>>, AllocError>
-    requires of { All (λ p. IsPassOf queue p.pass) passes.items }
-    requires threads { threads ≡ queue.opened.threads }
-    ensures { IfOk result (λ seats. reverse (map (λ seat. seat.value) seats.items)
-        ≡ value_seats_of queue passes.items) }
+    requires { All (λ h. (shape ≡ h.opened.shape) × (threads ≡ h.opened.threads)) handles.items }
+    ensures { IfOk result (λ seats. reverse (map (λ seat. seat.value) seats.items) ≡ handles.items) }
 {
-    let shared = Arc::new(alloc, queue)?;
-    let mut seats = Vec::with_capacity(alloc, passes.len())?;
-    while let Some(pass) = passes.pop() {
-        let queue = Arc::try_clone(&shared)?;
-        let seat = Box::new(alloc, ValueSeat::new(queue, pass, threads))?;
+    let mut seats = Vec::with_capacity(alloc, handles.len())?;
+    while let Some(handle) = handles.pop() {
+        let seat = Box::new(alloc, ValueSeat::new(handle, shape, threads))?;
         seats.push(seat)?;
     }
     Ok(seats)
@@ -48,16 +45,24 @@ fn open_seats(
     shape: Shape,
     threads: u32,
     tokens: u32,
-) -> Result<Vec<Box<ValueSeat, Global>>, OpenFault>
+    reserve: u64,
+) -> Result<Vec<Box<ValueSeat, Global>>, RenewFault>
     ensures ok { IfOk result (λ seats. OpensValues shape threads tokens
         (reverse (map (λ seat. seat.value) seats.items))) }
-    ensures threads { IsErrOf result ThreadsOutOfRange ↔ ((threads ≡ 0) ⊎ (MAX_THREADS < threads)) }
-    ensures tokens { IsErrOf result TokensOutOfRange
-        ↔ ((1 ≤ threads) × (threads ≤ MAX_THREADS) × ((tokens ≡ 0) ⊎ (MAX_TOKENS < tokens))) }
+    ensures reserve { IsErrOf result ReserveOutOfRange ↔ (shape.last ≤ reserve) }
+    ensures threads { IsErrOf result (Open ThreadsOutOfRange) ↔ ((reserve < shape.last)
+        × ((threads ≡ 0) ⊎ (MAX_THREADS < threads))) }
+    ensures tokens { IsErrOf result (Open TokensOutOfRange)
+        ↔ ((reserve < shape.last) × (1 ≤ threads) × (threads ≤ MAX_THREADS) × ((tokens ≡ 0) ⊎ (MAX_TOKENS < tokens))) }
 {
-    let (queue, passes) = PayQueue::open_with_pool(alloc, shape, threads, tokens)?;
-    let seats = seat_all(alloc, queue, passes, threads)?;
-    Ok(seats)
+    let handles = match open(alloc, shape, threads, tokens, reserve) {
+        Ok(handles) => handles,
+        Err(fault) => return Err(fault),
+    };
+    match seat_all(alloc, handles, shape, threads) {
+        Ok(seats) => Ok(seats),
+        Err(_) => Err(RenewFault::Open(OpenFault::Memory)),
+    }
 }
 
 /// Where the queue of these seats is.
@@ -81,10 +86,12 @@ fn put_all(handles: &mut [ValueHandle], mut seats: Vec<Box<ValueSeat, Global>>, 
     }
 }
 
-/// Opens a queue of values with a pool for as many threads as there are handles, with so many tokens each, as
-/// `PayQueue::open_with_pool`, and puts a pass behind each handle, in their order. What was behind them is lost. A
-/// refusal does nothing: BAD_K, BAD_SEGMENTS, BAD_LAST or BAD_PROBES where there is no such shape, BAD_THREADS where
-/// the handles are not 1 to 64, BAD_TOKENS where the tokens are not 1 to 1,024, NO_MEMORY where an allocation failed.
+/// Opens a queue of values for as many threads as there are handles, with so many tokens each, as
+/// `kfifo_renewing::open`, and puts a handle of it behind each, in their order. With fewer versions left than the
+/// reserve, a generation is followed by the next one; with a reserve of 0 it is not. What was behind the handles is
+/// lost. A refusal does nothing: BAD_K, BAD_SEGMENTS, BAD_LAST or BAD_PROBES where there is no such shape, BAD_RESERVE
+/// where the reserve is not below the greatest version, BAD_THREADS where the handles are not 1 to 64, BAD_TOKENS where
+/// the tokens are not 1 to 1,024, NO_MEMORY where an allocation failed.
 #[unsafe(no_mangle)]
 pub extern "C" fn kfifo_c_open_values(
     alloc: Global,
@@ -93,6 +100,7 @@ pub extern "C" fn kfifo_c_open_values(
     probes: u32,
     last: u64,
     tokens: u32,
+    reserve: u64,
     passes: &mut [ValueHandle],
 ) -> u32
     ensures ok { result ≡ 0 → OpensValueSizes k segments last probes (length passes.old) tokens
@@ -100,28 +108,32 @@ pub extern "C" fn kfifo_c_open_values(
     ensures address { result ≡ 0 → (address : Ptr) × All (λ pass. pass.address ≡ address) passes.new }
     ensures refused { result ≢ 0 → passes.new ≡ passes.old }
     ensures shape { IfSome (fault_of k segments last probes) (λ fault. result ≡ shape_number fault) }
-    ensures threads { fault_of k segments last probes ≡ None → (length passes.old ≡ 0)
+    ensures reserve { fault_of k segments last probes ≡ None → last ≤ reserve → result ≡ 18 }
+    ensures threads { fault_of k segments last probes ≡ None → reserve < last → (length passes.old ≡ 0)
         ⊎ (MAX_THREADS < length passes.old)
         → result ≡ 8 }
-    ensures tokens { fault_of k segments last probes ≡ None → 1 ≤ length passes.old → length passes.old ≤ MAX_THREADS
-        → (tokens ≡ 0) ⊎ (MAX_TOKENS < tokens) → result ≡ 15 }
-    ensures memory { fault_of k segments last probes ≡ None → 1 ≤ length passes.old → length passes.old ≤ MAX_THREADS
-        → 1 ≤ tokens → tokens ≤ MAX_TOKENS
+    ensures tokens { fault_of k segments last probes ≡ None → reserve < last → 1 ≤ length passes.old
+        → length passes.old ≤ MAX_THREADS → (tokens ≡ 0) ⊎ (MAX_TOKENS < tokens) → result ≡ 15 }
+    ensures memory { fault_of k segments last probes ≡ None → reserve < last → 1 ≤ length passes.old
+        → length passes.old ≤ MAX_THREADS → 1 ≤ tokens → tokens ≤ MAX_TOKENS
         → (result ≡ 0) ⊎ (result ≡ 7) }
 {
     let shape = match Shape::with_probes(k, segments, last, probes) {
         Ok(shape) => shape,
         Err(fault) => return shape_status(fault),
     };
+    if last <= reserve {
+        return BAD_RESERVE;
+    }
     if passes.len() > 64 {
         return BAD_THREADS;
     }
-    match open_seats(alloc, shape, passes.len() as u32, tokens) {
+    match open_seats(alloc, shape, passes.len() as u32, tokens, reserve) {
         Ok(seats) => {
             let address = address_of_all(seats.as_slice());
             put_all(passes, seats, address);
             DONE
         }
-        Err(fault) => open_status(fault),
+        Err(fault) => renew_status(fault),
     }
 }

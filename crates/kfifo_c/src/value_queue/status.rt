@@ -1,13 +1,24 @@
 //! The numbers that C gets from the calls with values.
 ghost use Rattle.std.specs.Prelude.{◌≡◌, Some};
-ghost use Rattle.kfifo_c.specs.Values.{given_number, taken_number};
+ghost use Rattle.kfifo_c.specs.Values.{given_number, renew_number, taken_number};
 
-use crate::status::{DONE, NO_TOKEN};
+use crate::status::{BAD_RESERVE, DONE, NO_TOKEN, open_status};
 use kfifo_live::{Given, Taken};
+use kfifo_renewing::RenewFault;
+
+/// The number of an opening that was refused.
+pub(crate) fn renew_status(fault: RenewFault) -> u32
+    ensures { result ≡ renew_number fault }
+{
+    match fault {
+        RenewFault::Open(fault) => open_status(fault),
+        RenewFault::ReserveOutOfRange => BAD_RESERVE,
+    }
+}
 
 /// The number of what a give came to.
 #[inline(always)]
-pub(crate) fn given_status(given: &Given<u64>) -> u32
+pub(crate) fn given_status<T>(given: &Given<T>) -> u32
     ensures { result ≡ given_number (Some given.now) }
 {
     match given {
@@ -21,7 +32,7 @@ pub(crate) fn given_status(given: &Given<u64>) -> u32
 
 /// The number of what a take came to.
 #[inline(always)]
-pub(crate) fn taken_status(taken: &Taken<u64>) -> u32
+pub(crate) fn taken_status<T>(taken: &Taken<T>) -> u32
     ensures { result ≡ taken_number (Some taken.now) }
 {
     match taken {

@@ -7,9 +7,9 @@ use Rattle.kfifo_renewing.proofs.handle.+take_first.Goals as goal
 
 pub returns-in-Empty : goal.returns-in-Empty
 returns-in-Empty g t c =
-    let after = c.first.inside.handle in
+    let after = c.set_over.new.self in
     let took : TakesThere K.Empty c.in_ok-generations.first.now after =
-    subst (λ (h : PayHeld g.row.T.Denot). TakesThere K.Empty c.in_ok-generations.first.now h) (sym c.first.view_is)
+    subst (λ (h : PayHeld g.row.T.Denot). TakesThere K.Empty c.in_ok-generations.first.now h) (sym c.set_over.ensures)
     (subst (λ t. TakesThere t c.in_ok-generations.first.now c.take.new.self) c.in-Empty.is c.take.ensures) in
     subst (λ l. TakesFirst c.take_first.result l (after ∷ c.take_first.new.generations)) (sym c.in_ok-generations.ensures.cases.0)
     (after, c.take_first.new.generations, refl, inl (took, c.take_first.ensures))

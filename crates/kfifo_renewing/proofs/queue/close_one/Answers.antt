@@ -1,23 +1,34 @@
--- The queue is closed by the passes of all its threads.
-use Rattle.std.proofs.Common.{Some, All, map, sym, ap, ◌∙◌, subst}
-use Rattle.std.proofs.lemmas.List.Elements.{All-pop}
+-- The queue is closed by the pass of the handle, and those of all other threads.
+use Rattle.std.proofs.Common.{◌≡◌, All, sym, ap, ◌∙◌, subst}
+use Rattle.kfifo_live.specs.Handles.{PayHeld}
 use Rattle.kfifo_live.specs.Pass.{IsPassOf, OpenQueue}
-use Rattle.kfifo_live.specs.Payloads.{PayPassView}
+use Rattle.kfifo_live.specs.Payloads.{PayCloses, PayPassView}
+use Rattle.kfifo_live.specs.declared.view.Opening.{Opening}
+use Rattle.kfifo_renewing.specs.Renewing.{other_threads}
 use Rattle.kfifo_renewing.proofs.queue.close_one.Goals as goal
 
 pub close_with-requires-clause-others : goal.close_with-requires-clause-others
 close_with-requires-clause-others g c =
-    (All-pop (λ (p : PayPassView g.row.T.Denot). IsPassOf c.in_ok-queue.queue p.pass) c.in_ok-queue.passes.items c.pop.new.self.items
-    (Some c.in-Some-pop.pass) c.in-Some-pop.ensures.items
-    (subst (λ q. All (λ (p : PayPassView g.row.T.Denot). IsPassOf q p.pass) c.in_ok-queue.passes.items) (sym c.in_ok-queue.ensures.queue)
-    c.in_ok-queue.ensures.of)).0
+    subst (λ (q : OpenQueue). All (λ (p : PayPassView g.row.T.Denot). IsPassOf q p.pass) c.in_ok-queue.others.items)
+    (sym c.in_ok-queue.ensures.queue) c.in_ok-queue.ensures.of
 
 pub returns : goal.returns
-returns g c = record {
-  queue = c.in_ok-queue.queue;
-  opened = ap (λ (q : OpenQueue). q.opened) (c.in_ok-queue.ensures.queue ∙ c.in-Some.ensures) ∙ c.requires;
-  last = c.in-Some-pop.pass;
-  others = c.pop.new.self.items;
-  complete = sym (ap (map (λ (p : PayPassView g.row.T.Denot). p.pass.thread)) c.in-Some-pop.ensures.items) ∙ c.in_ok-queue.ensures.all;
-  closes = c.in_ok-left.ensures.ok;
-}
+returns g c =
+    let h = c.args.joined in
+    let q = c.in_ok-queue.queue in
+    let others = c.in_ok-queue.others.items in
+    let pass_is : c.into_parts-generation.result.1 ≡ h.pass =
+    c.into_parts-generation.ensures.pass ∙ ap (λ (j : PayHeld g.row.T.Denot). j.pass) c.into_part.ensures in
+    let of : IsPassOf q h.pass.pass = subst (λ (p : PayPassView g.row.T.Denot). IsPassOf q p.pass) pass_is
+    (subst (λ (o : OpenQueue). IsPassOf o c.into_parts-generation.result.1.pass)
+    (sym (c.in_ok-queue.ensures.queue ∙ c.in-Some.ensures)) c.into_parts-generation.ensures.of) in
+    record {
+      queue = q;
+      of = of;
+      others = others;
+      each_other = c.in_ok-queue.ensures.others
+          ∙ ap (λ t. other_threads t c.args.sizes.now.threads)
+          (c.thread.ensures ∙ ap (λ (p : PayPassView g.row.T.Denot). p.pass.thread) pass_is)
+          ∙ ap (other_threads h.pass.pass.thread) (ap (λ (o : Opening). o.threads) (sym c.requires ∙ of.1));
+      closes = subst (λ (p : PayPassView g.row.T.Denot). PayCloses q p others c.in_ok-left.left.items) pass_is c.in_ok-left.ensures.ok;
+    }

@@ -1,5 +1,5 @@
 use Rattle.std.proofs.Common.{Some, refl, ◌∙◌}
-use Rattle.kfifo_c.proofs.ValuePasses.{something}
+use Rattle.kfifo_c.proofs.ValueHandles.{something}
 use Rattle.kfifo_c.proofs.value_queue.calls.kfifo_c_give.Goals as goal
 
 pub seat_mut-requires : goal.seat_mut-requires

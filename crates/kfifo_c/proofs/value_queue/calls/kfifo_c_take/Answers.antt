@@ -1,7 +1,7 @@
 use Rattle.std.proofs.Common.{◌≡◌, ℕ, Some, refl, sym, subst, ◌∙◌, rules}
 use Rattle.kfifo_live.specs.declared.payload.Taken.{Taken}
-use Rattle.kfifo_c.specs.Values.{TakesValue}
-use Rattle.kfifo_c.proofs.ValuePasses.{something}
+use Rattle.kfifo_renewing.specs.Renewing.{TakesFromOldest}
+use Rattle.kfifo_c.proofs.ValueHandles.{something}
 use Rattle.kfifo_c.proofs.value_queue.calls.kfifo_c_take.Goals.{in-Got, in_default}
 use Rattle.kfifo_c.proofs.value_queue.calls.kfifo_c_take.Goals as goal
 
@@ -21,6 +21,6 @@ returns-clause-answer c =
         c.seat_mut.ensures.value,
         refl,
         tt,
-        subst (λ (a : Taken ℕ). TakesValue a c.seat_mut.result.now c.take-taken.new.self) (sym same) c.take-taken.ensures,
+        subst (λ (a : Taken ℕ). TakesFromOldest a c.seat_mut.result.now c.take-taken.new.self) (sym same) c.take-taken.ensures,
       ),
     )

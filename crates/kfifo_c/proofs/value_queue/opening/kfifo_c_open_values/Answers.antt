@@ -1,9 +1,7 @@
-use Rattle.std.proofs.Common.{length, sym, ap, ◌∙◌}
+use Rattle.std.proofs.Common.{sym, ◌∙◌}
 use Rattle.kfifo_c.proofs.Passes.{length_read}
-use Rattle.kfifo_c.proofs.ValuePasses.{length_seats}
 use Rattle.kfifo_c.proofs.value_queue.opening.kfifo_c_open_values.Goals as goal
 
 pub put_all-requires : goal.put_all-requires
 put_all-requires c =
-    let o = c.in-Ok-open_seats.ensures.ok in
-    sym (length_read (λ s. s.value) c.in-Ok-open_seats.seats.items) ∙ ap length o.new ∙ length_seats o.queue 0 (length c.args.passes.now)
+    sym (length_read (λ s. s.value) c.in-Ok-open_seats.seats.items) ∙ c.in-Ok-open_seats.ensures.ok.count

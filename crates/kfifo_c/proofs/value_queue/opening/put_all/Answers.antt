@@ -3,7 +3,7 @@ use Rattle.std.proofs.lemmas.List.{take_more_set}
 use Rattle.std.proofs.lemmas.List.Elements.{All-push}
 use Rattle.std.specs.List.{All}
 use Rattle.kfifo_c.specs.ValueHandles.{values_behind}
-use Rattle.kfifo_c.proofs.ValuePasses.{put_more}
+use Rattle.kfifo_c.proofs.ValueHandles.{put_more}
 use Rattle.kfifo_c.proofs.value_queue.opening.put_all.Goals.{in-Some, in_default}
 use Rattle.kfifo_c.proofs.value_queue.opening.put_all.Goals as goal
 

@@ -1,33 +1,26 @@
-use Rattle.std.proofs.Common.{◌≡◌, Some, List, ◌++◌, ◌∷◌, map, reverse, subst, sym, ap, ◌∙◌}
+use Rattle.std.proofs.Common.{◌≡◌, Some, ◌++◌, ◌∷◌, [], map, reverse, sym, ap, ◌∙◌}
+use Rattle.std.proofs.lemmas.List.{append_assoc}
 use Rattle.std.proofs.lemmas.List.Elements.{All-pop}
-use Rattle.kfifo_live.specs.Pass.{IsPassOf}
-use Rattle.kfifo_c.specs.ValueSeats.{ValueSeated, value_seated}
-use Rattle.kfifo_c.specs.Values.{value_seats_of}
-use Rattle.kfifo_c.proofs.Passes.{moved, reverse_mapped}
+use Rattle.kfifo_c.proofs.Passes.{reverse_mapped}
 use Rattle.kfifo_c.proofs.value_queue.opening.seat_all.Goals as goal
 
-pub new-requires-in-Some : goal.new-requires-in-Some
-new-requires-in-Some c =
-    let of = All-pop (λ p. IsPassOf c.in_ok-shared.shared.value p.pass) _ _ (Some c.in-Some.pass) c.in-Some.ensures.items
-    c.loop-pass.invariant.all_of in
-    record {
-      of = subst (λ q. IsPassOf q c.in-Some.pass.pass) (sym c.in_ok-queue.ensures) of.1;
-      threads = c.requires.threads ∙ ap (λ q. q.opened.threads) (sym c.in_ok-shared.ensures.ok ∙ sym c.in_ok-queue.ensures);
-    }
+pub new-requires : goal.new-requires
+new-requires c =
+    (All-pop (λ h. (c.args.shape ≡ h.opened.shape) × (c.args.threads ≡ h.opened.threads)) _ _ (Some c.in-Some.handle) c.in-Some.ensures.items
+    c.loop-handle.invariant.sizes).1
 
-pub loop-pass-preserved : goal.loop-pass-preserved
-loop-pass-preserved c =
-    let q = c.in_ok-shared.shared.value in
-    let seat : c.in_ok-seat.seat.value ≡ value_seated q c.in-Some.pass =
-    c.in_ok-seat.ensures.ok ∙ c.new-in-Some.ensures ∙ ap (λ q'. value_seated q' c.in-Some.pass) c.in_ok-queue.ensures in
+pub loop-handle-preserved : goal.loop-handle-preserved
+loop-handle-preserved c =
+    let rest = c.pop.new.self.items in
+    let seat : c.in_ok-seat.seat.value ≡ c.in-Some.handle = c.in_ok-seat.ensures.ok ∙ c.new.ensures in
+    let made = reverse (map (λ s. s.value) c.loop-handle.seats.items) in
     record {
-      all_of = (All-pop (λ p. IsPassOf q p.pass) _ _ (Some c.in-Some.pass) c.in-Some.ensures.items c.loop-pass.invariant.all_of).0;
-      made = ap (λ l. value_seats_of q c.pop.new.self.items ++ reverse (map (λ s. s.value) l)) c.in_ok-push.ensures.items
-          ∙ ap (λ (l : List ValueSeated). value_seats_of q c.pop.new.self.items ++ l)
-          (reverse_mapped (λ s. s.value) c.loop-pass.seats.items c.in_ok-seat.seat)
-          ∙ ap (λ (s : ValueSeated). value_seats_of q c.pop.new.self.items ++ (s ∷ reverse (map (λ s'. s'.value) c.loop-pass.seats.items)))
-          seat
-          ∙ moved (value_seated q) c.pop.new.self.items c.in-Some.pass _
-          ∙ ap (λ l. value_seats_of q l ++ reverse (map (λ s. s.value) c.loop-pass.seats.items)) (sym c.in-Some.ensures.items)
-          ∙ c.loop-pass.invariant.made;
+      sizes = (All-pop (λ h. (c.args.shape ≡ h.opened.shape) × (c.args.threads ≡ h.opened.threads)) _ _ (Some c.in-Some.handle)
+          c.in-Some.ensures.items c.loop-handle.invariant.sizes).0;
+      made = ap (λ l. rest ++ reverse (map (λ s. s.value) l)) c.in_ok-push.ensures.items
+          ∙ ap (λ l. rest ++ l) (reverse_mapped (λ s. s.value) c.loop-handle.seats.items c.in_ok-seat.seat)
+          ∙ ap (λ s. rest ++ s ∷ made) seat
+          ∙ sym (append_assoc rest (c.in-Some.handle ∷ []) made)
+          ∙ ap (λ l. l ++ made) (sym c.in-Some.ensures.items)
+          ∙ c.loop-handle.invariant.made;
     }

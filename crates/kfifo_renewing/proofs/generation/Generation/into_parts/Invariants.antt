@@ -1,16 +1,17 @@
 use Rattle.std.proofs.Common.{◌≡◌, ◌≤◌, All, length, map, vec_capacity}
 use Rattle.kfifo_live.specs.Pass.{IsPassOf}
-use Rattle.kfifo_live.specs.Schedule.{count_up}
+use Rattle.kfifo_renewing.specs.Renewing.{other_threads}
 use Rattle.kfifo_renewing.proofs.generation.Generation.into_parts.Given as goal
 
 -- the passes so far are those of the first threads, in their order
 abbrev pub invariant-loop-place : goal.invariant-loop-place
 invariant-loop-place g l = record {
   bound : l.threads ≡ l.fn.threads;
+  same : l.own ≡ l.fn.own;
   few : l.thread ≤ l.threads;
-  count : length l.passes.items ≡ l.thread;
-  room : l.threads ≤ vec_capacity l.passes;
+  count : length l.others.items ≤ l.thread;
+  room : l.threads ≤ vec_capacity l.others;
   rest : All (λ q. q ≡ l.fn.self) l.place-iterator.rest.items;
-  of : All (λ p. IsPassOf l.fn.self p.pass) l.passes.items;
-  all : map (λ p. p.pass.thread) l.passes.items ≡ count_up 0 l.thread;
+  of : All (λ p. IsPassOf l.fn.self p.pass) l.others.items;
+  others : map (λ p. p.pass.thread) l.others.items ≡ other_threads l.fn.own l.thread;
 }

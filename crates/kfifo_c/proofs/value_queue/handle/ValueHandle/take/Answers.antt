@@ -1,5 +1,5 @@
 use Rattle.std.proofs.Common.{sym, ap, ◌∙◌}
-use Rattle.kfifo_c.proofs.ValuePasses.{something, closed_at}
+use Rattle.kfifo_c.proofs.ValueHandles.{something, closed_at}
 use Rattle.kfifo_c.proofs.value_queue.handle.ValueHandle.take.Goals as goal
 
 pub into_loose-requires : goal.into_loose-requires

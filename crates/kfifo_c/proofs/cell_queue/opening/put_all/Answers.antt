@@ -1,0 +1,27 @@
+use Rattle.std.proofs.Common.{rules, ◌≡◌, ◌+◌, ◌++◌, ◌∷◌, [], Some, take, map, reverse, sym, ap, subst, ◌∙◌, arith}
+use Rattle.std.proofs.lemmas.List.{take_more_set}
+use Rattle.std.proofs.lemmas.List.Elements.{All-push}
+use Rattle.std.specs.List.{All}
+use Rattle.kfifo_c.specs.CellHandles.{cells_behind}
+use Rattle.kfifo_c.proofs.CellHandles.{put_more}
+use Rattle.kfifo_c.proofs.cell_queue.opening.put_all.Goals.{in-Some, in_default}
+use Rattle.kfifo_c.proofs.cell_queue.opening.put_all.Goals as goal
+
+pub loop-handle-preserved : goal.loop-handle-preserved
+loop-handle-preserved c =
+    let hs = c.loop-handle.handles in let i = c.loop-handle.handle-index in let left = c.pop.new.self.items in
+    elim c.match-pop.branch [
+      | in-Some w ↦
+          let items : c.loop-handle.seats.items ≡ left ++ w.in-Some.seat ∷ [] = search rules in record {
+            left = search rules;
+            put = ap (λ l. cells_behind (take (i + 1) l) ++ map Some (reverse (map (λ seat. seat.value) left))) w.handles-is
+                ∙ put_more (λ seat. seat.value) hs i w.of.result left w.in-Some.seat _ (omega arith) w.of.ensures.seat
+                (ap (λ l. cells_behind (take i hs) ++ map Some (reverse (map (λ seat. seat.value) l))) (sym items)
+                ∙ c.loop-handle.invariant.put);
+            address = subst (λ l. All (λ handle. handle.address ≡ c.args.address) (take (i + 1) l)) (sym w.handles-is)
+                (subst (All (λ handle. handle.address ≡ c.args.address)) (sym (take_more_set hs i w.of.result (omega arith)))
+                (All-push (λ handle. handle.address ≡ c.args.address) (take i hs) w.of.result c.loop-handle.invariant.address
+                w.of.ensures.address));
+          }
+      | in_default w ↦ record { left = search rules; put = search rules; address = search rules }
+    ]

@@ -1,0 +1,11 @@
+use Rattle.std.proofs.Common.{◌≡◌, All, ◌+◌, length, map, reverse, ◌++◌, take, Some}
+use Rattle.kfifo_c.specs.CellHandles.{cells_behind}
+use Rattle.kfifo_c.proofs.cell_queue.opening.put_all.Given as goal
+
+abbrev pub invariant-loop-handle : goal.invariant-loop-handle
+invariant-loop-handle l = record {
+  left : length l.seats.items + l.handle-index ≡ length l.handles;
+  put : cells_behind (take l.handle-index l.handles) ++ map Some (reverse (map (λ seat. seat.value) l.seats.items))
+      ≡ map Some (reverse (map (λ seat. seat.value) l.fn.seats.items));
+  address : All (λ handle. handle.address ≡ l.address) (take l.handle-index l.handles);
+}

@@ -1,0 +1,246 @@
+//! Opening a queue of cells.
+ghost use Rattle.std.specs.Prelude.{◌≡◌, ◌≢◌, ◌<◌, ◌≤◌, ◌⊎◌, ◌↔◌, None, Some, IfSome, IfOk, IsErrOf, All, length, map};
+ghost use Rattle.std.specs.Prelude.{reverse, vec_capacity};
+ghost use Rattle.kfifo_model.specs.declared.calls.TheConstants.{MAX_THREADS};
+ghost use Rattle.kfifo_live.specs.declared.payload_opening.TheConstants.{MAX_TOKENS};
+ghost use denote.RawPtr.{Ptr};
+ghost use Rattle.kfifo_words.specs.Sizes.{fault_of};
+ghost use Rattle.kfifo_live.specs.Pass.{IsPassOf, OpenQueue};
+ghost use Rattle.kfifo_live.specs.Payloads.{new_pay_passes, pay_opening};
+ghost use Rattle.kfifo_live.specs.declared.fault.OpenFault.TheVariants.{ThreadsOutOfRange, TokensOutOfRange};
+ghost use Rattle.kfifo_renewing.specs.declared.fault.RenewFault.TheVariants.{Open, ReserveOutOfRange};
+ghost use Rattle.kfifo_c.specs.CellHandles.{cells_behind};
+ghost use Rattle.kfifo_c.specs.CellQueues.{IsOpenedLike, OpensCells, OpensCellSizes, seats_with, tokens_of};
+ghost use Rattle.kfifo_c.specs.Exports.{shape_number};
+
+use crate::address::no_address;
+use crate::cell_queue::handle::CellHandle;
+use crate::cell_queue::pool::Pool;
+use crate::cell_queue::seat::CellSeat;
+use crate::status::{BAD_RESERVE, BAD_THREADS, DONE, shape_status};
+use crate::value_queue::status::renew_status;
+use kfifo_live::{OpenFault, PayPass, PayQueue, Token};
+use kfifo_renewing::{RenewFault, RenewingHandle, open};
+use kfifo_words::Shape;
+use std::alloc::{AllocError, Global};
+use std::sync::Arc;
+
+/// The sizes of a queue.
+#[derive(Clone, Copy)]
+pub struct CellSizes {
+    pub(crate) shape: Shape,
+    pub(crate) threads: u32,
+    pub(crate) tokens: u32,
+}
+
+/// The most cells that a handle lays into the pool, or takes out of it, at once.
+const BATCH: u32 = 16;
+
+impl CellSizes {
+    /// How many free cells a handle keeps at most: with one more it has a batch more than it began with.
+    // With few cells a batch is small. Else handles that only take would keep all cells, and the others find none.
+    fn most(&self) -> u32
+        ensures { self.now.tokens ≤ result }
+    {
+        let share = self.tokens / self.threads.max(1);
+        self.tokens.saturating_add(share.clamp(1, BATCH) - 1)
+    }
+}
+
+/// The tokens of a new pass, the one that it would use next first, in a list with room for so many.
+fn mint(
+    alloc: Global,
+    source: &PayQueue<()>,
+    mut pass: PayPass<()>,
+    room: u32,
+) -> Result<Vec<Token<()>>, AllocError>
+    requires of { IsPassOf source.now pass.pass }
+    requires count { length pass.tokens ≤ room }
+    ensures tokens { IfOk result (λ cells. cells.items ≡ tokens_of source.now pass) }
+    ensures room { IfOk result (λ cells. room ≤ vec_capacity cells) }
+{
+    let mut cells = Vec::with_capacity(alloc, room as usize)?;
+    while let Some(token) = pass.part_with(source) {
+        cells.push_reserved(token);
+    }
+    Ok(cells)
+}
+
+/// A seat for each handle, with the tokens of the pass beside it, the last handle first.
+fn seat_all(
+    alloc: Global,
+    pool: &Arc<Pool, Global>,
+    mut handles: Vec<RenewingHandle<Token<()>>>,
+    mut passes: Vec<PayPass<()>>,
+    sizes: CellSizes,
+) -> Result<Vec<Box<CellSeat, Global>>, AllocError>
+    requires handles { All (IsOpenedLike sizes) handles.items }
+    requires of { All (λ p. IsPassOf pool.now.value p.pass) passes.items }
+    requires tokens { All (λ p. length p.tokens ≡ sizes.tokens) passes.items }
+    requires count { length passes.items ≡ length handles.items }
+    ensures { IfOk result (λ seats. reverse (map (λ seat. seat.value) seats.items)
+        ≡ seats_with pool.now.value handles.items passes.items) }
+{
+    let mut seats = Vec::with_capacity(alloc, handles.len())?;
+    while let Some(handle) = handles.pop() {
+        let Some(pass) = passes.pop() else {
+            return Err(AllocError);
+        };
+        let most = sizes.most();
+        let cells = mint(alloc, pool.source(), pass, most)?;
+        let pool = Arc::try_clone(pool)?;
+        let seat = CellSeat::new(
+            handle,
+            sizes.shape,
+            sizes.threads,
+            sizes.tokens,
+            pool,
+            cells,
+            most,
+        );
+        seats.push(Box::new(alloc, seat)?)?;
+    }
+    Ok(seats)
+}
+
+/// The pool of a queue, and passes with the tokens of its cells.
+fn open_pool(
+    alloc: Global,
+    sizes: CellSizes,
+) -> Result<(Arc<Pool, Global>, Vec<PayPass<()>>), AllocError>
+    ensures opened { IfOk result (λ r. r.0.value.opened ≡ pay_opening sizes.shape sizes.threads sizes.tokens) }
+    ensures passes { IfOk result (λ r. r.1.items ≡ new_pay_passes r.0.value 0 sizes.threads) }
+    ensures of { IfOk result (λ r. All (λ p. IsPassOf r.0.value p.pass) r.1.items) }
+{
+    let count = (sizes.threads as usize).saturating_mul(sizes.tokens as usize);
+    match PayQueue::open_with_pool(alloc, sizes.shape, sizes.threads, sizes.tokens) {
+        Ok((source, passes)) => {
+            let pool = Pool::new(alloc, source, count)?;
+            let pool = Arc::new(alloc, pool)?;
+            Ok((pool, passes))
+        }
+        // The sizes are right, so memory is missing.
+        Err(_) => Err(AllocError),
+    }
+}
+
+/// A seat for each of these handles, the last handle first.
+fn join_pool(
+    alloc: Global,
+    handles: Vec<RenewingHandle<Token<()>>>,
+    sizes: CellSizes,
+) -> Result<Vec<Box<CellSeat, Global>>, AllocError>
+    requires handles { All (IsOpenedLike sizes) handles.items }
+    requires count { length handles.items ≡ sizes.threads }
+    ensures { IfOk result (λ seats. (source : OpenQueue)
+        × (source.opened ≡ pay_opening sizes.shape sizes.threads sizes.tokens)
+        × (reverse (map (λ seat. seat.value) seats.items)
+        ≡ seats_with source handles.items (new_pay_passes source 0 sizes.threads))) }
+{
+    let (pool, passes) = open_pool(alloc, sizes)?;
+    let seats = seat_all(alloc, &pool, handles, passes, sizes)?;
+    Ok(seats)
+}
+
+/// The seats of a new queue, the last thread's first.
+fn open_seats(
+    alloc: Global,
+    sizes: CellSizes,
+    reserve: u64,
+) -> Result<Vec<Box<CellSeat, Global>>, RenewFault>
+    ensures ok { IfOk result (λ seats. OpensCells sizes.shape sizes.threads sizes.tokens
+        (reverse (map (λ seat. seat.value) seats.items))) }
+    ensures reserve { IsErrOf result ReserveOutOfRange ↔ (sizes.shape.last ≤ reserve) }
+    ensures threads { IsErrOf result (Open ThreadsOutOfRange) ↔ ((reserve < sizes.shape.last)
+        × ((sizes.threads ≡ 0) ⊎ (MAX_THREADS < sizes.threads))) }
+    ensures tokens { IsErrOf result (Open TokensOutOfRange)
+        ↔ ((reserve < sizes.shape.last) × (1 ≤ sizes.threads) × (sizes.threads ≤ MAX_THREADS)
+        × ((sizes.tokens ≡ 0) ⊎ (MAX_TOKENS < sizes.tokens))) }
+{
+    let handles = match open(alloc, sizes.shape, sizes.threads, sizes.tokens, reserve) {
+        Ok(handles) => handles,
+        Err(fault) => return Err(fault),
+    };
+    match join_pool(alloc, handles, sizes) {
+        Ok(seats) => Ok(seats),
+        Err(_) => Err(RenewFault::Open(OpenFault::Memory)),
+    }
+}
+
+/// Where the queue of these seats is.
+fn address_of_all(seats: &[Box<CellSeat, Global>]) -> *mut u8 {
+    match seats.first() {
+        Some(seat) => seat.address(),
+        None => no_address(),
+    }
+}
+
+/// Puts the seats behind the handles, the last seat first.
+fn put_all(handles: &mut [CellHandle], mut seats: Vec<Box<CellSeat, Global>>, address: *mut u8)
+    requires { length seats.items ≡ length handles.old }
+    ensures behind { cells_behind handles.new ≡ map Some (reverse (map (λ seat. seat.value) seats.items)) }
+    ensures address { All (λ handle. handle.address ≡ address) handles.new }
+{
+    for handle in handles.iter_mut() {
+        if let Some(seat) = seats.pop() {
+            *handle = CellHandle::of(seat, address);
+        }
+    }
+}
+
+/// Opens a queue of cells for as many threads as there are handles, with so many cells each, and puts a handle of it
+/// behind each, in their order. It renews as a queue of values does. What was behind the handles is lost. A refusal does
+/// nothing: BAD_K, BAD_SEGMENTS, BAD_LAST or BAD_PROBES where there is no such shape, BAD_RESERVE where the reserve is
+/// not below the greatest version, BAD_THREADS where the handles are not 1 to 64, BAD_TOKENS where the cells of a thread
+/// are not 1 to 1,024, NO_MEMORY where an allocation failed.
+#[unsafe(no_mangle)]
+pub extern "C" fn kfifo_c_open_cells(
+    alloc: Global,
+    k: u32,
+    segments: u32,
+    probes: u32,
+    last: u64,
+    tokens: u32,
+    reserve: u64,
+    passes: &mut [CellHandle],
+) -> u32
+    ensures ok { result ≡ 0 → OpensCellSizes k segments last probes (length passes.old) tokens
+        (cells_behind passes.new) }
+    ensures address { result ≡ 0 → (address : Ptr) × All (λ pass. pass.address ≡ address) passes.new }
+    ensures refused { result ≢ 0 → passes.new ≡ passes.old }
+    ensures shape { IfSome (fault_of k segments last probes) (λ fault. result ≡ shape_number fault) }
+    ensures reserve { fault_of k segments last probes ≡ None → last ≤ reserve → result ≡ 18 }
+    ensures threads { fault_of k segments last probes ≡ None → reserve < last → (length passes.old ≡ 0)
+        ⊎ (MAX_THREADS < length passes.old)
+        → result ≡ 8 }
+    ensures tokens { fault_of k segments last probes ≡ None → reserve < last → 1 ≤ length passes.old
+        → length passes.old ≤ MAX_THREADS → (tokens ≡ 0) ⊎ (MAX_TOKENS < tokens) → result ≡ 15 }
+    ensures memory { fault_of k segments last probes ≡ None → reserve < last → 1 ≤ length passes.old
+        → length passes.old ≤ MAX_THREADS → 1 ≤ tokens → tokens ≤ MAX_TOKENS
+        → (result ≡ 0) ⊎ (result ≡ 7) }
+{
+    let shape = match Shape::with_probes(k, segments, last, probes) {
+        Ok(shape) => shape,
+        Err(fault) => return shape_status(fault),
+    };
+    if last <= reserve {
+        return BAD_RESERVE;
+    }
+    if passes.len() > 64 {
+        return BAD_THREADS;
+    }
+    let threads = passes.len() as u32;
+    let sizes = CellSizes {
+        shape,
+        threads,
+        tokens,
+    };
+    match open_seats(alloc, sizes, reserve) {
+        Ok(seats) => {
+            let address = address_of_all(seats.as_slice());
+            put_all(passes, seats, address);
+            DONE
+        }
+        Err(fault) => renew_status(fault),
+    }
+}

@@ -1,0 +1,309 @@
+//! What a handle of a queue of cells stands for.
+ghost use Rattle.std.specs.Prelude.{◌≡◌, ◌<◌, ◌≤◌, ◌*◌, ◌^◌, [], None, SomeIff, vec_capacity};
+ghost use Rattle.kfifo_c.specs.CellSeats.{CellSeated, cell_seated};
+ghost use Rattle.kfifo_c.specs.Cells.{KeepsCell, MayCancel, MayPublish, MayRelease, ReceivesCell, ReservesCell, TakesCell};
+ghost use Rattle.kfifo_c.specs.Cells.{HasSameButCells, LaysDownCells, cell_in, cells_of, token_given_back, token_taken};
+
+use crate::cell_queue::address::cell_address_of;
+use crate::cell_queue::pool::Pool;
+use crate::value_queue::status::given_status;
+use kfifo_live::{Given, Taken, Token};
+use kfifo_renewing::RenewingHandle;
+use kfifo_words::Shape;
+use std::alloc::Global;
+use std::marker::Model;
+use std::sync::Arc;
+
+/// A handle of a queue of the tokens of cells, which does not wear out, the sizes of each of its generations, and the
+/// cells that the handle has.
+#[derive(Drop)]
+pub struct CellSeat {
+    pub(crate) handle: RenewingHandle<Token<()>>,
+    pub(crate) shape: Shape,
+    pub(crate) threads: u32,
+    pub(crate) tokens: u32,
+    pub(crate) pool: Arc<Pool, Global>,
+    /// The free cells that the handle has.
+    pub(crate) cells: Vec<Token<()>>,
+    /// How many of them it keeps at most: with one more it has a batch more than it began with. There is room for so
+    /// many.
+    pub(crate) most: u32,
+    /// The cell that is reserved.
+    pub(crate) reserved: Option<Token<()>>,
+    /// The cell that was received.
+    pub(crate) received: Option<Token<()>>,
+    /// The place of the pool at which the next look for a cell begins.
+    pub(crate) look_from: usize,
+    // Each call writes to its seat. This keeps the seats of two threads from lying in one line of the cache.
+    pub(crate) apart: [u64; 8],
+}
+
+impl Model for CellSeat {
+    ghost Value = { CellSeated };
+
+    ghost view = { λ s. record {
+      held = s.handle;
+      cells = s.cells.items;
+      reserved = s.reserved;
+      received = s.received;
+    } };
+
+    ghost invariant = { λ s. (s.shape ≡ s.handle.opened.shape) × (s.threads ≡ s.handle.opened.threads)
+        × (s.tokens ≡ s.handle.opened.tokens) × (s.tokens ≤ s.most) × (s.most ≤ vec_capacity s.cells) };
+}
+
+/// The cell of a token, if there is one.
+fn cell_of_token(token: &Option<Token<()>>) -> Option<u32>
+    ensures { result ≡ cell_in token.now }
+{
+    match token {
+        Some(token) => Some(token.number() - 1),
+        None => None,
+    }
+}
+
+/// The token that a give hands back.
+fn of_given(given: Given<Token<()>>) -> Option<Token<()>>
+    ensures { result ≡ token_given_back given }
+{
+    match given {
+        Given::Done => None,
+        Given::Full(token) | Given::Busy(token) | Given::Worn(token) | Given::NoToken(token) => {
+            Some(token)
+        }
+    }
+}
+
+/// The cell of what a take came to, and the cell's token.
+fn of_taken(taken: Taken<Token<()>>) -> (Taken<u32>, Option<Token<()>>)
+    ensures { (result.0 ≡ cells_of taken) × (result.1 ≡ token_taken taken) }
+{
+    match taken {
+        Taken::Got(token) => (Taken::Got(token.number() - 1), Some(token)),
+        Taken::Empty => (Taken::Empty, None),
+        Taken::Busy => (Taken::Busy, None),
+        Taken::Worn => (Taken::Worn, None),
+    }
+}
+
+impl CellSeat {
+    /// A seat for this handle of a queue of such sizes, with these cells, of which it keeps so many at most.
+    pub(crate) fn new(
+        handle: RenewingHandle<Token<()>>,
+        shape: Shape,
+        threads: u32,
+        tokens: u32,
+        pool: Arc<Pool, Global>,
+        cells: Vec<Token<()>>,
+        most: u32,
+    ) -> CellSeat
+        requires sizes { (shape ≡ handle.opened.shape) × (threads ≡ handle.opened.threads)
+            × (tokens ≡ handle.opened.tokens) }
+        requires room { (tokens ≤ most) × (most ≤ vec_capacity cells) }
+        ensures { result ≡ cell_seated handle cells.items }
+    {
+        CellSeat {
+            handle,
+            shape,
+            threads,
+            tokens,
+            pool,
+            cells,
+            most,
+            reserved: None,
+            received: None,
+            look_from: 0,
+            apart: [0; 8],
+        }
+    }
+
+    /// The number of the queue's handles.
+    pub(crate) fn threads(&self) -> u32
+        ensures { result ≡ self.now.held.opened.threads }
+    {
+        self.threads
+    }
+
+    /// Slots in a segment of the queue.
+    pub(crate) fn k(&self) -> u32
+        ensures { result ≡ self.now.held.opened.shape.k }
+    {
+        self.shape.k()
+    }
+
+    /// The number of the queue's cells, if it is one of 64 bits.
+    pub(crate) fn count(&self) -> Option<usize>
+        ensures { SomeIff result (self.now.held.opened.threads * self.now.held.opened.tokens < 2 ^ 64)
+            (self.now.held.opened.threads * self.now.held.opened.tokens) }
+    {
+        (self.threads as usize).checked_mul(self.tokens as usize)
+    }
+
+    /// Where the queue is.
+    pub(crate) fn address(&self) -> *mut u8 {
+        cell_address_of(self.pool.source())
+    }
+
+    /// The handle. The cells that the seat has go.
+    pub(crate) fn into_handle(self) -> RenewingHandle<Token<()>>
+        ensures { result ≡ self.held }
+    {
+        let CellSeat { handle, .. } = self;
+        handle
+    }
+
+    /// How many cells beside the first go to the pool or come from it at once.
+    fn others_of_batch(&self) -> u32 {
+        self.most.saturating_sub(self.tokens)
+    }
+
+    /// Takes so many cells more out of the pool, if they lie in the next places.
+    fn find_more(&mut self, count: u32)
+        ensures { HasSameButCells self.old self.new }
+    {
+        if count == 0 || self.cells.len() >= self.most as usize {
+            return;
+        }
+        let Some(token) = self.pool.find_near(self.look_from) else {
+            return;
+        };
+        self.look_from = token.number() as usize;
+        self.cells.push_reserved(token);
+        self.find_more(count - 1);
+    }
+
+    /// A cell of the pool, and a batch of others that lie behind it.
+    #[cold]
+    #[inline(never)]
+    fn find_cell(&mut self) -> Option<Token<()>>
+        requires { self.old.cells ≡ [] }
+        ensures { TakesCell result self.old self.new }
+    {
+        let token = self.pool.find(self.look_from)?;
+        self.look_from = token.number() as usize;
+        self.find_more(self.others_of_batch());
+        Some(token)
+    }
+
+    /// Lays so many cells into the pool, the ones first that the handle would reserve next.
+    fn lay_down(&mut self, count: u32)
+        ensures { LaysDownCells self.old self.new }
+    {
+        if count == 0 {
+            return;
+        }
+        let Some(token) = self.cells.pop() else {
+            return;
+        };
+        self.pool.put(token);
+        self.lay_down(count - 1);
+    }
+
+    /// Lays this cell and a batch of others into the pool.
+    #[cold]
+    #[inline(never)]
+    fn lay_batch(&mut self, token: Token<()>)
+        ensures { LaysDownCells self.old self.new }
+    {
+        self.pool.put(token);
+        self.lay_down(self.others_of_batch());
+    }
+
+    /// One of the cells that the handle has, or else one of the pool.
+    #[inline(always)]
+    fn take_cell(&mut self) -> Option<Token<()>>
+        ensures { TakesCell result self.old self.new }
+    {
+        match self.cells.pop() {
+            Some(token) => Some(token),
+            None => self.find_cell(),
+        }
+    }
+
+    /// Keeps a free cell. Where the handle then has a batch more than it began with, it lays a batch into the pool.
+    #[inline(always)]
+    fn keep_cell(&mut self, token: Token<()>)
+        ensures { KeepsCell token self.old self.new }
+    {
+        if self.cells.len() < self.most as usize {
+            self.cells.push_reserved(token);
+        } else {
+            self.lay_batch(token);
+        }
+    }
+
+    /// Reserves a cell, if the handle has one or finds one.
+    #[inline(always)]
+    fn reserve_next(&mut self) -> Option<u32>
+        requires { self.old.reserved ≡ None }
+        ensures { ReservesCell result self.old self.new }
+    {
+        let token = self.take_cell();
+        let cell = cell_of_token(&token);
+        self.reserved = token;
+        cell
+    }
+
+    /// The cell that is reserved. Where none is, the handle reserves one, if it has one or finds one.
+    #[inline(always)]
+    pub(crate) fn reserve(&mut self) -> Option<u32>
+        ensures { ReservesCell result self.old self.new }
+    {
+        if self.reserved.is_none() {
+            return self.reserve_next();
+        }
+        cell_of_token(&self.reserved)
+    }
+
+    /// Puts the cell that is reserved into the queue, and returns the number of the answer. A refusal leaves it
+    /// reserved. Returns None where none is.
+    #[inline(always)]
+    pub(crate) fn publish(&mut self) -> Option<u32>
+        ensures { MayPublish result self.old self.new }
+    {
+        let token = self.reserved.take()?;
+        let given = self.handle.give(token);
+        let status = given_status(&given);
+        self.reserved = of_given(given);
+        Some(status)
+    }
+
+    /// Gives the cell that is reserved back. Returns false where none is.
+    #[inline(always)]
+    pub(crate) fn cancel(&mut self) -> bool
+        ensures { MayCancel result self.old self.new }
+    {
+        match self.reserved.take() {
+            None => false,
+            Some(token) => {
+                self.keep_cell(token);
+                true
+            }
+        }
+    }
+
+    /// Releases the cell that was received before, and takes one of the k oldest cells.
+    #[inline(always)]
+    pub(crate) fn receive(&mut self) -> Taken<u32>
+        ensures { ReceivesCell result self.old self.new }
+    {
+        self.release();
+        let (taken, token) = of_taken(self.handle.take());
+        self.received = token;
+        taken
+    }
+
+    /// Releases the cell that was received. Returns false where none was, or it is released.
+    #[inline(always)]
+    pub(crate) fn release(&mut self) -> bool
+        ensures { MayRelease result self.old self.new }
+    {
+        match self.received.take() {
+            None => false,
+            Some(token) => {
+                self.keep_cell(token);
+                true
+            }
+        }
+    }
+}
