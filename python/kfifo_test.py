@@ -137,7 +137,7 @@ def _library() -> ctypes.CDLL:
         places = [named]
     else:
         places = [str(beside)] if beside.exists() else []
-        places += [ctypes.util.find_library("kfifo_judge") or "libkfifo_judge.so.0"]
+        places += [ctypes.util.find_library("kfifo_judge") or "libkfifo_judge.so.1"]
     faults = []
     for place in places:
         try:
