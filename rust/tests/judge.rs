@@ -1,7 +1,7 @@
 //! The judge, and the check: it finds the fault of each faulty queue and passes the right ones.
 //!
-//! With the environment variable KFIFO_JUDGE_LONG each right queue is checked for 30 seconds, and each fault has 30
-//! seconds to be found. The queues are checked one after the other, since each check wants several processors.
+//! Each right queue is checked for 2 seconds, and with the environment variable KFIFO_JUDGE_LONG for 30. The queues are
+//! checked one after the other, since each check wants several processors.
 mod queues;
 
 use kfifo::judge::{
@@ -27,16 +27,20 @@ fn turn() -> MutexGuard<'static, ()> {
     TURN.lock().unwrap_or_else(PoisonError::into_inner)
 }
 
-fn seconds(usual: u64) -> Duration {
+/// How long a check may take where other programs use the processors. It takes a fraction of that on an idle machine.
+const AT_MOST: Duration = Duration::from_secs(60);
+
+/// How long a right queue is checked.
+fn usual_time() -> Duration {
     let is_long = env::var_os("KFIFO_JUDGE_LONG").is_some();
-    Duration::from_secs(if is_long { 30 } else { usual })
+    Duration::from_secs(if is_long { 30 } else { 2 })
 }
 
 /// Options of a check that is to find a fault.
 fn finding(name: &str) -> Options {
     Options {
         name: name.to_string(),
-        time: seconds(5),
+        time: AT_MOST,
         folder: Some(PathBuf::from(env!("CARGO_TARGET_TMPDIR"))),
         ..Options::default()
     }
@@ -45,7 +49,7 @@ fn finding(name: &str) -> Options {
 /// Options of a check that is to pass.
 fn passing(name: &str) -> Options {
     Options {
-        time: seconds(2),
+        time: usual_time(),
         ..finding(name)
     }
 }
@@ -73,11 +77,24 @@ fn finds(report: Result<Report, BadOption>, reasons: &[&str]) {
     assert!(picture.contains("<svg"), "{picture}");
 }
 
-fn passes(report: Result<Report, BadOption>) -> Report {
-    let report = report.expect("the options are good");
-    assert!(report.has_passed(), "{report}");
-    assert!(report.rounds > 10 && report.taken > 1000, "{report}");
-    assert_eq!(report.undecided, 0, "{report}");
+/// The check passes, and has tried something. It goes on longer where the machine was too busy for that.
+fn passes(check: impl Fn(Options) -> Result<Report, BadOption>, options: Options) -> Report {
+    let run = |options| {
+        let report = check(options).expect("the options are good");
+        assert!(report.has_passed(), "{report}");
+        assert_eq!(report.undecided, 0, "{report}");
+        report
+    };
+    let is_enough = |report: &Report| report.rounds > 10 && report.taken > 1000;
+    let mut report = run(options.clone());
+    if !is_enough(&report) {
+        report = run(Options {
+            time: AT_MOST,
+            rounds: Some(50),
+            ..options
+        });
+    }
+    assert!(is_enough(&report), "{report}");
     report
 }
 
@@ -163,19 +180,16 @@ fn a_ring_for_two_threads_passes_with_two() {
         one_consumer: true,
         ..passing("pair")
     };
-    let report = passes(run_check_sized(Pair::new, Pair::push, Pair::pop, options));
+    let check = |options| run_check_sized(Pair::new, Pair::push, Pair::pop, options);
+    let report = passes(check, options);
     assert!(report.overlapping > 0.0, "{report}");
 }
 
 #[test]
 fn a_locked_queue_passes() {
     let _turn = turn();
-    let report = passes(run_check(
-        Locked::default,
-        Locked::push,
-        Locked::pop,
-        passing("locked"),
-    ));
+    let check = |options| run_check(Locked::default, Locked::push, Locked::pop, options);
+    let report = passes(check, passing("locked"));
     assert!(report.overlapping > 0.0, "{report}");
 }
 
@@ -183,24 +197,16 @@ fn a_locked_queue_passes() {
 fn a_ring_passes() {
     let _turn = turn();
     let make = |capacity| Ring::new(capacity, RingFault::None);
-    passes(run_check_sized(
-        make,
-        Ring::push,
-        Ring::pop,
-        passing("ring"),
-    ));
+    let check = |options| run_check_sized(make, Ring::push, Ring::pop, options);
+    passes(check, passing("ring"));
 }
 
 #[test]
 fn a_linked_queue_with_tags_passes() {
     let _turn = turn();
     let make = |capacity| Linked::new(capacity, true);
-    passes(run_check_sized(
-        make,
-        Linked::push,
-        Linked::pop,
-        passing("tags"),
-    ));
+    let check = |options| run_check_sized(make, Linked::push, Linked::pop, options);
+    passes(check, passing("tags"));
 }
 
 #[test]
@@ -210,35 +216,41 @@ fn a_channel_with_one_consumer_passes() {
         let (sender, receiver) = mpsc::channel::<u32>();
         (sender, Mutex::new(receiver)) // one consumer, so the lock is free
     };
-    let report = run_check(
-        make,
-        |(sender, _), item| sender.send(item).is_ok(),
-        |(_, receiver)| receiver.lock().unwrap().try_recv().ok(),
-        Options {
-            one_consumer: true,
-            ..passing("channel")
-        },
-    );
-    passes(report);
+    let check = |options| {
+        run_check(
+            make,
+            |(sender, _), item| sender.send(item).is_ok(),
+            |(_, receiver)| receiver.lock().unwrap().try_recv().ok(),
+            options,
+        )
+    };
+    let options = Options {
+        one_consumer: true,
+        ..passing("channel")
+    };
+    passes(check, options);
 }
 
 #[test]
 fn the_queue_of_this_crate_passes_for_its_k() {
     let _turn = turn();
     for k in [1, 4] {
-        let report = run_check_handles(
-            move |capacity| {
-                kfifo::Queue::new(k, capacity.max(2) as u32, 8).expect("the sizes are in range")
-            },
-            |queue, _| queue.handle().expect("a handle is free"),
-            |handle, item| handle.push(item),
-            |handle| handle.pop(),
-            Options {
-                k,
-                ..passing("kfifo")
-            },
-        );
-        let report = passes(report);
+        let check = |options| {
+            run_check_handles(
+                move |capacity| {
+                    kfifo::Queue::new(k, capacity.max(2) as u32, 8).expect("the sizes are in range")
+                },
+                |queue, _| queue.handle().expect("a handle is free"),
+                |handle, item| handle.push(item),
+                |handle| handle.pop(),
+                options,
+            )
+        };
+        let options = Options {
+            k,
+            ..passing("kfifo")
+        };
+        let report = passes(check, options);
         assert_eq!(report.least.is_some(), k > 1, "{report}");
     }
 }
@@ -247,21 +259,15 @@ fn the_queue_of_this_crate_passes_for_its_k() {
 fn a_relaxed_queue_passes_for_its_k_and_for_no_less() {
     let _turn = turn();
     let pop = |queue: &Locked| queue.pop_near(4);
-    let report = passes(run_check(
-        Locked::default,
-        Locked::push,
-        pop,
-        Options {
-            k: 4,
-            ..passing("relaxed")
-        },
-    ));
+    let check = |options| run_check(Locked::default, Locked::push, pop, options);
+    let options = Options {
+        k: 4,
+        ..passing("relaxed")
+    };
+    let report = passes(check, options);
     let (at_least, at_most) = report.least.expect("a sample was taken");
     assert!((2..=4).contains(&at_least) && at_most <= 4, "{report}");
-    finds(
-        run_check(Locked::default, Locked::push, pop, finding("relaxed")),
-        &[OVERTAKEN],
-    );
+    finds(check(finding("relaxed")), &[OVERTAKEN]);
 }
 
 /// Runs tests/crossbeam, a program of its own over Debian's crates.
@@ -285,7 +291,7 @@ fn the_queues_of_crossbeam_pass() {
         .arg("--manifest-path")
         .arg(Path::new(env!("CARGO_MANIFEST_DIR")).join("tests/crossbeam/Cargo.toml"))
         .arg("--")
-        .arg(seconds(2).as_secs().to_string())
+        .arg(usual_time().as_secs().to_string())
         .env(
             "CARGO_TARGET_DIR",
             Path::new(env!("CARGO_TARGET_TMPDIR")).join("crossbeam"),

@@ -83,6 +83,11 @@ Statuses of the library for C:
   KFIFO_BAD_LAST              the greatest version is not 2 to 1099511627775
   KFIFO_BAD_PROBES            the number of probes is not 1 to k
   KFIFO_BAD_TOKENS            the number of tokens a thread is not 1 to 1024
+  KFIFO_TIMED_OUT             of a call that waits: its time was up, and nothing
+                              was put or taken
+  KFIFO_FINISHED              of a call that waits: the queue was finished, and
+                              nothing was put, or it was empty then
+  KFIFO_BAD_RESERVE           the reserve is not below the greatest version
 
 Faults, each one line on standard error:
   kfifo: explain fault 1      the words are those of no fault and no answer

@@ -181,6 +181,31 @@ Allowed: 1 to 1024 tokens a thread.
 To do: open a queue with so many.
 ",
     },
+    Topic {
+        words: "KFIFO_TIMED_OUT",
+        help: Help::Explain,
+        line: "  KFIFO_TIMED_OUT ",
+        advice: "\
+To do: make the call again, or with more time.
+",
+    },
+    Topic {
+        words: "KFIFO_FINISHED",
+        help: Help::Explain,
+        line: "  KFIFO_FINISHED ",
+        advice: "\
+To do: make no more calls, and close the queue.
+",
+    },
+    Topic {
+        words: "KFIFO_BAD_RESERVE",
+        help: Help::Explain,
+        line: "  KFIFO_BAD_RESERVE ",
+        advice: "\
+Allowed: a reserve from 0 to the greatest version less 1.
+To do: open a queue with KFIFO_RESERVE, or with 0 for one that wears out.
+",
+    },
 ];
 
 /// Exit statuses, and the statuses of the library for C.
