@@ -3,11 +3,9 @@ use Rattle.std.specs.Prelude.{◌≡◌, ℕ, List, Option}
 use Rattle.kfifo_model.specs.declared.calls.Call.{Call}
 use Rattle.kfifo_import.specs.declared.log.ImportFault.{ImportFault}
 use Rattle.kfifo_import.specs.Tables.{IsImported, IsUnimported}
-use Rattle.kfifo_judge.specs.Inputs.{IsRecordText}
+use Rattle.kfifo_model.specs.RecordTexts.{IsRecordText, line, record_text}
 use Rattle.kfifo_cli_texts.specs.declared.fault.Fault.{Fault}
 use Rattle.kfifo_cli_texts.specs.declared.fault.Fault.TheVariants.{Input, Import, Memory}
-use Rattle.kfifo_judge.specs.Check.{line}
-use Rattle.kfifo_cli_texts.specs.RecordTexts.{record_text}
 use Rattle.kfifo_cli_commands.specs.Records.{IsInput, IsUnread}
 
 -- The answer: the line of the record of the log that the input is. Who reads it has its history

@@ -4,10 +4,11 @@ use denote.Ref.{Bor}
 use Rattle.kfifo_model.specs.declared.calls.Call.{Call}
 use Rattle.kfifo_model.specs.declared.history.RecordFault.{RecordFault}
 use Rattle.kfifo_import.specs.declared.log.ImportFault.{ImportFault}
-use Rattle.kfifo_import.specs.declared.log.LoggedCall.{LoggedCall}
+use Rattle.kfifo_model.specs.declared.logged.LoggedCall.{LoggedCall}
 use Rattle.kfifo_import.specs.Foreign.{IsJudgedLog, IsUnjudged}
 use Rattle.kfifo_judge.specs.declared.record.StreamFault.TheVariants as streams
-use Rattle.kfifo_judge.specs.Inputs.{BeginsRecord, IsRecordText}
+use Rattle.kfifo_judge.specs.Inputs.{BeginsRecord}
+use Rattle.kfifo_model.specs.RecordTexts.{IsRecordText}
 use Rattle.kfifo_judge.specs.TextFaults.{IsTextFault}
 use Rattle.kfifo_cli_texts.specs.declared.fault.Fault.{Fault}
 use Rattle.kfifo_cli_texts.specs.declared.fault.Fault.TheVariants.{Import, NoInput, NotJson, Record, Memory}

@@ -8,12 +8,10 @@ use Rattle.kfifo_live.specs.declared.fault.OpenFault.TheVariants as opens
 use Rattle.kfifo_dispatch.specs.Working.{SaysNothing}
 use Rattle.kfifo_record.specs.Repeats.{IsFirstOver, all_repeated, last_shift}
 use Rattle.kfifo_record.specs.Scripts.{IsRecord, longest}
-use Rattle.kfifo_judge.specs.Inputs.{IsRecordText}
+use Rattle.kfifo_model.specs.RecordTexts.{IsRecordText, line, record_text}
 use Rattle.kfifo_cli_texts.specs.declared.fault.Fault.{Fault}
 use Rattle.kfifo_cli_texts.specs.declared.fault.Fault.TheVariants as faults
 use Rattle.kfifo_cli_requests.specs.declared.requests.RecordOptions.{RecordOptions}
-use Rattle.kfifo_judge.specs.Check.{line}
-use Rattle.kfifo_cli_texts.specs.RecordTexts.{record_text}
 use Rattle.kfifo_cli_requests.specs.Sizes.{IsShapeFault, IsShapeOf}
 use Rattle.kfifo_cli_texts.specs.Scripts.{IsFirstUnreadScript, WriteScripts}
 

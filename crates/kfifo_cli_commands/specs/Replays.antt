@@ -22,9 +22,8 @@ use Rattle.kfifo_cli_texts.specs.declared.fault.Fault.{Fault}
 use Rattle.kfifo_cli_texts.specs.declared.fault.Fault.TheVariants as faults
 use Rattle.kfifo_cli_requests.specs.declared.requests.ReplayOptions.{ReplayOptions}
 use Rattle.kfifo_cli_texts.specs.declared.picks.Group.{Group}
-use Rattle.kfifo_judge.specs.Check.{line}
+use Rattle.kfifo_model.specs.RecordTexts.{line, record_text}
 use Rattle.kfifo_cli_texts.specs.Picks.{GivesGroups, GivesNoGroups, picks_of}
-use Rattle.kfifo_cli_texts.specs.RecordTexts.{record_text}
 use Rattle.kfifo_cli_texts.specs.TraceLines.{trace_lines}
 use Rattle.kfifo_cli_requests.specs.Sizes.{IsShapeFault, IsShapeOf}
 use Rattle.kfifo_cli_texts.specs.Scripts.{IsFirstUnreadScript, WriteScripts}

@@ -1,7 +1,7 @@
 -- What the commands `judge` and `least` come to, by their options, their input and its failed reads.
 use Rattle.std.specs.Prelude.{◌≡◌, ◌⊎◌, ℕ, List, Option}
 use Rattle.kfifo_model.specs.declared.calls.Call.{Call}
-use Rattle.kfifo_import.specs.declared.log.LoggedCall.{LoggedCall}
+use Rattle.kfifo_model.specs.declared.logged.LoggedCall.{LoggedCall}
 use Rattle.kfifo_judge.specs.declared.outcome.Outcome.{Outcome}
 use Rattle.kfifo_judge.specs.Bounds.{IsLeastAnswer}
 use Rattle.kfifo_judge.specs.Judgements.{IsJudgeAnswer}

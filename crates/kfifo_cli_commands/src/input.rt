@@ -5,9 +5,9 @@ ghost use Rattle.kfifo_cli_commands.specs.Records.{IsInput, IsUnread, ReadsWell}
 
 use crate::failure::Failure;
 use kfifo_cli_texts::{Fault, read_file};
-use kfifo_import::{LoggedCall, read_log_to_judge};
+use kfifo_import::read_log_to_judge;
 use kfifo_judge::{ReadFault, Source, begins_record, read_all, read_record};
-use kfifo_model::History;
+use kfifo_model::{History, LoggedCall};
 use std::alloc::Global;
 use std::rt::Files;
 

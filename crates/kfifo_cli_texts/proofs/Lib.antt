@@ -4,8 +4,6 @@ pub mod FirstCut
 pub mod Groups
 pub mod Numbers
 pub mod Orders
-pub mod Outcomes
-pub mod Recorded
 pub mod Scripts
 pub mod StretchWords
 pub mod TaskWords

@@ -17,7 +17,7 @@ use Rattle.kfifo_replay.specs.declared.fault.ReplayFault.TheVariants as replays
 use Rattle.kfifo_replay.specs.Faults.{replay_fault_number}
 use Rattle.kfifo_cli_texts.specs.declared.fault.Fault.{Fault}
 use Rattle.kfifo_cli_texts.specs.declared.fault.Fault.TheVariants as faults
-use Rattle.kfifo_judge.specs.Check.{line}
+use Rattle.kfifo_model.specs.RecordTexts.{line}
 
 -- a number, with a place behind it where there is one, and what stands before that
 abbrev pub number_at : List ℕ → ℕ → Option ℕ → List ℕ

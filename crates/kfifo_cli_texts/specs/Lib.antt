@@ -3,7 +3,6 @@ pub mod Lines
 pub mod Orders
 pub mod Picks
 pub mod Printing
-pub mod RecordTexts
 pub mod Scripts
 pub mod Stretches
 pub mod Tasks

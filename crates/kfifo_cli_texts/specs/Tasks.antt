@@ -3,7 +3,7 @@ use Rattle.std.specs.Prelude.{◌≡◌, ℕ, ◌^◌, ◌<◌, List, ◌∷◌,
 use denote.Ref.{Bor}
 use Rattle.kfifo_dispatch.specs.declared.task.Task.{Task}
 use Rattle.kfifo_dispatch.specs.declared.task.Finished.{Finished}
-use Rattle.kfifo_judge.specs.Check.{line}
+use Rattle.kfifo_model.specs.RecordTexts.{line}
 use Rattle.kfifo_cli_texts.specs.Scripts.{texts_of}
 use Rattle.kfifo_cli_texts.specs.Words.{EachWrites, WritesNumber}
 

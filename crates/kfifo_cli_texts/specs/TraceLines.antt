@@ -12,7 +12,7 @@ use Rattle.kfifo_machine.specs.declared.place.DequeuePhase.TheVariants as D
 use Rattle.kfifo_machine.specs.declared.place.Running.{Running}
 use Rattle.kfifo_machine.specs.declared.place.Running.TheVariants as R
 use Rattle.kfifo_replay.specs.declared.steps.Step.{Step}
-use Rattle.kfifo_judge.specs.Check.{line}
+use Rattle.kfifo_model.specs.RecordTexts.{line}
 use Rattle.kfifo_cli_texts.specs.Lines.{answer_text}
 
 -- the blanks before the place of an event, in a field of five columns

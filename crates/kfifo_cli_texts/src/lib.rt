@@ -1,5 +1,5 @@
-//! How the program `kfifo` reads its words and writes its lines: numbers, calls, orders, picks and tasks, the records of
-//! histories, the lines of calls, of traces and of faults, and the printer that all of it goes to.
+//! How the program `kfifo` reads its words and writes its lines: numbers, calls, orders, picks and tasks, the lines of
+//! calls, of traces and of faults, and the printer that all of it goes to.
 #![tactic(auto)]
 
 mod fault;
@@ -7,7 +7,6 @@ mod files;
 mod order;
 mod picks;
 mod printing;
-mod recording;
 mod report;
 mod stretch;
 mod tasks;
@@ -20,7 +19,6 @@ pub use files::read_file;
 pub use order::order_of;
 pub use picks::{Group, MAX_PICKS, read_picks};
 pub use printing::Printer;
-pub use recording::{record_line, record_text};
 pub use report::{push_dequeue, push_ends, push_enqueue, push_slot};
 pub use stretch::{Stretch, read_stretch};
 pub use tasks::{finished_lines, read_tasks};

@@ -1,11 +1,12 @@
 -- Which calls of a history a picture has, and why there is none.
-use Rattle.std.specs.Prelude.{ℕ, ◌≡◌, ◌+◌, ◌<◌, ◌≤◌, ◌⊎◌, ◌↔◌, List, Option, Some, None, length, slice_index_or}
+use Rattle.std.specs.Prelude.{ℕ, ◌≡◌, ◌+◌, ◌<◌, ◌≤◌, ◌⊎◌, ◌↔◌, List, length}
 use Rattle.std.specs.List.{Any}
 use Rattle.kfifo_draw.specs.declared.picture.TheConstants.{MAX_DRAWN}
 use Rattle.kfifo_model.specs.declared.calls.Call.{Call}
 use Rattle.kfifo_model.specs.Lists.{EachPair, IsIn}
 use Rattle.kfifo_model.specs.Histories.{Precedes, call}
-use Rattle.kfifo_import.specs.declared.log.LoggedCall.{LoggedCall}
+use Rattle.kfifo_model.specs.declared.logged.LoggedCall.{LoggedCall}
+use Rattle.kfifo_model.specs.Logged.{line_of}
 use Rattle.kfifo_draw.specs.declared.part.Part.{Part}
 use Rattle.kfifo_draw.specs.declared.part.Part.TheVariants.{All, Calls, Lines, Near}
 use Rattle.kfifo_draw.specs.declared.picture.DrawFault.{DrawFault}
@@ -26,14 +27,6 @@ AreWithin around c d = (c ≤ d + around) × (d ≤ c + around)
 -- d is a call that c overlaps, or c stands within so many calls of d
 abbrev pub IsNear : List Call → ℕ → ℕ → ℕ → Type 0
 IsNear h around c d = (d < length h) × (Overlap h c d ⊎ AreWithin around c d)
-
--- what is said where no line of a log is known
-abbrev pub no_line : LoggedCall
-no_line = record { line = 0; first = 0; last = None; item = None }
-
--- the line of a log that a call stands in, from 1; 0 where none is known
-abbrev pub line_of : List LoggedCall → ℕ → ℕ
-line_of logged c = (slice_index_or logged c no_line).line
 
 -- the call c belongs to a part of a history
 abbrev pub IsInPart : List Call → List LoggedCall → Part → ℕ → Type 0

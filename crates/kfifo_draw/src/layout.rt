@@ -3,8 +3,7 @@ use crate::bands::{Band, bands_of};
 use crate::marks::Marks;
 use crate::spans::spans_of;
 use crate::words::label_of;
-use kfifo_import::LoggedCall;
-use kfifo_model::Call;
+use kfifo_model::{Call, LoggedCall};
 use std::alloc::{AllocError, Global};
 
 /// The columns of a bar beside its label, with both ends open or torn, and of a bar that goes on before it.

@@ -1,11 +1,10 @@
 //! Which calls of a history are drawn.
 ghost use Rattle.std.specs.Prelude.{◌≡◌, ◌<◌, ◌≤◌, ◌⊎◌, ◌↔◌, IsTrue, IfOk, length};
 ghost use Rattle.kfifo_model.specs.Histories.{EndsBelow};
-ghost use Rattle.kfifo_draw.specs.Drawing.{AreDrawn, CountsThose, IsInPart, IsNear, line_of};
+ghost use Rattle.kfifo_draw.specs.Drawing.{AreDrawn, CountsThose, IsInPart, IsNear};
 ghost use Rattle.std.specs.List.{Any};
 
-use kfifo_import::LoggedCall;
-use kfifo_model::Call;
+use kfifo_model::{Call, LoggedCall, logged_line};
 use std::alloc::{AllocError, Global};
 
 /// A part of a history. Calls are named by their numbers in the whole history.
@@ -56,16 +55,6 @@ fn is_near_some(calls: &[Call], number: usize, named: &[usize], around: usize) -
         .any(|other| is_near(calls, number, *other, around))
 }
 
-/// The line of a log that the call with this number stands in, from 1; 0 where none is known.
-fn line_at(logged: &[LoggedCall], number: usize) -> u64
-    ensures { result ≡ line_of logged.now number }
-{
-    match logged.get(number) {
-        Some(call) => call.line,
-        None => 0,
-    }
-}
-
 /// Whether the call with this number belongs to the part.
 fn is_in_part(calls: &[Call], logged: &[LoggedCall], part: Part<'_>, number: usize) -> bool
     requires { number < length calls.now }
@@ -75,7 +64,7 @@ fn is_in_part(calls: &[Call], logged: &[LoggedCall], part: Part<'_>, number: usi
         Part::All => true,
         Part::Calls(first, last) => first <= number && number <= last,
         Part::Lines(first, last) => {
-            let line = line_at(logged, number);
+            let line = logged_line(logged, number);
             first <= line && line <= last
         }
         Part::Near(named, around) => is_near_some(calls, number, named, around),

@@ -9,8 +9,7 @@ use crate::part::{Part, count_drawn, drawn_calls};
 use crate::scene::Scene;
 use crate::svg::svg_picture;
 use crate::{lanes, svg};
-use kfifo_import::LoggedCall;
-use kfifo_model::{Call, History};
+use kfifo_model::{Call, History, LoggedCall};
 use std::alloc::{AllocError, AllocFailed, Global};
 use thiserror::Error;
 

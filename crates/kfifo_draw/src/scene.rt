@@ -1,8 +1,7 @@
 //! What a picture is made of, whatever its style.
 use crate::layout::Layout;
 use crate::marks::Marks;
-use kfifo_import::LoggedCall;
-use kfifo_model::Call;
+use kfifo_model::{Call, LoggedCall};
 use std::alloc::AllocError;
 use std::fmt::Write;
 

@@ -1,7 +1,6 @@
 //! What is said of a call.
 use crate::marks::Marks;
-use kfifo_import::LoggedCall;
-use kfifo_model::{Answer, Call, Op};
+use kfifo_model::{Answer, Call, LoggedCall, Op};
 use std::alloc::{AllocError, Global};
 use std::fmt::Write;
 

@@ -1,4 +1,4 @@
--- The ends of a log's calls, one by one.
+-- The ends of a log's calls, call by call: they are all ends, in any order of them.
 use Rattle.std.proofs.Common.{ℕ, zero, suc, ◌≡◌, ◌+◌, ◌<◌, ◌≤◌, true, false, List, [], ◌∷◌, ◌++◌, Option, Some, None, length, count_by}
 use Rattle.std.proofs.Common.{is_some, refl, sym, ◌∙◌, ap, subst, inl, inr, arith, length-append}
 use Rattle.std.specs.List.{Contains}

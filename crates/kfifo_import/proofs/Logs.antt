@@ -1,4 +1,4 @@
--- The calls of a log's lines, and the faults of logs.
+-- A log has a call for each of its record, and a fault of the record is one of the log, at the line of its call.
 use Rattle.std.proofs.Common.{◌≡◌, ◌∙◌, ◌<◌, ◌≤◌, List, None, length, get_or, subst, refl, arith}
 use Rattle.std.specs.List.Sorted.{IsNonDecreasingBy}
 use Rattle.std.proofs.lemmas.List.{length-map}
@@ -9,7 +9,7 @@ use Rattle.kfifo_model.specs.declared.history.RecordFault.{RecordFault}
 use Rattle.kfifo_model.specs.declared.history.RecordFault.TheVariants as records
 use Rattle.kfifo_model.specs.Validity.{IsFault}
 use Rattle.kfifo_import.specs.declared.log.Line.{Line}
-use Rattle.kfifo_import.specs.declared.log.LoggedCall.{LoggedCall}
+use Rattle.kfifo_model.specs.declared.logged.LoggedCall.{LoggedCall}
 use Rattle.kfifo_import.specs.Logs.{AreByFirst, IsImportFault, IsLogOf, calls_of, first_time, import_fault, logged_call}
 use Rattle.kfifo_import.specs.Stamping.{AreStamped}
 

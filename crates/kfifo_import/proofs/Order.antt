@@ -11,7 +11,8 @@ use Rattle.kfifo_model.specs.declared.history.RecordFault.TheVariants as records
 use Rattle.kfifo_import.specs.declared.log.ImportFault.TheVariants.{NumberOutOfRange, WrongAnswer, EndsEarly, Overlap}
 use Rattle.kfifo_import.specs.declared.log.Line.{Line}
 use Rattle.kfifo_import.specs.declared.moments.Moment.{Moment}
-use Rattle.kfifo_import.specs.Lines.{beginnings, fault_among, line_at, line_of, lines_by, no_line}
+use Rattle.kfifo_model.specs.Logged.{line_of}
+use Rattle.kfifo_import.specs.Lines.{beginnings, fault_among, line_at, lines_by, no_line}
 use Rattle.kfifo_import.specs.Logs.{AreByFirst, calls_of, first_time, import_fault, line_number, logged_call}
 use Rattle.kfifo_import.specs.Stamping.{no_moment}
 

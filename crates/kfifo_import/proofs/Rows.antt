@@ -1,4 +1,4 @@
--- A table, row by row.
+-- A table that was read as far as a row is read as far as the next one.
 use Rattle.std.proofs.Common.{◌++◌, ◌∷◌, [], ◌≡◌, ℕ, List, Option, Some, None, length, refl, sym, subst, ◌∙◌, ap}
 use Rattle.kfifo_import.specs.declared.log.Line.{Line}
 use Rattle.kfifo_import.specs.declared.table.Columns.{Columns}

@@ -1,4 +1,4 @@
--- The walks over the ends and over the calls, step by step.
+-- The walks over the ends and over the calls: a call's stamps come from how many have begun or ended by its times.
 use Rattle.std.proofs.Common.{ℕ, [], ◌∷◌, ◌++◌, ◌≡◌, ◌+◌, ◌<◌, List, length, get_or, set, sym, ◌∙◌, ap, subst, refl, inl, inr, arith}
 use Rattle.std.proofs.Common.{None, length-append, length-set, get_or-set_other, get_or-set_same}
 use Rattle.std.specs.List.Sorted.{IsNonDecreasingBy}

@@ -1,4 +1,4 @@
--- Numbers and fields that a row does not have.
+-- A field gives one number or one text at most, and a row that lacks one is no call.
 use Rattle.std.proofs.Common.{ℕ, zero, suc, ◌∷◌, ◌≡◌, ◌∙◌, ◌<◌, ◌≤◌, ◌^◌, List, [], Option, Some, None, get_or, length, min, ap}
 use Rattle.std.proofs.Common.{refl, sym, subst, arith, Result, Ok, Err, MatchOption}
 use Rattle.std.specs.Result.{OkIff, result_ok}

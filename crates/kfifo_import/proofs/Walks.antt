@@ -1,4 +1,4 @@
--- A walk over the bytes of a text.
+-- A walk over the bytes of a text: past the byte order mark, past the ends of lines, and to the end of a row.
 use Rattle.std.proofs.Common.{ℕ, ◌∷◌, ◌++◌, ◌≡◌, ◌∙◌, ◌+◌, ◌-◌, ◌<◌, ◌≤◌, ◌==◌, ◌||◌, true, false, Bool, List, [], Some, None}
 use Rattle.std.proofs.Common.{cond, get_or, take, drop, length, refl, sym, arith, add-one, drop-cons}
 use Rattle.std.proofs.lemmas.List.{drop_all, length-drop, take_all}

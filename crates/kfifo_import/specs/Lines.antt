@@ -4,11 +4,12 @@ use Rattle.std.specs.List.{enumerate_from}
 use Rattle.kfifo_model.specs.declared.history.RecordFault.{RecordFault}
 use Rattle.kfifo_model.specs.declared.history.RecordFault.TheVariants as records
 use Rattle.kfifo_model.specs.Histories.{no_call}
+use Rattle.kfifo_model.specs.Logged.{line_of}
 use Rattle.kfifo_import.specs.declared.log.ImportFault.{ImportFault}
 use Rattle.kfifo_import.specs.declared.log.ImportFault.TheVariants.{TooMany, NumberOutOfRange, WrongAnswer, EndsEarly}
 use Rattle.kfifo_import.specs.declared.log.ImportFault.TheVariants.{Overlap, Memory}
 use Rattle.kfifo_import.specs.declared.log.Line.{Line}
-use Rattle.kfifo_import.specs.declared.log.LoggedCall.{LoggedCall}
+use Rattle.kfifo_model.specs.declared.logged.LoggedCall.{LoggedCall}
 use Rattle.kfifo_import.specs.declared.moments.Moment.{Moment}
 
 abbrev pub no_line : Line
@@ -25,13 +26,6 @@ beginnings lines = map (λ e. record { time = e.1.call.first; number = e.0 }) (e
 -- the lines at the places of these beginnings
 abbrev pub lines_by : List Line → List Moment → List Line
 lines_by lines order = map (λ begin. line_at lines begin.number) order
-
-abbrev pub no_logged_call : LoggedCall
-no_logged_call = record { line = 0; first = 0; last = None; item = None }
-
--- the line of a call, 0 past the last one
-abbrev pub line_of : List LoggedCall → ℕ → ℕ
-line_of calls n = (slice_index_or calls n no_logged_call).line
 
 -- a fault of the record, at the line of its call
 abbrev pub fault_among : List LoggedCall → RecordFault → ImportFault

@@ -11,6 +11,7 @@ mod walk;
 mod wrong;
 
 pub use foreign::with_puttable_items;
-pub use log::{ImportFault, Line, Log, LoggedCall, log_of, record_of};
+pub use kfifo_model::LoggedCall;
+pub use log::{ImportFault, Line, Log, log_of, record_of};
 pub use table::{import_text, read_log, read_log_to_judge};
 pub use wrong::{Allowed, Field, Refusal, WrongField};

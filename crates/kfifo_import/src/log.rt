@@ -1,12 +1,12 @@
 //! Logs of calls, whose steps are times of a clock.
-ghost use Rattle.std.specs.Prelude.{◌≡◌, IfOk, MatchResult, map, slice_index_or};
+ghost use Rattle.std.specs.Prelude.{◌≡◌, IfOk, MatchResult, map};
 ghost use Rattle.kfifo_import.specs.Lines as specs;
-ghost use Rattle.kfifo_import.specs.Lines.{fault_among, lines_by, no_logged_call};
+ghost use Rattle.kfifo_import.specs.Lines.{fault_among, lines_by};
 ghost use Rattle.kfifo_import.specs.Logs.{AreByFirst, IsImportFault, IsLogOf, IsRecordOfLog, logged_call};
 
 use crate::moments::{Moment, by_time};
 use crate::stamping::stamped;
-use kfifo_model::{Call, History, MAX_CALLS, Op, RecordFault};
+use kfifo_model::{Call, History, LoggedCall, MAX_CALLS, Op, RecordFault, logged_line};
 use std::alloc::{AllocError, AllocFailed, Global};
 use thiserror::Error;
 
@@ -18,19 +18,6 @@ pub struct Line {
     /// The call. Its first and last step are times, which need not be distinct. Its item is at most 4,294,967,295.
     pub call: Call,
     /// The item that the line has; none of a call that puts and gets none.
-    pub item: Option<u64>,
-}
-
-/// What a log says of a call beside its record.
-#[derive(Clone, Copy, Debug, PartialEq, Eq)]
-pub struct LoggedCall {
-    /// The number of the line that the call stands in, from 1.
-    pub line: u64,
-    /// When the call began, as the log gives it.
-    pub first: u64,
-    /// When the call ended, as the log gives it; none of an unfinished call.
-    pub last: Option<u64>,
-    /// The item that the call put or got, as the log gives it; none of a call that put and got none.
     pub item: Option<u64>,
 }
 
@@ -92,24 +79,17 @@ impl<T: Drop> From<AllocFailed<T>> for ImportFault {
     }
 }
 
-/// The number of the line of this call, 0 past the last one.
-fn line_number(calls: &[LoggedCall], place: usize) -> u64
-    ensures { result ≡ (slice_index_or calls.now place no_logged_call).line }
-{
-    calls.get(place).map_or(0, |call| call.line)
-}
-
 /// The fault of the record as one of the log, whose calls these are.
 fn fault_of(calls: &[LoggedCall], fault: RecordFault) -> ImportFault
     ensures { result ≡ fault_among calls.now fault }
 {
     match fault {
         RecordFault::NumberOutOfRange(place) => {
-            ImportFault::NumberOutOfRange(line_number(calls, place))
+            ImportFault::NumberOutOfRange(logged_line(calls, place))
         }
-        RecordFault::WrongAnswer(place) => ImportFault::WrongAnswer(line_number(calls, place)),
-        RecordFault::EndsEarly(place) => ImportFault::EndsEarly(line_number(calls, place)),
-        RecordFault::Overlap(place) => ImportFault::Overlap(line_number(calls, place)),
+        RecordFault::WrongAnswer(place) => ImportFault::WrongAnswer(logged_line(calls, place)),
+        RecordFault::EndsEarly(place) => ImportFault::EndsEarly(logged_line(calls, place)),
+        RecordFault::Overlap(place) => ImportFault::Overlap(logged_line(calls, place)),
         RecordFault::TooMany => ImportFault::TooMany,
         RecordFault::NotAList
         | RecordFault::NotACall(_)

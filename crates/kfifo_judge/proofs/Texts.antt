@@ -1,4 +1,4 @@
--- Texts that are written one after the other.
+-- Two texts that are appended in turn are appended as one.
 use Rattle.std.proofs.Common.{ℕ, ◌≡◌, ◌∙◌, ◌++◌, List, OnOk, Result, ap, append_assoc}
 
 pub more : (a b c x y : List ℕ) → b ≡ a ++ x → c ≡ b ++ y → c ≡ a ++ (x ++ y)

@@ -1,4 +1,4 @@
--- What calls of a sink add up to.
+-- Writes to a sink in turn append their texts in turn, as far as they go.
 use Rattle.std.proofs.Common.{ℕ, zero, suc, [], ◌∷◌, ◌≡◌, ◌+◌, ◌-◌, ◌≤◌, List, [], ◌++◌, length, take, drop, refl, sym, ◌∙◌, ap, arith}
 use Rattle.std.proofs.Common.{Option, Some, None, append_assoc, length-drop}
 use Rattle.std.proofs.lemmas.List.{take-append-drop, take_all, drop-take}

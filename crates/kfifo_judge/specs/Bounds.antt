@@ -6,8 +6,8 @@ use Rattle.kfifo_verdict.specs.declared.verdicts.Bounds.{Bounds}
 use Rattle.kfifo_verdict.specs.declared.verdicts.Evidence.{Evidence}
 use Rattle.kfifo_verdict.specs.Judging.{AreBounds, HasNoneForEachK, IsFirstForEachK}
 use Rattle.kfifo_verdict.specs.Naming.{IsForEachK}
-use Rattle.kfifo_import.specs.declared.log.LoggedCall.{LoggedCall}
-use Rattle.kfifo_judge.specs.Check.{line}
+use Rattle.kfifo_model.specs.declared.logged.LoggedCall.{LoggedCall}
+use Rattle.kfifo_model.specs.RecordTexts.{line}
 use Rattle.kfifo_judge.specs.declared.outcome.Outcome.{Outcome}
 use Rattle.kfifo_judge.specs.declared.outcome.Outcome.TheVariants.{Answered, Unordered, Undecided}
 use Rattle.kfifo_judge.specs.Reasons.{reason_lines}

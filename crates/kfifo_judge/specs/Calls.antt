@@ -7,8 +7,8 @@ use Rattle.kfifo_model.specs.declared.effects.Effect.{Effect}
 use Rattle.kfifo_model.specs.declared.effects.Effect.TheVariants.{Adds, Takes, FindsNone, Refused, Wrong}
 use Rattle.kfifo_model.specs.Histories.{call, does, effect_of}
 use Rattle.kfifo_model.specs.Overtaking.{takes}
-use Rattle.kfifo_import.specs.declared.log.LoggedCall.{LoggedCall}
-use Rattle.kfifo_judge.specs.Check.{line}
+use Rattle.kfifo_model.specs.declared.logged.LoggedCall.{LoggedCall}
+use Rattle.kfifo_model.specs.RecordTexts.{line}
 use Rattle.kfifo_judge.specs.declared.calls.Occurrence.{Occurrence}
 
 -- the item of a call, as its log has it if it is one of a log

@@ -1,5 +1,5 @@
 -- What `check` says of a record.
-use Rattle.std.specs.Prelude.{ℕ, ◌≡◌, ◌<◌, ◌≤◌, ◌⊎◌, List, [], ◌∷◌, ◌++◌, Option, Some, None, length, codes}
+use Rattle.std.specs.Prelude.{ℕ, ◌≡◌, ◌<◌, ◌≤◌, ◌⊎◌, List, ◌++◌, Option, Some, None, length, codes}
 use Rattle.std.specs.Fmt.{decimal}
 use Rattle.kfifo_model.specs.declared.calls.Call.{Call}
 use Rattle.kfifo_model.specs.declared.orders.Verdict.{Verdict}
@@ -12,12 +12,8 @@ use Rattle.kfifo_judge.specs.declared.outcome.Outcome.{Outcome}
 use Rattle.kfifo_judge.specs.declared.outcome.Outcome.TheVariants.{Answered, Unordered}
 use Rattle.kfifo_judge.specs.declared.record.StreamFault.{StreamFault}
 use Rattle.kfifo_judge.specs.declared.record.StreamFault.TheVariants as faults
-use Rattle.kfifo_judge.specs.Inputs.{IsRecordText}
+use Rattle.kfifo_model.specs.RecordTexts.{IsRecordText, line}
 use Rattle.kfifo_judge.specs.TextFaults.{IsTextFault}
-
--- a line ends with a line feed
-abbrev pub line : List ℕ → List ℕ
-line text = text ++ 10 ∷ []
 
 abbrev pub verdict_text : Verdict → List ℕ
 verdict_text Legal = line (codes "legal")

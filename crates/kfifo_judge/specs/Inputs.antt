@@ -1,12 +1,11 @@
 -- The texts of records.
-use Rattle.std.specs.Prelude.{ℕ, ◌≡◌, ◌⊎◌, ◌<◌, List, Some, None, length, slice_index}
+use Rattle.std.specs.Prelude.{ℕ, ◌≡◌, ◌⊎◌, ◌<◌, List, None, length, slice_index}
 use Rattle.std.specs.Str.{IsUtf8}
 use Rattle.serde_json.specs.Data.{Data}
 use Rattle.serde_json.specs.Read.{read}
-use Rattle.kfifo_model.specs.declared.calls.Call.{Call}
 use Rattle.kfifo_model.specs.declared.history.RecordFault.{RecordFault}
-use Rattle.kfifo_model.specs.Validity.{IsHistory}
-use Rattle.kfifo_model.specs.Records.{IsRecordOf, IsReadFault}
+use Rattle.kfifo_model.specs.Records.{IsReadFault}
+use Rattle.kfifo_model.specs.RecordTexts.{IsJson}
 
 -- a space, a tab, a line feed or a carriage return
 abbrev pub IsSpace : ℕ → Type 0
@@ -20,20 +19,9 @@ pub record BeginsRecord (bytes : List ℕ) : Type 0 where
   pub bracket : slice_index bytes place ≡ 91
   pub spaces : (n : ℕ) → n < place → IsSpace (slice_index bytes n)
 
--- the bytes are a JSON text of this value
-abbrev pub IsJson : List ℕ → Data → Type 0
-IsJson bytes d = IsUtf8 bytes × (read bytes ≡ Some d)
-
 -- the bytes are no JSON text
 abbrev pub IsNoJson : List ℕ → Type 0
 IsNoJson bytes = (IsUtf8 bytes → ⊥) ⊎ (read bytes ≡ None)
-
--- The bytes are the record of this history.
-pub record IsRecordText (bytes : List ℕ) (h : List Call) : Type 0 where
-  pub value : Data
-  pub json : IsJson bytes value
-  pub calls : IsRecordOf value h
-  pub valid : IsHistory h
 
 -- the bytes are a JSON text whose first fault as a record is this one
 abbrev pub IsFaultyText : List ℕ → RecordFault → Type 0

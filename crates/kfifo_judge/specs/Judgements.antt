@@ -9,8 +9,8 @@ use Rattle.kfifo_verdict.specs.declared.verdicts.Stuck.{Stuck}
 use Rattle.kfifo_verdict.specs.declared.verdicts.Stuck.TheVariants.{TriesRanOut, NothingLeft}
 use Rattle.kfifo_verdict.specs.Judging.{IsJudgement}
 use Rattle.kfifo_verdict.specs.Remainder.{items_left}
-use Rattle.kfifo_import.specs.declared.log.LoggedCall.{LoggedCall}
-use Rattle.kfifo_judge.specs.Check.{line}
+use Rattle.kfifo_model.specs.declared.logged.LoggedCall.{LoggedCall}
+use Rattle.kfifo_model.specs.RecordTexts.{line}
 use Rattle.kfifo_judge.specs.declared.outcome.Outcome.{Outcome}
 use Rattle.kfifo_judge.specs.declared.outcome.Outcome.TheVariants as outcomes
 use Rattle.kfifo_judge.specs.Bounds.{FollowsReason}

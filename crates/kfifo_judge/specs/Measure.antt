@@ -2,14 +2,12 @@
 use Rattle.std.specs.Prelude.{ℕ, ◌≡◌, ◌⊎◌, max, List, [], ◌∷◌, ◌++◌, length, codes}
 use Rattle.std.specs.Fmt.{decimal}
 use Rattle.kfifo_model.specs.declared.calls.Call.{Call}
-use Rattle.kfifo_model.specs.declared.index.Overtaken.{Overtaken}
-use Rattle.kfifo_model.specs.Measures.{IsDoneEnqueue, HasDistinctItems}
-use Rattle.kfifo_model.specs.Index.{measured}
+use Rattle.kfifo_model.specs.declared.overtakings.Overtaken.{Overtaken}
+use Rattle.kfifo_model.specs.Measures.{IsDoneEnqueue, HasDistinctItems, measured}
 use Rattle.kfifo_judge.specs.declared.record.StreamFault.{StreamFault}
 use Rattle.kfifo_judge.specs.declared.record.StreamFault.TheVariants as faults
-use Rattle.kfifo_judge.specs.Inputs.{IsRecordText}
+use Rattle.kfifo_model.specs.RecordTexts.{IsRecordText, line}
 use Rattle.kfifo_judge.specs.TextFaults.{IsTextFault}
-use Rattle.kfifo_judge.specs.Check.{line}
 
 abbrev pub overtaken_line : Overtaken → List ℕ
 overtaken_line o = line (codes "call " ++ decimal o.call ++ codes " item " ++ decimal o.item ++ codes " overtaken "

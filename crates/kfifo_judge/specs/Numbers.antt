@@ -1,7 +1,7 @@
 -- Lines of numbers, and the greatest of some.
 use Rattle.std.specs.Prelude.{ℕ, max, List, [], ◌∷◌, ◌++◌, codes, decimal}
 use Rattle.std.specs.List.{flat_map}
-use Rattle.kfifo_judge.specs.Check.{line}
+use Rattle.kfifo_model.specs.RecordTexts.{line}
 
 -- further numbers, a comma before each
 abbrev pub further : List ℕ → List ℕ

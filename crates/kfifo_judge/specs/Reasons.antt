@@ -11,8 +11,8 @@ use Rattle.kfifo_verdict.specs.declared.verdicts.Evidence.{Evidence}
 use Rattle.kfifo_verdict.specs.declared.verdicts.Evidence.TheVariants.{NeverPut, TakenTwice, NotEmpty, TooYoung}
 use Rattle.kfifo_verdict.specs.declared.verdicts.Evidence.TheVariants.{TakenTooSoon, ItemsLeft, OlderLeft}
 use Rattle.kfifo_verdict.specs.Naming.{call_in, puts_in}
-use Rattle.kfifo_import.specs.declared.log.LoggedCall.{LoggedCall}
-use Rattle.kfifo_judge.specs.Check.{line}
+use Rattle.kfifo_model.specs.declared.logged.LoggedCall.{LoggedCall}
+use Rattle.kfifo_model.specs.RecordTexts.{line}
 use Rattle.kfifo_judge.specs.Calls.{call_lines, item_in}
 use Rattle.kfifo_judge.specs.Numbers.{joined}
 

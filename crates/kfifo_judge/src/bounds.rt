@@ -5,8 +5,7 @@ ghost use Rattle.kfifo_judge.specs.Bounds.{bounds_text, no_least_text};
 
 use crate::outcome::Outcome;
 use crate::reasons::push_reasons;
-use kfifo_import::LoggedCall;
-use kfifo_model::History;
+use kfifo_model::{History, LoggedCall};
 use kfifo_verdict::{Bounds, Evidence, evidence_for_each_k, least_k};
 use std::alloc::{AllocError, Global};
 use std::fmt::Write;

@@ -6,8 +6,7 @@ ghost use Rattle.kfifo_judge.specs.Calls.{call_line, call_lines, details_text, e
 ghost use Rattle.kfifo_judge.specs.Calls.{in_record, item_in, last_part, name_text, occurrence, taker, taker_part};
 ghost use Rattle.kfifo_judge.specs.Calls.{times_text};
 
-use kfifo_import::LoggedCall;
-use kfifo_model::{Call, Effect, History, Op};
+use kfifo_model::{Call, Effect, History, LoggedCall, Op};
 use std::alloc::AllocError;
 use std::fmt::Write;
 

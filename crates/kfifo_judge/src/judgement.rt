@@ -1,6 +1,6 @@
 //! The answer of the command `judge`.
 ghost use Rattle.std.specs.Prelude.{◌≡◌, ◌≤◌, ◌++◌, IfOk, List, OnOk, codes, decimal, string_bytes, ℕ};
-ghost use Rattle.kfifo_judge.specs.Check.{line};
+ghost use Rattle.kfifo_model.specs.RecordTexts.{line};
 ghost use Rattle.kfifo_model.specs.Histories.{IsLegal};
 ghost use Rattle.kfifo_model.specs.Ranks.{ranks_of};
 ghost use Rattle.kfifo_judge.specs.Bounds.{FollowsReason};
@@ -16,8 +16,7 @@ use crate::bounds::push_following;
 use crate::numbers::{greatest_of, push_numbers};
 use crate::outcome::Outcome;
 use crate::reasons::push_reasons;
-use kfifo_import::LoggedCall;
-use kfifo_model::{History, RankFault, items_repeat, ranks};
+use kfifo_model::{History, LoggedCall, RankFault, items_repeat, ranks};
 use kfifo_verdict::{Evidence, Judgement, Stuck, judge_and_count};
 use std::alloc::{AllocError, Global};
 use std::fmt::Write;

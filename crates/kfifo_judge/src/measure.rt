@@ -1,7 +1,6 @@
 //! What `measure` says of a record.
 ghost use Rattle.std.specs.Prelude.{ℕ, ◌≡◌, IfOk, MatchResult, length, string_bytes};
-ghost use Rattle.kfifo_model.specs.Measures.{IsDoneEnqueue, HasDistinctItems};
-ghost use Rattle.kfifo_model.specs.Index.{measured};
+ghost use Rattle.kfifo_model.specs.Measures.{IsDoneEnqueue, HasDistinctItems, measured};
 ghost use Rattle.kfifo_judge.specs.Measure.{overtaken_line, overtakings_text, IsMeasured, IsUnmeasured, IsMeasuringFault};
 
 use crate::record::{StreamFault, read_record};

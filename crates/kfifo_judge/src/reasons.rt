@@ -6,8 +6,7 @@ ghost use Rattle.kfifo_judge.specs.Reasons.{got_item, named_by, others, puts_par
 
 use crate::calls::{effect_at, first_of, item_in, logged_at, push_calls};
 use crate::numbers::push_joined;
-use kfifo_import::LoggedCall;
-use kfifo_model::{Effect, History};
+use kfifo_model::{Effect, History, LoggedCall};
 use kfifo_verdict::Evidence;
 use std::alloc::{AllocError, Global};
 use std::fmt::Write;

@@ -1,6 +1,7 @@
 //! Records as texts, and why a stream gets no answer.
 ghost use Rattle.std.specs.Prelude.{ℕ, ◌≡◌, ◌↔◌, IsTrue, List, MatchResult};
-ghost use Rattle.kfifo_judge.specs.Inputs.{BeginsRecord, IsRecordText, IsSpace};
+ghost use Rattle.kfifo_judge.specs.Inputs.{BeginsRecord, IsSpace};
+ghost use Rattle.kfifo_model.specs.RecordTexts.{IsRecordText};
 ghost use Rattle.kfifo_judge.specs.TextFaults.{IsTextFault};
 
 use crate::streams::ReadFault;

@@ -1,7 +1,7 @@
 -- Reports of pictures.
 use Rattle.std.proofs.Common.{ℕ, ◌≡◌, Bool, List, IfOk, MatchResult, Result, Ok, Err, inl, inr, length}
 use Rattle.kfifo_model.specs.declared.calls.Call.{Call}
-use Rattle.kfifo_import.specs.declared.log.LoggedCall.{LoggedCall}
+use Rattle.kfifo_model.specs.declared.logged.LoggedCall.{LoggedCall}
 use Rattle.kfifo_draw.specs.declared.part.Part.{Part}
 use Rattle.kfifo_draw.specs.declared.picture.DrawFault.{DrawFault}
 use Rattle.kfifo_draw.specs.declared.picture.DrawFault.TheVariants.{TooMany}

@@ -3,12 +3,13 @@ use Rattle.std.specs.Prelude.{ℕ, ◌≡◌, ◌⊎◌, List, [], unwrap_or}
 use Rattle.kfifo_model.specs.declared.calls.Call.{Call}
 use Rattle.kfifo_model.specs.FaultNumbers.{fault_call, fault_number}
 use Rattle.kfifo_import.specs.declared.log.ImportFault.{ImportFault}
-use Rattle.kfifo_import.specs.declared.log.LoggedCall.{LoggedCall}
+use Rattle.kfifo_model.specs.declared.logged.LoggedCall.{LoggedCall}
 use Rattle.kfifo_import.specs.Foreign.{IsJudgedLog, IsUnjudged}
 use Rattle.kfifo_judge.specs.declared.record.StreamFault.{StreamFault}
 use Rattle.kfifo_judge.specs.declared.record.StreamFault.TheVariants.{Input, NotJson, Record, Search, RepeatedItem, Memory}
 use Rattle.kfifo_judge.specs.declared.record.StreamFault.TheVariants.{Output}
-use Rattle.kfifo_judge.specs.Inputs.{BeginsRecord, IsRecordText}
+use Rattle.kfifo_judge.specs.Inputs.{BeginsRecord}
+use Rattle.kfifo_model.specs.RecordTexts.{IsRecordText}
 use Rattle.kfifo_judge.specs.TextFaults.{IsTextFault}
 use Rattle.kfifo_judge_c.specs.declared.report.Report.{Report}
 use Rattle.kfifo_judge_c.specs.declared.status.TheConstants.{FAULT}

@@ -1,4 +1,4 @@
--- Lists of beginnings that grow.
+-- One more beginning of an order adds to the next level of the search just what it leads to, each once.
 use Rattle.std.proofs.Common.{ℕ, zero, suc, false, ◌≡◌, ◌+◌, ◌<◌, ◌≤◌, ◌⊎◌, ◌↔◌, List, [], ◌∷◌, ◌++◌, length, get_or, sym, ◌∙◌, ap, subst}
 use Rattle.std.proofs.Common.{inl, inr, arith, append_assoc, length-append}
 use Rattle.std.specs.List.{All, Any, Contains}

@@ -1,4 +1,4 @@
--- What the checker's loops read, and the facts that they end with.
+-- One more call of an order: the run so far goes on or breaks there, and it ends before no earlier one begins or does.
 use Rattle.std.proofs.Common.{ℕ, ◌≡◌, ◌≢◌, ◌+◌, ◌<◌, ◌≤◌, ◌↔◌, ◌&&◌, ltb, List, [], ◌∷◌, ◌++◌, length, map, take, get_or, refl, sym, ◌∙◌}
 use Rattle.std.proofs.Common.{ap, subst, inl, inr, arith, Option, Some, None, append_assoc}
 use Rattle.std.specs.List.{remove}

@@ -1,4 +1,4 @@
--- Counts over blocks of rivals.
+-- Rivals counted block by block: none, all, or those that ended in time.
 use Rattle.std.proofs.Common.{◌≡◌, ℕ, zero, suc, ◌+◌, ◌-◌, ◌<◌, ◌≤◌, Bool, true, false, ◌&&◌, ltb, List, [], ◌∷◌, ◌++◌, length, map, take}
 use Rattle.std.proofs.Common.{get_or, Option, IsPermutation, refl, sym, ap, ◌∙◌, arith, cond, count_by, drop}
 use Rattle.std.specs.List.{flat_map, slice_range}
@@ -11,7 +11,7 @@ use Rattle.std.proofs.lemmas.Grind.{flat_map-append}
 use Rattle.std.proofs.lemmas.Bool.Decides.{nat_tests}
 use Rattle.std.proofs.lemmas.List.{append-nil, take_more, length-append, take-append-drop}
 use Rattle.kfifo_model.proofs.Types.{Rival}
-use Rattle.kfifo_model.specs.Index.{is_beaten, ends_before}
+use Rattle.kfifo_model.specs.Rivals.{is_beaten, ends_before}
 use Rattle.kfifo_model.specs.Blocks.{IsSpan}
 
 -- what stands between two places follows what stands before the first

@@ -1,4 +1,4 @@
--- Items by their calls, and the overtakings that an index gives.
+-- An index grows call by call; counted over the rivals that it gives, an item's certain overtakings are all of them.
 use Rattle.std.proofs.Common.{ℕ, zero, suc, ◌≡◌, ◌≢◌, ◌+◌, ◌<◌, ◌⊎◌, ◌&&◌, ◌||◌, Bool, true, false, cond, not, eqb, ltb, List, [], ◌∷◌}
 use Rattle.std.proofs.Common.{◌++◌, length, refl, sym, ◌∙◌, ap, subst, inl, inr, arith, Option, Some, None}
 use Rattle.std.specs.Option.{MatchOption, option_map, option_to_list, is_some}
@@ -18,10 +18,11 @@ use Rattle.kfifo_model.specs.declared.effects.Side.TheVariants.{In, Out}
 use Rattle.kfifo_model.specs.declared.effects.Effect.TheVariants.{Adds, Takes, FindsNone, Refused, Wrong}
 use Rattle.kfifo_model.specs.Relaxed.{effect}
 use Rattle.kfifo_model.specs.Histories.{call, does, effect_at}
-use Rattle.kfifo_model.specs.Index.{side_effect, HasTwo, IsIndex, last_of, rival_of, rivals_below, rival_at, ends_before, is_beaten}
-use Rattle.kfifo_model.specs.Index.{done_item_of, done_item, measure_of, measured}
+use Rattle.kfifo_model.specs.Index.{side_effect, HasTwo, IsIndex}
+use Rattle.kfifo_model.specs.Rivals.{last_of, rival_of, rivals_below, rival_at, ends_before, is_beaten}
+use Rattle.kfifo_model.specs.Measures.{done_item_of, done_item, measure_of, measured}
 use Rattle.kfifo_model.specs.Measures.{HasDistinctItems, EndsDone, IsDoneEnqueue}
-use Rattle.kfifo_model.specs.declared.index.Overtaken.{Overtaken}
+use Rattle.kfifo_model.specs.declared.overtakings.Overtaken.{Overtaken}
 use Rattle.kfifo_model.specs.declared.calls.Op.TheVariants.{Enqueue, Dequeue}
 use Rattle.kfifo_model.specs.declared.calls.Answer.{Answer}
 use Rattle.kfifo_model.specs.declared.calls.Answer.TheVariants.{Done, Full, Got, Empty, Busy, Worn}

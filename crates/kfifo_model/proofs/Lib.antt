@@ -10,6 +10,8 @@ pub mod Forgetting
 pub mod Resting
 pub mod Adding
 pub mod RecordLemmas
+pub mod Outcomes
+pub mod Recorded
 pub mod Indexing
 pub mod Matching
 pub mod Counting

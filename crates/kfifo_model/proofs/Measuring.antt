@@ -1,4 +1,4 @@
--- The facts that the measures' loops end with.
+-- A legal order has one rank for each call that got an item; items are distinct where no call repeats an earlier one's.
 use Rattle.std.proofs.Common.{ℕ, suc, ◌≡◌, ◌≢◌, ◌+◌, ◌<◌, Bool, true, false, List, [], ◌∷◌, ◌++◌, length, map, take, drop, get_or, refl}
 use Rattle.std.proofs.Common.{sym, ◌∙◌, ap, subst, inl, inr, arith, Option, Some, None, append_assoc, length-append, cond, count_by}
 use Rattle.std.specs.List.{filter, range_with_len}

@@ -1,4 +1,4 @@
--- What is read of a record's objects.
+-- The call that an object's entry says is in range and fits its operation; members that are read so far, and their faults.
 use Rattle.std.proofs.Common.{ℕ, ◌≡◌, ◌≢◌, ◌<◌, ◌≤◌, ◌^◌, ◌&&◌, Bool, true, false, cond, ltb, List, [], ◌∷◌, ◌++◌, length, map, get_or}
 use Rattle.std.proofs.Common.{refl, sym, ◌∙◌, ap, subst, inl, inr, arith, Option, Some, None, String, string_bytes}
 use Rattle.std.specs.Result.{IfOk}

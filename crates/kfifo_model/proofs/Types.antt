@@ -3,4 +3,4 @@ pub use Rattle.kfifo_model.specs.declared.calls.Call.{Call}
 pub use Rattle.kfifo_model.specs.declared.calls.End.{End}
 pub use Rattle.kfifo_model.specs.declared.calls.Op.{Op}
 pub use Rattle.kfifo_model.specs.declared.effects.Effect.{Effect}
-pub use Rattle.kfifo_model.specs.declared.index.Rival.{Rival}
+pub use Rattle.kfifo_model.specs.declared.rivals.Rival.{Rival}

@@ -1,7 +1,7 @@
 -- Rivals in blocks, with what is kept of each block beside them.
 use Rattle.std.specs.Prelude.{ℕ, ◌≤◌, List, map, All, IsPermutation}
 use Rattle.std.specs.List.Sorted.{IsNonDecreasingBy}
-use Rattle.kfifo_model.specs.declared.index.Rival.{Rival}
+use Rattle.kfifo_model.specs.declared.rivals.Rival.{Rival}
 
 -- each of the rivals' items was put between these steps
 abbrev pub IsSpan : List Rival → ℕ → ℕ → Type 0

@@ -13,5 +13,8 @@ pub mod Searching
 pub mod Words
 pub mod Records
 pub mod Index
+pub mod Rivals
+pub mod Logged
+pub mod RecordTexts
 pub mod Matching
 pub mod Blocks

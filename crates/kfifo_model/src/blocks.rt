@@ -2,11 +2,11 @@
 ghost use Rattle.std.specs.Prelude.{ℕ, ◌≡◌, ◌≤◌, ◌<◌, List, map, length, IfOk, All, IsPermutation, count_by};
 ghost use Rattle.std.specs.List.{flat_map};
 ghost use Rattle.std.specs.List.Sorted.{IsNonDecreasingBy};
-ghost use Rattle.kfifo_model.specs.Index.{is_beaten};
+ghost use Rattle.kfifo_model.specs.Rivals.{is_beaten};
 ghost use Rattle.kfifo_model.specs.Blocks.{IsBlock, IsSpan};
-ghost use Rattle.kfifo_model.specs.declared.index.Rival.{Rival};
+ghost use Rattle.kfifo_model.specs.declared.rivals.Rival.{Rival};
 
-use crate::index::Rival;
+use crate::rivals::Rival;
 use std::alloc::{AllocError, Global};
 use std::marker::Model;
 

@@ -7,9 +7,10 @@ ghost use Rattle.kfifo_cli_commands.specs.Records.{FailsWell};
 use crate::failure::Failure;
 use crate::input::read_given;
 use kfifo_cli_requests::ImportOptions;
-use kfifo_cli_texts::{Fault, record_line};
+use kfifo_cli_texts::Fault;
 use kfifo_import::import_text;
 use kfifo_judge::Source;
+use kfifo_model::record_line;
 use std::alloc::Global;
 use std::rt::Files;
 

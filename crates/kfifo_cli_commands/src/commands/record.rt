@@ -5,8 +5,9 @@ ghost use Rattle.kfifo_record.specs.Scripts.{AreScripts, scripts_in};
 ghost use Rattle.kfifo_cli_commands.specs.RealRuns.{IsRealRun, IsRealRunRefusal};
 
 use kfifo_cli_requests::RecordOptions;
-use kfifo_cli_texts::{Fault, read_scripts, record_line};
+use kfifo_cli_texts::{Fault, read_scripts};
 use kfifo_machine::Begin;
+use kfifo_model::record_line;
 use kfifo_record::{OpenGate, first_over, record_scripts, repeat_scripts};
 use std::alloc::Global;
 use std::thread::Threads;

@@ -14,9 +14,10 @@ ghost use Rattle.kfifo_cli_commands.specs.Replays.{first_lines, last_lines, trac
 use crate::progress::{Meter, Progress};
 use crate::tracing::{self, MAX_STEPS};
 use kfifo_cli_requests::ReplayOptions;
-use kfifo_cli_texts::{Fault, Group, read_picks, read_scripts, record_text};
+use kfifo_cli_texts::{Fault, Group, read_picks, read_scripts};
 use kfifo_judge::push_numbers;
 use kfifo_machine::Begin;
+use kfifo_model::record_text;
 use kfifo_replay::{Replay, ReplayFault, Report};
 use kfifo_words::Shape;
 use std::alloc::{AllocError, Global};

@@ -1,6 +1,6 @@
 use Rattle.std.proofs.Common.{ℕ, ◌≡◌, ◌++◌, ◌∙◌, List, OnOk, ap, append_assoc, codes, decimal, length, string_bytes}
 use Rattle.kfifo_verdict.specs.Remainder.{items_left}
-use Rattle.kfifo_judge.specs.Check.{line}
+use Rattle.kfifo_model.specs.RecordTexts.{line}
 use Rattle.kfifo_judge.proofs.Texts.{on_ok}
 use Rattle.kfifo_judge.proofs.judgement.push_counts.Goals as goal
 

@@ -1,6 +1,6 @@
 use Rattle.std.proofs.Common.{◌≡◌, ◌<◌, ◌+◌, take, length, count_by, ap, arith}
 use Rattle.std.specs.List.{flat_map}
-use Rattle.kfifo_model.specs.Index.{is_beaten}
+use Rattle.kfifo_model.specs.Rivals.{is_beaten}
 use Rattle.kfifo_model.proofs.Counting.{next_block, few_in}
 use Rattle.kfifo_model.proofs.blocks.count_in.Goals as goal
 

@@ -1,6 +1,6 @@
 use Rattle.std.proofs.Common.{◌≡◌, take, count_by}
 use Rattle.std.specs.List.{flat_map}
-use Rattle.kfifo_model.specs.Index.{is_beaten}
+use Rattle.kfifo_model.specs.Rivals.{is_beaten}
 use Rattle.kfifo_model.proofs.blocks.count_in.Given as goal
 
 abbrev pub invariant-loop-block : goal.invariant-loop-block

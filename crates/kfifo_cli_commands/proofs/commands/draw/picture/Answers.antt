@@ -1,5 +1,5 @@
 use Rattle.std.proofs.Common.{◌≡◌, List, Option, Some, None, rules, refl, subst}
-use Rattle.kfifo_import.specs.declared.log.LoggedCall.{LoggedCall}
+use Rattle.kfifo_model.specs.declared.logged.LoggedCall.{LoggedCall}
 use Rattle.kfifo_cli_commands.specs.Inputs.{IsCalls}
 use Rattle.kfifo_cli_commands.specs.Pictures.{HasFew, IsNoPicture, IsNotDrawn, IsPictureOf}
 use Rattle.kfifo_cli_commands.proofs.Picturing.{not_drawn, of_calls}

@@ -1,6 +1,6 @@
 use Rattle.std.proofs.Common.{map, rules}
 use Rattle.kfifo_cli_commands.specs.Replays.{IsReplayRefusal}
-use Rattle.kfifo_cli_texts.proofs.Outcomes.{ok_to}
+use Rattle.kfifo_model.proofs.Outcomes.{ok_to}
 use Rattle.kfifo_cli_commands.proofs.Refusals.{err_to}
 use Rattle.kfifo_cli_commands.proofs.Replaying.{gives, picks_refused, played_refused, script_refused}
 use Rattle.kfifo_cli_commands.proofs.commands.replay.answer.Goals as goal

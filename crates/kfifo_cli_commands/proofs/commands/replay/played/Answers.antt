@@ -1,5 +1,5 @@
 use Rattle.std.proofs.Common.{◌≡◌, ◌∙◌, false, map, string_bytes, sym, true}
-use Rattle.kfifo_cli_texts.proofs.Outcomes.{ok_to}
+use Rattle.kfifo_model.proofs.Outcomes.{ok_to}
 use Rattle.kfifo_cli_commands.specs.Replays.{traces}
 use Rattle.kfifo_cli_commands.proofs.EventLines.{no_text}
 use Rattle.kfifo_cli_commands.proofs.Refusals.{err_to}

@@ -1,6 +1,6 @@
 use Rattle.std.proofs.Common.{rules}
 use Rattle.kfifo_cli_commands.specs.Runs.{IsRunRefusal}
-use Rattle.kfifo_cli_texts.proofs.Outcomes.{ok_to}
+use Rattle.kfifo_model.proofs.Outcomes.{ok_to}
 use Rattle.kfifo_cli_commands.proofs.Outcomes.{word_refused}
 use Rattle.kfifo_cli_texts.proofs.Scripts.{all_called}
 use Rattle.kfifo_cli_commands.proofs.commands.run.answer.Goals as goal

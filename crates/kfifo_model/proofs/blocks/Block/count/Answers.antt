@@ -3,7 +3,7 @@ use Rattle.std.specs.List.Sorted.{IsPartitionedBy}
 use Rattle.std.proofs.lemmas.List.{length-map}
 use Rattle.std.proofs.lemmas.List.Sorted.{IsPartitionPoint-from_clause, IsPartitionedBy-ltb}
 use Rattle.kfifo_model.proofs.Types.{Rival}
-use Rattle.kfifo_model.specs.Index.{is_beaten}
+use Rattle.kfifo_model.specs.Rivals.{is_beaten}
 use Rattle.kfifo_model.proofs.Counting.{none_beats, later_beats, count_all, count_below, count-permuted}
 use Rattle.kfifo_model.proofs.blocks.Block.count.Goals as goal
 

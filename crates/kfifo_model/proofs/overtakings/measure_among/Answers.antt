@@ -2,7 +2,7 @@ use Rattle.std.proofs.Common.{length, sym, ◌∙◌}
 use Rattle.std.specs.BTreeMap.{get}
 use Rattle.std.specs.Ordering.{nat_cmp}
 use Rattle.kfifo_model.proofs.Indexing.{none_measured, two_puts, two_gots, all_distinct}
-use Rattle.kfifo_model.proofs.index.measure_among.Goals as goal
+use Rattle.kfifo_model.proofs.overtakings.measure_among.Goals as goal
 
 pub returns-then-not-has_done : goal.returns-then-not-has_done
 returns-then-not-has_done c =

@@ -1,14 +1,12 @@
-//! Records of histories as texts.
+//! Histories, as the texts of their records.
 ghost use Rattle.std.specs.Prelude.{◌≡◌, ◌≤◌, IfOk, length, string_bytes};
 ghost use Rattle.kfifo_model.specs.declared.reading.TheConstants.{MAX_CALLS};
 ghost use Rattle.serde_json.specs.View.{view};
-ghost use Rattle.serde_json.specs.Written.{compact_text};
-ghost use Rattle.kfifo_judge.specs.Inputs.{IsRecordText};
-ghost use Rattle.kfifo_model.specs.declared.calls.Call.{Call};
-ghost use Rattle.kfifo_judge.specs.Check.{line};
-ghost use Rattle.kfifo_cli_texts.specs.RecordTexts as words;
+ghost use Rattle.kfifo_model.specs.RecordTexts.{IsRecordText, line};
+ghost use Rattle.kfifo_model.specs.RecordTexts as words;
 
-use kfifo_model::{Answer, Call, End, History, Op};
+use crate::calls::{Answer, Call, End, Op};
+use crate::history::History;
 use serde_json::{Value, json};
 use std::alloc::{AllocError, Global};
 

@@ -3,14 +3,15 @@ use Rattle.std.specs.List.{count_by, flat_map}
 use Rattle.std.specs.BTreeMap.{get}
 use Rattle.std.specs.Ordering.{nat_cmp}
 use Rattle.kfifo_model.proofs.Types.{Call, Rival}
-use Rattle.kfifo_model.specs.declared.index.Overtaken.{Overtaken}
+use Rattle.kfifo_model.specs.declared.overtakings.Overtaken.{Overtaken}
 use Rattle.kfifo_model.specs.Histories.{call}
-use Rattle.kfifo_model.specs.Index.{measured, rivals_below, done_item, last_of, is_beaten}
+use Rattle.kfifo_model.specs.Rivals.{rivals_below, last_of, is_beaten}
+use Rattle.kfifo_model.specs.Measures.{measured, done_item}
 use Rattle.kfifo_model.proofs.Checking.{read}
 use Rattle.kfifo_model.proofs.Counting.{count-permuted}
 use Rattle.kfifo_model.proofs.Indexing.{measured_some, measured_none}
-use Rattle.kfifo_model.proofs.index.measure_calls.Goals as goal
-use Rattle.kfifo_model.proofs.index.measure_calls.Goals.{in-Some+in_ok-push, in_default}
+use Rattle.kfifo_model.proofs.overtakings.measure_calls.Goals as goal
+use Rattle.kfifo_model.proofs.overtakings.measure_calls.Goals.{in-Some+in_ok-push, in_default}
 
 pub loop-n-preserved : goal.loop-n-preserved
 loop-n-preserved c =

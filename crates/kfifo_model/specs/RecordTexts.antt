@@ -1,6 +1,8 @@
--- The text of a record: the calls of a history as one line of compact JSON, the keys of each call in order of bytes.
-use Rattle.std.specs.Prelude.{ℕ, List, map, Option, Some, None, option_map, codes}
+-- The texts of records, and the one that is written: compact JSON in one line, the keys of each call in order of bytes.
+use Rattle.std.specs.Prelude.{ℕ, ◌≡◌, List, [], ◌∷◌, ◌++◌, map, Option, Some, None, option_map, codes}
+use Rattle.std.specs.Str.{IsUtf8}
 use Rattle.serde_json.specs.Data.{Data, number, unsigned, string, array, object, Members, no_members, member}
+use Rattle.serde_json.specs.Read.{read}
 use Rattle.serde_json.specs.View.{items_of}
 use Rattle.serde_json.specs.Written.{compact_text}
 use Rattle.kfifo_model.specs.declared.calls.Answer.{Answer}
@@ -9,6 +11,8 @@ use Rattle.kfifo_model.specs.declared.calls.Call.{Call}
 use Rattle.kfifo_model.specs.declared.calls.End.{End}
 use Rattle.kfifo_model.specs.declared.calls.Op.{Op}
 use Rattle.kfifo_model.specs.declared.calls.Op.TheVariants.{Enqueue, Dequeue}
+use Rattle.kfifo_model.specs.Records.{IsRecordOf}
+use Rattle.kfifo_model.specs.Validity.{IsHistory}
 use Rattle.kfifo_model.specs.Words.{answer_word, op_word}
 
 -- the item that an answer gives
@@ -51,3 +55,18 @@ record_value calls = array (items_of (map call_value calls))
 -- The text of a record
 abbrev pub record_text : List Call → List ℕ
 record_text calls = compact_text (record_value calls)
+
+-- a line ends with a line feed
+abbrev pub line : List ℕ → List ℕ
+line text = text ++ 10 ∷ []
+
+-- the bytes are a JSON text of this value
+abbrev pub IsJson : List ℕ → Data → Type 0
+IsJson bytes d = IsUtf8 bytes × (read bytes ≡ Some d)
+
+-- The bytes are the record of this history.
+pub record IsRecordText (bytes : List ℕ) (h : List Call) : Type 0 where
+  pub value : Data
+  pub json : IsJson bytes value
+  pub calls : IsRecordOf value h
+  pub valid : IsHistory h

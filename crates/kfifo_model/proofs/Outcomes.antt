@@ -1,4 +1,4 @@
--- Results of calls below.
+-- From what the value of a result has to what follows from it.
 use Rattle.std.proofs.Common.{Result, Ok, Err, IfOk}
 
 -- what the value of a result has, where another fact gives it

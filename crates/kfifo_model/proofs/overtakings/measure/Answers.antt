@@ -2,8 +2,8 @@ use Rattle.std.proofs.Common.{ℕ, ◌≡◌, List, length, subst}
 use Rattle.std.specs.Result.{MatchResult}
 use Rattle.kfifo_model.proofs.Types.{Call}
 use Rattle.kfifo_model.specs.Measures.{IsDoneEnqueue, HasDistinctItems}
-use Rattle.kfifo_model.specs.Index.{measured, IsMeasureFault}
-use Rattle.kfifo_model.proofs.index.measure.Goals as goal
+use Rattle.kfifo_model.specs.Measures.{measured, IsMeasureFault}
+use Rattle.kfifo_model.proofs.overtakings.measure.Goals as goal
 
 pub returns : goal.returns
 returns c =

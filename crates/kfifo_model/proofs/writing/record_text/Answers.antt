@@ -4,10 +4,10 @@ use Rattle.serde_json.specs.Data.{Data, depth}
 use Rattle.serde_json.specs.View.{view}
 use Rattle.serde_json.specs.Written.{compact_text, has_float}
 use Rattle.kfifo_model.specs.Records.{IsRecordOf}
-use Rattle.kfifo_cli_texts.specs.RecordTexts.{record_value}
-use Rattle.kfifo_cli_texts.proofs.Outcomes.{ok_to}
-use Rattle.kfifo_cli_texts.proofs.Recorded.{few_levels, is_record, no_float}
-use Rattle.kfifo_cli_texts.proofs.recording.record_text.Goals as goal
+use Rattle.kfifo_model.specs.RecordTexts.{record_value}
+use Rattle.kfifo_model.proofs.Outcomes.{ok_to}
+use Rattle.kfifo_model.proofs.Recorded.{few_levels, is_record, no_float}
+use Rattle.kfifo_model.proofs.writing.record_text.Goals as goal
 
 pub returns-clause-text : goal.returns-clause-text
 returns-clause-text c =

@@ -21,9 +21,10 @@ use Rattle.kfifo_model.specs.declared.spellings.AnswerWord.TheVariants as W
 use Rattle.kfifo_model.specs.declared.reading.Ending.{Ending}
 use Rattle.kfifo_model.specs.declared.reading.Entry.{Entry}
 use Rattle.kfifo_model.specs.Histories.{call}
-use Rattle.kfifo_model.specs.Records.{IsRead, IsRecordOf, at, list_of}
+use Rattle.kfifo_model.proofs.RecordLemmas.{list_of-items_of}
+use Rattle.kfifo_model.specs.Records.{IsRead, IsRecordOf, at}
 use Rattle.kfifo_model.specs.Validity.{Answers, EndInRange, IsHistory, OpInRange}
-use Rattle.kfifo_cli_texts.specs.RecordTexts.{call_value, record_value}
+use Rattle.kfifo_model.specs.RecordTexts.{call_value, record_value}
 
 -- ---- the text has no float and is not deep
 
@@ -151,10 +152,6 @@ module _ (thread first : ℕ) (small : thread < 64) where
 
 -- ---- the whole record
 
-members_are : (values : List Data) → list_of (items_of values) ≡ values
-members_are [] = refl
-members_are (d ∷ values) = ap (λ (more : List Data). d ∷ more) (members_are values)
-
 -- the member of a record is the object of its call
 member_is : (calls : List Call) (n : ℕ) → n < length calls → at (map call_value calls) n ≡ call_value (call calls n)
 member_is [] n inside = absurd (omega (arith, inside))
@@ -163,7 +160,7 @@ member_is (c ∷ calls) n inside = grind (arith, common_steps)
 pub is_record : (calls : List Call) → IsHistory calls → length calls ≤ 65536 → IsRecordOf (record_value calls) calls
 is_record calls valid few =
     let values = map call_value calls in
-    let same = members_are values in
+    let same = list_of-items_of values in
     let sized : length values ≡ length calls = length-map calls call_value in (
       values,
       ap Some same,
