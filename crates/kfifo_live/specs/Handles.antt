@@ -5,11 +5,11 @@ use Rattle.kfifo_live.specs.declared.payload.Given.{Given}
 use Rattle.kfifo_live.specs.declared.payload.Given.TheVariants as G
 use Rattle.kfifo_live.specs.declared.payload.Taken.{Taken}
 use Rattle.kfifo_live.specs.declared.payload.Taken.TheVariants as K
-use Rattle.kfifo_live.specs.declared.pay_handle.Published.{Published}
-use Rattle.kfifo_live.specs.declared.pay_handle.Published.TheVariants as P
-use Rattle.kfifo_live.specs.declared.pay_handle.Received.{Received}
-use Rattle.kfifo_live.specs.declared.pay_handle.Received.TheVariants as C
-use Rattle.kfifo_live.specs.declared.pay_handle.TheConstants.{BATCH}
+use Rattle.kfifo_live.specs.declared.payload.handle.Published.{Published}
+use Rattle.kfifo_live.specs.declared.payload.handle.Published.TheVariants as P
+use Rattle.kfifo_live.specs.declared.payload.handle.Received.{Received}
+use Rattle.kfifo_live.specs.declared.payload.handle.Received.TheVariants as C
+use Rattle.kfifo_live.specs.declared.payload.handle.TheConstants.{BATCH}
 use Rattle.kfifo_live.specs.declared.view.Opening.{Opening}
 use Rattle.kfifo_live.specs.Pass.{PassView}
 use Rattle.kfifo_live.specs.Payloads.{PayPassView, TokenView, Gives, TakesOut, LaysDownAtMost, PicksUpAtMost}

@@ -1,6 +1,6 @@
 //! Opening a queue.
 ghost use Rattle.std.specs.Prelude.{◌≡◌, ◌<◌, ◌≤◌, ◌+◌, ◌⊎◌, ◌↔◌, [], IfOk, IsErrOf, length, All};
-ghost use Rattle.kfifo_live.specs.declared.recording.TheConstants.{MAX_STAMPED_CALLS};
+ghost use Rattle.kfifo_live.specs.declared.stamped.TheConstants.{MAX_STAMPED_CALLS};
 ghost use Rattle.kfifo_linear.specs.Headline.{HasLegalOrder, FewOvertake, FewCertainlyOvertake};
 ghost use Rattle.kfifo_live.specs.Schedule.{IsSmall, opening, stamped_opening, fresh, view_of};
 ghost use Rattle.kfifo_live.specs.Pass.{IsZeroed, queue_of, new_passes, IsPassOf};

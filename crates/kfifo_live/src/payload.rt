@@ -12,7 +12,15 @@ ghost use Rattle.kfifo_live.specs.Pass.{OpenQueue, queue_of, IsPassOf, IsSamePas
 ghost use Rattle.kfifo_live.specs.Payloads.{PayPassView, pay_pass_view, pay_opening, IsPool, IsPayPass, Gives};
 ghost use Rattle.kfifo_live.specs.Payloads.{TakesOut};
 
-use crate::pool_word::PoolWord;
+pub(crate) mod closing;
+pub(crate) mod handle;
+pub(crate) mod meeting;
+pub(crate) mod opening;
+pub(crate) mod pool;
+pub(crate) mod pool_word;
+pub(crate) mod token;
+
+use crate::payload::pool_word::PoolWord;
 use crate::ring::Ring;
 use crate::rule::QueueRule;
 use crate::seats::{draw_token, lay_back};
