@@ -7,8 +7,7 @@ ghost use Rattle.std.specs.Prelude.{None, vec_capacity};
 ghost use Rattle.kfifo_words.specs.Ring.{clock_at};
 ghost use Rattle.kfifo_live.specs.Schedule.{hand_of, seen_of, gifts_of, with_seen};
 ghost use Rattle.kfifo_live.specs.Step.{DrawsToken, IsAt};
-ghost use Rattle.kfifo_live.specs.Promise.{KeepsPromise};
-ghost use Rattle.kfifo_live.specs.Pass.{OpenQueue, queue_of, IsPassOf, IsSamePass};
+ghost use Rattle.kfifo_live.specs.Pass.{OpenQueue, queue_of, IsPassOf, IsSamePass, PassKeepsPromise};
 ghost use Rattle.kfifo_live.specs.Payloads.{PayPassView, pay_pass_view, pay_opening, IsPool, IsPayPass, Gives};
 ghost use Rattle.kfifo_live.specs.Payloads.{TakesOut};
 
@@ -205,7 +204,7 @@ impl<T: Drop> PayPass<T> {
         requires turns { 1 ≤ turns }
         ensures same { IsSamePass self.old.pass self.new.pass }
         ensures gives { Gives start turns payload result self.old self.new }
-        ensures promise { KeepsPromise self.new.pass.opened self.new.pass.seen }
+        ensures promise { PassKeepsPromise self.new.pass }
     {
         let Some(token) = self.at_home.pop() else {
             return Given::NoToken(payload);
@@ -245,7 +244,7 @@ impl<T: Drop> PayPass<T> {
         requires turns { 1 ≤ turns }
         ensures same { IsSamePass self.old.pass self.new.pass }
         ensures takes { TakesOut start turns result self.old self.new }
-        ensures promise { KeepsPromise self.new.pass.opened self.new.pass.seen }
+        ensures promise { PassKeepsPromise self.new.pass }
     {
         let shared = &queue.table.shared;
         let ring = Ring {

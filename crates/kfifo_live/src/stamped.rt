@@ -2,15 +2,14 @@
 //!
 //! The clock is one of the queue's own words. A stamped call draws a stamp from it, makes the plain
 //! call, and draws another.
-ghost use Rattle.std.specs.Prelude.{◌≡◌, ◌<◌, ◌≤◌, ◌⊎◌, ◌↔◌, ◌*◌, ◌+◌, ◌^◌, true, false, All, IfNone, IfOk, IfSome};
+ghost use Rattle.std.specs.Prelude.{◌≡◌, ◌<◌, ◌≤◌, ◌*◌, ◌+◌, ◌^◌, true, false, All, IfNone, IfOk, IfSome};
 ghost use Rattle.std.specs.Prelude.{IsErrOf, length, vec_capacity};
 ghost use Rattle.kfifo_machine.specs.declared.event.Begin.TheVariants as B;
 ghost use Rattle.kfifo_machine.specs.Runs.{own};
 ghost use Rattle.kfifo_live.specs.Schedule.{IsSmall, stamped_opening, ticks};
-ghost use Rattle.kfifo_live.specs.Pass.{OpenQueue, IsPassOf, IsSamePass, IsZeroed, new_passes};
-ghost use Rattle.kfifo_live.specs.Promise.{KeepsPromise};
+ghost use Rattle.kfifo_live.specs.Pass.{OpenQueue, IsPassOf, IsSamePass, IsZeroed, new_passes, PassKeepsPromise};
 ghost use Rattle.kfifo_live.specs.Stamps.{Draws, IsLog, Logged, MakesStamped, logged_by, new_logs};
-ghost use Rattle.kfifo_live.specs.declared.fault.OpenFault.TheVariants.{CallsOutOfRange, ThreadsOutOfRange};
+ghost use Rattle.kfifo_live.specs.Refusals.{RefusesCalls, RefusesThreads};
 ghost use Rattle.kfifo_live.specs.declared.fault.OpenFault.TheVariants.{TokensOutOfRange};
 
 pub(crate) mod gathering;
@@ -56,7 +55,7 @@ impl Model for StampPass {
 
     ghost view = { λ p. logged_by p.pass p.log.items };
 
-    ghost invariant = { λ p. IsLog p.pass p.log.items × KeepsPromise p.pass.opened p.pass.seen
+    ghost invariant = { λ p. IsLog p.pass p.log.items × PassKeepsPromise p.pass
         × (p.pass.opened.calls ≤ vec_capacity p.log) };
 }
 
@@ -68,7 +67,7 @@ impl Pass {
         requires room { ticks (own self.old.thread self.old.seen) < 2 * self.old.opened.calls }
         ensures draws { Draws result self.old self.new }
         ensures small { IsSmall self.old.opened }
-        ensures promise { KeepsPromise self.new.opened self.new.seen }
+        ensures promise { PassKeepsPromise self.new }
     {
         let clock = queue.shape.clock_index();
         queue
@@ -111,9 +110,8 @@ impl StampQueue {
         ensures ok { IfOk result (λ r. (r.0.opened ≡ stamped_opening shape threads calls)
             × (r.1.items ≡ new_logs (new_passes r.0 0 threads))) }
         ensures of { IfOk result (λ r. All (λ p. IsPassOf r.0 p.pass) r.1.items) }
-        ensures threads { IsErrOf result ThreadsOutOfRange ↔ ((threads ≡ 0) ⊎ (MAX_THREADS < threads)) }
-        ensures calls { IsErrOf result CallsOutOfRange
-            ↔ ((0 < threads) × (threads ≤ MAX_THREADS) × ((calls ≡ 0) ⊎ (MAX_STAMPED_CALLS < calls))) }
+        ensures threads { RefusesThreads threads result }
+        ensures calls { RefusesCalls threads calls result }
         ensures tokens { ¬ IsErrOf result TokensOutOfRange }
         ensures zeroed { IfOk result (λ r. IsZeroed r.0.opened) }
     {
@@ -180,7 +178,7 @@ impl StampPass {
         ensures same { IsSamePass self.old.pass self.new.pass }
         ensures none { IfNone result ((length self.old.log ≡ self.old.pass.opened.calls) × (self.new ≡ self.old)) }
         ensures some { IfSome result (λ answer. MakesStamped (B.Enqueue item start turns) answer self.old self.new) }
-        ensures promise { KeepsPromise self.new.pass.opened self.new.pass.seen }
+        ensures promise { PassKeepsPromise self.new.pass }
     {
         if self.is_full(queue) {
             return None;
@@ -210,7 +208,7 @@ impl StampPass {
         ensures same { IsSamePass self.old.pass self.new.pass }
         ensures none { IfNone result ((length self.old.log ≡ self.old.pass.opened.calls) × (self.new ≡ self.old)) }
         ensures some { IfSome result (λ answer. MakesStamped (B.Dequeue start turns) answer self.old self.new) }
-        ensures promise { KeepsPromise self.new.pass.opened self.new.pass.seen }
+        ensures promise { PassKeepsPromise self.new.pass }
     {
         if self.is_full(queue) {
             return None;

@@ -1,12 +1,11 @@
 //! Calls of a queue of owned payloads with nothing to choose.
 ghost use Rattle.std.specs.Prelude.{◌≡◌, ◌<◌, ◌≤◌, ◌+◌, ℕ, List, ◌∷◌, Some};
 ghost use Rattle.kfifo_live.specs.Calls.{IsDisturbed};
-ghost use Rattle.kfifo_live.specs.Promise.{KeepsPromise};
-ghost use Rattle.kfifo_live.specs.Pass.{IsPassOf, IsSamePass};
+ghost use Rattle.kfifo_live.specs.Pass.{IsPassOf, IsSamePass, PassKeepsPromise};
 ghost use Rattle.kfifo_live.specs.Payloads.{LaysDownAtMost, PartsWith, PicksUpAtMost, TokenView};
 ghost use Rattle.kfifo_live.specs.Handles.{PayHeld, PicksUpAndGives, TakesAndLaysDown, batch_size, cycle_at, first_of};
 ghost use Rattle.kfifo_live.specs.Handles.{LaysSurplus, PicksUpIfNone, Publishes, Receives, Releases, Reserves};
-ghost use Rattle.kfifo_live.specs.Handles.{SameButPass, further, one_more, shortages_after};
+ghost use Rattle.kfifo_live.specs.Handles.{SameButPass, further, one_more, pass_of, shortages_after};
 
 use crate::payload::token::Token;
 use crate::payload::{Given, PayPass, PayQueue, Taken};
@@ -165,9 +164,9 @@ impl<T: Drop> PayHandle<T> {
     #[cold]
     #[inline(never)]
     fn pick_up(&mut self, queue: &PayQueue<T>)
-        requires of { IsPassOf queue.now self.old.pass.pass }
+        requires of { IsPassOf queue.now (pass_of self.old) }
         ensures picks { (found : ℕ)
-            × PicksUpAtMost (batch_size self.old.pass.pass.opened) found self.old.pass self.new.pass }
+            × PicksUpAtMost (batch_size (pass_of self.old).opened) found self.old.pass self.new.pass }
         ensures starts { (self.new.give_start ≡ self.old.give_start) × (self.new.take_start ≡ self.old.take_start) }
         ensures counts { (self.new.shortages ≡ one_more self.old.shortages)
             × (self.new.surpluses ≡ self.old.surpluses) }
@@ -180,8 +179,8 @@ impl<T: Drop> PayHandle<T> {
     #[cold]
     #[inline(never)]
     fn lay_down(&mut self, queue: &PayQueue<T>)
-        requires of { IsPassOf queue.now self.old.pass.pass }
-        ensures lays { LaysDownAtMost (batch_size self.old.pass.pass.opened) self.old.pass self.new.pass }
+        requires of { IsPassOf queue.now (pass_of self.old) }
+        ensures lays { LaysDownAtMost (batch_size (pass_of self.old).opened) self.old.pass self.new.pass }
         ensures starts { (self.new.give_start ≡ self.old.give_start) × (self.new.take_start ≡ self.old.take_start) }
         ensures counts { (self.new.surpluses ≡ one_more self.old.surpluses)
             × (self.new.shortages ≡ self.old.shortages) }
@@ -193,9 +192,9 @@ impl<T: Drop> PayHandle<T> {
     /// Picks a batch of tokens up, or as many as it finds, where the pass has none, and counts that.
     #[inline(always)]
     fn pick_up_if_none(&mut self, queue: &PayQueue<T>)
-        requires of { IsPassOf queue.now self.old.pass.pass }
+        requires of { IsPassOf queue.now (pass_of self.old) }
         ensures picks { PicksUpIfNone self.old.pass.tokens self.old.pass self.new.pass }
-        ensures same { self.new.pass.pass ≡ self.old.pass.pass }
+        ensures same { pass_of self.new ≡ pass_of self.old }
         ensures starts { (self.new.give_start ≡ self.old.give_start) × (self.new.take_start ≡ self.old.take_start) }
         ensures counts { (self.new.shortages ≡ shortages_after self.old.pass.tokens self.old.shortages)
             × (self.new.surpluses ≡ self.old.surpluses) }
@@ -208,9 +207,9 @@ impl<T: Drop> PayHandle<T> {
     /// Lays a batch of tokens down where the pass has a batch or more beyond those that it was opened with.
     #[inline(always)]
     fn lay_surplus(&mut self, queue: &PayQueue<T>)
-        requires of { IsPassOf queue.now self.old.pass.pass }
+        requires of { IsPassOf queue.now (pass_of self.old) }
         ensures lays { LaysSurplus self.old self.new }
-        ensures same { self.new.pass.pass ≡ self.old.pass.pass }
+        ensures same { pass_of self.new ≡ pass_of self.old }
         ensures starts { (self.new.give_start ≡ self.old.give_start) × (self.new.take_start ≡ self.old.take_start)
             × (self.new.shortages ≡ self.old.shortages) }
     {
@@ -229,13 +228,13 @@ impl<T: Drop> PayHandle<T> {
     /// allocates, waits or locks.
     #[inline(always)]
     pub fn give(&mut self, queue: &PayQueue<T>, payload: T) -> Given<T>
-        requires of { IsPassOf queue.now self.old.pass.pass }
-        ensures same { IsSamePass self.old.pass.pass self.new.pass.pass }
+        requires of { IsPassOf queue.now (pass_of self.old) }
+        ensures same { IsSamePass (pass_of self.old) (pass_of self.new) }
         ensures gives { PicksUpAndGives payload result self.old self.new }
-        ensures busy { (back : T) → result ≡ Given.Busy back → IsDisturbed self.old.pass.pass self.new.pass.pass }
-        ensures starts { (self.new.give_start ≡ further self.old.pass.pass self.old.give_start)
+        ensures busy { (back : T) → result ≡ Given.Busy back → IsDisturbed (pass_of self.old) (pass_of self.new) }
+        ensures starts { (self.new.give_start ≡ further (pass_of self.old) self.old.give_start)
             × (self.new.take_start ≡ self.old.take_start) × (self.new.surpluses ≡ self.old.surpluses) }
-        ensures promise { KeepsPromise self.new.pass.pass.opened self.new.pass.pass.seen }
+        ensures promise { PassKeepsPromise (pass_of self.new) }
     {
         self.pick_up_if_none(queue);
         let start = self.gives.next();
@@ -250,13 +249,13 @@ impl<T: Drop> PayHandle<T> {
     /// the call. It never allocates, waits or locks.
     #[inline(always)]
     pub fn take(&mut self, queue: &PayQueue<T>) -> Taken<T>
-        requires of { IsPassOf queue.now self.old.pass.pass }
-        ensures same { IsSamePass self.old.pass.pass self.new.pass.pass }
+        requires of { IsPassOf queue.now (pass_of self.old) }
+        ensures same { IsSamePass (pass_of self.old) (pass_of self.new) }
         ensures takes { TakesAndLaysDown result self.old self.new }
-        ensures busy { result ≡ Taken.Busy → IsDisturbed self.old.pass.pass self.new.pass.pass }
-        ensures starts { (self.new.take_start ≡ further self.old.pass.pass self.old.take_start)
+        ensures busy { result ≡ Taken.Busy → IsDisturbed (pass_of self.old) (pass_of self.new) }
+        ensures starts { (self.new.take_start ≡ further (pass_of self.old) self.old.take_start)
             × (self.new.give_start ≡ self.old.give_start) × (self.new.shortages ≡ self.old.shortages) }
-        ensures promise { KeepsPromise self.new.pass.pass.opened self.new.pass.pass.seen }
+        ensures promise { PassKeepsPromise (pass_of self.new) }
     {
         let start = self.takes.next();
         let taken = self.pass.take(queue, start, self.turns);
@@ -271,8 +270,8 @@ impl<T: Drop> PayHandle<T> {
     /// until it gives it back, by `publish` or `release`. It never allocates, waits or locks.
     #[inline(always)]
     pub fn reserve(&mut self, queue: &PayQueue<T>) -> Option<Token<T>>
-        requires of { IsPassOf queue.now self.old.pass.pass }
-        ensures same { IsSamePass self.old.pass.pass self.new.pass.pass }
+        requires of { IsPassOf queue.now (pass_of self.old) }
+        ensures same { IsSamePass (pass_of self.old) (pass_of self.new) }
         ensures reserves { Reserves result self.old self.new }
         ensures starts { (self.new.give_start ≡ self.old.give_start) × (self.new.take_start ≡ self.old.take_start)
             × (self.new.surpluses ≡ self.old.surpluses) }
@@ -287,16 +286,16 @@ impl<T: Drop> PayHandle<T> {
     /// exchange during the call. It never allocates, waits or locks.
     #[inline(always)]
     pub fn publish(&mut self, queue: &PayQueue<T>, token: Token<T>, payload: T) -> Published<T>
-        requires of { IsPassOf queue.now self.old.pass.pass }
+        requires of { IsPassOf queue.now (pass_of self.old) }
         requires token { token.queue ≡ queue.now }
-        ensures same { IsSamePass self.old.pass.pass self.new.pass.pass }
+        ensures same { IsSamePass (pass_of self.old) (pass_of self.new) }
         ensures publishes { Publishes token.number payload result self.old self.new }
         ensures busy { (back : T) (kept : TokenView) → result ≡ Published.Busy back kept
-            → IsDisturbed self.old.pass.pass self.new.pass.pass }
-        ensures starts { (self.new.give_start ≡ further self.old.pass.pass self.old.give_start)
+            → IsDisturbed (pass_of self.old) (pass_of self.new) }
+        ensures starts { (self.new.give_start ≡ further (pass_of self.old) self.old.give_start)
             × (self.new.take_start ≡ self.old.take_start) × (self.new.shortages ≡ self.old.shortages)
             × (self.new.surpluses ≡ self.old.surpluses) }
-        ensures promise { KeepsPromise self.new.pass.pass.opened self.new.pass.pass.seen }
+        ensures promise { PassKeepsPromise (pass_of self.new) }
     {
         self.pass.take_in(queue, token);
         let start = self.gives.next();
@@ -312,7 +311,7 @@ impl<T: Drop> PayHandle<T> {
     /// The token that the pass uses next, which it has.
     #[inline(always)]
     fn keep(&mut self, queue: &PayQueue<T>) -> Token<T>
-        requires of { IsPassOf queue.now self.old.pass.pass }
+        requires of { IsPassOf queue.now (pass_of self.old) }
         requires some { (token : ℕ) × (others : List ℕ) × (self.old.pass.tokens ≡ token ∷ others) }
         ensures parts { PartsWith (Some result) self.old.pass self.new.pass }
         ensures same { SameButPass self.old self.new }
@@ -330,14 +329,14 @@ impl<T: Drop> PayHandle<T> {
     /// locks.
     #[inline(always)]
     pub fn receive(&mut self, queue: &PayQueue<T>) -> Received<T>
-        requires of { IsPassOf queue.now self.old.pass.pass }
-        ensures same { IsSamePass self.old.pass.pass self.new.pass.pass }
+        requires of { IsPassOf queue.now (pass_of self.old) }
+        ensures same { IsSamePass (pass_of self.old) (pass_of self.new) }
         ensures receives { Receives result self.old self.new }
-        ensures busy { result ≡ Received.Busy → IsDisturbed self.old.pass.pass self.new.pass.pass }
-        ensures starts { (self.new.take_start ≡ further self.old.pass.pass self.old.take_start)
+        ensures busy { result ≡ Received.Busy → IsDisturbed (pass_of self.old) (pass_of self.new) }
+        ensures starts { (self.new.take_start ≡ further (pass_of self.old) self.old.take_start)
             × (self.new.give_start ≡ self.old.give_start) × (self.new.shortages ≡ self.old.shortages)
             × (self.new.surpluses ≡ self.old.surpluses) }
-        ensures promise { KeepsPromise self.new.pass.pass.opened self.new.pass.pass.seen }
+        ensures promise { PassKeepsPromise (pass_of self.new) }
     {
         let start = self.takes.next();
         match self.pass.take(queue, start, self.turns) {
@@ -352,9 +351,9 @@ impl<T: Drop> PayHandle<T> {
     /// that it was opened with lays a batch down, as `take` does. It never allocates, waits or locks.
     #[inline(always)]
     pub fn release(&mut self, queue: &PayQueue<T>, token: Token<T>)
-        requires of { IsPassOf queue.now self.old.pass.pass }
+        requires of { IsPassOf queue.now (pass_of self.old) }
         requires token { token.queue ≡ queue.now }
-        ensures same { IsSamePass self.old.pass.pass self.new.pass.pass }
+        ensures same { IsSamePass (pass_of self.old) (pass_of self.new) }
         ensures releases { Releases token.number self.old self.new }
         ensures starts { (self.new.give_start ≡ self.old.give_start) × (self.new.take_start ≡ self.old.take_start)
             × (self.new.shortages ≡ self.old.shortages) }

@@ -1,9 +1,8 @@
 //! Passes of a payload queue tell each other what they have seen.
 ghost use Rattle.std.specs.Prelude.{◌≡◌};
 ghost use Rattle.kfifo_machine.specs.Runs.{Begins};
-ghost use Rattle.kfifo_live.specs.Pass.{IsPassOf, IsSamePass};
+ghost use Rattle.kfifo_live.specs.Pass.{IsPassOf, IsSamePass, PassKeepsPromise};
 ghost use Rattle.kfifo_live.specs.Payloads.{GivesOn};
-ghost use Rattle.kfifo_live.specs.Promise.{KeepsPromise};
 
 use crate::payload::{PayPass, PayQueue};
 use crate::seats::{give_all, give_rest, join_seats, observe};
@@ -20,8 +19,7 @@ impl<T: Drop> PayQueue<T> {
         ensures all_of_first { Begins first.old.pass.thread first.old.pass.seen second.new.pass.seen }
         ensures others { Begins second.old.pass.thread second.old.pass.seen second.new.pass.seen }
         ensures gifts { GivesOn first.old second.new × GivesOn second.old second.new }
-        ensures promise { KeepsPromise first.new.pass.opened first.new.pass.seen
-            × KeepsPromise second.new.pass.opened second.new.pass.seen }
+        ensures promise { PassKeepsPromise first.new.pass × PassKeepsPromise second.new.pass }
     {
         let shared = &self.table.shared;
         let whole = give_all(shared, &mut first.seat);

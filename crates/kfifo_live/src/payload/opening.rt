@@ -1,11 +1,11 @@
 //! Opening a queue of payloads.
-ghost use Rattle.std.specs.Prelude.{◌≡◌, ◌<◌, ◌≤◌, ◌+◌, ◌*◌, ◌⊎◌, ◌↔◌, [], length, IfOk, IsErrOf, reverse};
+ghost use Rattle.std.specs.Prelude.{◌≡◌, ◌<◌, ◌≤◌, ◌+◌, ◌*◌, ◌⊎◌, [], length, IfOk, IsErrOf, reverse};
 ghost use Rattle.std.specs.Prelude.{vec_capacity, All};
 ghost use Rattle.kfifo_live.specs.Schedule.{IsSmall, count_up, fresh, view_of};
 ghost use Rattle.kfifo_live.specs.Pass.{IsZeroed, queue_of, IsPassOf};
 ghost use Rattle.kfifo_live.specs.Payloads.{IsPool, new_pay_passes, pay_opening};
-ghost use Rattle.kfifo_live.specs.declared.fault.OpenFault.TheVariants.{CallsOutOfRange, ThreadsOutOfRange};
-ghost use Rattle.kfifo_live.specs.declared.fault.OpenFault.TheVariants.{TokensOutOfRange};
+ghost use Rattle.kfifo_live.specs.Refusals.{RefusesThreads, RefusesTokens};
+ghost use Rattle.kfifo_live.specs.declared.fault.OpenFault.TheVariants.{CallsOutOfRange};
 
 use crate::fault::OpenFault;
 use crate::payload::pool::extend_pool;
@@ -122,9 +122,8 @@ impl<T: Drop> PayQueue<T> {
         ensures ok { IfOk result (λ r. (r.0.opened ≡ pay_opening shape threads tokens)
             × (r.1.items ≡ new_pay_passes r.0 0 threads)) }
         ensures of { IfOk result (λ r. All (λ p. IsPassOf r.0 p.pass) r.1.items) }
-        ensures threads { IsErrOf result ThreadsOutOfRange ↔ ((threads ≡ 0) ⊎ (MAX_THREADS < threads)) }
-        ensures tokens { IsErrOf result TokensOutOfRange
-            ↔ ((1 ≤ threads) × (threads ≤ MAX_THREADS) × ((tokens ≡ 0) ⊎ (MAX_TOKENS < tokens))) }
+        ensures threads { RefusesThreads threads result }
+        ensures tokens { RefusesTokens threads tokens result }
         ensures calls { ¬ IsErrOf result CallsOutOfRange }
         ensures zeroed { IfOk result (λ r. IsZeroed r.0.opened) }
     {
@@ -156,9 +155,8 @@ impl<T: Drop> PayQueue<T> {
         ensures ok { IfOk result (λ r. (r.0.opened ≡ pay_opening shape threads tokens)
             × (r.1.items ≡ new_pay_passes r.0 0 threads)) }
         ensures of { IfOk result (λ r. All (λ p. IsPassOf r.0 p.pass) r.1.items) }
-        ensures threads { IsErrOf result ThreadsOutOfRange ↔ ((threads ≡ 0) ⊎ (MAX_THREADS < threads)) }
-        ensures tokens { IsErrOf result TokensOutOfRange
-            ↔ ((1 ≤ threads) × (threads ≤ MAX_THREADS) × ((tokens ≡ 0) ⊎ (MAX_TOKENS < tokens))) }
+        ensures threads { RefusesThreads threads result }
+        ensures tokens { RefusesTokens threads tokens result }
         ensures calls { ¬ IsErrOf result CallsOutOfRange }
         ensures zeroed { IfOk result (λ r. IsZeroed r.0.opened) }
     {
@@ -176,9 +174,8 @@ impl<T: Drop> PayQueue<T> {
         ensures ok { IfOk result (λ r. (r.0.opened ≡ pay_opening shape threads tokens)
             × (r.1.items ≡ new_pay_passes r.0 0 threads)) }
         ensures of { IfOk result (λ r. All (λ p. IsPassOf r.0 p.pass) r.1.items) }
-        ensures threads { IsErrOf result ThreadsOutOfRange ↔ ((threads ≡ 0) ⊎ (MAX_THREADS < threads)) }
-        ensures tokens { IsErrOf result TokensOutOfRange
-            ↔ ((1 ≤ threads) × (threads ≤ MAX_THREADS) × ((tokens ≡ 0) ⊎ (MAX_TOKENS < tokens))) }
+        ensures threads { RefusesThreads threads result }
+        ensures tokens { RefusesTokens threads tokens result }
         ensures calls { ¬ IsErrOf result CallsOutOfRange }
         ensures zeroed { IfOk result (λ r. IsZeroed r.0.opened) }
     {
