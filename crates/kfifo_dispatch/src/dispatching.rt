@@ -11,12 +11,12 @@ ghost use Rattle.kfifo_dispatch.specs.Working.{CallerTells, HasRun, IsOpened, Pa
 
 use crate::fault::DispatchFault;
 use crate::finishing::finish;
-use crate::gate::Gate;
 use crate::job::{Done, Job, Tasks};
 use crate::repeats::has_repeated_id;
 use crate::starts::Starts;
 use crate::station::Station;
 use crate::task::{Finished, Task};
+use crate::work_gate::WorkGate;
 use crate::worker::{Back, Worker, keep, work_off_refused};
 use kfifo_live::{OpenFault, PayPass, PayQueue};
 use kfifo_words::Shape;
@@ -48,7 +48,7 @@ pub const MAX_WORKERS: u32 = 63;
 /// Refuses: TooManyTasks where there are over 1,024; then RepeatedId where two have one id; then WorkersOutOfRange
 /// where the number of workers is not 1 to 63; Memory where an allocation failed. After a refusal nothing is kept, and
 /// all workers that were started have ended.
-pub fn dispatch<R: Threads + Sync, G: Gate + Sync>(
+pub fn dispatch<R: Threads + Sync, G: WorkGate + Sync>(
     threads: &R,
     alloc: Global,
     tasks: &[Task],
@@ -78,7 +78,7 @@ pub fn dispatch<R: Threads + Sync, G: Gate + Sync>(
 }
 
 /// Runs tasks that a dispatch admits.
-fn work_off<L: Tasks + Send + Sync, R: Threads + Sync, G: Gate + Sync>(
+fn work_off<L: Tasks + Send + Sync, R: Threads + Sync, G: WorkGate + Sync>(
     threads: &R,
     alloc: Global,
     tasks: &[Task],
@@ -105,7 +105,7 @@ fn work_off<L: Tasks + Send + Sync, R: Threads + Sync, G: Gate + Sync>(
 }
 
 /// Finishes the tasks that were left in the queue, and tells of each.
-fn finish_left<L: Tasks, G: Gate>(
+fn finish_left<L: Tasks, G: WorkGate>(
     left: Vec<Job<L>>,
     returned: &mut Vec<Done<L>>,
     gate: &G,
@@ -144,7 +144,7 @@ fn open<L: Tasks>(
 }
 
 /// Gives the tasks to the queue, in their order. The caller finishes each task that it refuses.
-fn give_all<L: Tasks, G: Gate, P: Station<Job<L>, G>>(
+fn give_all<L: Tasks, G: WorkGate, P: Station<Job<L>, G>>(
     alloc: Global,
     queue: &PayQueue<Job<L>>,
     pass: &mut P,
@@ -177,7 +177,7 @@ fn turns(shape: Shape) -> u16
 }
 
 /// Runs a worker with each pass, on threads that all have ended when it returns.
-fn run_workers<L: Tasks + Send + Sync, R: Threads + Sync, G: Gate + Sync>(
+fn run_workers<L: Tasks + Send + Sync, R: Threads + Sync, G: WorkGate + Sync>(
     threads: &R,
     alloc: Global,
     queue: &PayQueue<Job<L>>,
@@ -208,7 +208,7 @@ fn run_workers<L: Tasks + Send + Sync, R: Threads + Sync, G: Gate + Sync>(
 }
 
 /// Runs the worker that has this pass.
-fn run_one<L: Tasks, G: Gate>(
+fn run_one<L: Tasks, G: WorkGate>(
     alloc: Global,
     queue: &PayQueue<Job<L>>,
     pass: PayPass<Job<L>>,
@@ -226,7 +226,7 @@ fn run_one<L: Tasks, G: Gate>(
 }
 
 /// Runs the worker of this station, with the starts of its number.
-fn run_at_station<L: Tasks, G: Gate, P: Station<Job<L>, G> + Drop>(
+fn run_at_station<L: Tasks, G: WorkGate, P: Station<Job<L>, G> + Drop>(
     alloc: Global,
     queue: &PayQueue<Job<L>>,
     pass: P,

@@ -4,14 +4,14 @@ ghost use Rattle.kfifo_dispatch.specs.declared.dispatching.TheConstants.{MAX_TAS
 ghost use Rattle.kfifo_dispatch.specs.Jobs.{AreTotals, total_at};
 ghost use Rattle.kfifo_dispatch.specs.Tasks.{IsFinishedList, finished};
 
-use crate::gate::Gate;
 use crate::job::{Done, Job, Tasks};
 use crate::task::{Finished, Task};
+use crate::work_gate::WorkGate;
 use std::alloc::{AllocError, Global};
 
 /// Makes the finished list of the tasks from what came back of them. The caller, as worker 0, finishes a task that
 /// never came back; what came back a second time is dropped.
-pub(crate) fn finish<L: Tasks, G: Gate>(
+pub(crate) fn finish<L: Tasks, G: WorkGate>(
     alloc: Global,
     tasks: &[Task],
     returned: Vec<Done<L>>,
@@ -47,7 +47,12 @@ fn sums_of<L: Tasks>(
 }
 
 /// The task at this place, finished: with the sum that came back, or by the work done here.
-fn finish_one<L: Tasks, G: Gate>(place: usize, task: &Task, sum: Option<u64>, gate: &G) -> Finished
+fn finish_one<L: Tasks, G: WorkGate>(
+    place: usize,
+    task: &Task,
+    sum: Option<u64>,
+    gate: &G,
+) -> Finished
     requires place { place < MAX_TASKS }
     requires task { slice_get L.tasks place ≡ Some task.now }
     requires sum { IfSome sum (λ n. n ≡ total_at L.tasks place) }

@@ -4,8 +4,8 @@ ghost use Rattle.kfifo_dispatch.specs.declared.task.Task.{Task};
 ghost use Rattle.kfifo_dispatch.specs.Jobs.{JobView, IsOn, IsWorked, id_at, total_at};
 ghost use Rattle.kfifo_dispatch.specs.Working.{TellsOf};
 
-use crate::gate::Gate;
 use crate::task::Task;
+use crate::work_gate::WorkGate;
 use std::marker::{Brand, Model, PhantomData};
 
 /// The tasks of a dispatch. Each dispatch picks its own.
@@ -86,7 +86,7 @@ impl<L: Tasks> Job<L> {
     }
 
     /// Does a unit of work where one is left, and tells the gate.
-    pub(crate) fn work_once<G: Gate>(&mut self, worker: u32, gate: &G)
+    pub(crate) fn work_once<G: WorkGate>(&mut self, worker: u32, gate: &G)
         ensures worked { IsWorked self.old self.new }
         ensures told { 0 < self.old.left → TellsOf (G.told gate.now) L.tasks worker self.old.place }
     {
@@ -97,7 +97,7 @@ impl<L: Tasks> Job<L> {
     }
 
     /// Does all units that are left, and tells the gate of each.
-    pub(crate) fn work_off<G: Gate>(mut self, worker: u32, gate: &G) -> Done<L>
+    pub(crate) fn work_off<G: WorkGate>(mut self, worker: u32, gate: &G) -> Done<L>
         ensures place { result.place ≡ self.place }
         ensures told { 0 < self.left → TellsOf (G.told gate.now) L.tasks worker self.place }
     {

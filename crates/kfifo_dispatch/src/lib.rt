@@ -4,16 +4,17 @@
 mod dispatching;
 mod fault;
 mod finishing;
-mod gate;
 mod job;
 mod repeats;
 mod starts;
 mod station;
 mod task;
+mod work_gate;
 mod worker;
 
 pub use dispatching::{MAX_TASKS, MAX_WORKERS, dispatch};
 pub use fault::DispatchFault;
-pub use gate::{Gate, OpenGate};
+pub use kfifo_live::{Gate, OpenGate};
 pub use starts::Starts;
 pub use task::{Finished, Task};
+pub use work_gate::WorkGate;

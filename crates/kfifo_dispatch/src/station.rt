@@ -5,8 +5,7 @@ ghost use Rattle.kfifo_live.specs.declared.payload.Given.{Given};
 ghost use Rattle.kfifo_live.specs.declared.payload.Taken.{Taken};
 ghost use Rattle.kfifo_dispatch.specs.Working.{PassGives, PassPasses, PassTakes};
 
-use crate::gate::Gate;
-use kfifo_live::{Given, PayPass, PayQueue, Taken};
+use kfifo_live::{Gate, Given, PayPass, PayQueue, Taken};
 
 /// What a worker makes its calls by: the pass of a payload queue.
 ///

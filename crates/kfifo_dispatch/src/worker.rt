@@ -4,10 +4,10 @@ ghost use Rattle.kfifo_live.specs.Pass.{IsPassOf, IsSamePass};
 ghost use Rattle.kfifo_dispatch.specs.Running.{IsTurn, TellsOfKept, Works, WorksAt, kept_after, place_kept};
 ghost use Rattle.kfifo_dispatch.specs.Working.{MayWork, TellsOf};
 
-use crate::gate::Gate;
 use crate::job::{Done, Job, Tasks};
 use crate::starts::Starts;
 use crate::station::Station;
+use crate::work_gate::WorkGate;
 use kfifo_live::{Given, PayQueue, Taken};
 use std::alloc::{AllocError, Global};
 
@@ -38,7 +38,7 @@ pub(crate) struct Back<L: Tasks, P> {
 
 impl<P> Worker<P> {
     /// Works until the queue is empty, or a version is used up, or the worker has called often enough.
-    pub(crate) fn run<L: Tasks, G: Gate>(
+    pub(crate) fn run<L: Tasks, G: WorkGate>(
         mut self,
         alloc: Global,
         queue: &PayQueue<Job<L>>,
@@ -61,7 +61,7 @@ impl<P> Worker<P> {
     }
 
     /// Takes tasks, one after the other, and does a unit of work on each.
-    fn work<L: Tasks, G: Gate>(
+    fn work<L: Tasks, G: WorkGate>(
         &mut self,
         alloc: Global,
         queue: &PayQueue<Job<L>>,
@@ -87,7 +87,7 @@ impl<P> Worker<P> {
     }
 
     /// Passes the gate, takes a task, and does a unit of work on it.
-    fn take_once<L: Tasks, G: Gate>(
+    fn take_once<L: Tasks, G: WorkGate>(
         &mut self,
         call: u32,
         queue: &PayQueue<Job<L>>,
@@ -112,7 +112,7 @@ impl<P> Worker<P> {
 
     /// Does a unit of work on the task. Gives it back to the queue if more is left, and returns it if it is finished.
     /// It finishes a task that the queue refuses.
-    fn work_at<L: Tasks, G: Gate>(
+    fn work_at<L: Tasks, G: WorkGate>(
         &mut self,
         mut job: Job<L>,
         queue: &PayQueue<Job<L>>,
@@ -139,7 +139,7 @@ impl<P> Worker<P> {
 }
 
 /// Finishes a task that the queue refused, and tells of it.
-pub(crate) fn work_off_refused<L: Tasks, G: Gate>(
+pub(crate) fn work_off_refused<L: Tasks, G: WorkGate>(
     given: Given<Job<L>>,
     worker: u32,
     gate: &G,

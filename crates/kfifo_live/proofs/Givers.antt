@@ -30,7 +30,7 @@ use Rattle.kfifo_machine.proofs.Budget.{own_first, own_place, tick_leaves}
 use Rattle.kfifo_machine.proofs.Refusals.{Carries, CarriesAt}
 use Rattle.kfifo_machine.proofs.Schedules.{Some-injective, StepsFrom, after-snoc, first_made, made_within, other_place, own-append, stepped}
 use Rattle.kfifo_machine.proofs.Sound.{IsSound, going_place, place_is, sound}
-use Rattle.kfifo_machine.proofs.Undisturbed.{found-is}
+use Rattle.kfifo_machine.proofs.BusyIsDisturbed.{found-is}
 use Rattle.kfifo_machine.proofs.Tokens.{EnqueueKnows, value-emptied, value-filled_with}
 use Rattle.kfifo_machine.proofs.Versions.{one_word, won_word, word_rises}
 use Rattle.kfifo_live.specs.Schedule.{HolderLaw, world_after}
@@ -38,7 +38,7 @@ use Rattle.kfifo_live.specs.Hands.{Gifts, InTurn, beside, item_begun, items_begu
 use Rattle.kfifo_live.specs.Payloads.{PayPassView, TakesAtLast, TookWhatWasPut, WasPutWith}
 use Rattle.kfifo_live.proofs.Balance.{Knows, know_after, value-zero}
 use Rattle.kfifo_live.proofs.Holders.{begin_free_before}
-use Rattle.kfifo_live.proofs.Turns.{items_begun-append}
+use Rattle.kfifo_live.proofs.GiftsInTurn.{items_begun-append}
 use Rattle.kfifo_live.proofs.Whole.{AllGoOn-append}
 
 -- none of these is the item

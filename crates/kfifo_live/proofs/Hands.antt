@@ -22,8 +22,8 @@ use Rattle.kfifo_machine.specs.declared.place.Access.TheVariants.{Exchange}
 use Rattle.kfifo_machine.specs.Program.{access, accessed, advance, emptied, enqueue_advance, filled_with}
 use Rattle.kfifo_machine.specs.Machine.{place_after}
 use Rattle.kfifo_machine.specs.Places.{IsPlace}
-use Rattle.kfifo_machine.proofs.Alone.{slots_stay}
-use Rattle.kfifo_machine.proofs.Quiet.{words_by}
+use Rattle.kfifo_machine.proofs.EndsUndisturbed.{slots_stay}
+use Rattle.kfifo_machine.proofs.RoundsUndisturbed.{words_by}
 use Rattle.kfifo_machine.proofs.Tokens.{EnqueueKnows, value-emptied, value-filled_with}
 use Rattle.kfifo_live.specs.Hands.{FitsOwn, Gifts, Homes, Where, Home, Out, In, Move, Stays, Lays, Lifts, Takes, move, out_in, out_at}
 use Rattle.kfifo_live.specs.Hands.{own_item, out_next, last_gift, beside, AllHome, PutFits, GiftFits, CallFits, HandFits, Leaves, SlotsFit}

@@ -13,7 +13,7 @@ use Rattle.kfifo_machine.proofs.Schedules.{Some-injective, first_made}
 use Rattle.kfifo_machine.proofs.Sound.{going_place, place_is, sound}
 use Rattle.kfifo_live.specs.Schedule.{world_after}
 use Rattle.kfifo_live.specs.Hands.{Gifts, Homes, Where, Out, In, out_in, BeginsWith, CallFits, HandFits, SlotsFit}
-use Rattle.kfifo_live.proofs.Turned.{begun_item}
+use Rattle.kfifo_live.proofs.TokensAfterStep.{begun_item}
 
 In-not-Out : (i u : ℕ) → In i ≡ Out u → ⊥
 In-not-Out i u e = cc

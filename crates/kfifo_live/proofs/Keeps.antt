@@ -28,9 +28,9 @@ use Rattle.kfifo_live.specs.Step.{IsAt, Steps, DrawsStamp}
 use Rattle.kfifo_live.specs.Hands.{Gifts, Homes, Where, beside, gift, move, hand_after, begun_hand, Carries, BeginsWith, HandFits, SlotsFit}
 use Rattle.kfifo_live.proofs.Hands.{home_step}
 use Rattle.kfifo_live.proofs.Holders.{begin_free_on, begins_free}
-use Rattle.kfifo_live.proofs.Turned.{same_home, turned}
+use Rattle.kfifo_live.proofs.TokensAfterStep.{same_home, turned}
 use Rattle.kfifo_live.proofs.Ticks.{clock_below, few_more, few_tick, no_tick}
-use Rattle.kfifo_live.proofs.Turns.{in_turn_on}
+use Rattle.kfifo_live.proofs.GiftsInTurn.{in_turn_on}
 
 -- a longer schedule, with nothing more of the thread
 begins_on : (thread : ℕ) (seen all more : List Event) → Begins thread seen all → own thread more ≡ [] → Begins thread seen (all ++ more)

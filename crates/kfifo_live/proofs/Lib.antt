@@ -1,8 +1,8 @@
 pub mod Types
 pub mod Hands
-pub mod Turned
+pub mod TokensAfterStep
 pub mod Ticks
-pub mod Turns
+pub mod GiftsInTurn
 pub mod Holders
 pub mod Keeps
 pub mod Cuts
@@ -10,7 +10,7 @@ pub mod Draws
 pub mod Resting
 pub mod Whole
 pub mod Givers
-pub mod Opens
+pub mod NewPasses
 pub mod Scans
 pub mod Passes
 pub mod Logs

@@ -14,7 +14,7 @@ use Rattle.kfifo_machine.proofs.Refusals as Refusals
 use Rattle.kfifo_machine.proofs.Causes.{full_has_cause}
 use Rattle.kfifo_machine.proofs.Wear.{worn_has_cause}
 use Rattle.kfifo_machine.proofs.Losses.{busy_has_cause}
-use Rattle.kfifo_machine.proofs.Undisturbed.{busy_is_disturbed}
+use Rattle.kfifo_machine.proofs.BusyIsDisturbed.{busy_is_disturbed}
 use Rattle.kfifo_live.specs.Pass.{PassView}
 use Rattle.kfifo_live.specs.Schedule.{world_after}
 use Rattle.kfifo_live.specs.Calls.{added, Makes, MakesCall, TakesFewSteps, HasCause, IsDisturbed, LeavesNoItem}

@@ -21,9 +21,9 @@ use Rattle.kfifo_live.specs.Payloads.{new_pay_passes, pay_pass_view, IsPayPass, 
 use Rattle.kfifo_live.specs.Payloads.{Gives, TakesOut}
 use Rattle.kfifo_live.proofs.Givers.{took_what_was_put}
 use Rattle.kfifo_live.proofs.Made.{makes_call}
-use Rattle.kfifo_live.proofs.Opens.{no_slot}
+use Rattle.kfifo_live.proofs.NewPasses.{no_slot}
 use Rattle.kfifo_live.proofs.Passes.{met}
-use Rattle.kfifo_live.proofs.Turns.{in_turn_before}
+use Rattle.kfifo_live.proofs.GiftsInTurn.{in_turn_before}
 use Rattle.kfifo_live.proofs.Whole.{at_next, whole}
 
 Some-injective : {A : Type 0} (x y : A) → Some x ≡ Some y → x ≡ y

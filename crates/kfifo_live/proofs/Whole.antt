@@ -25,7 +25,7 @@ use Rattle.kfifo_live.specs.Schedule.{GiftsFit, world_after, thread_of, seen_of,
 use Rattle.kfifo_live.specs.declared.ring.Ring.{Ring}
 use Rattle.kfifo_live.specs.Step.{IsAt, Steps, HasOwn, IsOwnRun, Leads, IsSeatOf, Rests, Stands, Awaits, Runs, Comes, Stepped, Onward}
 use Rattle.kfifo_live.proofs.Hands.{home_step, leaves_step}
-use Rattle.kfifo_live.proofs.Turned.{same_home}
+use Rattle.kfifo_live.proofs.TokensAfterStep.{same_home}
 use Rattle.kfifo_live.proofs.Keeps.{own_same}
 
 pub AllGoOn-append : (xs ys : List Event) → AllGoOn xs → AllGoOn ys → AllGoOn (xs ++ ys)

@@ -5,11 +5,11 @@ use Rattle.kfifo_live.specs.declared.payload.Given.{Given}
 use Rattle.kfifo_live.specs.declared.payload.Given.TheVariants as G
 use Rattle.kfifo_live.specs.declared.payload.Taken.{Taken}
 use Rattle.kfifo_live.specs.declared.payload.Taken.TheVariants as K
-use Rattle.kfifo_live.specs.declared.pay_handle.Published.{Published}
-use Rattle.kfifo_live.specs.declared.pay_handle.Published.TheVariants as P
-use Rattle.kfifo_live.specs.declared.pay_handle.Received.{Received}
-use Rattle.kfifo_live.specs.declared.pay_handle.Received.TheVariants as C
-use Rattle.kfifo_live.specs.declared.pay_handle.TheConstants.{BATCH}
+use Rattle.kfifo_live.specs.declared.payload.handle.Published.{Published}
+use Rattle.kfifo_live.specs.declared.payload.handle.Published.TheVariants as P
+use Rattle.kfifo_live.specs.declared.payload.handle.Received.{Received}
+use Rattle.kfifo_live.specs.declared.payload.handle.Received.TheVariants as C
+use Rattle.kfifo_live.specs.declared.payload.handle.TheConstants.{BATCH}
 use Rattle.kfifo_live.specs.declared.view.Opening.{Opening}
 use Rattle.kfifo_live.specs.Pass.{PassView}
 use Rattle.kfifo_live.specs.Payloads.{PayPassView, TokenView, Gives, TakesOut, LaysDownAtMost, PicksUpAtMost}
@@ -97,6 +97,10 @@ shortages_after [] shortages = one_more shortages
 shortages_after (token ∷ tokens) shortages = shortages
 
 module _ {T : Type 0} where
+  -- the pass of a handle, without its tokens and payloads
+  abbrev pub pass_of : PayHeld T → PassView
+  pass_of held = held.pass.pass
+
   -- before it gives, a pass with no token picks up a batch, or as many as it finds
   abbrev pub PicksUpIfNone : List ℕ → PayPassView T → PayPassView T → Type 0
   PicksUpIfNone [] old new = (found : ℕ) × PicksUpAtMost (batch_size old.pass.opened) found old new
@@ -106,21 +110,21 @@ module _ {T : Type 0} where
   pub record PicksUpAndGives (payload : T) (answer : Given T) (old new : PayHeld T) : Type 0 where
     pub ready : PayPassView T
     pub picks : PicksUpIfNone old.pass.tokens old.pass ready
-    pub gives : Gives old.give_start (enough_turns old.pass.pass) payload answer ready new.pass
+    pub gives : Gives old.give_start (enough_turns (pass_of old)) payload answer ready new.pass
     pub shortages : new.shortages ≡ shortages_after old.pass.tokens old.shortages
 
   -- A pass that has a batch of tokens or more beyond those that it was opened with lays a batch down, as far as the
   -- queue has a pool, and the handle counts that
   pub record LaysSurplus (old new : PayHeld T) : Type 0 where
-    pub few : length old.pass.tokens < old.pass.pass.opened.tokens + batch_size old.pass.pass.opened → new ≡ old
-    pub more : old.pass.pass.opened.tokens + batch_size old.pass.pass.opened ≤ length old.pass.tokens
-        → LaysDownAtMost (batch_size old.pass.pass.opened) old.pass new.pass
+    pub few : length old.pass.tokens < (pass_of old).opened.tokens + batch_size (pass_of old).opened → new ≡ old
+    pub more : (pass_of old).opened.tokens + batch_size (pass_of old).opened ≤ length old.pass.tokens
+        → LaysDownAtMost (batch_size (pass_of old).opened) old.pass new.pass
         × (new.surpluses ≡ one_more old.surpluses)
 
   -- What `take` of a handle did: the pass took as a pass does, and then laid down what it had too many
   pub record TakesAndLaysDown (answer : Taken T) (old new : PayHeld T) : Type 0 where
     pub taken : PayHeld T
-    pub takes : TakesOut old.take_start (enough_turns old.pass.pass) answer old.pass taken.pass
+    pub takes : TakesOut old.take_start (enough_turns (pass_of old)) answer old.pass taken.pass
     pub surpluses : taken.surpluses ≡ old.surpluses
     pub lays : LaysSurplus taken new
 
@@ -159,7 +163,7 @@ module _ {T : Type 0} where
     pub ready : PayPassView T
     pub takes : TakesIn token old.pass ready
     pub given : PayPassView T
-    pub gives : Gives old.give_start (enough_turns old.pass.pass) payload (given_of answer) ready given
+    pub gives : Gives old.give_start (enough_turns (pass_of old)) payload (given_of answer) ready given
     pub back : HandsOver (token_back answer) given new.pass
 
   -- what `receive` says of the payload, and the token that comes with it
@@ -178,7 +182,7 @@ module _ {T : Type 0} where
   -- What `receive` did: the pass took as a pass does, and parted with the token that it got
   pub record Receives (answer : Received T) (old new : PayHeld T) : Type 0 where
     pub taken : PayPassView T
-    pub takes : TakesOut old.take_start (enough_turns old.pass.pass) (taken_of answer) old.pass taken
+    pub takes : TakesOut old.take_start (enough_turns (pass_of old)) (taken_of answer) old.pass taken
     pub hands : HandsOver (token_got answer) taken new.pass
 
   -- What `release` did: the pass took the token in, and then laid down what it had too many

@@ -12,3 +12,4 @@ pub mod Balance
 pub mod Calls
 pub mod Stamps
 pub mod Faults
+pub mod Refusals

@@ -52,6 +52,10 @@ IsPassOf q p = (p.table ≡ q.table) × (p.opened ≡ q.opened)
 abbrev pub IsSamePass : PassView → PassView → Type 0
 IsSamePass p q = (q.table ≡ p.table) × (q.opened ≡ p.opened) × (q.thread ≡ p.thread)
 
+-- what a pass has seen keeps the promise of its queue
+abbrev pub PassKeepsPromise : PassView → Type 0
+PassKeepsPromise p = KeepsPromise p.opened p.seen
+
 -- the passes of threads first, first + 1, .., which have seen the empty schedule
 abbrev pub new_passes : OpenQueue → ℕ → ℕ → List PassView
 new_passes q first zero = []

@@ -1,7 +1,7 @@
 -- A queue of owned payloads and its passes, as callers see them, and what a call with a payload does.
 use Rattle.std.specs.Prelude.{Bool, true, false, ◌<◌, ◌≤◌, ◌≡◌, ◌≢◌, ℕ, zero, suc, ◌+◌, ◌-◌, ◌*◌, List, [], ◌∷◌, ◌++◌}
 use Rattle.std.specs.Prelude.{All, Option, Some, None, get_or, length, map, reverse}
-use Rattle.kfifo_live.specs.declared.payload_opening.TheConstants.{MAX_TOKENS}
+use Rattle.kfifo_live.specs.declared.payload.opening.TheConstants.{MAX_TOKENS}
 use Rattle.std.specs.List.{AllByRecursion}
 use Rattle.atomic_table.specs.Table.{Me}
 use Rattle.atomic_table.specs.Perched.{Roost}

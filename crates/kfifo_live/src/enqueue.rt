@@ -5,12 +5,12 @@ ghost use Rattle.std.specs.Prelude.{◌≡◌, ◌<◌, ◌≤◌, ◌^◌, Some
 ghost use Rattle.kfifo_live.specs.Step.{Comes, Rests, Runs, Stands};
 ghost use Rattle.kfifo_live.specs.Rounds.{enqueue_at, enqueue_round};
 
-use crate::ring::{ENDS, Ring};
+use crate::ring::Ring;
 use crate::scan::{Empty, Filled};
 use crate::view::ThreadSeat;
 use kfifo_machine::{Begin, EnqueuePhase, Found, Next};
 use kfifo_model::Answer;
-use kfifo_words::{Ends, Word};
+use kfifo_words::{ENDS_INDEX, Ends, Word};
 use std::alloc::AllocError;
 use std::marker::Brand;
 
@@ -69,7 +69,7 @@ impl<T> Enqueue<'_, T> {
         let held = Ends::pack(ends.head(), ends.tail(), ends.version() + 1);
         let found = self
             .ring
-            .compare_exchange(seat, ENDS, ends.into(), held.into());
+            .compare_exchange(seat, ENDS_INDEX, ends.into(), held.into());
         if found == ends.into() {
             return Some(Answer::Done);
         }

@@ -1,8 +1,7 @@
 //! Calls of the running queue with nothing to choose.
-ghost use Rattle.std.specs.Prelude.{◌≡◌, ◌<◌, ◌≤◌, ◌+◌, ◌^◌};
+ghost use Rattle.std.specs.Prelude.{◌≡◌, ◌<◌, ◌≤◌, ◌+◌, ◌*◌, ◌^◌};
 ghost use Rattle.kfifo_machine.specs.declared.event.Begin.TheVariants.{Enqueue, Dequeue};
-ghost use Rattle.kfifo_live.specs.Promise.{KeepsPromise};
-ghost use Rattle.kfifo_live.specs.Pass.{IsPassOf, IsSamePass};
+ghost use Rattle.kfifo_live.specs.Pass.{Finds, IsPassOf, IsSamePass, PassKeepsPromise};
 ghost use Rattle.kfifo_live.specs.Calls.{IsDisturbed, MakesCall};
 ghost use Rattle.kfifo_live.specs.Handles.{Held, cycle_at, enough_turns, first_of, further};
 
@@ -95,7 +94,7 @@ impl Handle {
         ensures busy { result ≡ Answer.Busy → IsDisturbed self.old.pass self.new.pass }
         ensures starts { (self.new.enqueue_start ≡ further self.old.pass self.old.enqueue_start)
             × (self.new.dequeue_start ≡ self.old.dequeue_start) }
-        ensures promise { KeepsPromise self.new.pass.opened self.new.pass.seen }
+        ensures promise { PassKeepsPromise self.new.pass }
     {
         let start = self.enqueues.next();
         self.pass.enqueue(queue, item, start, self.turns)
@@ -114,9 +113,54 @@ impl Handle {
         ensures busy { result ≡ Answer.Busy → IsDisturbed self.old.pass self.new.pass }
         ensures starts { (self.new.dequeue_start ≡ further self.old.pass self.old.dequeue_start)
             × (self.new.enqueue_start ≡ self.old.enqueue_start) }
-        ensures promise { KeepsPromise self.new.pass.opened self.new.pass.seen }
+        ensures promise { PassKeepsPromise self.new.pass }
     {
         let start = self.dequeues.next();
         self.pass.dequeue(queue, start, self.turns)
+    }
+
+    /// Puts an item, as `Pass::enqueue` does, with a start and turns of the caller's. The handle's own starts stay.
+    #[inline(always)]
+    pub fn enqueue_from(&mut self, queue: &Queue, item: u32, start: u32, turns: u16) -> Answer
+        requires of { IsPassOf queue.now self.old.pass }
+        requires item { (1 ≤ item) × (item < 2 ^ 24) }
+        requires start { start < queue.now.opened.shape.k }
+        requires turns { 1 ≤ turns }
+        ensures same { IsSamePass self.old.pass self.new.pass }
+        ensures call { MakesCall (Enqueue item start turns) result self.old.pass self.new.pass }
+        ensures starts { (self.new.enqueue_start ≡ self.old.enqueue_start)
+            × (self.new.dequeue_start ≡ self.old.dequeue_start) }
+        ensures promise { PassKeepsPromise self.new.pass }
+    {
+        self.pass.enqueue(queue, item, start, turns)
+    }
+
+    /// Takes one of the k oldest items, as `Pass::dequeue` does, with a start and turns of the caller's. The handle's
+    /// own starts stay.
+    #[inline(always)]
+    pub fn dequeue_from(&mut self, queue: &Queue, start: u32, turns: u16) -> Answer
+        requires of { IsPassOf queue.now self.old.pass }
+        requires start { start < queue.now.opened.shape.k }
+        requires turns { 1 ≤ turns }
+        ensures same { IsSamePass self.old.pass self.new.pass }
+        ensures call { MakesCall (Dequeue start turns) result self.old.pass self.new.pass }
+        ensures starts { (self.new.enqueue_start ≡ self.old.enqueue_start)
+            × (self.new.dequeue_start ≡ self.old.dequeue_start) }
+        ensures promise { PassKeepsPromise self.new.pass }
+    {
+        self.pass.dequeue(queue, start, turns)
+    }
+
+    /// One load of the word with this index, as `Pass::word` makes it.
+    pub fn word(&mut self, queue: &Queue, index: usize) -> u64
+        requires of { IsPassOf queue.now self.old.pass }
+        requires index { index < 2 + queue.now.opened.shape.n * queue.now.opened.shape.k }
+        ensures same { IsSamePass self.old.pass self.new.pass }
+        ensures finds { Finds self.old.pass self.new.pass index result }
+        ensures starts { (self.new.enqueue_start ≡ self.old.enqueue_start)
+            × (self.new.dequeue_start ≡ self.old.dequeue_start) }
+        ensures promise { PassKeepsPromise self.new.pass }
+    {
+        self.pass.word(queue, index)
     }
 }

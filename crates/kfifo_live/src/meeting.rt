@@ -2,8 +2,7 @@
 ghost use Rattle.std.specs.Prelude.{◌≡◌, List};
 ghost use Rattle.kfifo_machine.specs.declared.event.Event.{Event};
 ghost use Rattle.kfifo_machine.specs.Runs.{Begins, own};
-ghost use Rattle.kfifo_live.specs.Pass.{IsPassOf, IsSamePass, StartsWith};
-ghost use Rattle.kfifo_live.specs.Promise.{KeepsPromise};
+ghost use Rattle.kfifo_live.specs.Pass.{IsPassOf, IsSamePass, PassKeepsPromise, StartsWith};
 
 use crate::queue::{Pass, Queue};
 use crate::seats::{give_all, give_rest, join_seats, observe};
@@ -27,7 +26,7 @@ pub fn meet(queue: &Queue, first: &mut Pass, second: &mut Pass)
     ensures others { Begins second.old.thread second.old.seen second.new.seen }
     ensures exactly { (before : List Event) → StartsWith second.old.seen before → StartsWith before first.old.seen
         → own first.old.thread before ≡ own first.old.thread first.old.seen }
-    ensures promise { KeepsPromise first.new.opened first.new.seen × KeepsPromise second.new.opened second.new.seen }
+    ensures promise { PassKeepsPromise first.new × PassKeepsPromise second.new }
 {
     let shared = &queue.table.shared;
     let whole = give_all(shared, &mut first.seat);

@@ -1,11 +1,11 @@
 //! Opening a queue.
-ghost use Rattle.std.specs.Prelude.{◌≡◌, ◌<◌, ◌≤◌, ◌+◌, ◌⊎◌, ◌↔◌, [], IfOk, IsErrOf, length, All};
-ghost use Rattle.kfifo_live.specs.declared.recording.TheConstants.{MAX_STAMPED_CALLS};
+ghost use Rattle.std.specs.Prelude.{◌≡◌, ◌<◌, ◌≤◌, ◌+◌, [], IfOk, IsErrOf, length, All};
+ghost use Rattle.kfifo_live.specs.declared.stamped.TheConstants.{MAX_STAMPED_CALLS};
 ghost use Rattle.kfifo_linear.specs.Headline.{HasLegalOrder, FewOvertake, FewCertainlyOvertake};
 ghost use Rattle.kfifo_live.specs.Schedule.{IsSmall, opening, stamped_opening, fresh, view_of};
 ghost use Rattle.kfifo_live.specs.Pass.{IsZeroed, queue_of, new_passes, IsPassOf};
-ghost use Rattle.kfifo_live.specs.declared.fault.OpenFault.TheVariants.{CallsOutOfRange, ThreadsOutOfRange};
-ghost use Rattle.kfifo_live.specs.declared.fault.OpenFault.TheVariants.{TokensOutOfRange};
+ghost use Rattle.kfifo_live.specs.Refusals.{RefusesThreads};
+ghost use Rattle.kfifo_live.specs.declared.fault.OpenFault.TheVariants.{CallsOutOfRange, TokensOutOfRange};
 
 use crate::fault::OpenFault;
 use crate::queue::{Pass, Queue};
@@ -85,7 +85,7 @@ impl Queue {
     pub fn open(alloc: Global, shape: Shape, threads: u32) -> Result<(Queue, Vec<Pass>), OpenFault>
         ensures ok { IfOk result (λ r. (r.0.opened ≡ opening shape threads) × (r.1.items ≡ new_passes r.0 0 threads)) }
         ensures of { IfOk result (λ r. All (IsPassOf r.0) r.1.items) }
-        ensures threads { IsErrOf result ThreadsOutOfRange ↔ ((threads ≡ 0) ⊎ (MAX_THREADS < threads)) }
+        ensures threads { RefusesThreads threads result }
         ensures tokens { ¬ IsErrOf result TokensOutOfRange }
         ensures calls { ¬ IsErrOf result CallsOutOfRange }
         ensures zeroed { IfOk result (λ r. IsZeroed r.0.opened) }

@@ -7,12 +7,19 @@ ghost use Rattle.std.specs.Prelude.{None, vec_capacity};
 ghost use Rattle.kfifo_words.specs.Ring.{clock_at};
 ghost use Rattle.kfifo_live.specs.Schedule.{hand_of, seen_of, gifts_of, with_seen};
 ghost use Rattle.kfifo_live.specs.Step.{DrawsToken, IsAt};
-ghost use Rattle.kfifo_live.specs.Promise.{KeepsPromise};
-ghost use Rattle.kfifo_live.specs.Pass.{OpenQueue, queue_of, IsPassOf, IsSamePass};
+ghost use Rattle.kfifo_live.specs.Pass.{OpenQueue, queue_of, IsPassOf, IsSamePass, PassKeepsPromise};
 ghost use Rattle.kfifo_live.specs.Payloads.{PayPassView, pay_pass_view, pay_opening, IsPool, IsPayPass, Gives};
 ghost use Rattle.kfifo_live.specs.Payloads.{TakesOut};
 
-use crate::pool_word::PoolWord;
+pub(crate) mod closing;
+pub(crate) mod handle;
+pub(crate) mod meeting;
+pub(crate) mod opening;
+pub(crate) mod pool;
+pub(crate) mod pool_word;
+pub(crate) mod token;
+
+use crate::payload::pool_word::PoolWord;
 use crate::ring::Ring;
 use crate::rule::QueueRule;
 use crate::seats::{draw_token, lay_back};
@@ -197,7 +204,7 @@ impl<T: Drop> PayPass<T> {
         requires turns { 1 ≤ turns }
         ensures same { IsSamePass self.old.pass self.new.pass }
         ensures gives { Gives start turns payload result self.old self.new }
-        ensures promise { KeepsPromise self.new.pass.opened self.new.pass.seen }
+        ensures promise { PassKeepsPromise self.new.pass }
     {
         let Some(token) = self.at_home.pop() else {
             return Given::NoToken(payload);
@@ -237,7 +244,7 @@ impl<T: Drop> PayPass<T> {
         requires turns { 1 ≤ turns }
         ensures same { IsSamePass self.old.pass self.new.pass }
         ensures takes { TakesOut start turns result self.old self.new }
-        ensures promise { KeepsPromise self.new.pass.opened self.new.pass.seen }
+        ensures promise { PassKeepsPromise self.new.pass }
     {
         let shared = &queue.table.shared;
         let ring = Ring {

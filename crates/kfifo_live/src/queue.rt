@@ -1,12 +1,12 @@
 //! A running queue and its passes.
 ghost use Rattle.std.specs.Prelude.{◌≡◌, ◌<◌, ◌≤◌, ◌+◌, ◌*◌, ◌^◌};
-ghost use Rattle.kfifo_live.specs.declared.recording.TheConstants.{MAX_STAMPED_CALLS};
+ghost use Rattle.kfifo_live.specs.declared.stamped.TheConstants.{MAX_STAMPED_CALLS};
 ghost use Rattle.kfifo_model.specs.declared.calls.TheConstants.{MAX_THREADS};
 ghost use Rattle.kfifo_machine.specs.declared.event.Begin.TheVariants.{Enqueue, Dequeue};
 ghost use Rattle.kfifo_live.specs.Schedule.{stamped_opening};
 ghost use Rattle.kfifo_live.specs.Calls.{MakesCall};
-ghost use Rattle.kfifo_live.specs.Promise.{KeepsPromise};
 ghost use Rattle.kfifo_live.specs.Pass.{OpenQueue, PassView, queue_of, pass_view, IsPass, IsPassOf, IsSamePass, Finds};
+ghost use Rattle.kfifo_live.specs.Pass.{PassKeepsPromise};
 
 use crate::ring::Ring;
 use crate::rule::QueueRule;
@@ -102,7 +102,7 @@ impl Pass {
         requires turns { 1 ≤ turns }
         ensures same { IsSamePass self.old self.new }
         ensures call { MakesCall (Enqueue item start turns) result self.old self.new }
-        ensures promise { KeepsPromise self.new.opened self.new.seen }
+        ensures promise { PassKeepsPromise self.new }
     {
         let ring = Ring {
             words: &queue.table.shared,
@@ -133,7 +133,7 @@ impl Pass {
         requires turns { 1 ≤ turns }
         ensures same { IsSamePass self.old self.new }
         ensures call { MakesCall (Dequeue start turns) result self.old self.new }
-        ensures promise { KeepsPromise self.new.opened self.new.seen }
+        ensures promise { PassKeepsPromise self.new }
     {
         let ring = Ring {
             words: &queue.table.shared,
@@ -150,7 +150,7 @@ impl Pass {
         requires index { index < 2 + queue.now.opened.shape.n * queue.now.opened.shape.k }
         ensures same { IsSamePass self.old self.new }
         ensures finds { Finds self.old self.new index result }
-        ensures promise { KeepsPromise self.new.opened self.new.seen }
+        ensures promise { PassKeepsPromise self.new }
     {
         observe(&queue.table.shared, &mut self.seat, index)
     }

@@ -3,6 +3,7 @@
 //! Each of them is one event of the schedule, the one that the thread's place in its call asks for.
 ghost use Rattle.std.specs.Prelude.{◌≡◌, ◌<◌, Some, None};
 ghost use Rattle.kfifo_words.specs.Words.{version_of};
+ghost use Rattle.kfifo_words.specs.declared.ends.TheConstants.{ENDS_INDEX};
 ghost use Rattle.kfifo_machine.specs.declared.place.Access.TheVariants.{Load, Exchange};
 ghost use Rattle.kfifo_machine.specs.Places.{IsEnds};
 ghost use Rattle.kfifo_machine.specs.Program.{advance, head_moved, tail_moved};
@@ -13,11 +14,8 @@ ghost use Rattle.kfifo_live.specs.Step.{Awaits, BeginsAtEnds, Rests, Runs, Stepp
 use crate::rule::{BegunCall, FirstStep, NextStep};
 use crate::view::{ThreadSeat, Words};
 use kfifo_machine::Begin;
-use kfifo_words::{Ends, Shape, Word};
+use kfifo_words::{ENDS_INDEX, Ends, Shape, Word};
 use std::alloc::AllocError;
-
-/// The index of the ends word.
-pub(crate) const ENDS: usize = 0;
 
 /// The words of a queue, and the sizes of its ring.
 pub(crate) struct Ring<'a, T> {
@@ -70,16 +68,16 @@ impl<T> Ring<'_, T> {
         ensures { (place : Running) → going self.entry.shape.now None (Some begin) ≡ Some place
             → Runs (Some begin) seat.old (advance self.entry.shape.now place result) seat.new }
     {
-        Ends::of_bits(self.words.load::<FirstStep<C>>(seat, ENDS))
+        Ends::of_bits(self.words.load::<FirstStep<C>>(seat, ENDS_INDEX))
     }
 
     /// Loads the ends word.
     #[inline(always)]
     pub(crate) fn load_ends(self, seat: &mut ThreadSeat<T>) -> Ends
-        requires { Awaits self seat.old (Load ENDS) }
+        requires { Awaits self seat.old (Load ENDS_INDEX) }
         ensures { Stepped self.entry seat.old result seat.new }
     {
-        self.load(seat, ENDS).into()
+        self.load(seat, ENDS_INDEX).into()
     }
 
     /// Moves the head on to the next segment, and returns the ends that it found: `ends` where it was won.
@@ -87,12 +85,12 @@ impl<T> Ring<'_, T> {
     pub(crate) fn move_head(self, seat: &mut ThreadSeat<T>, ends: Ends) -> Ends
         requires ends { IsEnds self.shape.now ends }
         requires version { version_of ends < self.shape.now.last }
-        requires next { Awaits self seat.old (Exchange ENDS ends (head_moved self.shape.now ends)) }
+        requires next { Awaits self seat.old (Exchange ENDS_INDEX ends (head_moved self.shape.now ends)) }
         ensures { Stepped self.entry seat.old result seat.new }
     {
         let head = self.shape.next(ends.head());
         let moved = Ends::pack(head, ends.tail(), ends.version() + 1);
-        self.compare_exchange(seat, ENDS, ends.into(), moved.into())
+        self.compare_exchange(seat, ENDS_INDEX, ends.into(), moved.into())
             .into()
     }
 
@@ -101,12 +99,12 @@ impl<T> Ring<'_, T> {
     pub(crate) fn move_tail(self, seat: &mut ThreadSeat<T>, ends: Ends) -> Ends
         requires ends { IsEnds self.shape.now ends }
         requires version { version_of ends < self.shape.now.last }
-        requires next { Awaits self seat.old (Exchange ENDS ends (tail_moved self.shape.now ends)) }
+        requires next { Awaits self seat.old (Exchange ENDS_INDEX ends (tail_moved self.shape.now ends)) }
         ensures { Stepped self.entry seat.old result seat.new }
     {
         let tail = self.shape.next(ends.tail());
         let moved = Ends::pack(ends.head(), tail, ends.version() + 1);
-        self.compare_exchange(seat, ENDS, ends.into(), moved.into())
+        self.compare_exchange(seat, ENDS_INDEX, ends.into(), moved.into())
             .into()
     }
 }

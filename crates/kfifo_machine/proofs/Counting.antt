@@ -15,10 +15,10 @@ use Rattle.kfifo_machine.specs.declared.place.Access.TheVariants.{Exchange}
 use Rattle.kfifo_machine.specs.declared.place.Next.TheVariants.{Goes, Answers}
 use Rattle.kfifo_machine.specs.Program.{scan_index, filled_with, emptied, head_moved, tail_moved, head_held, enqueue_again, dequeue_again}
 use Rattle.kfifo_machine.specs.Places.{IsEnds}
-use Rattle.kfifo_machine.proofs.Quiet.{words_by}
+use Rattle.kfifo_machine.proofs.RoundsUndisturbed.{words_by}
 use Rattle.kfifo_machine.proofs.NoWrap.{head-ends_word, tail-ends_word}
 use Rattle.kfifo_machine.proofs.Ahead.{distance-value, distance-below, distance-full}
-use Rattle.kfifo_machine.proofs.Alone.{slots_stay, ends_change, tail_moved-tail, tail_moved-head, head_moved-tail, head_moved-head}
+use Rattle.kfifo_machine.proofs.EndsUndisturbed.{slots_stay, ends_change, tail_moved-tail, tail_moved-head, head_moved-tail, head_moved-head}
 use Rattle.kfifo_machine.proofs.Filled.{holds, holds-filled, holds-empty, filled-but_one}
 use Rattle.kfifo_machine.proofs.Between.{items_of, all_items, Between, between-tail_on, between-head_on, between-same, items-same, all-same}
 use Rattle.kfifo_machine.proofs.Between.{distance-injective, InSegment, all-change, items-change, items-other, probed_items}

@@ -28,13 +28,13 @@ use Rattle.kfifo_machine.proofs.Sound.{IsSound, going_place, place_is, step_soun
 use Rattle.kfifo_machine.proofs.Versions.{ticked-other, no_going_tick}
 use Rattle.kfifo_machine.proofs.Budget.{own_place, tick_leaves}
 use Rattle.kfifo_machine.proofs.Calls.{may_begun}
-use Rattle.kfifo_machine.proofs.Quiet.{words_by}
+use Rattle.kfifo_machine.proofs.RoundsUndisturbed.{words_by}
 use Rattle.kfifo_machine.proofs.Losses.{word-moved}
-use Rattle.kfifo_machine.proofs.Undisturbed.{sound-ends, found-is}
+use Rattle.kfifo_machine.proofs.BusyIsDisturbed.{sound-ends, found-is}
 use Rattle.kfifo_machine.proofs.Counting.{Rests, Keeps, After, distance-same}
 use Rattle.kfifo_machine.proofs.Filled.{holds, holds-empty, filled_from}
 use Rattle.kfifo_machine.proofs.Paths.{answered}
-use Rattle.kfifo_machine.proofs.Lone.{lone_step}
+use Rattle.kfifo_machine.proofs.StepsWithoutOverlap.{lone_step}
 
 -- the words of the ends and the slots
 abbrev view : Shape → World → ℕ → ℕ

@@ -31,8 +31,8 @@ use Rattle.kfifo_machine.proofs.Budget.{own_place, own_first, tick_leaves}
 use Rattle.kfifo_machine.proofs.Refusals.{own_step}
 use Rattle.kfifo_machine.proofs.Causes.{all_of_round-append}
 use Rattle.kfifo_machine.proofs.Paths.{looks-own, looks-other, none_after, answered, begins_from, never_at_once}
-use Rattle.kfifo_machine.proofs.Quiet.{opens_round, RoundNext, round_next, words_by, Quiet, watched, watched-below, still_quiet, NextQuiet}
-use Rattle.kfifo_machine.proofs.Quiet.{enqueue_quiet, dequeue_quiet}
+use Rattle.kfifo_machine.proofs.RoundsUndisturbed.{opens_round, RoundNext, round_next, words_by, Quiet, watched, watched-below, still_quiet, NextQuiet}
+use Rattle.kfifo_machine.proofs.RoundsUndisturbed.{enqueue_quiet, dequeue_quiet}
 
 -- the words after a step
 exchanged_by : (words : List ℕ) (index from to i : ℕ) → index < length words

@@ -19,7 +19,7 @@ use Rattle.kfifo_machine.proofs.Budget.{own_place, own_first, tick_leaves, goes_
 use Rattle.kfifo_machine.proofs.Sound.{IsSound, step_sound, sound}
 use Rattle.kfifo_machine.proofs.Calls.{opened, call-before, call-new, length-more, IsLog, step_log, run_log, log_is, log-snoc}
 use Rattle.kfifo_machine.proofs.Paths.{answered, none_after, never_at_once}
-use Rattle.kfifo_machine.proofs.Undisturbed.{own_single}
+use Rattle.kfifo_machine.proofs.BusyIsDisturbed.{own_single}
 
 -- The calls of a thread stay as they were, and none comes: neither behind the old ones nor, as `mine` says, in place of another's.
 -- Without `mine` two such changes in turn could bring one

@@ -21,10 +21,10 @@ use Rattle.kfifo_machine.specs.Machine.{world_of}
 use Rattle.kfifo_machine.specs.Runs.{going}
 use Rattle.kfifo_machine.specs.Places.{IsPlace}
 use Rattle.kfifo_machine.specs.Tokens.{AllBeginFree, BeginsFree, ItemsAreTokens, held_at, held_in}
-use Rattle.kfifo_machine.proofs.Alone.{slots_stay}
+use Rattle.kfifo_machine.proofs.EndsUndisturbed.{slots_stay}
 use Rattle.kfifo_machine.proofs.Budget.{own_place, tick_leaves}
 use Rattle.kfifo_machine.proofs.Losses.{word-moved}
-use Rattle.kfifo_machine.proofs.Quiet.{words_by}
+use Rattle.kfifo_machine.proofs.RoundsUndisturbed.{words_by}
 use Rattle.kfifo_machine.proofs.Schedules.{Some-injective, first_made, made_within, other_place, stepped}
 use Rattle.kfifo_machine.proofs.Sound.{IsSound, going_place, place_is, sound, step_sound}
 

@@ -19,7 +19,7 @@ use Rattle.kfifo_live.specs.Pass.{IsComplete, IsPassOf, OpenQueue, new_passes}
 use Rattle.kfifo_live.specs.Stamps.{Gathers, Logged, all_logs, calls_by, new_logs, passes_of}
 use Rattle.kfifo_record.specs.Scripts.{AreScripts, EachMakes, IsCall, IsOpenFor, IsRecord, MakesInTurn, MayRun, longest, room_for}
 use Rattle.kfifo_record.specs.Scripts.{script_of}
-use Rattle.kfifo_live.proofs.Opens.{logs_of_new}
+use Rattle.kfifo_live.proofs.NewPasses.{logs_of_new}
 use Rattle.kfifo_record.proofs.Turns.{grown}
 
 -- what a pass has run: it is of the queue and of this thread, and its log has the calls of the script

@@ -1,7 +1,7 @@
 -- Scripts that threads run on a stamped queue, and the record of the run.
 use Rattle.std.specs.Prelude.{◌≡◌, ℕ, suc, ◌<◌, ◌≤◌, List, [], ◌∷◌, length, map, max, All, get_or, IsSome, Vec}
 use Rattle.std.specs.List.{fold, AllByRecursion}
-use Rattle.kfifo_live.specs.declared.recording.TheConstants.{MAX_STAMPED_CALLS}
+use Rattle.kfifo_live.specs.declared.stamped.TheConstants.{MAX_STAMPED_CALLS}
 use Rattle.kfifo_words.specs.declared.shape.Shape.{Shape}
 use Rattle.kfifo_words.specs.declared.word.TheConstants.{VALUES}
 use Rattle.kfifo_model.specs.declared.calls.Answer.{Answer}

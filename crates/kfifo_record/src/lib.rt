@@ -4,6 +4,6 @@
 mod repeating;
 mod running;
 
-pub use kfifo_dispatch::{Gate, OpenGate};
+pub use kfifo_live::{Gate, OpenGate};
 pub use repeating::{first_over, repeat_scripts};
 pub use running::record_scripts;

@@ -1,15 +1,14 @@
 //! Running scripts, each on a thread of its own, and gathering the record of the run.
 ghost use Rattle.std.specs.Prelude.{◌≡◌, ◌<◌, ◌≤◌, ◌⊎◌, ◌↔◌, ◌^◌, ◌-◌, [], min, All, IfOk, IsErrOf, length};
 ghost use Rattle.kfifo_model.specs.declared.calls.TheConstants.{MAX_THREADS};
-ghost use Rattle.kfifo_live.specs.declared.recording.TheConstants.{MAX_STAMPED_CALLS};
+ghost use Rattle.kfifo_live.specs.declared.stamped.TheConstants.{MAX_STAMPED_CALLS};
 ghost use Rattle.kfifo_live.specs.declared.fault.OpenFault.TheVariants.{CallsOutOfRange, ThreadsOutOfRange};
 ghost use Rattle.kfifo_live.specs.declared.fault.OpenFault.TheVariants.{TokensOutOfRange};
 ghost use Rattle.kfifo_live.specs.Pass.{IsPassOf};
 ghost use Rattle.kfifo_record.specs.Scripts.{AreScripts, EachMakes, IsCall, IsOpenFor, IsRecord, MakesInTurn, MakesOne};
 ghost use Rattle.kfifo_record.specs.Scripts.{MayRun, longest, script_of, scripts_in};
 
-use kfifo_dispatch::Gate;
-use kfifo_live::{GatherFault, OpenFault, StampPass, StampQueue, gather};
+use kfifo_live::{Gate, GatherFault, OpenFault, StampPass, StampQueue, gather};
 use kfifo_machine::Begin;
 use kfifo_model::History;
 use kfifo_words::Shape;

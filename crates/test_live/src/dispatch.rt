@@ -3,7 +3,7 @@
 ghost use Rattle.std.specs.Prelude.{◌<◌};
 
 use crate::plain::dispatch;
-use kfifo_dispatch::{DispatchFault, Finished, Gate, OpenGate, Starts, Task};
+use kfifo_dispatch::{DispatchFault, Finished, Gate, OpenGate, Starts, Task, WorkGate};
 use kfifo_words::{MAX_VERSION, Shape};
 use std::alloc::{AllocError, Global};
 use std::process::Abort;
@@ -112,7 +112,9 @@ impl Gate for Counting {
             self.wait_for(&self.units[2], self.held);
         }
     }
+}
 
+impl WorkGate for Counting {
     fn unit(&self, worker: u32, _id: u32) {
         if let Some(own) = self.units.get(worker as usize) {
             own.fetch_add(1, Ordering::SeqCst);
@@ -160,7 +162,9 @@ impl Gate for Meeting {
         }
         self.gave_up.fetch_add(1, Ordering::SeqCst);
     }
+}
 
+impl WorkGate for Meeting {
     fn unit(&self, worker: u32, _id: u32) {
         let units = if worker == 0 {
             &self.by_caller
@@ -227,7 +231,9 @@ struct Order {
 
 impl Gate for Order {
     fn pass(&self, _worker: u32, _call: u32) {}
+}
 
+impl WorkGate for Order {
     fn unit(&self, worker: u32, id: u32) {
         let workers = self.workers.load(Ordering::SeqCst);
         let next = workers.wrapping_mul(10).wrapping_add(u64::from(worker));
@@ -381,7 +387,9 @@ struct Laborious {
 
 impl Gate for Laborious {
     fn pass(&self, _worker: u32, _call: u32) {}
+}
 
+impl WorkGate for Laborious {
     fn unit(&self, _worker: u32, id: u32) {
         let mut state = u64::from(id);
         for _step in 0..4_096u32 {

@@ -187,7 +187,7 @@ pub fn close_payloads<T: Drop>(
     queue.close(alloc, pass)
 }
 
-pub fn dispatch<R: Threads + Sync, G: kfifo_dispatch::Gate + Sync>(
+pub fn dispatch<R: Threads + Sync, G: kfifo_dispatch::WorkGate + Sync>(
     threads: &R,
     alloc: Global,
     tasks: &[Task],

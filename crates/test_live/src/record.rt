@@ -164,8 +164,6 @@ impl Gate for Meeting {
         }
         self.gave_up.fetch_add(1, Ordering::SeqCst);
     }
-
-    fn unit(&self, _worker: u32, _id: u32) {}
 }
 
 #[test]
@@ -206,8 +204,6 @@ impl Gate for Count {
             self.astray.fetch_add(1, Ordering::SeqCst);
         }
     }
-
-    fn unit(&self, _worker: u32, _id: u32) {}
 }
 
 #[test]
@@ -301,8 +297,6 @@ impl Gate for Start {
             yield_now();
         }
     }
-
-    fn unit(&self, _worker: u32, _id: u32) {}
 }
 
 /// A record of drawn scripts whose workers begin together.

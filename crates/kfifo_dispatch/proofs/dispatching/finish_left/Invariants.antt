@@ -9,5 +9,5 @@ invariant-loop-job g l = record {
   is_finite : (goal.iterator-loop-job g).is_finite l.job-iterator;
   came : map (λ (d : JobView). d.place) l.returned.items
       ≡ map (λ (d : JobView). d.place) l.fn.returned.items ++ map (λ (j : JobView). j.place) l.yielded;
-  told : CallerTells (g.G.Gate.told l.gate) g.L.Tasks.tasks l.yielded;
+  told : CallerTells (g.G.WorkGate.told l.gate) g.L.Tasks.tasks l.yielded;
 }

@@ -33,6 +33,6 @@ returns-clause-gives g c =
     let all : c.loop-place.place ≡ length c.args.tasks.now = omega (arith, c.loop-place.auto.place-end, c.loop-place-test.false) in
     let whole : take c.loop-place.place c.args.tasks.now ≡ c.args.tasks.now =
     ap (λ n. take n c.args.tasks.now) all ∙ take-length c.args.tasks.now in
-    subst (λ (ts : List Task). GivesAll (TellsOf (g.G.Gate.told c.args.gate.now) g.L.Tasks.tasks 0) g.P.Station.gives (c.args.shape.n + 2) 0 ts c.args.pass.now c.loop-place.pass
+    subst (λ (ts : List Task). GivesAll (TellsOf (g.G.WorkGate.told c.args.gate.now) g.L.Tasks.tasks 0) g.P.Station.gives (c.args.shape.n + 2) 0 ts c.args.pass.now c.loop-place.pass
     (map (λ (d : JobView). d.place) c.loop-place.returned.items))
     whole c.loop-place.invariant.gives

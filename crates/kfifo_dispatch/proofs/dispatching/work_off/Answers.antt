@@ -22,7 +22,7 @@ close_with-requires-clause-others g c =
 pub returns-clause-run : goal.returns-clause-run
 returns-clause-run g c =
     let passed = g.G.Gate.passed c.args.gate.now in
-    let told = g.G.Gate.told c.args.gate.now in
+    let told = g.G.WorkGate.told c.args.gate.now in
     let opened = c.in_ok-queue.ensures in
     let queue = c.in_ok-queue.queue in
     let backs = c.in_ok-backs.backs.items in

@@ -1,6 +1,6 @@
 use Rattle.std.proofs.Common.{◌≡◌, ◌<◌, ◌+◌, ◌++◌, [], ◌∷◌, sym, ◌∙◌, arith}
 use Rattle.kfifo_live.specs.Pass.{queue_of, pass_view}
-use Rattle.kfifo_live.proofs.Opens.{new_passes-snoc, new_pass, cut_first}
+use Rattle.kfifo_live.proofs.NewPasses.{new_passes-snoc, new_pass, cut_first}
 use Rattle.kfifo_live.proofs.opening.deal.Goals as goal
 
 pub invariant_of-push : goal.invariant_of-push

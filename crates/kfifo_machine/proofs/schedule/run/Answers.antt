@@ -7,7 +7,7 @@ use Rattle.kfifo_machine.proofs.Causes.{full_has_cause}
 use Rattle.kfifo_machine.proofs.Wear.{worn_has_cause}
 use Rattle.kfifo_machine.proofs.Losses.{busy_has_cause}
 use Rattle.kfifo_machine.proofs.Tokens.{items_are_tokens}
-use Rattle.kfifo_machine.proofs.Undisturbed.{busy_is_disturbed}
+use Rattle.kfifo_machine.proofs.BusyIsDisturbed.{busy_is_disturbed}
 use Rattle.kfifo_machine.proofs.schedule.run.Goals as goal
 
 pub returns-clause-no_wrap : goal.returns-clause-no_wrap

@@ -1,7 +1,7 @@
 -- The passes came from the opening, after which all words are 0.
 use Rattle.std.proofs.Common.{All, subst, sym}
 use Rattle.kfifo_live.specs.Pass.{IsPassOf}
-use Rattle.kfifo_live.proofs.Opens.{pay_passes_of_new, zeroed}
+use Rattle.kfifo_live.proofs.NewPasses.{pay_passes_of_new, zeroed}
 use Rattle.kfifo_live.proofs.payload.PayQueue.open_tested.Goals as goal
 
 pub returns-clause-zeroed : goal.returns-clause-zeroed

@@ -2,7 +2,7 @@
 use Rattle.kfifo_linear.proofs.Schedule.{has_legal_order, few_overtake, few_certainly}
 use Rattle.std.proofs.Common.{All, arith, subst, sym}
 use Rattle.kfifo_live.specs.Pass.{IsPassOf}
-use Rattle.kfifo_live.proofs.Opens.{passes_of_new, zeroed}
+use Rattle.kfifo_live.proofs.NewPasses.{passes_of_new, zeroed}
 use Rattle.kfifo_live.proofs.queue.Queue.open.Goals as goal
 
 pub returns-clause-legal : goal.returns-clause-legal
