@@ -1,6 +1,7 @@
 //! What `check` says of a record.
 ghost use Rattle.std.specs.Prelude.{◌≡◌, ◌≤◌, IfOk, MatchResult, option_map, string_bytes};
-ghost use Rattle.kfifo_judge.specs.Check.{line, verdict_text, verdict_outcome, IsCheckAnswer, IsChecked, IsUnanswered};
+ghost use Rattle.kfifo_model.specs.RecordTexts.{line};
+ghost use Rattle.kfifo_judge.specs.Check.{verdict_text, verdict_outcome, IsCheckAnswer, IsChecked, IsUnanswered};
 ghost use Rattle.kfifo_judge.specs.Check.{IsCheckFault};
 
 use crate::outcome::Outcome;
