@@ -1,10 +1,11 @@
 //! Opening a queue.
-ghost use Rattle.std.specs.Prelude.{◌≡◌, ◌≢◌, ◌<◌, ◌≤◌, ◌⊎◌, ◌↔◌, None, Some, IfSome, IfOk, IsErrOf, All, length, map};
+ghost use Rattle.std.specs.Prelude.{◌≡◌, ◌≢◌, ◌<◌, ◌≤◌, ◌⊎◌, None, Some, IfSome, IfOk, IsErrOf, All, length, map};
 ghost use Rattle.std.specs.Prelude.{reverse};
 ghost use Rattle.kfifo_model.specs.declared.calls.TheConstants.{MAX_THREADS};
 ghost use denote.RawPtr.{Ptr};
 ghost use Rattle.kfifo_words.specs.Sizes.{fault_of};
-ghost use Rattle.kfifo_live.specs.declared.fault.OpenFault.TheVariants.{ThreadsOutOfRange, TokensOutOfRange};
+ghost use Rattle.kfifo_live.specs.Refusals.{RefusesThreads};
+ghost use Rattle.kfifo_live.specs.declared.fault.OpenFault.TheVariants.{TokensOutOfRange};
 ghost use Rattle.kfifo_c.specs.Seats.{IsOpenPassOf};
 ghost use Rattle.kfifo_c.specs.Handles.{behind};
 ghost use Rattle.kfifo_c.specs.Exports.{seats_of, Opens, OpensSizes, shape_number};
@@ -46,7 +47,7 @@ fn open_seats(
     threads: u32,
 ) -> Result<Vec<Box<Seat, Global>>, OpenFault>
     ensures ok { IfOk result (λ seats. Opens shape threads (reverse (map (λ seat. seat.value) seats.items))) }
-    ensures threads { IsErrOf result ThreadsOutOfRange ↔ ((threads ≡ 0) ⊎ (MAX_THREADS < threads)) }
+    ensures threads { RefusesThreads threads result }
     ensures tokens { ¬ IsErrOf result TokensOutOfRange }
 {
     let (queue, passes) = Queue::open(alloc, shape, threads)?;

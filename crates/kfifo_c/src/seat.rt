@@ -1,28 +1,23 @@
 //! What a handle stands for.
-ghost use Rattle.std.specs.Prelude.{◌≡◌, ◌<◌, ◌≤◌, ◌^◌, ◌+◌, ◌*◌, MatchOption, IfOk};
+ghost use Rattle.std.specs.Prelude.{◌≡◌, ◌<◌, ◌≤◌, ◌^◌, MatchOption, IfOk};
 ghost use Rattle.kfifo_machine.specs.declared.event.Begin.TheVariants.{Enqueue, Dequeue};
-ghost use Rattle.kfifo_live.specs.Handles.{cycle_at};
 ghost use Rattle.kfifo_live.specs.Pass.{IsPassOf};
 ghost use Rattle.kfifo_c.specs.Seats.{Seated, seated, IsOpenPassOf};
 ghost use Rattle.kfifo_c.specs.Exports.{MayEnqueue, MayDequeue, MayRead, CalledFrom, Puts, Gets, HasRead};
 
 use crate::address::address_of;
-use kfifo_live::{Pass, Queue, RoundRobin};
+use kfifo_live::{Handle, Pass, Queue};
 use kfifo_model::Answer;
 use std::alloc::{AllocError, Global};
 use std::marker::Model;
 use std::sync::Arc;
 
-/// A pass, a part in the queue that it is of, and the number of that queue's passes; and what the calls with nothing to
-/// choose need: their starts, and how many rounds they make.
+/// A handle of the queue, a part in the queue that it is of, and the number of that queue's passes.
 #[derive(Drop)]
 pub struct Seat {
     pub(crate) queue: Arc<Queue, Global>,
-    pub(crate) pass: Pass,
+    pub(crate) handle: Handle,
     pub(crate) threads: u32,
-    pub(crate) puts: RoundRobin,
-    pub(crate) gets: RoundRobin,
-    pub(crate) turns: u16,
     // Each call writes to its seat. This keeps the seats of two threads from lying in one line of the cache.
     pub(crate) apart: [u64; 8],
 }
@@ -32,14 +27,12 @@ impl Model for Seat {
 
     ghost view = { λ s. record {
       queue = s.queue.value;
-      pass = s.pass;
-      put_start = s.puts.start;
-      get_start = s.gets.start;
+      pass = s.handle.pass;
+      put_start = s.handle.enqueue_start;
+      get_start = s.handle.dequeue_start;
     } };
 
-    ghost invariant = { λ s. IsPassOf s.queue.value s.pass × (s.threads ≡ s.queue.value.opened.threads)
-        × (s.puts ≡ cycle_at s.pass s.puts.start) × (s.gets ≡ cycle_at s.pass s.gets.start)
-        × (s.turns ≡ s.queue.value.opened.shape.n + 2) };
+    ghost invariant = { λ s. IsPassOf s.queue.value s.handle.pass × (s.threads ≡ s.queue.value.opened.threads) };
 }
 
 impl Seat {
@@ -49,16 +42,11 @@ impl Seat {
         requires threads { threads ≡ queue.value.opened.threads }
         ensures { result ≡ seated queue.value pass }
     {
-        let shape = queue.shape();
-        let puts = RoundRobin::spread(pass.thread(), threads, shape.k());
-        let gets = RoundRobin::spread(pass.thread(), threads, shape.k());
+        let handle = Handle::new(&queue, pass);
         Seat {
             queue,
-            pass,
+            handle,
             threads,
-            puts,
-            gets,
-            turns: shape.n() as u16 + 2,
             apart: [0; 8],
         }
     }
@@ -67,7 +55,7 @@ impl Seat {
     pub(crate) fn thread(&self) -> u32
         ensures { result ≡ self.now.pass.thread }
     {
-        self.pass.thread()
+        self.handle.pass().thread()
     }
 
     /// The number of the queue's passes.
@@ -103,10 +91,10 @@ impl Seat {
     {
         let Seat {
             queue: _queue,
-            pass,
+            handle,
             ..
         } = self;
-        pass
+        handle.into_pass()
     }
 
     /// The enqueue of the pass, if it may be made with so many turns.
@@ -121,7 +109,7 @@ impl Seat {
         if turns < 1 {
             return None;
         }
-        Some(self.pass.enqueue(&self.queue, item, start, turns))
+        Some(self.handle.enqueue_from(&self.queue, item, start, turns))
     }
 
     /// The dequeue of the pass, if it may be made with so many turns.
@@ -134,7 +122,7 @@ impl Seat {
         if turns < 1 {
             return None;
         }
-        Some(self.pass.dequeue(&self.queue, start, turns))
+        Some(self.handle.dequeue_from(&self.queue, start, turns))
     }
 
     /// The enqueue of the pass from the handle's start.
@@ -143,8 +131,7 @@ impl Seat {
         requires { (1 ≤ item) × (item < 2 ^ 24) }
         ensures { Puts item result self.old self.new }
     {
-        let start = self.puts.next();
-        self.pass.enqueue(&self.queue, item, start, self.turns)
+        self.handle.enqueue(&self.queue, item)
     }
 
     /// The dequeue of the pass from the handle's start.
@@ -152,8 +139,7 @@ impl Seat {
     pub(crate) fn get(&mut self) -> Answer
         ensures { Gets result self.old self.new }
     {
-        let start = self.gets.next();
-        self.pass.dequeue(&self.queue, start, self.turns)
+        self.handle.dequeue(&self.queue)
     }
 
     /// The word of this index, if there is one.
@@ -165,6 +151,6 @@ impl Seat {
         if index >= 2 + shape.n() as usize * shape.k() as usize {
             return None;
         }
-        Some(self.pass.word(&self.queue, index))
+        Some(self.handle.word(&self.queue, index))
     }
 }

@@ -5,7 +5,7 @@ ghost use Rattle.kfifo_live.specs.Pass.{IsPassOf, IsSamePass};
 use crate::plain::{close, close_payloads, open_payloads_one, open_two};
 use kfifo_live::{Given, Handle, PayHandle, PayQueue, Queue, RoundRobin, Taken};
 use kfifo_model::Answer;
-use kfifo_words::{MAX_VERSION, Shape};
+use kfifo_words::{MAX_VERSION, Shape, Word};
 use std::process::Abort;
 use std::test::Fail;
 use std::thread::join;
@@ -298,6 +298,27 @@ fn example_of_the_page(rt: HostRuntime) -> Result<(), Fail> {
     let left = close(alloc, queue, vec![in alloc; handle.into_pass()]?)?; // the items that are left
     assert_eq!(rt; put, Answer::Done);
     assert_eq!(rt; took, Answer::Got(7));
+    assert!(rt; left.is_empty());
+    Ok(())
+}
+
+/// A call with a start of the caller's leaves the handle's own starts where they are.
+#[test]
+fn calls_from_a_start_of_the_callers(rt: HostRuntime) -> Result<(), Fail> {
+    let alloc = rt.alloc();
+    let shape = Shape::new(4, 4, MAX_VERSION)?;
+    let (queue, mut passes) = Queue::open(alloc, shape, 1)?;
+    let Some(pass) = passes.pop() else {
+        unreachable!()
+    };
+    let mut handle = Handle::new(&queue, pass);
+    assert_eq!(rt; handle.enqueue_from(&queue, 7, 3, 6), Answer::Done);
+    assert_eq!(rt; handle.enqueue(&queue, 8), Answer::Done);
+    assert_eq!(rt; Word::of_bits(handle.word(&queue, 1)).value(), 8);
+    assert_eq!(rt; Word::of_bits(handle.word(&queue, 4)).value(), 7);
+    assert_eq!(rt; handle.dequeue_from(&queue, 3, 6), Answer::Got(7));
+    assert_eq!(rt; handle.dequeue(&queue), Answer::Got(8));
+    let left = close(alloc, queue, vec![in alloc; handle.into_pass()]?)?;
     assert!(rt; left.is_empty());
     Ok(())
 }

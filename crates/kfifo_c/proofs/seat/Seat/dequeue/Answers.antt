@@ -9,11 +9,11 @@ returns c =
     let below = subst (λ (s : Seated). c.args.start < s.queue.opened.shape.k) (sym c.self.view_is) c.requires in
     let after : Seated = record {
       queue = c.self.inside.queue.value;
-      pass = c.dequeue.new.self;
-      put_start = c.self.inside.puts.start;
-      get_start = c.self.inside.gets.start;
+      pass = c.dequeue_from.new.self.pass;
+      put_start = c.dequeue_from.new.self.enqueue_start;
+      get_start = c.dequeue_from.new.self.dequeue_start;
     } in
-    subst (λ (s : Seated). MayDequeue c.args.start c.args.turns s × CalledFrom (Dequeue c.args.start c.args.turns) c.dequeue.result s after)
+    subst (λ (s : Seated). MayDequeue c.args.start c.args.turns s × CalledFrom (Dequeue c.args.start c.args.turns) c.dequeue_from.result s after)
     c.self.view_is (
       record {
         start_below = below;
@@ -22,11 +22,11 @@ returns c =
       record {
         called = record {
           queue = refl;
-          same = c.dequeue.ensures.same;
-          call = c.dequeue.ensures.call;
-          promise = c.dequeue.ensures.promise;
+          same = c.dequeue_from.ensures.same;
+          call = c.dequeue_from.ensures.call;
+          promise = c.dequeue_from.ensures.promise;
         };
-        same_put = refl;
-        same_get = refl;
+        same_put = c.dequeue_from.ensures.starts.0;
+        same_get = c.dequeue_from.ensures.starts.1;
       },
     )

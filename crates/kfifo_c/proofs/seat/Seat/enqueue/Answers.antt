@@ -9,12 +9,12 @@ returns c =
     let below = subst (λ (s : Seated). c.args.start < s.queue.opened.shape.k) (sym c.self.view_is) c.requires.start in
     let after : Seated = record {
       queue = c.self.inside.queue.value;
-      pass = c.enqueue.new.self;
-      put_start = c.self.inside.puts.start;
-      get_start = c.self.inside.gets.start;
+      pass = c.enqueue_from.new.self.pass;
+      put_start = c.enqueue_from.new.self.enqueue_start;
+      get_start = c.enqueue_from.new.self.dequeue_start;
     } in
     subst (λ (s : Seated). MayEnqueue c.args.item c.args.start c.args.turns s
-    × CalledFrom (Enqueue c.args.item c.args.start c.args.turns) c.enqueue.result s after) c.self.view_is (
+    × CalledFrom (Enqueue c.args.item c.args.start c.args.turns) c.enqueue_from.result s after) c.self.view_is (
       record {
         some_item = c.requires.item.0;
         small_item = c.requires.item.1;
@@ -24,11 +24,11 @@ returns c =
       record {
         called = record {
           queue = refl;
-          same = c.enqueue.ensures.same;
-          call = c.enqueue.ensures.call;
-          promise = c.enqueue.ensures.promise;
+          same = c.enqueue_from.ensures.same;
+          call = c.enqueue_from.ensures.call;
+          promise = c.enqueue_from.ensures.promise;
         };
-        same_put = refl;
-        same_get = refl;
+        same_put = c.enqueue_from.ensures.starts.0;
+        same_get = c.enqueue_from.ensures.starts.1;
       },
     )

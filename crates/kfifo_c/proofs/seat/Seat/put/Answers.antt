@@ -1,34 +1,26 @@
--- The enqueue is that of the pass, with the start and the rounds of the seat.
-use Rattle.std.proofs.Common.{◌≡◌, ℕ, ◌+◌, ap, refl, sym, subst, ◌∙◌, arith}
-use Rattle.kfifo_machine.specs.declared.event.Begin.TheVariants.{Enqueue}
-use Rattle.kfifo_live.specs.declared.view.Opening.{Opening}
-use Rattle.kfifo_live.specs.Handles.{Cycle, enough_turns, moved}
+-- The enqueue is that of the handle.
+use Rattle.std.proofs.Common.{refl, subst}
 use Rattle.kfifo_c.specs.Seats.{Seated}
-use Rattle.kfifo_c.specs.Exports.{Called, Puts}
+use Rattle.kfifo_c.specs.Exports.{Puts}
 use Rattle.kfifo_c.proofs.seat.Seat.put.Goals as goal
 
 pub returns : goal.returns
 returns c =
-    let e = c.enqueue.ensures in let i = c.self.inside in let v = c.self.invariant in
-    let before : Seated = record { queue = i.queue.value; pass = i.pass; put_start = i.puts.start; get_start = i.gets.start } in
+    let e = c.enqueue.ensures in let h = c.enqueue.new.self in
     let after : Seated = record {
-      queue = i.queue.value;
-      pass = c.enqueue.new.self;
-      put_start = c.next-start.new.self.start;
-      get_start = i.gets.start;
-    } in
-    let turns : i.turns ≡ enough_turns i.pass = v.4 ∙ ap (λ (o : Opening). o.shape.n + 2) (sym v.0.1) in
-    let made : Called (Enqueue c.args.item c.next-start.result i.turns) c.enqueue.result before after = record {
-      queue = refl;
-      same = e.same;
-      call = e.call;
-      promise = e.promise;
+      queue = c.self.inside.queue.value;
+      pass = h.pass;
+      put_start = h.enqueue_start;
+      get_start = h.dequeue_start;
     } in
     subst (λ (s : Seated). Puts c.args.item c.enqueue.result s after) c.self.view_is (record {
-      called = subst (λ (x : ℕ × ℕ). Called (Enqueue c.args.item x.0 x.1) c.enqueue.result before after)
-          (λ j. (c.next-start.ensures.start j, turns j)) made;
-      busy = λ is. e.call.disturbed is (omega (arith, turns));
-      next_put = ap (λ r. r.start) c.next-start.ensures.moves
-          ∙ ap (λ (c : Cycle). (moved c).start) v.2;
-      same_get = refl;
+      called = record {
+        queue = refl;
+        same = e.same;
+        call = e.call;
+        promise = e.promise;
+      };
+      busy = e.busy;
+      next_put = e.starts.0;
+      same_get = e.starts.1;
     })
