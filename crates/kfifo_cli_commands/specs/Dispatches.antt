@@ -6,7 +6,8 @@ use Rattle.kfifo_dispatch.specs.declared.fault.DispatchFault.TheVariants as refu
 use Rattle.kfifo_dispatch.specs.declared.task.Task.{Task}
 use Rattle.kfifo_dispatch.specs.declared.task.Finished.{Finished}
 use Rattle.kfifo_dispatch.specs.Tasks.{HasRepeatedId, IsFinishedList}
-use Rattle.kfifo_dispatch.specs.Working.{HasRun, SaysNothing}
+use Rattle.kfifo_dispatch.specs.Working.{HasRun}
+use Rattle.kfifo_live.specs.Gates.{SaysNothing}
 use Rattle.kfifo_cli_texts.specs.declared.fault.Fault.{Fault}
 use Rattle.kfifo_cli_texts.specs.declared.fault.Fault.TheVariants as faults
 use Rattle.kfifo_cli_requests.specs.declared.requests.DispatchOptions.{DispatchOptions}

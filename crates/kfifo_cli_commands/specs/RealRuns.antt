@@ -5,7 +5,7 @@ use Rattle.kfifo_model.specs.declared.calls.Call.{Call}
 use Rattle.kfifo_machine.specs.declared.event.Begin.{Begin}
 use Rattle.kfifo_live.specs.declared.fault.OpenFault.{OpenFault}
 use Rattle.kfifo_live.specs.declared.fault.OpenFault.TheVariants as opens
-use Rattle.kfifo_dispatch.specs.Working.{SaysNothing}
+use Rattle.kfifo_live.specs.Gates.{SaysNothing}
 use Rattle.kfifo_record.specs.Repeats.{IsFirstOver, all_repeated, last_shift}
 use Rattle.kfifo_record.specs.Scripts.{IsRecord, longest}
 use Rattle.kfifo_model.specs.RecordTexts.{IsRecordText, line, record_text}

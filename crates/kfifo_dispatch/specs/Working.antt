@@ -38,10 +38,6 @@ module _ {T : Type 0} where
   abbrev pub PassGives : PayPassView T → T → ℕ → ℕ → Given T → PayPassView T → Type 0
   PassGives s payload start turns answer t = Gives start turns payload answer s t
 
--- what an open gate says of its calls: nothing
-abbrev pub SaysNothing : ℕ → ℕ → Type 0
-SaysNothing worker number = Unit {0}
-
 -- the gate was told that this worker did a unit of work on the task at this place
 abbrev pub TellsOf : (ℕ → ℕ → Type 0) → List Task → ℕ → ℕ → Type 0
 TellsOf told tasks worker place = told worker (id_at tasks place)

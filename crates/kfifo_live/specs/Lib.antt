@@ -13,3 +13,4 @@ pub mod Calls
 pub mod Stamps
 pub mod Faults
 pub mod Refusals
+pub mod Gates

@@ -1,5 +1,6 @@
 use Rattle.std.proofs.Common.{◌∙◌, ℕ, ap, rules, subst, Err, flat_map}
-use Rattle.kfifo_dispatch.specs.Working.{HasRun, SaysNothing}
+use Rattle.kfifo_dispatch.specs.Working.{HasRun}
+use Rattle.kfifo_live.specs.Gates.{SaysNothing}
 use Rattle.kfifo_cli_texts.specs.declared.fault.Fault.TheVariants.{Dispatch}
 use Rattle.kfifo_cli_commands.specs.Dispatches.{IsDispatchRefusal, IsTasksFault}
 use Rattle.kfifo_cli_texts.specs.Tasks.{finished_line}

@@ -1,7 +1,7 @@
 use Rattle.std.proofs.Common.{◌≡◌, ◌∙◌, ◌<◌, ◌≤◌, ◌⊎◌, ℕ, List, ap, length, rules, subst, sym, Err}
 use Rattle.std.proofs.lemmas.List.{length-map}
 use Rattle.kfifo_cli_commands.proofs.Types.{Begin}
-use Rattle.kfifo_dispatch.specs.Working.{SaysNothing}
+use Rattle.kfifo_live.specs.Gates.{SaysNothing}
 use Rattle.kfifo_record.specs.Repeats.{all_repeated}
 use Rattle.kfifo_record.specs.Scripts.{AreScripts, IsRecord, longest, scripts_in}
 use Rattle.kfifo_cli_texts.specs.declared.fault.Fault.TheVariants.{Open}
