@@ -1,5 +1,5 @@
 -- Steps of the history keep its rule.
-use Rattle.std.proofs.Common.{◌≡◌, ◌+◌, ◌-◌, ◌<◌, ◌≤◌, ◌^◌, ◌==◌, ℕ, zero, suc, Bool, true, false, List, [], ◌∷◌, ◌++◌, length}
+use Rattle.std.proofs.Common.{◌≡◌, ◌+◌, ◌<◌, ◌≤◌, ◌^◌, ◌==◌, ℕ, zero, suc, Bool, true, false, List, [], ◌∷◌, ◌++◌, length}
 use Rattle.std.proofs.Common.{None, Some, slice_get, refl, sym, ap, ◌∙◌, subst, arith, inl, append_assoc, length-append}
 use Rattle.std.proofs.lemmas.Bool.Decides.{nat_tests}
 use Rattle.std.proofs.lemmas.List.{append-nil}
@@ -11,7 +11,7 @@ use Rattle.logbook.specs.Pages.{Cell, cell, keeps, no_nib, step, Moves, Goes, Vi
 use Rattle.kfifo_renewing.specs.declared.change.Change.{Change}
 use Rattle.kfifo_renewing.specs.declared.change.Change.TheVariants as C
 use Rattle.kfifo_renewing.specs.declared.change.Made.{Made}
-use Rattle.kfifo_renewing.specs.History.{GivesNumber, IsKept, IsMade, Looks, NewestWas, made, making_of, newest_after, newest_of}
+use Rattle.kfifo_renewing.specs.History.{GivesNumber, IsKept, IsMade, Looks, made, making_of, newest_after, newest_of}
 
 pub prefix-trans : {A : Type 0} (xs ys zs : List A) → IsPrefix xs ys → IsPrefix ys zs → IsPrefix xs zs
 prefix-trans xs ys zs p q = (p.0 ++ q.0, sym (append_assoc xs p.0 q.0) ∙ (ap (λ w. w ++ q.0) p.1 ∙ q.1))
@@ -29,13 +29,13 @@ pub made-append : (xs ys : List Change) → made (xs ++ ys) ≡ made xs ++ made 
 made-append [] ys = refl
 made-append (C.Made q ∷ xs) ys = ap (λ l. q.table ∷ l) (made-append xs ys)
 made-append (C.Newest n ∷ xs) ys = made-append xs ys
-made-append (C.Look ∷ xs) ys = made-append xs ys
+made-append (C.Look t ∷ xs) ys = made-append xs ys
 
 pub newest-append : (n : ℕ) (xs ys : List Change) → newest_after n (xs ++ ys) ≡ newest_after (newest_after n xs) ys
 newest-append n [] ys = refl
 newest-append n (C.Made q ∷ xs) ys = newest-append n xs ys
 newest-append n (C.Newest m ∷ xs) ys = newest-append m xs ys
-newest-append n (C.Look ∷ xs) ys = newest-append n xs ys
+newest-append n (C.Look t ∷ xs) ys = newest-append n xs ys
 
 -- what was made stays so
 pub made-later : (xs ys : List Change) (n : ℕ) (t : TableId) → IsPrefix xs ys → IsMade xs n t → IsMade ys n t
@@ -58,34 +58,42 @@ two n g = (n, true) ∷ (g, true) ∷ []
 abbrev pub table-of : Change → TableId → TableId
 table-of (C.Made q) t = q.table
 table-of (C.Newest n) t = t
-table-of C.Look t = t
+table-of (C.Look n) t = t
 
 table-same : (t : TableId) (q : Made) → making_of t ≡ C.Made q → t ≡ q.table
 table-same t q e = ap (λ c. table-of c t) e
 
-looks-goes : (v log : List Change) (ask : Change) (g : ℕ) → IsPrefix v log → length (made log) ≡ g + 1 → newest_of log ≤ g
+abbrev pub thread-of : Change → ℕ → ℕ
+thread-of (C.Made q) t = t
+thread-of (C.Newest n) t = t
+thread-of (C.Look n) t = n
+
+thread-same : (n t : ℕ) → C.Look n ≡ C.Look t → n ≡ t
+thread-same n t e = ap (λ c. thread-of c t) e
+
+looks-goes : (v log : List Change) (thread g : ℕ) → IsPrefix v log → length (made log) ≡ g + 1 → newest_of log ≤ g
     → g < 2 ^ 32
-    → Goes IsKept shown moved 0 (v, (no_nib, None)) (λ n. n) (Looks (step 0 0 0 ask) (v, (no_nib, None))) (two (newest_of log) g) log
-looks-goes v log ask g pre count newest small =
-    let after = log ++ C.Look ∷ [] in
-    let same : newest_of log ≡ newest_of after = sym (newest-append 0 log (C.Look ∷ [])) in (
+    → Goes IsKept shown moved 0 (v, (no_nib, None)) (λ n. n) (Looks (step 0 0 0 (C.Look thread)) (v, (no_nib, None))) (two (newest_of log) g) log
+looks-goes v log thread g pre count newest small =
+    let after = log ++ C.Look thread ∷ [] in
+    let same : newest_of log ≡ newest_of after = sym (newest-append 0 log (C.Look thread ∷ [])) in (
       keeps,
-      C.Look ∷ [],
+      C.Look thread ∷ [],
       None,
       tt,
       record {
         greatest = g;
         words = ap (λ n. two n g) same;
-        count = count-same log C.Look refl ∙ count;
+        count = count-same log (C.Look thread) refl ∙ count;
         newest = subst (λ n. n ≤ g) same newest;
         small = small;
       },
       inl (refl, refl),
       (
-        (
+        λ t asked. (
           pre.0,
           [],
-          ap (λ l. l ++ C.Look ∷ []) (sym pre.1),
+          ap (λ l. l ++ C.Look thread ∷ []) (sym pre.1) ∙ ap (λ k. (v ++ pre.0) ++ C.Look k ∷ []) (thread-same thread t asked),
           ap newest_of pre.1,
         ),
         omega (arith, newest, small),
@@ -93,16 +101,42 @@ looks-goes v log ask g pre count newest small =
     )
 
 -- a look finds the number of the newest generation
-pub looks-moves : (v : List Change) (ask : Change)
-    → Moves IsKept shown moved 0 (v, (no_nib, None)) (λ n. n) (Looks (step 0 0 0 ask) (v, (no_nib, None)))
-looks-moves v ask cs log kept pre away =
+pub looks-moves : (v : List Change) (thread : ℕ)
+    → Moves IsKept shown moved 0 (v, (no_nib, None)) (λ n. n) (Looks (step 0 0 0 (C.Look thread)) (v, (no_nib, None)))
+looks-moves v thread cs log kept pre away =
     let P : List Cell → Type 0 = λ c. (0 < length c) × ((cell c 0).1 ≡ true)
-        × Goes IsKept shown moved 0 (v, (no_nib, None)) (λ n. n) (Looks (step 0 0 0 ask) (v, (no_nib, None))) c log in
+    × Goes IsKept shown moved 0 (v, (no_nib, None)) (λ n. n) (Looks (step 0 0 0 (C.Look thread)) (v, (no_nib, None))) c log in
     subst P (sym kept.words)
-        (omega arith, refl, looks-goes v log ask kept.greatest pre kept.count kept.newest kept.small)
+    (omega arith, refl, looks-goes v log thread kept.greatest pre kept.count kept.newest kept.small)
 
-abbrev TellsNothing : ℕ → View Change ℕ → Type 0
+abbrev pub TellsNothing : ℕ → View Change ℕ → Type 0
 TellsNothing n w = Unit {0}
+
+-- a load adds nothing
+peeks-goes : (v log : List Change) (g : ℕ) → length (made log) ≡ g + 1 → newest_of log ≤ g → g < 2 ^ 32
+    → Goes IsKept shown moved 0 (v, (no_nib, None)) (λ n. n) TellsNothing (two (newest_of log) g) log
+peeks-goes v log g count newest small =
+    let all : log ++ [] ≡ log = append-nil log in (
+      keeps,
+      [],
+      None,
+      tt,
+      record {
+        greatest = g;
+        words = ap (λ l. two (newest_of l) g) (sym all);
+        count = ap (λ l. length (made l)) all ∙ count;
+        newest = subst (λ l. newest_of l ≤ g) (sym all) newest;
+        small = small;
+      },
+      inl (refl, refl),
+      tt,
+    )
+
+pub peeks-moves : (v : List Change) → Moves IsKept shown moved 0 (v, (no_nib, None)) (λ n. n) TellsNothing
+peeks-moves v cs log kept pre away =
+    let P : List Cell → Type 0 = λ c. (0 < length c) × ((cell c 0).1 ≡ true)
+    × Goes IsKept shown moved 0 (v, (no_nib, None)) (λ n. n) TellsNothing c log in
+    subst P (sym kept.words) (omega arith, refl, peeks-goes v log kept.greatest kept.count kept.newest kept.small)
 
 renews-goes : (v log : List Change) (old new g : ℕ) (t : TableId) → IsPrefix v log → IsMade v new t
     → length (made log) ≡ g + 1 → newest_of log ≤ g → g < 2 ^ 32 → (b : Bool) → (newest_of log == old) ≡ b
@@ -147,7 +181,7 @@ pub renews-moves : (v : List Change) (old new : ℕ) (t : TableId) → IsMade v 
     → Moves IsKept shown moved 0 (v, (no_nib, None)) (λ n. either (n == old) new n) TellsNothing
 renews-moves v old new t is cs log kept pre away =
     let P : List Cell → Type 0 = λ c. (0 < length c) × ((cell c 0).1 ≡ true)
-        × Goes IsKept shown moved 0 (v, (no_nib, None)) (λ n. either (n == old) new n) TellsNothing c log in
+    × Goes IsKept shown moved 0 (v, (no_nib, None)) (λ n. either (n == old) new n) TellsNothing c log in
     subst P (sym kept.words) (
       omega arith,
       refl,
@@ -204,8 +238,8 @@ pub numbers-moves : (v : List Change) (t : TableId) (old : ℕ) → old + 1 < 2 
     (GivesNumber (step 1 old (old + 1) (making_of t)) (v, (no_nib, None)))
 numbers-moves v t old room cs log kept pre away =
     let P : List Cell → Type 0 = λ c. (1 < length c) × ((cell c 1).1 ≡ true)
-        × Goes IsKept shown moved 1 (v, (no_nib, None)) (λ n. either (n == old) (old + 1) n)
-        (GivesNumber (step 1 old (old + 1) (making_of t)) (v, (no_nib, None))) c log in
+    × Goes IsKept shown moved 1 (v, (no_nib, None)) (λ n. either (n == old) (old + 1) n)
+    (GivesNumber (step 1 old (old + 1) (making_of t)) (v, (no_nib, None))) c log in
     subst P (sym kept.words) (
       omega arith,
       refl,

@@ -15,14 +15,14 @@ abbrev pub made : List Change → List TableId
 made [] = []
 made (C.Made q ∷ log) = q.table ∷ made log
 made (C.Newest n ∷ log) = made log
-made (C.Look ∷ log) = made log
+made (C.Look thread ∷ log) = made log
 
 -- the number of the newest generation, if that of before is this
 abbrev pub newest_after : ℕ → List Change → ℕ
 newest_after n [] = n
 newest_after n (C.Made q ∷ log) = newest_after n log
 newest_after n (C.Newest m ∷ log) = newest_after m log
-newest_after n (C.Look ∷ log) = newest_after n log
+newest_after n (C.Look thread ∷ log) = newest_after n log
 
 -- the number of the newest generation: at first that of the first one
 abbrev pub newest_of : List Change → ℕ
@@ -45,14 +45,14 @@ pub record IsKept (cells : List Cell) (log : List Change) : Type 0 where
 abbrev pub word_of : Book → ℕ → Named
 word_of b key = record { tracked = true; key = key; book = b }
 
--- at a look between these two beginnings of the history the newest generation had this number
-abbrev pub NewestWas : ℕ → List Change → List Change → Type 0
-NewestWas n old new = (others : List Change) × (more : List Change) × (new ≡ old ++ others ++ C.Look ∷ more)
-    × (newest_of (old ++ others) ≡ n)
+-- at a look of this thread, between these two beginnings of the history, the newest generation had this number
+abbrev pub NewestWas : ℕ → ℕ → List Change → List Change → Type 0
+NewestWas thread n old new = (others : List Change) × (more : List Change)
+    × (new ≡ (old ++ others) ++ C.Look thread ∷ more) × (newest_of (old ++ others) ≡ n)
 
 -- what a look tells: the number that it found was that of the newest generation
-abbrev pub Looks : Step Change → View Change (ℕ) → ℕ → View Change (ℕ) → Type 0
-Looks s v found w = NewestWas found v.0 w.0 × (found < 2 ^ 32)
+abbrev pub Looks : Step Change → View Change ℕ → ℕ → View Change ℕ → Type 0
+Looks s v found w = ((thread : ℕ) → s.ask ≡ C.Look thread → NewestWas thread found v.0 w.0) × (found < 2 ^ 32)
 
 -- what a step tells that gives a generation a number: where it did, the history has that
 abbrev pub GivesNumber : Step Change → View Change ℕ → ℕ → View Change ℕ → Type 0

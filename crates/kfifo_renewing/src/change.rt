@@ -19,6 +19,6 @@ pub enum Change {
     Made(Made),
     /// The generation with this number became the newest.
     Newest(u32),
-    /// A handle looked which generation is the newest.
-    Look,
+    /// The handle of this thread looked which generation is the newest.
+    Look(u32),
 }

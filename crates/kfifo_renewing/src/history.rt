@@ -46,16 +46,16 @@ impl Gain<Change, u64> for NoGain {
     ghost after = { λ names about answer. ftrue };
 }
 
-/// What a step adds for no generation: a look.
+/// A look which generation is the newest, by the thread that looks.
 pub struct Looking;
 
-impl Plain<(), Change, u64> for Looking {
+impl Plain<u32, Change, u64> for Looking {
     ghost use Rattle.std.specs.Prelude.{None};
     ghost use Rattle.kfifo_renewing.specs.declared.change.Change.TheVariants as C;
 
-    ghost ask = { λ about. C.Look };
+    ghost ask = { λ thread. C.Look thread };
 
-    ghost state = { λ about. None };
+    ghost state = { λ thread. None };
 }
 
 impl Play<Change, u64> for Looking {
@@ -64,10 +64,10 @@ impl Play<Change, u64> for Looking {
     ghost then = { Looks };
 }
 
-/// A step that makes another generation the newest. It tells nothing.
-pub struct Renewing;
+/// A step that tells nothing.
+pub struct Silent;
 
-impl Play<Change, u64> for Renewing {
+impl Play<Change, u64> for Silent {
     ghost then = { λ s v found w. Unit {0} };
 }
 
@@ -126,27 +126,52 @@ impl Numbers {
         ensures book { result.1.book ≡ result.0 }
         ensures first { IsMade result.1.log 0 queue.now.table }
     {
-        let (history, mut pens) = History::open_row::<PayQueue<T>, Numbering>(queue, Start::alone(), 2);
+        let (history, mut pens) = History::open_row::<PayQueue<T>, Numbering>(
+            queue,
+            Start::alone(),
+            2,
+        );
         let newest = Word::tracked(0, &mut pens.take());
         let greatest = Word::tracked(0, &mut pens.take());
         (Numbers { newest, greatest }, history)
     }
 
-    /// The number of the newest generation, as one load finds it.
+    /// The number of the newest generation, as one load of this thread finds it, which is a look.
     #[inline(always)]
-    pub(crate) fn look(&self, history: &mut History) -> u64
+    pub(crate) fn look(&self, thread: u32, history: &mut History) -> u64
         requires { history.old.book ≡ self.now }
         ensures book { history.new.book ≡ history.old.book }
-        ensures newest { NewestWas result history.old.log history.new.log }
+        ensures newest { NewestWas thread result history.old.log history.new.log }
         ensures small { result < 2 ^ 32 }
     {
-        let mut offer: Offer<Change, u64, HistoryRule, NoGain> = history.plain::<NoGain, (), Looking>(&());
+        let mut offer: Offer<Change, u64, HistoryRule, NoGain> = history.plain::<
+            NoGain,
+            u32,
+            Looking,
+        >(&thread);
         self.newest.load::<Looking, NoGain>(history, &mut offer)
+    }
+
+    /// The number of the newest generation, as one load finds it, which is no look.
+    pub(crate) fn peek(&self, history: &mut History) -> u64
+        requires { history.old.book ≡ self.now }
+        ensures { history.new.book ≡ history.old.book }
+    {
+        let mut offer: Offer<Change, u64, HistoryRule, NoGain> = history.plain::<
+            NoGain,
+            u32,
+            Looking,
+        >(&0);
+        self.newest.load::<Silent, NoGain>(history, &mut offer)
     }
 
     /// A number for this queue as a generation, greater than those of all others. Returns None where others take
     /// numbers all the time, or no more are left.
-    pub(crate) fn take_number<T: Drop>(&self, queue: &PayQueue<T>, history: &mut History) -> Option<u32>
+    pub(crate) fn take_number<T: Drop>(
+        &self,
+        queue: &PayQueue<T>,
+        history: &mut History,
+    ) -> Option<u32>
         requires { history.old.book ≡ self.now }
         ensures book { history.new.book ≡ history.old.book }
         ensures made { IfSome result (λ n. IsMade history.new.log n queue.now.table) }
@@ -170,29 +195,39 @@ impl Numbers {
         ensures book { history.new.book ≡ history.old.book }
         ensures made { result + 1 ≡ number → IsMade history.new.log number queue.now.table }
     {
-        let mut offer: Offer<Change, u64, HistoryRule, NoGain> = history.plain::<NoGain, PayQueue<T>, Numbering>(queue);
+        let mut offer: Offer<Change, u64, HistoryRule, NoGain> = history.plain::<
+            NoGain,
+            PayQueue<T>,
+            Numbering,
+        >(queue);
         let mut pen = history.no_pen();
         let new = u64::from(number);
         self.greatest
             .compare_exchange::<Numbering, NoGain>(new - 1, new, history, &mut offer, &mut pen)
     }
 
-    /// Makes the generation with this number the newest, if the newest is that with the number `old`. Returns whether
-    /// it did.
+    /// Makes the generation with this number the newest, if the newest one is that with the number `old`. Returns
+    /// whether it did.
     pub(crate) fn renew(&self, old: u64, number: u32, history: &mut History) -> bool
         requires book { history.old.book ≡ self.now }
         requires made { (table : TableId) × IsMade history.old.log number table }
         ensures book { history.new.book ≡ history.old.book }
     {
-        let mut offer: Offer<Change, u64, HistoryRule, NoGain> = history.plain::<NoGain, (), Looking>(&());
+        let mut offer: Offer<Change, u64, HistoryRule, NoGain> = history.plain::<
+            NoGain,
+            u32,
+            Looking,
+        >(&number);
         let mut pen = history.no_pen();
-        let found = self.newest.compare_exchange::<Renewing, NoGain>(
-            old,
-            u64::from(number),
-            history,
-            &mut offer,
-            &mut pen,
-        );
+        let found = self
+            .newest
+            .compare_exchange::<Silent, NoGain>(
+                old,
+                u64::from(number),
+                history,
+                &mut offer,
+                &mut pen,
+            );
         found == old
     }
 }

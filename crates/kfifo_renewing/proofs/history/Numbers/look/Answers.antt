@@ -1,5 +1,4 @@
 use Rattle.std.proofs.Common.{sym, ap, ◌∙◌}
-use Rattle.kfifo_renewing.specs.declared.change.Change.TheVariants as C
 use Rattle.kfifo_renewing.proofs.Histories.{looks-moves}
 use Rattle.kfifo_renewing.proofs.history.Numbers.look.Goals as goal
 
@@ -10,5 +9,8 @@ load-requires c =
       ap (λ w. w.tracked) h,
       c.requires ∙ sym c.self.view_is,
       offer.0,
-      rw (ap (λ w. w.key) h, offer.3) (looks-moves c.args.history.now.log C.Look),
+      rw (ap (λ w. w.key) h, offer.1, offer.3) (looks-moves c.args.history.now.log c.args.thread),
     )
+
+pub returns-clause-newest : goal.returns-clause-newest
+returns-clause-newest c = c.load.ensures.6.1.0 c.args.thread c.plain-offer.ensures.1
