@@ -42,6 +42,14 @@ pub made-later : (xs ys : List Change) (n : ℕ) (t : TableId) → IsPrefix xs y
 made-later xs ys n t p is =
     subst (λ l. slice_get l n ≡ Some t) (sym (made-append xs p.0) ∙ ap made p.1) (get-first (made xs) (made p.0) n t is)
 
+-- a number has one generation, whichever beginnings of the history two handles have seen
+pub made-once : (xs ys all : List Change) (n m : ℕ) (t u : TableId) → IsPrefix xs all → IsPrefix ys all → IsMade xs n t
+    → IsMade ys m u → n ≡ m → t ≡ u
+made-once xs ys all n m t u p q first second same =
+    let at : IsMade all n t = made-later xs all n t p first in
+    let other : IsMade all n u = subst (λ k. IsMade all k u) (sym same) (made-later ys all m u q second) in
+    cc (at, other)
+
 abbrev pub shown : List Change → List Change
 shown log = []
 

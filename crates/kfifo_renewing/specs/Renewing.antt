@@ -35,7 +35,8 @@ module _ {A : Type 0} where
   IsPartOf part [] = part ≡ []
   IsPartOf part (x ∷ xs) = IsPartOf part xs ⊎ ((rest : List A) × (part ≡ x ∷ rest) × IsPartOf rest xs)
 
--- A generation: its queue, and the number that it has in the history of a renewing queue, of which this beginning was seen
+-- A generation: its queue, and the number that it has in the history of a renewing queue, of which this beginning was
+-- seen
 pub record Numbered : Type 0 where
   pub queue : OpenQueue
   pub number : ℕ
@@ -69,15 +70,39 @@ module _ {T : Type 0} where
 
   -- the handle, once it has seen this much of the history
   abbrev pub with_seen : Generations T → List Change → Generations T
-  with_seen g log = record { opened = g.opened; thread = g.thread; book = g.book; seen = log; older = g.older; newest = g.newest; number = g.number }
+  with_seen g log = record {
+    opened = g.opened;
+    thread = g.thread;
+    book = g.book;
+    seen = log;
+    older = g.older;
+    newest = g.newest;
+    number = g.number;
+  }
 
   -- the handle, with these older generations
   abbrev pub with_older : Generations T → List (PayHeld T) → Generations T
-  with_older g hs = record { opened = g.opened; thread = g.thread; book = g.book; seen = g.seen; older = hs; newest = g.newest; number = g.number }
+  with_older g hs = record {
+    opened = g.opened;
+    thread = g.thread;
+    book = g.book;
+    seen = g.seen;
+    older = hs;
+    newest = g.newest;
+    number = g.number;
+  }
 
   -- the handle, once it has made a call in its newest generation
   abbrev pub with_newest : Generations T → PayHeld T → Generations T
-  with_newest g h = record { opened = g.opened; thread = g.thread; book = g.book; seen = g.seen; older = g.older; newest = h; number = g.number }
+  with_newest g h = record {
+    opened = g.opened;
+    thread = g.thread;
+    book = g.book;
+    seen = g.seen;
+    older = g.older;
+    newest = h;
+    number = g.number;
+  }
 
   -- it is the handle of the same thread in the same queue, and has seen no less of the history
   pub record IsLater (old new : Generations T) : Type 0 where
@@ -96,7 +121,8 @@ module _ {T : Type 0} where
 
   -- At a look of the handle from old to new, another generation was the newest of the queue
   abbrev pub IsBehind : Generations T → Generations T → Type 0
-  IsBehind old new = (number : ℕ) × NewestWas new.thread number old.seen new.seen × (number ≢ new.number) × IsNumbered new
+  IsBehind old new = (number : ℕ) × NewestWas new.thread number old.seen new.seen × (number ≢ new.number)
+      × IsNumbered new
 
   -- A handle follows others: it may leave some generations and join some later ones. Nothing is done in any of them
   abbrev pub Follows : Generations T → Generations T → Type 0
@@ -104,7 +130,8 @@ module _ {T : Type 0} where
 
   -- a handle that has joined one generation alone, the first, of this queue, in this history
   abbrev pub HasOne : OpenQueue → Book → Generations T → Type 0
-  HasOne q book g = (g.opened ≡ q.opened) × (g.book ≡ book) × (g.older ≡ []) × (g.number ≡ 0) × IsPassOf q g.newest.pass.pass
+  HasOne q book g = (g.opened ≡ q.opened) × (g.book ≡ book) × (g.older ≡ []) × (g.number ≡ 0)
+      × IsPassOf q g.newest.pass.pass
 
   -- handles of all threads, in their order, that have joined one generation, the same each, which has this opening, in
   -- one history

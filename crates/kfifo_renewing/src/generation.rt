@@ -131,7 +131,8 @@ fn add_other<T: Drop>(
 }
 
 impl<T: Drop> Generation<T> {
-    /// The generation with this queue, its passes, and the number that it has in the history. No handle gives to it yet.
+    /// The generation with this queue, its passes, and the number that it has in the history. No handle gives to it
+    /// yet.
     pub(crate) fn new(
         alloc: Global,
         queue: PayQueue<T>,

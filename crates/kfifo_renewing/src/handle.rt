@@ -1,5 +1,5 @@
 //! Calls of a renewing queue.
-ghost use Rattle.std.specs.Prelude.{◌≡◌, ◌<◌, ◌^◌, true, List, [], All, IfOk, IfSome, MatchBool, length};
+ghost use Rattle.std.specs.Prelude.{◌≡◌, ◌↔◌, ◌<◌, ◌^◌, true, List, [], All, IfOk, IfSome, MatchBool, length};
 ghost use Rattle.std.specs.Ptr.{as_ptr};
 ghost use mathlib.Core.List.{IsPrefix};
 ghost use Rattle.kfifo_live.specs.Handles.{PayHeld};
@@ -305,7 +305,8 @@ impl<T: Drop> RenewingHandle<T> {
 
     /// Gives a payload to the newest generation, as `PayHandle::give` does.
     ///
-    /// The handle first follows others that have opened a newer one. Each 4,096th call looks at the versions that the
+    /// The handle first follows others that have opened a newer one: its generation then was the newest of the queue at
+    /// a moment of the call. Each 4,096th call looks at the versions that the
     /// generation has left, and opens the next one where they are fewer than the reserve. So does a call that comes to
     /// a generation with no version left, which then tries once more.
     ///
@@ -389,9 +390,9 @@ impl<T: Drop> RenewingHandle<T> {
     /// and into the next one only where it found one empty. It leaves an older one that it found empty when nobody gave
     /// to it any more.
     ///
-    /// Returns Got with the payload, Empty where it found each generation empty, Busy where others changed the queue
-    /// during the call, or opened a generation, or Worn where a generation used up all its versions, its reserve too. It
-    /// never waits or locks, and allocates only where it joins a generation.
+    /// Returns Got with the payload, Empty where it found each generation empty and the newest one was still the newest
+    /// after that, Busy where others changed the queue during the call, or opened a generation, or Worn where a generation
+    /// used up all its versions, its reserve too. It never waits or locks, and allocates only where it joins a generation.
     #[inline(always)]
     pub fn take(&mut self) -> Taken<T>
         ensures { TakesFromOldest result self.old self.new }
@@ -415,6 +416,20 @@ impl<T: Drop> RenewingHandle<T> {
             return None;
         }
         self.older.len().checked_add(1)
+    }
+
+    /// Whether the generation to which this handle gives is that to which another handle of its queue gives, as far as
+    /// they have followed others.
+    pub fn is_beside(&self, other: &RenewingHandle<T>) -> bool
+        requires { other.now.book ≡ self.now.book }
+        ensures number { result ≡ true ↔ (self.now.number ≡ other.now.number) }
+        ensures same { self.now.number ≡ other.now.number
+            → self.now.newest.pass.pass.table ≡ other.now.newest.pass.pass.table }
+    {
+        // What both have seen of the history has one generation at a number.
+        let mut history = self.history.again();
+        history.learn(&other.history);
+        self.number == other.number
     }
 
     /// Where its queue is: the same address for all handles of a queue, and another one for each other queue that is

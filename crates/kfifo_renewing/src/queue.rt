@@ -1,10 +1,11 @@
 //! What the handles of a renewing queue share, its opening and its end.
-ghost use Rattle.std.specs.Prelude.{◌≡◌, ◌<◌, ◌≤◌, ◌++◌, ◌⊎◌, ◌↔◌, All, IfOk, IfSome, IsErrOf, List, [], ◌∷◌, length, map};
-ghost use Rattle.kfifo_live.specs.Schedule.{count_up};
+ghost use Rattle.std.specs.Prelude.{◌≡◌, ◌<◌, ◌≤◌, ◌++◌, ◌⊎◌, ◌↔◌, All, IfOk, IfSome, IsErrOf, List, [], ◌∷◌};
+ghost use Rattle.std.specs.Prelude.{length, map};
+ghost use Rattle.kfifo_live.specs.Pass.{IsPassOf};
 ghost use Rattle.kfifo_live.specs.Payloads.{pay_opening};
+ghost use Rattle.kfifo_live.specs.Schedule.{count_up};
 ghost use Rattle.kfifo_live.specs.declared.fault.OpenFault.TheVariants.{ThreadsOutOfRange, TokensOutOfRange};
 ghost use Rattle.kfifo_renewing.specs.declared.fault.RenewFault.TheVariants.{Open, ReserveOutOfRange};
-ghost use Rattle.kfifo_live.specs.Pass.{IsPassOf};
 ghost use Rattle.kfifo_renewing.specs.declared.places.Lineage.{Lineage};
 ghost use Rattle.kfifo_renewing.specs.Renewing.{ClosesAll, ClosesEach, Generations, HasOne, HaveOne, IsOfLineage};
 ghost use Rattle.kfifo_renewing.specs.Renewing.{IsOpenedAs, WereLeft, opening_of};
