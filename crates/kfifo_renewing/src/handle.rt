@@ -390,9 +390,10 @@ impl<T: Drop> RenewingHandle<T> {
     /// and into the next one only where it found one empty. It leaves an older one that it found empty when nobody gave
     /// to it any more.
     ///
-    /// Returns Got with the payload, Empty where it found each generation empty and the newest one was still the newest
-    /// after that, Busy where others changed the queue during the call, or opened a generation, or Worn where a generation
-    /// used up all its versions, its reserve too. It never waits or locks, and allocates only where it joins a generation.
+    /// Returns Got with the payload; Empty where it found each generation empty, and the newest was still the newest
+    /// after that; Busy where others changed the queue during the call, or opened a generation; or Worn where a
+    /// generation used up all its versions, its reserve too. It never waits or locks, and allocates only where it joins
+    /// a generation.
     #[inline(always)]
     pub fn take(&mut self) -> Taken<T>
         ensures { TakesFromOldest result self.old self.new }
