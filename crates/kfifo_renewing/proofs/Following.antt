@@ -1,16 +1,121 @@
--- A handle that follows others does so step by step.
-use Rattle.std.proofs.Common.{◌≡◌, [], ◌∷◌, ◌++◌, refl, sym, ◌∙◌, subst, append_assoc}
+-- A handle that follows others does so step by step, and sees more of the history.
+use Rattle.std.proofs.Common.{◌≡◌, ◌≢◌, ◌==◌, ◌<◌, ◌^◌, ℕ, Bool, true, false, not, MatchBool, List, [], ◌∷◌, ◌++◌, refl, sym, ap, ◌∙◌, subst, arith, append_assoc}
+use Rattle.std.proofs.lemmas.Bool.Decides.{nat_tests}
 use Rattle.std.proofs.lemmas.List.{append-nil}
-use Rattle.kfifo_renewing.specs.Renewing.{Follows, Generations, IsPartOf, all_of}
-use Rattle.kfifo_renewing.proofs.Parts.{part-append, part-first, part-trans}
+use mathlib.Core.List.{IsPrefix}
+use Rattle.atomic_table.specs.Seated.{TableId}
+use Rattle.logbook.specs.Pages.{Book}
+use Rattle.kfifo_live.specs.Handles.{PayHeld}
+use Rattle.kfifo_live.specs.declared.view.Opening.{Opening}
+use Rattle.kfifo_renewing.specs.declared.change.Change.{Change}
+use Rattle.kfifo_renewing.specs.declared.change.Change.TheVariants as C
+use Rattle.kfifo_renewing.specs.History.{IsMade, NewestWas, newest_of}
+use Rattle.kfifo_renewing.specs.Renewing.{Follows, Generations, IsAtNewest, IsBehind, IsLater, IsPartOf, all_of, with_newest, with_older, with_seen}
+use Rattle.kfifo_renewing.proofs.Histories.{made-later, prefix-trans}
+use Rattle.kfifo_renewing.proofs.Parts.{part-append, part-first, part-refl, part-trans}
+
+-- what a look found between two beginnings was so between a shorter and a longer one
+pub was-before : (t n : ℕ) (a b c : List Change) → IsPrefix a b → NewestWas t n b c → NewestWas t n a c
+was-before t n a b c p (others, more, is, newest) =
+    let same : a ++ (p.0 ++ others) ≡ b ++ others = sym (append_assoc a p.0 others) ∙ ap (λ l. l ++ others) p.1 in
+    (p.0 ++ others, more, is ∙ ap (λ l. l ++ C.Look t ∷ more) (sym same), ap newest_of same ∙ newest)
+
+pub was-after : (t n : ℕ) (a b c : List Change) → NewestWas t n a b → IsPrefix b c → NewestWas t n a c
+was-after t n a b c (others, more, is, newest) p = (
+  others,
+  more ++ p.0,
+  sym p.1 ∙ ap (λ l. l ++ p.0) is ∙ append_assoc (a ++ others) (C.Look t ∷ more) p.0,
+  newest,
+)
+
+pub was-prefix : (t n : ℕ) (a b : List Change) → NewestWas t n a b → IsPrefix a b
+was-prefix t n a b (others, more, is, newest) =
+    (others ++ C.Look t ∷ more, sym (append_assoc a others (C.Look t ∷ more)) ∙ sym is)
+
+-- A look found the number of the newest generation. The handle has the number `seen` while it gives to its newest one
+pub late-or-newest : (found seen number t : ℕ) (old new : List Change) (table : TableId) → NewestWas t found old new
+    → found < 2 ^ 32 → (seen < 2 ^ 32 → seen ≡ number) → IsMade old number table → (b : Bool) → (found == seen) ≡ b
+    → MatchBool (not b) (IsPrefix old new) (NewestWas t number old new × IsMade new number table)
+late-or-newest found seen number t old new table was small is made true e =
+    let same : found ≡ seen = grind (arith, nat_tests) in
+    let here : found ≡ number = same ∙ is (omega (arith, same, small)) in
+    (subst (λ n. NewestWas t n old new) here was, made-later old new number table (was-prefix t found old new was) made)
+late-or-newest found seen number t old new table was small is made false e = was-prefix t found old new was
+
+-- the same, by the number of the handle's newest generation
+pub behind-or-newest : (found number t : ℕ) (old new : List Change) (table : TableId) → NewestWas t found old new
+    → IsMade old number table → (b : Bool) → (found == number) ≡ b
+    → MatchBool (not b) ((n : ℕ) × NewestWas t n old new × (n ≢ number) × IsMade new number table)
+    (NewestWas t number old new × IsMade new number table)
+behind-or-newest found number t old new table was made true e =
+    let same : found ≡ number = grind (arith, nat_tests) in
+    (subst (λ n. NewestWas t n old new) same was, made-later old new number table (was-prefix t found old new was) made)
+behind-or-newest found number t old new table was made false e = (
+  found,
+  was,
+  λ same. grind (arith, nat_tests),
+  made-later old new number table (was-prefix t found old new was) made,
+)
 
 module _ {T : Type 0} where
+  pub later-refl : (g : Generations T) → IsLater g g
+  later-refl g = record { opened = refl; thread = refl; book = refl; seen = ([], append-nil g.seen) }
+
+  pub later-trans : (a b c : Generations T) → IsLater a b → IsLater b c → IsLater a c
+  later-trans a b c p q = record {
+    opened = q.opened ∙ p.opened;
+    thread = q.thread ∙ p.thread;
+    book = q.book ∙ p.book;
+    seen = prefix-trans a.seen b.seen c.seen p.seen q.seen;
+  }
+
+  pub later-seen : (old new : Generations T) (log : List Change) → new ≡ with_seen old log → IsPrefix old.seen log → IsLater old new
+  later-seen old new log is p = record {
+    opened = ap (λ g. g.opened) is;
+    thread = ap (λ g. g.thread) is;
+    book = ap (λ g. g.book) is;
+    seen = subst (IsPrefix old.seen) (sym (ap (λ g. g.seen) is)) p;
+  }
+
+  pub later-newest : (old new : Generations T) (h : PayHeld T) → new ≡ with_newest old h → IsLater old new
+  later-newest old new h is = subst (IsLater old) (sym is)
+      (record { opened = refl; thread = refl; book = refl; seen = ([], append-nil old.seen) })
+
+  pub later-older : (old new : Generations T) (hs : List (PayHeld T)) → new ≡ with_older old hs → IsLater old new
+  later-older old new hs is = subst (IsLater old) (sym is)
+      (record { opened = refl; thread = refl; book = refl; seen = ([], append-nil old.seen) })
+
+  -- a handle that differs in its older generations alone
+  pub same-but-older : {o : Opening} {t : ℕ} {k : Book} {s : List Change} {h : PayHeld T} {n : ℕ} (older : List (PayHeld T)) (b : Generations T)
+      → o ≡ b.opened → t ≡ b.thread → k ≡ b.book → s ≡ b.seen → h ≡ b.newest → n ≡ b.number
+      → record { opened = o; thread = t; book = k; seen = s; older = older; newest = h; number = n } ≡ with_older b older
+  same-but-older older b opened thread book seen newest number = λ i. record {
+    opened = opened i;
+    thread = thread i;
+    book = book i;
+    seen = seen i;
+    older = older;
+    newest = newest i;
+    number = number i;
+  }
+
+  pub seen-more : (mid new : Generations T) (b : Bool) → MatchBool b (IsAtNewest mid new) (IsBehind mid new) → IsPrefix mid.seen new.seen
+  seen-more mid new true at = was-prefix new.thread new.number mid.seen new.seen at.0
+  seen-more mid new false (n, was, other, made) = was-prefix new.thread n mid.seen new.seen was
+
+  -- what a look found later was found later than before that
+  pub both-before : (old mid new : Generations T) → IsPrefix old.seen mid.seen → (b : Bool)
+      → MatchBool b (IsAtNewest mid new) (IsBehind mid new) → MatchBool b (IsAtNewest old new) (IsBehind old new)
+  both-before old mid new p true at = (was-before new.thread new.number old.seen mid.seen new.seen p at.0, at.1)
+  both-before old mid new p false (n, was, other, made) =
+      (n, was-before new.thread n old.seen mid.seen new.seen p was, other, made)
+
   pub follows-refl : (g : Generations T) → Follows g g
-  follows-refl g = (refl, ([], part-first (all_of g) []))
+  follows-refl g = (later-refl g, ([], part-first (all_of g) []))
 
   pub follows-trans : (a b c : Generations T) → Follows a b → Follows b c → Follows a c
   follows-trans a b c (o, (la, p)) (o', (lb, q)) = (
-    o' ∙ o,
+    later-trans a b c o o',
     (
       la ++ lb,
       part-trans (all_of c) (all_of b ++ lb) (all_of a ++ (la ++ lb)) q
@@ -19,9 +124,9 @@ module _ {T : Type 0} where
   )
 
   -- a generation more
-  pub follows-join : (old new : Generations T) → new.opened ≡ old.opened → new.older ≡ all_of old → Follows old new
-  follows-join old new opened older = (
-    opened,
+  pub follows-join : (old new : Generations T) → IsLater old new → new.older ≡ all_of old → Follows old new
+  follows-join old new later older = (
+    later,
     (
       new.newest ∷ [],
       subst (λ l. IsPartOf (l ++ new.newest ∷ []) (all_of old ++ new.newest ∷ [])) (sym older)
@@ -31,10 +136,10 @@ module _ {T : Type 0} where
   )
 
   -- some of the older ones fewer
-  pub follows-less : (old new : Generations T) → new.opened ≡ old.opened → IsPartOf new.older old.older
-      → new.newest ≡ old.newest → Follows old new
-  follows-less old new opened older newest = (
-    opened,
+  pub follows-less : (old new : Generations T) → IsLater old new → IsPartOf new.older old.older → new.newest ≡ old.newest
+      → Follows old new
+  follows-less old new later older newest = (
+    later,
     (
       [],
       part-trans (all_of new) (all_of old) (all_of old ++ [])
@@ -42,3 +147,15 @@ module _ {T : Type 0} where
           (part-append new.older old.older (old.newest ∷ []) older)) (part-first (all_of old) []),
     ),
   )
+
+  -- more of the history was seen
+  pub follows-seen : (old new : Generations T) (log : List Change) → new ≡ with_seen old log → IsPrefix old.seen log → Follows old new
+  follows-seen old new log is p = (
+    later-seen old new log is p,
+    ([], subst (λ (g : Generations T). IsPartOf (all_of g) (all_of old ++ [])) (sym is) (part-first (all_of old) [])),
+  )
+
+  -- a handle that has seen more of the history, and then follows
+  pub follows-after : (a b c : Generations T) → Follows b c → IsLater a b → b.older ≡ a.older → b.newest ≡ a.newest → Follows a c
+  follows-after a b c follows later older newest =
+      follows-trans a b c (follows-less a b later (subst (IsPartOf b.older) older (part-refl b.older)) newest) follows

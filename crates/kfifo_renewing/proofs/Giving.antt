@@ -10,5 +10,5 @@ module _ {T : Type 0} where
   IsWorn answer = ⊥
 
   pub worn-back : (payload back : T) (old new : Generations T) → TriesToGive payload (G.Worn back) old new → back ≡ payload
-  worn-back payload back old new (here, follows, inl gives) = gives.gives.gives.same
-  worn-back payload back old new (here, follows, inr busy) = absurd (subst IsWorn busy.0 tt)
+  worn-back payload back old new (here, follows, inl gives) = gives.1.gives.gives.same
+  worn-back payload back old new (here, follows, inr busy) = absurd (subst IsWorn busy.1 tt)

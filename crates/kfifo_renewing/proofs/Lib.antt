@@ -1,3 +1,4 @@
+pub mod Histories
 pub mod Parts
 pub mod Following
 pub mod Looking

@@ -1,5 +1,7 @@
 -- The generations of a renewing queue, as a handle has joined them, and what its calls do to each.
 use Rattle.std.specs.Prelude.{◌≡◌, ◌≢◌, ◌⊎◌, ◌==◌, ℕ, not, List, [], ◌∷◌, ◌++◌, All, filter, map, Option, Some, None}
+use mathlib.Core.List.{IsPrefix}
+use Rattle.logbook.specs.Pages.{Book}
 use Rattle.kfifo_live.specs.declared.payload.Given.{Given}
 use Rattle.kfifo_live.specs.declared.payload.Given.TheVariants as G
 use Rattle.kfifo_live.specs.declared.payload.Taken.{Taken}
@@ -10,7 +12,10 @@ use Rattle.kfifo_live.specs.Payloads.{PayCloses, PayPassView, pay_opening}
 use Rattle.kfifo_live.specs.Promise.{KeepsPromise}
 use Rattle.kfifo_live.specs.Schedule.{count_up}
 use Rattle.kfifo_live.specs.declared.view.Opening.{Opening}
+use Rattle.kfifo_renewing.specs.History.{IsMade, NewestWas}
+use Rattle.kfifo_renewing.specs.declared.change.Change.{Change}
 use Rattle.kfifo_renewing.specs.declared.generation.Sizes.{Sizes}
+use Rattle.kfifo_renewing.specs.declared.places.Lineage.{Lineage}
 
 -- what each generation of a queue of these sizes is opened with
 abbrev pub opening_of : Sizes → Opening
@@ -30,12 +35,29 @@ module _ {A : Type 0} where
   IsPartOf part [] = part ≡ []
   IsPartOf part (x ∷ xs) = IsPartOf part xs ⊎ ((rest : List A) × (part ≡ x ∷ rest) × IsPartOf rest xs)
 
--- The generations that a handle of a renewing queue has joined: its handle in each. It gives to the newest. The older
--- ones, the oldest first, may still have payloads
+-- A generation: its queue, and the number that it has in the history of a renewing queue, of which this beginning was
+-- seen
+pub record Numbered : Type 0 where
+  pub queue : OpenQueue
+  pub number : ℕ
+  pub book : Book
+  pub seen : List Change
+
+-- it is opened with the sizes of this queue, and has its number in the history of this queue
+abbrev pub IsOfLineage : Lineage → Numbered → Type 0
+IsOfLineage l g = (g.queue.opened ≡ opening_of l.sizes) × (g.book ≡ l.history.book)
+
+-- The generations that the handle of a thread has joined: its handle in each. It gives to the newest, which has this
+-- number. The older ones, the oldest first, may still have payloads. Of the history of the queue, which is that of this
+-- book, it has seen this beginning
 pub record Generations (T : Type 0) : Type 0 where
   pub opened : Opening
+  pub thread : ℕ
+  pub book : Book
+  pub seen : List Change
   pub older : List (PayHeld T)
   pub newest : PayHeld T
+  pub number : ℕ
 
 module _ {T : Type 0} where
   -- a handle in a queue with this opening
@@ -46,31 +68,90 @@ module _ {T : Type 0} where
   abbrev pub all_of : Generations T → List (PayHeld T)
   all_of g = g.older ++ g.newest ∷ []
 
+  -- the handle, once it has seen this much of the history
+  abbrev pub with_seen : Generations T → List Change → Generations T
+  with_seen g log = record {
+    opened = g.opened;
+    thread = g.thread;
+    book = g.book;
+    seen = log;
+    older = g.older;
+    newest = g.newest;
+    number = g.number;
+  }
+
+  -- the handle, with these older generations
+  abbrev pub with_older : Generations T → List (PayHeld T) → Generations T
+  with_older g hs = record {
+    opened = g.opened;
+    thread = g.thread;
+    book = g.book;
+    seen = g.seen;
+    older = hs;
+    newest = g.newest;
+    number = g.number;
+  }
+
+  -- the handle, once it has made a call in its newest generation
+  abbrev pub with_newest : Generations T → PayHeld T → Generations T
+  with_newest g h = record {
+    opened = g.opened;
+    thread = g.thread;
+    book = g.book;
+    seen = g.seen;
+    older = g.older;
+    newest = h;
+    number = g.number;
+  }
+
+  -- it is the handle of the same thread in the same queue, and has seen no less of the history
+  pub record IsLater (old new : Generations T) : Type 0 where
+    pub opened : new.opened ≡ old.opened
+    pub thread : new.thread ≡ old.thread
+    pub book : new.book ≡ old.book
+    pub seen : IsPrefix old.seen new.seen
+
+  -- the newest generation of the handle is the one with its number in the history
+  abbrev pub IsNumbered : Generations T → Type 0
+  IsNumbered g = IsMade g.seen g.number g.newest.pass.pass.table
+
+  -- At a look of the handle from old to new, its newest generation was the newest of the queue
+  abbrev pub IsAtNewest : Generations T → Generations T → Type 0
+  IsAtNewest old new = NewestWas new.thread new.number old.seen new.seen × IsNumbered new
+
+  -- At a look of the handle from old to new, another generation was the newest of the queue
+  abbrev pub IsBehind : Generations T → Generations T → Type 0
+  IsBehind old new = (number : ℕ) × NewestWas new.thread number old.seen new.seen × (number ≢ new.number)
+      × IsNumbered new
+
   -- A handle follows others: it may leave some generations and join some later ones. Nothing is done in any of them
   abbrev pub Follows : Generations T → Generations T → Type 0
-  Follows old new = (new.opened ≡ old.opened) × ((later : List (PayHeld T)) × IsPartOf (all_of new) (all_of old ++ later))
+  Follows old new = IsLater old new × ((later : List (PayHeld T)) × IsPartOf (all_of new) (all_of old ++ later))
 
-  -- a handle that has joined one generation alone, of this queue
-  abbrev pub HasOne : OpenQueue → Generations T → Type 0
-  HasOne q g = (g.opened ≡ q.opened) × (g.older ≡ []) × IsPassOf q g.newest.pass.pass
+  -- a handle that has joined one generation alone, the first, of this queue, in this history
+  abbrev pub HasOne : OpenQueue → Book → Generations T → Type 0
+  HasOne q book g = (g.opened ≡ q.opened) × (g.book ≡ book) × (g.older ≡ []) × (g.number ≡ 0)
+      × IsPassOf q g.newest.pass.pass
 
-  -- handles that have joined one generation, the same each, which has this opening
+  -- handles of all threads, in their order, that have joined one generation, the same each, which has this opening, in
+  -- one history
   abbrev pub HaveOne : Opening → List (Generations T) → Type 0
-  HaveOne o handles = (q : OpenQueue) × (q.opened ≡ o) × All (HasOne q) handles
+  HaveOne o handles = (q : OpenQueue) × (book : Book) × (q.opened ≡ o) × All (HasOne q book) handles
+      × (map (λ g. g.thread) handles ≡ count_up 0 o.threads)
 
   -- one give, to the newest generation, whose promise is then kept. The others stay as they are
   pub record GivesThere (payload : T) (answer : Given T) (old new : Generations T) : Type 0 where
-    pub opened : new.opened ≡ old.opened
-    pub older : new.older ≡ old.older
+    pub others : new ≡ with_newest old new.newest
     pub same : IsSamePass old.newest.pass.pass new.newest.pass.pass
     pub gives : PicksUpAndGives payload answer old.newest new.newest
     pub promise : KeepsPromise new.newest.pass.pass.opened new.newest.pass.pass.seen
 
-  -- a try: the handle follows others, and gives to the newest generation. Where others open new ones all the time it
-  -- returns Busy, and has given to none
+  -- A try: the handle follows others, and gives to its newest generation, which was the newest of the queue at a look
+  -- just before. Busy: it has given to none, and at a look another one was the newest
   abbrev pub TriesToGive : T → Given T → Generations T → Generations T → Type 0
   TriesToGive payload answer old new = (here : Generations T) × Follows old here
-      × (GivesThere payload answer here new ⊎ ((answer ≡ G.Busy payload) × (new ≡ here)))
+      × ((IsAtNewest old here × GivesThere payload answer here new)
+      ⊎ (IsBehind old here × (answer ≡ G.Busy payload) × (new ≡ here)))
 
   -- What `give` did: one try, or a second one where the first came to a generation with no version left
   abbrev pub GivesToNewest : T → Given T → Generations T → Generations T → Type 0
@@ -91,23 +172,30 @@ module _ {T : Type 0} where
       × ((TakesThere K.Empty h after × TakesFirst answer hs afters)
       ⊎ ((taken : Taken T) × (answer ≡ Some taken) × (taken ≢ K.Empty) × TakesThere taken h after × (afters ≡ hs)))
 
+  -- A take from the newest generation. Empty: it found that empty, and at a look after that it was still the newest of
+  -- the queue. Where another one was, Busy stands for Empty
+  pub record TakesNewest (answer : Taken T) (old new : Generations T) : Type 0 where
+    pub taken : Taken T
+    pub takes : TakesThere taken old.newest new.newest
+    pub then : ((taken ≢ K.Empty) × (answer ≡ taken) × (new.seen ≡ old.seen))
+        ⊎ ((taken ≡ K.Empty) × (((answer ≡ K.Empty) × IsAtNewest old new) ⊎ ((answer ≡ K.Busy) × IsBehind old new)))
+
   -- A take from the oldest generation that has a payload: from the newest where each older one was found empty. The
-  -- handle may then leave some of those. Where a new generation was opened meanwhile, Busy stands for Empty
+  -- handle may then leave some of those
   pub record TakesOldest (answer : Taken T) (old new : Generations T) : Type 0 where
-    pub opened : new.opened ≡ old.opened
+    pub later : IsLater old new
+    pub number : new.number ≡ old.number
     pub found : Option (Taken T)
     pub looked : List (PayHeld T)
     pub older : TakesFirst found old.older looked
     pub left : IsPartOf new.older looked
-    pub newest : ((found ≡ Some answer) × (new.newest ≡ old.newest))
-        ⊎ ((found ≡ None) × ((taken : Taken T) × TakesThere taken old.newest new.newest
-        × ((answer ≡ taken) ⊎ ((taken ≡ K.Empty) × (answer ≡ K.Busy)))))
+    pub newest : ((found ≡ Some answer) × (new.newest ≡ old.newest)) ⊎ ((found ≡ None) × TakesNewest answer old new)
 
-  -- What `take` did: the handle follows others, and takes. Where others open new generations all the time it returns
-  -- Busy, and has taken from none
+  -- What `take` did: the handle follows others to the generation that was the newest of the queue at a look, and takes.
+  -- Busy: it has taken from none, and at a look another one than its newest was the newest
   abbrev pub TakesFromOldest : Taken T → Generations T → Generations T → Type 0
   TakesFromOldest answer old new = (here : Generations T) × Follows old here
-      × (TakesOldest answer here new ⊎ ((answer ≡ K.Busy) × (new ≡ here)))
+      × ((IsAtNewest old here × TakesOldest answer here new) ⊎ (IsBehind old here × (answer ≡ K.Busy) × (new ≡ here)))
 
   -- What a close of a generation returned: by the pass of this handle, and the passes of all other threads
   pub record WereLeft (h : PayHeld T) (payloads : List T) : Type 0 where
@@ -123,7 +211,8 @@ module _ {T : Type 0} where
   ClosesEach (h ∷ hs) payloads = (first : List T) × (rest : List T) × (payloads ≡ first ++ rest) × WereLeft h first
       × ClosesEach hs rest
 
-  -- What a close returned by its last handle: the handle followed others, and each of its generations was closed, the
-  -- oldest first
+  -- What a close returned by its last handle: the handle followed others to the generation that was the newest of the
+  -- queue at a look, and each of its generations was closed, the oldest first
   abbrev pub ClosesAll : Generations T → List T → Type 0
-  ClosesAll last payloads = (here : Generations T) × Follows last here × ClosesEach (all_of here) payloads
+  ClosesAll last payloads = (here : Generations T) × Follows last here × IsAtNewest last here
+      × ClosesEach (all_of here) payloads

@@ -1,11 +1,13 @@
 //! A generation: a queue of payloads, with the passes that wait in it for their threads.
 ghost use Rattle.std.specs.Prelude.{◌≡◌, ◌<◌, ◌≤◌, ◌+◌, ◌++◌, [], ◌∷◌, All, IfOk, IfSome, length, map, vec_capacity};
-ghost use Rattle.kfifo_live.specs.Pass.{IsPassOf, OpenQueue};
-ghost use Rattle.kfifo_renewing.specs.Renewing.{opening_of, other_threads, without};
+ghost use Rattle.kfifo_live.specs.Pass.{IsPassOf};
+ghost use Rattle.kfifo_renewing.specs.History.{IsMade};
+ghost use Rattle.kfifo_renewing.specs.Renewing.{Numbered, other_threads, without};
 
 use crate::exclusive::Exclusive;
+use crate::history::History;
 use counted_slot::{Counted, FREE, Fits, TAKEN};
-use kfifo_live::{CloseFault, OpenFault, PayPass, PayQueue};
+use kfifo_live::{CloseFault, PayPass, PayQueue};
 use kfifo_words::Shape;
 use std::alloc::{AllocError, Global};
 use std::marker::Model;
@@ -54,21 +56,23 @@ impl<T: Drop> Fits for Waiting<T> {
 
 /// A queue of payloads with its number, the passes that wait in it, and how many handles may give to it.
 ///
-/// Clauses see it as its queue.
+/// Clauses see it as its queue and its number, with a beginning of the history, in which it has that number.
 #[derive(Drop)]
 pub(crate) struct Generation<T: Drop> {
     queue: PayQueue<T>,
     number: u32,
+    history: History,
     waiting: Vec<Counted<Option<Waiting<T>>>>,
     givers: AtomicU64,
 }
 
 impl<T: Drop> Model for Generation<T> {
-    ghost Value = { OpenQueue };
+    ghost Value = { Numbered };
 
-    ghost view = { λ g. g.queue };
+    ghost view = { λ g. record { queue = g.queue; number = g.number; book = g.history.book; seen = g.history.log } };
 
-    ghost invariant = { λ g. All (λ queue. queue ≡ g.queue) g.waiting.items };
+    ghost invariant = { λ g. All (λ queue. queue ≡ g.queue) g.waiting.items
+        × IsMade g.history.log g.number g.queue.table };
 }
 
 /// A place for each of these passes, in which it waits, in their order.
@@ -127,24 +131,24 @@ fn add_other<T: Drop>(
 }
 
 impl<T: Drop> Generation<T> {
-    /// A new generation with this number, to which no handle gives yet.
-    pub(crate) fn open(
+    /// The generation with this queue, its passes, and the number that it has in the history. No handle gives to it
+    /// yet.
+    pub(crate) fn new(
         alloc: Global,
-        sizes: &Sizes,
+        queue: PayQueue<T>,
+        passes: Vec<PayPass<T>>,
         number: u32,
-    ) -> Result<Generation<T>, OpenFault>
-        ensures { IfOk result (λ g. g.opened ≡ opening_of sizes.now) }
+        history: History,
+    ) -> Result<Generation<T>, AllocError>
+        requires passes { All (λ p. IsPassOf queue p.pass) passes.items }
+        requires number { IsMade history.log number queue.table }
+        ensures { IfOk result (λ g. (g.queue ≡ queue) × (g.number ≡ number) × (g.book ≡ history.book)) }
     {
-        let (queue, passes) = PayQueue::open_with_pool(
-            alloc,
-            sizes.shape,
-            sizes.threads,
-            sizes.tokens,
-        )?;
         let waiting = seat_all(alloc, &queue, passes)?;
         Ok(Generation {
             queue,
             number,
+            history,
             waiting,
             givers: AtomicU64::new(0),
         })
@@ -153,19 +157,29 @@ impl<T: Drop> Generation<T> {
     /// The queue.
     #[inline(always)]
     pub(crate) fn queue(&self) -> &PayQueue<T>
-        ensures { result.now ≡ self.now }
+        ensures { result.now ≡ self.now.queue }
     {
         &self.queue
     }
 
     /// The number.
-    pub(crate) fn number(&self) -> u32 {
+    pub(crate) fn number(&self) -> u32
+        ensures { result ≡ self.now.number }
+    {
         self.number
+    }
+
+    /// What its maker had seen of the history.
+    pub(crate) fn history(&self) -> &History
+        ensures book { result.now.book ≡ self.now.book }
+        ensures made { IsMade result.now.log self.now.number self.now.queue.table }
+    {
+        &self.history
     }
 
     /// The pass of this thread, unless its thread has it already.
     pub(crate) fn take_pass(&self, thread: u32) -> Option<PayPass<T>>
-        ensures { IfSome result (λ p. IsPassOf self.now p.pass) }
+        ensures { IfSome result (λ p. IsPassOf self.now.queue p.pass) }
     {
         let place = self.waiting.get(thread as usize)?;
         let (found, claim) = place.turn(FREE, TAKEN);
@@ -179,7 +193,7 @@ impl<T: Drop> Generation<T> {
 
     /// Lets the pass of this thread wait here again.
     pub(crate) fn give_back(&self, thread: u32, pass: PayPass<T>)
-        requires { IsPassOf self.now pass.pass }
+        requires { IsPassOf self.now.queue pass.pass }
     {
         let Some(place) = self.waiting.get(thread as usize) else {
             return;
@@ -214,8 +228,8 @@ impl<T: Drop> Generation<T> {
         threads: u32,
         own: u32,
     ) -> Result<(PayQueue<T>, Vec<PayPass<T>>), CloseFault>
-        ensures queue { IfOk result (λ r. r.0 ≡ self) }
-        ensures of { IfOk result (λ r. All (λ p. IsPassOf self p.pass) r.1.items) }
+        ensures queue { IfOk result (λ r. r.0 ≡ self.queue) }
+        ensures of { IfOk result (λ r. All (λ p. IsPassOf self.queue p.pass) r.1.items) }
         ensures others { IfOk result (λ r. map (λ p. p.pass.thread) r.1.items ≡ other_threads own threads) }
     {
         let Generation { queue, waiting, .. } = self;

@@ -1,13 +1,17 @@
 //! Calls of a renewing queue.
-ghost use Rattle.std.specs.Prelude.{◌≡◌, ◌⊎◌, List, [], All, IfOk, IfSome, length};
+ghost use Rattle.std.specs.Prelude.{◌≡◌, ◌↔◌, ◌<◌, ◌^◌, true, List, [], All, IfOk, IfSome, MatchBool, length};
 ghost use Rattle.std.specs.Ptr.{as_ptr};
+ghost use mathlib.Core.List.{IsPrefix};
 ghost use Rattle.kfifo_live.specs.Handles.{PayHeld};
-ghost use Rattle.kfifo_renewing.specs.Renewing.{Follows, Generations, GivesToNewest, IsOpenedAs, IsPartOf, all_of};
-ghost use Rattle.kfifo_renewing.specs.Renewing.{TakesFirst, TakesFromOldest, TakesOldest, TakesThere, TriesToGive, opening_of};
+ghost use Rattle.kfifo_renewing.specs.History.{IsMade, NewestWas};
+ghost use Rattle.kfifo_renewing.specs.Renewing.{Follows, Generations, GivesToNewest, IsAtNewest, IsBehind, IsLater};
+ghost use Rattle.kfifo_renewing.specs.Renewing.{IsOpenedAs, IsPartOf, TakesFirst, TakesFromOldest, TakesNewest};
+ghost use Rattle.kfifo_renewing.specs.Renewing.{TakesOldest, TriesToGive, all_of, opening_of, with_older, with_seen};
 
+use crate::history::History;
 use crate::joined::Joined;
 use crate::leaving::Leaving;
-use crate::queue::Shared;
+use crate::queue::{FIRST, Shared};
 use kfifo_live::{Given, Taken};
 use std::alloc::{AllocError, Global};
 use std::marker::Model;
@@ -15,7 +19,7 @@ use std::mem::replace;
 use std::sync::Arc;
 
 /// The number of no generation.
-const NONE: u64 = 0;
+const NONE: u64 = u64::MAX;
 
 /// How often a handle tries to follow others to a generation that is newer still.
 const TRIES: u32 = 64;
@@ -35,11 +39,15 @@ const TRIES: u32 = 64;
 /// let left = close(alloc, vec![in alloc; giver, taker]?)?; // the payloads that are left: none
 /// ```
 ///
-/// Clauses see it as the generations that it has joined: its handle in each.
+/// Clauses see it as the generations that it has joined, its handle in each, and what it has seen of the history of the
+/// queue: which generations were made, and which became the newest.
 #[derive(Drop)]
 pub struct RenewingHandle<T: Drop> {
     shared: Arc<Shared<T>, Global>,
+    history: History,
     newest: Leaving<Joined<T>>,
+    /// The number of that.
+    number: u32,
     /// The generations before it that may still have payloads, the oldest first.
     older: Vec<Leaving<Joined<T>>>,
     thread: u32,
@@ -52,10 +60,21 @@ pub struct RenewingHandle<T: Drop> {
 impl<T: Drop> Model for RenewingHandle<T> {
     ghost Value = { Generations T };
 
-    ghost view = { λ h. record { opened = opening_of h.shared.value; older = h.older.items; newest = h.newest } };
+    ghost view = { λ h. record {
+      opened = opening_of h.shared.value.sizes;
+      thread = h.thread;
+      book = h.history.book;
+      seen = h.history.log;
+      older = h.older.items;
+      newest = h.newest;
+      number = h.number;
+    } };
 
-    ghost invariant = { λ h. IsOpenedAs (opening_of h.shared.value) h.newest
-        × All (IsOpenedAs (opening_of h.shared.value)) h.older.items };
+    ghost invariant = { λ h. IsOpenedAs (opening_of h.shared.value.sizes) h.newest
+        × All (IsOpenedAs (opening_of h.shared.value.sizes)) h.older.items
+        × (h.history.book ≡ h.shared.value.history.book)
+        × IsMade h.history.log h.number h.newest.pass.pass.table
+        × (h.seen < 2 ^ 32 → h.seen ≡ h.number) };
 }
 
 impl<T: Drop> RenewingHandle<T> {
@@ -63,22 +82,28 @@ impl<T: Drop> RenewingHandle<T> {
     pub(crate) fn new(
         alloc: Global,
         shared: Arc<Shared<T>, Global>,
+        history: History,
         mut newest: Leaving<Joined<T>>,
         thread: u32,
     ) -> Result<RenewingHandle<T>, AllocError>
-        requires { IsOpenedAs (opening_of shared.value) newest }
-        ensures { IfOk result (λ h. (h.opened ≡ opening_of shared.value) × (h.older ≡ []) × (h.newest ≡ newest)) }
+        requires opened { IsOpenedAs (opening_of shared.value.sizes) newest }
+        requires book { history.book ≡ shared.value.history.book }
+        requires first { IsMade history.log 0 newest.pass.pass.table }
+        ensures same { IfOk result (λ h. (h.opened ≡ opening_of shared.value.sizes) × (h.thread ≡ thread)
+            × (h.book ≡ history.book)) }
+        ensures one { IfOk result (λ h. (h.older ≡ []) × (h.newest ≡ newest) × (h.number ≡ 0)) }
     {
         let older = Vec::with_capacity(alloc, shared.places().count())?;
         newest.start_giving();
         let gives_between_looks = shared.gives_between_looks();
-        let seen = shared.newest();
         Ok(RenewingHandle {
             shared,
+            history,
             newest,
+            number: FIRST,
             older,
             thread,
-            seen,
+            seen: u64::from(FIRST),
             gives_left: gives_between_looks,
             gives_between_looks,
         })
@@ -86,8 +111,21 @@ impl<T: Drop> RenewingHandle<T> {
 
     /// Whether a generation has been opened that this handle has not joined.
     #[inline(always)]
-    fn is_late(&self) -> bool {
-        self.shared.newest() != self.seen
+    fn is_late(&mut self) -> bool
+        ensures same { self.new ≡ with_seen self.old self.new.seen }
+        ensures newest { MatchBool result (IsPrefix self.old.seen self.new.seen) (IsAtNewest self.old self.new) }
+    {
+        let found = self.shared.numbers().look(self.thread, &mut self.history);
+        found != self.seen
+    }
+
+    /// Whether another generation than the one that the handle joined last is the newest of the queue.
+    fn is_behind(&mut self) -> bool
+        ensures same { self.new ≡ with_seen self.old self.new.seen }
+        ensures newest { MatchBool result (IsBehind self.old self.new) (IsAtNewest self.old self.new) }
+    {
+        let found = self.shared.numbers().look(self.thread, &mut self.history);
+        found != u64::from(self.number)
     }
 
     /// Joins the generation with this number at this place, which is then the newest one of the handle.
@@ -100,31 +138,30 @@ impl<T: Drop> RenewingHandle<T> {
         if self.older.reserve(1).is_err() {
             return false;
         }
+        self.history.learn(generation.history());
+        let number = generation.number();
         let Some(joined) = Joined::join(generation, place, self.thread) else {
             return false;
         };
+        self.seen = NONE;
+        self.number = number;
         let before = replace(&mut self.newest, joined);
         self.older.push_reserved(before);
         true
     }
 
-    /// Joins each generation up to the one with this number. Returns whether that one was there.
-    fn join_up_to(&mut self, number: u64) -> bool
+    /// Joins each generation up to the one with this number, if all are there.
+    fn join_up_to(&mut self, number: u64)
         ensures { Follows self.old self.new }
     {
         for _ in 0..TRIES {
-            let Some((place, next)) = self
-                .shared
-                .places()
-                .next_after(self.newest.number(), number)
-            else {
+            let Some((place, next)) = self.shared.places().next_after(self.number, number) else {
                 break;
             };
             if !self.join(place, next) {
                 break;
             }
         }
-        u64::from(self.newest.number()) == number
     }
 
     /// Stops giving to the generation that is the newest one of the handle.
@@ -138,9 +175,8 @@ impl<T: Drop> RenewingHandle<T> {
     /// Leaves those of the older generations that are gone from their places: nobody gives to them any more, and they
     /// were found empty.
     fn leave_gone(&mut self)
-        ensures opened { self.new.opened ≡ self.old.opened }
+        ensures same { self.new ≡ with_older self.old self.new.older }
         ensures older { IsPartOf self.new.older self.old.older }
-        ensures newest { self.new.newest ≡ self.old.newest }
     {
         let mut index = 0;
         while index < self.older.len() {
@@ -158,35 +194,38 @@ impl<T: Drop> RenewingHandle<T> {
     fn oldest(&self) -> u32 {
         match self.older.first() {
             Some(joined) => joined.number(),
-            None => self.newest.number(),
+            None => self.number,
         }
     }
 
     /// Counts the handle among those that give to the generation that it joined last, if that one is still the newest
-    /// of the queue, with this number. Returns whether it is.
-    fn give_to(&mut self, number: u64) -> bool
-        ensures { self.new ≡ self.old }
+    /// of the queue. Returns whether it is.
+    fn start_giving(&mut self) -> bool
+        ensures same { self.new ≡ with_seen self.old self.new.seen }
+        ensures newest { MatchBool result (IsAtNewest self.old self.new) (IsBehind self.old self.new) }
     {
         // Who sees the number risen and then nobody that gives takes the generation for over: so count first.
         self.newest.start_giving();
-        if self.shared.newest() == number {
-            self.seen = number;
-            return true;
+        if self.is_behind() {
+            self.newest.stop_giving();
+            return false;
         }
-        self.newest.stop_giving();
-        false
+        self.seen = u64::from(self.number);
+        true
     }
 
     /// Joins each generation up to the one that is the newest now, and gives to that. Returns false where it could not,
     /// or another one was the newest meanwhile.
     fn try_to_follow(&mut self) -> bool
-        ensures { Follows self.old self.new }
+        ensures follows { Follows self.old self.new }
+        ensures newest { MatchBool result (IsAtNewest self.old self.new) (IsBehind self.old self.new) }
     {
-        let number = self.shared.newest();
-        if !self.join_up_to(number) {
+        let number = self.shared.numbers().look(self.thread, &mut self.history);
+        self.join_up_to(number);
+        if u64::from(self.number) != number {
             return false;
         }
-        self.give_to(number)
+        self.start_giving()
     }
 
     /// Joins the newest generation, and each before it that the handle has not joined. Returns false where it did not
@@ -194,17 +233,18 @@ impl<T: Drop> RenewingHandle<T> {
     #[cold]
     #[inline(never)]
     fn follow(&mut self) -> bool
-        ensures { Follows self.old self.new }
+        ensures follows { Follows self.old self.new }
+        ensures newest { MatchBool result (IsAtNewest self.old self.new) (IsBehind self.old self.new) }
     {
         self.stop_giving();
         self.leave_gone();
         self.shared.places().retire_below(self.oldest());
-        for _ in 0..TRIES {
+        for _ in 1..TRIES {
             if self.try_to_follow() {
                 return true;
             }
         }
-        false
+        self.try_to_follow()
     }
 
     /// Looks at the versions that the newest generation has left, and opens the next one where they are too few.
@@ -222,7 +262,8 @@ impl<T: Drop> RenewingHandle<T> {
     /// Follows others if they have opened a generation. Returns false where it did not come to that.
     #[inline(always)]
     fn keep_up(&mut self) -> bool
-        ensures { Follows self.old self.new }
+        ensures follows { Follows self.old self.new }
+        ensures newest { MatchBool result (IsAtNewest self.old self.new) (IsBehind self.old self.new) }
     {
         if self.is_late() {
             return self.follow();
@@ -264,7 +305,8 @@ impl<T: Drop> RenewingHandle<T> {
 
     /// Gives a payload to the newest generation, as `PayHandle::give` does.
     ///
-    /// The handle first follows others that have opened a newer one. Each 4,096th call looks at the versions that the
+    /// The handle first follows others that have opened a newer one: its generation then was the newest of the queue at
+    /// a moment of the call. Each 4,096th call looks at the versions that the
     /// generation has left, and opens the next one where they are fewer than the reserve. So does a call that comes to
     /// a generation with no version left, which then tries once more.
     ///
@@ -287,10 +329,9 @@ impl<T: Drop> RenewingHandle<T> {
     #[cold]
     #[inline(never)]
     fn take_older(&mut self) -> Option<Taken<T>>
-        ensures opened { self.new.opened ≡ self.old.opened }
+        ensures same { self.new ≡ with_older self.old self.new.older }
         ensures takes { (looked : List (PayHeld T)) × TakesFirst result self.old.older looked
             × IsPartOf self.new.older looked }
-        ensures newest { self.new.newest ≡ self.old.newest }
     {
         let taken = take_first(self.older.as_mut_slice());
         for joined in self.older.iter() {
@@ -305,15 +346,14 @@ impl<T: Drop> RenewingHandle<T> {
     /// Takes from the newest generation, where each older one is empty.
     #[inline(always)]
     fn take_newest(&mut self) -> Taken<T>
-        ensures opened { self.new.opened ≡ self.old.opened }
-        ensures older { self.new.older ≡ self.old.older }
-        ensures takes { (taken : Taken T) × TakesThere taken self.old.newest self.new.newest
-            × ((result ≡ taken) ⊎ ((taken ≡ Taken.Empty) × (result ≡ Taken.Busy))) }
+        ensures later { IsLater self.old self.new }
+        ensures same { (self.new.older ≡ self.old.older) × (self.new.number ≡ self.old.number) }
+        ensures takes { TakesNewest result self.old self.new }
     {
         let taken = self.newest.take();
         if let Taken::Empty = taken {
             // A value may lie in the generation that others have opened meanwhile.
-            if self.is_late() {
+            if self.is_behind() {
                 return Taken::Busy;
             }
         }
@@ -350,9 +390,10 @@ impl<T: Drop> RenewingHandle<T> {
     /// and into the next one only where it found one empty. It leaves an older one that it found empty when nobody gave
     /// to it any more.
     ///
-    /// Returns Got with the payload, Empty where it found each generation empty, Busy where others changed the queue
-    /// during the call, or opened a generation, or Worn where a generation used up all its versions, its reserve too. It
-    /// never waits or locks, and allocates only where it joins a generation.
+    /// Returns Got with the payload; Empty where it found each generation empty, and the newest was still the newest
+    /// after that; Busy where others changed the queue during the call, or opened a generation; or Worn where a
+    /// generation used up all its versions, its reserve too. It never waits or locks, and allocates only where it joins
+    /// a generation.
     #[inline(always)]
     pub fn take(&mut self) -> Taken<T>
         ensures { TakesFromOldest result self.old self.new }
@@ -370,11 +411,26 @@ impl<T: Drop> RenewingHandle<T> {
     pub fn generations(&mut self) -> Option<usize>
         ensures follows { Follows self.old self.new }
         ensures count { IfSome result (λ n. n ≡ length (all_of self.new)) }
+        ensures newest { IfSome result (λ n. IsAtNewest self.old self.new) }
     {
         if !self.keep_up() {
             return None;
         }
         self.older.len().checked_add(1)
+    }
+
+    /// Whether the generation to which this handle gives is that to which another handle of its queue gives, as far as
+    /// they have followed others.
+    pub fn is_beside(&self, other: &RenewingHandle<T>) -> bool
+        requires { other.now.book ≡ self.now.book }
+        ensures number { result ≡ true ↔ (self.now.number ≡ other.now.number) }
+        ensures same { self.now.number ≡ other.now.number
+            → self.now.newest.pass.pass.table ≡ other.now.newest.pass.pass.table }
+    {
+        // What both have seen of the history has one generation at a number.
+        let mut history = self.history.again();
+        history.learn(&other.history);
+        self.number == other.number
     }
 
     /// Where its queue is: the same address for all handles of a queue, and another one for each other queue that is
@@ -387,9 +443,9 @@ impl<T: Drop> RenewingHandle<T> {
     pub(crate) fn into_joined(
         self,
     ) -> Result<(Arc<Shared<T>, Global>, Vec<Leaving<Joined<T>>>), AllocError>
-        ensures shared { IfOk result (λ r. opening_of r.0.value ≡ self.opened) }
+        ensures shared { IfOk result (λ r. opening_of r.0.value.sizes ≡ self.opened) }
         ensures joined { IfOk result (λ r. r.1.items ≡ all_of self) }
-        ensures of { IfOk result (λ r. All (IsOpenedAs (opening_of r.0.value)) r.1.items) }
+        ensures of { IfOk result (λ r. All (IsOpenedAs (opening_of r.0.value.sizes)) r.1.items) }
     {
         let Self {
             shared,

@@ -32,7 +32,7 @@ impl<T: Drop> Model for Joined<T> {
 
     ghost view = { λ j. j.handle };
 
-    ghost invariant = { λ j. IsPassOf j.generation.value j.handle.pass.pass };
+    ghost invariant = { λ j. IsPassOf j.generation.value.queue j.handle.pass.pass };
 }
 
 impl<T: Drop> Joined<T> {
@@ -42,7 +42,7 @@ impl<T: Drop> Joined<T> {
         place: usize,
         thread: u32,
     ) -> Option<Leaving<Joined<T>>>
-        ensures { IfSome result (λ j. IsPassOf generation.value j.pass.pass) }
+        ensures { IfSome result (λ j. IsPassOf generation.value.queue j.pass.pass) }
     {
         let pass = generation.take_pass(thread)?;
         let handle = PayHandle::new(generation.queue(), pass);
@@ -70,7 +70,7 @@ impl<T: Drop> Joined<T> {
     /// The part in the generation, and the pass.
     pub(crate) fn into_parts(self) -> (Arc<Generation<T>, Global>, PayPass<T>)
         ensures pass { result.1 ≡ self.pass }
-        ensures of { IsPassOf result.0.value result.1.pass }
+        ensures of { IsPassOf result.0.value.queue result.1.pass }
     {
         let Joined {
             generation,

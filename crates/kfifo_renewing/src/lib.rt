@@ -2,10 +2,12 @@
 //! before it while that has versions left.
 #![tactic(auto)]
 
+mod change;
 mod exclusive;
 mod fault;
 mod generation;
 mod handle;
+mod history;
 mod joined;
 mod leaving;
 mod places;

@@ -3,10 +3,11 @@
 //! A place has a word, which says whether a generation is there, its number and how many readers look at it.
 ghost use Rattle.std.specs.Prelude.{◌≡◌, ◌≢◌, ◌<◌, ◌≤◌, ◌+◌, ◌%◌, ◌^◌, All, IfOk, IfSome, length};
 ghost use Rattle.counted_slot.specs.Counting.{readers};
-ghost use Rattle.kfifo_renewing.specs.declared.generation.Sizes.{Sizes};
-ghost use Rattle.kfifo_renewing.specs.Renewing.{opening_of};
+ghost use Rattle.kfifo_renewing.specs.declared.places.Lineage.{Lineage};
+ghost use Rattle.kfifo_renewing.specs.Renewing.{IsOfLineage};
 
 use crate::generation::{Generation, Sizes};
+use crate::history::History;
 use counted_slot::{Claim, Counted, FREE, Fits, MARKED, MOST_READERS, ONE_READER, PRESENT, TAKEN};
 use std::alloc::{AllocError, Global};
 use std::marker::Model;
@@ -15,6 +16,14 @@ use std::sync::Arc;
 /// How often a step on a word is tried that other threads change meanwhile.
 const TRIES: u32 = 1_024;
 
+/// What the generations of a queue have in common: what each is opened with, and the history in which they have their
+/// numbers.
+#[derive(Drop)]
+pub struct Lineage {
+    pub sizes: Sizes,
+    pub history: History,
+}
+
 /// A generation that the place shares with those that found it there.
 #[derive(Drop)]
 pub(crate) struct Held<T: Drop> {
@@ -22,24 +31,24 @@ pub(crate) struct Held<T: Drop> {
 }
 
 impl<T: Drop> Fits for Held<T> {
-    type Tag = Sizes;
+    type Tag = Lineage;
 
-    ghost fits = { λ sizes held. held.generation.value.opened ≡ opening_of sizes };
+    ghost fits = { λ lineage held. IsOfLineage lineage held.generation.value };
 }
 
 /// The places of a queue's generations.
 #[derive(Drop)]
 pub(crate) struct Places<T: Drop> {
     places: Vec<Counted<Option<Held<T>>>>,
-    pub(crate) sizes: Sizes,
+    pub(crate) lineage: Lineage,
 }
 
 impl<T: Drop> Model for Places<T> {
-    ghost Value = { Sizes };
+    ghost Value = { Lineage };
 
-    ghost view = { λ p. p.sizes };
+    ghost view = { λ p. p.lineage };
 
-    ghost invariant = { λ p. All (λ sizes. sizes ≡ p.sizes) p.places.items };
+    ghost invariant = { λ p. All (λ lineage. lineage ≡ p.lineage) p.places.items };
 }
 
 fn number_in(word: u64) -> u32 {
@@ -60,14 +69,18 @@ fn readers_in(word: u64) -> u64
 
 impl<T: Drop> Places<T> {
     /// So many empty places.
-    pub(crate) fn new(alloc: Global, sizes: Sizes, count: usize) -> Result<Places<T>, AllocError>
-        ensures { IfOk result (λ p. p ≡ sizes) }
+    pub(crate) fn new(
+        alloc: Global,
+        lineage: Lineage,
+        count: usize,
+    ) -> Result<Places<T>, AllocError>
+        ensures { IfOk result (λ p. p ≡ lineage) }
     {
         let mut places = Vec::with_capacity(alloc, count)?;
         for _ in 0..count {
-            places.push(Counted::new(None, &sizes))?;
+            places.push(Counted::new(None, &lineage))?;
         }
-        Ok(Places { places, sizes })
+        Ok(Places { places, lineage })
     }
 
     /// How many places there are.
@@ -83,7 +96,7 @@ impl<T: Drop> Places<T> {
     /// Puts a generation with this number into an empty place, which it returns. It drops the generation, and returns
     /// None, where there is none.
     pub(crate) fn put(&self, number: u32, generation: Arc<Generation<T>, Global>) -> Option<usize>
-        requires { generation.value.opened ≡ opening_of self.now }
+        requires { IsOfLineage self.now generation.value }
     {
         for index in 0..self.places.len() {
             let (found, claim) = self.places[index].turn(FREE, TAKEN);
@@ -137,7 +150,7 @@ impl<T: Drop> Places<T> {
 
     /// The generation with this number at this place, if it is still there.
     pub(crate) fn read(&self, index: usize, number: u32) -> Option<Arc<Generation<T>, Global>>
-        ensures { IfSome result (λ g. g.value.opened ≡ opening_of self.now) }
+        ensures { IfSome result (λ g. IsOfLineage self.now g.value) }
     {
         let place = self.places.get(index)?;
         for _ in 0..TRIES {

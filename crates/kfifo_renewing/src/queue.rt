@@ -1,26 +1,28 @@
 //! What the handles of a renewing queue share, its opening and its end.
-ghost use Rattle.std.specs.Prelude.{◌≡◌, ◌<◌, ◌≤◌, ◌++◌, ◌⊎◌, ◌↔◌, All, IfOk, IfSome, IsErrOf, List, [], ◌∷◌, length};
+ghost use Rattle.std.specs.Prelude.{◌≡◌, ◌<◌, ◌≤◌, ◌++◌, ◌⊎◌, ◌↔◌, All, IfOk, IfSome, IsErrOf, List, [], ◌∷◌};
+ghost use Rattle.std.specs.Prelude.{length, map};
+ghost use Rattle.kfifo_live.specs.Pass.{IsPassOf};
 ghost use Rattle.kfifo_live.specs.Payloads.{pay_opening};
+ghost use Rattle.kfifo_live.specs.Schedule.{count_up};
 ghost use Rattle.kfifo_live.specs.declared.fault.OpenFault.TheVariants.{ThreadsOutOfRange, TokensOutOfRange};
 ghost use Rattle.kfifo_renewing.specs.declared.fault.RenewFault.TheVariants.{Open, ReserveOutOfRange};
-ghost use Rattle.kfifo_renewing.specs.declared.generation.Sizes.{Sizes};
-ghost use Rattle.kfifo_renewing.specs.Renewing.{ClosesAll, ClosesEach, Generations, HasOne, HaveOne, IsOpenedAs};
-ghost use Rattle.kfifo_renewing.specs.Renewing.{WereLeft, opening_of};
+ghost use Rattle.kfifo_renewing.specs.declared.places.Lineage.{Lineage};
+ghost use Rattle.kfifo_renewing.specs.Renewing.{ClosesAll, ClosesEach, Generations, HasOne, HaveOne, IsOfLineage};
+ghost use Rattle.kfifo_renewing.specs.Renewing.{IsOpenedAs, WereLeft, opening_of};
 
 use crate::fault::RenewFault;
 use crate::generation::{Generation, Sizes};
 use crate::handle::RenewingHandle;
+use crate::history::{History, Numbers};
 use crate::joined::Joined;
 use crate::leaving::Leaving;
-use crate::places::Places;
-use kfifo_live::{CloseFault, MAX_TOKENS, OpenFault};
+use crate::places::{Lineage, Places};
+use kfifo_live::{CloseFault, MAX_TOKENS, OpenFault, PayPass, PayQueue};
 use kfifo_model::MAX_THREADS;
 use kfifo_words::Shape;
 use std::alloc::{AllocError, Global};
 use std::marker::Model;
 use std::sync::Arc;
-use std::sync::atomic::AtomicU64;
-use std::sync::atomic::Ordering::SeqCst;
 
 /// The reserve of versions that a queue has unless it is opened with another: with fewer left, a generation is followed
 /// by the next one.
@@ -33,24 +35,35 @@ pub const NO_RENEWAL: u64 = 0;
 const GIVES_BETWEEN_LOOKS: u64 = 4_096;
 
 /// The number of the first generation.
-const FIRST: u32 = 1;
+pub(crate) const FIRST: u32 = 0;
 
 /// What the handles of a queue share.
 #[derive(Drop)]
 pub(crate) struct Shared<T: Drop> {
     places: Places<T>,
-    /// The number of the newest generation.
-    newest: AtomicU64,
-    /// The greatest number that a generation has.
-    numbers: AtomicU64,
+    numbers: Numbers,
     reserve: u64,
     alloc: Global,
 }
 
 impl<T: Drop> Model for Shared<T> {
-    ghost Value = { Sizes };
+    ghost Value = { Lineage };
 
     ghost view = { λ s. s.places };
+
+    ghost invariant = { λ s. s.numbers ≡ s.places.history.book };
+}
+
+/// A queue as a generation is opened, with the passes of all threads.
+fn open_queue<T: Drop>(
+    alloc: Global,
+    sizes: &Sizes,
+) -> Result<(PayQueue<T>, Vec<PayPass<T>>), OpenFault>
+    ensures opened { IfOk result (λ r. r.0.opened ≡ opening_of sizes.now) }
+    ensures of { IfOk result (λ r. All (λ p. IsPassOf r.0 p.pass) r.1.items) }
+{
+    let opened = PayQueue::open_with_pool(alloc, sizes.shape, sizes.threads, sizes.tokens)?;
+    Ok(opened)
 }
 
 impl<T: Drop> Shared<T> {
@@ -61,10 +74,12 @@ impl<T: Drop> Shared<T> {
         &self.places
     }
 
-    /// The number of the newest generation.
+    /// The numbers of the generations.
     #[inline(always)]
-    pub(crate) fn newest(&self) -> u64 {
-        self.newest.load(SeqCst)
+    pub(crate) fn numbers(&self) -> &Numbers
+        ensures { result.now ≡ self.now.history.book }
+    {
+        &self.numbers
     }
 
     /// Whether the queue opens a next generation.
@@ -83,38 +98,40 @@ impl<T: Drop> Shared<T> {
         if !self.renews() {
             return GIVES_BETWEEN_LOOKS;
         }
-        let each = self.reserve / 16 / u64::from(self.places.sizes.threads).max(1);
+        let each = self.reserve / 16 / u64::from(self.places.lineage.sizes.threads).max(1);
         each.min(GIVES_BETWEEN_LOOKS)
     }
 
     /// A new generation, with a number of its own.
-    fn make(&self) -> Option<Arc<Generation<T>, Global>>
-        ensures { IfSome result (λ g. g.value.opened ≡ opening_of self.now) }
+    fn make(&self, history: &mut History) -> Option<Generation<T>>
+        requires { history.old.book ≡ self.now.history.book }
+        ensures book { history.new.book ≡ history.old.book }
+        ensures of { IfSome result (λ g. IsOfLineage self.now g) }
     {
-        let number = self.numbers.fetch_add(1, SeqCst).wrapping_add(1);
-        let number = u32::try_from(number).ok()?;
-        let generation = Generation::open(self.alloc, &self.places.sizes, number).ok()?;
-        Arc::new(self.alloc, generation).ok()
+        let (queue, passes) = open_queue(self.alloc, &self.places.lineage.sizes).ok()?;
+        let number = self.numbers.take_number(&queue, history)?;
+        Generation::new(self.alloc, queue, passes, number, history.again()).ok()
     }
 
     /// Opens the next generation, unless another handle has opened one since the newest one was `seen`, memory or room
     /// is missing, or the queue opens none.
     pub(crate) fn renew(&self, seen: u64) {
-        if !self.renews() || self.newest() != seen || !self.places.has_room() {
+        let mut history = self.places.lineage.history.again();
+        if !self.renews() || self.numbers.peek(&mut history) != seen || !self.places.has_room() {
             return;
         }
-        let Some(generation) = self.make() else {
+        let Some(generation) = self.make(&mut history) else {
             return;
         };
+        history.learn(generation.history());
         let number = generation.number();
+        let Ok(generation) = Arc::new(self.alloc, generation) else {
+            return;
+        };
         let Some(place) = self.places.put(number, generation) else {
             return;
         };
-        if self
-            .newest
-            .compare_exchange(seen, u64::from(number), SeqCst, SeqCst)
-            .is_err()
-        {
+        if !self.numbers.renew(seen, number, &mut history) {
             // Another handle was faster. Nobody has given to this one, and nobody will.
             self.places.retire(place, number);
         }
@@ -122,9 +139,9 @@ impl<T: Drop> Shared<T> {
 
     /// What each generation is opened with.
     fn sizes(&self) -> Sizes
-        ensures { result ≡ self.now }
+        ensures { result ≡ self.now.sizes }
     {
-        self.places.sizes
+        self.places.lineage.sizes
     }
 }
 
@@ -132,23 +149,28 @@ impl<T: Drop> Shared<T> {
 fn share<T: Drop>(
     alloc: Global,
     generation: &Arc<Generation<T>, Global>,
+    numbers: Numbers,
     sizes: Sizes,
     reserve: u64,
 ) -> Result<(Arc<Shared<T>, Global>, usize), AllocError>
     requires threads { sizes.threads ≤ MAX_THREADS }
-    requires of { generation.now.value.opened ≡ opening_of sizes }
-    ensures { IfOk result (λ r. r.0.value ≡ sizes) }
+    requires of { generation.now.value.queue.opened ≡ opening_of sizes }
+    requires numbers { numbers ≡ generation.now.value.book }
+    ensures { IfOk result (λ r. (r.0.value.sizes ≡ sizes) × (r.0.value.history.book ≡ generation.now.value.book)) }
 {
+    let lineage = Lineage {
+        sizes,
+        history: generation.history().again(),
+    };
     // Handles keep at most one old generation each, and two are there while a change goes on: so there is room for a
     // generation that comes too late too.
-    let places = Places::new(alloc, sizes, 2 * sizes.threads as usize + 2)?;
+    let places = Places::new(alloc, lineage, 2 * sizes.threads as usize + 2)?;
     let place = places
         .put(FIRST, Arc::try_clone(generation)?)
         .ok_or(AllocError)?;
     let shared = Shared {
         places,
-        newest: AtomicU64::new(u64::from(FIRST)),
-        numbers: AtomicU64::new(u64::from(FIRST)),
+        numbers,
         reserve,
         alloc,
     };
@@ -163,29 +185,36 @@ fn join_first<T: Drop>(
     place: usize,
     thread: u32,
 ) -> Result<RenewingHandle<T>, AllocError>
-    requires { generation.now.value.opened ≡ opening_of shared.now.value }
-    ensures { IfOk result (HasOne generation.now.value) }
+    requires of { IsOfLineage shared.now.value generation.now.value }
+    requires first { generation.now.value.number ≡ 0 }
+    ensures one { IfOk result (HasOne generation.now.value.queue generation.now.value.book) }
+    ensures thread { IfOk result (λ h. h.thread ≡ thread) }
 {
     let part = Arc::try_clone(generation)?;
+    let history = part.history().again();
     let joined = Joined::join(part, place, thread).ok_or(AllocError)?;
     let shared = Arc::try_clone(shared)?;
-    RenewingHandle::new(alloc, shared, joined, thread)
+    RenewingHandle::new(alloc, shared, history, joined, thread)
 }
 
 /// A handle for each of the threads, which has joined the first generation.
 fn join_all<T: Drop>(
     alloc: Global,
     generation: Generation<T>,
+    numbers: Numbers,
     sizes: Sizes,
     reserve: u64,
 ) -> Result<Vec<RenewingHandle<T>>, AllocError>
     requires threads { sizes.threads ≤ MAX_THREADS }
-    requires of { generation.opened ≡ opening_of sizes }
-    ensures { IfOk result (λ handles. All (HasOne generation) handles.items
-        × (length handles.items ≡ sizes.threads)) }
+    requires of { generation.queue.opened ≡ opening_of sizes }
+    requires numbers { numbers ≡ generation.book }
+    requires first { generation.number ≡ 0 }
+    ensures each { IfOk result (λ handles. All (HasOne generation.queue generation.book) handles.items) }
+    ensures threads { IfOk result (λ handles. map (λ h. h.thread) handles.items ≡ count_up 0 sizes.threads) }
+    ensures count { IfOk result (λ handles. length handles.items ≡ sizes.threads) }
 {
     let generation = Arc::new(alloc, generation)?;
-    let (shared, place) = share(alloc, &generation, sizes, reserve)?;
+    let (shared, place) = share(alloc, &generation, numbers, sizes, reserve)?;
     let mut handles = Vec::with_capacity(alloc, sizes.threads as usize)?;
     for thread in 0..sizes.threads {
         let handle = join_first(alloc, &shared, &generation, place, thread)?;
@@ -205,9 +234,11 @@ fn open_first<T: Drop>(
     ensures { IfOk result (λ handles. HaveOne (opening_of sizes) handles.items
         × (length handles.items ≡ sizes.threads)) }
 {
-    match Generation::open(alloc, &sizes, FIRST) {
-        Ok(generation) => {
-            let handles = join_all(alloc, generation, sizes, reserve)?;
+    match open_queue(alloc, &sizes) {
+        Ok((queue, passes)) => {
+            let (numbers, history) = Numbers::open(&queue);
+            let generation = Generation::new(alloc, queue, passes, FIRST, history)?;
+            let handles = join_all(alloc, generation, numbers, sizes, reserve)?;
             Ok(handles)
         }
         // The sizes are right, so memory is missing.
@@ -333,9 +364,9 @@ pub fn close<T: Drop>(
     let Some(mut last) = handles.pop() else {
         return Err(CloseFault::MissingPass);
     };
-    if last.generations().is_none() {
+    let Some(_) = last.generations() else {
         return Err(CloseFault::Memory);
-    }
+    };
     // The passes of the others then wait in their generations.
     drop(handles);
     let (shared, all) = last.into_joined()?;

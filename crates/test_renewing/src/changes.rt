@@ -1,4 +1,6 @@
 //! Changes from one generation to the next, by one thread.
+ghost use Rattle.std.specs.Prelude.{◌≡◌};
+
 use crate::plain::{close, give, open, open_with, take};
 use kfifo_live::{CloseFault, Given, OpenFault, Taken};
 use kfifo_renewing::{RenewFault, RenewingHandle};
@@ -43,6 +45,28 @@ fn keeps_the_order_over_changes(rt: HostRuntime) -> Result<(), Fail> {
     }
     let left = close(rt.alloc(), handles)?;
     assert_eq!(rt; left.as_slice(), [1_998, 1_999].as_slice());
+    Ok(())
+}
+
+fn are_beside(first: &RenewingHandle<u64>, second: &RenewingHandle<u64>) -> bool
+    requires { second.now.book ≡ first.now.book }
+{
+    first.is_beside(second)
+}
+
+/// Two handles of a queue begin in one generation. One that makes no calls stays there while the other goes on.
+#[test]
+fn goes_on_without_the_other(rt: HostRuntime) -> Result<(), Fail> {
+    let shape = Shape::new(1, 2, 8)?;
+    let mut handles = kfifo_renewing::open::<u64>(rt.alloc(), shape, 2, 4, 4)?;
+    let mut second = handles.pop().ok_or("a second handle")?;
+    let first = handles.pop().ok_or("a first handle")?;
+    assert!(rt; are_beside(&first, &second));
+    for value in 0..8 {
+        let _ = second.give(value);
+        let _ = second.take();
+    }
+    assert!(rt; !are_beside(&first, &second));
     Ok(())
 }
 

@@ -4,7 +4,7 @@ use Rattle.kfifo_live.specs.Handles.{PayHeld}
 use Rattle.kfifo_live.specs.Pass.{IsPassOf, OpenQueue}
 use Rattle.kfifo_live.specs.Payloads.{PayCloses, PayPassView}
 use Rattle.kfifo_live.specs.declared.view.Opening.{Opening}
-use Rattle.kfifo_renewing.specs.Renewing.{other_threads}
+use Rattle.kfifo_renewing.specs.Renewing.{Numbered, other_threads}
 use Rattle.kfifo_renewing.proofs.queue.close_one.Goals as goal
 
 pub close_with-requires-clause-others : goal.close_with-requires-clause-others
@@ -21,7 +21,7 @@ returns g c =
     c.into_parts-generation.ensures.pass ∙ ap (λ (j : PayHeld g.row.T.Denot). j.pass) c.into_part.ensures in
     let of : IsPassOf q h.pass.pass = subst (λ (p : PayPassView g.row.T.Denot). IsPassOf q p.pass) pass_is
     (subst (λ (o : OpenQueue). IsPassOf o c.into_parts-generation.result.1.pass)
-    (sym (c.in_ok-queue.ensures.queue ∙ c.in-Some.ensures)) c.into_parts-generation.ensures.of) in
+    (sym (c.in_ok-queue.ensures.queue ∙ ap (λ (v : Numbered). v.queue) c.in-Some.ensures)) c.into_parts-generation.ensures.of) in
     record {
       queue = q;
       of = of;

@@ -10,7 +10,7 @@ pub loop-place-preserved : goal.loop-place-preserved
 loop-place-preserved g c =
     let i = c.loop-place.invariant in
     let added = c.in_ok-add_other.ensures in
-    let next = all-next (λ (q : OpenQueue). q ≡ c.args.self) c.in-Some.place c.next.new.self.rest.items
+    let next = all-next (λ (q : OpenQueue). q ≡ c.args.self.queue) c.in-Some.place c.next.new.self.rest.items
     c.loop-place.place-iterator.rest.items c.in-Some.ensures.steps.0 i.rest in
     record {
       bound = refl;

@@ -11,7 +11,7 @@ invariant-loop-place g l = record {
   few : l.thread ≤ l.threads;
   count : length l.others.items ≤ l.thread;
   room : l.threads ≤ vec_capacity l.others;
-  rest : All (λ q. q ≡ l.fn.self) l.place-iterator.rest.items;
-  of : All (λ p. IsPassOf l.fn.self p.pass) l.others.items;
+  rest : All (λ q. q ≡ l.fn.self.queue) l.place-iterator.rest.items;
+  of : All (λ p. IsPassOf l.fn.self.queue p.pass) l.others.items;
   others : map (λ p. p.pass.thread) l.others.items ≡ other_threads l.fn.own l.thread;
 }

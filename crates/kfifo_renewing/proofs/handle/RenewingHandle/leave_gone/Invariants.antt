@@ -1,15 +1,23 @@
-use Rattle.std.proofs.Common.{◌≡◌, ◌-◌, All, length}
+use Rattle.std.proofs.Common.{◌≡◌, ◌-◌, ◌<◌, ◌^◌, All, length}
+use Rattle.kfifo_renewing.specs.History.{IsMade}
 use Rattle.kfifo_renewing.specs.Renewing.{IsOpenedAs, IsPartOf, opening_of}
 use Rattle.kfifo_renewing.proofs.handle.RenewingHandle.leave_gone.Given as goal
 
 -- so far some of the older generations were left, and nothing else
 abbrev pub invariant-loop-index : goal.invariant-loop-index
 invariant-loop-index g l = record {
-  opened : opening_of l.self-inside.shared.value ≡ l.fn.self.opened;
+  opened : opening_of l.self-inside.shared.value.sizes ≡ l.fn.self.opened;
+  thread : l.self-inside.thread ≡ l.fn.self.thread;
+  book : l.self-inside.history.book ≡ l.fn.self.book;
+  seen : l.self-inside.history.log ≡ l.fn.self.seen;
   newest : l.self-inside.newest ≡ l.fn.self.newest;
+  number : l.self-inside.number ≡ l.fn.self.number;
   older : IsPartOf l.self-inside.older.items l.fn.self.older;
-  of_newest : IsOpenedAs (opening_of l.self-inside.shared.value) l.self-inside.newest;
-  of_older : All (IsOpenedAs (opening_of l.self-inside.shared.value)) l.self-inside.older.items;
+  of_newest : IsOpenedAs (opening_of l.self-inside.shared.value.sizes) l.self-inside.newest;
+  of_older : All (IsOpenedAs (opening_of l.self-inside.shared.value.sizes)) l.self-inside.older.items;
+  same_book : l.self-inside.history.book ≡ l.self-inside.shared.value.history.book;
+  made : IsMade l.self-inside.history.log l.self-inside.number l.self-inside.newest.pass.pass.table;
+  gives : l.self-inside.seen < 2 ^ 32 → l.self-inside.seen ≡ l.self-inside.number;
 }
 
 abbrev pub decreases-loop-index : goal.decreases-loop-index

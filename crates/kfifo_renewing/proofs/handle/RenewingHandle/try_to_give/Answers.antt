@@ -2,23 +2,26 @@
 use Rattle.std.proofs.Common.{ap, inl, inr, refl, subst}
 use Rattle.kfifo_live.specs.Handles.{PayHeld, PicksUpAndGives}
 use Rattle.kfifo_live.specs.Pass.{IsSamePass}
-use Rattle.kfifo_renewing.specs.Renewing.{Generations}
+use Rattle.kfifo_renewing.specs.Renewing.{Generations, with_newest}
 use Rattle.kfifo_renewing.proofs.handle.RenewingHandle.try_to_give.Goals as goal
 
 pub returns-then-not-keep_up : goal.returns-then-not-keep_up
-returns-then-not-keep_up g c = (c.keep_up.new.self, c.keep_up.ensures, inr (refl, refl))
+returns-then-not-keep_up g c =
+    (c.keep_up.new.self, c.keep_up.ensures.follows, inr (c.if-not-keep_up.ensures.newest, refl, refl))
 
 pub returns : goal.returns
 returns g c =
     let newest = ap (λ (h : Generations g.row.T.Denot). h.newest) c.self.view_is in (
       c.keep_up.new.self,
-      c.keep_up.ensures,
-      inl record {
-        opened = ap (λ (h : Generations g.row.T.Denot). h.opened) c.self.view_is;
-        older = ap (λ (h : Generations g.row.T.Denot). h.older) c.self.view_is;
-        same = subst (λ (h : PayHeld g.row.T.Denot). IsSamePass h.pass.pass c.give.new.self.pass.pass) newest c.give.ensures.same;
-        gives = subst (λ (h : PayHeld g.row.T.Denot). PicksUpAndGives c.args.payload c.give.result h c.give.new.self) newest
-            c.give.ensures.gives;
-        promise = c.give.ensures.promise;
-      },
+      c.keep_up.ensures.follows,
+      inl (
+        c.if-not-keep_up.ensures.newest,
+        record {
+          others = ap (λ (h : Generations g.row.T.Denot). with_newest h c.give.new.self) c.self.view_is;
+          same = subst (λ (h : PayHeld g.row.T.Denot). IsSamePass h.pass.pass c.give.new.self.pass.pass) newest c.give.ensures.same;
+          gives = subst (λ (h : PayHeld g.row.T.Denot). PicksUpAndGives c.args.payload c.give.result h c.give.new.self) newest
+              c.give.ensures.gives;
+          promise = c.give.ensures.promise;
+        },
+      ),
     )

@@ -1,0 +1,24 @@
+//! What changes among the generations of a queue. No value of these types is ever made: they live in proofs alone.
+ghost use Rattle.atomic_table.specs.Seated.{TableId, table_id_coded};
+ghost use base.Fml.{ftrue};
+
+use std::marker::Model;
+
+/// The queue of a generation, by its table.
+pub struct Made {
+    pub ghost table: { TableId } by { table_id_coded },
+}
+
+impl Model for Made {
+    ghost also_owns = { λ m. ftrue };
+}
+
+/// An entry of the history of a queue's generations.
+pub enum Change {
+    /// A generation was made.
+    Made(Made),
+    /// The generation with this number became the newest.
+    Newest(u32),
+    /// The handle of this thread looked which generation is the newest.
+    Look(u32),
+}
