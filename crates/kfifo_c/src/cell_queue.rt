@@ -2,6 +2,7 @@
 pub(crate) mod address;
 pub(crate) mod calls;
 pub(crate) mod closing;
+pub(crate) mod free;
 pub(crate) mod handle;
 pub(crate) mod held;
 pub(crate) mod lent;

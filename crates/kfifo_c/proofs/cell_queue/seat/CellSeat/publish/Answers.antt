@@ -8,7 +8,7 @@ use Rattle.kfifo_c.proofs.cell_queue.seat.CellSeat.publish.Goals as goal
 pub returns : goal.returns
 returns c =
     subst (λ (s : CellSeated). MayPublish (Some c.given_status-status.result) s
-    (seat_with c.give-given.new.self c.self.inside.cells.items c.of_given.result c.self.inside.received)) c.self.view_is (
+    (seat_with c.give-given.new.self c.self.inside.free.tokens c.of_given.result c.self.inside.received)) c.self.view_is (
       c.in_ok-token.token,
       sym c.in_ok-token.ensures.value,
       record {
