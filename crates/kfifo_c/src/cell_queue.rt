@@ -7,5 +7,6 @@ pub(crate) mod handle;
 pub(crate) mod held;
 pub(crate) mod lent;
 pub(crate) mod opening;
+pub(crate) mod payload;
 pub(crate) mod pool;
 pub(crate) mod seat;

@@ -16,6 +16,7 @@ ghost use Rattle.kfifo_c.specs.Exports.{shape_number};
 use crate::address::no_address;
 use crate::cell_queue::free::FreeCells;
 use crate::cell_queue::handle::CellHandle;
+use crate::cell_queue::payload::CellPayload;
 use crate::cell_queue::pool::{BATCH, Batch, Pool};
 use crate::cell_queue::seat::CellSeat;
 use crate::status::{BAD_RESERVE, BAD_THREADS, DONE, shape_status};
@@ -102,7 +103,7 @@ fn cells_of_pass(
 fn seat_all(
     alloc: Global,
     pool: &Arc<Pool, Global>,
-    mut handles: Vec<RenewingHandle<Token<()>>>,
+    mut handles: Vec<RenewingHandle<CellPayload>>,
     mut passes: Vec<PayPass<()>>,
     sizes: CellSizes,
 ) -> Result<Vec<Box<CellSeat, Global>>, AllocError>
@@ -149,7 +150,7 @@ fn open_pool(
 /// A seat for each of these handles, the last handle first.
 fn join_pool(
     alloc: Global,
-    handles: Vec<RenewingHandle<Token<()>>>,
+    handles: Vec<RenewingHandle<CellPayload>>,
     sizes: CellSizes,
 ) -> Result<Vec<Box<CellSeat, Global>>, AllocError>
     requires handles { All (IsOpenedLike sizes) handles.items }

@@ -6,6 +6,7 @@ ghost use Rattle.kfifo_c.specs.Cells.{cell_in, cells_of, token_given_back, token
 
 use crate::cell_queue::address::cell_address_of;
 use crate::cell_queue::free::FreeCells;
+use crate::cell_queue::payload::CellPayload;
 use crate::value_queue::status::given_status;
 use kfifo_live::{Given, Taken, Token};
 use kfifo_renewing::RenewingHandle;
@@ -16,7 +17,7 @@ use std::marker::Model;
 /// cells that the handle has.
 #[derive(Drop)]
 pub struct CellSeat {
-    pub(crate) handle: RenewingHandle<Token<()>>,
+    pub(crate) handle: RenewingHandle<CellPayload>,
     pub(crate) shape: Shape,
     pub(crate) threads: u32,
     pub(crate) tokens: u32,
@@ -54,23 +55,27 @@ fn cell_of_token(token: &Option<Token<()>>) -> Option<u32>
 }
 
 /// The token that a give hands back.
-fn of_given(given: Given<Token<()>>) -> Option<Token<()>>
+fn of_given(given: Given<CellPayload>) -> Option<Token<()>>
     ensures { result ≡ token_given_back given }
 {
     match given {
         Given::Done => None,
-        Given::Full(token) | Given::Busy(token) | Given::Worn(token) | Given::NoToken(token) => {
-            Some(token)
-        }
+        Given::Full(payload)
+        | Given::Busy(payload)
+        | Given::Worn(payload)
+        | Given::NoToken(payload) => Some(payload.into_token()),
     }
 }
 
 /// The cell of what a take came to, and the cell's token.
-fn of_taken(taken: Taken<Token<()>>) -> (Taken<u32>, Option<Token<()>>)
+fn of_taken(taken: Taken<CellPayload>) -> (Taken<u32>, Option<Token<()>>)
     ensures { (result.0 ≡ cells_of taken) × (result.1 ≡ token_taken taken) }
 {
     match taken {
-        Taken::Got(token) => (Taken::Got(token.number() - 1), Some(token)),
+        Taken::Got(payload) => {
+            let token = payload.into_token();
+            (Taken::Got(token.number() - 1), Some(token))
+        }
         Taken::Empty => (Taken::Empty, None),
         Taken::Busy => (Taken::Busy, None),
         Taken::Worn => (Taken::Worn, None),
@@ -80,7 +85,7 @@ fn of_taken(taken: Taken<Token<()>>) -> (Taken<u32>, Option<Token<()>>)
 impl CellSeat {
     /// A seat for this handle of a queue of such sizes, with these free cells.
     pub(crate) fn new(
-        handle: RenewingHandle<Token<()>>,
+        handle: RenewingHandle<CellPayload>,
         shape: Shape,
         threads: u32,
         tokens: u32,
@@ -131,7 +136,7 @@ impl CellSeat {
     }
 
     /// The handle. The cells that the seat has go.
-    pub(crate) fn into_handle(self) -> RenewingHandle<Token<()>>
+    pub(crate) fn into_handle(self) -> RenewingHandle<CellPayload>
         ensures { result ≡ self.held }
     {
         let CellSeat { handle, .. } = self;
@@ -184,7 +189,7 @@ impl CellSeat {
         ensures { MayPublish result self.old self.new }
     {
         let token = self.reserved.take()?;
-        let given = self.handle.give(token);
+        let given = self.handle.give(CellPayload::of(token));
         let status = given_status(&given);
         self.reserved = of_given(given);
         Some(status)
