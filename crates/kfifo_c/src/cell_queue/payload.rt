@@ -11,9 +11,9 @@ use std::marker::Model;
 #[derive(Drop)]
 pub struct CellPayload {
     token: Token<()>,
-    // Payloads lie side by side, and threads write to those of neighbours at once. With this, four share a line of the
-    // cache, and not eight.
-    apart: [u32; 2],
+    // It has no bytes, and aligns the payload. Payloads lie side by side, and threads write to those of neighbours at
+    // once: so four share a line of the cache, and not eight.
+    apart: [u64; 0],
 }
 
 impl Model for CellPayload {
@@ -28,10 +28,7 @@ impl CellPayload {
     pub(crate) fn of(token: Token<()>) -> CellPayload
         ensures { result ≡ token }
     {
-        CellPayload {
-            token,
-            apart: [0; 2],
-        }
+        CellPayload { token, apart: [] }
     }
 
     /// The token.
