@@ -11,6 +11,11 @@ pub record CellSeated : Type 0 where
   pub reserved : Option TokenView
   pub received : Option TokenView
 
+-- these free cells, and how many of them a handle keeps before it lays any into the pool
+pub record FreeTokens : Type 0 where
+  pub tokens : List TokenView
+  pub most : ℕ
+
 -- a new one
 abbrev pub cell_seated : Generations TokenView → List TokenView → CellSeated
 cell_seated held cells = record { held = held; cells = cells; reserved = None; received = None }

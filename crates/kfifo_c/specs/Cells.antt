@@ -30,36 +30,31 @@ abbrev pub cell_reserved : ℕ → Option (Option ℕ) → ℕ
 cell_reserved old (Some (Some cell)) = cell
 cell_reserved old other = old
 
--- The handle takes a cell: the last of the free ones that it has. Where it has none, it is one of the pool, if one was
--- found there, and others of the pool come with it
+-- The last of the free cells is taken. Where there is none, it is one of the pool, if a batch was found there, and the
+-- others of the batch come with it
+abbrev pub TakesLast : Option TokenView → List TokenView → List TokenView → Type 0
+TakesLast answer old new = ((token : TokenView) × (answer ≡ Some token) × (old ≡ new ++ token ∷ []))
+    ⊎ ((old ≡ []) × (answer ≡ None → new ≡ []))
+
+-- A free cell is kept behind the others. Where these are so many, the last ones may go to the pool
+pub record KeepsBehind (token : TokenView) (many : ℕ) (old new : List TokenView) : Type 0 where
+  pub gone : List TokenView
+  pub cells : old ++ token ∷ [] ≡ new ++ gone
+  pub few : length old < many → gone ≡ []
+
+-- the handle takes a cell
 pub record TakesCell (answer : Option TokenView) (old new : CellSeated) : Type 0 where
   pub same_held : new.held ≡ old.held
   pub same_reserved : new.reserved ≡ old.reserved
   pub same_received : new.received ≡ old.received
-  pub cells : ((token : TokenView) × (answer ≡ Some token) × (old.cells ≡ new.cells ++ token ∷ []))
-      ⊎ ((old.cells ≡ []) × (answer ≡ None → new.cells ≡ []))
+  pub cells : TakesLast answer old.cells new.cells
 
--- the same seat, but for the free cells that the handle has
-pub record HasSameButCells (old new : CellSeated) : Type 0 where
-  pub same_held : new.held ≡ old.held
-  pub same_reserved : new.reserved ≡ old.reserved
-  pub same_received : new.received ≡ old.received
-
--- and of these the last ones went to the pool, if any
-pub record LaysDownCells (old new : CellSeated) : Type 0 where
-  pub same : HasSameButCells old new
-  pub gone : List TokenView
-  pub cells : old.cells ≡ new.cells ++ gone
-
--- and keeps one, where it has fewer than it began with. Else it may lay the cell and the last of the others into the
--- pool
+-- and keeps one: it lays none into the pool where it has fewer than it began with
 pub record KeepsCell (token : TokenView) (old new : CellSeated) : Type 0 where
   pub same_held : new.held ≡ old.held
   pub same_reserved : new.reserved ≡ old.reserved
   pub same_received : new.received ≡ old.received
-  pub few : length old.cells < old.held.opened.tokens → new.cells ≡ old.cells ++ token ∷ []
-  pub many : old.held.opened.tokens ≤ length old.cells
-      → (new.cells ≡ old.cells ++ token ∷ []) ⊎ LaysDownCells old new
+  pub cells : KeepsBehind token old.held.opened.tokens old.cells new.cells
 
 -- the same seat, but for the cell that is reserved, or the one that was received
 abbrev pub with_reserved : Option TokenView → CellSeated → CellSeated

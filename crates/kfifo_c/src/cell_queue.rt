@@ -2,9 +2,11 @@
 pub(crate) mod address;
 pub(crate) mod calls;
 pub(crate) mod closing;
+pub(crate) mod free;
 pub(crate) mod handle;
 pub(crate) mod held;
 pub(crate) mod lent;
 pub(crate) mod opening;
+pub(crate) mod payload;
 pub(crate) mod pool;
 pub(crate) mod seat;

@@ -6,8 +6,8 @@ ghost use Rattle.kfifo_c.specs.CellQueues.{ClosesCells, MayCloseCells, held_in};
 ghost use Rattle.kfifo_c.specs.Cells.{cell_of};
 
 use crate::cell_queue::handle::CellHandle;
+use crate::cell_queue::payload::CellPayload;
 use crate::status::{BAD_CALL, DONE, LOST, NO_MEMORY};
-use kfifo_live::Token;
 use kfifo_renewing::{RenewingHandle, close};
 use std::alloc::{AllocError, Global};
 
@@ -48,7 +48,7 @@ fn may_close(handles: &mut [CellHandle], room: usize) -> bool
 fn take_all(
     alloc: Global,
     handles: &mut [CellHandle],
-) -> Result<Vec<RenewingHandle<Token<()>>>, AllocError>
+) -> Result<Vec<RenewingHandle<CellPayload>>, AllocError>
     ensures refused { IsErr result → handles.new ≡ handles.old }
     ensures closed { IfOk result (λ _. All (λ handle. handle.held.value ≡ None) handles.new) }
     ensures taken { IfOk result (λ taken. taken.items ≡ held_in (cells_behind handles.old)) }
@@ -62,13 +62,13 @@ fn take_all(
     Ok(taken)
 }
 
-/// The numbers of the cells that these tokens are of.
-fn numbers(alloc: Global, left: &[Token<()>]) -> Result<Vec<u64>, AllocError>
+/// The numbers of the cells with these tokens.
+fn numbers(alloc: Global, left: &[CellPayload]) -> Result<Vec<u64>, AllocError>
     ensures { IfOk result (λ numbers. numbers.items ≡ map cell_of left.now) }
 {
     let mut numbers = Vec::with_capacity(alloc, left.len())?;
-    for token in left {
-        numbers.push(u64::from(token.number() - 1))?;
+    for payload in left {
+        numbers.push(u64::from(payload.token().number() - 1))?;
     }
     Ok(numbers)
 }

@@ -14,8 +14,10 @@ ghost use Rattle.kfifo_c.specs.CellQueues.{IsOpenedLike, OpensCells, OpensCellSi
 ghost use Rattle.kfifo_c.specs.Exports.{shape_number};
 
 use crate::address::no_address;
+use crate::cell_queue::free::FreeCells;
 use crate::cell_queue::handle::CellHandle;
-use crate::cell_queue::pool::Pool;
+use crate::cell_queue::payload::CellPayload;
+use crate::cell_queue::pool::{BATCH, Batch, Pool};
 use crate::cell_queue::seat::CellSeat;
 use crate::status::{BAD_RESERVE, BAD_THREADS, DONE, shape_status};
 use crate::value_queue::status::renew_status;
@@ -33,17 +35,25 @@ pub struct CellSizes {
     pub(crate) tokens: u32,
 }
 
-/// The most cells that a handle lays into the pool, or takes out of it, at once.
-const BATCH: u32 = 16;
-
 impl CellSizes {
-    /// How many free cells a handle keeps at most: with one more it has a batch more than it began with.
+    /// How many cells go to the pool, or come from it, at once.
     // With few cells a batch is small. Else handles that only take would keep all cells, and the others find none.
+    fn batch(&self) -> u32
+        ensures { (1 ≤ result) × (result ≤ BATCH) }
+    {
+        (self.tokens / self.threads.max(1)).clamp(1, BATCH)
+    }
+
+    /// How many free cells a handle keeps at most: with one more it has a batch more than it began with.
     fn most(&self) -> u32
         ensures { self.now.tokens ≤ result }
     {
-        let share = self.tokens / self.threads.max(1);
-        self.tokens.saturating_add(share.clamp(1, BATCH) - 1)
+        self.tokens.saturating_add(self.batch() - 1)
+    }
+
+    /// The places of the pool for each thread. All together are enough for the cells of all handles.
+    fn places(&self) -> usize {
+        (self.tokens / self.batch()) as usize
     }
 }
 
@@ -66,11 +76,34 @@ fn mint(
     Ok(cells)
 }
 
+/// The free cells that the handle of this thread begins with, those of a new pass.
+fn cells_of_pass(
+    alloc: Global,
+    pool: &Arc<Pool, Global>,
+    pass: PayPass<()>,
+    sizes: &CellSizes,
+    thread: usize,
+) -> Result<FreeCells, AllocError>
+    requires of { IsPassOf pool.now.value pass.pass }
+    requires count { length pass.tokens ≡ sizes.now.tokens }
+    ensures tokens { IfOk result (λ free. free.tokens ≡ tokens_of pool.now.value pass) }
+    ensures most { IfOk result (λ free. sizes.now.tokens ≤ free.most) }
+{
+    let most = sizes.most();
+    let all = sizes.threads.saturating_mul(sizes.tokens);
+    let cells = mint(alloc, pool.source(), pass, most.max(all))?;
+    let spare = Batch::new(alloc)?;
+    let pool = Arc::try_clone(pool)?;
+    // The handles begin to look at places that lie apart.
+    let look_from = thread.saturating_mul(sizes.places());
+    Ok(FreeCells::new(cells, most, sizes.batch(), spare, pool, look_from))
+}
+
 /// A seat for each handle, with the tokens of the pass beside it, the last handle first.
 fn seat_all(
     alloc: Global,
     pool: &Arc<Pool, Global>,
-    mut handles: Vec<RenewingHandle<Token<()>>>,
+    mut handles: Vec<RenewingHandle<CellPayload>>,
     mut passes: Vec<PayPass<()>>,
     sizes: CellSizes,
 ) -> Result<Vec<Box<CellSeat, Global>>, AllocError>
@@ -86,18 +119,8 @@ fn seat_all(
         let Some(pass) = passes.pop() else {
             return Err(AllocError);
         };
-        let most = sizes.most();
-        let cells = mint(alloc, pool.source(), pass, most)?;
-        let pool = Arc::try_clone(pool)?;
-        let seat = CellSeat::new(
-            handle,
-            sizes.shape,
-            sizes.threads,
-            sizes.tokens,
-            pool,
-            cells,
-            most,
-        );
+        let free = cells_of_pass(alloc, pool, pass, &sizes, handles.len())?;
+        let seat = CellSeat::new(handle, sizes.shape, sizes.threads, sizes.tokens, free);
         seats.push(Box::new(alloc, seat)?)?;
     }
     Ok(seats)
@@ -112,7 +135,7 @@ fn open_pool(
     ensures passes { IfOk result (λ r. r.1.items ≡ new_pay_passes r.0.value 0 sizes.threads) }
     ensures of { IfOk result (λ r. All (λ p. IsPassOf r.0.value p.pass) r.1.items) }
 {
-    let count = (sizes.threads as usize).saturating_mul(sizes.tokens as usize);
+    let count = (sizes.threads as usize).saturating_mul(sizes.places());
     match PayQueue::open_with_pool(alloc, sizes.shape, sizes.threads, sizes.tokens) {
         Ok((source, passes)) => {
             let pool = Pool::new(alloc, source, count)?;
@@ -127,7 +150,7 @@ fn open_pool(
 /// A seat for each of these handles, the last handle first.
 fn join_pool(
     alloc: Global,
-    handles: Vec<RenewingHandle<Token<()>>>,
+    handles: Vec<RenewingHandle<CellPayload>>,
     sizes: CellSizes,
 ) -> Result<Vec<Box<CellSeat, Global>>, AllocError>
     requires handles { All (IsOpenedLike sizes) handles.items }

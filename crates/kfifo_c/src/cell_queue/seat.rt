@@ -1,39 +1,31 @@
 //! What a handle of a queue of cells stands for.
-ghost use Rattle.std.specs.Prelude.{◌≡◌, ◌<◌, ◌≤◌, ◌*◌, ◌^◌, [], None, SomeIff, vec_capacity};
+ghost use Rattle.std.specs.Prelude.{◌≡◌, ◌<◌, ◌≤◌, ◌*◌, ◌^◌, None, SomeIff};
 ghost use Rattle.kfifo_c.specs.CellSeats.{CellSeated, cell_seated};
 ghost use Rattle.kfifo_c.specs.Cells.{KeepsCell, MayCancel, MayPublish, MayRelease, ReceivesCell, ReservesCell, TakesCell};
-ghost use Rattle.kfifo_c.specs.Cells.{HasSameButCells, LaysDownCells, cell_in, cells_of, token_given_back, token_taken};
+ghost use Rattle.kfifo_c.specs.Cells.{cell_in, cells_of, token_given_back, token_taken};
 
 use crate::cell_queue::address::cell_address_of;
-use crate::cell_queue::pool::Pool;
+use crate::cell_queue::free::FreeCells;
+use crate::cell_queue::payload::CellPayload;
 use crate::value_queue::status::given_status;
 use kfifo_live::{Given, Taken, Token};
 use kfifo_renewing::RenewingHandle;
 use kfifo_words::Shape;
-use std::alloc::Global;
 use std::marker::Model;
-use std::sync::Arc;
 
 /// A handle of a queue of the tokens of cells, which does not wear out, the sizes of each of its generations, and the
 /// cells that the handle has.
 #[derive(Drop)]
 pub struct CellSeat {
-    pub(crate) handle: RenewingHandle<Token<()>>,
+    pub(crate) handle: RenewingHandle<CellPayload>,
     pub(crate) shape: Shape,
     pub(crate) threads: u32,
     pub(crate) tokens: u32,
-    pub(crate) pool: Arc<Pool, Global>,
-    /// The free cells that the handle has.
-    pub(crate) cells: Vec<Token<()>>,
-    /// How many of them it keeps at most: with one more it has a batch more than it began with. There is room for so
-    /// many.
-    pub(crate) most: u32,
+    pub(crate) free: FreeCells,
     /// The cell that is reserved.
     pub(crate) reserved: Option<Token<()>>,
     /// The cell that was received.
     pub(crate) received: Option<Token<()>>,
-    /// The place of the pool at which the next look for a cell begins.
-    pub(crate) look_from: usize,
     // Each call writes to its seat. This keeps the seats of two threads from lying in one line of the cache.
     pub(crate) apart: [u64; 8],
 }
@@ -43,13 +35,13 @@ impl Model for CellSeat {
 
     ghost view = { λ s. record {
       held = s.handle;
-      cells = s.cells.items;
+      cells = s.free.tokens;
       reserved = s.reserved;
       received = s.received;
     } };
 
     ghost invariant = { λ s. (s.shape ≡ s.handle.opened.shape) × (s.threads ≡ s.handle.opened.threads)
-        × (s.tokens ≡ s.handle.opened.tokens) × (s.tokens ≤ s.most) × (s.most ≤ vec_capacity s.cells) };
+        × (s.tokens ≡ s.handle.opened.tokens) × (s.tokens ≤ s.free.most) };
 }
 
 /// The cell of a token, if there is one.
@@ -63,23 +55,27 @@ fn cell_of_token(token: &Option<Token<()>>) -> Option<u32>
 }
 
 /// The token that a give hands back.
-fn of_given(given: Given<Token<()>>) -> Option<Token<()>>
+fn of_given(given: Given<CellPayload>) -> Option<Token<()>>
     ensures { result ≡ token_given_back given }
 {
     match given {
         Given::Done => None,
-        Given::Full(token) | Given::Busy(token) | Given::Worn(token) | Given::NoToken(token) => {
-            Some(token)
-        }
+        Given::Full(payload)
+        | Given::Busy(payload)
+        | Given::Worn(payload)
+        | Given::NoToken(payload) => Some(payload.into_token()),
     }
 }
 
 /// The cell of what a take came to, and the cell's token.
-fn of_taken(taken: Taken<Token<()>>) -> (Taken<u32>, Option<Token<()>>)
+fn of_taken(taken: Taken<CellPayload>) -> (Taken<u32>, Option<Token<()>>)
     ensures { (result.0 ≡ cells_of taken) × (result.1 ≡ token_taken taken) }
 {
     match taken {
-        Taken::Got(token) => (Taken::Got(token.number() - 1), Some(token)),
+        Taken::Got(payload) => {
+            let token = payload.into_token();
+            (Taken::Got(token.number() - 1), Some(token))
+        }
         Taken::Empty => (Taken::Empty, None),
         Taken::Busy => (Taken::Busy, None),
         Taken::Worn => (Taken::Worn, None),
@@ -87,32 +83,27 @@ fn of_taken(taken: Taken<Token<()>>) -> (Taken<u32>, Option<Token<()>>)
 }
 
 impl CellSeat {
-    /// A seat for this handle of a queue of such sizes, with these cells, of which it keeps so many at most.
+    /// A seat for this handle of a queue of such sizes, with these free cells.
     pub(crate) fn new(
-        handle: RenewingHandle<Token<()>>,
+        handle: RenewingHandle<CellPayload>,
         shape: Shape,
         threads: u32,
         tokens: u32,
-        pool: Arc<Pool, Global>,
-        cells: Vec<Token<()>>,
-        most: u32,
+        free: FreeCells,
     ) -> CellSeat
         requires sizes { (shape ≡ handle.opened.shape) × (threads ≡ handle.opened.threads)
             × (tokens ≡ handle.opened.tokens) }
-        requires room { (tokens ≤ most) × (most ≤ vec_capacity cells) }
-        ensures { result ≡ cell_seated handle cells.items }
+        requires most { tokens ≤ free.most }
+        ensures { result ≡ cell_seated handle free.tokens }
     {
         CellSeat {
             handle,
             shape,
             threads,
             tokens,
-            pool,
-            cells,
-            most,
+            free,
             reserved: None,
             received: None,
-            look_from: 0,
             apart: [0; 8],
         }
     }
@@ -141,72 +132,15 @@ impl CellSeat {
 
     /// Where the queue is.
     pub(crate) fn address(&self) -> *mut u8 {
-        cell_address_of(self.pool.source())
+        cell_address_of(self.free.source())
     }
 
     /// The handle. The cells that the seat has go.
-    pub(crate) fn into_handle(self) -> RenewingHandle<Token<()>>
+    pub(crate) fn into_handle(self) -> RenewingHandle<CellPayload>
         ensures { result ≡ self.held }
     {
         let CellSeat { handle, .. } = self;
         handle
-    }
-
-    /// How many cells beside the first go to the pool or come from it at once.
-    fn others_of_batch(&self) -> u32 {
-        self.most.saturating_sub(self.tokens)
-    }
-
-    /// Takes so many cells more out of the pool, if they lie in the next places.
-    fn find_more(&mut self, count: u32)
-        ensures { HasSameButCells self.old self.new }
-    {
-        if count == 0 || self.cells.len() >= self.most as usize {
-            return;
-        }
-        let Some(token) = self.pool.find_near(self.look_from) else {
-            return;
-        };
-        self.look_from = token.number() as usize;
-        self.cells.push_reserved(token);
-        self.find_more(count - 1);
-    }
-
-    /// A cell of the pool, and a batch of others that lie behind it.
-    #[cold]
-    #[inline(never)]
-    fn find_cell(&mut self) -> Option<Token<()>>
-        requires { self.old.cells ≡ [] }
-        ensures { TakesCell result self.old self.new }
-    {
-        let token = self.pool.find(self.look_from)?;
-        self.look_from = token.number() as usize;
-        self.find_more(self.others_of_batch());
-        Some(token)
-    }
-
-    /// Lays so many cells into the pool, the ones first that the handle would reserve next.
-    fn lay_down(&mut self, count: u32)
-        ensures { LaysDownCells self.old self.new }
-    {
-        if count == 0 {
-            return;
-        }
-        let Some(token) = self.cells.pop() else {
-            return;
-        };
-        self.pool.put(token);
-        self.lay_down(count - 1);
-    }
-
-    /// Lays this cell and a batch of others into the pool.
-    #[cold]
-    #[inline(never)]
-    fn lay_batch(&mut self, token: Token<()>)
-        ensures { LaysDownCells self.old self.new }
-    {
-        self.pool.put(token);
-        self.lay_down(self.others_of_batch());
     }
 
     /// One of the cells that the handle has, or else one of the pool.
@@ -214,10 +148,7 @@ impl CellSeat {
     fn take_cell(&mut self) -> Option<Token<()>>
         ensures { TakesCell result self.old self.new }
     {
-        match self.cells.pop() {
-            Some(token) => Some(token),
-            None => self.find_cell(),
-        }
+        self.free.take()
     }
 
     /// Keeps a free cell. Where the handle then has a batch more than it began with, it lays a batch into the pool.
@@ -225,11 +156,7 @@ impl CellSeat {
     fn keep_cell(&mut self, token: Token<()>)
         ensures { KeepsCell token self.old self.new }
     {
-        if self.cells.len() < self.most as usize {
-            self.cells.push_reserved(token);
-        } else {
-            self.lay_batch(token);
-        }
+        self.free.keep(token);
     }
 
     /// Reserves a cell, if the handle has one or finds one.
@@ -262,7 +189,7 @@ impl CellSeat {
         ensures { MayPublish result self.old self.new }
     {
         let token = self.reserved.take()?;
-        let given = self.handle.give(token);
+        let given = self.handle.give(CellPayload::of(token));
         let status = given_status(&given);
         self.reserved = of_given(given);
         Some(status)

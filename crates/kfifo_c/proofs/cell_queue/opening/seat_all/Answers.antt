@@ -22,9 +22,8 @@ loop-handle-preserved c =
     let both = inv.count in
     let same : length passes ≡ length rest = omega (arith, many, as_many, both) in
     let made = reverse (map (λ s. s.value) c.loop-handle.seats.items) in
-    let cells = c.in_ok-cells.ensures.tokens ∙ ap (λ source. tokens_of source p) (c.source.ensures ∙ c.deref.ensures) in
     let seat : c.in_ok-new.field-0.value ≡ cell_seated h (tokens_of q p) =
-    c.in_ok-new.ensures.ok ∙ c.new-seat.ensures ∙ ap (cell_seated h) cells in
+    c.in_ok-new.ensures.ok ∙ c.new-seat.ensures ∙ ap (cell_seated h) c.in_ok-free.ensures.tokens in
     record {
       handles_of = (All-pop (IsOpenedLike c.args.sizes) _ _ (Some h) hs inv.handles_of).0;
       passes_of = (All-pop (λ pass. IsPassOf q pass.pass) _ _ (Some p) ps inv.passes_of).0;

@@ -8,7 +8,7 @@ use Rattle.kfifo_c.proofs.cell_queue.seat.CellSeat.cancel.Goals as goal
 
 pub returns-in-Some : goal.returns-in-Some
 returns-in-Some c =
-    let kept = subst (λ (it : Option TokenView). KeepsCell c.in-Some.token (seat_with c.self.inside.handle c.self.inside.cells.items it c.self.inside.received) c.keep_cell.new.self) c.in-Some.ensures.after
+    let kept = subst (λ (it : Option TokenView). KeepsCell c.in-Some.token (seat_with c.self.inside.handle c.self.inside.free.tokens it c.self.inside.received) c.keep_cell.new.self) c.in-Some.ensures.after
     c.keep_cell.ensures in
     subst (λ (s : CellSeated). MayCancel true s c.keep_cell.new.self) c.self.view_is
     (refl, (c.in-Some.token, sym c.in-Some.ensures.value, kept))

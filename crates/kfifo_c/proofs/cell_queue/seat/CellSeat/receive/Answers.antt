@@ -13,7 +13,7 @@ returns c =
       between = c.release.new.self;
       releases = c.release.ensures;
       receives = subst (λ (s : CellSeated). ReceivesToken c.of_taken-taken.result.0 s
-          (seat_with c.take.new.self c.self.inside.cells.items c.self.inside.reserved c.of_taken-taken.result.1)) c.self.view_is (record {
+          (seat_with c.take.new.self c.self.inside.free.tokens c.self.inside.reserved c.of_taken-taken.result.1)) c.self.view_is (record {
             taken = c.take.result;
             answer_is = said.0;
             takes = c.take.ensures;

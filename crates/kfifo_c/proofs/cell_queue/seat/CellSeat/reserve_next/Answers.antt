@@ -8,7 +8,7 @@ use Rattle.kfifo_c.proofs.cell_queue.seat.CellSeat.reserve_next.Goals as goal
 
 pub returns : goal.returns
 returns c =
-    let new = seat_with c.self.inside.handle c.self.inside.cells.items c.take_cell-token.result c.self.inside.received in
+    let new = seat_with c.self.inside.handle c.self.inside.free.tokens c.take_cell-token.result c.self.inside.received in
     record {
       cell = c.cell_of_token-cell.ensures;
       reserves = subst (λ (o : Option TokenView). Reserved o c.args.self.now new) (sym c.requires)
