@@ -92,6 +92,21 @@ static void cancels(void) {
     expect(kfifo_abandon_cells(three, 3), KFIFO_DONE, "abandon");
 }
 
+/* One handle only gives and one only takes, so each cell comes back by the pool, a batch at a time. None is lost: the
+   giver would soon have none. */
+static void batches(uint32_t tokens) {
+    kfifo_cell_pass two[2];
+    uint64_t cell;
+    expect(kfifo_open_cells(1, 2, tokens, two, 2), KFIFO_DONE, "open");
+    for (uint32_t i = 0; i < 100 * tokens; i++) {
+        expect(kfifo_reserve(&two[0], &cell), KFIFO_DONE, "a reserve by the one that gives");
+        expect(kfifo_publish(&two[0]), KFIFO_DONE, "its publish");
+        expect(kfifo_receive(&two[1], &cell), KFIFO_GOT, "a receive by the one that takes");
+        expect(kfifo_release(&two[1]), KFIFO_DONE, "its release");
+    }
+    expect(kfifo_abandon_cells(two, 2), KFIFO_DONE, "abandon");
+}
+
 static void refusals(void) {
     static kfifo_cell_pass one, many[65];
     static kfifo_waits waits;
@@ -426,6 +441,9 @@ static void stages(void) {
 int main(void) {
     misuse();
     cancels();
+    batches(1);
+    batches(5);
+    batches(100);
     refusals();
     too_many_threads();
     closes();
