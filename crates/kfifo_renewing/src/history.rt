@@ -102,9 +102,9 @@ impl<T: Drop> Opening<PayQueue<T>, Change> for Numbering {
 /// Clauses see them as the book that has the history.
 #[derive(Drop)]
 pub(crate) struct Numbers {
-    /// That of the newest one.
+    /// The number of the newest generation.
     newest: Word<Change, u64, HistoryRule>,
-    /// The greatest one of a generation that was made.
+    /// The greatest number of a generation that was made.
     greatest: Word<Change, u64, HistoryRule>,
 }
 
