@@ -1,5 +1,5 @@
 -- A handle that follows others does so step by step, and sees more of the history.
-use Rattle.std.proofs.Common.{◌≡◌, ◌≢◌, ◌==◌, ◌<◌, ◌^◌, ℕ, Bool, true, false, not, MatchBool, List, [], ◌∷◌, ◌++◌, refl, sym, ap, ◌∙◌, subst, arith, append_assoc}
+use Rattle.std.proofs.Common.{◌≡◌, ◌≢◌, ◌==◌, ◌<◌, ◌≤◌, ℕ, Bool, true, false, not, MatchBool, List, [], ◌∷◌, ◌++◌, refl, sym, ap, ◌∙◌, subst, arith, append_assoc}
 use Rattle.std.proofs.lemmas.Bool.Decides.{nat_tests}
 use Rattle.std.proofs.lemmas.List.{append-nil}
 use mathlib.Core.List.{IsPrefix}
@@ -9,9 +9,9 @@ use Rattle.kfifo_live.specs.Handles.{PayHeld}
 use Rattle.kfifo_live.specs.declared.view.Opening.{Opening}
 use Rattle.kfifo_renewing.specs.declared.change.Change.{Change}
 use Rattle.kfifo_renewing.specs.declared.change.Change.TheVariants as C
-use Rattle.kfifo_renewing.specs.History.{IsMade, NewestWas, newest_of}
-use Rattle.kfifo_renewing.specs.Renewing.{Follows, Generations, IsAtNewest, IsBehind, IsLater, IsPartOf, all_of, with_newest, with_older, with_seen}
-use Rattle.kfifo_renewing.proofs.Histories.{made-later, prefix-trans}
+use Rattle.kfifo_renewing.specs.History.{Finds, HasRisen, IsMade, NewestWas, WasNewest, newest_of}
+use Rattle.kfifo_renewing.specs.Renewing.{Follows, Generations, IsAtNewest, IsBehind, IsLater, IsNumbered, IsPartOf, all_of, with_newest, with_older, with_seen}
+use Rattle.kfifo_renewing.proofs.Histories.{made-later, prefix-trans, risen-from, was-later}
 use Rattle.kfifo_renewing.proofs.Parts.{part-append, part-first, part-refl, part-trans}
 
 -- what a look found between two beginnings was so between a shorter and a longer one
@@ -32,34 +32,28 @@ pub was-prefix : (t n : ℕ) (a b : List Change) → NewestWas t n a b → IsPre
 was-prefix t n a b (others, more, is, newest) =
     (others ++ C.Look t ∷ more, sym (append_assoc a others (C.Look t ∷ more)) ∙ sym is)
 
--- A look found the number of the newest generation. The handle has the number `seen` while it gives to its newest one
-pub late-or-newest : (found seen number t : ℕ) (old new : List Change) (table : TableId) → NewestWas t found old new
-    → found < 2 ^ 32 → (seen < 2 ^ 32 → seen ≡ number) → IsMade old number table → (b : Bool) → (found == seen) ≡ b
-    → MatchBool (not b) (IsPrefix old new) (NewestWas t number old new × IsMade new number table)
-late-or-newest found seen number t old new table was small is made true e =
-    let same : found ≡ seen = grind (arith, nat_tests) in
-    let here : found ≡ number = same ∙ is (omega (arith, same, small)) in
-    (subst (λ n. NewestWas t n old new) here was, made-later old new number table (was-prefix t found old new was) made)
-late-or-newest found seen number t old new table was small is made false e = was-prefix t found old new was
-
--- the same, by the number of the handle's newest generation
-pub behind-or-newest : (found number t : ℕ) (old new : List Change) (table : TableId) → NewestWas t found old new
-    → IsMade old number table → (b : Bool) → (found == number) ≡ b
+-- A look at the word of the handle's newest generation found that there is a later one, or none
+pub found-or-newest : (found number t : ℕ) (old new : List Change) (table : TableId) → Finds t number found old new
+    → IsMade new number table → (b : Bool) → (found == 0) ≡ b
     → MatchBool (not b) ((n : ℕ) × NewestWas t n old new × (n ≢ number) × IsMade new number table)
     (NewestWas t number old new × IsMade new number table)
-behind-or-newest found number t old new table was made true e =
-    let same : found ≡ number = grind (arith, nat_tests) in
-    (subst (λ n. NewestWas t n old new) same was, made-later old new number table (was-prefix t found old new was) made)
-behind-or-newest found number t old new table was made false e = (
-  found,
-  was,
-  λ same. grind (arith, nat_tests),
-  made-later old new number table (was-prefix t found old new was) made,
-)
+found-or-newest found number t old new table finds made true e =
+    let none : found ≡ 0 = grind (arith, nat_tests) in
+    (subst (λ n. NewestWas t n old new) (finds.same none) finds.was, made)
+found-or-newest found number t old new table finds made false e =
+    let other : found ≢ 0 = λ same. grind (arith, nat_tests) in
+    (finds.number, finds.was, finds.other (omega (arith, other)), made)
+
+-- what holds of the generation of a handle holds after a look
+pub kept-look : (old new : List Change) (number t found : ℕ) (table : TableId) → Finds t number found old new → IsMade old number table
+    → WasNewest old number → IsMade new number table × WasNewest new number × HasRisen new
+kept-look old new number t found table finds made was =
+    let more = was-prefix t finds.number old new finds.was in
+    (made-later old new number table more made, was-later old new number more was, finds.risen)
 
 module _ {T : Type 0} where
   pub later-refl : (g : Generations T) → IsLater g g
-  later-refl g = record { opened = refl; thread = refl; book = refl; seen = ([], append-nil g.seen) }
+  later-refl g = record { opened = refl; thread = refl; book = refl; seen = ([], append-nil g.seen); risen = omega arith }
 
   pub later-trans : (a b c : Generations T) → IsLater a b → IsLater b c → IsLater a c
   later-trans a b c p q = record {
@@ -67,23 +61,26 @@ module _ {T : Type 0} where
     thread = q.thread ∙ p.thread;
     book = q.book ∙ p.book;
     seen = prefix-trans a.seen b.seen c.seen p.seen q.seen;
+    risen = let first = p.risen in let then = q.risen in omega (arith, first, then);
   }
 
-  pub later-seen : (old new : Generations T) (log : List Change) → new ≡ with_seen old log → IsPrefix old.seen log → IsLater old new
-  later-seen old new log is p = record {
+  pub later-seen : (old new : Generations T) (log : List Change) → new ≡ with_seen old log → IsPrefix old.seen log → HasRisen log
+      → IsLater old new
+  later-seen old new log is p risen = record {
     opened = ap (λ g. g.opened) is;
     thread = ap (λ g. g.thread) is;
     book = ap (λ g. g.book) is;
     seen = subst (IsPrefix old.seen) (sym (ap (λ g. g.seen) is)) p;
+    risen = subst (λ l. newest_of old.seen ≤ newest_of l) (sym (ap (λ g. g.seen) is)) (risen-from old.seen log p risen);
   }
 
   pub later-newest : (old new : Generations T) (h : PayHeld T) → new ≡ with_newest old h → IsLater old new
   later-newest old new h is = subst (IsLater old) (sym is)
-      (record { opened = refl; thread = refl; book = refl; seen = ([], append-nil old.seen) })
+      (record { opened = refl; thread = refl; book = refl; seen = ([], append-nil old.seen); risen = omega arith })
 
   pub later-older : (old new : Generations T) (hs : List (PayHeld T)) → new ≡ with_older old hs → IsLater old new
   later-older old new hs is = subst (IsLater old) (sym is)
-      (record { opened = refl; thread = refl; book = refl; seen = ([], append-nil old.seen) })
+      (record { opened = refl; thread = refl; book = refl; seen = ([], append-nil old.seen); risen = omega arith })
 
   -- a handle that differs in its older generations alone
   pub same-but-older : {o : Opening} {t : ℕ} {k : Book} {s : List Change} {h : PayHeld T} {n : ℕ} (older : List (PayHeld T)) (b : Generations T)
@@ -98,6 +95,57 @@ module _ {T : Type 0} where
     newest = newest i;
     number = number i;
   }
+
+  -- more of the history was seen
+  pub follows-seen : (old new : Generations T) (log : List Change) → new ≡ with_seen old log → IsLater old new → Follows old new
+  follows-seen old new log is later = (
+    later,
+    ([], subst (λ (g : Generations T). IsPartOf (all_of g) (all_of old ++ [])) (sym is) (part-first (all_of old) [])),
+  )
+
+  -- a handle that has seen more of the history, and made a call in its newest generation
+  pub same-but-seen : {o : Opening} {t : ℕ} {k : Book} {older : List (PayHeld T)} {n : ℕ} (log : List Change) (h : PayHeld T)
+      (b : Generations T) → o ≡ b.opened → t ≡ b.thread → k ≡ b.book → older ≡ b.older → n ≡ b.number
+      → record { opened = o; thread = t; book = k; seen = log; older = older; newest = h; number = n }
+      ≡ with_newest (with_seen b log) h
+  same-but-seen log h b opened thread book older number = λ i. record {
+    opened = opened i;
+    thread = thread i;
+    book = book i;
+    seen = log;
+    older = older i;
+    newest = h;
+    number = number i;
+  }
+
+  -- what a look of the handle at the word of its newest generation found
+  abbrev pub Looked : ℕ → List Change → Generations T → Type 0
+  Looked found log g = Finds g.thread g.number found g.seen log × IsNumbered g
+
+  pub looked-later : (found : ℕ) (log : List Change) (g : Generations T) → Looked found log g → IsLater g (with_seen g log)
+  looked-later found log g looked =
+      later-seen g (with_seen g log) log refl (was-prefix g.thread looked.0.number g.seen log looked.0.was) looked.0.risen
+
+  pub looked-follows : (found : ℕ) (log : List Change) (g : Generations T) → Looked found log g → Follows g (with_seen g log)
+  looked-follows found log g looked = follows-seen g (with_seen g log) log refl (looked-later found log g looked)
+
+  -- it found that there is no later one
+  pub looked-newest : (found : ℕ) (log : List Change) (g : Generations T) → Looked found log g → found ≡ 0
+      → IsAtNewest g (with_seen g log)
+  looked-newest found log g looked none = (
+    subst (λ n. NewestWas g.thread n g.seen log) (looked.0.same none) looked.0.was,
+    made-later g.seen log g.number g.newest.pass.pass.table (was-prefix g.thread looked.0.number g.seen log looked.0.was) looked.1,
+  )
+
+  -- it found that there is one
+  pub looked-behind : (found : ℕ) (log : List Change) (g : Generations T) → Looked found log g → 0 < found
+      → IsBehind g (with_seen g log)
+  looked-behind found log g looked some = (
+    looked.0.number,
+    looked.0.was,
+    looked.0.other some,
+    made-later g.seen log g.number g.newest.pass.pass.table (was-prefix g.thread looked.0.number g.seen log looked.0.was) looked.1,
+  )
 
   pub seen-more : (mid new : Generations T) (b : Bool) → MatchBool b (IsAtNewest mid new) (IsBehind mid new) → IsPrefix mid.seen new.seen
   seen-more mid new true at = was-prefix new.thread new.number mid.seen new.seen at.0
@@ -123,18 +171,6 @@ module _ {T : Type 0} where
     ),
   )
 
-  -- a generation more
-  pub follows-join : (old new : Generations T) → IsLater old new → new.older ≡ all_of old → Follows old new
-  follows-join old new later older = (
-    later,
-    (
-      new.newest ∷ [],
-      subst (λ l. IsPartOf (l ++ new.newest ∷ []) (all_of old ++ new.newest ∷ [])) (sym older)
-          (subst (IsPartOf (all_of old ++ new.newest ∷ [])) (append-nil (all_of old ++ new.newest ∷ []))
-          (part-first (all_of old ++ new.newest ∷ []) [])),
-    ),
-  )
-
   -- some of the older ones fewer
   pub follows-less : (old new : Generations T) → IsLater old new → IsPartOf new.older old.older → new.newest ≡ old.newest
       → Follows old new
@@ -148,11 +184,21 @@ module _ {T : Type 0} where
     ),
   )
 
-  -- more of the history was seen
-  pub follows-seen : (old new : Generations T) (log : List Change) → new ≡ with_seen old log → IsPrefix old.seen log → Follows old new
-  follows-seen old new log is p = (
-    later-seen old new log is p,
-    ([], subst (λ (g : Generations T). IsPartOf (all_of g) (all_of old ++ [])) (sym is) (part-first (all_of old) [])),
+  -- some of the older generations, and nothing else
+  pub follows-older : (old : Generations T) (hs : List (PayHeld T)) → IsPartOf hs old.older → Follows old (with_older old hs)
+  follows-older old hs p = follows-less old (with_older old hs) (later-older old (with_older old hs) hs refl) p refl
+
+  -- generations more, the newest of which is the handle's newest then
+  pub follows-jump : (old new : Generations T) (between : List (PayHeld T)) → IsLater old new
+      → new.older ≡ all_of old ++ between → Follows old new
+  follows-jump old new between later older = (
+    later,
+    (
+      between ++ new.newest ∷ [],
+      subst (λ l. IsPartOf l (all_of old ++ (between ++ new.newest ∷ [])))
+          (sym (ap (λ l. l ++ new.newest ∷ []) older ∙ append_assoc (all_of old) between (new.newest ∷ [])))
+          (part-refl (all_of old ++ (between ++ new.newest ∷ []))),
+    ),
   )
 
   -- a handle that has seen more of the history, and then follows

@@ -1,12 +1,14 @@
 -- Takes from generations leave each of them as many and as large.
-use Rattle.std.proofs.Common.{◌≡◌, ◌⊎◌, ap, List, [], ◌∷◌, All, Option, inl, inr, refl, sym, ◌∙◌, subst}
+use Rattle.std.proofs.Common.{◌≡◌, ◌≢◌, ◌⊎◌, ◌<◌, ⊎_elim, ap, ℕ, true, false, List, [], ◌∷◌, All, None, Option, inl, inr, refl, sym, ◌∙◌, subst}
 use Rattle.std.proofs.lemmas.List.Elements.{All-cons, All-nil}
 use Rattle.kfifo_live.specs.declared.payload.Taken.{Taken}
 use Rattle.kfifo_live.specs.declared.view.Opening.{Opening}
 use Rattle.kfifo_live.specs.Handles.{PayHeld}
 use Rattle.kfifo_live.specs.declared.payload.Taken.TheVariants as K
-use Rattle.kfifo_renewing.specs.Renewing.{Generations, IsAtNewest, IsBehind, IsOpenedAs, TakesFirst, TakesNewest, TakesThere}
+use Rattle.kfifo_renewing.specs.declared.change.Change.{Change}
+use Rattle.kfifo_renewing.specs.Renewing.{Follows, Generations, IsAtNewest, IsBehind, IsLater, IsOpenedAs, TakesFirst, TakesFromOldest, TakesNewest, TakesThere}
 use Rattle.kfifo_renewing.specs.Renewing.{with_newest, with_older, with_seen}
+use Rattle.kfifo_renewing.proofs.Following.{Looked, both-before, follows-trans, later-newest, later-trans, looked-behind, looked-follows, looked-later, looked-newest}
 use Rattle.kfifo_renewing.proofs.Parts.{all-next}
 
 module _ {T : Type 0} where
@@ -40,3 +42,58 @@ module _ {T : Type 0} where
         takes = subst (λ (x : PayHeld T). TakesThere K.Empty old.newest x) (sym newest) takes;
         then = inr (refl, subst (λ (g : Generations T). ((answer ≡ K.Empty) × IsAtNewest g new) ⊎ ((answer ≡ K.Busy) × IsBehind g new)) is then);
       }
+
+  -- a call by a handle that had looked before it
+  pub takes-from-after : (answer : Taken T) (old mid new : Generations T) → Follows old mid → TakesFromOldest answer mid new
+      → TakesFromOldest answer old new
+  takes-from-after answer old mid new before (here, follows, inl takes) = (
+    here,
+    follows-trans old mid here before follows,
+    inl (both-before old mid here before.0.seen true takes.0, takes.1),
+  )
+  takes-from-after answer old mid new before (here, follows, inr busy) = (
+    here,
+    follows-trans old mid here before follows,
+    inr (both-before old mid here before.0.seen false busy.0, busy.1, busy.2),
+  )
+
+  -- a take by a handle with one generation, after a look that found no later one
+  pub took-here : (answer : Taken T) (g new : Generations T) (found : ℕ) (log : List Change) → Looked found log g → found ≡ 0
+      → g.older ≡ [] → IsLater (with_seen g log) new → new.number ≡ g.number → new.older ≡ []
+      → TakesNewest answer (with_seen g log) new → TakesFromOldest answer g new
+  took-here answer g new found log looked none alone later number older takes = (
+    with_seen g log,
+    looked-follows found log g looked,
+    inl (looked-newest found log g looked none, record {
+      later = later;
+      number = number;
+      found = None;
+      looked = [];
+      older = subst (λ hs. TakesFirst None hs []) (sym alone) (refl, refl);
+      left = older;
+      newest = inr (refl, takes);
+    }),
+  )
+
+  -- it found something, or lost each round
+  pub took-some : (answer : Taken T) (g : Generations T) (found : ℕ) (log : List Change) (h : PayHeld T) → Looked found log g → found ≡ 0
+      → g.older ≡ [] → TakesThere answer g.newest h → answer ≢ K.Empty → TakesFromOldest answer g (with_newest (with_seen g log) h)
+  took-some answer g found log h looked none alone takes some =
+      took-here answer g (with_newest (with_seen g log) h) found log looked none alone
+      (later-newest (with_seen g log) (with_newest (with_seen g log) h) h refl) refl alone
+      (record { taken = answer; takes = takes; then = inl (some, refl, refl) })
+
+  -- it found nothing, and looked again
+  pub took-none : (answer : Taken T) (g : Generations T) (found again : ℕ) (log more : List Change) (h : PayHeld T) → Looked found log g
+      → found ≡ 0 → g.older ≡ [] → TakesThere K.Empty g.newest h → Looked again more (with_newest (with_seen g log) h)
+      → ((answer ≡ K.Empty) × (again ≡ 0)) ⊎ ((answer ≡ K.Busy) × (0 < again))
+      → TakesFromOldest answer g (with_seen (with_newest (with_seen g log) h) more)
+  took-none answer g found again log more h looked none alone takes looked-again which =
+      let mid = with_newest (with_seen g log) h in
+      took-here answer g (with_seen mid more) found log looked none alone
+      (later-trans (with_seen g log) mid (with_seen mid more) (later-newest (with_seen g log) mid h refl)
+      (looked-later again more mid looked-again)) refl alone
+      (taken-empty answer (with_seen g log) mid (with_seen mid more) h refl refl takes (⊎_elim
+      (λ newest. inl (newest.0, looked-newest again more mid looked-again newest.1))
+      (λ behind. inr (behind.0, looked-behind again more mid looked-again behind.1))
+      which))

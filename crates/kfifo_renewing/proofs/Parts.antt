@@ -1,6 +1,7 @@
 -- Lists: parts of them, and what holds of all their elements.
-use Rattle.std.proofs.Common.{◌≡◌, ◌==◌, ◌+◌, ℕ, zero, suc, not, List, [], ◌∷◌, ◌++◌, All, take, drop, length, refl, sym, ap}
+use Rattle.std.proofs.Common.{◌≡◌, ◌==◌, ◌+◌, ℕ, zero, suc, Bool, true, false, not, List, [], ◌∷◌, ◌++◌, All, take, drop, length, refl, sym, ap}
 use Rattle.std.proofs.Common.{⊎_elim, arith, ◌∙◌, subst, inl, inr}
+use Rattle.std.specs.Prelude.{if◌then◌else◌}
 use Rattle.std.proofs.lemmas.List.{append-nil, drop_all, take_all}
 use Rattle.std.proofs.lemmas.List.Elements.{All-append, All-cons, All-drop, All-nil, All-take, filter-append}
 use Rattle.kfifo_live.specs.Schedule.{count_up}
@@ -58,6 +59,15 @@ module _ {A : Type 0} where
   all-part P part (x ∷ xs) (inr (rest, e, p)) all =
       let next = all-next P x xs (x ∷ xs) refl all in
       subst (All P) (sym e) (All-cons P x rest next.0 (all-part P rest xs p next.1))
+
+  -- with the elements of another list behind it, or without
+  pub cond-append : (b : Bool) (xs ys : List A) → (if b then xs ++ ys else xs) ≡ xs ++ (if b then ys else [])
+  cond-append true xs ys = refl
+  cond-append false xs ys = sym (append-nil xs)
+
+  pub all-cond : (P : A → Type 0) (b : Bool) (xs ys : List A) → All P xs → All P ys → All P (if b then xs ++ ys else xs)
+  all-cond P true xs ys first second = All-append P xs ys first second
+  all-cond P false xs ys first second = first
 
   -- a list, all of whose elements were written anew
   pub written : (xs ys : List A) (n : ℕ) → length ys ≡ length xs → n ≡ length xs

@@ -1,5 +1,5 @@
 -- The generations of a renewing queue, as a handle has joined them, and what its calls do to each.
-use Rattle.std.specs.Prelude.{◌≡◌, ◌≢◌, ◌⊎◌, ◌==◌, ℕ, not, List, [], ◌∷◌, ◌++◌, All, filter, map, Option, Some, None}
+use Rattle.std.specs.Prelude.{◌≡◌, ◌≢◌, ◌⊎◌, ◌≤◌, ◌==◌, ℕ, not, List, [], ◌∷◌, ◌++◌, All, filter, map, Option, Some, None}
 use mathlib.Core.List.{IsPrefix}
 use Rattle.logbook.specs.Pages.{Book}
 use Rattle.kfifo_live.specs.declared.payload.Given.{Given}
@@ -12,7 +12,7 @@ use Rattle.kfifo_live.specs.Payloads.{PayCloses, PayPassView, pay_opening}
 use Rattle.kfifo_live.specs.Promise.{KeepsPromise}
 use Rattle.kfifo_live.specs.Schedule.{count_up}
 use Rattle.kfifo_live.specs.declared.view.Opening.{Opening}
-use Rattle.kfifo_renewing.specs.History.{IsMade, NewestWas}
+use Rattle.kfifo_renewing.specs.History.{IsMade, NewestWas, newest_of}
 use Rattle.kfifo_renewing.specs.declared.change.Change.{Change}
 use Rattle.kfifo_renewing.specs.declared.generation.Sizes.{Sizes}
 use Rattle.kfifo_renewing.specs.declared.places.Lineage.{Lineage}
@@ -104,12 +104,14 @@ module _ {T : Type 0} where
     number = g.number;
   }
 
-  -- it is the handle of the same thread in the same queue, and has seen no less of the history
+  -- It is the handle of the same thread in the same queue, and has seen no less of the history. The number of the newest
+  -- generation of the queue has not fallen
   pub record IsLater (old new : Generations T) : Type 0 where
     pub opened : new.opened ≡ old.opened
     pub thread : new.thread ≡ old.thread
     pub book : new.book ≡ old.book
     pub seen : IsPrefix old.seen new.seen
+    pub risen : newest_of old.seen ≤ newest_of new.seen
 
   -- the newest generation of the handle is the one with its number in the history
   abbrev pub IsNumbered : Generations T → Type 0
@@ -153,10 +155,18 @@ module _ {T : Type 0} where
       × ((IsAtNewest old here × GivesThere payload answer here new)
       ⊎ (IsBehind old here × (answer ≡ G.Busy payload) × (new ≡ here)))
 
+  -- A try after one that came to a generation with no version left. Worn: it came to the same one, which was still the
+  -- newest. Where it came to another one with no version left, Busy stands for Worn
+  pub record TriesAgain (payload : T) (answer : Given T) (worn new : Generations T) : Type 0 where
+    pub tried : Given T
+    pub tries : TriesToGive payload tried worn new
+    pub then : ((answer ≡ tried) × (answer ≡ G.Worn payload → new.number ≡ worn.number))
+        ⊎ ((tried ≡ G.Worn payload) × (answer ≡ G.Busy payload) × (new.number ≢ worn.number))
+
   -- What `give` did: one try, or a second one where the first came to a generation with no version left
   abbrev pub GivesToNewest : T → Given T → Generations T → Generations T → Type 0
-  GivesToNewest payload answer old new = TriesToGive payload answer old new
-      ⊎ ((worn : Generations T) × TriesToGive payload (G.Worn payload) old worn × TriesToGive payload answer worn new)
+  GivesToNewest payload answer old new = (TriesToGive payload answer old new × (answer ≢ G.Worn payload))
+      ⊎ ((worn : Generations T) × TriesToGive payload (G.Worn payload) old worn × TriesAgain payload answer worn new)
 
   -- one take from a generation, whose promise is then kept
   pub record TakesThere (answer : Taken T) (old new : PayHeld T) : Type 0 where

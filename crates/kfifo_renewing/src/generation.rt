@@ -5,7 +5,7 @@ ghost use Rattle.kfifo_renewing.specs.History.{IsMade};
 ghost use Rattle.kfifo_renewing.specs.Renewing.{Numbered, other_threads, without};
 
 use crate::exclusive::Exclusive;
-use crate::history::History;
+use crate::history::{History, Next};
 use counted_slot::{Counted, FREE, Fits, TAKEN};
 use kfifo_live::{CloseFault, PayPass, PayQueue};
 use kfifo_words::Shape;
@@ -54,13 +54,14 @@ impl<T: Drop> Fits for Waiting<T> {
     ghost fits = { λ queue waiting. IsPassOf queue waiting.pass.inner.pass };
 }
 
-/// A queue of payloads with its number, the passes that wait in it, and how many handles may give to it.
+/// A queue of payloads with its number and what it says of the next one, the passes that wait in it, and how many handles
+/// may give to it.
 ///
 /// Clauses see it as its queue and its number, with a beginning of the history, in which it has that number.
 #[derive(Drop)]
 pub(crate) struct Generation<T: Drop> {
     queue: PayQueue<T>,
-    number: u32,
+    next: Next,
     history: History,
     waiting: Vec<Counted<Option<Waiting<T>>>>,
     givers: AtomicU64,
@@ -69,10 +70,15 @@ pub(crate) struct Generation<T: Drop> {
 impl<T: Drop> Model for Generation<T> {
     ghost Value = { Numbered };
 
-    ghost view = { λ g. record { queue = g.queue; number = g.number; book = g.history.book; seen = g.history.log } };
+    ghost view = { λ g. record {
+      queue = g.queue;
+      number = g.next.number;
+      book = g.history.book;
+      seen = g.history.log;
+    } };
 
     ghost invariant = { λ g. All (λ queue. queue ≡ g.queue) g.waiting.items
-        × IsMade g.history.log g.number g.queue.table };
+        × IsMade g.history.log g.next.number g.queue.table × (g.next.book ≡ g.history.book) };
 }
 
 /// A place for each of these passes, in which it waits, in their order.
@@ -131,23 +137,22 @@ fn add_other<T: Drop>(
 }
 
 impl<T: Drop> Generation<T> {
-    /// The generation with this queue, its passes, and the number that it has in the history. No handle gives to it
-    /// yet.
+    /// The generation with this queue, its passes, and its word in the history. No handle gives to it yet.
     pub(crate) fn new(
         alloc: Global,
         queue: PayQueue<T>,
         passes: Vec<PayPass<T>>,
-        number: u32,
+        next: Next,
         history: History,
     ) -> Result<Generation<T>, AllocError>
         requires passes { All (λ p. IsPassOf queue p.pass) passes.items }
-        requires number { IsMade history.log number queue.table }
-        ensures { IfOk result (λ g. (g.queue ≡ queue) × (g.number ≡ number) × (g.book ≡ history.book)) }
+        requires number { IsMade history.log next.number queue.table × (next.book ≡ history.book) }
+        ensures { IfOk result (λ g. (g.queue ≡ queue) × (g.number ≡ next.number) × (g.book ≡ history.book)) }
     {
         let waiting = seat_all(alloc, &queue, passes)?;
         Ok(Generation {
             queue,
-            number,
+            next,
             history,
             waiting,
             givers: AtomicU64::new(0),
@@ -166,7 +171,15 @@ impl<T: Drop> Generation<T> {
     pub(crate) fn number(&self) -> u32
         ensures { result ≡ self.now.number }
     {
-        self.number
+        self.next.number()
+    }
+
+    /// What it says of the next generation.
+    #[inline(always)]
+    pub(crate) fn next(&self) -> &Next
+        ensures { (result.now.number ≡ self.now.number) × (result.now.book ≡ self.now.book) }
+    {
+        &self.next
     }
 
     /// What its maker had seen of the history.

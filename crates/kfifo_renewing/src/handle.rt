@@ -1,25 +1,23 @@
 //! Calls of a renewing queue.
-ghost use Rattle.std.specs.Prelude.{◌≡◌, ◌↔◌, ◌<◌, ◌^◌, true, List, [], All, IfOk, IfSome, MatchBool, length};
+ghost use Rattle.std.specs.Prelude.{◌≡◌, ◌↔◌, true, List, [], All, IfOk, IfSome, MatchBool, length};
 ghost use Rattle.std.specs.Ptr.{as_ptr};
-ghost use mathlib.Core.List.{IsPrefix};
 ghost use Rattle.kfifo_live.specs.Handles.{PayHeld};
-ghost use Rattle.kfifo_renewing.specs.History.{IsMade, NewestWas};
+ghost use Rattle.kfifo_live.specs.Pass.{IsPassOf};
+ghost use Rattle.kfifo_renewing.specs.History.{HasRisen, IsMade, WasNewest};
 ghost use Rattle.kfifo_renewing.specs.Renewing.{Follows, Generations, GivesToNewest, IsAtNewest, IsBehind, IsLater};
 ghost use Rattle.kfifo_renewing.specs.Renewing.{IsOpenedAs, IsPartOf, TakesFirst, TakesFromOldest, TakesNewest};
-ghost use Rattle.kfifo_renewing.specs.Renewing.{TakesOldest, TriesToGive, all_of, opening_of, with_older, with_seen};
+ghost use Rattle.kfifo_renewing.specs.Renewing.{TakesOldest, TriesAgain, TriesToGive, all_of, opening_of, with_older, with_seen};
 
+use crate::generation::Generation;
 use crate::history::History;
 use crate::joined::Joined;
 use crate::leaving::Leaving;
-use crate::queue::{FIRST, Shared};
+use crate::queue::Shared;
 use kfifo_live::{Given, Taken};
 use std::alloc::{AllocError, Global};
 use std::marker::Model;
 use std::mem::replace;
 use std::sync::Arc;
-
-/// The number of no generation.
-const NONE: u64 = u64::MAX;
 
 /// How often a handle tries to follow others to a generation that is newer still.
 const TRIES: u32 = 64;
@@ -46,13 +44,11 @@ pub struct RenewingHandle<T: Drop> {
     shared: Arc<Shared<T>, Global>,
     history: History,
     newest: Leaving<Joined<T>>,
-    /// The number of that.
-    number: u32,
+    /// The same generation. The handle counts among those that give to it, unless that says that there is a later one.
+    generation: Arc<Generation<T>, Global>,
     /// The generations before it that may still have payloads, the oldest first.
     older: Vec<Leaving<Joined<T>>>,
     thread: u32,
-    /// The number of the newest generation, while the handle counts among those that give to it, and NONE else.
-    seen: u64,
     gives_left: u64,
     gives_between_looks: u64,
 }
@@ -67,14 +63,15 @@ impl<T: Drop> Model for RenewingHandle<T> {
       seen = h.history.log;
       older = h.older.items;
       newest = h.newest;
-      number = h.number;
+      number = h.generation.value.number;
     } };
 
     ghost invariant = { λ h. IsOpenedAs (opening_of h.shared.value.sizes) h.newest
         × All (IsOpenedAs (opening_of h.shared.value.sizes)) h.older.items
         × (h.history.book ≡ h.shared.value.history.book)
-        × IsMade h.history.log h.number h.newest.pass.pass.table
-        × (h.seen < 2 ^ 32 → h.seen ≡ h.number) };
+        × IsMade h.history.log h.generation.value.number h.newest.pass.pass.table
+        × WasNewest h.history.log h.generation.value.number × HasRisen h.history.log
+        × IsPassOf h.generation.value.queue h.newest.pass.pass × (h.generation.value.book ≡ h.history.book) };
 }
 
 impl<T: Drop> RenewingHandle<T> {
@@ -83,12 +80,15 @@ impl<T: Drop> RenewingHandle<T> {
         alloc: Global,
         shared: Arc<Shared<T>, Global>,
         history: History,
+        generation: Arc<Generation<T>, Global>,
         mut newest: Leaving<Joined<T>>,
         thread: u32,
     ) -> Result<RenewingHandle<T>, AllocError>
         requires opened { IsOpenedAs (opening_of shared.value.sizes) newest }
-        requires book { history.book ≡ shared.value.history.book }
-        requires first { IsMade history.log 0 newest.pass.pass.table }
+        requires books { (history.book ≡ shared.value.history.book) × (generation.value.book ≡ history.book) }
+        requires first { (generation.value.number ≡ 0) × IsMade history.log 0 newest.pass.pass.table }
+        requires of { IsPassOf generation.value.queue newest.pass.pass }
+        requires risen { HasRisen history.log }
         ensures same { IfOk result (λ h. (h.opened ≡ opening_of shared.value.sizes) × (h.thread ≡ thread)
             × (h.book ≡ history.book)) }
         ensures one { IfOk result (λ h. (h.older ≡ []) × (h.newest ≡ newest) × (h.number ≡ 0)) }
@@ -100,78 +100,131 @@ impl<T: Drop> RenewingHandle<T> {
             shared,
             history,
             newest,
-            number: FIRST,
+            generation,
             older,
             thread,
-            seen: u64::from(FIRST),
             gives_left: gives_between_looks,
             gives_between_looks,
         })
     }
 
-    /// Whether a generation has been opened that this handle has not joined.
-    #[inline(always)]
-    fn is_late(&mut self) -> bool
-        ensures same { self.new ≡ with_seen self.old self.new.seen }
-        ensures newest { MatchBool result (IsPrefix self.old.seen self.new.seen) (IsAtNewest self.old self.new) }
+    /// The number of the generation that the handle joined last.
+    fn number(&self) -> u32
+        ensures { result ≡ self.now.number }
     {
-        let found = self.shared.numbers().look(self.thread, &mut self.history);
-        found != self.seen
+        self.generation.number()
     }
 
     /// Whether another generation than the one that the handle joined last is the newest of the queue.
     fn is_behind(&mut self) -> bool
         ensures same { self.new ≡ with_seen self.old self.new.seen }
+        ensures later { IsLater self.old self.new }
         ensures newest { MatchBool result (IsBehind self.old self.new) (IsAtNewest self.old self.new) }
     {
-        let found = self.shared.numbers().look(self.thread, &mut self.history);
-        found != u64::from(self.number)
+        let found = self
+            .generation
+            .next()
+            .look(self.thread, &mut self.history);
+        found != 0
     }
 
-    /// Joins the generation with this number at this place, which is then the newest one of the handle.
-    fn join(&mut self, place: usize, number: u32) -> bool
+    /// The generation with this number at this place, and the handle of the thread in it, if it is still there.
+    fn enter(
+        &self,
+        place: usize,
+        number: u32,
+    ) -> Option<(Arc<Generation<T>, Global>, Leaving<Joined<T>>)>
+        ensures of { IfSome result (λ r. IsOpenedAs self.now.opened r.1 × IsPassOf r.0.value.queue r.1.pass.pass
+            × (r.0.value.book ≡ self.now.book)) }
+    {
+        let generation = self.shared.places().read(place, number)?;
+        let part = Arc::try_clone(&generation).ok()?;
+        let joined = Joined::join(part, place, self.thread)?;
+        Some((generation, joined))
+    }
+
+    /// The same for the generation with this number, wherever it is, if it comes after that of the handle.
+    fn enter_numbered(
+        &self,
+        number: u64,
+    ) -> Option<(Arc<Generation<T>, Global>, Leaving<Joined<T>>)>
+        ensures of { IfSome result (λ r. IsOpenedAs self.now.opened r.1 × IsPassOf r.0.value.queue r.1.pass.pass
+            × (r.0.value.book ≡ self.now.book)) }
+        ensures number { IfSome result (λ r. r.0.value.number ≡ number) }
+    {
+        let number = u32::try_from(number).ok()?;
+        let place = self.shared.places().find(number)?;
+        let (generation, joined) = self.enter(place, number)?;
+        if number <= self.number() || generation.number() != number {
+            return None;
+        }
+        Some((generation, joined))
+    }
+
+    /// The handle of the thread in each generation that it has not joined and whose number is below this one, in the
+    /// order of their numbers. Returns None where it could not join all that are there.
+    fn enter_below(&self, end: u64) -> Option<Vec<Leaving<Joined<T>>>>
+        ensures { IfSome result (λ between. All (IsOpenedAs self.now.opened) between.items) }
+    {
+        let mut between = Vec::new(self.shared.allocator());
+        let mut number = self.number();
+        for _ in 0..TRIES {
+            let Some((place, next)) = self.shared.places().next_after(number, end) else {
+                return Some(between);
+            };
+            let Some((_, joined)) = self.enter(place, next) else {
+                // If it has gone, the next look does not find it.
+                continue;
+            };
+            between.push(joined).ok()?;
+            number = next;
+        }
+        None
+    }
+
+    /// Joins the generation with this number, which was the newest, and each before it that the handle has not joined.
+    /// Joins none where it cannot join all.
+    fn join_up_to(&mut self, last: u64)
+        requires { WasNewest self.old.seen last }
         ensures { Follows self.old self.new }
     {
-        let Some(generation) = self.shared.places().read(place, number) else {
-            return false;
+        let Some((generation, newest)) = self.enter_numbered(last) else {
+            return;
         };
-        if self.older.reserve(1).is_err() {
-            return false;
+        let Some(mut between) = self.enter_below(last) else {
+            return;
+        };
+        let Some(more) = between.len().checked_add(1) else {
+            return;
+        };
+        if self.older.reserve(more).is_err() {
+            return;
         }
         self.history.learn(generation.history());
-        let number = generation.number();
-        let Some(joined) = Joined::join(generation, place, self.thread) else {
-            return false;
-        };
-        self.seen = NONE;
-        self.number = number;
-        let before = replace(&mut self.newest, joined);
+        self.generation = generation;
+        let before = replace(&mut self.newest, newest);
         self.older.push_reserved(before);
-        true
+        // There is room for them, so all are moved.
+        let _ = self.older.append(&mut between);
     }
 
-    /// Joins each generation up to the one with this number, if all are there.
-    fn join_up_to(&mut self, number: u64)
-        ensures { Follows self.old self.new }
+    /// The number of a generation that was the newest after that of the handle, or of the handle's where that is the
+    /// newest still.
+    fn latest(&mut self) -> u64
+        ensures same { self.new ≡ with_seen self.old self.new.seen }
+        ensures later { IsLater self.old self.new }
+        ensures newest { WasNewest self.new.seen result }
     {
-        for _ in 0..TRIES {
-            let Some((place, next)) = self.shared.places().next_after(self.number, number) else {
-                break;
-            };
-            if !self.join(place, next) {
-                break;
-            }
-        }
+        let found = self
+            .generation
+            .next()
+            .look(self.thread, &mut self.history);
+        // The handle that made it the newest may not have said so yet, and nobody waits for that.
+        self.shared
+            .numbers()
+            .advance(self.generation.number(), found, &self.history);
+        self.shared.numbers().newest(&mut self.history)
     }
-
-    /// Stops giving to the generation that is the newest one of the handle.
-    fn stop_giving(&mut self)
-        ensures { self.new ≡ self.old }
-    {
-        self.newest.stop_giving();
-        self.seen = NONE;
-    }
-
     /// Leaves those of the older generations that are gone from their places: nobody gives to them any more, and they
     /// were found empty.
     fn leave_gone(&mut self)
@@ -194,7 +247,7 @@ impl<T: Drop> RenewingHandle<T> {
     fn oldest(&self) -> u32 {
         match self.older.first() {
             Some(joined) => joined.number(),
-            None => self.number,
+            None => self.number(),
         }
     }
 
@@ -202,15 +255,15 @@ impl<T: Drop> RenewingHandle<T> {
     /// of the queue. Returns whether it is.
     fn start_giving(&mut self) -> bool
         ensures same { self.new ≡ with_seen self.old self.new.seen }
+        ensures later { IsLater self.old self.new }
         ensures newest { MatchBool result (IsAtNewest self.old self.new) (IsBehind self.old self.new) }
     {
-        // Who sees the number risen and then nobody that gives takes the generation for over: so count first.
+        // Who sees a later generation, and then nobody that gives, takes this one for over: so count first.
         self.newest.start_giving();
         if self.is_behind() {
             self.newest.stop_giving();
             return false;
         }
-        self.seen = u64::from(self.number);
         true
     }
 
@@ -220,11 +273,8 @@ impl<T: Drop> RenewingHandle<T> {
         ensures follows { Follows self.old self.new }
         ensures newest { MatchBool result (IsAtNewest self.old self.new) (IsBehind self.old self.new) }
     {
-        let number = self.shared.numbers().look(self.thread, &mut self.history);
-        self.join_up_to(number);
-        if u64::from(self.number) != number {
-            return false;
-        }
+        let last = self.latest();
+        self.join_up_to(last);
         self.start_giving()
     }
 
@@ -236,7 +286,7 @@ impl<T: Drop> RenewingHandle<T> {
         ensures follows { Follows self.old self.new }
         ensures newest { MatchBool result (IsAtNewest self.old self.new) (IsBehind self.old self.new) }
     {
-        self.stop_giving();
+        self.newest.stop_giving();
         self.leave_gone();
         self.shared.places().retire_below(self.oldest());
         for _ in 1..TRIES {
@@ -247,59 +297,77 @@ impl<T: Drop> RenewingHandle<T> {
         self.try_to_follow()
     }
 
-    /// Looks at the versions that the newest generation has left, and opens the next one where they are too few.
-    #[cold]
-    #[inline(never)]
-    fn look(&mut self)
-        ensures { self.new ≡ self.old }
-    {
-        self.gives_left = self.gives_between_looks;
-        if self.shared.is_spent(self.newest.generation()) {
-            self.shared.renew(self.seen);
-        }
-    }
-
     /// Follows others if they have opened a generation. Returns false where it did not come to that.
-    #[inline(always)]
     fn keep_up(&mut self) -> bool
         ensures follows { Follows self.old self.new }
         ensures newest { MatchBool result (IsAtNewest self.old self.new) (IsBehind self.old self.new) }
     {
-        if self.is_late() {
+        if self.is_behind() {
             return self.follow();
         }
         true
     }
 
+    /// Opens the generation after the newest one, unless another handle has done so, or memory or room is missing.
+    fn renew(&self) {
+        self.shared
+            .renew(&self.generation, self.thread, self.history.again());
+    }
+
+    /// Looks at the versions that the newest generation has left, once the handle has made so many gives, and opens the
+    /// next one where they are too few.
+    fn look_at_versions(&mut self)
+        ensures { self.new ≡ self.old }
+    {
+        if self.gives_left != 0 {
+            return;
+        }
+        self.gives_left = self.gives_between_looks;
+        if self.shared.is_spent(&self.generation) {
+            self.renew();
+        }
+    }
+
     /// Gives to the newest generation, once it has followed others to it.
-    #[inline(always)]
     fn try_to_give(&mut self, payload: T) -> Given<T>
         ensures { TriesToGive payload result self.old self.new }
     {
         if !self.keep_up() {
             return Given::Busy(payload);
         }
-        self.newest.give(payload)
+        self.newest.give(self.generation.queue(), payload)
     }
 
     /// Gives a payload for which the newest generation had no version left, to the next one.
     #[cold]
     #[inline(never)]
     fn give_to_next(&mut self, payload: T) -> Given<T>
-        ensures { TriesToGive payload result self.old self.new }
+        ensures { TriesAgain payload result self.old self.new }
     {
-        self.shared.renew(self.seen);
-        self.try_to_give(payload)
+        let worn = self.number();
+        self.renew();
+        let given = self.try_to_give(payload);
+        if self.number() == worn {
+            return given;
+        }
+        match given {
+            // Others have used up the next one meanwhile, so there may be one behind it.
+            Given::Worn(back) => Given::Busy(back),
+            given => given,
+        }
     }
 
-    /// Counts a give, and looks at the versions that are left once the handle has made so many.
-    #[inline(always)]
-    fn count_give(&mut self)
-        ensures { self.new ≡ self.old }
+    /// The same as `give`, where the handle is to look at the versions that are left, or has others to follow.
+    // Out of line, it leaves the other calls without a call before the give, and so with more registers.
+    #[cold]
+    #[inline(never)]
+    fn give_late(&mut self, payload: T) -> Given<T>
+        ensures { GivesToNewest payload result self.old self.new }
     {
-        match self.gives_left.checked_sub(1) {
-            Some(left) => self.gives_left = left,
-            None => self.look(),
+        self.look_at_versions();
+        match self.try_to_give(payload) {
+            Given::Worn(back) => self.give_to_next(back),
+            given => given,
         }
     }
 
@@ -317,8 +385,16 @@ impl<T: Drop> RenewingHandle<T> {
     pub fn give(&mut self, payload: T) -> Given<T>
         ensures { GivesToNewest payload result self.old self.new }
     {
-        self.count_give();
-        match self.try_to_give(payload) {
+        self.gives_left = self.gives_left.wrapping_sub(1);
+        if self.gives_left == 0 {
+            return self.give_late(payload);
+        }
+        // One reference for the look and the call: else the compiler loads the pointer again after the look.
+        let generation: &Generation<T> = &self.generation;
+        if generation.next().look(self.thread, &mut self.history) != 0 {
+            return self.give_late(payload);
+        }
+        match self.newest.give(generation.queue(), payload) {
             Given::Worn(back) => self.give_to_next(back),
             given => given,
         }
@@ -326,8 +402,6 @@ impl<T: Drop> RenewingHandle<T> {
 
     /// Takes from the first of the older generations that is not found empty. Returns None where each was. The handle
     /// leaves those that are over.
-    #[cold]
-    #[inline(never)]
     fn take_older(&mut self) -> Option<Taken<T>>
         ensures same { self.new ≡ with_older self.old self.new.older }
         ensures takes { (looked : List (PayHeld T)) × TakesFirst result self.old.older looked
@@ -344,13 +418,12 @@ impl<T: Drop> RenewingHandle<T> {
     }
 
     /// Takes from the newest generation, where each older one is empty.
-    #[inline(always)]
     fn take_newest(&mut self) -> Taken<T>
         ensures later { IsLater self.old self.new }
         ensures same { (self.new.older ≡ self.old.older) × (self.new.number ≡ self.old.number) }
         ensures takes { TakesNewest result self.old self.new }
     {
-        let taken = self.newest.take();
+        let taken = self.newest.take(self.generation.queue());
         if let Taken::Empty = taken {
             // A value may lie in the generation that others have opened meanwhile.
             if self.is_behind() {
@@ -361,27 +434,25 @@ impl<T: Drop> RenewingHandle<T> {
     }
 
     /// Takes from the oldest generation that is not empty.
-    #[inline(always)]
     fn take_oldest(&mut self) -> Taken<T>
-        ensures { TakesOldest result self.old self.new }
-    {
-        if !self.older.is_empty() {
-            return self.take_from_all();
-        }
-        self.take_newest()
-    }
-
-    /// The same, where the handle has older generations.
-    // With a second take of the newest generation in one function with the first, a take costs 10 instructions more.
-    #[cold]
-    #[inline(never)]
-    fn take_from_all(&mut self) -> Taken<T>
         ensures { TakesOldest result self.old self.new }
     {
         match self.take_older() {
             Some(taken) => taken,
             None => self.take_newest(),
         }
+    }
+
+    /// The same as `take`, where the handle has older generations, or others to follow.
+    #[cold]
+    #[inline(never)]
+    fn take_late(&mut self) -> Taken<T>
+        ensures { TakesFromOldest result self.old self.new }
+    {
+        if !self.keep_up() {
+            return Taken::Busy;
+        }
+        self.take_oldest()
     }
 
     /// Takes one of the k oldest payloads of the oldest generation that has one, as `PayHandle::take` does.
@@ -398,10 +469,22 @@ impl<T: Drop> RenewingHandle<T> {
     pub fn take(&mut self) -> Taken<T>
         ensures { TakesFromOldest result self.old self.new }
     {
-        if !self.keep_up() {
-            return Taken::Busy;
+        let generation: &Generation<T> = &self.generation;
+        let next = generation.next();
+        let later = next.look(self.thread, &mut self.history);
+        // One test for both.
+        if later + self.older.len() as u64 != 0 {
+            return self.take_late();
         }
-        self.take_oldest()
+        // Arm by arm, so that the answers of the call below and those of its caller come to one test.
+        match self.newest.take(generation.queue()) {
+            Taken::Got(payload) => Taken::Got(payload),
+            // A value may lie in the generation that others have opened meanwhile.
+            Taken::Empty if next.look(self.thread, &mut self.history) != 0 => Taken::Busy,
+            Taken::Empty => Taken::Empty,
+            Taken::Busy => Taken::Busy,
+            Taken::Worn => Taken::Worn,
+        }
     }
 
     /// Follows others that have opened a newer generation, and returns in how many generations the handle then is.
@@ -430,7 +513,7 @@ impl<T: Drop> RenewingHandle<T> {
         // What both have seen of the history has one generation at a number.
         let mut history = self.history.again();
         history.learn(&other.history);
-        self.number == other.number
+        self.number() == other.number()
     }
 
     /// Where its queue is: the same address for all handles of a queue, and another one for each other queue that is
@@ -473,7 +556,7 @@ fn take_first<T: Drop>(generations: &mut [Leaving<Joined<T>>]) -> Option<Taken<T
     let (first, rest) = generations.split_first_mut()?;
     // This look comes before the take: a payload that is given after the take would be lost with the generation.
     let has_givers = first.generation().has_givers();
-    match first.take() {
+    match first.take_here() {
         Taken::Empty => {
             first.set_over(!has_givers);
             take_first(rest)

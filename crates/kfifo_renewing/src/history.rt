@@ -1,31 +1,33 @@
-//! The history of a queue's generations, and the two words that tell of it.
+//! The history of a queue's generations, and the words that tell of it.
 //!
 //! The history lives in proofs alone: a `History` is a beginning of it that was seen, and has no bytes.
-ghost use Rattle.std.specs.Prelude.{◌≡◌, ◌+◌, ◌<◌, ◌≤◌, ◌^◌, IfSome};
+ghost use Rattle.std.specs.Prelude.{◌≡◌, ◌+◌, ◌<◌, ◌≤◌, ◌^◌, IfSome, true};
 ghost use Rattle.atomic_table.specs.Seated.{TableId};
-ghost use Rattle.kfifo_renewing.specs.History.{IsMade, NewestWas};
+ghost use Rattle.logbook.specs.Pages.{may_make, may_write, nib};
+ghost use mathlib.Core.List.{IsPrefix};
+ghost use Rattle.kfifo_renewing.specs.History.{Finds, HasRisen, IsMade, WasNewest, key_of};
 
 use crate::change::Change;
 use kfifo_live::PayQueue;
-use logbook::{Gain, Offer, Opening, Plain, Play, Rule, Seen, Start, Word};
+use logbook::{Gain, Offer, Opening, Pen, Plain, Play, Rule, Seen, Start, Word};
 use std::marker::Model;
 
 /// How often a step on a word is tried that other threads change meanwhile.
 const TRIES: u32 = 1_024;
 
-/// What holds of the history and the two words at each moment.
+/// What holds of the history and the words at each moment.
 pub struct HistoryRule;
 
 impl Rule<Change, u64> for HistoryRule {
     ghost use Rattle.std.specs.Prelude.{[]};
     ghost use base.Fml.{ftrue};
-    ghost use Rattle.kfifo_renewing.specs.History.{IsKept};
+    ghost use Rattle.kfifo_renewing.specs.History.{IsKept, WasNewest};
 
     ghost holds = { λ cells log. IsKept cells log };
 
     ghost first = { [] };
 
-    ghost hinted = { λ n log. Unit {0} };
+    ghost hinted = { λ n log. WasNewest log n };
 
     ghost shows = { λ log. [] };
 
@@ -46,7 +48,7 @@ impl Gain<Change, u64> for NoGain {
     ghost after = { λ names about answer. ftrue };
 }
 
-/// A look which generation is the newest, by the thread that looks.
+/// A look at the word of a generation, by the thread that looks.
 pub struct Looking;
 
 impl Plain<u32, Change, u64> for Looking {
@@ -64,11 +66,13 @@ impl Play<Change, u64> for Looking {
     ghost then = { Looks };
 }
 
-/// A step that tells nothing.
-pub struct Silent;
+/// A step that makes a generation the newest.
+pub struct Renewing;
 
-impl Play<Change, u64> for Silent {
-    ghost then = { λ s v found w. Unit {0} };
+impl Play<Change, u64> for Renewing {
+    ghost use Rattle.kfifo_renewing.specs.History.{Renews};
+
+    ghost then = { Renews };
 }
 
 /// A step that gives a queue its number as a generation.
@@ -97,91 +101,175 @@ impl<T: Drop> Opening<PayQueue<T>, Change> for Numbering {
     ghost log = { λ count queue. making_of queue.table ∷ [] };
 }
 
-/// The numbers of a queue's generations.
+/// What a generation says of the next one: its number once there is one, and 0 before.
+///
+/// Clauses see the generation's number, and the book that has the word.
+#[derive(Drop)]
+pub(crate) struct Next {
+    number: u32,
+    word: Word<Change, u64, HistoryRule>,
+}
+
+impl Model for Next {
+    ghost use Rattle.std.specs.Prelude.{◌≡◌};
+    ghost use Rattle.kfifo_renewing.specs.History.{NextView, key_of, word_of};
+
+    ghost Value = { NextView };
+
+    ghost view = { λ n. record { number = n.number; book = n.word.book } };
+
+    ghost invariant = { λ n. n.word ≡ word_of n.word.book (key_of n.number) };
+}
+
+/// The number of the newest generation, as far as its maker or another handle has said so, and the greatest number that
+/// was given.
 ///
 /// Clauses see them as the book that has the history.
 #[derive(Drop)]
 pub(crate) struct Numbers {
-    /// The number of the newest generation.
+    /// The number of a generation that was the newest.
     newest: Word<Change, u64, HistoryRule>,
     /// The greatest number of a generation that was made.
     greatest: Word<Change, u64, HistoryRule>,
 }
 
 impl Model for Numbers {
-    ghost use Rattle.std.specs.Prelude.{◌≡◌};
+    ghost use Rattle.std.specs.Prelude.{◌≡◌, false};
     ghost use Rattle.logbook.specs.Pages.{Book};
     ghost use Rattle.kfifo_renewing.specs.History.{word_of};
 
     ghost Value = { Book };
 
-    ghost view = { λ n. n.newest.book };
+    ghost view = { λ n. n.greatest.book };
 
-    ghost invariant = { λ n. (n.newest ≡ word_of n.newest.book 0) × (n.greatest ≡ word_of n.newest.book 1) };
+    ghost invariant = { λ n. (n.greatest ≡ word_of n.greatest.book 0) × (n.newest.tracked ≡ false)
+        × (n.newest.book ≡ n.greatest.book) };
 }
 
-impl Numbers {
-    /// The numbers of a queue with one generation, which has the number 0.
-    pub(crate) fn open<T: Drop>(queue: &PayQueue<T>) -> (Numbers, History)
-        ensures book { result.1.book ≡ result.0 }
-        ensures first { IsMade result.1.log 0 queue.now.table }
+impl Next {
+    /// The word of the generation with this number, which the pen may make.
+    fn new(number: u32, pen: &mut Pen) -> Next
+        requires { pen.old.nib ≡ nib may_make (key_of number) 0 }
+        ensures next { (result.number ≡ number) × (result.book ≡ pen.old.book) }
+        ensures pen { (pen.new.book ≡ pen.old.book) × (pen.new.nib ≡ nib may_write (key_of number) 0) }
     {
-        let (history, mut pens) = History::open_row::<PayQueue<T>, Numbering>(
-            queue,
-            Start::alone(),
-            2,
-        );
-        let newest = Word::tracked(0, &mut pens.take());
-        let greatest = Word::tracked(0, &mut pens.take());
-        (Numbers { newest, greatest }, history)
+        let word = Word::tracked(0, pen);
+        Next { number, word }
     }
 
-    /// The number of the newest generation, as one load of this thread finds it, which is a look.
+    /// The number of the generation.
+    pub(crate) fn number(&self) -> u32
+        ensures { result ≡ self.now.number }
+    {
+        self.number
+    }
+
+    /// The number of a later generation, or 0 while this one is the newest, as one load of this thread finds it, which
+    /// is a look.
     #[inline(always)]
     pub(crate) fn look(&self, thread: u32, history: &mut History) -> u64
-        requires { history.old.book ≡ self.now }
+        requires book { history.old.book ≡ self.now.book }
+        requires newest { WasNewest history.old.log self.now.number }
         ensures book { history.new.book ≡ history.old.book }
-        ensures newest { NewestWas thread result history.old.log history.new.log }
-        ensures small { result < 2 ^ 32 }
+        ensures finds { Finds thread self.now.number result history.old.log history.new.log }
     {
         let mut offer: Offer<Change, u64, HistoryRule, NoGain> = history.plain::<
             NoGain,
             u32,
             Looking,
         >(&thread);
-        self.newest.load::<Looking, NoGain>(history, &mut offer)
+        self.word.load::<Looking, NoGain>(history, &mut offer)
     }
 
-    /// The number of the newest generation, as one load finds it, which is no look.
-    pub(crate) fn peek(&self, history: &mut History) -> u64
-        requires { history.old.book ≡ self.now }
-        ensures { history.new.book ≡ history.old.book }
+    /// Makes a later generation the newest, if this one is. The pen may write the word of that. Returns whether it did.
+    pub(crate) fn renew(&self, number: u32, pen: &mut Pen, history: &mut History) -> bool
+        requires books { (history.old.book ≡ self.now.book) × (pen.old.book ≡ self.now.book) }
+        requires newest { WasNewest history.old.log self.now.number }
+        requires made { (table : TableId) × IsMade history.old.log number table }
+        requires later { self.now.number < number }
+        requires pen { pen.old.nib ≡ nib may_write (key_of number) 0 }
+        ensures book { history.new.book ≡ history.old.book }
+        ensures newest { result ≡ true → WasNewest history.new.log number }
     {
         let mut offer: Offer<Change, u64, HistoryRule, NoGain> = history.plain::<
             NoGain,
             u32,
             Looking,
-        >(&0);
-        self.newest.load::<Silent, NoGain>(history, &mut offer)
+        >(&number);
+        let found = self.word.compare_exchange::<Renewing, NoGain>(
+            0,
+            u64::from(number),
+            history,
+            &mut offer,
+            pen,
+        );
+        found == 0
+    }
+}
+
+impl Numbers {
+    /// The numbers of a queue with one generation, which has the number 0, and the word of that.
+    #[tactic(auto, using(crate::proofs::Histories::kept_first, crate::proofs::Histories::was_first))]
+    pub(crate) fn open<T: Drop>(queue: &PayQueue<T>) -> (Numbers, Next, History)
+        ensures books { (result.2.book ≡ result.0) × (result.1.book ≡ result.0) }
+        ensures first { (result.1.number ≡ 0) × IsMade result.2.log 0 queue.now.table × WasNewest result.2.log 0 }
+    {
+        let (history, mut pens) = History::open_row::<PayQueue<T>, Numbering>(
+            queue,
+            Start::alone(),
+            2,
+        );
+        let newest = Word::hint(&history);
+        let greatest = Word::tracked(0, &mut pens.take());
+        let word = Word::tracked(0, &mut pens.take());
+        (Numbers { newest, greatest }, Next { number: 0, word }, history)
     }
 
-    /// A number for this queue as a generation, greater than those of all others. Returns None where others take
-    /// numbers all the time, or no more are left.
-    pub(crate) fn take_number<T: Drop>(
+    /// The number of a generation that was the newest: of the newest one, but for the time of a change.
+    pub(crate) fn newest(&self, history: &mut History) -> u64
+        requires { history.old.book ≡ self.now }
+        ensures later { (history.new.book ≡ history.old.book) × IsPrefix history.old.log history.new.log }
+        ensures newest { WasNewest history.new.log result }
+        ensures risen { HasRisen history.new.log }
+    {
+        let number = self.newest.load_hint(history);
+        let copy = history.again();
+        history.learn(&copy);
+        number
+    }
+
+    /// Says that the generation with the number `next` was the newest after the one with the number `old`, unless a
+    /// later one was said to be. With 0 for `next` it says nothing.
+    pub(crate) fn advance(&self, old: u32, next: u64, history: &History)
+        requires book { history.now.book ≡ self.now }
+        requires newest { 0 < next → WasNewest history.now.log next }
+    {
+        if next == 0 {
+            return;
+        }
+        self.newest
+            .compare_exchange_hint(u64::from(old), next, history);
+    }
+
+    /// Gives this queue a number as a generation, greater than those of all others: the word of the generation, and the
+    /// pen that may write it. Returns None where others take numbers all the time, or no more are left.
+    pub(crate) fn number<T: Drop>(
         &self,
         queue: &PayQueue<T>,
         history: &mut History,
-    ) -> Option<u32>
+    ) -> Option<(Next, Pen)>
         requires { history.old.book ≡ self.now }
         ensures book { history.new.book ≡ history.old.book }
-        ensures made { IfSome result (λ n. IsMade history.new.log n queue.now.table) }
+        ensures made { IfSome result (λ r. (r.0.book ≡ self.now) × IsMade history.new.log r.0.number queue.now.table) }
+        ensures pen { IfSome result (λ r. (r.1.book ≡ self.now) × (r.1.nib ≡ nib may_write (key_of r.0.number) 0)) }
     {
         let mut last = 0u32;
         for _ in 0..TRIES {
             let number = last.checked_add(1)?;
-            let found = self.step_to(number, queue, history);
+            let mut pen = history.no_pen();
+            let found = self.step_to(number, queue, history, &mut pen);
             if found == u64::from(last) {
-                return Some(number);
+                return Some((Next::new(number, &mut pen), pen));
             }
             last = u32::try_from(found).ok()?;
         }
@@ -189,45 +277,26 @@ impl Numbers {
     }
 
     /// Gives this queue this number as a generation, if the greatest one is one less. Returns the greatest.
-    fn step_to<T: Drop>(&self, number: u32, queue: &PayQueue<T>, history: &mut History) -> u64
-        requires book { history.old.book ≡ self.now }
+    fn step_to<T: Drop>(
+        &self,
+        number: u32,
+        queue: &PayQueue<T>,
+        history: &mut History,
+        pen: &mut Pen,
+    ) -> u64
+        requires book { (history.old.book ≡ self.now) × (pen.old.book ≡ self.now) }
         requires number { 1 ≤ number }
-        ensures book { history.new.book ≡ history.old.book }
+        ensures book { (history.new.book ≡ history.old.book) × (pen.new.book ≡ pen.old.book) }
         ensures made { result + 1 ≡ number → IsMade history.new.log number queue.now.table }
+        ensures pen { result + 1 ≡ number → pen.new.nib ≡ nib may_make (key_of number) 0 }
     {
         let mut offer: Offer<Change, u64, HistoryRule, NoGain> = history.plain::<
             NoGain,
             PayQueue<T>,
             Numbering,
         >(queue);
-        let mut pen = history.no_pen();
         let new = u64::from(number);
         self.greatest
-            .compare_exchange::<Numbering, NoGain>(new - 1, new, history, &mut offer, &mut pen)
-    }
-
-    /// Makes the generation with this number the newest, if the newest one is that with the number `old`. Returns
-    /// whether it did.
-    pub(crate) fn renew(&self, old: u64, number: u32, history: &mut History) -> bool
-        requires book { history.old.book ≡ self.now }
-        requires made { (table : TableId) × IsMade history.old.log number table }
-        ensures book { history.new.book ≡ history.old.book }
-    {
-        let mut offer: Offer<Change, u64, HistoryRule, NoGain> = history.plain::<
-            NoGain,
-            u32,
-            Looking,
-        >(&number);
-        let mut pen = history.no_pen();
-        let found = self
-            .newest
-            .compare_exchange::<Silent, NoGain>(
-                old,
-                u64::from(number),
-                history,
-                &mut offer,
-                &mut pen,
-            );
-        found == old
+            .compare_exchange::<Numbering, NoGain>(new - 1, new, history, &mut offer, pen)
     }
 }

@@ -7,7 +7,7 @@ ghost use Rattle.kfifo_live.specs.Promise.{KeepsPromise};
 
 use crate::generation::Generation;
 use crate::leaving::{Leave, Leaving};
-use kfifo_live::{Given, PayHandle, PayPass, Taken};
+use kfifo_live::{Given, PayHandle, PayPass, PayQueue, Taken};
 use std::alloc::Global;
 use std::marker::Model;
 use std::sync::Arc;
@@ -136,19 +136,28 @@ impl<T: Drop> Leaving<Joined<T>> {
         self.part.stop_giving();
     }
 
-    /// Gives to the generation, as `PayHandle::give`.
+    /// Gives to the generation, whose queue this is, as `PayHandle::give`.
     #[inline(always)]
-    pub(crate) fn give(&mut self, payload: T) -> Given<T>
+    pub(crate) fn give(&mut self, queue: &PayQueue<T>, payload: T) -> Given<T>
+        requires { IsPassOf queue.now self.old.pass.pass }
         ensures same { IsSamePass self.old.pass.pass self.new.pass.pass }
         ensures gives { PicksUpAndGives payload result self.old self.new }
         ensures promise { KeepsPromise self.new.pass.pass.opened self.new.pass.pass.seen }
     {
-        self.part.handle.give(self.part.generation.queue(), payload)
+        self.part.handle.give(queue, payload)
     }
 
-    /// Takes from the generation, as `PayHandle::take`.
+    /// Takes from the generation, whose queue this is, as `PayHandle::take`.
     #[inline(always)]
-    pub(crate) fn take(&mut self) -> Taken<T>
+    pub(crate) fn take(&mut self, queue: &PayQueue<T>) -> Taken<T>
+        requires { IsPassOf queue.now self.old.pass.pass }
+        ensures { TakesThere result self.old self.new }
+    {
+        self.part.handle.take(queue)
+    }
+
+    /// Takes from the generation.
+    pub(crate) fn take_here(&mut self) -> Taken<T>
         ensures { TakesThere result self.old self.new }
     {
         self.part.handle.take(self.part.generation.queue())

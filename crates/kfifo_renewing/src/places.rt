@@ -112,14 +112,19 @@ impl<T: Drop> Places<T> {
         None
     }
 
-    /// The place and the number of the first generation whose number is above `number`, and at most `last`.
-    pub(crate) fn next_after(&self, number: u32, last: u64) -> Option<(usize, u32)> {
+    /// The place of the generation with this number, if it is still there.
+    pub(crate) fn find(&self, number: u32) -> Option<usize> {
+        (0..self.places.len()).find(|index| self.has(*index, number))
+    }
+
+    /// The place and the number of the first generation whose number is above `number`, and below `end`.
+    pub(crate) fn next_after(&self, number: u32, end: u64) -> Option<(usize, u32)> {
         let mut next = None;
-        let mut least = last;
+        let mut least = end;
         for index in 0..self.places.len() {
             let word = self.places[index].load();
             let other = number_in(word);
-            if state_in(word) == PRESENT && number < other && u64::from(other) <= least {
+            if state_in(word) == PRESENT && number < other && u64::from(other) < least {
                 next = Some((index, other));
                 least = u64::from(other);
             }

@@ -5,6 +5,8 @@ ghost use Rattle.kfifo_live.specs.Pass.{IsPassOf};
 ghost use Rattle.kfifo_live.specs.Payloads.{pay_opening};
 ghost use Rattle.kfifo_live.specs.Schedule.{count_up};
 ghost use Rattle.kfifo_live.specs.declared.fault.OpenFault.TheVariants.{ThreadsOutOfRange, TokensOutOfRange};
+ghost use Rattle.logbook.specs.Pages.{may_write, nib};
+ghost use Rattle.kfifo_renewing.specs.History.{WasNewest, key_of};
 ghost use Rattle.kfifo_renewing.specs.declared.fault.RenewFault.TheVariants.{Open, ReserveOutOfRange};
 ghost use Rattle.kfifo_renewing.specs.declared.places.Lineage.{Lineage};
 ghost use Rattle.kfifo_renewing.specs.Renewing.{ClosesAll, ClosesEach, Generations, HasOne, HaveOne, IsOfLineage};
@@ -20,6 +22,7 @@ use crate::places::{Lineage, Places};
 use kfifo_live::{CloseFault, MAX_TOKENS, OpenFault, PayPass, PayQueue};
 use kfifo_model::MAX_THREADS;
 use kfifo_words::Shape;
+use logbook::Pen;
 use std::alloc::{AllocError, Global};
 use std::marker::Model;
 use std::sync::Arc;
@@ -33,9 +36,6 @@ pub const NO_RENEWAL: u64 = 0;
 
 /// The most gives of a handle from one look at the versions that are left to the next.
 const GIVES_BETWEEN_LOOKS: u64 = 4_096;
-
-/// The number of the first generation.
-pub(crate) const FIRST: u32 = 0;
 
 /// What the handles of a queue share.
 #[derive(Drop)]
@@ -82,6 +82,11 @@ impl<T: Drop> Shared<T> {
         &self.numbers
     }
 
+    /// The allocator of its generations.
+    pub(crate) fn allocator(&self) -> Global {
+        self.alloc
+    }
+
     /// Whether the queue opens a next generation.
     fn renews(&self) -> bool {
         self.reserve != NO_RENEWAL
@@ -92,46 +97,59 @@ impl<T: Drop> Shared<T> {
         generation.queue().versions_left() < self.reserve
     }
 
-    /// How many gives a handle makes from one look at the versions to the next.
+    /// How many gives a handle makes from one look at the versions to the next: at least 1.
     // Meanwhile the handles together use fewer versions up than an eighth of the reserve, two for each pair of calls.
     pub(crate) fn gives_between_looks(&self) -> u64 {
         if !self.renews() {
             return GIVES_BETWEEN_LOOKS;
         }
         let each = self.reserve / 16 / u64::from(self.places.lineage.sizes.threads).max(1);
-        each.min(GIVES_BETWEEN_LOOKS)
+        each.clamp(1, GIVES_BETWEEN_LOOKS)
     }
 
-    /// A new generation, with a number of its own.
-    fn make(&self, history: &mut History) -> Option<Generation<T>>
+    /// A new generation, with a number of its own, and the pen that may write its word.
+    fn make(&self, history: &mut History) -> Option<(Generation<T>, Pen)>
         requires { history.old.book ≡ self.now.history.book }
         ensures book { history.new.book ≡ history.old.book }
-        ensures of { IfSome result (λ g. IsOfLineage self.now g) }
+        ensures of { IfSome result (λ r. IsOfLineage self.now r.0) }
+        ensures pen { IfSome result (λ r. (r.1.book ≡ r.0.book) × (r.1.nib ≡ nib may_write (key_of r.0.number) 0)) }
     {
         let (queue, passes) = open_queue(self.alloc, &self.places.lineage.sizes).ok()?;
-        let number = self.numbers.take_number(&queue, history)?;
-        Generation::new(self.alloc, queue, passes, number, history.again()).ok()
+        let (next, pen) = self.numbers.number(&queue, history)?;
+        let generation = Generation::new(self.alloc, queue, passes, next, history.again()).ok()?;
+        Some((generation, pen))
     }
 
-    /// Opens the next generation, unless another handle has opened one since the newest one was `seen`, memory or room
-    /// is missing, or the queue opens none.
-    pub(crate) fn renew(&self, seen: u64) {
-        let mut history = self.places.lineage.history.again();
-        if !self.renews() || self.numbers.peek(&mut history) != seen || !self.places.has_room() {
+    /// Opens the generation after this one, which was the newest, by the handle of this thread. It does not where
+    /// another handle has opened that, memory or room is missing, or the queue opens none.
+    pub(crate) fn renew(&self, newest: &Generation<T>, thread: u32, mut history: History)
+        requires books { (newest.now.book ≡ self.now.history.book) × (history.book ≡ self.now.history.book) }
+        requires newest { WasNewest history.log newest.now.number }
+    {
+        let seen = history.again();
+        let is_newest = newest.next().look(thread, &mut history) == 0;
+        if !self.renews() || !is_newest || !self.places.has_room() {
             return;
         }
-        let Some(generation) = self.make(&mut history) else {
+        let Some((generation, mut pen)) = self.make(&mut history) else {
             return;
         };
+        history.learn(&seen);
         history.learn(generation.history());
         let number = generation.number();
         let Ok(generation) = Arc::new(self.alloc, generation) else {
             return;
         };
+        if number <= newest.number() {
+            return;
+        }
         let Some(place) = self.places.put(number, generation) else {
             return;
         };
-        if !self.numbers.renew(seen, number, &mut history) {
+        if newest.next().renew(number, &mut pen, &mut history) {
+            self.numbers
+                .advance(newest.number(), u64::from(number), &history);
+        } else {
             // Another handle was faster. Nobody has given to this one, and nobody will.
             self.places.retire(place, number);
         }
@@ -166,7 +184,7 @@ fn share<T: Drop>(
     // generation that comes too late too.
     let places = Places::new(alloc, lineage, 2 * sizes.threads as usize + 2)?;
     let place = places
-        .put(FIRST, Arc::try_clone(generation)?)
+        .put(generation.number(), Arc::try_clone(generation)?)
         .ok_or(AllocError)?;
     let shared = Shared {
         places,
@@ -190,11 +208,13 @@ fn join_first<T: Drop>(
     ensures one { IfOk result (HasOne generation.now.value.queue generation.now.value.book) }
     ensures thread { IfOk result (λ h. h.thread ≡ thread) }
 {
-    let part = Arc::try_clone(generation)?;
-    let history = part.history().again();
+    let generation = Arc::try_clone(generation)?;
+    let mut history = generation.history().again();
+    history.learn(generation.history());
+    let part = Arc::try_clone(&generation)?;
     let joined = Joined::join(part, place, thread).ok_or(AllocError)?;
     let shared = Arc::try_clone(shared)?;
-    RenewingHandle::new(alloc, shared, history, joined, thread)
+    RenewingHandle::new(alloc, shared, history, generation, joined, thread)
 }
 
 /// A handle for each of the threads, which has joined the first generation.
@@ -236,8 +256,8 @@ fn open_first<T: Drop>(
 {
     match open_queue(alloc, &sizes) {
         Ok((queue, passes)) => {
-            let (numbers, history) = Numbers::open(&queue);
-            let generation = Generation::new(alloc, queue, passes, FIRST, history)?;
+            let (numbers, next, history) = Numbers::open(&queue);
+            let generation = Generation::new(alloc, queue, passes, next, history)?;
             let handles = join_all(alloc, generation, numbers, sizes, reserve)?;
             Ok(handles)
         }

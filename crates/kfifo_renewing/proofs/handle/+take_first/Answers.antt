@@ -10,12 +10,12 @@ returns-in-Empty g t c =
     let after = c.set_over.new.self in
     let took : TakesThere K.Empty c.in_ok-generations.first.now after =
     subst (λ (h : PayHeld g.row.T.Denot). TakesThere K.Empty c.in_ok-generations.first.now h) (sym c.set_over.ensures)
-    (subst (λ t. TakesThere t c.in_ok-generations.first.now c.take.new.self) c.in-Empty.is c.take.ensures) in
+    (subst (λ t. TakesThere t c.in_ok-generations.first.now c.take_here.new.self) c.in-Empty.is c.take_here.ensures) in
     subst (λ l. TakesFirst c.take_first.result l (after ∷ c.take_first.new.generations)) (sym c.in_ok-generations.ensures.cases.0)
     (after, c.take_first.new.generations, refl, inl (took, c.take_first.ensures))
 
 pub returns-in_default : goal.returns-in_default
 returns-in_default g t c =
-    subst (λ l. TakesFirst (Some c.take.result) l (c.take.new.self ∷ c.in_ok-generations.rest.now))
+    subst (λ l. TakesFirst (Some c.take_here.result) l (c.take_here.new.self ∷ c.in_ok-generations.rest.now))
     (sym c.in_ok-generations.ensures.cases.0)
-    (c.take.new.self, c.in_ok-generations.rest.now, refl, inr (c.take.result, refl, search rules, c.take.ensures, refl))
+    (c.take_here.new.self, c.in_ok-generations.rest.now, refl, inr (c.take_here.result, refl, search rules, c.take_here.ensures, refl))

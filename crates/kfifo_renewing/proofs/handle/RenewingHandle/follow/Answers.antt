@@ -1,6 +1,7 @@
 -- A handle leaves what is gone, and then joins what is new.
-use Rattle.std.proofs.Common.{ap, subst, true, ◌≡◌}
-use Rattle.kfifo_renewing.specs.Renewing.{Generations, IsPartOf, with_older}
+use Rattle.std.proofs.Common.{ap, ◌∙◌, subst, true, ◌≡◌}
+use Rattle.kfifo_live.specs.Handles.{PayHeld}
+use Rattle.kfifo_renewing.specs.Renewing.{Generations, IsPartOf, with_newest, with_older}
 use Rattle.kfifo_renewing.proofs.Following.{both-before, follows-less, follows-trans, later-older}
 use Rattle.kfifo_renewing.proofs.handle.RenewingHandle.follow.Goals as goal
 
@@ -9,10 +10,12 @@ loop-init g c =
     let T = g.row.T.Denot in
     let old = c.args.self.now in
     let new = c.leave_gone.new.self in
-    let same : new ≡ with_older old new.older = subst (λ (h : Generations T). new ≡ with_older h new.older) c.stop_giving.ensures
+    let before = ap (λ (h : Generations T). with_newest h c.stop_giving.new.self) c.self.view_is
+    ∙ ap (λ (h : PayHeld T). with_newest old h) (c.stop_giving.ensures ∙ ap (λ (h : Generations T). h.newest) c.self.view_is) in
+    let same : new ≡ with_older old new.older = subst (λ (h : Generations T). new ≡ with_older h new.older) before
     c.leave_gone.ensures.same in
     follows-less old new (later-older old new new.older same)
-    (subst (λ (h : Generations T). IsPartOf new.older h.older) c.stop_giving.ensures c.leave_gone.ensures.older)
+    (subst (λ (h : Generations T). IsPartOf new.older h.older) before c.leave_gone.ensures.older)
     (ap (λ (h : Generations T). h.newest) same)
 
 pub loop-preserved : goal.loop-preserved

@@ -1,25 +1,159 @@
--- A second try follows a first one that found no version left.
-use Rattle.std.proofs.Common.{inl, inr, subst}
+-- A look, and then the give, where it found no later generation.
+use Rattle.std.proofs.Common.{◌≡◌, inl, inr, sym, ap, ◌∙◌, subst}
 use Rattle.kfifo_live.specs.declared.payload.Given.TheVariants as G
-use Rattle.kfifo_renewing.specs.Renewing.{Generations, TriesToGive}
-use Rattle.kfifo_renewing.proofs.Giving.{worn-back}
+use Rattle.kfifo_live.specs.Handles.{PayHeld, PicksUpAndGives}
+use Rattle.kfifo_live.specs.Pass.{IsSamePass}
+use Rattle.kfifo_renewing.specs.History.{Finds, IsMade}
+use Rattle.kfifo_renewing.specs.Renewing.{Generations, GivesToNewest, Numbered, TriesAgain, TriesToGive, with_newest, with_seen}
+use Rattle.kfifo_renewing.proofs.Following.{Looked, kept-look, looked-follows, same-but-seen}
+use Rattle.kfifo_renewing.proofs.Giving.{gave-here, gives-after, worn-back}
 use Rattle.kfifo_renewing.proofs.handle.RenewingHandle.give.Goals as goal
+
+pub returns-then-self-eq0 : goal.returns-then-self-eq0
+returns-then-self-eq0 g c =
+    subst (λ (v : Generations g.row.T.Denot). GivesToNewest c.args.payload c.give_late.result v c.give_late.new.self) c.self.view_is
+    c.give_late.ensures
+
+pub invariant_of-self-then-look-ne0 : goal.invariant_of-self-then-look-ne0
+invariant_of-self-then-look-ne0 g c =
+    let i = c.self.invariant in
+    let log = c.self.inside.history.log in
+    let new = c.look.new.history.log in
+    let n = c.self.inside.generation.value.number in
+    let found = c.look.result in
+    let finds = subst (λ k. Finds c.self.inside.thread k found log new)
+    (c.next.ensures.0 ∙ ap (λ (v : Numbered). v.number) c.deref-generation.ensures) c.look.ensures.finds in
+    let kept = kept-look log new n c.self.inside.thread found c.self.inside.newest.pass.pass.table finds i.3 i.4 in (
+      i.0,
+      i.1,
+      c.look.ensures.book ∙ i.2,
+      kept.0,
+      kept.1,
+      kept.2,
+      i.6,
+      i.7 ∙ sym c.look.ensures.book,
+    )
+
+pub returns-then-look-ne0 : goal.returns-then-look-ne0
+returns-then-look-ne0 g c =
+    let T = g.row.T.Denot in
+    let i = c.self.invariant in
+    let log = c.self.inside.history.log in
+    let new = c.look.new.history.log in
+    let n = c.self.inside.generation.value.number in
+    let found = c.look.result in
+    let finds = subst (λ k. Finds c.self.inside.thread k found log new)
+    (c.next.ensures.0 ∙ ap (λ (v : Numbered). v.number) c.deref-generation.ensures) c.look.ensures.finds in
+    let now = c.args.self.now in
+    let looked = subst (Looked found new) c.self.view_is (finds, i.3) in
+    let h = c.self.inside.newest in
+    let r = c.give_late-then-look-ne0.result in
+    let end = c.give_late-then-look-ne0.new.self in
+    let is = same-but-seen new h now (ap (λ (v : Generations T). v.opened) c.self.view_is)
+    (ap (λ (v : Generations T). v.thread) c.self.view_is)
+    (c.look.ensures.book ∙ ap (λ (v : Generations T). v.book) c.self.view_is)
+    (ap (λ (v : Generations T). v.older) c.self.view_is) (ap (λ (v : Generations T). v.number) c.self.view_is) in
+    let here = is ∙ ap (λ (x : PayHeld T). with_newest (with_seen now new) x) (ap (λ (v : Generations T). v.newest) c.self.view_is) in
+    gives-after c.args.payload r now (with_seen now new) end (looked-follows found new now looked)
+    (subst (λ (v : Generations T). GivesToNewest c.args.payload r v end) here c.give_late-then-look-ne0.ensures)
+
+pub invariant_of-self-in-Worn : goal.invariant_of-self-in-Worn
+invariant_of-self-in-Worn g c =
+    let i = c.self.invariant in
+    let log = c.self.inside.history.log in
+    let new = c.look.new.history.log in
+    let n = c.self.inside.generation.value.number in
+    let found = c.look.result in
+    let finds = subst (λ k. Finds c.self.inside.thread k found log new)
+    (c.next.ensures.0 ∙ ap (λ (v : Numbered). v.number) c.deref-generation.ensures) c.look.ensures.finds in
+    let kept = kept-look log new n c.self.inside.thread found c.self.inside.newest.pass.pass.table finds i.3 i.4 in
+    let s = c.give.ensures.same in (
+      s.1 ∙ i.0,
+      i.1,
+      c.look.ensures.book ∙ i.2,
+      subst (IsMade new n) (sym s.0) kept.0,
+      kept.1,
+      kept.2,
+      (s.0 ∙ i.6.0, s.1 ∙ i.6.1),
+      i.7 ∙ sym c.look.ensures.book,
+    )
+
+pub invariant_of-self-in_default : goal.invariant_of-self-in_default
+invariant_of-self-in_default g c =
+    let i = c.self.invariant in
+    let log = c.self.inside.history.log in
+    let new = c.look.new.history.log in
+    let n = c.self.inside.generation.value.number in
+    let found = c.look.result in
+    let finds = subst (λ k. Finds c.self.inside.thread k found log new)
+    (c.next.ensures.0 ∙ ap (λ (v : Numbered). v.number) c.deref-generation.ensures) c.look.ensures.finds in
+    let kept = kept-look log new n c.self.inside.thread found c.self.inside.newest.pass.pass.table finds i.3 i.4 in
+    let s = c.give.ensures.same in (
+      s.1 ∙ i.0,
+      i.1,
+      c.look.ensures.book ∙ i.2,
+      subst (IsMade new n) (sym s.0) kept.0,
+      kept.1,
+      kept.2,
+      (s.0 ∙ i.6.0, s.1 ∙ i.6.1),
+      i.7 ∙ sym c.look.ensures.book,
+    )
 
 pub returns-in-Worn : goal.returns-in-Worn
 returns-in-Worn g c =
+    let T = g.row.T.Denot in
+    let i = c.self.invariant in
+    let log = c.self.inside.history.log in
+    let new = c.look.new.history.log in
+    let n = c.self.inside.generation.value.number in
+    let found = c.look.result in
+    let finds = subst (λ k. Finds c.self.inside.thread k found log new)
+    (c.next.ensures.0 ∙ ap (λ (v : Numbered). v.number) c.deref-generation.ensures) c.look.ensures.finds in
+    let now = c.args.self.now in
+    let looked = subst (Looked found new) c.self.view_is (finds, i.3) in
+    let h = c.give.new.self in
+    let none : found ≡ 0 = c.if-look-ne0.false in
+    let same = subst (λ (v : Generations T). IsSamePass v.newest.pass.pass h.pass.pass) c.self.view_is c.give.ensures.same in
+    let is = same-but-seen new h now (ap (λ (v : Generations T). v.opened) c.self.view_is)
+    (ap (λ (v : Generations T). v.thread) c.self.view_is)
+    (c.look.ensures.book ∙ ap (λ (v : Generations T). v.book) c.self.view_is)
+    (ap (λ (v : Generations T). v.older) c.self.view_is) (ap (λ (v : Generations T). v.number) c.self.view_is) in
     let payload = c.args.payload in
-    let here = c.try_to_give.new.self in
-    let first : TriesToGive payload (G.Worn c.in-Worn.back) c.args.self.now here =
-    subst (λ (h : Generations g.row.T.Denot). TriesToGive payload (G.Worn c.in-Worn.back) h here) c.count_give.ensures
-    c.in-Worn.ensures in
-    let same = worn-back payload c.in-Worn.back c.args.self.now here first in
+    let back = c.in-Worn.back in
+    let here = with_newest (with_seen now new) h in
+    let end = c.give_to_next.new.self in
+    let gives = subst (λ (v : Generations T). PicksUpAndGives payload (G.Worn back) v.newest h) c.self.view_is c.in-Worn.ensures.gives in
+    let first = gave-here payload (G.Worn back) now found new h looked none same gives c.give.ensures.promise in
+    let worn = worn-back payload back now here first in
     inr (
       here,
-      subst (λ b. TriesToGive payload (G.Worn b) c.args.self.now here) same first,
-      subst (λ b. TriesToGive b c.give_to_next.result here c.give_to_next.new.self) same c.give_to_next.ensures,
+      subst (λ b. TriesToGive payload (G.Worn b) now here) worn first,
+      subst (λ b. TriesAgain b c.give_to_next.result here end) worn
+          (subst (λ (v : Generations T). TriesAgain back c.give_to_next.result v end) is c.give_to_next.ensures),
     )
 
 pub returns-in_default : goal.returns-in_default
 returns-in_default g c =
-    inl (subst (λ (h : Generations g.row.T.Denot). TriesToGive c.args.payload c.try_to_give.result h c.try_to_give.new.self)
-    c.count_give.ensures c.try_to_give.ensures)
+    let T = g.row.T.Denot in
+    let i = c.self.invariant in
+    let log = c.self.inside.history.log in
+    let new = c.look.new.history.log in
+    let n = c.self.inside.generation.value.number in
+    let found = c.look.result in
+    let finds = subst (λ k. Finds c.self.inside.thread k found log new)
+    (c.next.ensures.0 ∙ ap (λ (v : Numbered). v.number) c.deref-generation.ensures) c.look.ensures.finds in
+    let now = c.args.self.now in
+    let looked = subst (Looked found new) c.self.view_is (finds, i.3) in
+    let h = c.give.new.self in
+    let none : found ≡ 0 = c.if-look-ne0.false in
+    let same = subst (λ (v : Generations T). IsSamePass v.newest.pass.pass h.pass.pass) c.self.view_is c.give.ensures.same in
+    let is = same-but-seen new h now (ap (λ (v : Generations T). v.opened) c.self.view_is)
+    (ap (λ (v : Generations T). v.thread) c.self.view_is)
+    (c.look.ensures.book ∙ ap (λ (v : Generations T). v.book) c.self.view_is)
+    (ap (λ (v : Generations T). v.older) c.self.view_is) (ap (λ (v : Generations T). v.number) c.self.view_is) in
+    let payload = c.args.payload in
+    let gives = subst (λ (v : Generations T). PicksUpAndGives payload c.give.result v.newest h) c.self.view_is c.give.ensures.gives in
+    subst (λ (v : Generations T). GivesToNewest payload c.give.result now v) (sym is) (inl (
+      gave-here payload c.give.result now found new h looked none same gives c.give.ensures.promise,
+      c.in_default.not-Worn payload,
+    ))

@@ -1,26 +1,50 @@
-use Rattle.std.proofs.Common.{ap, ◌∙◌, subst, refl, nat_eq}
-use Rattle.kfifo_renewing.specs.History.{IsMade, NewestWas}
-use Rattle.kfifo_renewing.specs.Renewing.{Generations}
-use Rattle.kfifo_renewing.proofs.Histories.{made-later}
-use Rattle.kfifo_renewing.proofs.Following.{behind-or-newest, was-prefix}
+use Rattle.std.proofs.Common.{ap, ◌∙◌, subst, sym, refl, nat_eq}
+use mathlib.Core.List.{IsPrefix}
+use Rattle.kfifo_renewing.specs.History.{Finds}
+use Rattle.kfifo_renewing.specs.Renewing.{Generations, Numbered}
+use Rattle.kfifo_renewing.proofs.Histories.{made-later, risen-from, was-later}
+use Rattle.kfifo_renewing.proofs.Following.{found-or-newest, was-prefix}
 use Rattle.kfifo_renewing.proofs.handle.RenewingHandle.is_behind.Goals as goal
 
 pub invariant_of-self : goal.invariant_of-self
-invariant_of-self g c = (
-  c.self.invariant.0,
-  c.self.invariant.1,
-  c.look-found.ensures.book ∙ c.self.invariant.2,
-  made-later c.self.inside.history.log c.look-found.new.history.log c.self.inside.number c.self.inside.newest.pass.pass.table
-      (was-prefix c.self.inside.thread c.look-found.result _ _ c.look-found.ensures.newest) c.self.invariant.3,
-  c.self.invariant.4,
-)
+invariant_of-self g c =
+    let i = c.self.invariant in
+    let log = c.self.inside.history.log in
+    let new = c.look-found.new.history.log in
+    let n = c.self.inside.generation.value.number in
+    let more = was-prefix c.self.inside.thread c.look-found.ensures.finds.number log new c.look-found.ensures.finds.was in (
+      i.0,
+      i.1,
+      c.look-found.ensures.book ∙ i.2,
+      made-later log new n c.self.inside.newest.pass.pass.table more i.3,
+      was-later log new n more i.4,
+      c.look-found.ensures.finds.risen,
+      i.6,
+      i.7 ∙ sym c.look-found.ensures.book,
+    )
+
+pub returns-clause-later : goal.returns-clause-later
+returns-clause-later g c =
+    let new = c.look-found.new.history.log in
+    let seen = ap (λ (h : Generations g.row.T.Denot). h.seen) c.self.view_is in
+    let more = was-prefix c.self.inside.thread c.look-found.ensures.finds.number c.self.inside.history.log new c.look-found.ensures.finds.was in
+    record {
+      opened = ap (λ (h : Generations g.row.T.Denot). h.opened) c.self.view_is;
+      thread = ap (λ (h : Generations g.row.T.Denot). h.thread) c.self.view_is;
+      book = c.look-found.ensures.book ∙ ap (λ (h : Generations g.row.T.Denot). h.book) c.self.view_is;
+      seen = subst (λ l. IsPrefix l new) seen more;
+      risen = risen-from c.args.self.now.seen new (subst (λ l. IsPrefix l new) seen more) c.look-found.ensures.finds.risen;
+    }
 
 pub returns-clause-newest : goal.returns-clause-newest
 returns-clause-newest g c =
     let log = c.look-found.new.history.log in
     let seen = ap (λ (h : Generations g.row.T.Denot). h.seen) c.self.view_is in
-    rw c.from.ensures (behind-or-newest c.look-found.result c.self.inside.number c.self.inside.thread c.args.self.now.seen log
-    c.self.inside.newest.pass.pass.table
-    (subst (λ l. NewestWas c.self.inside.thread c.look-found.result l log) seen c.look-found.ensures.newest)
-    (subst (λ l. IsMade l c.self.inside.number c.self.inside.newest.pass.pass.table) seen c.self.invariant.3)
-    (nat_eq c.look-found.result c.self.inside.number) refl)
+    let n = c.self.inside.generation.value.number in
+    let number = c.next.ensures.0 ∙ ap (λ (v : Numbered). v.number) c.deref.ensures in
+    let found = subst (λ l. Finds c.self.inside.thread n c.look-found.result l log) seen
+    (subst (λ k. Finds c.self.inside.thread k c.look-found.result c.self.inside.history.log log) number c.look-found.ensures.finds) in
+    found-or-newest c.look-found.result n c.self.inside.thread c.args.self.now.seen log c.self.inside.newest.pass.pass.table
+    found (made-later c.self.inside.history.log log n c.self.inside.newest.pass.pass.table
+    (was-prefix c.self.inside.thread c.look-found.ensures.finds.number c.self.inside.history.log log c.look-found.ensures.finds.was)
+    c.self.invariant.3) (nat_eq c.look-found.result 0) refl

@@ -1,20 +1,15 @@
-use Rattle.kfifo_renewing.proofs.Following.{both-before, follows-seen, follows-trans, was-prefix}
+use Rattle.kfifo_renewing.proofs.Following.{both-before, follows-seen, follows-trans}
 use Rattle.kfifo_renewing.proofs.handle.RenewingHandle.keep_up.Goals as goal
 
-pub returns-then-is_late-clause-follows : goal.returns-then-is_late-clause-follows
-returns-then-is_late-clause-follows g c = follows-trans c.args.self.now c.is_late.new.self c.follow.new.self
-    (follows-seen c.args.self.now c.is_late.new.self c.is_late.new.self.seen c.is_late.ensures.same c.if-is_late.ensures.newest)
+pub returns-then-is_behind-clause-follows : goal.returns-then-is_behind-clause-follows
+returns-then-is_behind-clause-follows g c = follows-trans c.args.self.now c.is_behind.new.self c.follow.new.self
+    (follows-seen c.args.self.now c.is_behind.new.self c.is_behind.new.self.seen c.is_behind.ensures.same c.is_behind.ensures.later)
     c.follow.ensures.follows
 
-pub returns-then-is_late-clause-newest : goal.returns-then-is_late-clause-newest
-returns-then-is_late-clause-newest g c = both-before c.args.self.now c.is_late.new.self c.follow.new.self
-    c.if-is_late.ensures.newest c.follow.result c.follow.ensures.newest
+pub returns-then-is_behind-clause-newest : goal.returns-then-is_behind-clause-newest
+returns-then-is_behind-clause-newest g c = both-before c.args.self.now c.is_behind.new.self c.follow.new.self
+    c.is_behind.ensures.later.seen c.follow.result c.follow.ensures.newest
 
-pub returns : goal.returns
-returns g c =
-    let new = c.is_late.new.self in
-    let at = c.if-is_late.ensures.newest in record {
-      follows = follows-seen c.args.self.now new new.seen c.is_late.ensures.same
-          (was-prefix new.thread new.number c.args.self.now.seen new.seen at.0);
-      newest = at;
-    }
+pub returns-clause-follows : goal.returns-clause-follows
+returns-clause-follows g c =
+    follows-seen c.args.self.now c.is_behind.new.self c.is_behind.new.self.seen c.is_behind.ensures.same c.is_behind.ensures.later

@@ -20,7 +20,10 @@ loop-index-init g c =
       of_older = c.self.invariant.1;
       same_book = c.self.invariant.2;
       made = c.self.invariant.3;
-      gives = c.self.invariant.4;
+      was = c.self.invariant.4;
+      risen = c.self.invariant.5;
+      of = c.self.invariant.6;
+      books = c.self.invariant.7;
     }
 
 pub loop-index-preserved : goal.loop-index-preserved
@@ -42,7 +45,10 @@ loop-index-preserved g c =
           c.remove-gone.new.self.items c.loop-index.index without i.of_older;
       same_book = i.same_book;
       made = i.made;
-      gives = i.gives;
+      was = i.was;
+      risen = i.risen;
+      of = i.of;
+      books = i.books;
     }
 
 pub returns-clause-same : goal.returns-clause-same

@@ -3,7 +3,7 @@ use Rattle.std.proofs.Common.{ap, inl, inr, refl, subst, ◌∙◌}
 use Rattle.kfifo_live.specs.Handles.{PayHeld}
 use Rattle.kfifo_live.specs.declared.payload.Taken.TheVariants as K
 use Rattle.kfifo_renewing.specs.Renewing.{Generations, TakesThere, with_newest}
-use Rattle.kfifo_renewing.proofs.Following.{later-newest, later-seen, later-trans, was-prefix}
+use Rattle.kfifo_renewing.proofs.Following.{later-newest, later-trans}
 use Rattle.kfifo_renewing.proofs.Looking.{taken-empty}
 use Rattle.kfifo_renewing.proofs.handle.RenewingHandle.take_newest.Goals as goal
 
@@ -16,8 +16,7 @@ returns-then-is_behind g c =
     let e = ap (λ (v : Generations T). with_newest v h) c.self.view_is in
     let same = c.is_behind.ensures.same in
     let at = c.if-is_behind.ensures.newest in record {
-      later = later-trans now _ new (later-newest now _ h e)
-          (later-seen _ new new.seen same (was-prefix new.thread at.0 _ new.seen at.1));
+      later = later-trans now _ new (later-newest now _ h e) c.is_behind.ensures.later;
       same = (
         ap (λ (v : Generations T). v.older) same ∙ ap (λ (v : Generations T). v.older) e,
         ap (λ (v : Generations T). v.number) same ∙ ap (λ (v : Generations T). v.number) e,
@@ -36,8 +35,7 @@ returns-else-is_behind g c =
     let e = ap (λ (v : Generations T). with_newest v h) c.self.view_is in
     let same = c.is_behind.ensures.same in
     let at = c.if-is_behind.ensures.newest in record {
-      later = later-trans now _ new (later-newest now _ h e)
-          (later-seen _ new new.seen same (was-prefix new.thread new.number _ new.seen at.0));
+      later = later-trans now _ new (later-newest now _ h e) c.is_behind.ensures.later;
       same = (
         ap (λ (v : Generations T). v.older) same ∙ ap (λ (v : Generations T). v.older) e,
         ap (λ (v : Generations T). v.number) same ∙ ap (λ (v : Generations T). v.number) e,

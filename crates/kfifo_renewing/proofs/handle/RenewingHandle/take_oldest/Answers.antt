@@ -3,7 +3,7 @@ use Rattle.std.proofs.Common.{None, ap, inr, refl, sym, subst, ◌∙◌}
 use Rattle.kfifo_renewing.specs.Renewing.{Generations, IsPartOf}
 use Rattle.kfifo_renewing.proofs.Following.{later-older, later-trans}
 use Rattle.kfifo_renewing.proofs.Looking.{takes-after}
-use Rattle.kfifo_renewing.proofs.handle.RenewingHandle.take_from_all.Goals as goal
+use Rattle.kfifo_renewing.proofs.handle.RenewingHandle.take_oldest.Goals as goal
 
 pub returns-in-None : goal.returns-in-None
 returns-in-None g c =

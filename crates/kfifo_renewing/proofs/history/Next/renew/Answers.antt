@@ -1,0 +1,21 @@
+use Rattle.std.proofs.Common.{◌<◌, sym, ap, ◌∙◌, subst}
+use Rattle.kfifo_renewing.specs.History.{NextView, WasNewest}
+use Rattle.kfifo_renewing.proofs.Histories.{renews-moves}
+use Rattle.kfifo_renewing.proofs.history.Next.renew.Goals as goal
+
+pub compare_exchange-found-requires : goal.compare_exchange-found-requires
+compare_exchange-found-requires c =
+    let h = c.self.invariant in
+    let offer = c.plain-offer.ensures in
+    let book = ap (λ (v : NextView). v.book) c.self.view_is in
+    let number = ap (λ (v : NextView). v.number) c.self.view_is in
+    let log = c.args.history.now.log in (
+      ap (λ w. w.tracked) h,
+      c.requires.books.0 ∙ sym book,
+      c.requires.books.1 ∙ sym book,
+      offer.0,
+      rw (ap (λ w. w.key) h, c.requires.pen, offer.3, c.from.ensures)
+          (renews-moves log c.self.inside.number c.args.number c.args.number c.requires.made.0
+          (subst (WasNewest log) (sym number) c.requires.newest)
+          (subst (λ n. n < c.args.number) (sym number) c.requires.later) c.requires.made.1),
+    )
