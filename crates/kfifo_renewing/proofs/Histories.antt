@@ -296,8 +296,8 @@ numbers-goes v log p t old g nexts h room true found =
       None,
       tt,
       rw found (subst (λ n. IsKept (words-of (n + 1) (nexts ++ (0, false) ∷ [])) (log ++ e ∷ [])) here
-      (kept-of (g + 1) (nexts ++ (0, false) ∷ []) (log ++ e ∷ [])
-      (holds-made g nexts log t (omega (arith, room, here)) h))),
+          (kept-of (g + 1) (nexts ++ (0, false) ∷ []) (log ++ e ∷ [])
+          (holds-made g nexts log t (omega (arith, room, here)) h))),
       inl (refl, refl),
       λ is. (
         ap (λ k. nib may_make k 0) key,
@@ -352,14 +352,17 @@ tells-before g nexts log n m x h is above later small inside was false e =
     let apart : x ≢ n = λ same. grind (arith, nat_tests) in
     let at : cell (slice_set nexts n (m, true)) x ≡ cell nexts x = get_or-set_other nexts n x (m, true) (0, false) apart in
     let t = h.told x was in
-    subst (λ c. (c.1 ≡ true) × TellsNext (log ++ C.Newest m ∷ []) x c.0) (sym at) (t.0, record {
-      newest = λ none. absurd (apart (sym (t.1.newest none) ∙ is));
-      next = λ some. (
-        (t.1.next some).0,
-        (t.1.next some).1,
-        was-later log (log ++ C.Newest m ∷ []) (cell nexts x).0 (C.Newest m ∷ [], refl) (t.1.next some).2,
-      );
-    })
+    subst (λ c. (c.1 ≡ true) × TellsNext (log ++ C.Newest m ∷ []) x c.0) (sym at) (
+      t.0,
+      record {
+        newest = λ none. absurd (apart (sym (t.1.newest none) ∙ is));
+        next = λ some. (
+          (t.1.next some).0,
+          (t.1.next some).1,
+          was-later log (log ++ C.Newest m ∷ []) (cell nexts x).0 (C.Newest m ∷ [], refl) (t.1.next some).2,
+        );
+      },
+    )
 
 tells-renewed : (g : ℕ) (nexts : List Cell) (log : List Change) (n m x : ℕ) → Holds g nexts log → newest_of log ≡ n → n < m
     → m ≤ g → newest_of (log ++ C.Newest m ∷ []) ≡ m → WasNewest (log ++ C.Newest m ∷ []) x
@@ -372,18 +375,18 @@ tells-renewed g nexts log n m x h is above made-it now was =
     let long : length (slice_set nexts n (m, true)) ≡ length nexts = length-set nexts n (m, true) in
     ⊎_elim
     (λ before.
-        let below = h.risen x before in
-        let apart : x ≢ m = λ same. omega (arith, same, below, is, above) in
-        let first : cell (renewed nexts n m) x ≡ cell (slice_set nexts n (m, true)) x =
-        get_or-set_other (slice_set nexts n (m, true)) m x (0, true) (0, false) apart in
-        subst P (sym first) (tells-before g nexts log n m x h is above later (omega (arith, made-it, small)) (within g nexts log x h before) before (x == n) refl))
+    let below = h.risen x before in
+    let apart : x ≢ m = λ same. omega (arith, same, below, is, above) in
+    let first : cell (renewed nexts n m) x ≡ cell (slice_set nexts n (m, true)) x =
+    get_or-set_other (slice_set nexts n (m, true)) m x (0, true) (0, false) apart in
+    subst P (sym first) (tells-before g nexts log n m x h is above later (omega (arith, made-it, small)) (within g nexts log x h before) before (x == n) refl))
     (λ last.
-        let at : x ≡ m = last ∙ now in
-        let here : cell (renewed nexts n m) m ≡ (0, true) =
-        get_or-set_same (slice_set nexts n (m, true)) m (0, true) (0, false) (omega (arith, each, long, made-it)) in
-        subst (λ k. ((cell (renewed nexts n m) k).1 ≡ true) × TellsNext (log ++ C.Newest m ∷ []) k (cell (renewed nexts n m) k).0) (sym at)
-        (subst (λ c. (c.1 ≡ true) × TellsNext (log ++ C.Newest m ∷ []) m c.0) (sym here)
-        (refl, record { newest = λ none. now; next = λ some. absurd (omega (arith, some)) })))
+    let at : x ≡ m = last ∙ now in
+    let here : cell (renewed nexts n m) m ≡ (0, true) =
+    get_or-set_same (slice_set nexts n (m, true)) m (0, true) (0, false) (omega (arith, each, long, made-it)) in
+    subst (λ k. ((cell (renewed nexts n m) k).1 ≡ true) × TellsNext (log ++ C.Newest m ∷ []) k (cell (renewed nexts n m) k).0) (sym at)
+    (subst (λ c. (c.1 ≡ true) × TellsNext (log ++ C.Newest m ∷ []) m c.0) (sym here)
+    (refl, record { newest = λ none. now; next = λ some. absurd (omega (arith, some)) })))
     (was-more log (C.Newest m) x was)
 
 renews-goes : (v log : List Change) (n m g thread : ℕ) (nexts : List Cell) (t : TableId) → IsPrefix v log → WasNewest log n → n < m
@@ -425,7 +428,7 @@ renews-goes v log n m g thread nexts t pre was above is h false found =
       None,
       tt,
       rw found (subst (λ l. IsKept (words-of g (slice_set nexts n ((cell nexts n).0, true))) l) (sym all)
-      (subst (λ l. IsKept (words-of g l) log) (sym (load-same nexts n told.0)) (kept-of g nexts log h))),
+          (subst (λ l. IsKept (words-of g l) log) (sym (load-same nexts n told.0)) (kept-of g nexts log h))),
       inl (refl, refl),
       λ same. absurd (other same),
     )

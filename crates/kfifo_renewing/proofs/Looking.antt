@@ -64,15 +64,18 @@ module _ {T : Type 0} where
   took-here answer g new found log looked none alone later number older takes = (
     with_seen g log,
     looked-follows found log g looked,
-    inl (looked-newest found log g looked none, record {
-      later = later;
-      number = number;
-      found = None;
-      looked = [];
-      older = subst (λ hs. TakesFirst None hs []) (sym alone) (refl, refl);
-      left = older;
-      newest = inr (refl, takes);
-    }),
+    inl (
+      looked-newest found log g looked none,
+      record {
+        later = later;
+        number = number;
+        found = None;
+        looked = [];
+        older = subst (λ hs. TakesFirst None hs []) (sym alone) (refl, refl);
+        left = older;
+        newest = inr (refl, takes);
+      },
+    ),
   )
 
   -- it found something, or lost each round

@@ -121,10 +121,7 @@ impl<T: Drop> RenewingHandle<T> {
         ensures later { IsLater self.old self.new }
         ensures newest { MatchBool result (IsBehind self.old self.new) (IsAtNewest self.old self.new) }
     {
-        let found = self
-            .generation
-            .next()
-            .look(self.thread, &mut self.history);
+        let found = self.generation.next().look(self.thread, &mut self.history);
         found != 0
     }
 
@@ -215,10 +212,7 @@ impl<T: Drop> RenewingHandle<T> {
         ensures later { IsLater self.old self.new }
         ensures newest { WasNewest self.new.seen result }
     {
-        let found = self
-            .generation
-            .next()
-            .look(self.thread, &mut self.history);
+        let found = self.generation.next().look(self.thread, &mut self.history);
         // The handle that made it the newest may not have said so yet, and nobody waits for that.
         self.shared
             .numbers()

@@ -196,13 +196,9 @@ impl Next {
             u32,
             Looking,
         >(&number);
-        let found = self.word.compare_exchange::<Renewing, NoGain>(
-            0,
-            u64::from(number),
-            history,
-            &mut offer,
-            pen,
-        );
+        let found = self
+            .word
+            .compare_exchange::<Renewing, NoGain>(0, u64::from(number), history, &mut offer, pen);
         found == 0
     }
 }
@@ -222,7 +218,11 @@ impl Numbers {
         let newest = Word::hint(&history);
         let greatest = Word::tracked(0, &mut pens.take());
         let word = Word::tracked(0, &mut pens.take());
-        (Numbers { newest, greatest }, Next { number: 0, word }, history)
+        (
+            Numbers { newest, greatest },
+            Next { number: 0, word },
+            history,
+        )
     }
 
     /// The number of a generation that was the newest: of the newest one, but for the time of a change.
