@@ -387,10 +387,11 @@ struct plan {
     uint32_t k, segments, tokens;
     uint64_t last;
     const struct crew *crew;
-    uint64_t each;        /* how many values each that gives gives, unless that has no end */
-    int has_end;          /* else it goes on until it is told to end */
-    uint64_t most, least; /* values inside: with `most` none is given, with `least` none is taken but at the end */
-    int may_wear_out;     /* whether the queue may use its versions up, which ends the run */
+    uint64_t each; /* how many values each that gives gives, unless that has no end */
+    int has_end;   /* else it goes on until it is told to end */
+    uint64_t most,
+        least;        /* values inside: with `most` none is given, with `least` hardly any is taken but at the end */
+    int may_wear_out; /* whether the queue may use its versions up, which ends the run */
 };
 
 /* When the give and the take of a value began and ended, by a clock that each end moves on. */
@@ -403,6 +404,7 @@ struct side {
     uint32_t thread;
     enum role role;
     uint64_t to_give, given, taken, wrong, full;
+    int waited;         /* how often in a row it took none since there were few inside */
     uint64_t leaves_at; /* it abandons its handle after so many rounds; 0: never */
     int stops_at;       /* the request for memory or the free before which it stops; 0: none */
     uint64_t *greatest; /* of each producer, the greatest indices that this thread has taken */
@@ -464,10 +466,12 @@ static void refused(struct side *self, kfifo_status status) {
 
 static void take_one(struct side *self) {
     uint64_t value = 0, ends = 0, begins = stamps ? atomic_load(&ended) : 0;
-    if (atomic_load(&inside) <= plan.least && atomic_load(&left_to_take) > plan.least) {
+    /* Not for ever: a handle that still gives may need a token that another one gets by a take. */
+    if (atomic_load(&inside) <= plan.least && atomic_load(&left_to_take) > plan.least && self->waited++ < 100) {
         sched_yield();
         return;
     }
+    self->waited = 0;
     kfifo_status status = take(&queue, self->thread, &value);
     if (status != KFIFO_GOT) {
         refused(self, status);
@@ -699,13 +703,19 @@ static void run(const struct plan *of) {
     expect(end_run(), wanted, "values given");
 }
 
-/* The same with stamps: counts over all threads which values have overtaken one. */
-static void run_stamped(const struct plan *of) {
-    uint64_t values = of->crew->threads * of->each;
+/* The same with stamps: counts over all threads which values have overtaken one. So many are inside all the time that
+   more than the bound could. */
+static void run_stamped(int kind, uint32_t k, const struct crew *crew) {
+    struct plan stamped = plan_of(kind, k, crew, VALUES * times);
+    uint64_t values = crew->threads * stamped.each;
+    stamped.least = k + crew->threads;
+    stamped.most = stamped.least + 2 * crew->threads;
+    stamped.segments = (uint32_t)stamped.most / k + 8;
+    stamped.tokens = CELLS / crew->threads;
     stamps = calloc(values, sizeof *stamps);
     if (!stamps) abort();
     atomic_store(&ended, 0);
-    run(of);
+    run(&stamped);
     uint64_t most = most_overtakings(stamps, values, atomic_load(&ended));
     expect(most > bound ? most : bound, bound, "the most values that have overtaken one");
     free(stamps);
@@ -930,10 +940,7 @@ static void many_threads(int kind) {
         /* A million values; cells cost more, and differ in nothing that depends on how many there are. */
         struct plan million = plan_of(kind, widths[i % WIDTHS], &crews[i], MANY * times / (kind == OF_VALUES ? 1 : 4));
         run(&million);
-        for (int j = 0; j < WIDTHS; j++) {
-            struct plan stamped = plan_of(kind, widths[j], &crews[i], VALUES * times);
-            run_stamped(&stamped);
-        }
+        for (int j = 0; j < WIDTHS; j++) run_stamped(kind, widths[j], &crews[i]);
     }
     run_full(kind, 1);
     run_full(kind, 4);
