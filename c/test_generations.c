@@ -870,7 +870,8 @@ static void stops_often(int kind, uint32_t k) {
 }
 
 /* A thread has stopped within a call, and does not go on. The others go through a hundred changes, and take out all
-   that is inside but what that call may hold. Only then it goes on, to its end. */
+   that is inside but what that call may hold: if they had to wait for it, this would never end. Only then it goes on,
+   to its end. */
 static void end_without(unsigned number, int is_closed) {
     go_through_changes();
     wait_until_left(1);
