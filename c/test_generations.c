@@ -1,22 +1,27 @@
 /* Queues of values and of cells whose generations change all the time, since they have few versions: each value comes
-   out once, and those of a producer in order up to the bound; handles that stop, that are abandoned, and closes in the
-   middle of a change lose nothing. With --long it runs for about a minute, through more changes than a busy queue makes
-   in a hundred years. */
+   out once, and no more than the bound overtake it; handles that stop, also within a call, that are abandoned, and
+   closes in the middle of a change lose nothing. With --long it runs for some minutes, through more changes than a busy
+   queue makes in a hundred years. */
+#define _GNU_SOURCE
 #include "kfifo.h"
+#include <errno.h>
+#include <poll.h>
 #include <pthread.h>
 #include <sched.h>
+#include <signal.h>
 #include <stdatomic.h>
 #include <stdio.h>
 #include <stdlib.h>
 #include <string.h>
 
-/* How many values a run of many threads gives, and the one run that has more. */
+/* How many values a run of many threads gives; how many runs are closed while they go on; how often a thread stops
+   within a call, and through how many changes the others then go. */
 #ifdef FEWER
-enum { VALUES = 4000, MANY = 20000 };
+enum { VALUES = 4000, MANY = 10000, CLOSES = 30, STOPS = 10, CHANGES = 10 };
 #else
-enum { VALUES = 60000, MANY = 1000000 };
+enum { VALUES = 30000, MANY = 1000000, CLOSES = 300, STOPS = 40, CHANGES = 100 };
 #endif
-enum { MOST = 16, TOKENS = 64, WORDS = 4, OF_VALUES = 0, OF_CELLS = 1 };
+enum { MOST = 16, TOKENS = 64, CELLS = MOST * TOKENS, WORDS = 4, OF_VALUES = 0, OF_CELLS = 1 };
 
 static int failed;
 static uint64_t times = 1; /* how many times as much is done */
@@ -34,28 +39,104 @@ static void stopped(kfifo_status status) {
     exit(1);
 }
 
+/* ---- Where a thread stops ---- */
+
+/* Blocks that were not freed. Only differences count: this program asks for some by calloc. */
+static atomic_long blocks;
+/* How often threads have stopped, how often within a call, how many of the stops may end, and how many have. */
+static atomic_uint stops, stops_in_calls, may_go_on, gone_on;
+/* Of each thread: before which request for memory or free, from now on, it stops (0: none); whether it is within one,
+   or within a call of the queue; and whether it has to stop after that request. */
+static _Thread_local volatile sig_atomic_t stops_at, is_in_memory, is_in_call, has_to_stop;
+
+/* Stops the thread until it may go on. */
+static void stop(void) {
+    if (is_in_call) atomic_fetch_add(&stops_in_calls, 1);
+    unsigned number = atomic_fetch_add(&stops, 1) + 1;
+    while (atomic_load(&may_go_on) < number) poll(NULL, 0, 1);
+    atomic_fetch_add(&gone_on, 1);
+}
+
+/* A thread that stopped within malloc might hold a lock there, for which the others would wait. So it stops before or
+   after it. */
+static void enter_memory(void) {
+    if (stops_at && --stops_at == 0) stop();
+    is_in_memory = 1;
+}
+
+static void leave_memory(void) {
+    is_in_memory = 0;
+    if (!has_to_stop) return;
+    has_to_stop = 0;
+    stop();
+}
+
+static void stop_by_signal(int number) {
+    int before = errno;
+    (void)number;
+    if (is_in_memory) {
+        has_to_stop = 1;
+    } else {
+        stop();
+    }
+    errno = before;
+}
+
+void *__real_malloc(size_t size);
+void *__real_realloc(void *block, size_t size);
+void __real_free(void *block);
+
+/* The linker hands the library's calls of malloc, realloc and free to these. */
+void *__wrap_malloc(size_t size) {
+    enter_memory();
+    void *block = __real_malloc(size);
+    if (block) atomic_fetch_add(&blocks, 1);
+    leave_memory();
+    return block;
+}
+
+void *__wrap_realloc(void *block, size_t size) {
+    enter_memory();
+    void *other = __real_realloc(block, size);
+    if (other && !block) atomic_fetch_add(&blocks, 1);
+    leave_memory();
+    return other;
+}
+
+void __wrap_free(void *block) {
+    enter_memory();
+    if (block) atomic_fetch_sub(&blocks, 1);
+    __real_free(block);
+    leave_memory();
+}
+
 /* ---- Values and cells by the same calls ---- */
 
 struct queue {
     int kind; /* OF_VALUES or OF_CELLS */
-    uint32_t threads;
+    uint32_t threads, tokens;
     kfifo_value_pass values[MOST];
     kfifo_cell_pass cells[MOST];
 };
 
 /* What a cell holds: each word is the value, so that one that is torn is seen. */
-static uint64_t contents[MOST * TOKENS][WORDS];
+static uint64_t contents[CELLS][WORDS];
+
+static kfifo_status open_with(struct queue *queue, int kind, uint32_t k, uint32_t segments, uint32_t tokens,
+                              uint64_t last, uint32_t threads) {
+    queue->kind = kind;
+    queue->threads = threads;
+    queue->tokens = tokens;
+    return kind == OF_VALUES ? kfifo_open_values_with(k, segments, tokens, last, last / 2, queue->values, threads)
+                             : kfifo_open_cells_with(k, segments, tokens, last, last / 2, queue->cells, threads);
+}
 
 static kfifo_status open_queue(struct queue *queue, int kind, uint32_t k, uint32_t segments, uint64_t last,
                                uint32_t threads) {
-    queue->kind = kind;
-    queue->threads = threads;
-    return kind == OF_VALUES ? kfifo_open_values_with(k, segments, TOKENS, last, last / 2, queue->values, threads)
-                             : kfifo_open_cells_with(k, segments, TOKENS, last, last / 2, queue->cells, threads);
+    return open_with(queue, kind, k, segments, TOKENS, last, threads);
 }
 
-static kfifo_status give(struct queue *queue, uint32_t thread, uint64_t value) {
-    if (queue->kind == OF_VALUES) return kfifo_give(&queue->values[thread], value);
+static kfifo_status give_cell(struct queue *queue, uint32_t thread, uint64_t value) {
     uint64_t cell = 0;
     kfifo_status status = kfifo_reserve(&queue->cells[thread], &cell);
     if (status != KFIFO_DONE) return status;
@@ -65,8 +146,15 @@ static kfifo_status give(struct queue *queue, uint32_t thread, uint64_t value) {
     return status;
 }
 
-static kfifo_status take(struct queue *queue, uint32_t thread, uint64_t *value) {
-    if (queue->kind == OF_VALUES) return kfifo_take(&queue->values[thread], value);
+static kfifo_status give(struct queue *queue, uint32_t thread, uint64_t value) {
+    is_in_call = 1;
+    kfifo_status status =
+        queue->kind == OF_VALUES ? kfifo_give(&queue->values[thread], value) : give_cell(queue, thread, value);
+    is_in_call = 0;
+    return status;
+}
+
+static kfifo_status take_cell(struct queue *queue, uint32_t thread, uint64_t *value) {
     uint64_t cell = 0;
     kfifo_status status = kfifo_receive(&queue->cells[thread], &cell);
     if (status != KFIFO_GOT) return status;
@@ -78,6 +166,14 @@ static kfifo_status take(struct queue *queue, uint32_t thread, uint64_t *value) 
     return status;
 }
 
+static kfifo_status take(struct queue *queue, uint32_t thread, uint64_t *value) {
+    is_in_call = 1;
+    kfifo_status status =
+        queue->kind == OF_VALUES ? kfifo_take(&queue->values[thread], value) : take_cell(queue, thread, value);
+    is_in_call = 0;
+    return status;
+}
+
 static void abandon_from(struct queue *queue, uint32_t thread, uint32_t count) {
     kfifo_status status = queue->kind == OF_VALUES ? kfifo_abandon_values(&queue->values[thread], count)
                                                    : kfifo_abandon_cells(&queue->cells[thread], count);
@@ -86,8 +182,8 @@ static void abandon_from(struct queue *queue, uint32_t thread, uint32_t count) {
 
 /* Closes a queue and returns what is left in it, in its order. The caller frees it. */
 static uint64_t *close_queue(struct queue *queue, size_t *count) {
-    size_t room =
-        queue->kind == OF_VALUES ? kfifo_values_room(queue->values, queue->threads) : (size_t)queue->threads * TOKENS;
+    size_t room = queue->kind == OF_VALUES ? kfifo_values_room(queue->values, queue->threads)
+                                           : (size_t)queue->threads * queue->tokens;
     uint64_t *left = malloc(room * sizeof *left);
     size_t before = *count = 77;
     if (!left) abort();
@@ -195,6 +291,7 @@ static void does_not_renew(int kind) {
     kfifo_status status = KFIFO_DONE;
     queue.kind = kind;
     queue.threads = 1;
+    queue.tokens = TOKENS;
     status = kind == OF_VALUES ? kfifo_open_values_with(1, 8, TOKENS, 40, 0, queue.values, 1)
                                : kfifo_open_cells_with(1, 8, TOKENS, 40, 0, queue.cells, 1);
     expect(status, KFIFO_DONE, "open of a queue that does not renew itself");
@@ -214,28 +311,120 @@ static void does_not_renew(int kind) {
     free(left);
 }
 
+/* One of three handles is abandoned after so many calls, at each moment of a change and between two. The others go on
+   through many more changes: each value comes out once, in the order in which they were given, also what the one that
+   left had given. */
+static void one_leaves(int kind) {
+    static struct queue queue;
+    for (uint64_t before = 0; before < 150; before++) {
+        uint32_t leaver = before % 3;
+        uint64_t next = 0, oldest = 0, value = 0;
+        expect(open_queue(&queue, kind, 1, 16, 24, 3), KFIFO_DONE, "open for one that leaves");
+        for (uint64_t call = 0; call < before + 300; call++) {
+            uint32_t thread = (uint32_t)(call % 3);
+            if (call == before) abandon_from(&queue, leaver, 1);
+            if (call >= before && thread == leaver) thread = (thread + 1) % 3;
+            /* Two gives, then two takes: so it leaves with none, one or two values inside. */
+            if (call % 4 < 2) {
+                expect(give(&queue, thread, next), KFIFO_DONE, "a give around one that leaves");
+                next++;
+            } else {
+                expect(take(&queue, thread, &value), KFIFO_GOT, "a take around one that leaves");
+                expect(value, oldest, "the oldest value around one that leaves");
+                oldest++;
+            }
+        }
+        for (; oldest < next; oldest++) {
+            expect(take(&queue, (leaver + 1) % 3, &value), KFIFO_GOT, "a take after one has left");
+            expect(value, oldest, "a value that was left");
+        }
+        expect(take(&queue, (leaver + 2) % 3, &value), KFIFO_EMPTY, "a take of what one that left gave");
+        abandon_from(&queue, 0, 3);
+        if (failed) return;
+    }
+}
+
+/* A queue that is full, with hundreds of values inside, through many changes: FULL is answered with as many as a ring
+   has inside, and they come out in order. What is inside at the end comes back. */
+static void full_in_order(int kind) {
+    enum { RING = 200 };
+    static struct queue queue;
+    uint64_t next = 0, oldest = 0, value = 0, refused = 0;
+    expect(open_with(&queue, kind, 1, RING, CELLS, 4 * RING, 1), KFIFO_DONE, "open to be full");
+    for (uint64_t i = 0; i < 20000 * times && !failed; i++) {
+        kfifo_status status = KFIFO_DONE;
+        while (next - oldest < 3 * RING && (status = give(&queue, 0, next)) == KFIFO_DONE) next++;
+        if (status != KFIFO_DONE) expect(status, KFIFO_FULL, "a give to a queue that is full");
+        if (status == KFIFO_FULL) expect(next - oldest >= RING, 1, "a queue that is full has all slots filled");
+        refused += status == KFIFO_FULL;
+        for (uint64_t j = 0; j <= i % 5; j++) {
+            expect(take(&queue, 0, &value), KFIFO_GOT, "a take of a queue that is full");
+            expect(value, oldest, "the oldest value of a queue that is full");
+            oldest++;
+        }
+    }
+    expect(refused > 1000, 1, "gives to a queue that is full");
+    size_t count = 0;
+    uint64_t *left = close_queue(&queue, &count);
+    expect(count, next - oldest, "values that were in a queue that was full");
+    for (size_t i = 0; i < count; i++) expect(left[i], oldest + i, "a value of a queue that was full");
+    free(left);
+}
+
 /* ---- Many threads ---- */
 
 /* What a thread does. */
 enum role { GIVES = 1, TAKES = 2, BOTH = 3 };
 
+struct crew {
+    uint32_t threads;
+    enum role roles[MOST];
+};
+
+/* A run of many threads. */
+struct plan {
+    int kind;
+    uint32_t k, segments, tokens;
+    uint64_t last;
+    const struct crew *crew;
+    uint64_t each; /* how many values each that gives gives, unless that has no end */
+    int has_end;   /* else it goes on until it is told to end */
+    uint64_t most,
+        least;        /* values inside: with `most` none is given, with `least` hardly any is taken but at the end */
+    int may_wear_out; /* whether the queue may use its versions up, which ends the run */
+};
+
+/* When the give and the take of a value began and ended, by a clock that each end moves on. */
+struct stamps {
+    uint64_t give_begins, give_ends, take_begins, take_ends;
+};
+
 struct side {
     pthread_t id;
-    struct queue *queue;
     uint32_t thread;
     enum role role;
-    uint64_t to_give, given, taken, wrong;
+    uint64_t to_give, given, taken, wrong, full;
+    int waited;         /* how often in a row it took none since there were few inside */
     uint64_t leaves_at; /* it abandons its handle after so many rounds; 0: never */
+    int stops_at;       /* the request for memory or the free before which it stops; 0: none */
     uint64_t *greatest; /* of each producer, the greatest indices that this thread has taken */
 };
 
-static unsigned char *out;          /* how often each value came out */
-static uint64_t each;               /* values of each producer */
+static struct plan plan;
+static struct queue queue;
+static struct side sides[MOST];
+static uint64_t bound;              /* how many younger values may overtake one */
+static atomic_uchar *out;           /* how often each value came out; where gives have no end, each that is `each` on */
+static struct stamps *stamps;       /* of each value, in the same order; NULL: they are not noted */
+static atomic_uint_fast64_t ended;  /* the clock of the stamps: gives and takes that have ended */
 static atomic_uint_fast64_t inside; /* values that are in the queue, or are about to be */
 static atomic_uint_fast64_t left_to_take;
-static uint64_t most_inside, bound; /* how many values may be inside; how many younger ones may overtake one */
+static atomic_uint_fast64_t most_inside; /* with so many inside none is given; 0: no more are given */
+static atomic_int is_over;               /* all threads end after the call that they are in */
 
 static uint64_t value_of(uint64_t producer, uint64_t index) { return (producer + 1) << 40 | index; }
+
+static uint64_t place_of(uint64_t producer, uint64_t index) { return producer * plan.each + index % plan.each; }
 
 /* Notes an index that was taken: whether no more than `bound` greater ones of its producer came before it. */
 static int is_in_bound(uint64_t *greatest, uint64_t index) {
@@ -248,157 +437,533 @@ static int is_in_bound(uint64_t *greatest, uint64_t index) {
     return 1;
 }
 
-static void take_one(struct side *self) {
-    uint64_t value = 0;
-    kfifo_status status = take(self->queue, self->thread, &value);
-    if (status == KFIFO_GOT) {
-        uint64_t producer = (value >> 40) - 1, index = value & 0xffffffffff;
-        if (producer >= self->queue->threads || index >= each) {
-            self->wrong++;
-        } else {
-            out[producer * each + index]++;
-            self->wrong += !is_in_bound(&self->greatest[producer * (bound + 1)], index + 1);
-        }
-        self->taken++;
-        atomic_fetch_sub(&inside, 1);
-        atomic_fetch_sub(&left_to_take, 1);
-    } else if (kfifo_may_retry(status)) {
+/* Notes a value that a thread took. */
+static void note(struct side *self, uint64_t value, uint64_t begins, uint64_t ends) {
+    uint64_t producer = (value >> 40) - 1, index = value & 0xffffffffff;
+    self->taken++;
+    if (producer >= queue.threads || (plan.has_end && index >= plan.each)) {
+        self->wrong++;
+        return;
+    }
+    atomic_fetch_add_explicit(&out[place_of(producer, index)], 1, memory_order_relaxed);
+    self->wrong += !is_in_bound(&self->greatest[producer * (bound + 1)], index + 1);
+    if (!stamps) return;
+    stamps[place_of(producer, index)].take_begins = begins;
+    stamps[place_of(producer, index)].take_ends = ends;
+}
+
+/* After a call that did nothing: the thread tries again, or all end. */
+static void refused(struct side *self, kfifo_status status) {
+    self->full += status == KFIFO_FULL;
+    if (kfifo_may_retry(status)) {
         sched_yield();
+    } else if (status == KFIFO_WORN && plan.may_wear_out) {
+        atomic_store(&is_over, 1);
     } else {
         stopped(status);
     }
 }
 
+static void take_one(struct side *self) {
+    uint64_t value = 0, ends = 0, begins = stamps ? atomic_load(&ended) : 0;
+    /* Not for ever: a handle that still gives may need a token that another one gets by a take. */
+    if (atomic_load(&inside) <= plan.least && atomic_load(&left_to_take) > plan.least && self->waited++ < 100) {
+        sched_yield();
+        return;
+    }
+    self->waited = 0;
+    kfifo_status status = take(&queue, self->thread, &value);
+    if (status != KFIFO_GOT) {
+        refused(self, status);
+        return;
+    }
+    if (stamps) ends = atomic_fetch_add(&ended, 1) + 1;
+    note(self, value, begins, ends);
+    atomic_fetch_sub(&inside, 1);
+    atomic_fetch_sub(&left_to_take, 1);
+}
+
 /* Gives the next value, unless there are many inside: with few versions the places of generations would run out. */
 static void give_one(struct side *self) {
-    if (atomic_fetch_add(&inside, 1) >= most_inside) {
+    if (atomic_fetch_add(&inside, 1) >= atomic_load(&most_inside)) {
         atomic_fetch_sub(&inside, 1);
         sched_yield();
         return;
     }
-    kfifo_status status = give(self->queue, self->thread, value_of(self->thread, self->given));
+    struct stamps *stamp = stamps ? &stamps[place_of(self->thread, self->given)] : NULL;
+    if (stamp) stamp->give_begins = atomic_load(&ended);
+    kfifo_status status = give(&queue, self->thread, value_of(self->thread, self->given));
     if (status == KFIFO_DONE) {
+        if (stamp) stamp->give_ends = atomic_fetch_add(&ended, 1) + 1;
         self->given++;
         return;
     }
     atomic_fetch_sub(&inside, 1);
-    if (!kfifo_may_retry(status)) stopped(status);
-    sched_yield();
+    refused(self, status);
 }
 
 static void *work(void *argument) {
     struct side *self = argument;
-    for (uint64_t round = 1;; round++) {
+    stops_at = self->stops_at;
+    for (uint64_t round = 1; !atomic_load(&is_over); round++) {
         if (self->role & GIVES && self->given < self->to_give) give_one(self);
         if (self->role & TAKES) take_one(self);
         if (atomic_load(&left_to_take) == 0 || (!(self->role & TAKES) && self->given == self->to_give)) break;
         if (round == self->leaves_at) break;
     }
-    if (self->leaves_at) abandon_from(self->queue, self->thread, 1);
+    if (self->leaves_at) abandon_from(&queue, self->thread, 1);
     return NULL;
 }
 
-static void end_run(struct side *sides, uint32_t threads, uint64_t wanted) {
-    uint64_t given = 0, taken = 0, wrong = 0;
+/* Opens the queue of a run. No thread of it begins yet. */
+static void begin_run(const struct plan *of) {
+    plan = *of;
+    uint32_t threads = plan.crew->threads;
+    uint64_t givers = 0;
+    bound = plan.k - 1 + threads - 1;
+    out = calloc(threads * plan.each, sizeof *out);
     for (uint32_t i = 0; i < threads; i++) {
+        enum role role = plan.crew->roles[i];
+        uint64_t *greatest = calloc(threads * (bound + 1), sizeof *greatest);
+        sides[i] = (struct side){.thread = i, .role = role, .greatest = greatest};
+        if (role & GIVES) sides[i].to_give = plan.has_end ? plan.each : UINT64_MAX;
+        givers += role & GIVES;
+        if (!out || !greatest) abort();
+    }
+    atomic_store(&inside, 0);
+    atomic_store(&left_to_take, plan.has_end ? plan.each * givers : UINT64_MAX);
+    atomic_store(&most_inside, plan.most);
+    atomic_store(&is_over, 0);
+    expect(open_with(&queue, plan.kind, plan.k, plan.segments, plan.tokens, plan.last, threads), KFIFO_DONE,
+           "open for threads");
+}
+
+/* The threads from `from` up to the one before `end` begin. */
+static void start(uint32_t from, uint32_t end) {
+    for (uint32_t i = from; i < end; i++)
+        if (pthread_create(&sides[i].id, NULL, work, &sides[i])) abort();
+}
+
+/* They end. */
+static void join(uint32_t from, uint32_t end) {
+    for (uint32_t i = from; i < end; i++) pthread_join(sides[i].id, NULL);
+}
+
+/* Waits until the threads have taken so many values more. */
+static void wait_for_takes(uint64_t count) {
+    uint64_t before = atomic_load(&left_to_take);
+    while (before - atomic_load(&left_to_take) < count) sched_yield();
+}
+
+/* No more values are given, and this returns when no more than so many are left inside. */
+static void wait_until_left(uint64_t count) {
+    atomic_store(&most_inside, 0);
+    while (atomic_load(&inside) > count) sched_yield();
+}
+
+/* Closes the queue of a run whose threads have ended, and notes what was left. */
+static void close_run(void) {
+    size_t count = 0;
+    uint64_t *left = close_queue(&queue, &count);
+    expect(count, atomic_load(&inside), "values left");
+    for (size_t i = 0; i < count; i++) {
+        uint64_t now = stamps ? atomic_fetch_add(&ended, 1) + 1 : 0;
+        note(&sides[0], left[i], now, now);
+    }
+    free(left);
+}
+
+/* Counts the values of a run whose queue is closed or gone, and returns how many were given. */
+static uint64_t end_run(void) {
+    uint64_t given = 0, taken = 0, wrong = 0, not_once = 0;
+    for (uint32_t i = 0; i < queue.threads; i++) {
         given += sides[i].given;
         taken += sides[i].taken;
         wrong += sides[i].wrong;
         free(sides[i].greatest);
+        for (uint64_t j = 0; j < plan.each; j++) {
+            uint64_t wanted = sides[i].given / plan.each + (j < sides[i].given % plan.each);
+            not_once += atomic_load(&out[i * plan.each + j]) != (unsigned char)wanted;
+        }
     }
-    expect(wrong, 0, "values that are torn, or that too many younger ones have overtaken");
-    expect(given, wanted, "values given");
-    expect(taken, given, "values taken");
-    uint64_t not_once = 0;
-    for (uint32_t producer = 0; producer < threads; producer++)
-        for (uint64_t i = 0; i < sides[producer].given; i++) not_once += out[producer * each + i] != 1;
-    expect(not_once, 0, "values that did not come out once");
     free(out);
+    expect(wrong, 0, "values that are torn, or that too many younger ones have overtaken");
+    expect(taken, given, "values taken");
+    expect(not_once, 0, "values that did not come out once");
+    return given;
 }
 
-/* Threads in these roles give so many values in all. */
-static void run(int kind, uint32_t k, uint32_t threads, const enum role *roles, uint64_t values) {
-    static struct queue queue;
-    static struct side sides[MOST];
-    uint32_t givers = 0;
-    for (uint32_t i = 0; i < threads; i++) givers += roles[i] & GIVES;
-    each = values / givers;
-    bound = k - 1 + threads - 1;
-    most_inside = 2 * threads;
-    atomic_store(&inside, 0);
-    atomic_store(&left_to_take, each * givers);
-    out = calloc(threads * each, 1);
-    /* The reserve is 16 versions for each thread: more than those inside, and what is under way, need. */
-    expect(open_queue(&queue, kind, k, 8, 32 * (uint64_t)threads, threads), KFIFO_DONE, "open for threads");
-    for (uint32_t i = 0; i < threads; i++) {
-        uint64_t *greatest = calloc(threads * (bound + 1), sizeof *greatest);
-        sides[i] = (struct side){.queue = &queue, .thread = i, .role = roles[i], .greatest = greatest};
-        sides[i].to_give = roles[i] & GIVES ? each : 0;
-        if (!out || !greatest || pthread_create(&sides[i].id, NULL, work, &sides[i])) abort();
+/* ---- Overtakings ---- */
+
+/* Counts one more at a place, 1 to `end`, of a binary indexed tree; and those at the places up to this one. */
+static void count_at(uint32_t *tree, uint64_t end, uint64_t place) {
+    for (; place <= end; place += place & -place) tree[place]++;
+}
+
+static uint64_t count_up_to(const uint32_t *tree, uint64_t place) {
+    uint64_t count = 0;
+    for (; place; place -= place & -place) count += tree[place];
+    return count;
+}
+
+/* The most values that certainly overtook one: each was given after the give of that one had ended, and was taken
+   before its take began. The clock of the stamps ended at `end`; a value that was not given has stamps 0. */
+static uint64_t most_overtakings(const struct stamps *of, uint64_t values, uint64_t end) {
+    /* The value whose take ended at a time, and those whose take began at it, as a list: their numbers, from 1 on. */
+    uint64_t *ends = calloc(end + 1, sizeof *ends), *begins = calloc(end + 1, sizeof *begins);
+    uint64_t *next = calloc(values + 1, sizeof *next), most = 0, inserted = 0;
+    uint32_t *tree = calloc(end + 2, sizeof *tree);
+    if (!ends || !begins || !next || !tree) abort();
+    for (uint64_t i = 1; i <= values; i++) {
+        const struct stamps *one = &of[i - 1];
+        if (!one->give_ends) continue;
+        ends[one->take_ends] = i;
+        next[i] = begins[one->take_begins];
+        begins[one->take_begins] = i;
     }
-    for (uint32_t i = 0; i < threads; i++) pthread_join(sides[i].id, NULL);
-    end_run(sides, threads, each * givers);
-    size_t count = 0;
-    free(close_queue(&queue, &count));
-    expect(count, 0, "values left");
+    for (uint64_t time = 0; time <= end; time++) {
+        if (ends[time]) {
+            count_at(tree, end + 1, of[ends[time] - 1].give_begins + 1);
+            inserted++;
+        }
+        for (uint64_t i = begins[time]; i; i = next[i]) {
+            uint64_t overtook = inserted - count_up_to(tree, of[i - 1].give_ends);
+            most = overtook > most ? overtook : most;
+        }
+    }
+    free(ends);
+    free(begins);
+    free(next);
+    free(tree);
+    return most;
+}
+
+/* That the count is right: three gives one after the other, and their takes. */
+static void overtakings(void) {
+    static const struct stamps last_first[] = {{0, 1, 5, 6}, {1, 2, 4, 5}, {2, 3, 3, 4}};
+    static const struct stamps in_order[] = {{0, 1, 3, 4}, {1, 2, 4, 5}, {2, 3, 5, 6}};
+    static const struct stamps gives_meet[] = {{0, 2, 5, 6}, {0, 1, 4, 5}, {2, 3, 3, 4}};
+    static const struct stamps takes_meet[] = {{0, 1, 3, 6}, {1, 2, 3, 5}, {2, 3, 3, 4}};
+    expect(most_overtakings(last_first, 3, 6), 2, "overtakings where the last comes first");
+    expect(most_overtakings(in_order, 3, 6), 0, "overtakings in order");
+    expect(most_overtakings(gives_meet, 3, 6), 1, "overtakings where the first give ends last");
+    expect(most_overtakings(takes_meet, 3, 6), 0, "overtakings where all takes begin at once");
+}
+
+/* ---- Runs ---- */
+
+static const struct crew three = {3, {BOTH, BOTH, BOTH}}, mixed = {4, {GIVES, TAKES, BOTH, BOTH}},
+                         givers = {4, {GIVES, GIVES, BOTH, TAKES}};
+
+/* In all roles. */
+static const struct crew crews[] = {
+    {1, {BOTH}},
+    {2, {GIVES, TAKES}},
+    {2, {BOTH, BOTH}},
+    {2, {GIVES, BOTH}},
+    {2, {BOTH, TAKES}},
+    {4, {GIVES, TAKES, GIVES, TAKES}},
+    {4, {GIVES, TAKES, TAKES, TAKES}},
+    {4, {GIVES, GIVES, GIVES, TAKES}},
+    {4, {GIVES, TAKES, BOTH, BOTH}},
+    {4, {BOTH, BOTH, BOTH, BOTH}},
+    {16, {GIVES, TAKES, BOTH, GIVES, TAKES, BOTH, GIVES, TAKES, BOTH, GIVES, TAKES, BOTH, GIVES, TAKES, BOTH, TAKES}},
+    {16, {BOTH, BOTH, BOTH, BOTH, BOTH, BOTH, BOTH, BOTH, BOTH, BOTH, BOTH, BOTH, BOTH, BOTH, BOTH, BOTH}},
+};
+enum { CREWS = sizeof crews / sizeof crews[0] };
+static const uint32_t widths[] = {1, 2, 4, 16, 64};
+enum { WIDTHS = sizeof widths / sizeof widths[0] };
+
+static uint64_t givers_of(const struct crew *crew) {
+    uint64_t givers = 0;
+    for (uint32_t i = 0; i < crew->threads; i++) givers += crew->roles[i] & GIVES;
+    return givers;
+}
+
+/* A crew gives and takes so many values in all, with few inside. The reserve is 16 versions for each thread: more than
+   those inside, and what is under way, need. */
+static struct plan plan_of(int kind, uint32_t k, const struct crew *crew, uint64_t values) {
+    return (struct plan){.kind = kind,
+                         .k = k,
+                         .segments = 8,
+                         .tokens = TOKENS,
+                         .last = 32 * (uint64_t)crew->threads,
+                         .crew = crew,
+                         .each = values / givers_of(crew),
+                         .has_end = 1,
+                         .most = 2 * crew->threads};
+}
+
+static void run(const struct plan *of) {
+    begin_run(of);
+    uint64_t wanted = atomic_load(&left_to_take);
+    start(0, queue.threads);
+    join(0, queue.threads);
+    close_run();
+    expect(end_run(), wanted, "values given");
+}
+
+/* The same with stamps: counts over all threads which values have overtaken one. So many are inside all the time that
+   more than the bound could. */
+static void run_stamped(int kind, uint32_t k, const struct crew *crew) {
+    struct plan stamped = plan_of(kind, k, crew, VALUES * times);
+    uint64_t values = crew->threads * stamped.each;
+    stamped.least = k + crew->threads;
+    stamped.most = stamped.least + 2 * crew->threads;
+    stamped.segments = (uint32_t)stamped.most / k + 8;
+    stamped.tokens = CELLS / crew->threads;
+    stamps = calloc(values, sizeof *stamps);
+    if (!stamps) abort();
+    atomic_store(&ended, 0);
+    run(&stamped);
+    uint64_t most = most_overtakings(stamps, values, atomic_load(&ended));
+    expect(most > bound ? most : bound, bound, "the most values that have overtaken one");
+    free(stamps);
+    stamps = NULL;
+}
+
+/* Threads over a queue that has hundreds of values inside from the first call to the last one, and is full again and
+   again, also while generations change. */
+static void run_full(int kind, uint32_t k) {
+    struct plan full = plan_of(kind, k, &givers, 10 * VALUES * times);
+    full.segments = 240 / k; /* fewer slots than a handle has tokens */
+    full.tokens = CELLS / givers.threads;
+    full.last = 1024;
+    full.most = UINT64_MAX;
+    full.least = 200;
+    begin_run(&full);
+    uint64_t wanted = atomic_load(&left_to_take), answered = 0;
+    while (sides[0].full == 0) give_one(&sides[0]);
+    expect(sides[0].given > 200, 1, "values inside a full queue");
+    start(0, queue.threads);
+    join(0, queue.threads);
+    for (uint32_t i = 0; i < queue.threads; i++) answered += sides[i].full;
+    expect(answered > 1, 1, "gives to a full queue");
+    close_run();
+    expect(end_run(), wanted, "values given to a full queue");
+}
+
+/* Queues with very few versions: with several threads a reserve may be used up by calls that are under way. Then the
+   queue answers WORN, the threads end, and a close gives back what is left. Returns whether that was so. */
+static int run_few(int kind, uint64_t last, const struct crew *crew) {
+    struct plan few = plan_of(kind, 1 + last % 2, crew, VALUES / 20 * times);
+    few.segments = 2 + (uint32_t)last % 3;
+    few.last = last;
+    few.may_wear_out = 1;
+    begin_run(&few);
+    uint64_t wanted = atomic_load(&left_to_take);
+    start(0, queue.threads);
+    join(0, queue.threads);
+    close_run();
+    uint64_t given = end_run();
+    if (!atomic_load(&is_over)) expect(given, wanted, "values given to a queue with few versions");
+    return atomic_load(&is_over);
+}
+
+static void run_few_versions(int kind) {
+    int runs = 0, worn = 0;
+    for (uint64_t last = 8; last <= 128; last += last < 32 ? 1 : 16)
+        for (int i = 0; i < CREWS; i++) {
+            runs++;
+            worn += run_few(kind, last, &crews[i]);
+        }
+    expect(worn < runs, 1, "queues with few versions that renew themselves");
 }
 
 /* Threads that give and take, each for some rounds alone: then it abandons its handle, in the middle of whatever
    changes. The last one takes what is left. */
 static void leavers(int kind, uint32_t threads) {
-    static struct queue queue;
-    static struct side sides[MOST];
-    each = VALUES * times;
-    bound = 4 - 1 + threads - 1;
-    most_inside = 2 * threads;
-    atomic_store(&inside, 0);
-    atomic_store(&left_to_take, UINT64_MAX);
-    out = calloc(threads * each, 1);
-    expect(open_queue(&queue, kind, 4, 8, 32 * (uint64_t)threads, threads), KFIFO_DONE, "open for those that leave");
-    for (uint32_t i = 0; i < threads; i++) {
-        uint64_t *greatest = calloc(threads * (bound + 1), sizeof *greatest);
-        sides[i] = (struct side){.queue = &queue, .thread = i, .role = BOTH, .to_give = each, .greatest = greatest};
-        sides[i].leaves_at = i ? i * each / threads : 0;
-        if (!i) sides[i].role = TAKES;
-        if (!out || !greatest || pthread_create(&sides[i].id, NULL, work, &sides[i])) abort();
-    }
-    uint64_t given = 0;
-    for (uint32_t i = 1; i < threads; i++) {
-        pthread_join(sides[i].id, NULL);
-        given += sides[i].given;
-    }
-    /* How many are left to take is known only now. */
-    while (atomic_load(&inside) != 0) sched_yield();
-    atomic_store(&left_to_take, 0);
-    pthread_join(sides[0].id, NULL);
-    end_run(sides, threads, given);
+    struct crew crew = {threads, {TAKES}};
+    for (uint32_t i = 1; i < threads; i++) crew.roles[i] = BOTH;
+    struct plan leave = plan_of(kind, 4, &crew, 0);
+    leave.each = VALUES * times;
+    begin_run(&leave);
+    atomic_store(&left_to_take, UINT64_MAX); /* how many it will be is not known */
+    for (uint32_t i = 1; i < threads; i++) sides[i].leaves_at = i * plan.each / threads;
+    start(0, threads);
+    join(1, threads);
+    wait_until_left(0);
+    atomic_store(&is_over, 1);
+    join(0, 1);
     abandon_from(&queue, 0, 1);
+    end_run();
 }
 
+/* Threads end in the middle of whatever changes, with dozens of values inside, and the queue is closed. Sometimes that
+   is in the middle of a change: there are several generations. */
+static void closes_in_changes(int kind) {
+    int several = 0;
+    for (uint64_t i = 0; i < CLOSES * times; i++) {
+        struct plan closed = plan_of(kind, i % 2 ? 4 : 1, i % 3 ? &mixed : &crews[2], 10000);
+        closed.has_end = 0;
+        closed.segments = closed.k == 1 ? 96 : 32;
+        closed.tokens = 128;
+        closed.last = 512;
+        closed.most = 70;
+        closed.least = 50;
+        begin_run(&closed);
+        long blocks_of_one = atomic_load(&blocks);
+        while (atomic_load(&inside) < plan.least) give_one(&sides[0]);
+        start(0, queue.threads);
+        wait_for_takes(i * 37 % 1009);
+        atomic_store(&is_over, 1);
+        join(0, queue.threads);
+        several += atomic_load(&blocks) > blocks_of_one;
+        if (kind == OF_VALUES && atomic_load(&blocks) <= blocks_of_one)
+            expect(kfifo_values_room(queue.values, queue.threads), plan.k * plan.segments,
+                   "the room of one generation");
+        close_run();
+        end_run();
+        if (failed) return;
+    }
+    expect(several > 0, 1, "closes of several generations while threads give and take");
+}
+
+/* ---- A thread that stops within a call ---- */
+
+#ifdef KFIFO_TSAN
+enum { HOLDS_SIGNALS = 1 };
+#else
+enum { HOLDS_SIGNALS = 0 };
+#endif
+
+/* The stop with this number may end, and this returns when it has. */
+static void let_go_on(unsigned number) {
+    atomic_store(&may_go_on, number);
+    while (atomic_load(&gone_on) < number) sched_yield();
+}
+
+/* A signal stops a thread at whatever it does. Returns the number of the stop. */
+static unsigned stop_now(const struct side *side) {
+    unsigned number = atomic_load(&stops) + 1;
+    pthread_kill(side->id, SIGUSR1);
+    while (atomic_load(&stops) < number) sched_yield();
+    return number;
+}
+
+/* Three threads of which the first stops. */
+static void begin_stops(int kind, uint32_t k) {
+    struct plan stopping = plan_of(kind, k, &three, 10000);
+    stopping.has_end = 0;
+    begin_run(&stopping);
+}
+
+/* The others go through so many changes: a generation has its versions for at most k values each. */
+static void go_through_changes(void) { wait_for_takes(CHANGES * plan.k * plan.last); }
+
+/* A thread stops within its calls again and again, each time while the others go through a hundred changes, and goes on
+   after that. */
+static void stops_often(int kind, uint32_t k) {
+    begin_stops(kind, k);
+    start(0, 3);
+    for (uint64_t i = 0; i < STOPS * times; i++) {
+        wait_for_takes(i * 37 % 509);
+        unsigned number = stop_now(&sides[0]);
+        go_through_changes();
+        let_go_on(number);
+    }
+    wait_until_left(0);
+    atomic_store(&is_over, 1);
+    join(0, 3);
+    close_run();
+    end_run();
+}
+
+/* A thread has stopped within a call, and does not go on. The others go through a hundred changes, and take out all
+   that is inside but what that call may hold: if they had to wait for it, this would never end. Only then it goes on,
+   to its end. */
+static void end_without(unsigned number, int is_closed) {
+    go_through_changes();
+    wait_until_left(1);
+    atomic_store(&is_over, 1);
+    join(1, 3);
+    let_go_on(number);
+    join(0, 1);
+    if (is_closed) {
+        close_run();
+    } else {
+        while (atomic_load(&inside) > 0) take_one(&sides[0]);
+        abandon_from(&queue, 0, 3);
+    }
+    end_run();
+}
+
+static void stops_for_good(int kind) {
+    for (uint64_t i = 0; i < STOPS * times; i++) {
+        begin_stops(kind, 1);
+        start(0, 3);
+        wait_for_takes(i * 37 % 509);
+        end_without(stop_now(&sides[0]), i % 2);
+        if (failed) return;
+    }
+}
+
+/* A thread that goes through changes alone stops before a request for memory or a free: each of them in turn, of
+   several changes. Then the others begin. */
+static void stops_at_each_request(int kind) {
+    for (int i = 1; i <= 50; i++) {
+        unsigned number = atomic_load(&stops) + 1;
+        begin_stops(kind, 1);
+        sides[0].stops_at = i;
+        start(0, 1);
+        while (atomic_load(&stops) < number) sched_yield();
+        start(1, 3);
+        end_without(number, i % 2);
+        if (failed) return;
+    }
+}
+
+static void stops_anywhere(int kind) {
+    if (HOLDS_SIGNALS) {
+        printf("skipped: a signal that stops a thread, since ThreadSanitizer holds it back until the call has ended\n");
+        return;
+    }
+    cpu_set_t processors;
+    unsigned before = atomic_load(&stops), in_calls = atomic_load(&stops_in_calls);
+    struct sigaction action = {.sa_handler = stop_by_signal, .sa_flags = SA_RESTART};
+    sigaction(SIGUSR1, &action, NULL);
+    for (int i = 0; i < 3; i++) stops_often(kind, widths[i]);
+    stops_for_good(kind);
+    before = atomic_load(&stops) - before;
+    in_calls = atomic_load(&stops_in_calls) - in_calls;
+    printf("a signal stopped a thread %u times, %u of them within a call\n", before, in_calls);
+    if (sched_getaffinity(0, sizeof processors, &processors) == 0 && CPU_COUNT(&processors) == 1) {
+        printf("skipped: how often that is within a call, since threads take turns on a processor\n");
+    } else {
+        expect(in_calls > 0, 1, "stops within a call");
+    }
+}
+
+/* ---- All ---- */
+
 static void many_threads(int kind) {
-    static const enum role roles[][MOST] = {
-        {BOTH},
-        {GIVES, TAKES},
-        {BOTH, BOTH},
-        {GIVES, TAKES, GIVES, TAKES},
-        {GIVES, TAKES, BOTH, BOTH},
-        {GIVES, TAKES, BOTH, GIVES, TAKES, BOTH, GIVES, TAKES, BOTH, GIVES, TAKES, BOTH, GIVES, TAKES, BOTH, TAKES},
-    };
-    static const uint32_t threads[] = {1, 2, 2, 4, 4, 16};
-    for (int i = 0; i < 6; i++) run(kind, i % 2 ? 4 : 1, threads[i], roles[i], VALUES * times);
-    run(kind, 4, 4, roles[4], MANY * times);
+    for (int i = 0; i < CREWS; i++) {
+        /* A million values; cells cost more, and differ in nothing that depends on how many there are. */
+        struct plan million = plan_of(kind, widths[i % WIDTHS], &crews[i], MANY * times / (kind == OF_VALUES ? 1 : 4));
+        run(&million);
+        for (int j = 0; j < WIDTHS; j++) run_stamped(kind, widths[j], &crews[i]);
+    }
+    run_full(kind, 1);
+    run_full(kind, 4);
+    run_few_versions(kind);
     leavers(kind, 4);
     leavers(kind, 16);
+    closes_in_changes(kind);
 }
 
 int main(int count, char **words) {
-    if (count > 1 && !strcmp(words[1], "--long")) times = 20;
+    if (count > 1 && !strcmp(words[1], "--long")) times = 5;
+    overtakings();
     for (int kind = OF_VALUES; kind <= OF_CELLS; kind++) {
         in_order(kind);
+        full_in_order(kind);
         one_stops(kind);
+        one_leaves(kind);
         closes(kind);
         does_not_renew(kind);
         many_threads(kind);
+        stops_at_each_request(kind);
+        stops_anywhere(kind);
     }
     printf("%s\n", failed ? "queues that change their generation fail"
                           : "generations that change all the time: each value came out once, also where handles stop");

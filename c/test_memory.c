@@ -1,18 +1,20 @@
 /* Each request of an open, of a close and of a change of generations for memory is refused in turn: it is answered,
-   nothing is half done, and nothing leaks. */
+   nothing is half done, and nothing leaks. And generations go: through hundreds of changes the memory does not grow. */
 #include "kfifo.h"
 #include <stdio.h>
 #include <stdlib.h>
+#include <string.h>
 
-enum { K = 4, SEGMENTS = 8, THREADS = 3, ROOM = K * SEGMENTS, TOKENS = 5 };
+enum { K = 4, SEGMENTS = 8, THREADS = 3, ROOM = K * SEGMENTS, TOKENS = 5, CELLS = THREADS * TOKENS };
 
 static int failed;
-/* Requests so far, the one that is refused (0: none), whether all after it are too, and blocks that were not freed. */
-static long requests, refused, blocks;
+/* Requests so far, the one that is refused (0: none), and whether all after it are too. */
+static long requests, refused;
 static int all_after;
-static long tried;                    /* the request that this case refuses */
-static long kept, lost;               /* closes that did nothing, and closes that lost what was left */
-static long values_kept, values_lost; /* the same of values */
+/* Blocks that were not freed, their bytes, and the most bytes so far. */
+static long blocks, bytes, most_bytes;
+static long tried;      /* the request that this case refuses */
+static long kept, lost; /* closes that did nothing, and closes that lost what was left */
 
 void *__real_malloc(size_t size);
 void *__real_realloc(void *block, size_t size);
@@ -23,22 +25,43 @@ static int is_refused(void) {
     return requests == refused || (all_after && refused && requests > refused);
 }
 
-/* The linker hands the library's calls of malloc, realloc and free to these. */
-void *__wrap_malloc(size_t size) {
-    void *block = is_refused() ? NULL : __real_malloc(size);
-    if (block) blocks++;
-    return block;
+/* Each block begins with its size. Behind that it is aligned as malloc aligns. */
+enum { HEAD = 16 };
+
+static size_t size_of(const void *block) {
+    size_t size;
+    memcpy(&size, (const char *)block - HEAD, sizeof size);
+    return size;
 }
 
+static void *count_in(char *whole, size_t size) {
+    if (!whole) return NULL;
+    memcpy(whole, &size, sizeof size);
+    blocks++;
+    bytes += (long)size;
+    most_bytes = bytes > most_bytes ? bytes : most_bytes;
+    return whole + HEAD;
+}
+
+static char *count_out(void *block) {
+    blocks--;
+    bytes -= (long)size_of(block);
+    return (char *)block - HEAD;
+}
+
+/* The linker hands the calls of malloc, realloc and free to these, those of the library too. */
+void *__wrap_malloc(size_t size) { return is_refused() ? NULL : count_in(__real_malloc(HEAD + size), size); }
+
 void *__wrap_realloc(void *block, size_t size) {
-    void *other = is_refused() ? NULL : __real_realloc(block, size);
-    if (other && !block) blocks++;
-    return other;
+    if (!block) return __wrap_malloc(size);
+    if (is_refused()) return NULL;
+    char *whole = __real_realloc(count_out(block), HEAD + size);
+    if (!whole) abort(); /* the block is still there, but was counted out */
+    return count_in(whole, size);
 }
 
 void __wrap_free(void *block) {
-    if (block) blocks--;
-    __real_free(block);
+    if (block) __real_free(count_out(block));
 }
 
 static void expect(long is, long wanted, const char *what) {
@@ -99,49 +122,92 @@ static int closes(long number) {
     return !met;
 }
 
-/* The same of a queue of values. */
-static int opens_values(kfifo_value_pass *passes, long number) {
+/* ---- Queues of values and of cells, by the same calls ---- */
+
+struct queue {
+    int of_cells;
+    kfifo_value_pass values[THREADS];
+    kfifo_cell_pass cells[THREADS];
+    uint64_t contents[CELLS];
+};
+
+static kfifo_status gives(struct queue *queue, uint64_t thread, uint64_t value) {
+    uint64_t cell = 0;
+    if (!queue->of_cells) return kfifo_give(&queue->values[thread], value);
+    kfifo_status status = kfifo_reserve(&queue->cells[thread], &cell);
+    if (status != KFIFO_DONE) return status;
+    queue->contents[cell] = value;
+    return kfifo_publish(&queue->cells[thread]); /* after a refusal the next reserve has the same cell */
+}
+
+static kfifo_status takes(struct queue *queue, uint64_t thread, uint64_t *value) {
+    uint64_t cell = 0;
+    if (!queue->of_cells) return kfifo_take(&queue->values[thread], value);
+    kfifo_status status = kfifo_receive(&queue->cells[thread], &cell);
+    if (status != KFIFO_GOT) return status;
+    *value = queue->contents[cell];
+    kfifo_release(&queue->cells[thread]);
+    return status;
+}
+
+static kfifo_status close_into(struct queue *queue, uint64_t *left, size_t room, size_t *count) {
+    kfifo_status status = queue->of_cells ? kfifo_close_cells(queue->cells, THREADS, left, room, count)
+                                          : kfifo_close_values(queue->values, THREADS, left, room, count);
+    for (size_t i = 0; queue->of_cells && status == KFIFO_DONE && i < *count; i++) left[i] = queue->contents[left[i]];
+    return status;
+}
+
+static int opens_queue(struct queue *queue, int of_cells, long number) {
+    queue->of_cells = of_cells;
     refuse(number);
-    kfifo_status status = kfifo_open_values(K, SEGMENTS, TOKENS, passes, THREADS);
+    kfifo_status status = of_cells ? kfifo_open_cells(1, SEGMENTS, TOKENS, queue->cells, THREADS)
+                                   : kfifo_open_values(1, SEGMENTS, TOKENS, queue->values, THREADS);
     refuse(0);
     if (status == KFIFO_DONE) return 1;
-    expect(status, KFIFO_NO_MEMORY, "an open of values that is refused");
-    for (int i = 0; i < THREADS; i++)
-        expect(kfifo_give(&passes[i], 1), KFIFO_BAD_CALL, "a handle of a refused open of values");
-    expect(blocks, 0, "blocks left by a refused open of values");
+    expect(status, KFIFO_NO_MEMORY, "an open of values or cells that is refused");
+    for (uint64_t i = 0; i < THREADS; i++)
+        expect(gives(queue, i, 1), KFIFO_BAD_CALL, "a handle of a refused open of values or cells");
+    expect(blocks, 0, "blocks left by a refused open of values or cells");
     return 0;
 }
 
-static int closes_values(long number) {
-    kfifo_value_pass passes[THREADS];
-    uint64_t values[ROOM], value = 0;
+/* Closes a queue with the values from `first` to the one before `end`, with the request of this number refused. Where
+   that does nothing, a take still gets the oldest value, and a second close gives back the others. Whether no request
+   was refused. */
+static int closes_queue(struct queue *queue, uint64_t first, uint64_t end, long number) {
+    uint64_t left[32 * SEGMENTS], value = 0;
     size_t count = 77;
-    if (!opens_values(passes, 0)) return 1;
-    expect(kfifo_give(&passes[0], 5), KFIFO_DONE, "the first value");
-    expect(kfifo_give(&passes[1], 6), KFIFO_DONE, "the second value");
     refuse(number);
-    kfifo_status status = kfifo_close_values(passes, THREADS, values, ROOM, &count);
+    kfifo_status status = close_into(queue, left, 32 * SEGMENTS, &count);
     int met = requests >= number;
     refuse(0);
-    if (status != KFIFO_DONE) expect(met, 1, "a close of values that fails with no request refused");
+    expect(status != KFIFO_DONE, met, "whether a close of values or cells did not do all");
     if (status == KFIFO_NO_MEMORY) {
-        values_kept++;
-        expect(values_lost, 0, "a close that does nothing after a request at which the values are lost");
-        expect(count, 77, "the count of a close of values that did nothing");
-        expect(kfifo_take(&passes[2], &value), KFIFO_GOT, "a take after a close that did nothing");
-        expect(kfifo_close_values(passes, THREADS, values, ROOM, &count), KFIFO_DONE, "the close of values once more");
-        expect(count, 1, "values left");
-    } else if (status == KFIFO_LOST) {
-        values_lost++;
-        expect(count, 77, "the count of a close that lost the values");
-        expect(kfifo_take(&passes[2], &value), KFIFO_BAD_CALL, "a call after the values were lost");
-    } else {
-        expect(status, KFIFO_DONE, "close of values");
-        expect(count, 2, "values left");
-        expect(met, 0, "requests that were refused though all was done with values");
+        kept++;
+        expect(lost, 0, "a close that does nothing after a request at which the values are lost");
+        expect((long)count, 77, "the count of a close of values or cells that did nothing");
+        expect(takes(queue, 2, &value), KFIFO_GOT, "a take after a close that did nothing");
+        expect((long)value, (long)first++, "the oldest value after a close that did nothing");
+        status = close_into(queue, left, 32 * SEGMENTS, &count);
     }
-    expect(blocks, 0, "blocks left by a close of values");
+    if (status == KFIFO_LOST) {
+        lost++;
+        expect((long)count, 77, "the count of a close that lost the values");
+    } else {
+        expect(status, KFIFO_DONE, "a close of values or cells");
+        expect((long)count, (long)(end - first), "how many values are left");
+        for (size_t i = 0; i < count; i++) expect((long)left[i], (long)(first + i), "a value that is left");
+    }
+    expect(gives(queue, 2, 1), KFIFO_BAD_CALL, "a give after a close");
+    expect(blocks, 0, "blocks left by a close of values or cells");
     return !met;
+}
+
+static int closes_new(int of_cells, long number) {
+    static struct queue queue;
+    if (!opens_queue(&queue, of_cells, 0)) return 1;
+    for (uint64_t i = 0; i < THREADS; i++) expect(gives(&queue, i, 5 + i), KFIFO_DONE, "a value before a close");
+    return closes_queue(&queue, 5, 5 + THREADS, number);
 }
 
 /* Handles that are abandoned one by one, with items and values left, leave no block; and the queue stays until the
@@ -151,7 +217,7 @@ static void abandons(void) {
     kfifo_pass items[THREADS];
     uint64_t value = 0;
     uint32_t item = 0;
-    if (!opens_values(passes, 0) || !opens(items, 0)) return;
+    if (kfifo_open_values(K, SEGMENTS, TOKENS, passes, THREADS) != KFIFO_DONE || !opens(items, 0)) return;
     for (uint32_t i = 0; i < THREADS; i++) {
         expect(kfifo_give(&passes[i], i), KFIFO_DONE, "a value that is left");
         expect(kfifo_put(&items[i], i + 1), KFIFO_DONE, "an item that is left");
@@ -179,7 +245,7 @@ static void calls(void) {
     kfifo_pass items[THREADS];
     uint64_t value = 0;
     uint32_t item = 0;
-    if (!opens_values(passes, 0) || !opens(items, 0)) return;
+    if (kfifo_open_values(K, SEGMENTS, TOKENS, passes, THREADS) != KFIFO_DONE || !opens(items, 0)) return;
     if (kfifo_open_cells(K, SEGMENTS, TOKENS, cells, THREADS) != KFIFO_DONE) return;
     refuse(1);
     for (int i = 0; i < 1000; i++) {
@@ -204,14 +270,7 @@ static void calls(void) {
 
 /* ---- Changes of generations: a queue of values or of cells with few versions ---- */
 
-enum { LAST = 128, RESERVE = 64, GIVES = 800, CELLS = THREADS * TOKENS };
-
-struct queue {
-    int of_cells;
-    kfifo_value_pass values[THREADS];
-    kfifo_cell_pass cells[THREADS];
-    uint64_t contents[CELLS];
-};
+enum { LAST = 128, RESERVE = 64, GIVES = 800 };
 
 static void opens_few(struct queue *queue, int of_cells) {
     queue->of_cells = of_cells;
@@ -220,37 +279,30 @@ static void opens_few(struct queue *queue, int of_cells) {
     expect(status, KFIFO_DONE, "an open for few versions");
 }
 
-static kfifo_status gives(struct queue *queue, uint64_t thread, uint64_t value) {
-    uint64_t cell = 0;
-    if (!queue->of_cells) return kfifo_give(&queue->values[thread], value);
-    kfifo_status status = kfifo_reserve(&queue->cells[thread], &cell);
-    if (status != KFIFO_DONE) return status;
-    queue->contents[cell] = value;
-    return kfifo_publish(&queue->cells[thread]); /* after a refusal the next reserve has the same cell */
+/* The room that a close of a queue needs. The request of this number is refused where it is asked for first: `*met`
+   says whether there was one. */
+static size_t room_of(struct queue *queue, long number, int *met) {
+    refuse(number);
+    size_t room = queue->of_cells ? CELLS : kfifo_values_room(queue->values, THREADS);
+    *met = number && requests >= number;
+    refuse(0);
+    if (room) return room;
+    expect(*met, 1, "whether a request was refused where no room is answered");
+    return kfifo_values_room(queue->values, THREADS);
 }
 
-static kfifo_status takes(struct queue *queue, uint64_t thread, uint64_t *value) {
-    uint64_t cell = 0;
-    if (!queue->of_cells) return kfifo_take(&queue->values[thread], value);
-    kfifo_status status = kfifo_receive(&queue->cells[thread], &cell);
-    if (status != KFIFO_GOT) return status;
-    *value = queue->contents[cell];
-    kfifo_release(&queue->cells[thread]);
-    return status;
-}
-
-/* Closes a queue, and expects the values from `first` to the one before `end` in their order. */
-static void closes_few(struct queue *queue, uint64_t first, uint64_t end) {
+/* Closes a queue, and expects the values from `first` to the one before `end` in their order. The request of this
+   number is refused where the room is asked for. Whether none was. */
+static int closes_few(struct queue *queue, uint64_t first, uint64_t end, long number) {
     uint64_t left[32 * SEGMENTS];
-    size_t count = 77, room = queue->of_cells ? CELLS : kfifo_values_room(queue->values, THREADS);
-    expect(room <= 32 * SEGMENTS, 1, "the room of a close");
-    kfifo_status status = queue->of_cells ? kfifo_close_cells(queue->cells, THREADS, left, room, &count)
-                                          : kfifo_close_values(queue->values, THREADS, left, room, &count);
-    expect(status, KFIFO_DONE, "a close of a queue with few versions");
+    int met = 0;
+    size_t count = 77, room = room_of(queue, number, &met);
+    expect(room >= SEGMENTS && room <= 32 * SEGMENTS, 1, "the room of a close");
+    expect(close_into(queue, left, room, &count), KFIFO_DONE, "a close of a queue with few versions");
     expect((long)count, (long)(end - first), "values of all generations");
-    for (size_t i = 0; i < count; i++)
-        expect((long)(queue->of_cells ? queue->contents[left[i]] : left[i]), (long)(first + i), "a value that is left");
+    for (size_t i = 0; i < count; i++) expect((long)left[i], (long)(first + i), "a value that is left");
     expect(blocks, 0, "blocks left by a queue with few versions");
+    return !met;
 }
 
 /* Gives and takes through some dozen changes with the request of this number refused: the change is tried again while
@@ -276,7 +328,7 @@ static int changes(int of_cells, long number) {
     }
     int met = requests >= number;
     refuse(0);
-    closes_few(&queue, taken, GIVES);
+    closes_few(&queue, taken, GIVES, 0);
     return !met || failed;
 }
 
@@ -305,39 +357,136 @@ static void wears_out(int of_cells, long number, int comes_back) {
     refuse(0);
     all_after = 0;
     if (comes_back) expect(gives(&queue, 1, given++), KFIFO_DONE, "a give when memory is back");
-    closes_few(&queue, taken, given);
+    closes_few(&queue, taken, given, 0);
+}
+
+/* Gives and takes by the first `threads` handles, one value after the other. */
+static void goes_on(struct queue *queue, uint64_t threads, uint64_t count, uint64_t *next) {
+    for (uint64_t end = *next + count, value = 0; *next < end && !failed; (*next)++) {
+        expect(gives(queue, *next % threads, *next), KFIFO_DONE, "a give through changes");
+        expect(takes(queue, (*next + 1) % threads, &value), KFIFO_GOT, "a take through changes");
+        expect((long)value, (long)*next, "the value through changes");
+    }
+}
+
+/* With nothing inside, each of these handles makes calls until it is in the newest generation alone. */
+static void comes_to_rest(struct queue *queue, uint64_t threads) {
+    uint64_t value = 0;
+    for (uint64_t i = 0; i < 2 * threads; i++)
+        expect(takes(queue, i % threads, &value), KFIFO_EMPTY, "a take of an empty queue");
+}
+
+/* A generation that is empty goes. So through hundreds of changes there is what the opening took, and one generation
+   more near a change, and one more for a handle that makes no calls. Returns how many changes there were. */
+static long generations_go(int of_cells) {
+    static struct queue queue;
+    uint64_t next = 0;
+    opens_few(&queue, of_cells);
+    long opened = bytes;
+    refuse(0);
+    while (bytes == opened && next < LAST) goes_on(&queue, 1, 1, &next);
+    long one = bytes - opened, of_one = requests;
+    expect(one > 0 && one < opened, 1, "the bytes of a generation are some of those of an opening");
+    most_bytes = bytes;
+    goes_on(&queue, THREADS, 10000, &next);
+    expect(most_bytes - opened <= one, 1, "one generation more near a change");
+    comes_to_rest(&queue, THREADS);
+    expect(bytes, opened, "the bytes when all is at rest");
+    goes_on(&queue, THREADS - 1, 10000, &next);
+    expect(most_bytes - opened <= 2 * one, 1, "one generation more for a handle that makes no calls");
+    comes_to_rest(&queue, THREADS - 1);
+    expect(bytes, opened + one, "the bytes at rest with a handle that makes no calls");
+    comes_to_rest(&queue, THREADS);
+    expect(bytes, opened, "the bytes when that handle has made calls again");
+    most_bytes = bytes;
+    goes_on(&queue, THREADS, 1000, &next);
+    expect(most_bytes - opened <= one, 1, "one generation more near a change after that");
+    long made = requests / of_one;
+    expect(made > 300, 1, "how many changes there were");
+    closes_few(&queue, next, next, 0);
+    return made;
+}
+
+/* Opens a queue, gives and takes so many values by two handles, and leaves six inside. The third handle is still in the
+   first generation. Returns how many bytes more there are than after the opening. */
+static long opens_several(struct queue *queue, int of_cells, uint64_t before) {
+    uint64_t next = 0;
+    opens_few(queue, of_cells);
+    long opened = bytes;
+    goes_on(queue, 2, before, &next);
+    for (uint64_t i = 0; i < 6; i++)
+        expect(gives(queue, i % 2, next + i), KFIFO_DONE, "a value of several generations");
+    return bytes - opened;
+}
+
+/* Closes queues with several generations, and asks for their room, with each request in turn refused. Returns how many
+   of them had more than two generations. */
+static long closes_several(int of_cells) {
+    static struct queue queue;
+    long cases = 0, one = 0;
+    for (uint64_t before = 0; before < 2 * RESERVE; before++) {
+        long more = opens_several(&queue, of_cells, before);
+        if (!one) one = more; /* the first that is more than an opening is a generation */
+        cases += one && more >= 2 * one;
+        for (tried = 1; !closes_few(&queue, before, before + 6, tried); tried++)
+            opens_several(&queue, of_cells, before);
+        kept = lost = tried = 0;
+        do {
+            opens_several(&queue, of_cells, before);
+        } while (!closes_queue(&queue, before, before + 6, ++tried));
+        expect(kept >= 1, 1, "the first request of a close is made before anything is done");
+    }
+    return cases;
+}
+
+/* Refuses each request of an open and of a close of values or of cells in turn. Writes how many of each there are. */
+static void each_request(int of_cells, long *of_open, long *of_close) {
+    static struct queue queue;
+    for (tried = 1; !opens_queue(&queue, of_cells, tried);) tried++;
+    *of_open = tried - 1;
+    size_t count = 77;
+    uint64_t left[CELLS];
+    expect(close_into(&queue, left, CELLS, &count), KFIFO_DONE, "a close of an open where none was refused");
+    expect(blocks, 0, "blocks left by that");
+    kept = lost = 0;
+    for (tried = 1; !closes_new(of_cells, tried);) tried++;
+    *of_close = tried - 1;
+    expect(kept >= 1, 1, "the first request of a close of values or cells is made before anything is done");
+    expect(*of_open > 1 && *of_close > 1, 1, "an open and a close of values or cells ask for memory");
+}
+
+/* Queues of values or of cells. */
+static void renewing(int of_cells) {
+    long of_open = 0, of_close = 0;
+    each_request(of_cells, &of_open, &of_close);
+    for (tried = 1; !changes(of_cells, tried);) tried++;
+    long of_changes = tried - 1;
+    for (tried = 1; tried < 30; tried++) wears_out(of_cells, tried, tried % 2);
+    tried = 0;
+    long made = generations_go(of_cells), cases = closes_several(of_cells);
+    expect(of_changes > 10, 1, "changes of generations ask for memory");
+    expect(cases > 0, 1, "closes of more than two generations");
+    printf(
+        "memory of %s: %ld requests of an open, %ld of a close and %ld of changes refused in turn; %ld changes with no "
+        "more memory; %ld closes of more than two generations\n",
+        of_cells ? "cells" : "values", of_open, of_close, of_changes, made, cases);
 }
 
 int main(void) {
     kfifo_pass passes[THREADS];
-    kfifo_value_pass of_values[THREADS];
-    long of_open = 1, of_close = 1, values_open = 1, values_close = 1;
+    long of_open = 1, of_close = 1;
     for (tried = 1; !opens(passes, tried); tried++) of_open++;
     kfifo_abandon(passes, THREADS);
     expect(blocks, 0, "blocks left by abandoned handles");
     for (tried = 1; !closes(tried); tried++) of_close++;
-    for (tried = 1; !opens_values(of_values, tried); tried++) values_open++;
-    kfifo_abandon_values(of_values, THREADS);
-    for (tried = 1; !closes_values(tried); tried++) values_close++;
-    calls();
-    abandons();
-    long of_changes[2];
-    for (int of_cells = 0; of_cells < 2; of_cells++) {
-        for (tried = 1; !changes(of_cells, tried); tried++) {
-        }
-        of_changes[of_cells] = tried - 1;
-        for (tried = 1; tried < 30; tried++) wears_out(of_cells, tried, tried % 2);
-    }
     /* A close reads its handles before it closes any: the refusal of either list that it makes for that does nothing.
      */
     expect(kept >= 2, 1, "the first two requests of a close are made before anything is done");
-    expect(values_kept >= 1, 1, "the first request of a close of values is made before anything is done");
-    expect(of_open > 1 && values_open > 1, 1, "an open asks for memory");
-    expect(of_close > 1 && values_close > 1, 1, "a close asks for memory");
-    expect(of_changes[0] > 10 && of_changes[1] > 10, 1, "changes of generations ask for memory");
-    printf("%s: %ld requests of an open and %ld of a close refused in turn; of values %ld and %ld, of changes %ld, and "
-           "of those of cells %ld\n",
-           failed ? "memory fails" : "memory", of_open - 1, of_close - 1, values_open - 1, values_close - 1,
-           of_changes[0], of_changes[1]);
+    expect(of_open > 1 && of_close > 1, 1, "an open and a close ask for memory");
+    calls();
+    abandons();
+    for (int of_cells = 0; of_cells < 2; of_cells++) renewing(of_cells);
+    printf("%s: %ld requests of an open and %ld of a close refused in turn\n", failed ? "memory fails" : "memory",
+           of_open - 1, of_close - 1);
     return failed;
 }
