@@ -249,8 +249,11 @@ class Worker {
     }
 
     void go_on(bool may_go_on, const char *why) {
-        if (!may_go_on) run.has_ended = true;
         expect(may_go_on, why);
+        if (!may_go_on) {
+            run.has_ended = true;
+            run.queue.finish();
+        }
         std::this_thread::yield();
     }
 

@@ -4,7 +4,7 @@
 use kfifo::{Handle, OpenError, PopError, PushError, Queue, Versions};
 use std::collections::VecDeque;
 use std::sync::Arc;
-use std::sync::atomic::{AtomicI64, AtomicU8, AtomicU64, Ordering};
+use std::sync::atomic::{AtomicBool, AtomicI64, AtomicU8, AtomicU64, Ordering};
 use std::thread;
 use std::time::Duration;
 
@@ -208,6 +208,19 @@ struct Run {
     left: AtomicU64,
     inside: AtomicU64,
     sleeps: bool,
+    has_failed: AtomicBool,
+}
+
+/// Ends the threads of a run where one of them panics: else the others would wait for its values.
+struct EndsRun<'a>(&'a Run);
+
+impl Drop for EndsRun<'_> {
+    fn drop(&mut self) {
+        if thread::panicking() {
+            self.0.has_failed.store(true, Ordering::SeqCst);
+            self.0.queue.finish();
+        }
+    }
 }
 
 const EACH: u64 = 10_000;
@@ -225,6 +238,7 @@ impl Run {
             left: AtomicU64::new(values),
             inside: AtomicU64::new(0),
             sleeps,
+            has_failed: AtomicBool::new(false),
         }
     }
 
@@ -276,6 +290,7 @@ impl Run {
     /// Puts the values of a producer, takes those of all, or both, one after the other. Now and then it drops its
     /// handle, and goes on with another one, or the same again.
     fn work(&self, thread: u64) {
+        let _ends = EndsRun(self);
         let mut handle = handle_of(&self.queue);
         let mut order = Order {
             bound: (u64::from(K) - 1 + self.roles.threads() - 1) as usize,
@@ -287,6 +302,7 @@ impl Run {
             false => 0..0,
         };
         while !numbers.is_empty() || (takes && !self.is_over()) {
+            assert!(!self.has_failed.load(Ordering::SeqCst));
             if !numbers.is_empty() && self.put(&handle, numbers.start) {
                 numbers.start += 1;
                 if numbers.start % 500 == 0 {
