@@ -296,7 +296,7 @@ def main():
     build()
     os.makedirs(words.out, exist_ok=True)
     load = os.getloadavg()[0]
-    about = f"{machine()}; {words.rounds} rounds of {words.milliseconds} ms for each queue; "
+    about = f"{machine()}; {words.rounds} rounds of {words.milliseconds} ms for each queue;\n"
     about += f"load of the machine before: {load:.1f}.\n"
     print(about)
     tables = []

@@ -12,7 +12,10 @@
 #include <cstdio>
 #include <cstring>
 #include <map>
+#include <stdexcept>
 #include <string>
+#include <sys/mman.h>
+#include <utility>
 #include <vector>
 
 namespace {
@@ -86,45 +89,141 @@ CheckReport run_kfifo(const CheckOptions &options) {
         [](kfifo::Pass &pass) { return popped_of(pass.dequeue()); }, options);
 }
 
-// A queue of values with so few versions that its generations change all the time.
-class Changing {
+// ---- Queues of values and of cells whose generations change all the time ----
+
+// What the calls of a check have used of the versions. The child process, in which they are made, shares it.
+struct Used {
+    struct alignas(128) Lane {
+        double generations = 0; // by the calls of this thread
+    };
+    Lane lanes[kfifo::checking::MAX_THREADS];
+    std::uint64_t queues = 0; // how many were opened
+
+    // How many changes there were at least: each queue begins with a generation that was no change.
+    double changes() const {
+        double sum = 0;
+        for (const Lane &lane : lanes) sum += lane.generations;
+        return sum - double(queues);
+    }
+};
+
+Used &used() {
+    static void *const memory = mmap(nullptr, sizeof(Used), PROT_READ | PROT_WRITE, MAP_SHARED | MAP_ANONYMOUS, -1, 0);
+    if (memory == MAP_FAILED) throw std::bad_alloc();
+    static Used &shared = *new (memory) Used;
+    return shared;
+}
+
+// So many changes each check of such a queue has at least.
+constexpr double LEAST_CHANGES = 20;
+
+// The tokens of a handle: as many as the others may keep for themselves, and more than values are inside.
+constexpr std::uint32_t TOKENS = 256;
+
+struct OfValues {
+    using Pass = kfifo_value_pass;
+    static constexpr auto open = kfifo_open_values_with;
+    static constexpr auto abandon = kfifo_abandon_values;
+    explicit OfValues(unsigned) {}
+    kfifo_status give(Pass *pass, std::uint32_t value) { return kfifo_give(pass, value); }
+    kfifo_status take(Pass *pass, std::uint64_t *value) { return kfifo_take(pass, value); }
+};
+
+struct OfCells {
+    using Pass = kfifo_cell_pass;
+    static constexpr auto open = kfifo_open_cells_with;
+    static constexpr auto abandon = kfifo_abandon_cells;
+    explicit OfCells(unsigned threads) : cells(threads * TOKENS) {}
+
+    kfifo_status give(Pass *pass, std::uint32_t value) {
+        std::uint64_t cell = 0;
+        kfifo_status status = kfifo_reserve(pass, &cell);
+        if (status != KFIFO_DONE) return status;
+        cells[cell] = value;
+        status = kfifo_publish(pass);
+        if (status != KFIFO_DONE) kfifo_cancel(pass);
+        return status;
+    }
+
+    kfifo_status take(Pass *pass, std::uint64_t *value) {
+        std::uint64_t cell = 0;
+        const kfifo_status status = kfifo_receive(pass, &cell);
+        if (status != KFIFO_GOT) return status;
+        *value = std::exchange(cells[cell], 0);
+        kfifo_release(pass);
+        return status;
+    }
+
+    std::vector<std::uint64_t> cells;
+};
+
+// What a call answered. A check ends where it is neither done nor may do better later: such a queue does not wear out.
+kfifo::Answer answer_of(kfifo_status status) {
+    switch (status) {
+    case KFIFO_DONE: return kfifo::Answer::done;
+    case KFIFO_FULL: return kfifo::Answer::full;
+    case KFIFO_GOT: return kfifo::Answer::got;
+    case KFIFO_EMPTY: return kfifo::Answer::empty;
+    case KFIFO_BUSY: return kfifo::Answer::busy;
+    default: throw std::runtime_error(kfifo_status_text(status));
+    }
+}
+
+// A queue that goes on in its next generation when half of its few versions are used up. The other half is enough to
+// empty a generation, and for what all threads do before they find the next one.
+template <class Kind> class Changing {
   public:
-    static constexpr unsigned THREADS = 8;
-    Changing(std::uint32_t k, std::size_t capacity) : passes(THREADS) {
-        const std::uint32_t segments = std::max(2U, std::uint32_t(capacity) / k);
-        if (kfifo_open_values_with(k, segments, KFIFO_MAX_TOKENS, 32, 16, passes.data(), THREADS) != KFIFO_DONE)
+    Changing(std::uint32_t k, std::uint32_t segments, unsigned threads) : kind(threads), passes(threads) {
+        const std::uint64_t reserve = 16 * threads + 4 * segments, last = 2 * reserve;
+        if (Kind::open(k, segments, TOKENS, last, reserve, passes.data(), threads) != KFIFO_DONE)
             throw std::bad_alloc();
+        // Each value that goes in or out uses a version of a slot, and a generation has `last` of each.
+        share = 1 / (double(k) * segments * double(last));
+        used().queues++;
     }
     Changing(Changing &&) noexcept = default;
     ~Changing() {
-        if (!passes.empty()) kfifo_abandon_values(passes.data(), passes.size());
+        if (!passes.empty()) Kind::abandon(passes.data(), passes.size());
     }
-    kfifo_value_pass *pass(unsigned thread) { return &passes.at(thread); }
+
+    kfifo::Answer give(unsigned thread, std::uint32_t item) {
+        return counted(thread, answer_of(kind.give(&passes[thread], item)));
+    }
+
+    kfifo::Popped take(unsigned thread) {
+        std::uint64_t value = 0;
+        const kfifo::Answer answer = counted(thread, answer_of(kind.take(&passes[thread], &value)));
+        return {answer, value};
+    }
 
   private:
-    std::vector<kfifo_value_pass> passes;
+    kfifo::Answer counted(unsigned thread, kfifo::Answer answer) {
+        if (answer == kfifo::Answer::done || answer == kfifo::Answer::got) used().lanes[thread].generations += share;
+        return answer;
+    }
+
+    Kind kind;
+    std::vector<typename Kind::Pass> passes;
+    double share = 0; // of the versions of a generation, for each value that goes in or out
 };
 
-// Up to four threads. With k slots in a segment a value may be overtaken by k - 1 others and, where generations change,
-// by one more for each other thread.
-CheckReport run_changing(const CheckOptions &options) {
-    const std::uint32_t k = options.k - 3;
-    CheckOptions of_four = options;
-    of_four.threads = {2, 3, 4};
+// In a round all threads take part. A value may be overtaken by k - 1 others and, where generations change, by one more
+// for each other handle. That is what a queue with this k in place of its own may do.
+template <class Kind, std::uint32_t k, unsigned threads> CheckReport run_changing(const CheckOptions &options) {
+    CheckOptions of_these = options;
+    of_these.k = k + threads - 1;
+    of_these.threads = {threads};
+    of_these.capacities = {2, 4, 8, 16};
+    of_these.fail_undecided = true;
+    using Queue = Changing<Kind>;
+    using Handle = std::pair<Queue *, unsigned>;
     return kfifo::run_check_with_handles(
-        [k](std::size_t capacity) { return Changing(k, capacity); },
-        [](Changing &queue, unsigned thread) { return queue.pass(thread % Changing::THREADS); },
-        [](kfifo_value_pass *pass, std::uint32_t item) {
-            return answer_of(static_cast<kfifo::Put>(kfifo_give(pass, item)));
-        },
-        [](kfifo_value_pass *pass) {
-            std::uint64_t value = 0;
-            const kfifo_status status = kfifo_take(pass, &value);
-            if (status == KFIFO_GOT) return kfifo::Popped{kfifo::Answer::got, std::uint32_t(value)};
-            return popped_of({std::nullopt, static_cast<kfifo::Miss>(status)});
-        },
-        of_four);
+        [](std::size_t capacity) { return Queue(k, std::max(2U, std::uint32_t(capacity) / k), threads); },
+        [](Queue &queue, unsigned thread) { return Handle(&queue, thread); },
+        [](const Handle &handle, std::uint32_t item) { return handle.first->give(handle.second, item); },
+        [](const Handle &handle) { return handle.first->take(handle.second); }, of_these);
 }
+
 #ifdef HAVE_BOOST
 constexpr Run BOOST = run<queues::Boost>;
 #else
@@ -155,7 +254,12 @@ struct Row {
     std::uint32_t k = 1;
     bool is_hard = false; // its fault may take 20 seconds
     double hang_seconds = 0.5;
+    bool is_changing = false; // its generations change all the time
 };
+
+constexpr Row changing(const char *name, Run run) {
+    return {name, NOTHING, run, "libkfifo", Callers::any, 1, false, 0.5, true};
+}
 
 const Row ROWS[] = {
     {"lifo", OVERTAKEN, run<queues::Lifo>},
@@ -187,8 +291,13 @@ const Row ROWS[] = {
     {"kfifo-1", NOTHING, run_kfifo, "libkfifo"},
     {"kfifo-4", NOTHING, run_kfifo, "libkfifo", Callers::any, 4},
     {"kfifo-16", NOTHING, run_kfifo, "libkfifo", Callers::any, 16},
-    {"kfifo-1-changing", NOTHING, run_changing, "libkfifo", Callers::any, 4},
-    {"kfifo-4-changing", NOTHING, run_changing, "libkfifo", Callers::any, 7},
+    changing("kfifo-1-changing-2", run_changing<OfValues, 1, 2>),
+    changing("kfifo-1-changing-4", run_changing<OfValues, 1, 4>),
+    changing("kfifo-4-changing-4", run_changing<OfValues, 4, 4>),
+    changing("kfifo-4-changing-16", run_changing<OfValues, 4, 16>),
+    changing("kfifo-1-changing-cells-4", run_changing<OfCells, 1, 4>),
+    changing("kfifo-4-changing-cells-4", run_changing<OfCells, 4, 4>),
+    changing("kfifo-1-changing-cells-16", run_changing<OfCells, 1, 16>),
 };
 
 std::string names_of(unsigned faults) {
@@ -223,19 +332,29 @@ bool had_no_race(const Row &row, const CheckReport &report) {
     return row.faults != NOTHING && report.passed() && report.overlapping < 0.05;
 }
 
+// Whether the generations of the queue did not change often, though they should.
+bool had_few_changes(const Row &row) { return row.is_changing && used().changes() < LEAST_CHANGES; }
+
 // Whether a check of the queue finds what it should. Prints a line, and the whole report where it does not.
 bool is_right(const Row &row, double seconds) {
+    used() = Used();
     CheckReport report = row.run(options_of(row, seconds));
     if (row.faults != NOTHING && found_by(report) == NOTHING && is_busy(report)) report = row.run(options_of(row, 60));
+    for (int more = 0; more < 20 && report.passed() && had_few_changes(row); more++)
+        report = row.run(options_of(row, 3));
     if (had_no_race(row, report)) {
         std::printf("%s: skipped, since the calls of threads hardly overlap on this machine\n", row.name);
         return true;
     }
     const Found found = found_by(report);
-    const bool is_right = row.faults == NOTHING ? found == NOTHING && report.rounds > 0 : (found & row.faults) != 0;
+    const bool is_right = row.faults == NOTHING ? found == NOTHING && report.rounds > 0 && !had_few_changes(row)
+                                                : (found & row.faults) != 0;
     std::printf("%s: %s: found %s in %.2f s, %llu rounds, %.0f %% of the calls overlapping\n", row.name,
                 is_right ? "passed" : "FAILED", NAMES.at(found), report.seconds, (unsigned long long)report.rounds,
                 100 * report.overlapping);
+    if (row.is_changing)
+        std::printf("  at least %.0f changes of generations, least k of the rounds %u to %u\n", used().changes(),
+                    report.least_at_least, report.least_at_most);
     if (!is_right)
         std::printf("  wanted %s\n%s\n", row.faults ? names_of(row.faults).c_str() : "nothing", report.text.c_str());
     std::fflush(stdout);
@@ -274,7 +393,8 @@ bool measure(const Row &row) {
 
 bool is_wanted(const Row &row, const std::vector<std::string> &names, bool is_long) {
 #ifdef FEWER
-    if (row.faults != NOTHING || *row.needs != '\0') return false;
+    // A sanitizer does not see into the libraries of others.
+    if (row.faults != NOTHING || (*row.needs != '\0' && std::strcmp(row.needs, "libkfifo") != 0)) return false;
 #endif
     if (!names.empty()) return std::find(names.begin(), names.end(), row.name) != names.end();
     return is_long || !row.is_hard;

@@ -1,6 +1,6 @@
 """A queue.Queue, logged: two threads put items in and two take them out, and then the queue is emptied. Prints the log.
-With the argument own it is a deque behind a lock, with broken the queue gives an item that nobody put, and with short the
-logs are too small.
+With the argument own it is a deque behind a lock, with broken the queue gives an item that nobody put, and with short
+the logs are too small.
 """
 import collections
 import pathlib

@@ -1,5 +1,5 @@
-//! Checks a queue behind a lock: thousands of short runs, each judged. With the argument `broken` it checks a stack, and
-//! the check says what is wrong.
+//! Checks a queue behind a lock: thousands of short runs, each judged. With the argument `broken` it checks a stack,
+//! and the check says what is wrong.
 use kfifo::judge::{Options, check};
 use std::collections::VecDeque;
 use std::sync::Mutex;

@@ -8,24 +8,34 @@
 //! C library and is not proved: it moves the values and drops them. Its README says what rests on what.
 //!
 //! ```
-//! use kfifo::Queue;
+//! use kfifo::{PopError, Queue};
 //! use std::thread;
 //!
 //! let queue = Queue::new(4, 64, 2)?; // k, segments, handles
 //! let producer = queue.handle().expect("a handle is free");
 //! let consumer = queue.handle().expect("a handle is free");
-//! thread::scope(|scope| {
+//! let mut sum = 0;
+//! let end = thread::scope(|scope| {
 //!     scope.spawn(move || {
 //!         for number in 0..100 {
-//!             producer.push(number).expect("100 values fit");
+//!             if let Err(refused) = producer.push_wait(number) {
+//!                 eprintln!("{number} was not put: {refused}"); // worn, or finished by the consumer
+//!                 break;
+//!             }
 //!         }
+//!         producer.finish(); // in any case, or the consumer sleeps for ever
 //!     });
+//!     loop {
+//!         match consumer.pop_wait() {
+//!             Ok(number) => sum += number,
+//!             Err(end) => {
+//!                 consumer.finish(); // the producer ends too
+//!                 break end;
+//!             }
+//!         }
+//!     }
 //! });
-//! let mut sum = 0;
-//! while let Ok(number) = consumer.pop() {
-//!     sum += number;
-//! }
-//! assert_eq!(sum, 4950);
+//! assert_eq!((sum, end), (4950, PopError::Finished));
 //! # Ok::<(), kfifo::OpenError>(())
 //! ```
 #![warn(missing_docs)]
@@ -354,11 +364,16 @@ impl<T> Handle<T> {
     /// std::thread::scope(|scope| {
     ///     scope.spawn(move || {
     ///         for number in 0..1000 {
-    ///             producer.push_wait(number).expect("the queue is not finished");
+    ///             if let Err(refused) = producer.push_wait(number) {
+    ///                 eprintln!("{number} was not put: {refused}");
+    ///                 break;
+    ///             }
     ///         }
-    ///         producer.finish();
+    ///         producer.finish(); // in any case, or the consumer sleeps for ever
     ///     });
-    ///     assert!(consumer.values().eq(0..1000));
+    ///     let values: Vec<_> = consumer.values().collect();
+    ///     consumer.finish(); // the producer ends too, whatever ended the values
+    ///     assert!(values.into_iter().eq(0..1000));
     /// });
     /// # Ok::<(), kfifo::OpenError>(())
     /// ```
@@ -410,7 +425,9 @@ impl<T> Handle<T> {
     /// let consumer = queue.handle().expect("a handle is free");
     /// std::thread::scope(|scope| {
     ///     scope.spawn(move || assert_eq!(consumer.pop_wait(), Ok(7)));
-    ///     producer.push(7).expect("there is room");
+    ///     let put = producer.push_wait(7);
+    ///     producer.finish(); // in any case, or the consumer sleeps for ever
+    ///     assert_eq!(put, Ok(()));
     /// });
     /// # Ok::<(), kfifo::OpenError>(())
     /// ```

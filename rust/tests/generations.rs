@@ -1,9 +1,10 @@
 //! Queues whose generations change all the time, since they have few versions: each value comes out once and is dropped
-//! once, also where handles change threads, and where the queue is closed or dropped in the middle of a change.
+//! once, those of a producer in order up to the bound, also where handles change threads, and where the queue is closed
+//! or dropped in the middle of a change.
 use kfifo::{Handle, OpenError, PopError, PushError, Queue, Versions};
 use std::collections::VecDeque;
 use std::sync::Arc;
-use std::sync::atomic::{AtomicU8, AtomicU64, Ordering};
+use std::sync::atomic::{AtomicBool, AtomicI64, AtomicU8, AtomicU64, Ordering};
 use std::thread;
 use std::time::Duration;
 
@@ -11,6 +12,15 @@ use std::time::Duration;
 struct Parcel {
     number: Box<u64>,
     _alive: Arc<()>,
+}
+
+impl Parcel {
+    fn new(number: u64, alive: &Arc<()>) -> Parcel {
+        Parcel {
+            number: Box::new(number),
+            _alive: Arc::clone(alive),
+        }
+    }
 }
 
 /// A queue whose generations have so many versions, and a reserve of half of them.
@@ -50,13 +60,9 @@ fn values_come_out_in_order() {
         let mut inside = VecDeque::new();
         let handles = [handle_of(&queue), handle_of(&queue)];
         for number in 0..5_000_u64 {
-            let parcel = Parcel {
-                number: Box::new(number),
-                _alive: Arc::clone(&alive),
-            };
             let handle = &handles[(number % 2) as usize];
             handle
-                .push(parcel)
+                .push(Parcel::new(number, &alive))
                 .expect("the queue does not wear out, and has room");
             inside.push_back(number);
             if inside.len() > (number % 8) as usize {
@@ -109,10 +115,7 @@ fn a_queue_that_does_not_renew_itself_wears_out() {
 fn a_handle_may_stop() {
     let queue = few_versions(1, 8, 2, 64);
     let alive = Arc::new(());
-    let parcel = |number| Parcel {
-        number: Box::new(number),
-        _alive: Arc::clone(&alive),
-    };
+    let parcel = |number| Parcel::new(number, &alive);
     let (busy, idle) = (handle_of(&queue), handle_of(&queue));
     assert!(idle.push(parcel(0)).is_ok());
     for number in 1..3_000 {
@@ -126,108 +129,212 @@ fn a_handle_may_stop() {
     assert_eq!(Arc::strong_count(&alive), 1);
 }
 
+/// A handle that is dropped goes back to the queue: its pass stays in the generation of its last call, as that of a
+/// thread that makes no calls, and whoever asks for a handle next goes on with it. So at whatever moment of a change
+/// that is, what the handle put comes out in order, and so does what it puts when it is in use again.
+#[test]
+fn a_handle_may_be_dropped_at_any_moment_of_a_change() {
+    for moment in 0..150 {
+        let queue = few_versions(1, 8, 2, 64);
+        let alive = Arc::new(());
+        let mut inside = VecDeque::new();
+        let mut numbers = 0..;
+        let mut pairs = |puts: &Handle<Parcel>, takes: &Handle<Parcel>, count| {
+            for number in numbers.by_ref().take(count) {
+                assert!(puts.push(Parcel::new(number, &alive)).is_ok());
+                inside.push_back(number);
+                if inside.len() > 4 {
+                    let taken = takes.pop().map(|it| *it.number);
+                    assert_eq!(taken.ok(), inside.pop_front());
+                }
+            }
+        };
+        let (goes, stays) = (handle_of(&queue), handle_of(&queue));
+        pairs(&goes, &stays, moment);
+        drop(goes);
+        pairs(&stays, &stays, 200);
+        let goes = handle_of(&queue);
+        pairs(&goes, &stays, 25);
+        pairs(&stays, &goes, 25);
+        drop((goes, stays));
+        let left = queue.into_values().expect("no handle is in use");
+        assert!(left.iter().map(|it| *it.number).eq(inside));
+        drop(left);
+        assert_eq!(Arc::strong_count(&alive), 1);
+    }
+}
+
+/// Which values of each producer a thread has taken last: the greatest of their indices, in descending order.
+struct Order {
+    bound: usize,
+    greatest: Vec<Vec<u64>>,
+}
+
+impl Order {
+    /// Notes an index that was taken: no more than `bound` greater ones of its producer came before it.
+    fn note(&mut self, producer: u64, index: u64) {
+        let greatest = &mut self.greatest[producer as usize];
+        let greater = greatest.partition_point(|it| *it > index);
+        assert!(greater <= self.bound, "{greater} have overtaken a value");
+        greatest.insert(greater, index);
+        greatest.truncate(self.bound + 1);
+    }
+}
+
+/// How many threads do what.
+#[derive(Clone, Copy)]
+struct Roles {
+    push: u64,
+    pop: u64,
+    do_both: u64,
+}
+
+impl Roles {
+    fn threads(self) -> u64 {
+        self.push + self.pop + self.do_both
+    }
+
+    fn producers(self) -> u64 {
+        self.push + self.do_both
+    }
+}
+
 /// What the threads of a run share.
 struct Run {
+    roles: Roles,
     queue: Queue<Parcel>,
     alive: Arc<()>,
     seen: Vec<AtomicU8>,
     left: AtomicU64,
     inside: AtomicU64,
     sleeps: bool,
+    has_failed: AtomicBool,
+}
+
+/// Ends the threads of a run where one of them panics: else the others would wait for its values.
+struct EndsRun<'a>(&'a Run);
+
+impl Drop for EndsRun<'_> {
+    fn drop(&mut self) {
+        if thread::panicking() {
+            self.0.has_failed.store(true, Ordering::SeqCst);
+            self.0.queue.finish();
+        }
+    }
 }
 
 const EACH: u64 = 10_000;
+const K: u32 = 4;
 
 impl Run {
-    fn new(producers: usize, consumers: usize, sleeps: bool) -> Run {
-        let handles = producers + consumers;
-        let values = producers as u64 * EACH;
+    /// The reserve is 16 versions for each thread: more than those inside, and what is under way, need.
+    fn new(roles: Roles, sleeps: bool) -> Run {
+        let values = roles.producers() * EACH;
         Run {
-            queue: few_versions(4, 8, handles, 32 * handles as u64),
+            roles,
+            queue: few_versions(K, 8, roles.threads() as usize, 32 * roles.threads()),
             alive: Arc::new(()),
             seen: (0..values).map(|_| AtomicU8::new(0)).collect(),
             left: AtomicU64::new(values),
             inside: AtomicU64::new(0),
             sleeps,
+            has_failed: AtomicBool::new(false),
         }
     }
 
-    /// Puts one value, again and again while the queue refuses it.
-    fn put(&self, handle: &Handle<Parcel>, number: u64) {
-        // With few versions the places of generations run out where many values are inside.
-        while self.inside.load(Ordering::SeqCst) >= 16 {
-            thread::yield_now();
-        }
-        self.inside.fetch_add(1, Ordering::SeqCst);
-        let mut parcel = Parcel {
-            number: Box::new(number),
-            _alive: Arc::clone(&self.alive),
-        };
-        loop {
+    fn is_over(&self) -> bool {
+        self.left.load(Ordering::SeqCst) == 0
+    }
+
+    /// Puts a value, unless there are many inside: with few versions the places of generations would run out. Returns
+    /// whether it is in the queue.
+    fn put(&self, handle: &Handle<Parcel>, number: u64) -> bool {
+        if self.inside.fetch_add(1, Ordering::SeqCst) < 16 {
+            let parcel = Parcel::new(number, &self.alive);
             let put = if self.sleeps {
                 handle.push_wait(parcel)
             } else {
                 handle.push(parcel)
             };
-            match put {
-                Ok(()) => return,
-                Err(refused) => {
-                    assert!(refused.may_retry(), "{refused}");
-                    parcel = refused.into_inner();
-                    assert_eq!(*parcel.number, number);
-                    thread::yield_now();
-                }
-            }
-        }
-    }
-
-    /// Puts the values of one producer. Now and then it drops its handle, and goes on with another one.
-    fn produce(&self, producer: u64) {
-        let mut handle = handle_of(&self.queue);
-        for index in 0..EACH {
-            if index % 500 == 499 {
-                drop(handle);
-                handle = handle_of(&self.queue);
-            }
-            self.put(&handle, producer * EACH + index);
-        }
-    }
-
-    fn consume(&self) {
-        let handle = handle_of(&self.queue);
-        while self.left.load(Ordering::SeqCst) != 0 {
-            let taken = if self.sleeps {
-                handle.pop_timeout(Duration::from_millis(1))
-            } else {
-                handle.pop()
+            let Err(refused) = put else {
+                return true;
             };
-            match taken {
-                Ok(parcel) => {
-                    self.seen[*parcel.number as usize].fetch_add(1, Ordering::SeqCst);
-                    self.inside.fetch_sub(1, Ordering::SeqCst);
-                    self.left.fetch_sub(1, Ordering::SeqCst);
+            assert!(refused.may_retry(), "{refused}");
+            assert_eq!(*refused.into_inner().number, number);
+        }
+        self.inside.fetch_sub(1, Ordering::SeqCst);
+        thread::yield_now();
+        false
+    }
+
+    fn take(&self, handle: &Handle<Parcel>, order: &mut Order) {
+        let taken = if self.sleeps {
+            handle.pop_timeout(Duration::from_millis(1))
+        } else {
+            handle.pop()
+        };
+        match taken {
+            Ok(parcel) => {
+                self.seen[*parcel.number as usize].fetch_add(1, Ordering::SeqCst);
+                order.note(*parcel.number / EACH, *parcel.number % EACH);
+                self.inside.fetch_sub(1, Ordering::SeqCst);
+                self.left.fetch_sub(1, Ordering::SeqCst);
+            }
+            Err(end) => {
+                assert!(end.may_retry() || end == PopError::TimedOut, "{end}");
+                thread::yield_now();
+            }
+        }
+    }
+
+    /// Puts the values of a producer, takes those of all, or both, one after the other. Now and then it drops its
+    /// handle, and goes on with another one, or the same again.
+    fn work(&self, thread: u64) {
+        let _ends = EndsRun(self);
+        let mut handle = handle_of(&self.queue);
+        let mut order = Order {
+            bound: (u64::from(K) - 1 + self.roles.threads() - 1) as usize,
+            greatest: vec![Vec::new(); self.roles.producers() as usize],
+        };
+        let takes = thread >= self.roles.push;
+        let mut numbers = match thread < self.roles.producers() {
+            true => thread * EACH..(thread + 1) * EACH,
+            false => 0..0,
+        };
+        while !numbers.is_empty() || (takes && !self.is_over()) {
+            assert!(!self.has_failed.load(Ordering::SeqCst));
+            if !numbers.is_empty() && self.put(&handle, numbers.start) {
+                numbers.start += 1;
+                if numbers.start % 500 == 0 {
+                    drop(handle);
+                    handle = handle_of(&self.queue);
                 }
-                Err(end) => {
-                    assert!(end.may_retry() || end == PopError::TimedOut, "{end}");
-                    thread::yield_now();
-                }
+            }
+            if takes && !self.is_over() {
+                self.take(&handle, &mut order);
             }
         }
     }
 }
 
 #[test]
-fn each_value_comes_out_once() {
-    for (producers, consumers) in [(1, 1), (2, 2), (8, 8)] {
+fn each_value_comes_out_once_and_in_order_up_to_the_bound() {
+    let all_roles = [
+        (1, 1, 0),
+        (2, 2, 0),
+        (0, 0, 4),
+        (1, 1, 2),
+        (8, 8, 0),
+        (4, 4, 8),
+    ];
+    for (push, pop, do_both) in all_roles {
         for sleeps in [false, true] {
-            let run = Run::new(producers, consumers, sleeps);
+            let roles = Roles { push, pop, do_both };
+            let run = Run::new(roles, sleeps);
             thread::scope(|scope| {
-                for producer in 0..producers as u64 {
+                for number in 0..roles.threads() {
                     let run = &run;
-                    scope.spawn(move || run.produce(producer));
-                }
-                for _ in 0..consumers {
-                    scope.spawn(|| run.consume());
+                    scope.spawn(move || run.work(number));
                 }
             });
             assert!(run.seen.iter().all(|it| it.load(Ordering::SeqCst) == 1));
@@ -238,32 +345,83 @@ fn each_value_comes_out_once() {
     }
 }
 
-/// Values of several generations that are left are dropped once with the queue.
-#[test]
-fn what_is_left_is_dropped_once() {
-    let alive = Arc::new(());
-    for rounds in 0..40 {
-        let queue = few_versions(2, 8, 4, 64);
-        thread::scope(|scope| {
-            for thread in 0..4 {
-                let (handle, alive) = (handle_of(&queue), &alive);
-                scope.spawn(move || {
-                    for number in 0..40 + rounds + thread {
-                        let parcel = Parcel {
-                            number: Box::new(number),
-                            _alive: Arc::clone(alive),
-                        };
-                        if let Err(PushError::Worn(_)) = handle.push(parcel) {
-                            return;
-                        }
-                        if number % 16 != 0 {
-                            drop(handle.pop());
-                        }
-                    }
-                });
+/// Pushes while there is room, and then pops some, so that there are many values inside, also when generations change.
+/// It stops once all threads have made so many calls. Returns what it has put, and what it has taken.
+fn push_and_pop(
+    handle: &Handle<Parcel>,
+    alive: &Arc<()>,
+    thread: u64,
+    calls: &AtomicI64,
+) -> [Vec<u64>; 2] {
+    let (mut pushed, mut popped) = (Vec::new(), Vec::new());
+    let may_call = || calls.fetch_sub(1, Ordering::SeqCst) > 0;
+    let mut number = thread << 32;
+    while calls.load(Ordering::SeqCst) > 0 {
+        while may_call() {
+            if let Err(refused) = handle.push(Parcel::new(number, alive)) {
+                assert!(refused.may_retry(), "{refused}");
+                break;
             }
+            pushed.push(number);
+            number += 1;
+        }
+        for _ in 0..3 + thread {
+            if may_call() {
+                match handle.pop() {
+                    Ok(parcel) => popped.push(*parcel.number),
+                    Err(end) => assert!(end.may_retry(), "{end}"),
+                }
+            }
+        }
+    }
+    [pushed, popped]
+}
+
+/// What four threads have put and taken until they are stopped, after so many calls in all.
+fn stopped_after(queue: &Queue<Parcel>, alive: &Arc<()>, calls: i64) -> [Vec<u64>; 2] {
+    let calls = AtomicI64::new(calls);
+    let all = thread::scope(|scope| {
+        let threads = [0, 1, 2, 3].map(|number| {
+            let (handle, calls) = (handle_of(queue), &calls);
+            scope.spawn(move || push_and_pop(&handle, alive, number, calls))
         });
-        drop(queue);
+        threads.map(|it| it.join().expect("no thread panics"))
+    });
+    [0, 1].map(|side| all.iter().flat_map(|it| it[side].clone()).collect())
+}
+
+/// The queue gives back what is left, or is dropped, while it has values of several generations: what came out before
+/// and what is left is each value once. It had several generations where more was left than one has slots.
+fn stops_anywhere(gives_back: bool) {
+    let (k, segments) = (2, 8);
+    let alive = Arc::new(());
+    let mut most = 0;
+    for calls in (20..8_000).step_by(40) {
+        let queue = few_versions(k, segments, 4, 32 * 4);
+        let [mut pushed, mut popped] = stopped_after(&queue, &alive, calls);
+        let inside = pushed.len() - popped.len();
+        assert_eq!(Arc::strong_count(&alive) - 1, inside);
+        most = most.max(inside);
+        if gives_back {
+            let left = queue.into_values().expect("no handle is in use");
+            popped.extend(left.iter().map(|it| *it.number));
+            pushed.sort_unstable();
+            popped.sort_unstable();
+            assert_eq!(pushed, popped);
+        } else {
+            drop(queue);
+        }
         assert_eq!(Arc::strong_count(&alive), 1);
     }
+    assert!(most > (k * segments) as usize, "{most}");
+}
+
+#[test]
+fn what_is_left_of_several_generations_comes_back_once() {
+    stops_anywhere(true);
+}
+
+#[test]
+fn what_is_left_of_several_generations_is_dropped_once() {
+    stops_anywhere(false);
 }

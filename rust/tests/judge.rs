@@ -30,8 +30,8 @@ fn turn() -> MutexGuard<'static, ()> {
 /// How long a check may take where other programs use the processors. It takes a fraction of that on an idle machine.
 const AT_MOST: Duration = Duration::from_secs(60);
 
-/// The share of overlapping calls below which threads take turns on a processor, so that a race hardly ever shows. On an
-/// idle machine with two processors it is above a half.
+/// The share of overlapping calls below which threads take turns on a processor, so that a race hardly ever shows. On
+/// an idle machine with two processors it is above a half.
 const HARDLY: f64 = 0.05;
 
 /// How long a right queue is checked.

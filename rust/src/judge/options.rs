@@ -41,8 +41,8 @@ pub struct Options {
     pub repeated: Option<u32>,
     /// Whether a round without a verdict fails: no. It is counted in any case.
     pub undecided_fails: bool,
-    /// A call hangs when it has used so much processor time, or has taken ten times as long on the clock: half a second,
-    /// and so 5 seconds.
+    /// A call hangs when it has used so much processor time, or has taken ten times as long on the clock: half a
+    /// second, and so 5 seconds.
     pub hang: Duration,
     /// How many choices the search for an order may take back in a round: [`TRIES`].
     pub tries: u64,

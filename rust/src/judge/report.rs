@@ -63,8 +63,8 @@ pub struct Report {
     pub overlapping: f64,
     /// How many rounds had neither an order nor a reason against each.
     pub undecided: u64,
-    /// Where k is over 1: the greatest lower and the greatest upper bound of the least k, over the rounds of a sample that
-    /// had both.
+    /// Where k is over 1: the greatest lower and the greatest upper bound of the least k, over the rounds of a sample
+    /// that had both.
     pub least: Option<(u32, u32)>,
     /// What the designs were drawn by.
     pub seed: u64,

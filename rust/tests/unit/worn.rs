@@ -17,9 +17,12 @@ struct Worn {
 
 impl Worn {
     fn open(k: u32, segments: u32, handles: usize, last: u64) -> Worn {
-        let versions = Versions { last, reserve: 0 };
+        Worn::open_with(k, segments, handles, 8, Versions { last, reserve: 0 })
+    }
+
+    fn open_with(k: u32, segments: u32, handles: usize, tokens: u32, versions: Versions) -> Worn {
         let shared =
-            Shared::open(k, segments, handles, 8, versions).expect("the sizes are in range");
+            Shared::open(k, segments, handles, tokens, versions).expect("the sizes are in range");
         let alive = Rc::new(());
         Worn { shared, alive }
     }
@@ -174,4 +177,35 @@ fn what_is_left_comes_out_once_where_the_close_is_refused() {
         drop(values);
         assert_eq!(Rc::strong_count(&alive), 1);
     });
+}
+
+/// A queue that renews itself never comes to its close by calls of its users while there is memory. So this calls the
+/// close itself, at each moment of a change: it gives back what is in all generations, the oldest first.
+#[test]
+fn a_close_gives_back_several_generations() {
+    let versions = Versions {
+        last: 128,
+        reserve: 64,
+    };
+    let mut most = 0;
+    for before in 0..200 {
+        let mut worn = Worn::open_with(1, 16, 2, 64, versions);
+        for number in 0..before {
+            assert!(worn.push(number as usize % 2, number).is_ok());
+            assert_eq!(worn.pop(0), Ok(number));
+        }
+        let mut next = before;
+        while next < before + 30 && worn.push(1, next).is_ok() {
+            next += 1;
+        }
+        let cells = worn.shared.close();
+        let values: Vec<_> = cells
+            .into_iter()
+            .filter_map(|cell| worn.shared.cells.take(cell))
+            .collect();
+        assert!(numbers_of(&values).into_iter().eq(before..next));
+        assert_eq!(worn.alive(), values.len());
+        most = most.max(values.len());
+    }
+    assert!(most > 16, "{most}");
 }
