@@ -5,12 +5,14 @@ ghost use Rattle.kfifo_live.specs.Pass.{IsPassOf, IsSamePass};
 use kfifo_live::{Handle, Queue};
 use kfifo_model::Answer;
 use std::fmt;
+use std::thread::yield_now;
 
 /// How many items a thread puts.
 const ITEMS: u32 = 10_000;
 
-/// How often a put is tried: without end, in practice. No proof says that other threads let a call through.
-const TRIES: u64 = u64::MAX;
+/// How often a put is tried: far more often than others can come before it, since each of them puts so many items. No
+/// proof says that they let a call through.
+const TRIES: u32 = 16_777_216;
 
 /// How many items there were, and their sum.
 #[derive(Clone, Copy, Default)]
@@ -76,7 +78,8 @@ impl Worker {
         }
     }
 
-    /// Puts an item. While the queue is full, takes others to make room.
+    /// Puts an item. While the queue is full, takes others to make room. An item that the queue does not take is not
+    /// counted.
     fn put(&mut self, queue: &Queue, item: u32)
         requires of { IsPassOf queue.now self.old.handle.pass }
         requires item { (1 ≤ item) × (item < 2 ^ 24) }
@@ -89,7 +92,7 @@ impl Worker {
                 // No version is left: the queue should be closed, and another opened.
                 Answer::Worn => return,
                 // Busy: others were faster.
-                _ => {}
+                _ => yield_now(),
             }
         }
     }

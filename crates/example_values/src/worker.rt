@@ -1,10 +1,13 @@
 //! What one thread does with its handle.
-ghost use Rattle.std.specs.Prelude.{◌≡◌, ◌+◌, ◌%◌, ◌^◌, length};
-ghost use Rattle.kfifo_live.specs.Pass.{IsPassOf, IsSamePass};
+ghost use Rattle.std.specs.Prelude.{◌≡◌, ◌+◌, ◌%◌, ◌^◌, IsErr, OnOk, length};
+ghost use Rattle.example_values.specs.Takes.{TakesOne};
 
-use kfifo_live::{Given, PayHandle, PayQueue, Taken};
+use kfifo_live::{Given, Taken};
+use kfifo_renewing::RenewingHandle;
 use std::alloc::{AllocError, Global};
 use std::fmt;
+use std::thread::yield_now;
+use thiserror::Error;
 
 /// How many texts a thread makes.
 const TEXTS: u32 = 1_000;
@@ -45,21 +48,39 @@ impl fmt::Display for Tally {
     }
 }
 
-/// The handle of a pass, and what was made and taken with it.
+/// Why a thread ended before it had made all its texts.
+#[derive(Clone, Copy, PartialEq, Eq, Debug, Error)]
+pub enum Fault {
+    /// Memory for a text was refused.
+    #[error("memory for a text was refused")]
+    Memory,
+    /// The queue could not open its next generation, or one has no versions left.
+    #[error("out of memory, or the queue is worn out")]
+    Worn,
+}
+
+impl From<AllocError> for Fault {
+    fn from(_: AllocError) -> Fault {
+        Fault::Memory
+    }
+}
+
+/// The handle of a thread, and what was made and taken with it.
 #[derive(Drop)]
 pub struct Worker {
-    pub handle: PayHandle<String>,
+    pub handle: RenewingHandle<String>,
     pub made: Tally,
     /// The texts that it took, and those that it could not give.
     pub out: Tally,
-    /// An error where memory for a text was refused.
-    pub ended: Result<(), AllocError>,
+    /// Whether it made all its texts.
+    pub ended: Result<(), Fault>,
 }
 
 impl Worker {
     /// One that has done nothing.
-    pub fn new(handle: PayHandle<String>) -> Worker
-        ensures { result.handle ≡ handle }
+    pub fn new(handle: RenewingHandle<String>) -> Worker
+        ensures handle { result.handle ≡ handle }
+        ensures nothing { result.made.texts ≡ 0 }
     {
         Worker {
             handle,
@@ -70,57 +91,68 @@ impl Worker {
     }
 
     /// Makes 1,000 texts, gives each to the queue, and takes one after each.
-    pub fn work(&mut self, alloc: Global, queue: &PayQueue<String>)
-        requires { IsPassOf queue.now self.old.handle.pass.pass }
-        ensures { IsSamePass self.old.handle.pass.pass self.new.handle.pass.pass }
+    pub fn work(&mut self, alloc: Global)
+        requires { self.old.made.texts ≡ 0 }
+        ensures { OnOk self.new.ended (self.new.made.texts ≡ TEXTS) }
     {
-        self.ended = self.make_texts(alloc, queue);
+        self.ended = self.make_texts(alloc);
     }
 
-    fn make_texts(&mut self, alloc: Global, queue: &PayQueue<String>) -> Result<(), AllocError>
-        requires { IsPassOf queue.now self.old.handle.pass.pass }
-        ensures { IsSamePass self.old.handle.pass.pass self.new.handle.pass.pass }
+    fn make_texts(&mut self, alloc: Global) -> Result<(), Fault>
+        requires { self.old.made.texts ≡ 0 }
+        ensures { OnOk result (self.new.made.texts ≡ TEXTS) }
     {
-        let thread = self.handle.pass().thread();
         for number in 0..TEXTS {
-            let text = format!(in alloc; "text {number} of thread {thread}")?;
+            let text = format!(in alloc; "text {number}")?;
             self.made.add(text.as_str());
-            self.give(queue, text);
-            self.take(queue);
+            self.give(text)?;
+            self.take()?;
         }
         Ok(())
     }
 
     /// Gives a text. While the queue is full, takes others to make room. What the queue does not get, the thread keeps.
-    fn give(&mut self, queue: &PayQueue<String>, text: String)
-        requires { IsPassOf queue.now self.old.handle.pass.pass }
-        ensures { IsSamePass self.old.handle.pass.pass self.new.handle.pass.pass }
+    fn give(&mut self, text: String) -> Result<(), Fault>
+        ensures { self.new.made ≡ self.old.made }
     {
         let mut offered = text;
         for _try in 0..TRIES {
-            match self.handle.give(queue, offered) {
-                Given::Done => return,
-                // The refused text is the thread's own again.
-                Given::Full(back) | Given::Busy(back) => {
+            match self.handle.give(offered) {
+                Given::Done => return Ok(()),
+                // The refused text is the thread's own again. There is no room for it, or each token is with a text.
+                Given::Full(back) | Given::NoToken(back) => {
                     offered = back;
-                    self.take(queue);
+                    self.take()?;
                 }
-                // All tokens are with other threads, or no version is left.
-                Given::NoToken(back) | Given::Worn(back) => {
-                    return self.out.add(back.as_str());
+                // Others were faster.
+                Given::Busy(back) => {
+                    offered = back;
+                    yield_now();
+                }
+                // Memory is missing for the next generation. To try again for ever would be no use.
+                Given::Worn(back) => {
+                    self.out.add(back.as_str());
+                    return Err(Fault::Worn);
                 }
             }
         }
         self.out.add(offered.as_str());
+        Ok(())
     }
 
     /// Takes one of the k oldest texts, if there is one.
-    fn take(&mut self, queue: &PayQueue<String>)
-        requires { IsPassOf queue.now self.old.handle.pass.pass }
-        ensures { IsSamePass self.old.handle.pass.pass self.new.handle.pass.pass }
+    fn take(&mut self) -> Result<(), Fault>
+        ensures made { self.new.made ≡ self.old.made }
+        ensures takes { TakesOne (IsErr result) self.old.out.texts self.new.out.texts self.old.handle self.new.handle }
     {
-        if let Taken::Got(text) = self.handle.take(queue) {
-            self.out.add(text.as_str());
+        match self.handle.take() {
+            Taken::Got(text) => {
+                self.out.add(text.as_str());
+                Ok(())
+            }
+            // There is no text, or others were faster. What is left comes out later, or at the close.
+            Taken::Empty | Taken::Busy => Ok(()),
+            Taken::Worn => Err(Fault::Worn),
         }
     }
 }

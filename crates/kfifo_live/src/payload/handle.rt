@@ -22,8 +22,11 @@ pub const BATCH: u32 = 16;
 /// a pass has, and a handle that only gives finds some as long as others take what it gave.
 ///
 /// ```rust
-/// if let Taken::Got(text) = self.handle.take(queue) {
-///     self.out.add(text.as_str());
+/// if let Given::Done = handle.give(queue, parcel) {
+///     wanted += 1;
+/// }
+/// if let Taken::Got(taken) = handle.take(queue) {
+///     parcel = taken;
 /// }
 /// ```
 ///

@@ -141,7 +141,7 @@ impl<T: Drop> PayQueue<T> {
     /// `p * tokens + 1` to `(p + 1) * tokens`. The passes have seen the empty schedule, after which all words are 0.
     ///
     /// ```rust
-    /// let (queue, passes) = PayQueue::open(alloc, Shape::new(2, 8, MAX_VERSION)?, THREADS, TOKENS)?;
+    /// let (queue, mut passes) = PayQueue::open(alloc, shape, 1, tokens)?;
     /// ```
     ///
     /// ThreadsOutOfRange where the number of threads is not 1 to 64; then TokensOutOfRange where the number of tokens
