@@ -1,14 +1,14 @@
 -- Takes from generations leave each of them as many and as large.
-use Rattle.std.proofs.Common.{◌≡◌, ◌≢◌, ◌⊎◌, ◌<◌, ⊎_elim, ap, ℕ, true, false, List, [], ◌∷◌, All, None, Option, inl, inr, refl, sym, ◌∙◌, subst}
+use Rattle.std.proofs.Common.{◌≡◌, ◌≢◌, ap, ℕ, true, false, List, [], ◌∷◌, All, None, Option, inl, inr, refl, sym, ◌∙◌, subst}
 use Rattle.std.proofs.lemmas.List.Elements.{All-cons, All-nil}
 use Rattle.kfifo_live.specs.declared.payload.Taken.{Taken}
 use Rattle.kfifo_live.specs.declared.view.Opening.{Opening}
 use Rattle.kfifo_live.specs.Handles.{PayHeld}
 use Rattle.kfifo_live.specs.declared.payload.Taken.TheVariants as K
 use Rattle.kfifo_renewing.specs.declared.change.Change.{Change}
-use Rattle.kfifo_renewing.specs.Renewing.{Follows, Generations, IsAtNewest, IsBehind, IsLater, IsOpenedAs, TakesFirst, TakesFromOldest, TakesNewest, TakesThere}
+use Rattle.kfifo_renewing.specs.Renewing.{Follows, Generations, IsLater, IsOpenedAs, LooksAgain, TakesFirst, TakesFromOldest, TakesNewest, TakesThere}
 use Rattle.kfifo_renewing.specs.Renewing.{with_newest, with_older, with_seen}
-use Rattle.kfifo_renewing.proofs.Following.{Looked, both-before, follows-trans, later-newest, later-trans, looked-behind, looked-follows, looked-later, looked-newest}
+use Rattle.kfifo_renewing.proofs.Following.{Looked, both-before, follows-trans, later-newest, later-trans, looked-follows, looked-newest}
 use Rattle.kfifo_renewing.proofs.Parts.{all-next}
 
 module _ {T : Type 0} where
@@ -30,18 +30,6 @@ module _ {T : Type 0} where
   takes-after answer old mid new hs is t =
       let u : TakesNewest answer (with_older old hs) new = subst (λ (g : Generations T). TakesNewest answer g new) is t in
       record { taken = u.taken; takes = u.takes; then = u.then }
-
-  -- the newest generation was found empty, and then the handle looked
-  pub taken-empty : (answer : Taken T) (old mid new : Generations T) (h : PayHeld T) → mid ≡ with_newest old h
-      → new ≡ with_seen mid new.seen → TakesThere K.Empty old.newest h
-      → ((answer ≡ K.Empty) × IsAtNewest mid new) ⊎ ((answer ≡ K.Busy) × IsBehind mid new) → TakesNewest answer old new
-  taken-empty answer old mid new h is same takes then =
-      let newest : new.newest ≡ h = ap (λ (g : Generations T). g.newest) same ∙ ap (λ (g : Generations T). g.newest) is in
-      record {
-        taken = K.Empty;
-        takes = subst (λ (x : PayHeld T). TakesThere K.Empty old.newest x) (sym newest) takes;
-        then = inr (refl, subst (λ (g : Generations T). ((answer ≡ K.Empty) × IsAtNewest g new) ⊎ ((answer ≡ K.Busy) × IsBehind g new)) is then);
-      }
 
   -- a call by a handle that had looked before it
   pub takes-from-after : (answer : Taken T) (old mid new : Generations T) → Follows old mid → TakesFromOldest answer mid new
@@ -86,17 +74,18 @@ module _ {T : Type 0} where
       (later-newest (with_seen g log) (with_newest (with_seen g log) h) h refl) refl alone
       (record { taken = answer; takes = takes; then = inl (some, refl, refl) })
 
-  -- it found nothing, and looked again
-  pub took-none : (answer : Taken T) (g : Generations T) (found again : ℕ) (log more : List Change) (h : PayHeld T) → Looked found log g
-      → found ≡ 0 → g.older ≡ [] → TakesThere K.Empty g.newest h → Looked again more (with_newest (with_seen g log) h)
-      → ((answer ≡ K.Empty) × (again ≡ 0)) ⊎ ((answer ≡ K.Busy) × (0 < again))
-      → TakesFromOldest answer g (with_seen (with_newest (with_seen g log) h) more)
-  took-none answer g found again log more h looked none alone takes looked-again which =
+  -- it came to something else, and the handle may have looked again
+  pub took-other : (taken answer : Taken T) (g new : Generations T) (found : ℕ) (log : List Change) (h : PayHeld T)
+      → Looked found log g → found ≡ 0 → g.older ≡ [] → TakesThere taken g.newest h
+      → new ≡ with_seen (with_newest (with_seen g log) h) new.seen → IsLater (with_newest (with_seen g log) h) new
+      → LooksAgain taken answer (with_newest (with_seen g log) h) new → TakesFromOldest answer g new
+  took-other taken answer g new found log h looked none alone takes same later again =
       let mid = with_newest (with_seen g log) h in
-      took-here answer g (with_seen mid more) found log looked none alone
-      (later-trans (with_seen g log) mid (with_seen mid more) (later-newest (with_seen g log) mid h refl)
-      (looked-later again more mid looked-again)) refl alone
-      (taken-empty answer (with_seen g log) mid (with_seen mid more) h refl refl takes (⊎_elim
-      (λ newest. inl (newest.0, looked-newest again more mid looked-again newest.1))
-      (λ behind. inr (behind.0, looked-behind again more mid looked-again behind.1))
-      which))
+      took-here answer g new found log looked none alone
+      (later-trans (with_seen g log) mid new (later-newest (with_seen g log) mid h refl) later)
+      (ap (λ (v : Generations T). v.number) same) (ap (λ (v : Generations T). v.older) same ∙ alone)
+      (record {
+        taken = taken;
+        takes = subst (λ (x : PayHeld T). TakesThere taken g.newest x) (sym (ap (λ (v : Generations T). v.newest) same)) takes;
+        then = again;
+      })

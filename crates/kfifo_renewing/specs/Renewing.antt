@@ -182,13 +182,17 @@ module _ {T : Type 0} where
       × ((TakesThere K.Empty h after × TakesFirst answer hs afters)
       ⊎ ((taken : Taken T) × (answer ≡ Some taken) × (taken ≢ K.Empty) × TakesThere taken h after × (afters ≡ hs)))
 
-  -- A take from the newest generation. Empty: it found that empty, and at a look after that it was still the newest of
-  -- the queue. Where another one was, Busy stands for Empty
+  -- What is returned of a take. Empty: at a look after it the generation was still the newest of the queue. Where another
+  -- one was, Busy stands for Empty
+  abbrev pub LooksAgain : Taken T → Taken T → Generations T → Generations T → Type 0
+  LooksAgain taken answer old new = ((taken ≢ K.Empty) × (answer ≡ taken) × (new.seen ≡ old.seen))
+      ⊎ ((taken ≡ K.Empty) × (((answer ≡ K.Empty) × IsAtNewest old new) ⊎ ((answer ≡ K.Busy) × IsBehind old new)))
+
+  -- A take from the newest generation. Empty: it found that empty
   pub record TakesNewest (answer : Taken T) (old new : Generations T) : Type 0 where
     pub taken : Taken T
     pub takes : TakesThere taken old.newest new.newest
-    pub then : ((taken ≢ K.Empty) × (answer ≡ taken) × (new.seen ≡ old.seen))
-        ⊎ ((taken ≡ K.Empty) × (((answer ≡ K.Empty) × IsAtNewest old new) ⊎ ((answer ≡ K.Busy) × IsBehind old new)))
+    pub then : LooksAgain taken answer old new
 
   -- A take from the oldest generation that has a payload: from the newest where each older one was found empty. The
   -- handle may then leave some of those

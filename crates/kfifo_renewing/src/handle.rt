@@ -4,7 +4,7 @@ ghost use Rattle.std.specs.Ptr.{as_ptr};
 ghost use Rattle.kfifo_live.specs.Handles.{PayHeld};
 ghost use Rattle.kfifo_live.specs.Pass.{IsPassOf};
 ghost use Rattle.kfifo_renewing.specs.History.{HasRisen, IsMade, WasNewest};
-ghost use Rattle.kfifo_renewing.specs.Renewing.{Follows, Generations, GivesToNewest, IsAtNewest, IsBehind, IsLater};
+ghost use Rattle.kfifo_renewing.specs.Renewing.{Follows, Generations, GivesToNewest, IsAtNewest, IsBehind, IsLater, LooksAgain};
 ghost use Rattle.kfifo_renewing.specs.Renewing.{IsOpenedAs, IsPartOf, TakesFirst, TakesFromOldest, TakesNewest};
 ghost use Rattle.kfifo_renewing.specs.Renewing.{TakesOldest, TriesAgain, TriesToGive, all_of, opening_of, with_older, with_seen};
 
@@ -367,14 +367,15 @@ impl<T: Drop> RenewingHandle<T> {
 
     /// Gives a payload to the newest generation, as `PayHandle::give` does.
     ///
-    /// The handle first follows others that have opened a newer one: its generation then was the newest of the queue at
-    /// a moment of the call. Each 4,096th call looks at the versions that the
-    /// generation has left, and opens the next one where they are fewer than the reserve. So does a call that comes to
-    /// a generation with no version left, which then tries once more.
+    /// The handle first follows others that have opened a newer one, so its generation was the newest of the queue at a
+    /// moment of the call. Each 4,096th call looks at the versions that the generation has left, and opens the next one
+    /// where they are fewer than the reserve. So does a call that comes to a generation with no version left, which then
+    /// tries once more.
     ///
     /// Returns Done, or NoToken, Full, Busy or Worn with the payload. Busy comes where others changed the queue during
-    /// the call. Worn comes only where the next generation could not be opened: memory is missing, or old generations
-    /// have all places. It never waits or locks, and allocates only where it opens or joins a generation.
+    /// the call. Worn comes only where the generation had no version left in both tries and was still the newest: memory
+    /// is missing for the next one, old generations have all places, or the queue does not renew. It never waits or
+    /// locks, and allocates only where it opens or joins a generation.
     #[inline(always)]
     pub fn give(&mut self, payload: T) -> Given<T>
         ensures { GivesToNewest payload result self.old self.new }
@@ -411,13 +412,15 @@ impl<T: Drop> RenewingHandle<T> {
         taken
     }
 
-    /// Takes from the newest generation, where each older one is empty.
-    fn take_newest(&mut self) -> Taken<T>
+    /// What a take returns that came to this in the newest generation: Busy in place of Empty where another one is the
+    /// newest by now.
+    #[cold]
+    #[inline(never)]
+    fn look_again(&mut self, taken: Taken<T>) -> Taken<T>
+        ensures same { self.new ≡ with_seen self.old self.new.seen }
         ensures later { IsLater self.old self.new }
-        ensures same { (self.new.older ≡ self.old.older) × (self.new.number ≡ self.old.number) }
-        ensures takes { TakesNewest result self.old self.new }
+        ensures looks { LooksAgain taken result self.old self.new }
     {
-        let taken = self.newest.take(self.generation.queue());
         if let Taken::Empty = taken {
             // A value may lie in the generation that others have opened meanwhile.
             if self.is_behind() {
@@ -425,6 +428,16 @@ impl<T: Drop> RenewingHandle<T> {
             }
         }
         taken
+    }
+
+    /// Takes from the newest generation, where each older one is empty.
+    fn take_newest(&mut self) -> Taken<T>
+        ensures later { IsLater self.old self.new }
+        ensures same { (self.new.older ≡ self.old.older) × (self.new.number ≡ self.old.number) }
+        ensures takes { TakesNewest result self.old self.new }
+    {
+        let taken = self.newest.take(self.generation.queue());
+        self.look_again(taken)
     }
 
     /// Takes from the oldest generation that is not empty.
@@ -464,20 +477,15 @@ impl<T: Drop> RenewingHandle<T> {
         ensures { TakesFromOldest result self.old self.new }
     {
         let generation: &Generation<T> = &self.generation;
-        let next = generation.next();
-        let later = next.look(self.thread, &mut self.history);
+        let later = generation.next().look(self.thread, &mut self.history);
         // One test for both.
         if later + self.older.len() as u64 != 0 {
             return self.take_late();
         }
-        // Arm by arm, so that the answers of the call below and those of its caller come to one test.
+        // What is rare goes out of line, and leaves one test of what was taken.
         match self.newest.take(generation.queue()) {
             Taken::Got(payload) => Taken::Got(payload),
-            // A value may lie in the generation that others have opened meanwhile.
-            Taken::Empty if next.look(self.thread, &mut self.history) != 0 => Taken::Busy,
-            Taken::Empty => Taken::Empty,
-            Taken::Busy => Taken::Busy,
-            Taken::Worn => Taken::Worn,
+            taken => self.look_again(taken),
         }
     }
 

@@ -30,13 +30,16 @@ pub(crate) fn given_status<T>(given: &Given<T>) -> u32
     }
 }
 
+/// The number of a take that came to a value.
+pub(crate) const GOT: u32 = 2;
+
 /// The number of what a take came to.
 #[inline(always)]
 pub(crate) fn taken_status<T>(taken: &Taken<T>) -> u32
     ensures { result ≡ taken_number (Some taken.now) }
 {
     match taken {
-        Taken::Got(_) => 2,
+        Taken::Got(_) => GOT,
         Taken::Empty => 3,
         Taken::Busy => 4,
         Taken::Worn => 5,
