@@ -1,26 +1,40 @@
-use Rattle.std.proofs.Common.{◌≡◌, ℕ, Some, refl, sym, subst, ◌∙◌, rules}
+use Rattle.std.proofs.Common.{◌≡◌, ℕ, Some, refl, subst, ◌∙◌}
 use Rattle.kfifo_live.specs.declared.payload.Taken.{Taken}
+use Rattle.kfifo_live.specs.declared.payload.Taken.TheVariants as K
 use Rattle.kfifo_renewing.specs.Renewing.{TakesFromOldest}
+use Rattle.kfifo_c.specs.Values.{value_after}
 use Rattle.kfifo_c.proofs.ValueHandles.{something}
-use Rattle.kfifo_c.proofs.value_queue.calls.kfifo_c_take.Goals.{in-Got, in_default}
 use Rattle.kfifo_c.proofs.value_queue.calls.kfifo_c_take.Goals as goal
+
+-- what is no Got leaves the variable as it is
+unchanged : (old : ℕ) (taken : Taken ℕ) → ((x : ℕ) → taken ≡ K.Got x → ⊥) → old ≡ value_after old (Some taken)
+unchanged old (K.Got x) other = absurd (other x refl)
+unchanged old K.Empty other = refl
+unchanged old K.Busy other = refl
+unchanged old K.Worn other = refl
 
 pub seat_mut-requires : goal.seat_mut-requires
 seat_mut-requires c = something _ (λ e. c.if-pass-eq0.false (c.args.pass.now.starts_are ∙ e))
 
+pub returns-in-Got-clause-answer : goal.returns-in-Got-clause-answer
+returns-in-Got-clause-answer c = (
+  Some (K.Got c.in-Got.got),
+  refl,
+  refl,
+  (
+    c.seat_mut.result.now,
+    c.take-taken.new.self,
+    c.seat_mut.ensures.value,
+    refl,
+    tt,
+    subst (λ (a : Taken ℕ). TakesFromOldest a c.seat_mut.result.now c.take-taken.new.self) c.in-Got.is c.take-taken.ensures,
+  ),
+)
+
 pub returns-clause-answer : goal.returns-clause-answer
-returns-clause-answer c =
-    let same : c.match-taken.taken ≡ c.take-taken.result =
-    elim c.match-taken.branch [ in-Got w ↦ search rules | in_default w ↦ search rules ] in (
-      Some c.match-taken.taken,
-      c.taken_status.ensures,
-      elim c.match-taken.branch [ in-Got w ↦ search rules | in_default w ↦ search rules ],
-      (
-        c.seat_mut.result.now,
-        c.take-taken.new.self,
-        c.seat_mut.ensures.value,
-        refl,
-        tt,
-        subst (λ (a : Taken ℕ). TakesFromOldest a c.seat_mut.result.now c.take-taken.new.self) (sym same) c.take-taken.ensures,
-      ),
-    )
+returns-clause-answer c = (
+  Some c.take-taken.result,
+  c.taken_status.ensures,
+  unchanged c.args.value.now c.take-taken.result c.in_default.not-Got,
+  (c.seat_mut.result.now, c.take-taken.new.self, c.seat_mut.ensures.value, refl, tt, c.take-taken.ensures),
+)
