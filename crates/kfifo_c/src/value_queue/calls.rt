@@ -8,7 +8,7 @@ ghost use Rattle.kfifo_c.specs.Values.{given_number, taken_number, value_after};
 
 use crate::status::BAD_CALL;
 use crate::value_queue::handle::ValueHandle;
-use crate::value_queue::status::{GOT, given_status, taken_status};
+use crate::value_queue::status::{GOT, given_status, nothing_status};
 use kfifo_live::Taken;
 use std::alloc::Global;
 
@@ -43,10 +43,9 @@ pub extern "C" fn kfifo_c_take(pass: &mut ValueHandle, value: &mut u64) -> u32
     let taken = pass.held.seat_mut().take();
     if let Taken::Got(got) = taken {
         *value = got;
-        // At once, so that the answers are told apart by one test.
         return GOT;
     }
-    taken_status(&taken)
+    nothing_status(taken)
 }
 
 /// Closes these handles. With the last open handle of a queue the queue goes, and the values that are left in it.

@@ -45,3 +45,13 @@ pub(crate) fn taken_status<T>(taken: &Taken<T>) -> u32
         Taken::Worn => 5,
     }
 }
+
+/// The same for a take that came to no value.
+// Out of line, it leaves a take that came to a value a single test.
+#[cold]
+#[inline(never)]
+pub(crate) fn nothing_status(taken: Taken<u64>) -> u32
+    ensures { result ≡ taken_number (Some taken) }
+{
+    taken_status(&taken)
+}

@@ -34,7 +34,7 @@ returns-in-Got-clause-answer c = (
 pub returns-clause-answer : goal.returns-clause-answer
 returns-clause-answer c = (
   Some c.take-taken.result,
-  c.taken_status.ensures,
+  c.nothing_status.ensures,
   unchanged c.args.value.now c.take-taken.result c.in_default.not-Got,
   (c.seat_mut.result.now, c.take-taken.new.self, c.seat_mut.ensures.value, refl, tt, c.take-taken.ensures),
 )
