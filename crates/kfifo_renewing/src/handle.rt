@@ -48,6 +48,8 @@ pub struct RenewingHandle<T: Drop> {
     generation: Arc<Generation<T>, Global>,
     /// The generations before it that may still have payloads, the oldest first.
     older: Vec<Leaving<Joined<T>>>,
+    /// Room for those that the handle is about to join, so that it needs no memory to follow others. Else empty.
+    spare: Vec<Leaving<Joined<T>>>,
     thread: u32,
     gives_left: u64,
     gives_between_looks: u64,
@@ -94,6 +96,7 @@ impl<T: Drop> RenewingHandle<T> {
         ensures one { IfOk result (λ h. (h.older ≡ []) × (h.newest ≡ newest) × (h.number ≡ 0)) }
     {
         let older = Vec::with_capacity(alloc, shared.places().count())?;
+        let spare = Vec::with_capacity(alloc, shared.places().count())?;
         newest.start_giving();
         let gives_between_looks = shared.gives_between_looks();
         Ok(RenewingHandle {
@@ -102,6 +105,7 @@ impl<T: Drop> RenewingHandle<T> {
             newest,
             generation,
             older,
+            spare,
             thread,
             gives_left: gives_between_looks,
             gives_between_looks,
@@ -158,25 +162,37 @@ impl<T: Drop> RenewingHandle<T> {
         Some((generation, joined))
     }
 
-    /// The handle of the thread in each generation that it has not joined and whose number is below this one, in the
-    /// order of their numbers. Returns None where it could not join all that are there.
-    fn enter_below(&self, end: u64) -> Option<Vec<Leaving<Joined<T>>>>
-        ensures { IfSome result (λ between. All (IsOpenedAs self.now.opened) between.items) }
+    /// Adds the handle of the thread in each generation that it has not joined and whose number is below this one, in the
+    /// order of their numbers. Returns false where it could not join all that are there.
+    fn enter_below(&self, end: u64, between: &mut Vec<Leaving<Joined<T>>>) -> bool
+        requires { All (IsOpenedAs self.now.opened) between.old.items }
+        ensures { All (IsOpenedAs self.now.opened) between.new.items }
     {
-        let mut between = Vec::new(self.shared.allocator());
         let mut number = self.number();
         for _ in 0..TRIES {
             let Some((place, next)) = self.shared.places().next_after(number, end) else {
-                return Some(between);
+                return true;
             };
             let Some((_, joined)) = self.enter(place, next) else {
                 // If it has gone, the next look does not find it.
                 continue;
             };
-            between.push(joined).ok()?;
+            if between.push(joined).is_err() {
+                return false;
+            }
             number = next;
         }
-        None
+        false
+    }
+
+    /// The room for those that the handle is about to join.
+    fn take_spare(&mut self) -> Vec<Leaving<Joined<T>>>
+        ensures same { self.new ≡ self.old }
+        ensures none { result.items ≡ [] }
+    {
+        let mut spare = replace(&mut self.spare, Vec::new(self.shared.allocator()));
+        spare.clear();
+        spare
     }
 
     /// Joins the generation with this number, which was the newest, and each before it that the handle has not joined.
@@ -188,9 +204,11 @@ impl<T: Drop> RenewingHandle<T> {
         let Some((generation, newest)) = self.enter_numbered(last) else {
             return;
         };
-        let Some(mut between) = self.enter_below(last) else {
+        let mut between = self.take_spare();
+        if !self.enter_below(last, &mut between) {
+            self.spare = between;
             return;
-        };
+        }
         let Some(more) = between.len().checked_add(1) else {
             return;
         };
@@ -203,6 +221,7 @@ impl<T: Drop> RenewingHandle<T> {
         self.older.push_reserved(before);
         // There is room for them, so all are moved.
         let _ = self.older.append(&mut between);
+        self.spare = between;
     }
 
     /// The number of a generation that was the newest after that of the handle, or of the handle's where that is the

@@ -104,7 +104,7 @@ impl<T: Drop> Shared<T> {
             return GIVES_BETWEEN_LOOKS;
         }
         let each = self.reserve / 16 / u64::from(self.places.lineage.sizes.threads).max(1);
-        each.clamp(1, GIVES_BETWEEN_LOOKS)
+        each.saturating_add(1).min(GIVES_BETWEEN_LOOKS)
     }
 
     /// A new generation, with a number of its own, and the pen that may write its word.
