@@ -841,7 +841,7 @@ static unsigned stop_now(const struct side *side) {
     return number;
 }
 
-/* Three threads of which the first stops. */
+/* Three threads, the first of which stops. */
 static void begin_stops(int kind, uint32_t k) {
     struct plan stopping = plan_of(kind, k, &three, 10000);
     stopping.has_end = 0;
