@@ -1,16 +1,17 @@
 -- A handle that follows others does so step by step, and sees more of the history.
-use Rattle.std.proofs.Common.{◌≡◌, ◌≢◌, ◌==◌, ◌<◌, ◌≤◌, ℕ, Bool, true, false, not, MatchBool, List, [], ◌∷◌, ◌++◌, refl, sym, ap, ◌∙◌, subst, arith, append_assoc}
+use Rattle.std.proofs.Common.{◌≡◌, ◌≢◌, ◌==◌, ◌<◌, ◌≤◌, ℕ, Bool, true, false, not, MatchBool, All, List, [], ◌∷◌, ◌++◌, refl, sym, ap, ◌∙◌, subst, arith, append_assoc}
 use Rattle.std.proofs.lemmas.Bool.Decides.{nat_tests}
 use Rattle.std.proofs.lemmas.List.{append-nil}
 use mathlib.Core.List.{IsPrefix}
 use Rattle.atomic_table.specs.Seated.{TableId}
 use Rattle.logbook.specs.Pages.{Book}
 use Rattle.kfifo_live.specs.Handles.{PayHeld}
+use Rattle.kfifo_live.specs.Pass.{IsPassOf, IsSamePass}
 use Rattle.kfifo_live.specs.declared.view.Opening.{Opening}
 use Rattle.kfifo_renewing.specs.declared.change.Change.{Change}
 use Rattle.kfifo_renewing.specs.declared.change.Change.TheVariants as C
 use Rattle.kfifo_renewing.specs.History.{Finds, HasRisen, IsMade, NewestWas, WasNewest, newest_of}
-use Rattle.kfifo_renewing.specs.Renewing.{Follows, Generations, IsAtNewest, IsBehind, IsLater, IsNumbered, IsPartOf, all_of, with_newest, with_older, with_seen}
+use Rattle.kfifo_renewing.specs.Renewing.{Follows, Generations, IsAtNewest, IsBehind, IsLater, IsNumbered, IsOpenedAs, IsPartOf, Numbered, all_of, with_newest, with_older, with_seen}
 use Rattle.kfifo_renewing.proofs.Histories.{made-later, prefix-trans, risen-from, was-later}
 use Rattle.kfifo_renewing.proofs.Parts.{part-append, part-first, part-refl, part-trans}
 
@@ -102,6 +103,29 @@ module _ {T : Type 0} where
     later,
     ([], subst (λ (g : Generations T). IsPartOf (all_of g) (all_of old ++ [])) (sym is) (part-first (all_of old) [])),
   )
+
+  -- what holds of a handle: its opening, the book of its queue and its own, what it has seen, its newest generation, its
+  -- handle in that, and those in the older ones
+  abbrev pub Joins : Opening → Book → Book → List Change → Numbered → PayHeld T → List (PayHeld T) → Type 0
+  Joins o shared book log g h older = (h.pass.pass.opened ≡ o) × All (IsOpenedAs o) older × (book ≡ shared)
+      × IsMade log g.number h.pass.pass.table × WasNewest log g.number × HasRisen log × IsPassOf g.queue h.pass.pass
+      × (g.book ≡ book)
+
+  -- it holds after a look, and after a call in the newest generation
+  pub joins-after : (o : Opening) (shared book then : Book) (old new : List Change) (g : Numbered) (h after : PayHeld T)
+      (older : List (PayHeld T)) (t found : ℕ) → Joins o shared book old g h older → Finds t g.number found old new → then ≡ book
+      → IsSamePass h.pass.pass after.pass.pass → Joins o shared then new g after older
+  joins-after o shared book then old new g h after older t found i finds same s =
+      let kept = kept-look old new g.number t found h.pass.pass.table finds i.3 i.4 in (
+        s.1 ∙ i.0,
+        i.1,
+        same ∙ i.2,
+        subst (IsMade new g.number) (sym s.0) kept.0,
+        kept.1,
+        kept.2,
+        (s.0 ∙ i.6.0, s.1 ∙ i.6.1),
+        i.7 ∙ sym same,
+      )
 
   -- a handle that has seen more of the history, and made a call in its newest generation
   pub same-but-seen : {o : Opening} {t : ℕ} {k : Book} {older : List (PayHeld T)} {n : ℕ} (log : List Change) (h : PayHeld T)

@@ -1,11 +1,11 @@
 -- A look, and then the give, where it found no later generation.
-use Rattle.std.proofs.Common.{◌≡◌, inl, inr, sym, ap, ◌∙◌, subst}
+use Rattle.std.proofs.Common.{◌≡◌, inl, inr, refl, sym, ap, ◌∙◌, subst}
 use Rattle.kfifo_live.specs.declared.payload.Given.TheVariants as G
 use Rattle.kfifo_live.specs.Handles.{PayHeld, PicksUpAndGives}
 use Rattle.kfifo_live.specs.Pass.{IsSamePass}
-use Rattle.kfifo_renewing.specs.History.{Finds, IsMade}
-use Rattle.kfifo_renewing.specs.Renewing.{Generations, GivesToNewest, Numbered, TriesAgain, TriesToGive, with_newest, with_seen}
-use Rattle.kfifo_renewing.proofs.Following.{Looked, kept-look, looked-follows, same-but-seen}
+use Rattle.kfifo_renewing.specs.History.{Finds}
+use Rattle.kfifo_renewing.specs.Renewing.{Generations, GivesToNewest, Numbered, opening_of, TriesAgain, TriesToGive, with_newest, with_seen}
+use Rattle.kfifo_renewing.proofs.Following.{Looked, joins-after, looked-follows, same-but-seen}
 use Rattle.kfifo_renewing.proofs.Giving.{gave-here, gives-after, worn-back}
 use Rattle.kfifo_renewing.proofs.handle.RenewingHandle.give.Goals as goal
 
@@ -15,24 +15,13 @@ returns-then-self-eq0 g c =
     c.give_late.ensures
 
 pub invariant_of-self-then-look-ne0 : goal.invariant_of-self-then-look-ne0
-invariant_of-self-then-look-ne0 g c =
-    let i = c.self.invariant in
-    let log = c.self.inside.history.log in
-    let new = c.look.new.history.log in
-    let n = c.self.inside.generation.value.number in
-    let found = c.look.result in
-    let finds = subst (λ k. Finds c.self.inside.thread k found log new)
-    (c.next.ensures.0 ∙ ap (λ (v : Numbered). v.number) c.deref-generation.ensures) c.look.ensures.finds in
-    let kept = kept-look log new n c.self.inside.thread found c.self.inside.newest.pass.pass.table finds i.3 i.4 in (
-      i.0,
-      i.1,
-      c.look.ensures.book ∙ i.2,
-      kept.0,
-      kept.1,
-      kept.2,
-      i.6,
-      i.7 ∙ sym c.look.ensures.book,
-    )
+invariant_of-self-then-look-ne0 g c = joins-after (opening_of c.self.inside.shared.value.sizes) c.self.inside.shared.value.history.book
+    c.self.inside.history.book c.look.new.history.book c.self.inside.history.log c.look.new.history.log
+    c.self.inside.generation.value c.self.inside.newest c.self.inside.newest c.self.inside.older.items c.self.inside.thread
+    c.look.result c.self.invariant (subst
+    (λ k. Finds c.self.inside.thread k c.look.result c.self.inside.history.log c.look.new.history.log)
+    (c.next.ensures.0 ∙ ap (λ (v : Numbered). v.number) c.deref-generation.ensures) c.look.ensures.finds)
+    c.look.ensures.book (refl, refl, refl)
 
 pub returns-then-look-ne0 : goal.returns-then-look-ne0
 returns-then-look-ne0 g c =
@@ -58,46 +47,22 @@ returns-then-look-ne0 g c =
     (subst (λ (v : Generations T). GivesToNewest c.args.payload r v end) here c.give_late-then-look-ne0.ensures)
 
 pub invariant_of-self-in-Worn : goal.invariant_of-self-in-Worn
-invariant_of-self-in-Worn g c =
-    let i = c.self.invariant in
-    let log = c.self.inside.history.log in
-    let new = c.look.new.history.log in
-    let n = c.self.inside.generation.value.number in
-    let found = c.look.result in
-    let finds = subst (λ k. Finds c.self.inside.thread k found log new)
-    (c.next.ensures.0 ∙ ap (λ (v : Numbered). v.number) c.deref-generation.ensures) c.look.ensures.finds in
-    let kept = kept-look log new n c.self.inside.thread found c.self.inside.newest.pass.pass.table finds i.3 i.4 in
-    let s = c.give.ensures.same in (
-      s.1 ∙ i.0,
-      i.1,
-      c.look.ensures.book ∙ i.2,
-      subst (IsMade new n) (sym s.0) kept.0,
-      kept.1,
-      kept.2,
-      (s.0 ∙ i.6.0, s.1 ∙ i.6.1),
-      i.7 ∙ sym c.look.ensures.book,
-    )
+invariant_of-self-in-Worn g c = joins-after (opening_of c.self.inside.shared.value.sizes) c.self.inside.shared.value.history.book
+    c.self.inside.history.book c.look.new.history.book c.self.inside.history.log c.look.new.history.log
+    c.self.inside.generation.value c.self.inside.newest c.give.new.self c.self.inside.older.items c.self.inside.thread
+    c.look.result c.self.invariant (subst
+    (λ k. Finds c.self.inside.thread k c.look.result c.self.inside.history.log c.look.new.history.log)
+    (c.next.ensures.0 ∙ ap (λ (v : Numbered). v.number) c.deref-generation.ensures) c.look.ensures.finds)
+    c.look.ensures.book c.give.ensures.same
 
 pub invariant_of-self-in_default : goal.invariant_of-self-in_default
-invariant_of-self-in_default g c =
-    let i = c.self.invariant in
-    let log = c.self.inside.history.log in
-    let new = c.look.new.history.log in
-    let n = c.self.inside.generation.value.number in
-    let found = c.look.result in
-    let finds = subst (λ k. Finds c.self.inside.thread k found log new)
-    (c.next.ensures.0 ∙ ap (λ (v : Numbered). v.number) c.deref-generation.ensures) c.look.ensures.finds in
-    let kept = kept-look log new n c.self.inside.thread found c.self.inside.newest.pass.pass.table finds i.3 i.4 in
-    let s = c.give.ensures.same in (
-      s.1 ∙ i.0,
-      i.1,
-      c.look.ensures.book ∙ i.2,
-      subst (IsMade new n) (sym s.0) kept.0,
-      kept.1,
-      kept.2,
-      (s.0 ∙ i.6.0, s.1 ∙ i.6.1),
-      i.7 ∙ sym c.look.ensures.book,
-    )
+invariant_of-self-in_default g c = joins-after (opening_of c.self.inside.shared.value.sizes) c.self.inside.shared.value.history.book
+    c.self.inside.history.book c.look.new.history.book c.self.inside.history.log c.look.new.history.log
+    c.self.inside.generation.value c.self.inside.newest c.give.new.self c.self.inside.older.items c.self.inside.thread
+    c.look.result c.self.invariant (subst
+    (λ k. Finds c.self.inside.thread k c.look.result c.self.inside.history.log c.look.new.history.log)
+    (c.next.ensures.0 ∙ ap (λ (v : Numbered). v.number) c.deref-generation.ensures) c.look.ensures.finds)
+    c.look.ensures.book c.give.ensures.same
 
 pub returns-in-Worn : goal.returns-in-Worn
 returns-in-Worn g c =

@@ -1,33 +1,22 @@
 -- A look, and then the take, where the handle has one generation and the look found no later one.
-use Rattle.std.proofs.Common.{◌≡◌, arith, sym, ap, ◌∙◌, subst}
+use Rattle.std.proofs.Common.{refl, ◌≡◌, arith, sym, ap, ◌∙◌, subst}
 use Rattle.std.proofs.lemmas.List.{nil_from_length}
 use Rattle.kfifo_live.specs.declared.payload.Taken.TheVariants as K
 use Rattle.kfifo_live.specs.Handles.{PayHeld}
-use Rattle.kfifo_renewing.specs.History.{Finds, IsMade}
-use Rattle.kfifo_renewing.specs.Renewing.{Generations, IsLater, LooksAgain, Numbered, TakesFromOldest, TakesThere, with_newest, with_seen}
-use Rattle.kfifo_renewing.proofs.Following.{Looked, kept-look, looked-follows, same-but-seen}
+use Rattle.kfifo_renewing.specs.History.{Finds}
+use Rattle.kfifo_renewing.specs.Renewing.{Generations, IsLater, LooksAgain, Numbered, opening_of, TakesFromOldest, TakesThere, with_newest, with_seen}
+use Rattle.kfifo_renewing.proofs.Following.{Looked, joins-after, looked-follows, same-but-seen}
 use Rattle.kfifo_renewing.proofs.Looking.{takes-from-after, took-other, took-some}
 use Rattle.kfifo_renewing.proofs.handle.RenewingHandle.take.Goals as goal
 
 pub invariant_of-self : goal.invariant_of-self
-invariant_of-self g c =
-    let i = c.self.invariant in
-    let log = c.self.inside.history.log in
-    let new = c.look-later.new.history.log in
-    let n = c.self.inside.generation.value.number in
-    let found = c.look-later.result in
-    let finds = subst (λ k. Finds c.self.inside.thread k found log new)
-    (c.next.ensures.0 ∙ ap (λ (v : Numbered). v.number) c.deref-generation.ensures) c.look-later.ensures.finds in
-    let kept = kept-look log new n c.self.inside.thread found c.self.inside.newest.pass.pass.table finds i.3 i.4 in (
-      i.0,
-      i.1,
-      c.look-later.ensures.book ∙ i.2,
-      kept.0,
-      kept.1,
-      kept.2,
-      i.6,
-      i.7 ∙ sym c.look-later.ensures.book,
-    )
+invariant_of-self g c = joins-after (opening_of c.self.inside.shared.value.sizes) c.self.inside.shared.value.history.book
+    c.self.inside.history.book c.look-later.new.history.book c.self.inside.history.log c.look-later.new.history.log
+    c.self.inside.generation.value c.self.inside.newest c.self.inside.newest c.self.inside.older.items c.self.inside.thread
+    c.look-later.result c.self.invariant (subst
+    (λ k. Finds c.self.inside.thread k c.look-later.result c.self.inside.history.log c.look-later.new.history.log)
+    (c.next.ensures.0 ∙ ap (λ (v : Numbered). v.number) c.deref-generation.ensures) c.look-later.ensures.finds)
+    c.look-later.ensures.book (refl, refl, refl)
 
 pub returns-then-later-len-ne0 : goal.returns-then-later-len-ne0
 returns-then-later-len-ne0 g c =
@@ -53,46 +42,22 @@ returns-then-later-len-ne0 g c =
     (subst (λ (v : Generations T). TakesFromOldest r v end) here c.take_late.ensures)
 
 pub invariant_of-self-in-Got : goal.invariant_of-self-in-Got
-invariant_of-self-in-Got g c =
-    let i = c.self.invariant in
-    let log = c.self.inside.history.log in
-    let new = c.look-later.new.history.log in
-    let n = c.self.inside.generation.value.number in
-    let found = c.look-later.result in
-    let finds = subst (λ k. Finds c.self.inside.thread k found log new)
-    (c.next.ensures.0 ∙ ap (λ (v : Numbered). v.number) c.deref-generation.ensures) c.look-later.ensures.finds in
-    let kept = kept-look log new n c.self.inside.thread found c.self.inside.newest.pass.pass.table finds i.3 i.4 in
-    let s = c.take.ensures.same in (
-      s.1 ∙ i.0,
-      i.1,
-      c.look-later.ensures.book ∙ i.2,
-      subst (IsMade new n) (sym s.0) kept.0,
-      kept.1,
-      kept.2,
-      (s.0 ∙ i.6.0, s.1 ∙ i.6.1),
-      i.7 ∙ sym c.look-later.ensures.book,
-    )
+invariant_of-self-in-Got g c = joins-after (opening_of c.self.inside.shared.value.sizes) c.self.inside.shared.value.history.book
+    c.self.inside.history.book c.look-later.new.history.book c.self.inside.history.log c.look-later.new.history.log
+    c.self.inside.generation.value c.self.inside.newest c.take.new.self c.self.inside.older.items c.self.inside.thread
+    c.look-later.result c.self.invariant (subst
+    (λ k. Finds c.self.inside.thread k c.look-later.result c.self.inside.history.log c.look-later.new.history.log)
+    (c.next.ensures.0 ∙ ap (λ (v : Numbered). v.number) c.deref-generation.ensures) c.look-later.ensures.finds)
+    c.look-later.ensures.book c.take.ensures.same
 
 pub invariant_of-self-in_default : goal.invariant_of-self-in_default
-invariant_of-self-in_default g c =
-    let i = c.self.invariant in
-    let log = c.self.inside.history.log in
-    let new = c.look-later.new.history.log in
-    let n = c.self.inside.generation.value.number in
-    let found = c.look-later.result in
-    let finds = subst (λ k. Finds c.self.inside.thread k found log new)
-    (c.next.ensures.0 ∙ ap (λ (v : Numbered). v.number) c.deref-generation.ensures) c.look-later.ensures.finds in
-    let kept = kept-look log new n c.self.inside.thread found c.self.inside.newest.pass.pass.table finds i.3 i.4 in
-    let s = c.take.ensures.same in (
-      s.1 ∙ i.0,
-      i.1,
-      c.look-later.ensures.book ∙ i.2,
-      subst (IsMade new n) (sym s.0) kept.0,
-      kept.1,
-      kept.2,
-      (s.0 ∙ i.6.0, s.1 ∙ i.6.1),
-      i.7 ∙ sym c.look-later.ensures.book,
-    )
+invariant_of-self-in_default g c = joins-after (opening_of c.self.inside.shared.value.sizes) c.self.inside.shared.value.history.book
+    c.self.inside.history.book c.look-later.new.history.book c.self.inside.history.log c.look-later.new.history.log
+    c.self.inside.generation.value c.self.inside.newest c.take.new.self c.self.inside.older.items c.self.inside.thread
+    c.look-later.result c.self.invariant (subst
+    (λ k. Finds c.self.inside.thread k c.look-later.result c.self.inside.history.log c.look-later.new.history.log)
+    (c.next.ensures.0 ∙ ap (λ (v : Numbered). v.number) c.deref-generation.ensures) c.look-later.ensures.finds)
+    c.look-later.ensures.book c.take.ensures.same
 
 pub returns-in-Got : goal.returns-in-Got
 returns-in-Got g c =
