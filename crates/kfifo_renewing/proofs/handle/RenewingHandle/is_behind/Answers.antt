@@ -1,27 +1,19 @@
-use Rattle.std.proofs.Common.{ap, ◌∙◌, subst, sym, refl, nat_eq}
+use Rattle.std.proofs.Common.{ap, ◌∙◌, subst, refl, nat_eq}
 use mathlib.Core.List.{IsPrefix}
 use Rattle.kfifo_renewing.specs.History.{Finds}
-use Rattle.kfifo_renewing.specs.Renewing.{Generations, Numbered}
-use Rattle.kfifo_renewing.proofs.Histories.{made-later, risen-from, was-later}
-use Rattle.kfifo_renewing.proofs.Following.{found-or-newest, was-prefix}
+use Rattle.kfifo_renewing.specs.Renewing.{Generations, Numbered, opening_of}
+use Rattle.kfifo_renewing.proofs.Histories.{made-later, risen-from}
+use Rattle.kfifo_renewing.proofs.Following.{found-or-newest, joins-after, was-prefix}
 use Rattle.kfifo_renewing.proofs.handle.RenewingHandle.is_behind.Goals as goal
 
 pub invariant_of-self : goal.invariant_of-self
-invariant_of-self g c =
-    let i = c.self.invariant in
-    let log = c.self.inside.history.log in
-    let new = c.look-found.new.history.log in
-    let n = c.self.inside.generation.value.number in
-    let more = was-prefix c.self.inside.thread c.look-found.ensures.finds.number log new c.look-found.ensures.finds.was in (
-      i.0,
-      i.1,
-      c.look-found.ensures.book ∙ i.2,
-      made-later log new n c.self.inside.newest.pass.pass.table more i.3,
-      was-later log new n more i.4,
-      c.look-found.ensures.finds.risen,
-      i.6,
-      i.7 ∙ sym c.look-found.ensures.book,
-    )
+invariant_of-self g c = joins-after (opening_of c.self.inside.shared.value.sizes) c.self.inside.shared.value.history.book
+    c.self.inside.history.book c.look-found.new.history.book c.self.inside.history.log c.look-found.new.history.log
+    c.self.inside.generation.value c.self.inside.newest c.self.inside.newest c.self.inside.older.items c.self.inside.thread
+    c.look-found.result c.self.invariant (subst
+    (λ k. Finds c.self.inside.thread k c.look-found.result c.self.inside.history.log c.look-found.new.history.log)
+    (c.next.ensures.0 ∙ ap (λ (v : Numbered). v.number) c.deref.ensures) c.look-found.ensures.finds)
+    c.look-found.ensures.book (refl, refl, refl)
 
 pub returns-clause-later : goal.returns-clause-later
 returns-clause-later g c =
