@@ -17,7 +17,7 @@
 //! let mut sum = 0;
 //! let end = thread::scope(|scope| {
 //!     scope.spawn(move || {
-//!         for number in 0..100 {
+//!         for number in 0..20_000 {
 //!             if let Err(refused) = producer.push_wait(number) {
 //!                 eprintln!("{number} was not put: {refused}"); // worn, or finished by the consumer
 //!                 break;
@@ -35,7 +35,7 @@
 //!         }
 //!     }
 //! });
-//! assert_eq!((sum, end), (4950, PopError::Finished));
+//! assert_eq!((sum, end), (199_990_000, PopError::Finished));
 //! # Ok::<(), kfifo::OpenError>(())
 //! ```
 #![warn(missing_docs)]
