@@ -119,6 +119,17 @@ fn passes(check: impl Fn(Options) -> Result<Report, BadOption>, options: Options
     report
 }
 
+/// The check passes, and its report counts calls that overlap. On a busy machine threads may take turns for seconds, so
+/// it goes on until some do: a report that counts none of them in all that time is wrong.
+fn passes_with_overlaps(check: impl Fn(Options) -> Result<Report, BadOption>, options: Options) {
+    let begun = Instant::now();
+    let mut report = passes(&check, options.clone());
+    while report.overlapping == 0.0 && !is_alone() && begun.elapsed() < AT_MOST {
+        report = passes(&check, options.clone());
+    }
+    assert!(report.overlapping > 0.0 || is_alone(), "{report}");
+}
+
 #[test]
 fn a_stack_is_found() {
     let _turn = turn();
@@ -202,16 +213,14 @@ fn a_ring_for_two_threads_passes_with_two() {
         ..passing("pair")
     };
     let check = |options| run_check_sized(Pair::new, Pair::push, Pair::pop, options);
-    let report = passes(check, options);
-    assert!(report.overlapping > 0.0 || is_alone(), "{report}");
+    passes_with_overlaps(check, options);
 }
 
 #[test]
 fn a_locked_queue_passes() {
     let _turn = turn();
     let check = |options| run_check(Locked::default, Locked::push, Locked::pop, options);
-    let report = passes(check, passing("locked"));
-    assert!(report.overlapping > 0.0 || is_alone(), "{report}");
+    passes_with_overlaps(check, passing("locked"));
 }
 
 #[test]
