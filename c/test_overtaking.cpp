@@ -337,7 +337,8 @@ Outcome run_late(const Plan &plan, std::uint32_t pairs, long take_steps) {
         outcome.is_whole = !take->has_stopped;
         run.end(*take);
     }
-    run.drain(plan.takers);
+    // A taker that had left the old generation too soon would not find the late values.
+    run.drain(0);
     outcome.passed_over = run.most_passed_over();
     outcome.overtaken = run.most_overtaken(plan.givers);
     outcome.least_k = run.least_k();
