@@ -278,10 +278,10 @@ static inline kfifo_status kfifo_abandon(kfifo_pass *passes, size_t threads) {
 /* ---- A queue of values, which are 64-bit numbers or pointers ----
 
    It does not wear out: before the versions of its words are used up, it goes on in a new *generation*, a queue of the
-   same sizes. Takes empty the old one first. Where generations meet, some 2^40 calls apart, a value may be overtaken by
-   one more for each other handle. A generation takes as much memory as the queue did at its opening, and is freed when
-   it is empty and no handle gives to it any more. A handle that makes no calls keeps the one it is in. A give or a take
-   asks for memory only where it opens or joins a generation. Where there is none, later gives ask again; only when the
+   same sizes. Takes empty the old one first. Where generations meet, some 2^40 calls apart, a take may pass over one
+   older value more for each other handle. A generation takes as much memory as the opening did, and is freed when it is
+   empty and no handle gives to it any more. A handle that makes no calls keeps the one it is in. A give or a take asks
+   for memory only where it opens or joins a generation. Where there is none, later gives ask again; only when the
    reserve is used up too, calls return WORN. Then close the queue to have what is left, and open another. */
 
 /* Opens a queue of values with versions up to `last`, 2 to KFIFO_LAST, and a `reserve`, KFIFO_RESERVE unless you test

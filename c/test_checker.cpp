@@ -207,8 +207,8 @@ template <class Kind> class Changing {
     double share = 0; // of the versions of a generation, for each value that goes in or out
 };
 
-// In a round all threads take part. A value may be overtaken by k - 1 others and, where generations change, by one more
-// for each other handle. That is what a queue with this k in place of its own may do.
+// In a round all threads take part. A take may pass over k - 1 older values and, where generations change, over one
+// more for each other handle. That is what a queue with this k in place of its own may do.
 template <class Kind, std::uint32_t k, unsigned threads> CheckReport run_changing(const CheckOptions &options) {
     CheckOptions of_these = options;
     of_these.k = k + threads - 1;

@@ -520,7 +520,7 @@ static void begin_run(const struct plan *of) {
     plan = *of;
     uint32_t threads = plan.crew->threads;
     uint64_t givers = 0;
-    bound = plan.k - 1 + threads - 1;
+    bound = plan.k > threads ? plan.k - 1 : threads - 1;
     out = calloc(threads * plan.each, sizeof *out);
     for (uint32_t i = 0; i < threads; i++) {
         enum role role = plan.crew->roles[i];

@@ -199,7 +199,7 @@ class Worker {
   public:
     Worker(Run &of, std::uint64_t number, bool does_give, bool does_take)
         : run(of), producer(number), takes(does_take), handle(a_handle()), left(does_give ? of.each : 0),
-          order(of.roles.producers(), K - 1 + of.roles.threads() - 1) {}
+          order(of.roles.producers(), std::max<std::size_t>(K, of.roles.threads()) - 1) {}
 
     void work() {
         while (!run.has_ended && (left != 0 || (takes && run.left != 0))) {

@@ -293,7 +293,7 @@ impl Run {
         let _ends = EndsRun(self);
         let mut handle = handle_of(&self.queue);
         let mut order = Order {
-            bound: (u64::from(K) - 1 + self.roles.threads() - 1) as usize,
+            bound: (u64::from(K).max(self.roles.threads()) - 1) as usize,
             greatest: vec![Vec::new(); self.roles.producers() as usize],
         };
         let takes = thread >= self.roles.push;
