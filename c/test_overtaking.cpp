@@ -49,6 +49,7 @@ struct Call {
     bool has_stopped = false;
     kfifo_status status = KFIFO_BAD_CALL;
     std::uint64_t begins = 0, ends = 0;
+    std::uint64_t requests = 0; // for memory
     std::thread thread;
     sem_t is_there, may_go_on; // it has stopped or ended; it may go on after a stop
 
@@ -93,12 +94,14 @@ void at_instruction(int, siginfo_t *, void *) {}
 #endif
 
 void make(Call &call, kfifo_value_pass *pass) {
+    std::uint64_t before = requests;
     stepped = &call;
     call.begins = now++;
     if (call.steps > 0) std::raise(SIGTRAP);
     call.status = call.is_give ? kfifo_give(pass, call.value) : kfifo_take(pass, &call.value);
     stepped = nullptr;
     call.ends = now++;
+    call.requests = requests - before;
     if (!call.has_stopped) sem_post(&call.is_there);
 }
 
@@ -380,6 +383,7 @@ bool run_behind(bool is_give, long steps) {
     run.drain(0);
     expect(run.take(1), KFIFO_EMPTY, "a take of the handle that stopped");
     bool is_whole = !call->has_stopped;
+    expect(call->requests, 0, "requests for memory of a call that follows others");
     expect(run.most_overtaken(UINT64_MAX) <= 1, 1, "whether at most one value overtook another");
     expect(run.least_k() <= 2, 1, "whether the judge finds an order for k + handles - 1");
     return is_whole;
