@@ -1,18 +1,19 @@
 -- A handle that follows others does so step by step, and sees more of the history.
-use Rattle.std.proofs.Common.{◌≡◌, ◌≢◌, ◌==◌, ◌<◌, ◌≤◌, ℕ, Bool, true, false, not, MatchBool, All, List, [], ◌∷◌, ◌++◌, refl, sym, ap, ◌∙◌, subst, arith, append_assoc}
+use Rattle.std.proofs.Common.{◌≡◌, ◌≢◌, ◌==◌, ◌<◌, ◌≤◌, ℕ, Bool, true, false, not, MatchBool, List, [], ◌∷◌, ◌++◌, refl, sym, ap, ◌∙◌, subst, arith, append_assoc}
 use Rattle.std.proofs.lemmas.Bool.Decides.{nat_tests}
 use Rattle.std.proofs.lemmas.List.{append-nil}
 use mathlib.Core.List.{IsPrefix}
 use Rattle.atomic_table.specs.Seated.{TableId}
 use Rattle.logbook.specs.Pages.{Book}
 use Rattle.kfifo_live.specs.Handles.{PayHeld}
-use Rattle.kfifo_live.specs.Pass.{IsPassOf, IsSamePass}
 use Rattle.kfifo_live.specs.declared.view.Opening.{Opening}
 use Rattle.kfifo_renewing.specs.declared.change.Change.{Change}
 use Rattle.kfifo_renewing.specs.declared.change.Change.TheVariants as C
-use Rattle.kfifo_renewing.specs.History.{Finds, HasRisen, IsMade, NewestWas, WasNewest, newest_of}
-use Rattle.kfifo_renewing.specs.Renewing.{Follows, Generations, IsAtNewest, IsBehind, IsLater, IsNumbered, IsOpenedAs, IsPartOf, Numbered, all_of, with_newest, with_older, with_seen}
-use Rattle.kfifo_renewing.proofs.Histories.{made-later, prefix-trans, risen-from, was-later}
+use Rattle.kfifo_renewing.specs.History.{Finds, HasRisen, IsMade, NewestWas, newest_of}
+use Rattle.kfifo_renewing.specs.Joining.{HasJoined, IsSamePart, PartView}
+use Rattle.kfifo_renewing.specs.Renewing.{Follows, Generations, IsAtNewest, IsBehind, IsLater, IsNumbered, IsPartOf, Numbered, all_of, with_newest, with_older, with_seen}
+use Rattle.kfifo_renewing.proofs.Histories.{made-later, prefix-trans, risen-from}
+use Rattle.kfifo_renewing.proofs.Joining.{joined-later, joined-newest}
 use Rattle.kfifo_renewing.proofs.Parts.{part-append, part-first, part-refl, part-trans}
 
 -- what a look found between two beginnings was so between a shorter and a longer one
@@ -45,13 +46,6 @@ found-or-newest found number t old new table finds made false e =
     let other : found ≢ 0 = λ same. grind (arith, nat_tests) in
     (finds.number, finds.was, finds.other (omega (arith, other)), made)
 
--- what holds of the generation of a handle holds after a look
-pub kept-look : (old new : List Change) (number t found : ℕ) (table : TableId) → Finds t number found old new → IsMade old number table
-    → WasNewest old number → IsMade new number table × WasNewest new number × HasRisen new
-kept-look old new number t found table finds made was =
-    let more = was-prefix t finds.number old new finds.was in
-    (made-later old new number table more made, was-later old new number more was, finds.risen)
-
 module _ {T : Type 0} where
   pub later-refl : (g : Generations T) → IsLater g g
   later-refl g = record { opened = refl; thread = refl; book = refl; seen = ([], append-nil g.seen); risen = omega arith }
@@ -75,6 +69,13 @@ module _ {T : Type 0} where
     risen = subst (λ l. newest_of old.seen ≤ newest_of l) (sym (ap (λ g. g.seen) is)) (risen-from old.seen log p risen);
   }
 
+  -- a handle that has seen this beginning of the history, and then more
+  pub later-by : (old new : Generations T) (log : List Change) → new.opened ≡ old.opened → new.thread ≡ old.thread → new.book ≡ old.book
+      → log ≡ old.seen → IsPrefix log new.seen → HasRisen new.seen → IsLater old new
+  later-by old new log opened thread book same more risen =
+      let seen = subst (λ l. IsPrefix l new.seen) same more in
+      record { opened = opened; thread = thread; book = book; seen = seen; risen = risen-from old.seen new.seen seen risen }
+
   pub later-newest : (old new : Generations T) (h : PayHeld T) → new ≡ with_newest old h → IsLater old new
   later-newest old new h is = subst (IsLater old) (sym is)
       (record { opened = refl; thread = refl; book = refl; seen = ([], append-nil old.seen); risen = omega arith })
@@ -82,6 +83,13 @@ module _ {T : Type 0} where
   pub later-older : (old new : Generations T) (hs : List (PayHeld T)) → new ≡ with_older old hs → IsLater old new
   later-older old new hs is = subst (IsLater old) (sym is)
       (record { opened = refl; thread = refl; book = refl; seen = ([], append-nil old.seen); risen = omega arith })
+
+  -- a handle that has seen more of the history, and left some of its older generations
+  pub later-both : (old new : Generations T) (log : List Change) (hs : List (PayHeld T)) → new ≡ with_older (with_seen old log) hs
+      → IsPrefix old.seen log → HasRisen log → IsLater old new
+  later-both old new log hs is p risen = subst (IsLater old) (sym is)
+      (later-trans old (with_seen old log) (with_older (with_seen old log) hs) (later-seen old (with_seen old log) log refl p risen)
+      (later-older (with_seen old log) (with_older (with_seen old log) hs) hs refl))
 
   -- a handle that differs in its older generations alone
   pub same-but-older : {o : Opening} {t : ℕ} {k : Book} {s : List Change} {h : PayHeld T} {n : ℕ} (older : List (PayHeld T)) (b : Generations T)
@@ -97,6 +105,20 @@ module _ {T : Type 0} where
     number = number i;
   }
 
+  -- a handle that has seen more of the history, and has these older generations
+  pub same-but-both : {o : Opening} {t : ℕ} {k : Book} {h : PayHeld T} {n : ℕ} (older : List (PayHeld T)) (log : List Change)
+      (b : Generations T) → o ≡ b.opened → t ≡ b.thread → k ≡ b.book → h ≡ b.newest → n ≡ b.number
+      → record { opened = o; thread = t; book = k; seen = log; older = older; newest = h; number = n } ≡ with_older (with_seen b log) older
+  same-but-both older log b opened thread book newest number = λ i. record {
+    opened = opened i;
+    thread = thread i;
+    book = book i;
+    seen = log;
+    older = older;
+    newest = newest i;
+    number = number i;
+  }
+
   -- more of the history was seen
   pub follows-seen : (old new : Generations T) (log : List Change) → new ≡ with_seen old log → IsLater old new → Follows old new
   follows-seen old new log is later = (
@@ -104,28 +126,13 @@ module _ {T : Type 0} where
     ([], subst (λ (g : Generations T). IsPartOf (all_of g) (all_of old ++ [])) (sym is) (part-first (all_of old) [])),
   )
 
-  -- what holds of a handle: its opening, the book of its queue and its own, what it has seen, its newest generation, its
-  -- handle in that, and those in the older ones
-  abbrev pub Joins : Opening → Book → Book → List Change → Numbered → PayHeld T → List (PayHeld T) → Type 0
-  Joins o shared book log g h older = (h.pass.pass.opened ≡ o) × All (IsOpenedAs o) older × (book ≡ shared)
-      × IsMade log g.number h.pass.pass.table × WasNewest log g.number × HasRisen log × IsPassOf g.queue h.pass.pass
-      × (g.book ≡ book)
-
-  -- it holds after a look, and after a call in the newest generation
-  pub joins-after : (o : Opening) (shared book then : Book) (old new : List Change) (g : Numbered) (h after : PayHeld T)
-      (older : List (PayHeld T)) (t found : ℕ) → Joins o shared book old g h older → Finds t g.number found old new → then ≡ book
-      → IsSamePass h.pass.pass after.pass.pass → Joins o shared then new g after older
-  joins-after o shared book then old new g h after older t found i finds same s =
-      let kept = kept-look old new g.number t found h.pass.pass.table finds i.3 i.4 in (
-        s.1 ∙ i.0,
-        i.1,
-        same ∙ i.2,
-        subst (IsMade new g.number) (sym s.0) kept.0,
-        kept.1,
-        kept.2,
-        (s.0 ∙ i.6.0, s.1 ∙ i.6.1),
-        i.7 ∙ sym same,
-      )
+  -- what holds of a handle holds after a look, and after a call in the newest generation
+  pub joins-after : (o : Opening) (shared book then : Book) (old new : List Change) (g : Numbered) (h after : PartView T)
+      (older : List (PartView T)) (t found : ℕ) → HasJoined o shared book old g h older → Finds t g.number found old new → then ≡ book
+      → IsSamePart h after → HasJoined o shared then new g after older
+  joins-after o shared book then old new g h after older t found j finds same part =
+      joined-newest o shared then new g h after older
+      (joined-later o shared book then old new g h older j same (was-prefix t finds.number old new finds.was) finds.risen) part
 
   -- a handle that has seen more of the history, and made a call in its newest generation
   pub same-but-seen : {o : Opening} {t : ℕ} {k : Book} {older : List (PayHeld T)} {n : ℕ} (log : List Change) (h : PayHeld T)

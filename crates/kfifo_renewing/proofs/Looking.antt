@@ -1,43 +1,21 @@
 -- Takes from generations leave each of them as many and as large.
-use Rattle.std.proofs.Common.{◌≡◌, ◌≢◌, ap, ℕ, true, false, List, [], ◌∷◌, All, None, Option, inl, inr, refl, sym, ◌∙◌, subst}
-use Rattle.std.proofs.lemmas.List.Elements.{All-cons, All-nil}
+use Rattle.std.proofs.Common.{◌≡◌, ◌≢◌, ap, ℕ, true, false, List, [], None, inl, inr, refl, sym, ◌∙◌, subst}
 use Rattle.kfifo_live.specs.declared.payload.Taken.{Taken}
-use Rattle.kfifo_live.specs.declared.view.Opening.{Opening}
 use Rattle.kfifo_live.specs.Handles.{PayHeld}
 use Rattle.kfifo_live.specs.declared.payload.Taken.TheVariants as K
 use Rattle.kfifo_renewing.specs.declared.change.Change.{Change}
-use Rattle.kfifo_renewing.specs.Renewing.{Follows, Generations, IsLater, IsOpenedAs, LooksAgain, TakesFirst, TakesFromOldest, TakesNewest, TakesThere}
-use Rattle.kfifo_renewing.specs.Renewing.{with_newest, with_older, with_seen}
-use Rattle.kfifo_renewing.proofs.Following.{Looked, both-before, follows-trans, later-newest, later-trans, looked-follows, looked-newest}
-use Rattle.kfifo_renewing.proofs.Parts.{all-next}
+use Rattle.kfifo_renewing.specs.Renewing.{Follows, Generations, HasAll, IsLater, LooksAgain, TakesFirst, TakesFromOldest, TakesNewest, TakesThere}
+use Rattle.kfifo_renewing.specs.Renewing.{with_newest, with_seen}
+use Rattle.kfifo_renewing.proofs.Following.{Looked, both-before, follows-trans, later-newest, later-refl, later-trans, looked-follows, looked-newest}
 
 module _ {T : Type 0} where
-  pub looked-opened : (o : Opening) (answer : Option (Taken T)) (hs looked : List (PayHeld T)) → TakesFirst answer hs looked
-      → All (IsOpenedAs o) hs → All (IsOpenedAs o) looked
-  looked-opened o answer [] looked t all = subst (All (IsOpenedAs o)) (sym t.1) (All-nil (IsOpenedAs o))
-  looked-opened o answer (h ∷ hs) looked (after, afters, e, inl t) all =
-      let each = all-next (IsOpenedAs o) h hs (h ∷ hs) refl all in
-      subst (All (IsOpenedAs o)) (sym e) (All-cons (IsOpenedAs o) after afters (t.0.same.1 ∙ each.0)
-      (looked-opened o answer hs afters t.1 each.1))
-  looked-opened o answer (h ∷ hs) looked (after, afters, e, inr t) all =
-      let each = all-next (IsOpenedAs o) h hs (h ∷ hs) refl all in
-      subst (All (IsOpenedAs o)) (sym e) (All-cons (IsOpenedAs o) after afters (t.3.same.1 ∙ each.0)
-      (subst (All (IsOpenedAs o)) (sym t.4) each.1))
-
-  -- a take from the newest generation, after a look at the older ones
-  pub takes-after : (answer : Taken T) (old mid new : Generations T) (hs : List (PayHeld T)) → mid ≡ with_older old hs
-      → TakesNewest answer mid new → TakesNewest answer old new
-  takes-after answer old mid new hs is t =
-      let u : TakesNewest answer (with_older old hs) new = subst (λ (g : Generations T). TakesNewest answer g new) is t in
-      record { taken = u.taken; takes = u.takes; then = u.then }
-
   -- a call by a handle that had looked before it
   pub takes-from-after : (answer : Taken T) (old mid new : Generations T) → Follows old mid → TakesFromOldest answer mid new
       → TakesFromOldest answer old new
   takes-from-after answer old mid new before (here, follows, inl takes) = (
     here,
     follows-trans old mid here before follows,
-    inl (both-before old mid here before.0.seen true takes.0, takes.1),
+    inl (both-before old mid here before.0.seen true takes.0, takes.1, takes.2),
   )
   takes-from-after answer old mid new before (here, follows, inr busy) = (
     here,
@@ -47,13 +25,14 @@ module _ {T : Type 0} where
 
   -- a take by a handle with one generation, after a look that found no later one
   pub took-here : (answer : Taken T) (g new : Generations T) (found : ℕ) (log : List Change) → Looked found log g → found ≡ 0
-      → g.older ≡ [] → IsLater (with_seen g log) new → new.number ≡ g.number → new.older ≡ []
+      → HasAll (with_seen g log) → g.older ≡ [] → IsLater (with_seen g log) new → new.number ≡ g.number → new.older ≡ []
       → TakesNewest answer (with_seen g log) new → TakesFromOldest answer g new
-  took-here answer g new found log looked none alone later number older takes = (
+  took-here answer g new found log looked none all alone later number older takes = (
     with_seen g log,
     looked-follows found log g looked,
     inl (
       looked-newest found log g looked none,
+      all,
       record {
         later = later;
         number = number;
@@ -61,27 +40,27 @@ module _ {T : Type 0} where
         looked = [];
         older = subst (λ hs. TakesFirst None hs []) (sym alone) (refl, refl);
         left = older;
-        newest = inr (refl, takes);
+        newest = inr (refl, (with_seen g log, later-refl (with_seen g log), refl, takes));
       },
     ),
   )
 
   -- it found something, or lost each round
   pub took-some : (answer : Taken T) (g : Generations T) (found : ℕ) (log : List Change) (h : PayHeld T) → Looked found log g → found ≡ 0
-      → g.older ≡ [] → TakesThere answer g.newest h → answer ≢ K.Empty → TakesFromOldest answer g (with_newest (with_seen g log) h)
-  took-some answer g found log h looked none alone takes some =
-      took-here answer g (with_newest (with_seen g log) h) found log looked none alone
+      → HasAll (with_seen g log) → g.older ≡ [] → TakesThere answer g.newest h → answer ≢ K.Empty → TakesFromOldest answer g (with_newest (with_seen g log) h)
+  took-some answer g found log h looked none all alone takes some =
+      took-here answer g (with_newest (with_seen g log) h) found log looked none all alone
       (later-newest (with_seen g log) (with_newest (with_seen g log) h) h refl) refl alone
       (record { taken = answer; takes = takes; then = inl (some, refl, refl) })
 
   -- it came to something else, and the handle may have looked again
   pub took-other : (taken answer : Taken T) (g new : Generations T) (found : ℕ) (log : List Change) (h : PayHeld T)
-      → Looked found log g → found ≡ 0 → g.older ≡ [] → TakesThere taken g.newest h
+      → Looked found log g → found ≡ 0 → HasAll (with_seen g log) → g.older ≡ [] → TakesThere taken g.newest h
       → new ≡ with_seen (with_newest (with_seen g log) h) new.seen → IsLater (with_newest (with_seen g log) h) new
       → LooksAgain taken answer (with_newest (with_seen g log) h) new → TakesFromOldest answer g new
-  took-other taken answer g new found log h looked none alone takes same later again =
+  took-other taken answer g new found log h looked none all alone takes same later again =
       let mid = with_newest (with_seen g log) h in
-      took-here answer g new found log looked none alone
+      took-here answer g new found log looked none all alone
       (later-trans (with_seen g log) mid new (later-newest (with_seen g log) mid h refl) later)
       (ap (λ (v : Generations T). v.number) same) (ap (λ (v : Generations T). v.older) same ∙ alone)
       (record {

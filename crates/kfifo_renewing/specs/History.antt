@@ -1,6 +1,9 @@
--- The history of a queue's generations: which were made, which became the newest, and when handles looked.
-use Rattle.std.specs.Prelude.{◌≡◌, ◌≢◌, ◌+◌, ◌<◌, ◌≤◌, ◌^◌, ℕ, suc, true, List, [], ◌∷◌, ◌++◌, length, Some, slice_get}
+-- The history of a queue's generations: which were made, which became the newest, where they were, and when handles
+-- looked.
+use Rattle.std.specs.Prelude.{◌≡◌, ◌≢◌, ◌+◌, ◌<◌, ◌≤◌, ◌^◌, ◌⊎◌, ℕ, suc, true, List, [], ◌∷◌, ◌++◌, length, Option, Some, slice_get}
+use Rattle.std.specs.List.{Contains}
 use Rattle.atomic_table.specs.Seated.{TableId}
+use mathlib.Core.List.{IsPrefix}
 use Rattle.logbook.specs.Pages.{Book, Cell, Named, Step, View, cell, may_make, nib}
 use Rattle.kfifo_renewing.specs.declared.change.Change.{Change}
 use Rattle.kfifo_renewing.specs.declared.change.Made.{Made}
@@ -16,6 +19,9 @@ made [] = []
 made (C.Made q ∷ log) = q.table ∷ made log
 made (C.Newest n ∷ log) = made log
 made (C.Look thread ∷ log) = made log
+made (C.Placed n i ∷ log) = made log
+made (C.Gone n ∷ log) = made log
+made (C.Undone n ∷ log) = made log
 
 -- the number of the newest generation, if that of before is this
 abbrev pub newest_after : ℕ → List Change → ℕ
@@ -23,6 +29,9 @@ newest_after n [] = n
 newest_after n (C.Made q ∷ log) = newest_after n log
 newest_after n (C.Newest m ∷ log) = newest_after m log
 newest_after n (C.Look thread ∷ log) = newest_after n log
+newest_after n (C.Placed m i ∷ log) = newest_after n log
+newest_after n (C.Gone m ∷ log) = newest_after n log
+newest_after n (C.Undone m ∷ log) = newest_after n log
 
 -- the number of the newest generation: at first that of the first one
 abbrev pub newest_of : List Change → ℕ
@@ -36,9 +45,29 @@ IsMade log n table = slice_get (made log) n ≡ Some table
 abbrev pub WasNewest : List Change → ℕ → Type 0
 WasNewest log n = (before : List Change) × (after : List Change) × (log ≡ before ++ after) × (newest_of before ≡ n)
 
--- the number of the newest generation has only risen
+-- the number of the newest generation only rises
 abbrev pub HasRisen : List Change → Type 0
-HasRisen log = (n : ℕ) → WasNewest log n → n ≤ newest_of log
+HasRisen log = (before more after : List Change) → log ≡ (before ++ more) ++ after → newest_of before ≤ newest_of (before ++ more)
+
+-- the generation with this number was put into this place
+abbrev pub IsPlaced : List Change → ℕ → ℕ → Type 0
+IsPlaced log n place = Contains log (C.Placed n place)
+
+-- the generation with this number, which had been the newest, went from its place
+abbrev pub IsGone : List Change → ℕ → Type 0
+IsGone log n = Contains log (C.Gone n)
+
+-- the generation with this number, which will never be the newest, went from its place
+abbrev pub IsUndone : List Change → ℕ → Type 0
+IsUndone log n = Contains log (C.Undone n)
+
+-- the generation with this number is in its place no more
+abbrev pub HasLeft : List Change → ℕ → Type 0
+HasLeft log n = IsGone log n ⊎ IsUndone log n
+
+-- how many places there are
+abbrev pub place_count : ℕ
+place_count = 130
 
 -- What the word of generation n says of the next one, where n was the newest at some moment: 0 as long as it is the
 -- newest, and then the number of a later one
@@ -46,31 +75,62 @@ pub record TellsNext (log : List Change) (n word : ℕ) : Type 0 where
   pub newest : word ≡ 0 → newest_of log ≡ n
   pub next : 0 < word → (n < word) × (word < 2 ^ 32) × WasNewest log word
 
--- What holds of the words and of the history at each moment. The first word is the greatest number of a generation that
--- was made, and behind it stands the word of each generation
-pub record IsKept (cells : List Cell) (log : List Change) : Type 0 where
-  pub greatest : ℕ
-  pub nexts : List Cell
-  pub words : cells ≡ (greatest, true) ∷ nexts
+-- What the word of a place says: 0, or one more than the number of the generation that is there. A generation stays
+-- there until it has left
+pub record TellsPlace (log : List Change) (place word : ℕ) : Type 0 where
+  pub there : (n : ℕ) → word ≡ suc n → IsPlaced log n place
+  pub stays : (n : ℕ) → IsPlaced log n place → (word ≡ suc n) ⊎ HasLeft log n
+  pub small : word ≤ 2 ^ 32
+
+-- What holds of the words and of the history at each moment: of the greatest number of a generation that was made, of
+-- the words of the places, and of the words of the generations
+pub record Holds (log : List Change) (greatest : ℕ) (labels nexts : List Cell) : Type 0 where
   pub count : length (made log) ≡ greatest + 1
   pub each : length nexts ≡ greatest + 1
   pub newest : newest_of log ≤ greatest
   pub risen : HasRisen log
   pub small : greatest < 2 ^ 32
   pub told : (n : ℕ) → WasNewest log n → ((cell nexts n).1 ≡ true) × TellsNext log n (cell nexts n).0
+  pub placed : (n : ℕ) → 0 < n → WasNewest log n → (i : ℕ) × (i < place_count) × IsPlaced log n i
+  pub labelled : (i : ℕ) → i < place_count → ((cell labels i).1 ≡ true) × TellsPlace log i (cell labels i).0
+  pub gone : (n : ℕ) → IsGone log n → n < newest_of log
+  pub undone : (n : ℕ) → IsUndone log n → (n ≤ greatest) × ((cell nexts n).1 ≡ true) × (WasNewest log n → ⊥)
+
+-- The words of a book in their order: the greatest number, the words of the places, and those of the generations
+pub record IsKept (cells : List Cell) (log : List Change) : Type 0 where
+  pub greatest : ℕ
+  pub labels : List Cell
+  pub nexts : List Cell
+  pub words : cells ≡ (greatest, true) ∷ (labels ++ nexts)
+  pub all : length labels ≡ place_count
+  pub holds : Holds log greatest labels nexts
 
 -- a word of the book
 abbrev pub word_of : Book → ℕ → Named
 word_of b key = record { tracked = true; key = key; book = b }
 
+-- where the word of a place stands in the book
+abbrev pub label_of : ℕ → ℕ
+label_of place = suc place
+
 -- where the word of a generation stands in the book, by the number of that
 abbrev pub key_of : ℕ → ℕ
-key_of n = suc n
+key_of n = suc (place_count + n)
 
 -- the number of a generation, and the book that has its word
 pub record NextView : Type 0 where
   pub number : ℕ
   pub book : Book
+
+-- a place, and the book that has its word
+pub record LabelView : Type 0 where
+  pub place : ℕ
+  pub book : Book
+
+-- the labels of all places, in their order
+abbrev pub AreLabels : Book → List LabelView → Type 0
+AreLabels book labels = (length labels ≡ place_count)
+    × ((i : ℕ) → i < place_count → slice_get labels i ≡ Some (record { place = i; book = book }))
 
 -- at a look of this thread, between these two beginnings of the history, the newest generation had this number
 abbrev pub NewestWas : ℕ → ℕ → List Change → List Change → Type 0
@@ -88,6 +148,12 @@ pub record Finds (thread n found : ℕ) (old new : List Change) : Type 0 where
   pub small : found < 2 ^ 32
   pub risen : HasRisen new
 
+-- What a look at a place found, between these two beginnings of the history: the number of a generation that was put
+-- there, or none. Each other one that was put there has left
+pub record FindsThere (place : ℕ) (found : Option ℕ) (old new : List Change) : Type 0 where
+  pub there : (n : ℕ) → found ≡ Some n → IsPlaced new n place
+  pub left : (n : ℕ) → IsPlaced old n place → found ≢ Some n → HasLeft new n
+
 -- what a look tells
 abbrev pub Looks : Step Change → View Change ℕ → ℕ → View Change ℕ → Type 0
 Looks s v found w = (thread n : ℕ) → s.ask ≡ C.Look thread → s.key ≡ key_of n → Finds thread n found v.0 w.0
@@ -98,6 +164,19 @@ abbrev pub GivesNumber : Step Change → View Change ℕ → ℕ → View Change
 GivesNumber s v found w = found ≡ s.old → (w.1.0 ≡ nib may_make (key_of s.new) 0)
     × ((q : Made) → s.ask ≡ C.Made q → IsMade w.0 s.new q.table)
 
--- what a step tells that makes a generation the newest: where it did, that was the newest
+-- What a step tells that makes a generation the newest: where it did, that was the newest. Else the pen is as before
 abbrev pub Renews : Step Change → View Change ℕ → ℕ → View Change ℕ → Type 0
-Renews s v found w = found ≡ s.old → WasNewest w.0 s.new
+Renews s v found w = (found ≡ s.old → WasNewest w.0 s.new) × (found ≢ s.old → w.1.0 ≡ v.1.0)
+
+-- what a look at the word of a place tells
+abbrev pub LooksThere : Step Change → View Change ℕ → ℕ → View Change ℕ → Type 0
+LooksThere s v found w = (place : ℕ) → s.key ≡ label_of place
+    → TellsPlace w.0 place found × IsPrefix v.0 w.0 × ((cells : List Cell) × IsKept cells w.0)
+
+-- what a step tells that puts a generation into a place: where it did, that is there
+abbrev pub Places : Step Change → View Change ℕ → ℕ → View Change ℕ → Type 0
+Places s v found w = (n place : ℕ) → s.new ≡ suc n → s.key ≡ label_of place → found ≡ s.old → IsPlaced w.0 n place
+
+-- what a step tells that takes a generation from its place: it has left
+abbrev pub Leaves : Step Change → View Change ℕ → ℕ → View Change ℕ → Type 0
+Leaves s v found w = (n place : ℕ) → s.old ≡ suc n → s.key ≡ label_of place → IsPlaced v.0 n place → HasLeft w.0 n

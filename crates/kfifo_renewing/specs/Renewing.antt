@@ -1,5 +1,6 @@
 -- The generations of a renewing queue, as a handle has joined them, and what its calls do to each.
 use Rattle.std.specs.Prelude.{◌≡◌, ◌≢◌, ◌⊎◌, ◌≤◌, ◌==◌, ℕ, not, List, [], ◌∷◌, ◌++◌, All, filter, map, Option, Some, None}
+use Rattle.std.specs.List.{Contains}
 use mathlib.Core.List.{IsPrefix}
 use Rattle.logbook.specs.Pages.{Book}
 use Rattle.kfifo_live.specs.declared.payload.Given.{Given}
@@ -12,7 +13,7 @@ use Rattle.kfifo_live.specs.Payloads.{PayCloses, PayPassView, pay_opening}
 use Rattle.kfifo_live.specs.Promise.{KeepsPromise}
 use Rattle.kfifo_live.specs.Schedule.{count_up}
 use Rattle.kfifo_live.specs.declared.view.Opening.{Opening}
-use Rattle.kfifo_renewing.specs.History.{IsMade, NewestWas, newest_of}
+use Rattle.kfifo_renewing.specs.History.{IsGone, IsMade, NewestWas, WasNewest, newest_of}
 use Rattle.kfifo_renewing.specs.declared.change.Change.{Change}
 use Rattle.kfifo_renewing.specs.declared.generation.Sizes.{Sizes}
 use Rattle.kfifo_renewing.specs.declared.places.Lineage.{Lineage}
@@ -117,6 +118,12 @@ module _ {T : Type 0} where
   abbrev pub IsNumbered : Generations T → Type 0
   IsNumbered g = IsMade g.seen g.number g.newest.pass.pass.table
 
+  -- Each generation of the queue that was the newest, up to that of the handle, is one that the handle has joined, or it
+  -- has gone
+  abbrev pub HasAll : Generations T → Type 0
+  HasAll g = (n : ℕ) → WasNewest g.seen n → n ≤ g.number
+      → IsGone g.seen n ⊎ ((h : PayHeld T) × Contains (all_of g) h × IsMade g.seen n h.pass.pass.table)
+
   -- At a look of the handle from old to new, its newest generation was the newest of the queue
   abbrev pub IsAtNewest : Generations T → Generations T → Type 0
   IsAtNewest old new = NewestWas new.thread new.number old.seen new.seen × IsNumbered new
@@ -203,13 +210,16 @@ module _ {T : Type 0} where
     pub looked : List (PayHeld T)
     pub older : TakesFirst found old.older looked
     pub left : IsPartOf new.older looked
-    pub newest : ((found ≡ Some answer) × (new.newest ≡ old.newest)) ⊎ ((found ≡ None) × TakesNewest answer old new)
+    pub newest : ((found ≡ Some answer) × (new.newest ≡ old.newest))
+        ⊎ ((found ≡ None) × ((mid : Generations T) × IsLater old mid × (mid.newest ≡ old.newest) × TakesNewest answer mid new))
 
-  -- What `take` did: the handle follows others to the generation that was the newest of the queue at a look, and takes.
-  -- Busy: it has taken from none, and at a look another one than its newest was the newest
+  -- What `take` did: the handle follows others to the generation that was the newest of the queue at a look, so that it
+  -- is in each that has not gone, and takes. Busy: it has taken from none, and at a look another one than its newest was
+  -- the newest
   abbrev pub TakesFromOldest : Taken T → Generations T → Generations T → Type 0
   TakesFromOldest answer old new = (here : Generations T) × Follows old here
-      × ((IsAtNewest old here × TakesOldest answer here new) ⊎ (IsBehind old here × (answer ≡ K.Busy) × (new ≡ here)))
+      × ((IsAtNewest old here × HasAll here × TakesOldest answer here new)
+      ⊎ (IsBehind old here × (answer ≡ K.Busy) × (new ≡ here)))
 
   -- What a close of a generation returned: by the pass of this handle, and the passes of all other threads
   pub record WereLeft (h : PayHeld T) (payloads : List T) : Type 0 where
@@ -226,7 +236,7 @@ module _ {T : Type 0} where
       × ClosesEach hs rest
 
   -- What a close returned by its last handle: the handle followed others to the generation that was the newest of the
-  -- queue at a look, and each of its generations was closed, the oldest first
+  -- queue at a look, so that it is in each that has not gone, and each of its generations was closed, the oldest first
   abbrev pub ClosesAll : Generations T → List T → Type 0
-  ClosesAll last payloads = (here : Generations T) × Follows last here × IsAtNewest last here
+  ClosesAll last payloads = (here : Generations T) × Follows last here × IsAtNewest last here × HasAll here
       × ClosesEach (all_of here) payloads

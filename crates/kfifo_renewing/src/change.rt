@@ -21,4 +21,10 @@ pub enum Change {
     Newest(u32),
     /// The handle of this thread looked which generation is the newest.
     Look(u32),
+    /// The generation with this number was put into this place.
+    Placed(u32, u32),
+    /// The generation with this number went from its place: a handle had found it empty, and it was the newest no more.
+    Gone(u32),
+    /// The generation with this number went from its place, and will never be the newest.
+    Undone(u32),
 }

@@ -1,10 +1,12 @@
 //! Calls of a renewing queue.
-ghost use Rattle.std.specs.Prelude.{◌≡◌, ◌↔◌, true, List, [], All, IfOk, IfSome, MatchBool, length};
+ghost use Rattle.std.specs.Prelude.{◌≡◌, ◌<◌, ◌↔◌, true, List, [], All, IfOk, IfSome, MatchBool, length};
 ghost use Rattle.std.specs.Ptr.{as_ptr};
+ghost use mathlib.Core.List.{IsPrefix};
 ghost use Rattle.kfifo_live.specs.Handles.{PayHeld};
 ghost use Rattle.kfifo_live.specs.Pass.{IsPassOf};
-ghost use Rattle.kfifo_renewing.specs.History.{HasRisen, IsMade, WasNewest};
-ghost use Rattle.kfifo_renewing.specs.Renewing.{Follows, Generations, GivesToNewest, IsAtNewest, IsBehind, IsLater, LooksAgain};
+ghost use Rattle.kfifo_renewing.specs.History.{HasRisen, WasNewest, place_count};
+ghost use Rattle.kfifo_renewing.specs.Joining.{AreAmong, AreSameParts, HasJoined, IsPart, held_by};
+ghost use Rattle.kfifo_renewing.specs.Renewing.{Follows, Generations, GivesToNewest, HasAll, IsAtNewest, IsBehind, IsLater, LooksAgain};
 ghost use Rattle.kfifo_renewing.specs.Renewing.{IsOpenedAs, IsPartOf, TakesFirst, TakesFromOldest, TakesNewest};
 ghost use Rattle.kfifo_renewing.specs.Renewing.{TakesOldest, TriesAgain, TriesToGive, all_of, opening_of, with_older, with_seen};
 
@@ -63,17 +65,13 @@ impl<T: Drop> Model for RenewingHandle<T> {
       thread = h.thread;
       book = h.history.book;
       seen = h.history.log;
-      older = h.older.items;
-      newest = h.newest;
+      older = held_by h.older.items;
+      newest = h.newest.held;
       number = h.generation.value.number;
     } };
 
-    ghost invariant = { λ h. IsOpenedAs (opening_of h.shared.value.sizes) h.newest
-        × All (IsOpenedAs (opening_of h.shared.value.sizes)) h.older.items
-        × (h.history.book ≡ h.shared.value.history.book)
-        × IsMade h.history.log h.generation.value.number h.newest.pass.pass.table
-        × WasNewest h.history.log h.generation.value.number × HasRisen h.history.log
-        × IsPassOf h.generation.value.queue h.newest.pass.pass × (h.generation.value.book ≡ h.history.book) };
+    ghost invariant = { λ h. HasJoined (opening_of h.shared.value.sizes) h.shared.value.history.book h.history.book
+        h.history.log h.generation.value h.newest h.older.items };
 }
 
 impl<T: Drop> RenewingHandle<T> {
@@ -86,14 +84,15 @@ impl<T: Drop> RenewingHandle<T> {
         mut newest: Leaving<Joined<T>>,
         thread: u32,
     ) -> Result<RenewingHandle<T>, AllocError>
-        requires opened { IsOpenedAs (opening_of shared.value.sizes) newest }
+        requires opened { IsOpenedAs (opening_of shared.value.sizes) newest.held }
         requires books { (history.book ≡ shared.value.history.book) × (generation.value.book ≡ history.book) }
-        requires first { (generation.value.number ≡ 0) × IsMade history.log 0 newest.pass.pass.table }
-        requires of { IsPassOf generation.value.queue newest.pass.pass }
+        requires first { (generation.value.number ≡ 0) × (newest.number ≡ 0) }
+        requires part { IsPart history.log newest }
+        requires of { IsPassOf generation.value.queue newest.held.pass.pass }
         requires risen { HasRisen history.log }
         ensures same { IfOk result (λ h. (h.opened ≡ opening_of shared.value.sizes) × (h.thread ≡ thread)
             × (h.book ≡ history.book)) }
-        ensures one { IfOk result (λ h. (h.older ≡ []) × (h.newest ≡ newest) × (h.number ≡ 0)) }
+        ensures one { IfOk result (λ h. (h.older ≡ []) × (h.newest ≡ newest.held) × (h.number ≡ 0)) }
     {
         let older = Vec::with_capacity(alloc, shared.places().count())?;
         let spare = Vec::with_capacity(alloc, shared.places().count())?;
@@ -124,56 +123,85 @@ impl<T: Drop> RenewingHandle<T> {
         ensures same { self.new ≡ with_seen self.old self.new.seen }
         ensures later { IsLater self.old self.new }
         ensures newest { MatchBool result (IsBehind self.old self.new) (IsAtNewest self.old self.new) }
+        ensures all { HasAll self.new }
     {
         let found = self.generation.next().look(self.thread, &mut self.history);
         found != 0
     }
 
-    /// The generation with this number at this place, and the handle of the thread in it, if it is still there.
+    /// The generation with this number in this place, and the part of the thread in it, if it is still there.
     fn enter(
         &self,
         place: usize,
         number: u32,
+        history: &mut History,
     ) -> Option<(Arc<Generation<T>, Global>, Leaving<Joined<T>>)>
-        ensures of { IfSome result (λ r. IsOpenedAs self.now.opened r.1 × IsPassOf r.0.value.queue r.1.pass.pass
+        requires book { history.old.book ≡ self.now.book }
+        requires inside { place < place_count }
+        ensures later { (history.new.book ≡ history.old.book) × IsPrefix history.old.log history.new.log }
+        ensures of { IfSome result (λ r. IsOpenedAs self.now.opened r.1.held × IsPassOf r.0.value.queue r.1.held.pass.pass
             × (r.0.value.book ≡ self.now.book)) }
+        ensures part { IfSome result (λ r. (r.0.value.number ≡ number) × (r.1.number ≡ number) × IsPart history.new.log r.1) }
     {
+        if !self.shared.places().has(place, number, history) {
+            return None;
+        }
         let generation = self.shared.places().read(place, number)?;
+        if generation.number() != number {
+            return None;
+        }
+        history.learn(generation.history());
         let part = Arc::try_clone(&generation).ok()?;
         let joined = Joined::join(part, place, self.thread)?;
         Some((generation, joined))
     }
 
-    /// The same for the generation with this number, wherever it is, if it comes after that of the handle.
+    /// The same for the generation with this number, in whichever place it is, if it comes after that of the handle.
     fn enter_numbered(
         &self,
         number: u64,
+        history: &mut History,
     ) -> Option<(Arc<Generation<T>, Global>, Leaving<Joined<T>>)>
-        ensures of { IfSome result (λ r. IsOpenedAs self.now.opened r.1 × IsPassOf r.0.value.queue r.1.pass.pass
+        requires { history.old.book ≡ self.now.book }
+        ensures later { (history.new.book ≡ history.old.book) × IsPrefix history.old.log history.new.log }
+        ensures of { IfSome result (λ r. IsOpenedAs self.now.opened r.1.held × IsPassOf r.0.value.queue r.1.held.pass.pass
             × (r.0.value.book ≡ self.now.book)) }
-        ensures number { IfSome result (λ r. r.0.value.number ≡ number) }
+        ensures part { IfSome result (λ r. (r.0.value.number ≡ number) × (r.1.number ≡ number) × IsPart history.new.log r.1
+            × (self.now.number < number)) }
     {
         let number = u32::try_from(number).ok()?;
-        let place = self.shared.places().find(number)?;
-        let (generation, joined) = self.enter(place, number)?;
-        if number <= self.number() || generation.number() != number {
+        if number <= self.number() {
             return None;
         }
-        Some((generation, joined))
+        let place = self.shared.places().find(number, history)?;
+        self.enter(place, number, history)
     }
 
-    /// Adds the handle of the thread in each generation that it has not joined and whose number is below this one, in the
+    /// Adds the part of the thread in each generation that it has not joined and whose number is below this one, in the
     /// order of their numbers. Returns false where it could not join all that are there.
-    fn enter_below(&self, end: u64, between: &mut Vec<Leaving<Joined<T>>>) -> bool
-        requires { All (IsOpenedAs self.now.opened) between.old.items }
-        ensures { All (IsOpenedAs self.now.opened) between.new.items }
+    fn enter_below(
+        &self,
+        end: u64,
+        between: &mut Vec<Leaving<Joined<T>>>,
+        history: &mut History,
+    ) -> bool
+        requires book { history.old.book ≡ self.now.book }
+        requires none { between.old.items ≡ [] }
+        ensures later { (history.new.book ≡ history.old.book) × IsPrefix history.old.log history.new.log }
+        ensures opened { All (λ p. IsOpenedAs self.now.opened p.held) between.new.items }
+        ensures parts { All (IsPart history.new.log) between.new.items }
+        ensures below { All (λ p. p.number < end) between.new.items }
+        ensures all { result ≡ true → AreAmong self.now.number end between.new.items history.old.log history.new.log }
     {
         let mut number = self.number();
         for _ in 0..TRIES {
-            let Some((place, next)) = self.shared.places().next_after(number, end) else {
-                return true;
+            let Some((place, next)) = self.shared.places().next_after(number, end, history) else {
+                return self
+                    .shared
+                    .places()
+                    .has_no_other(self.number(), end, between.as_slice(), history);
             };
-            let Some((_, joined)) = self.enter(place, next) else {
+            let Some((_, joined)) = self.enter(place, next, history) else {
                 // If it has gone, the next look does not find it.
                 continue;
             };
@@ -201,21 +229,44 @@ impl<T: Drop> RenewingHandle<T> {
         requires { WasNewest self.old.seen last }
         ensures { Follows self.old self.new }
     {
-        let Some((generation, newest)) = self.enter_numbered(last) else {
+        let mut history = self.history.again();
+        let Some((generation, newest)) = self.enter_numbered(last, &mut history) else {
             return;
         };
         let mut between = self.take_spare();
-        if !self.enter_below(last, &mut between) {
+        if !self.enter_below(last, &mut between, &mut history) {
             self.spare = between;
             return;
         }
+        self.join(generation, newest, between, &history);
+    }
+
+    /// Joins the generation with this part, and before it those with these parts. Joins none where memory is missing.
+    fn join(
+        &mut self,
+        generation: Arc<Generation<T>, Global>,
+        newest: Leaving<Joined<T>>,
+        mut between: Vec<Leaving<Joined<T>>>,
+        history: &History,
+    )
+        requires books { (history.now.book ≡ self.old.book) × (generation.value.book ≡ self.old.book) }
+        requires of { IsOpenedAs self.old.opened newest.held × IsPassOf generation.value.queue newest.held.pass.pass }
+        requires part { (newest.number ≡ generation.value.number) × IsPart history.now.log newest }
+        requires later { self.old.number < generation.value.number }
+        requires was { WasNewest self.old.seen generation.value.number }
+        requires opened { All (λ p. IsOpenedAs self.old.opened p.held) between.items }
+        requires parts { All (IsPart history.now.log) between.items }
+        requires below { All (λ p. p.number < generation.value.number) between.items }
+        requires all { AreAmong self.old.number generation.value.number between.items self.old.seen history.now.log }
+        ensures { Follows self.old self.new }
+    {
         let Some(more) = between.len().checked_add(1) else {
             return;
         };
-        if self.older.reserve(more).is_err() {
+        let Ok(()) = self.older.reserve(more) else {
             return;
-        }
-        self.history.learn(generation.history());
+        };
+        self.history.learn(history);
         self.generation = generation;
         let before = replace(&mut self.newest, newest);
         self.older.push_reserved(before);
@@ -238,30 +289,40 @@ impl<T: Drop> RenewingHandle<T> {
             .advance(self.generation.number(), found, &self.history);
         self.shared.numbers().newest(&mut self.history)
     }
-    /// Leaves those of the older generations that are gone from their places: nobody gives to them any more, and they
-    /// were found empty.
+
+    /// Leaves those of the older generations that have gone: nobody gives to them any more, and they were found empty.
     fn leave_gone(&mut self)
-        ensures same { self.new ≡ with_older self.old self.new.older }
+        ensures same { self.new ≡ with_older (with_seen self.old self.new.seen) self.new.older }
+        ensures later { IsLater self.old self.new }
         ensures older { IsPartOf self.new.older self.old.older }
     {
         let mut index = 0;
         while index < self.older.len() {
             let joined = &self.older[index];
-            if self.shared.places().has(joined.place(), joined.number()) {
+            if self
+                .shared
+                .places()
+                .has(joined.place(), joined.number(), &mut self.history)
+            {
                 index += 1;
-            } else {
-                let gone = self.older.remove(index);
-                drop(gone);
+                continue;
             }
+            let gone = self.older.remove(index);
+            drop(gone);
         }
     }
 
-    /// The number of the oldest generation of the handle.
-    fn oldest(&self) -> u32 {
-        match self.older.first() {
-            Some(joined) => joined.number(),
-            None => self.number(),
-        }
+    /// Empties the places of generations that are not the handle's, though they come before its newest one: other
+    /// handles were faster than their makers.
+    fn retire_others(&mut self)
+        ensures same { self.new ≡ with_seen self.old self.new.seen }
+        ensures later { IsLater self.old self.new }
+    {
+        self.shared.places().retire_others(
+            self.generation.number(),
+            self.older.as_slice(),
+            &mut self.history,
+        );
     }
 
     /// Counts the handle among those that give to the generation that it joined last, if that one is still the newest
@@ -270,6 +331,7 @@ impl<T: Drop> RenewingHandle<T> {
         ensures same { self.new ≡ with_seen self.old self.new.seen }
         ensures later { IsLater self.old self.new }
         ensures newest { MatchBool result (IsAtNewest self.old self.new) (IsBehind self.old self.new) }
+        ensures all { HasAll self.new }
     {
         // Who sees a later generation, and then nobody that gives, takes this one for over: so count first.
         self.newest.start_giving();
@@ -285,6 +347,7 @@ impl<T: Drop> RenewingHandle<T> {
     fn try_to_follow(&mut self) -> bool
         ensures follows { Follows self.old self.new }
         ensures newest { MatchBool result (IsAtNewest self.old self.new) (IsBehind self.old self.new) }
+        ensures all { HasAll self.new }
     {
         let last = self.latest();
         self.join_up_to(last);
@@ -298,10 +361,11 @@ impl<T: Drop> RenewingHandle<T> {
     fn follow(&mut self) -> bool
         ensures follows { Follows self.old self.new }
         ensures newest { MatchBool result (IsAtNewest self.old self.new) (IsBehind self.old self.new) }
+        ensures all { HasAll self.new }
     {
         self.newest.stop_giving();
         self.leave_gone();
-        self.shared.places().retire_below(self.oldest());
+        self.retire_others();
         for _ in 1..TRIES {
             if self.try_to_follow() {
                 return true;
@@ -314,6 +378,7 @@ impl<T: Drop> RenewingHandle<T> {
     fn keep_up(&mut self) -> bool
         ensures follows { Follows self.old self.new }
         ensures newest { MatchBool result (IsAtNewest self.old self.new) (IsBehind self.old self.new) }
+        ensures all { HasAll self.new }
     {
         if self.is_behind() {
             return self.follow();
@@ -370,7 +435,8 @@ impl<T: Drop> RenewingHandle<T> {
         }
     }
 
-    /// The same as `give`, where the handle is to look at the versions that are left, or has others to follow.
+    /// The same as `give`, where the handle is to look at the versions that are left, has others to follow, or has no
+    /// token.
     // Out of line, it leaves the other calls without a call before the give, and so with more registers.
     #[cold]
     #[inline(never)]
@@ -408,6 +474,11 @@ impl<T: Drop> RenewingHandle<T> {
         if generation.next().look(self.thread, &mut self.history) != 0 {
             return self.give_late(payload);
         }
+        // The give below then makes no such test, and no call that comes back. Before the look the count of tokens would
+        // be loaded twice.
+        if self.newest.lacks_token() {
+            return self.give_late(payload);
+        }
         match self.newest.give(generation.queue(), payload) {
             Given::Worn(back) => self.give_to_next(back),
             given => given,
@@ -417,18 +488,33 @@ impl<T: Drop> RenewingHandle<T> {
     /// Takes from the first of the older generations that is not found empty. Returns None where each was. The handle
     /// leaves those that are over.
     fn take_older(&mut self) -> Option<Taken<T>>
-        ensures same { self.new ≡ with_older self.old self.new.older }
+        ensures same { self.new ≡ with_older (with_seen self.old self.new.seen) self.new.older }
+        ensures later { IsLater self.old self.new }
         ensures takes { (looked : List (PayHeld T)) × TakesFirst result self.old.older looked
             × IsPartOf self.new.older looked }
     {
-        let taken = take_first(self.older.as_mut_slice());
-        for joined in self.older.iter() {
-            if joined.is_over() {
-                self.shared.places().retire(joined.place(), joined.number());
-            }
-        }
+        let taken = self.take_first();
+        self.retire_over();
         self.leave_gone();
         taken
+    }
+
+    /// Takes from the first of the older generations that is not found empty.
+    fn take_first(&mut self) -> Option<Taken<T>>
+        ensures same { self.new ≡ with_older self.old self.new.older }
+        ensures takes { TakesFirst result self.old.older self.new.older }
+    {
+        take_first(self.older.as_mut_slice())
+    }
+
+    /// Empties the places of the older generations that are over.
+    fn retire_over(&mut self)
+        ensures same { self.new ≡ with_seen self.old self.new.seen }
+        ensures later { IsLater self.old self.new }
+    {
+        self.shared
+            .places()
+            .retire_over(self.older.as_slice(), &mut self.history);
     }
 
     /// What a take returns that came to this in the newest generation: Busy in place of Empty where another one is the
@@ -516,6 +602,7 @@ impl<T: Drop> RenewingHandle<T> {
         ensures follows { Follows self.old self.new }
         ensures count { IfSome result (λ n. n ≡ length (all_of self.new)) }
         ensures newest { IfSome result (λ n. IsAtNewest self.old self.new) }
+        ensures all { HasAll self.new }
     {
         if !self.keep_up() {
             return None;
@@ -548,8 +635,8 @@ impl<T: Drop> RenewingHandle<T> {
         self,
     ) -> Result<(Arc<Shared<T>, Global>, Vec<Leaving<Joined<T>>>), AllocError>
         ensures shared { IfOk result (λ r. opening_of r.0.value.sizes ≡ self.opened) }
-        ensures joined { IfOk result (λ r. r.1.items ≡ all_of self) }
-        ensures of { IfOk result (λ r. All (IsOpenedAs (opening_of r.0.value.sizes)) r.1.items) }
+        ensures joined { IfOk result (λ r. held_by r.1.items ≡ all_of self) }
+        ensures of { IfOk result (λ r. All (λ p. IsOpenedAs (opening_of r.0.value.sizes) p.held) r.1.items) }
     {
         let Self {
             shared,
@@ -572,7 +659,8 @@ fn address_of<T: Drop>(shared: &Shared<T>) -> *mut u8
 /// Takes from the first of these generations that is not empty. One that was empty, and to which nobody gave any more
 /// before that, is over.
 fn take_first<T: Drop>(generations: &mut [Leaving<Joined<T>>]) -> Option<Taken<T>>
-    ensures { TakesFirst result generations.old generations.new }
+    ensures same { AreSameParts generations.old generations.new }
+    ensures takes { TakesFirst result (held_by generations.old) (held_by generations.new) }
 {
     let (first, rest) = generations.split_first_mut()?;
     // This look comes before the take: a payload that is given after the take would be lost with the generation.

@@ -1,15 +1,16 @@
 //! The history of a queue's generations, and the words that tell of it.
 //!
 //! The history lives in proofs alone: a `History` is a beginning of it that was seen, and has no bytes.
-ghost use Rattle.std.specs.Prelude.{◌≡◌, ◌+◌, ◌<◌, ◌≤◌, ◌^◌, IfSome, true};
-ghost use Rattle.atomic_table.specs.Seated.{TableId};
+ghost use Rattle.std.specs.Prelude.{◌≡◌, ◌≢◌, ◌+◌, ◌<◌, ◌≤◌, ◌^◌, ℕ, IfOk, IfSome, true};
 ghost use Rattle.logbook.specs.Pages.{may_make, may_write, nib};
 ghost use mathlib.Core.List.{IsPrefix};
-ghost use Rattle.kfifo_renewing.specs.History.{Finds, HasRisen, IsMade, WasNewest, key_of};
+ghost use Rattle.kfifo_renewing.specs.History.{AreLabels, Finds, HasRisen, IsMade, IsPlaced, WasNewest, key_of, place_count};
 
 use crate::change::Change;
+use crate::label::{Label, PLACES, label_all};
 use kfifo_live::PayQueue;
 use logbook::{Gain, Offer, Opening, Pen, Plain, Play, Rule, Seen, Start, Word};
+use std::alloc::{AllocError, Global};
 use std::marker::Model;
 
 /// How often a step on a word is tried that other threads change meanwhile.
@@ -73,6 +74,33 @@ impl Play<Change, u64> for Renewing {
     ghost use Rattle.kfifo_renewing.specs.History.{Renews};
 
     ghost then = { Renews };
+}
+
+/// A look at the word of a place.
+pub struct LookingThere;
+
+impl Play<Change, u64> for LookingThere {
+    ghost use Rattle.kfifo_renewing.specs.History.{LooksThere};
+
+    ghost then = { LooksThere };
+}
+
+/// A step that puts a generation into a place.
+pub struct Placing;
+
+impl Play<Change, u64> for Placing {
+    ghost use Rattle.kfifo_renewing.specs.History.{Places};
+
+    ghost then = { Places };
+}
+
+/// A step that takes a generation from its place.
+pub struct Leaving;
+
+impl Play<Change, u64> for Leaving {
+    ghost use Rattle.kfifo_renewing.specs.History.{Leaves};
+
+    ghost then = { Leaves };
 }
 
 /// A step that gives a queue its number as a generation.
@@ -181,15 +209,17 @@ impl Next {
         self.word.load::<Looking, NoGain>(history, &mut offer)
     }
 
-    /// Makes a later generation the newest, if this one is. The pen may write the word of that. Returns whether it did.
+    /// Makes a later generation the newest, if this one is. That generation is in a place, and the pen may write its
+    /// word. Returns whether it did. If not, the pen still may.
     pub(crate) fn renew(&self, number: u32, pen: &mut Pen, history: &mut History) -> bool
         requires books { (history.old.book ≡ self.now.book) × (pen.old.book ≡ self.now.book) }
         requires newest { WasNewest history.old.log self.now.number }
-        requires made { (table : TableId) × IsMade history.old.log number table }
+        requires there { (place : ℕ) × (place < place_count) × IsPlaced history.old.log number place }
         requires later { self.now.number < number }
         requires pen { pen.old.nib ≡ nib may_write (key_of number) 0 }
-        ensures book { history.new.book ≡ history.old.book }
+        ensures books { (history.new.book ≡ history.old.book) × (pen.new.book ≡ pen.old.book) }
         ensures newest { result ≡ true → WasNewest history.new.log number }
+        ensures pen { result ≢ true → pen.new.nib ≡ pen.old.nib }
     {
         let mut offer: Offer<Change, u64, HistoryRule, NoGain> = history.plain::<
             NoGain,
@@ -204,25 +234,30 @@ impl Next {
 }
 
 impl Numbers {
-    /// The numbers of a queue with one generation, which has the number 0, and the word of that.
-    #[tactic(auto, using(crate::proofs::Histories::kept_first, crate::proofs::Histories::was_first))]
-    pub(crate) fn open<T: Drop>(queue: &PayQueue<T>) -> (Numbers, Next, History)
-        ensures books { (result.2.book ≡ result.0) × (result.1.book ≡ result.0) }
-        ensures first { (result.1.number ≡ 0) × IsMade result.2.log 0 queue.now.table × WasNewest result.2.log 0 }
+    /// The history of a queue with one generation, which has the number 0, and the words that tell of it.
+    #[tactic(auto, using(crate::proofs::Histories::was_first))]
+    pub(crate) fn open<T: Drop>(
+        alloc: Global,
+        queue: &PayQueue<T>,
+    ) -> Result<(Numbers, Vec<Label>, Next, History), AllocError>
+        ensures books { IfOk result (λ r. (r.3.book ≡ r.0) × AreLabels r.0 r.1.items × (r.2.book ≡ r.0)) }
+        ensures first { IfOk result (λ r. (r.2.number ≡ 0) × IsMade r.3.log 0 queue.now.table × WasNewest r.3.log 0) }
     {
         let (history, mut pens) = History::open_row::<PayQueue<T>, Numbering>(
             queue,
             Start::alone(),
-            2,
+            PLACES as usize + 2,
         );
         let newest = Word::hint(&history);
         let greatest = Word::tracked(0, &mut pens.take());
+        let labels = label_all(alloc, &mut pens)?;
         let word = Word::tracked(0, &mut pens.take());
-        (
+        Ok((
             Numbers { newest, greatest },
+            labels,
             Next { number: 0, word },
             history,
-        )
+        ))
     }
 
     /// The number of a generation that was the newest: of the newest one, but for the time of a change.

@@ -1,9 +1,10 @@
 //! A generation that a handle has joined.
-ghost use Rattle.std.specs.Prelude.{◌≡◌, IfSome};
-ghost use Rattle.kfifo_live.specs.Handles.{PayHeld, PicksUpAndGives};
-ghost use Rattle.kfifo_renewing.specs.Renewing.{TakesThere};
-ghost use Rattle.kfifo_live.specs.Pass.{IsPassOf, IsSamePass};
+ghost use Rattle.std.specs.Prelude.{◌≡◌, IfSome, true};
+ghost use Rattle.kfifo_live.specs.Handles.{PicksUpAndGives};
+ghost use Rattle.kfifo_live.specs.Pass.{IsPassOf};
 ghost use Rattle.kfifo_live.specs.Promise.{KeepsPromise};
+ghost use Rattle.kfifo_renewing.specs.Joining.{FoundEmpty, IsSamePart, PartView};
+ghost use Rattle.kfifo_renewing.specs.Renewing.{TakesThere};
 
 use crate::generation::Generation;
 use crate::leaving::{Leave, Leaving};
@@ -14,7 +15,7 @@ use std::sync::Arc;
 
 /// A part in a generation, and the handle that gives to it and takes from it.
 ///
-/// Clauses see it as that handle.
+/// Clauses see it as that handle, with the number and the place of the generation.
 #[derive(Drop)]
 pub(crate) struct Joined<T: Drop> {
     place: usize,
@@ -28,11 +29,16 @@ pub(crate) struct Joined<T: Drop> {
 }
 
 impl<T: Drop> Model for Joined<T> {
-    ghost Value = { PayHeld T };
+    ghost Value = { PartView T };
 
-    ghost view = { λ j. j.handle };
+    ghost view = { λ j. record {
+      held = j.handle;
+      number = j.generation.value.number;
+      place = j.place;
+    } };
 
-    ghost invariant = { λ j. IsPassOf j.generation.value.queue j.handle.pass.pass };
+    ghost invariant = { λ j. IsPassOf j.generation.value.queue j.handle.pass.pass
+        × (j.is_over ≡ true → FoundEmpty T j.handle.pass.pass.table) };
 }
 
 impl<T: Drop> Joined<T> {
@@ -42,7 +48,8 @@ impl<T: Drop> Joined<T> {
         place: usize,
         thread: u32,
     ) -> Option<Leaving<Joined<T>>>
-        ensures { IfSome result (λ j. IsPassOf generation.value.queue j.pass.pass) }
+        ensures of { IfSome result (λ p. IsPassOf generation.value.queue p.held.pass.pass) }
+        ensures at { IfSome result (λ p. (p.number ≡ generation.value.number) × (p.place ≡ place)) }
     {
         let pass = generation.take_pass(thread)?;
         let handle = PayHandle::new(generation.queue(), pass);
@@ -69,7 +76,7 @@ impl<T: Drop> Joined<T> {
 
     /// The part in the generation, and the pass.
     pub(crate) fn into_parts(self) -> (Arc<Generation<T>, Global>, PayPass<T>)
-        ensures pass { result.1 ≡ self.pass }
+        ensures pass { result.1 ≡ self.held.pass }
         ensures of { IsPassOf result.0.value.queue result.1.pass }
     {
         let Joined {
@@ -93,12 +100,16 @@ impl<T: Drop> Leave for Joined<T> {
 
 impl<T: Drop> Leaving<Joined<T>> {
     /// The place of the generation.
-    pub(crate) fn place(&self) -> usize {
+    pub(crate) fn place(&self) -> usize
+        ensures { result ≡ self.now.place }
+    {
         self.part.place
     }
 
     /// The number of the generation.
-    pub(crate) fn number(&self) -> u32 {
+    pub(crate) fn number(&self) -> u32
+        ensures { result ≡ self.now.number }
+    {
         self.part.generation.number()
     }
 
@@ -108,12 +119,15 @@ impl<T: Drop> Leaving<Joined<T>> {
     }
 
     /// Whether the generation was found empty when nobody could give to it any more.
-    pub(crate) fn is_over(&self) -> bool {
+    pub(crate) fn is_over(&self) -> bool
+        ensures { result ≡ true → FoundEmpty T self.now.held.pass.pass.table }
+    {
         self.part.is_over
     }
 
     /// Says whether it was.
     pub(crate) fn set_over(&mut self, is_over: bool)
+        requires { is_over ≡ true → FoundEmpty T self.old.held.pass.pass.table }
         ensures { self.new ≡ self.old }
     {
         self.part.is_over = is_over;
@@ -136,13 +150,19 @@ impl<T: Drop> Leaving<Joined<T>> {
         self.part.stop_giving();
     }
 
+    /// Whether the handle has no token left here, so that a give first has to look for some.
+    #[inline(always)]
+    pub(crate) fn lacks_token(&self) -> bool {
+        self.part.handle.pass().tokens() == 0
+    }
+
     /// Gives to the generation, whose queue this is, as `PayHandle::give`.
     #[inline(always)]
     pub(crate) fn give(&mut self, queue: &PayQueue<T>, payload: T) -> Given<T>
-        requires { IsPassOf queue.now self.old.pass.pass }
-        ensures same { IsSamePass self.old.pass.pass self.new.pass.pass }
-        ensures gives { PicksUpAndGives payload result self.old self.new }
-        ensures promise { KeepsPromise self.new.pass.pass.opened self.new.pass.pass.seen }
+        requires { IsPassOf queue.now self.old.held.pass.pass }
+        ensures same { IsSamePart self.old self.new }
+        ensures gives { PicksUpAndGives payload result self.old.held self.new.held }
+        ensures promise { KeepsPromise self.new.held.pass.pass.opened self.new.held.pass.pass.seen }
     {
         self.part.handle.give(queue, payload)
     }
@@ -150,15 +170,17 @@ impl<T: Drop> Leaving<Joined<T>> {
     /// Takes from the generation, whose queue this is, as `PayHandle::take`.
     #[inline(always)]
     pub(crate) fn take(&mut self, queue: &PayQueue<T>) -> Taken<T>
-        requires { IsPassOf queue.now self.old.pass.pass }
-        ensures { TakesThere result self.old self.new }
+        requires { IsPassOf queue.now self.old.held.pass.pass }
+        ensures same { IsSamePart self.old self.new }
+        ensures takes { TakesThere result self.old.held self.new.held }
     {
         self.part.handle.take(queue)
     }
 
     /// Takes from the generation.
     pub(crate) fn take_here(&mut self) -> Taken<T>
-        ensures { TakesThere result self.old self.new }
+        ensures same { IsSamePart self.old self.new }
+        ensures takes { TakesThere result self.old.held self.new.held }
     {
         self.part.handle.take(self.part.generation.queue())
     }

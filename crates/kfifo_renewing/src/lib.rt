@@ -9,6 +9,7 @@ mod generation;
 mod handle;
 mod history;
 mod joined;
+mod label;
 mod leaving;
 mod places;
 mod queue;

@@ -1,14 +1,24 @@
 //! Where the generations of a queue are that threads may still need, for each to find those that are new to it.
 //!
-//! A place has a word, which says whether a generation is there, its number and how many readers look at it.
-ghost use Rattle.std.specs.Prelude.{◌≡◌, ◌≢◌, ◌<◌, ◌≤◌, ◌+◌, ◌%◌, ◌^◌, All, IfOk, IfSome, length};
+//! A place has a word, which says whether a generation is there, its number and how many readers look at it. Its label
+//! says the number too, and proofs speak of labels: a label is written after the place is filled, and before it is
+//! emptied.
+ghost use Rattle.std.specs.Prelude.{◌≡◌, ◌≢◌, ◌<◌, ◌≤◌, ◌+◌, ◌%◌, ◌^◌, ◌⊎◌, ℕ, All, IfOk, IfSome, List, MatchBool, Some, length, true};
+ghost use mathlib.Core.List.{IsPrefix};
 ghost use Rattle.counted_slot.specs.Counting.{readers};
+ghost use Rattle.logbook.specs.Pages.{Cell, may_write, nib};
 ghost use Rattle.kfifo_renewing.specs.declared.places.Lineage.{Lineage};
+ghost use Rattle.kfifo_renewing.specs.History.{AreLabels, FindsThere, HasLeft, HasRisen, IsGone, IsKept, IsPlaced, WasNewest, key_of, newest_of, place_count};
+ghost use Rattle.kfifo_renewing.specs.Joining.{AreAmong, HasNumber, HasOlder, IsPart, WasFoundEmpty};
 ghost use Rattle.kfifo_renewing.specs.Renewing.{IsOfLineage};
 
 use crate::generation::{Generation, Sizes};
 use crate::history::History;
+use crate::joined::Joined;
+use crate::label::{Label, PLACES};
+use crate::leaving::Leaving;
 use counted_slot::{Claim, Counted, FREE, Fits, MARKED, MOST_READERS, ONE_READER, PRESENT, TAKEN};
+use logbook::Pen;
 use std::alloc::{AllocError, Global};
 use std::marker::Model;
 use std::sync::Arc;
@@ -36,19 +46,25 @@ impl<T: Drop> Fits for Held<T> {
     ghost fits = { λ lineage held. IsOfLineage lineage held.generation.value };
 }
 
-/// The places of a queue's generations.
+/// The places of a queue's generations. Each has a label, which says which generation is there.
 #[derive(Drop)]
 pub(crate) struct Places<T: Drop> {
     places: Vec<Counted<Option<Held<T>>>>,
+    labels: Vec<Label>,
     pub(crate) lineage: Lineage,
 }
 
 impl<T: Drop> Model for Places<T> {
+    ghost use Rattle.std.specs.Prelude.{◌≡◌, ◌≤◌, All, length};
+    ghost use Rattle.kfifo_renewing.specs.declared.places.Lineage.{Lineage};
+    ghost use Rattle.kfifo_renewing.specs.History.{AreLabels, place_count};
+
     ghost Value = { Lineage };
 
     ghost view = { λ p. p.lineage };
 
-    ghost invariant = { λ p. All (λ lineage. lineage ≡ p.lineage) p.places.items };
+    ghost invariant = { λ p. All (λ lineage. lineage ≡ p.lineage) p.places.items × (length p.places.items ≤ place_count)
+        × AreLabels p.lineage.history.book p.labels.items };
 }
 
 fn number_in(word: u64) -> u32 {
@@ -68,19 +84,26 @@ fn readers_in(word: u64) -> u64
 }
 
 impl<T: Drop> Places<T> {
-    /// So many empty places.
+    /// So many empty places, with these labels.
     pub(crate) fn new(
         alloc: Global,
         lineage: Lineage,
+        labels: Vec<Label>,
         count: usize,
     ) -> Result<Places<T>, AllocError>
+        requires labels { AreLabels lineage.history.book labels.items }
+        requires few { count ≤ place_count }
         ensures { IfOk result (λ p. p ≡ lineage) }
     {
         let mut places = Vec::with_capacity(alloc, count)?;
         for _ in 0..count {
             places.push(Counted::new(None, &lineage))?;
         }
-        Ok(Places { places, lineage })
+        Ok(Places {
+            places,
+            labels,
+            lineage,
+        })
     }
 
     /// How many places there are.
@@ -95,8 +118,16 @@ impl<T: Drop> Places<T> {
 
     /// Puts a generation with this number into an empty place, which it returns. It drops the generation, and returns
     /// None, where there is none.
-    pub(crate) fn put(&self, number: u32, generation: Arc<Generation<T>, Global>) -> Option<usize>
-        requires { IsOfLineage self.now generation.value }
+    pub(crate) fn put(
+        &self,
+        number: u32,
+        generation: Arc<Generation<T>, Global>,
+        history: &mut History,
+    ) -> Option<usize>
+        requires of { IsOfLineage self.now generation.value }
+        requires book { history.old.book ≡ self.now.history.book }
+        ensures later { (history.new.book ≡ history.old.book) × IsPrefix history.old.log history.new.log }
+        ensures there { IfSome result (λ index. (index < place_count) × IsPlaced history.new.log number index) }
     {
         for index in 0..self.places.len() {
             let (found, claim) = self.places[index].turn(FREE, TAKEN);
@@ -105,26 +136,75 @@ impl<T: Drop> Places<T> {
                     Some(Held { generation }),
                     (u64::from(number) << 32) + PRESENT,
                 );
-                return Some(index);
+                if self.labels[index].put(number, history) {
+                    return Some(index);
+                }
+                self.empty(index, number);
+                return None;
             }
             claim.done();
         }
         None
     }
 
-    /// The place of the generation with this number, if it is still there.
-    pub(crate) fn find(&self, number: u32) -> Option<usize> {
-        (0..self.places.len()).find(|index| self.has(*index, number))
+    /// The number of the generation that is in this place.
+    fn look(&self, index: usize, history: &mut History) -> Option<u32>
+        requires book { history.old.book ≡ self.now.history.book }
+        requires inside { index < place_count }
+        ensures later { (history.new.book ≡ history.old.book) × IsPrefix history.old.log history.new.log }
+        ensures finds { FindsThere index result history.old.log history.new.log }
+        ensures kept { (cells : List Cell) × IsKept cells history.new.log }
+    {
+        self.labels[index].look(history)
+    }
+
+    /// Whether the generation with this number is in this place.
+    pub(crate) fn has(&self, index: usize, number: u32, history: &mut History) -> bool
+        requires book { history.old.book ≡ self.now.history.book }
+        requires inside { index < place_count }
+        ensures later { (history.new.book ≡ history.old.book) × IsPrefix history.old.log history.new.log }
+        ensures finds { MatchBool result (IsPlaced history.new.log number index)
+            (IsPlaced history.old.log number index → HasLeft history.new.log number) }
+        ensures kept { (cells : List Cell) × IsKept cells history.new.log }
+    {
+        match self.look(index, history) {
+            Some(found) => found == number,
+            None => false,
+        }
+    }
+
+    /// The place of the generation with this number, if it is in one.
+    pub(crate) fn find(&self, number: u32, history: &mut History) -> Option<usize>
+        requires book { history.old.book ≡ self.now.history.book }
+        ensures later { (history.new.book ≡ history.old.book) × IsPrefix history.old.log history.new.log }
+        ensures inside { IfSome result (λ index. index < place_count) }
+    {
+        for index in 0..self.places.len() {
+            if self.has(index, number, history) {
+                return Some(index);
+            }
+        }
+        None
     }
 
     /// The place and the number of the first generation whose number is above `number`, and below `end`.
-    pub(crate) fn next_after(&self, number: u32, end: u64) -> Option<(usize, u32)> {
+    pub(crate) fn next_after(
+        &self,
+        number: u32,
+        end: u64,
+        history: &mut History,
+    ) -> Option<(usize, u32)>
+        requires book { history.old.book ≡ self.now.history.book }
+        ensures later { (history.new.book ≡ history.old.book) × IsPrefix history.old.log history.new.log }
+        ensures below { IfSome result (λ r. (r.0 < place_count) × (r.1 < end)) }
+    {
         let mut next = None;
         let mut least = end;
         for index in 0..self.places.len() {
-            let word = self.places[index].load();
-            let other = number_in(word);
-            if state_in(word) == PRESENT && number < other && u64::from(other) < least {
+            let Some(other) = self.look(index, history) else {
+                continue;
+            };
+            if number < other && u64::from(other) < least {
                 next = Some((index, other));
                 least = u64::from(other);
             }
@@ -132,24 +212,72 @@ impl<T: Drop> Places<T> {
         next
     }
 
-    /// Whether the generation with this number is still at this place.
-    pub(crate) fn has(&self, index: usize, number: u32) -> bool {
-        match self.places.get(index) {
-            Some(place) => {
-                let word = place.load();
-                state_in(word) == PRESENT && number_in(word) == number
+    /// Whether each generation in a place, with a number above `number` and below `end`, is among these.
+    pub(crate) fn has_no_other(
+        &self,
+        number: u32,
+        end: u64,
+        joined: &[Leaving<Joined<T>>],
+        history: &mut History,
+    ) -> bool
+        requires book { history.old.book ≡ self.now.history.book }
+        ensures later { (history.new.book ≡ history.old.book) × IsPrefix history.old.log history.new.log }
+        ensures others { result ≡ true → AreAmong number end joined.now history.old.log history.new.log }
+    {
+        let seen = history.again();
+        history.learn(&seen);
+        for index in 0..PLACES as usize {
+            let found = self.look(index, history);
+            if !is_known(joined, number, end, found) {
+                return false;
             }
-            None => false,
+        }
+        true
+    }
+
+    /// Empties the places of the generations that are not among these, though their numbers are below this one: each of
+    /// them was never the newest, or has left its place meanwhile.
+    pub(crate) fn retire_others(
+        &self,
+        number: u32,
+        joined: &[Leaving<Joined<T>>],
+        history: &mut History,
+    )
+        requires book { history.old.book ≡ self.now.history.book }
+        requires newest { WasNewest history.old.log number }
+        requires others { HasOlder history.old.log joined.now number }
+        requires risen { HasRisen history.old.log }
+        ensures later { (history.new.book ≡ history.old.book) × IsPrefix history.old.log history.new.log }
+        ensures risen { HasRisen history.new.log }
+    {
+        for index in 0..self.places.len() {
+            let Some(other) = self.look(index, history) else {
+                continue;
+            };
+            if other >= number {
+                continue;
+            }
+            if has_number(joined, other) {
+                continue;
+            }
+            self.retire(index, other, history);
         }
     }
 
-    /// Empties the places of all generations with a number below this one.
-    pub(crate) fn retire_below(&self, number: u32) {
-        for index in 0..self.places.len() {
-            let word = self.places[index].load();
-            if state_in(word) == PRESENT && number_in(word) < number {
-                self.retire(index, number_in(word));
+    /// Empties the places of those of these generations that are over.
+    pub(crate) fn retire_over(&self, joined: &[Leaving<Joined<T>>], history: &mut History)
+        requires book { history.old.book ≡ self.now.history.book }
+        requires parts { All (IsPart history.old.log) joined.now }
+        requires below { All (λ p. p.number < newest_of history.old.log) joined.now }
+        requires risen { HasRisen history.old.log }
+        ensures later { (history.new.book ≡ history.old.book) × IsPrefix history.old.log history.new.log }
+        ensures risen { HasRisen history.new.log }
+    {
+        for part in joined {
+            if !part.is_over() {
+                continue;
             }
+            self.retire(part.place(), part.number(), history);
         }
     }
 
@@ -180,9 +308,39 @@ impl<T: Drop> Places<T> {
         None
     }
 
-    /// Empties a place, if the generation with this number is still there. Where others look at it, the last of them
-    /// empties the place.
-    pub(crate) fn retire(&self, index: usize, number: u32) {
+    /// Takes the generation with this number out of its place: it is the newest no more, and was found empty, or was
+    /// never the newest.
+    pub(crate) fn retire(&self, index: usize, number: u32, history: &mut History)
+        requires book { history.old.book ≡ self.now.history.book }
+        requires over { number < newest_of history.old.log }
+        requires empty { WasNewest history.old.log number → IsGone history.old.log number ⊎ WasFoundEmpty T history.old.log number }
+        ensures later { (history.new.book ≡ history.old.book) × IsPrefix history.old.log history.new.log }
+        ensures risen { HasRisen history.new.log }
+    {
+        // The label goes first: who finds a label finds the generation, unless it goes meanwhile.
+        if let Some(label) = self.labels.get(index) {
+            label.leave(number, history);
+        }
+        self.empty(index, number);
+        let seen = history.again();
+        history.learn(&seen);
+    }
+
+    /// Takes the generation with this number out of its place. It will never be the newest, since that needs the pen.
+    pub(crate) fn undo(&self, index: usize, number: u32, pen: Pen, history: &mut History)
+        requires books { (history.old.book ≡ self.now.history.book) × (pen.book ≡ self.now.history.book) }
+        requires pen { pen.nib ≡ nib may_write (key_of number) 0 }
+        ensures later { (history.new.book ≡ history.old.book) × IsPrefix history.old.log history.new.log }
+    {
+        if let Some(label) = self.labels.get(index) {
+            label.undo(number, pen, history);
+        }
+        self.empty(index, number);
+    }
+
+    /// Empties a place whose label is gone, if the generation with this number is still there. Where others look at it,
+    /// the last of them empties the place.
+    fn empty(&self, index: usize, number: u32) {
         let Some(place) = self.places.get(index) else {
             return;
         };
@@ -227,4 +385,35 @@ fn leave<T: Drop>(place: &Counted<Option<Held<T>>>, claim: Claim<'_, Option<Held
     if state_in(word) == MARKED && readers_in(word) == 1 {
         clear(place, word - ONE_READER);
     }
+}
+
+/// Whether the generation with this number is among these.
+fn has_number<T: Drop>(joined: &[Leaving<Joined<T>>], number: u32) -> bool
+    ensures { MatchBool result (HasNumber joined.now number) (HasNumber joined.now number → ⊥) }
+{
+    let Some((first, rest)) = joined.split_first() else {
+        return false;
+    };
+    if first.number() == number {
+        return true;
+    }
+    has_number(rest, number)
+}
+
+/// Whether what was found in a place is one of these generations, or its number is not between these.
+fn is_known<T: Drop>(
+    joined: &[Leaving<Joined<T>>],
+    number: u32,
+    end: u64,
+    found: Option<u32>,
+) -> bool
+    ensures { result ≡ true → (n : ℕ) → found ≡ Some n → number < n → n < end → HasNumber joined.now n }
+{
+    let Some(other) = found else {
+        return true;
+    };
+    if other <= number || u64::from(other) >= end {
+        return true;
+    }
+    has_number(joined, other)
 }

@@ -6,9 +6,10 @@ ghost use Rattle.kfifo_live.specs.Payloads.{pay_opening};
 ghost use Rattle.kfifo_live.specs.Schedule.{count_up};
 ghost use Rattle.kfifo_live.specs.declared.fault.OpenFault.TheVariants.{ThreadsOutOfRange, TokensOutOfRange};
 ghost use Rattle.logbook.specs.Pages.{may_write, nib};
-ghost use Rattle.kfifo_renewing.specs.History.{WasNewest, key_of};
+ghost use Rattle.kfifo_renewing.specs.History.{AreLabels, IsPlaced, WasNewest, key_of, place_count};
 ghost use Rattle.kfifo_renewing.specs.declared.fault.RenewFault.TheVariants.{Open, ReserveOutOfRange};
 ghost use Rattle.kfifo_renewing.specs.declared.places.Lineage.{Lineage};
+ghost use Rattle.kfifo_renewing.specs.Joining.{held_by};
 ghost use Rattle.kfifo_renewing.specs.Renewing.{ClosesAll, ClosesEach, Generations, HasOne, HaveOne, IsOfLineage};
 ghost use Rattle.kfifo_renewing.specs.Renewing.{IsOpenedAs, WereLeft, opening_of};
 
@@ -17,6 +18,7 @@ use crate::generation::{Generation, Sizes};
 use crate::handle::RenewingHandle;
 use crate::history::{History, Numbers};
 use crate::joined::Joined;
+use crate::label::Label;
 use crate::leaving::Leaving;
 use crate::places::{Lineage, Places};
 use kfifo_live::{CloseFault, MAX_TOKENS, OpenFault, PayPass, PayQueue};
@@ -143,7 +145,7 @@ impl<T: Drop> Shared<T> {
         if number <= newest.number() {
             return;
         }
-        let Some(place) = self.places.put(number, generation) else {
+        let Some(place) = self.places.put(number, generation, &mut history) else {
             return;
         };
         if newest.next().renew(number, &mut pen, &mut history) {
@@ -151,7 +153,7 @@ impl<T: Drop> Shared<T> {
                 .advance(newest.number(), u64::from(number), &history);
         } else {
             // Another handle was faster. Nobody has given to this one, and nobody will.
-            self.places.retire(place, number);
+            self.places.undo(place, number, pen, &mut history);
         }
     }
 
@@ -163,18 +165,21 @@ impl<T: Drop> Shared<T> {
     }
 }
 
-/// The state that the handles share, with a first generation, and the place of that.
+/// The state that the handles share, with a first generation, the place of that, and what was seen of the history.
 fn share<T: Drop>(
     alloc: Global,
     generation: &Arc<Generation<T>, Global>,
     numbers: Numbers,
+    labels: Vec<Label>,
     sizes: Sizes,
     reserve: u64,
-) -> Result<(Arc<Shared<T>, Global>, usize), AllocError>
+) -> Result<(Arc<Shared<T>, Global>, usize, History), AllocError>
     requires threads { sizes.threads ≤ MAX_THREADS }
     requires of { generation.now.value.queue.opened ≡ opening_of sizes }
-    requires numbers { numbers ≡ generation.now.value.book }
-    ensures { IfOk result (λ r. (r.0.value.sizes ≡ sizes) × (r.0.value.history.book ≡ generation.now.value.book)) }
+    requires numbers { (numbers ≡ generation.now.value.book) × AreLabels numbers labels.items }
+    ensures shared { IfOk result (λ r. (r.0.value.sizes ≡ sizes) × (r.0.value.history.book ≡ generation.now.value.book)) }
+    ensures there { IfOk result (λ r. (r.2.book ≡ generation.now.value.book) × (r.1 < place_count)
+        × IsPlaced r.2.log generation.now.value.number r.1) }
 {
     let lineage = Lineage {
         sizes,
@@ -182,9 +187,14 @@ fn share<T: Drop>(
     };
     // Handles keep at most one old generation each, and two are there while a change goes on: so there is room for a
     // generation that comes too late too.
-    let places = Places::new(alloc, lineage, 2 * sizes.threads as usize + 2)?;
+    let mut history = generation.history().again();
+    let places = Places::new(alloc, lineage, labels, 2 * sizes.threads as usize + 2)?;
     let place = places
-        .put(generation.number(), Arc::try_clone(generation)?)
+        .put(
+            generation.number(),
+            Arc::try_clone(generation)?,
+            &mut history,
+        )
         .ok_or(AllocError)?;
     let shared = Shared {
         places,
@@ -192,7 +202,7 @@ fn share<T: Drop>(
         reserve,
         alloc,
     };
-    Ok((Arc::new(alloc, shared)?, place))
+    Ok((Arc::new(alloc, shared)?, place, history))
 }
 
 /// The handle of this thread, which has joined the first generation.
@@ -201,15 +211,17 @@ fn join_first<T: Drop>(
     shared: &Arc<Shared<T>, Global>,
     generation: &Arc<Generation<T>, Global>,
     place: usize,
+    seen: &History,
     thread: u32,
 ) -> Result<RenewingHandle<T>, AllocError>
     requires of { IsOfLineage shared.now.value generation.now.value }
     requires first { generation.now.value.number ≡ 0 }
+    requires there { (seen.now.book ≡ generation.now.value.book) × (place < place_count) × IsPlaced seen.now.log 0 place }
     ensures one { IfOk result (HasOne generation.now.value.queue generation.now.value.book) }
     ensures thread { IfOk result (λ h. h.thread ≡ thread) }
 {
     let generation = Arc::try_clone(generation)?;
-    let mut history = generation.history().again();
+    let mut history = seen.again();
     history.learn(generation.history());
     let part = Arc::try_clone(&generation)?;
     let joined = Joined::join(part, place, thread).ok_or(AllocError)?;
@@ -222,22 +234,23 @@ fn join_all<T: Drop>(
     alloc: Global,
     generation: Generation<T>,
     numbers: Numbers,
+    labels: Vec<Label>,
     sizes: Sizes,
     reserve: u64,
 ) -> Result<Vec<RenewingHandle<T>>, AllocError>
     requires threads { sizes.threads ≤ MAX_THREADS }
     requires of { generation.queue.opened ≡ opening_of sizes }
-    requires numbers { numbers ≡ generation.book }
+    requires numbers { (numbers ≡ generation.book) × AreLabels numbers labels.items }
     requires first { generation.number ≡ 0 }
     ensures each { IfOk result (λ handles. All (HasOne generation.queue generation.book) handles.items) }
     ensures threads { IfOk result (λ handles. map (λ h. h.thread) handles.items ≡ count_up 0 sizes.threads) }
     ensures count { IfOk result (λ handles. length handles.items ≡ sizes.threads) }
 {
     let generation = Arc::new(alloc, generation)?;
-    let (shared, place) = share(alloc, &generation, numbers, sizes, reserve)?;
+    let (shared, place, seen) = share(alloc, &generation, numbers, labels, sizes, reserve)?;
     let mut handles = Vec::with_capacity(alloc, sizes.threads as usize)?;
     for thread in 0..sizes.threads {
-        let handle = join_first(alloc, &shared, &generation, place, thread)?;
+        let handle = join_first(alloc, &shared, &generation, place, &seen, thread)?;
         handles.push(handle)?;
     }
     Ok(handles)
@@ -256,9 +269,9 @@ fn open_first<T: Drop>(
 {
     match open_queue(alloc, &sizes) {
         Ok((queue, passes)) => {
-            let (numbers, next, history) = Numbers::open(&queue);
+            let (numbers, labels, next, history) = Numbers::open(alloc, &queue)?;
             let generation = Generation::new(alloc, queue, passes, next, history)?;
-            let handles = join_all(alloc, generation, numbers, sizes, reserve)?;
+            let handles = join_all(alloc, generation, numbers, labels, sizes, reserve)?;
             Ok(handles)
         }
         // The sizes are right, so memory is missing.
@@ -338,8 +351,8 @@ fn close_one<T: Drop>(
     joined: Leaving<Joined<T>>,
     sizes: &Sizes,
 ) -> Result<Vec<T>, CloseFault>
-    requires { IsOpenedAs (opening_of sizes.now) joined }
-    ensures { IfOk result (λ left. WereLeft joined left.items) }
+    requires { IsOpenedAs (opening_of sizes.now) joined.held }
+    ensures { IfOk result (λ left. WereLeft joined.held left.items) }
 {
     let (generation, pass) = joined.into_part().into_parts();
     let Some(generation) = Arc::into_inner(generation) else {
@@ -356,8 +369,8 @@ fn close_each<T: Drop>(
     all: Vec<Leaving<Joined<T>>>,
     sizes: &Sizes,
 ) -> Result<Vec<T>, CloseFault>
-    requires { All (IsOpenedAs (opening_of sizes.now)) all.items }
-    ensures { IfOk result (λ left. ClosesEach all.items left.items) }
+    requires { All (λ p. IsOpenedAs (opening_of sizes.now) p.held) all.items }
+    ensures { IfOk result (λ left. ClosesEach (held_by all.items) left.items) }
 {
     let mut left = Vec::new(alloc);
     for joined in all {

@@ -1,21 +1,53 @@
 -- The first of the generations is looked into, and where it is empty, the others.
-use Rattle.std.proofs.Common.{◌∷◌, Some, inl, inr, refl, sym, subst, rules}
+use Rattle.std.proofs.Common.{◌∷◌, List, Some, inl, inr, refl, sym, subst, rules}
 use Rattle.kfifo_live.specs.declared.payload.Taken.TheVariants as K
-use Rattle.kfifo_live.specs.Handles.{PayHeld}
+use Rattle.kfifo_renewing.specs.Joining.{AreSameParts, IsSamePart, PartView, held_by}
 use Rattle.kfifo_renewing.specs.Renewing.{TakesFirst, TakesThere}
+use Rattle.kfifo_renewing.proofs.Joining.{same-refl}
 use Rattle.kfifo_renewing.proofs.handle.+take_first.Goals as goal
 
-pub returns-in-Empty : goal.returns-in-Empty
-returns-in-Empty g t c =
-    let after = c.set_over.new.self in
-    let took : TakesThere K.Empty c.in_ok-generations.first.now after =
-    subst (λ (h : PayHeld g.row.T.Denot). TakesThere K.Empty c.in_ok-generations.first.now h) (sym c.set_over.ensures)
-    (subst (λ t. TakesThere t c.in_ok-generations.first.now c.take_here.new.self) c.in-Empty.is c.take_here.ensures) in
-    subst (λ l. TakesFirst c.take_first.result l (after ∷ c.take_first.new.generations)) (sym c.in_ok-generations.ensures.cases.0)
-    (after, c.take_first.new.generations, refl, inl (took, c.take_first.ensures))
+pub set_over-requires : goal.set_over-requires
+set_over-requires g t c over =
+    let old = c.in_ok-generations.first.now in
+    let new = c.take_here.new.self in (
+      old.held,
+      new.held,
+      sym c.take_here.ensures.same.2.0,
+      subst (λ t. TakesThere t old.held new.held) c.in-Empty.is c.take_here.ensures.takes,
+    )
 
-pub returns-in_default : goal.returns-in_default
-returns-in_default g t c =
-    subst (λ l. TakesFirst (Some c.take_here.result) l (c.take_here.new.self ∷ c.in_ok-generations.rest.now))
+pub returns-in-Empty-clause-same : goal.returns-in-Empty-clause-same
+returns-in-Empty-clause-same g t c =
+    let T = g.row.T.Denot in
+    let after = c.set_over.new.self in
+    let same : IsSamePart c.in_ok-generations.first.now after =
+    subst (λ (p : PartView T). IsSamePart c.in_ok-generations.first.now p) (sym c.set_over.ensures) c.take_here.ensures.same in
+    subst (λ l. AreSameParts l (after ∷ c.take_first.new.generations)) (sym c.in_ok-generations.ensures.cases.0)
+    (after, c.take_first.new.generations, refl, same, c.take_first.ensures.same)
+
+pub returns-in-Empty-clause-takes : goal.returns-in-Empty-clause-takes
+returns-in-Empty-clause-takes g t c =
+    let T = g.row.T.Denot in
+    let after = c.set_over.new.self in
+    let took : TakesThere K.Empty c.in_ok-generations.first.now.held after.held =
+    subst (λ (p : PartView T). TakesThere K.Empty c.in_ok-generations.first.now.held p.held) (sym c.set_over.ensures)
+    (subst (λ t. TakesThere t c.in_ok-generations.first.now.held c.take_here.new.self.held) c.in-Empty.is c.take_here.ensures.takes) in
+    subst (λ (l : List (PartView T)). TakesFirst c.take_first.result (held_by l) (held_by (after ∷ c.take_first.new.generations)))
     (sym c.in_ok-generations.ensures.cases.0)
-    (c.take_here.new.self, c.in_ok-generations.rest.now, refl, inr (c.take_here.result, refl, search rules, c.take_here.ensures, refl))
+    (after.held, held_by c.take_first.new.generations, refl, inl (took, c.take_first.ensures.takes))
+
+pub returns-in_default-clause-same : goal.returns-in_default-clause-same
+returns-in_default-clause-same g t c =
+    subst (λ l. AreSameParts l (c.take_here.new.self ∷ c.in_ok-generations.rest.now)) (sym c.in_ok-generations.ensures.cases.0)
+    (c.take_here.new.self, c.in_ok-generations.rest.now, refl, c.take_here.ensures.same, same-refl c.in_ok-generations.rest.now)
+
+pub returns-in_default-clause-takes : goal.returns-in_default-clause-takes
+returns-in_default-clause-takes g t c =
+    let T = g.row.T.Denot in
+    subst (λ (l : List (PartView T)). TakesFirst (Some c.take_here.result) (held_by l) (held_by (c.take_here.new.self ∷ c.in_ok-generations.rest.now)))
+    (sym c.in_ok-generations.ensures.cases.0) (
+      c.take_here.new.self.held,
+      held_by c.in_ok-generations.rest.now,
+      refl,
+      inr (c.take_here.result, refl, search rules, c.take_here.ensures.takes, refl),
+    )

@@ -1,13 +1,14 @@
 -- The generations of the last handle are closed.
 use Rattle.std.proofs.Common.{All, List, sym, ap, ◌∙◌, subst}
 use Rattle.kfifo_live.specs.Handles.{PayHeld}
+use Rattle.kfifo_renewing.specs.Joining.{PartView}
 use Rattle.kfifo_renewing.specs.Renewing.{ClosesEach, IsOpenedAs, opening_of}
 use Rattle.kfifo_renewing.specs.declared.generation.Sizes.{Sizes}
 use Rattle.kfifo_renewing.specs.declared.places.Lineage.{Lineage}
 use Rattle.kfifo_renewing.proofs.queue.close.Goals as goal
 
 pub close_each-requires : goal.close_each-requires
-close_each-requires g c = subst (λ (sizes : Sizes). All (IsOpenedAs (opening_of sizes)) c.in_ok-shared.all.items)
+close_each-requires g c = subst (λ (sizes : Sizes). All (λ (p : PartView g.row.T.Denot). IsOpenedAs (opening_of sizes) p.held) c.in_ok-shared.all.items)
     (sym (c.sizes-sizes.ensures ∙ ap (λ (l : Lineage). l.sizes) c.in-Some-into_inner.ensures)) c.in_ok-shared.ensures.of
 
 pub returns : goal.returns
@@ -19,6 +20,7 @@ returns g c = (
     c.generations.new.self,
     c.generations.ensures.follows,
     c.in-Some-generations.ensures.newest,
+    c.generations.ensures.all,
     subst (λ (hs : List (PayHeld g.row.T.Denot)). ClosesEach hs c.in_ok-left.left.items) c.in_ok-shared.ensures.joined
         c.in_ok-left.ensures,
   ),

@@ -1,5 +1,5 @@
 use Rattle.std.proofs.Common.{◌≡◌, ◌++◌, All, List}
-use Rattle.kfifo_live.specs.Handles.{PayHeld}
+use Rattle.kfifo_renewing.specs.Joining.{PartView, held_by}
 use Rattle.kfifo_renewing.specs.Renewing.{ClosesEach, IsOpenedAs, opening_of}
 use Rattle.kfifo_renewing.proofs.queue.close_each.Given as goal
 
@@ -7,7 +7,7 @@ use Rattle.kfifo_renewing.proofs.queue.close_each.Given as goal
 abbrev pub invariant-loop-joined : goal.invariant-loop-joined
 invariant-loop-joined g l = record {
   same : l.sizes ≡ l.fn.sizes;
-  rest : All (IsOpenedAs (opening_of l.fn.sizes)) l.joined-iterator.rest.items;
-  left : (done : List (PayHeld g.row.T.Denot)) × (l.fn.all.items ≡ done ++ l.joined-iterator.rest.items)
-      × ClosesEach done l.left.items;
+  rest : All (λ (p : PartView g.row.T.Denot). IsOpenedAs (opening_of l.fn.sizes) p.held) l.joined-iterator.rest.items;
+  left : (done : List (PartView g.row.T.Denot)) × (l.fn.all.items ≡ done ++ l.joined-iterator.rest.items)
+      × ClosesEach (held_by done) l.left.items;
 }

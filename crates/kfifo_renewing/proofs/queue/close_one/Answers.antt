@@ -1,9 +1,9 @@
 -- The queue is closed by the pass of the handle, and those of all other threads.
 use Rattle.std.proofs.Common.{◌≡◌, All, sym, ap, ◌∙◌, subst}
-use Rattle.kfifo_live.specs.Handles.{PayHeld}
 use Rattle.kfifo_live.specs.Pass.{IsPassOf, OpenQueue}
 use Rattle.kfifo_live.specs.Payloads.{PayCloses, PayPassView}
 use Rattle.kfifo_live.specs.declared.view.Opening.{Opening}
+use Rattle.kfifo_renewing.specs.Joining.{PartView}
 use Rattle.kfifo_renewing.specs.Renewing.{Numbered, other_threads}
 use Rattle.kfifo_renewing.proofs.queue.close_one.Goals as goal
 
@@ -14,11 +14,11 @@ close_with-requires-clause-others g c =
 
 pub returns : goal.returns
 returns g c =
-    let h = c.args.joined in
+    let h = c.args.joined.held in
     let q = c.in_ok-queue.queue in
     let others = c.in_ok-queue.others.items in
     let pass_is : c.into_parts-generation.result.1 ≡ h.pass =
-    c.into_parts-generation.ensures.pass ∙ ap (λ (j : PayHeld g.row.T.Denot). j.pass) c.into_part.ensures in
+    c.into_parts-generation.ensures.pass ∙ ap (λ (p : PartView g.row.T.Denot). p.held.pass) c.into_part.ensures in
     let of : IsPassOf q h.pass.pass = subst (λ (p : PayPassView g.row.T.Denot). IsPassOf q p.pass) pass_is
     (subst (λ (o : OpenQueue). IsPassOf o c.into_parts-generation.result.1.pass)
     (sym (c.in_ok-queue.ensures.queue ∙ ap (λ (v : Numbered). v.queue) c.in-Some.ensures)) c.into_parts-generation.ensures.of) in

@@ -1,22 +1,26 @@
 -- A handle leaves what is gone, and then joins what is new.
 use Rattle.std.proofs.Common.{ap, ◌∙◌, subst, true, ◌≡◌}
 use Rattle.kfifo_live.specs.Handles.{PayHeld}
-use Rattle.kfifo_renewing.specs.Renewing.{Generations, IsPartOf, with_newest, with_older}
-use Rattle.kfifo_renewing.proofs.Following.{both-before, follows-less, follows-trans, later-older}
+use Rattle.kfifo_renewing.specs.Joining.{PartView}
+use Rattle.kfifo_renewing.specs.Renewing.{Generations, IsLater, IsPartOf, with_newest, with_older, with_seen}
+use Rattle.kfifo_renewing.proofs.Following.{both-before, follows-less, follows-seen, follows-trans}
 use Rattle.kfifo_renewing.proofs.handle.RenewingHandle.follow.Goals as goal
 
 pub loop-init : goal.loop-init
 loop-init g c =
     let T = g.row.T.Denot in
     let old = c.args.self.now in
-    let new = c.leave_gone.new.self in
-    let before = ap (λ (h : Generations T). with_newest h c.stop_giving.new.self) c.self.view_is
-    ∙ ap (λ (h : PayHeld T). with_newest old h) (c.stop_giving.ensures ∙ ap (λ (h : Generations T). h.newest) c.self.view_is) in
-    let same : new ≡ with_older old new.older = subst (λ (h : Generations T). new ≡ with_older h new.older) before
-    c.leave_gone.ensures.same in
-    follows-less old new (later-older old new new.older same)
-    (subst (λ (h : Generations T). IsPartOf new.older h.older) before c.leave_gone.ensures.older)
-    (ap (λ (h : Generations T). h.newest) same)
+    let mid = c.leave_gone.new.self in
+    let before = ap (λ (h : Generations T). with_newest h c.stop_giving.new.self.held) c.self.view_is
+    ∙ ap (λ (h : PayHeld T). with_newest old h) (ap (λ (p : PartView T). p.held) c.stop_giving.ensures
+    ∙ ap (λ (h : Generations T). h.newest) c.self.view_is) in
+    let later : IsLater old mid = subst (λ (h : Generations T). IsLater h mid) before c.leave_gone.ensures.later in
+    let same : mid ≡ with_older (with_seen old mid.seen) mid.older =
+    subst (λ (h : Generations T). mid ≡ with_older (with_seen h mid.seen) mid.older) before c.leave_gone.ensures.same in
+    let first = follows-less old mid later (subst (λ (h : Generations T). IsPartOf mid.older h.older) before c.leave_gone.ensures.older)
+    (ap (λ (h : Generations T). h.newest) same) in
+    follows-trans old mid c.retire_others.new.self first
+    (follows-seen mid c.retire_others.new.self c.retire_others.new.self.seen c.retire_others.ensures.same c.retire_others.ensures.later)
 
 pub loop-preserved : goal.loop-preserved
 loop-preserved g c =
@@ -27,6 +31,7 @@ returns-then-try_to_follow g c = record {
   follows = follows-trans c.args.self.now c.loop.self c.try_to_follow.new.self c.loop.invariant c.try_to_follow.ensures.follows;
   newest = both-before c.args.self.now c.loop.self c.try_to_follow.new.self c.loop.invariant.0.seen true
       c.if-try_to_follow.ensures.newest;
+  all = c.if-try_to_follow.ensures.all;
 }
 
 pub returns : goal.returns
@@ -35,4 +40,5 @@ returns g c =
       follows = follows-trans c.args.self.now c.loop.self new c.loop.invariant c.try_to_follow-2.ensures.follows;
       newest = both-before c.args.self.now c.loop.self new c.loop.invariant.0.seen c.try_to_follow-2.result
           c.try_to_follow-2.ensures.newest;
+      all = c.try_to_follow-2.ensures.all;
     }

@@ -5,6 +5,7 @@ use Rattle.kfifo_live.specs.Handles.{PayHeld, PicksUpAndGives}
 use Rattle.kfifo_live.specs.Pass.{IsSamePass}
 use Rattle.kfifo_renewing.specs.History.{Finds}
 use Rattle.kfifo_renewing.specs.Renewing.{Generations, GivesToNewest, Numbered, opening_of, TriesAgain, TriesToGive, with_newest, with_seen}
+use Rattle.kfifo_renewing.proofs.Joining.{numbered-by}
 use Rattle.kfifo_renewing.proofs.Following.{Looked, joins-after, looked-follows, same-but-seen}
 use Rattle.kfifo_renewing.proofs.Giving.{gave-here, gives-after, worn-back}
 use Rattle.kfifo_renewing.proofs.handle.RenewingHandle.give.Goals as goal
@@ -21,7 +22,7 @@ invariant_of-self-then-look-ne0 g c = joins-after (opening_of c.self.inside.shar
     c.look.result c.self.invariant (subst
     (λ k. Finds c.self.inside.thread k c.look.result c.self.inside.history.log c.look.new.history.log)
     (c.next.ensures.0 ∙ ap (λ (v : Numbered). v.number) c.deref-generation.ensures) c.look.ensures.finds)
-    c.look.ensures.book (refl, refl, refl)
+    c.look.ensures.book (refl, refl, (refl, refl, refl))
 
 pub returns-then-look-ne0 : goal.returns-then-look-ne0
 returns-then-look-ne0 g c =
@@ -34,8 +35,12 @@ returns-then-look-ne0 g c =
     let finds = subst (λ k. Finds c.self.inside.thread k found log new)
     (c.next.ensures.0 ∙ ap (λ (v : Numbered). v.number) c.deref-generation.ensures) c.look.ensures.finds in
     let now = c.args.self.now in
-    let looked = subst (Looked found new) c.self.view_is (finds, i.3) in
-    let h = c.self.inside.newest in
+    let looked = subst (Looked found new) c.self.view_is (
+      finds,
+      numbered-by (opening_of c.self.inside.shared.value.sizes) c.self.inside.shared.value.history.book c.self.inside.history.book
+          log c.self.inside.generation.value c.self.inside.newest c.self.inside.older.items i,
+    ) in
+    let h = c.self.inside.newest.held in
     let r = c.give_late-then-look-ne0.result in
     let end = c.give_late-then-look-ne0.new.self in
     let is = same-but-seen new h now (ap (λ (v : Generations T). v.opened) c.self.view_is)
@@ -45,6 +50,42 @@ returns-then-look-ne0 g c =
     let here = is ∙ ap (λ (x : PayHeld T). with_newest (with_seen now new) x) (ap (λ (v : Generations T). v.newest) c.self.view_is) in
     gives-after c.args.payload r now (with_seen now new) end (looked-follows found new now looked)
     (subst (λ (v : Generations T). GivesToNewest c.args.payload r v end) here c.give_late-then-look-ne0.ensures)
+
+pub invariant_of-self-then-lacks_token : goal.invariant_of-self-then-lacks_token
+invariant_of-self-then-lacks_token g c = joins-after (opening_of c.self.inside.shared.value.sizes) c.self.inside.shared.value.history.book
+    c.self.inside.history.book c.look.new.history.book c.self.inside.history.log c.look.new.history.log
+    c.self.inside.generation.value c.self.inside.newest c.self.inside.newest c.self.inside.older.items c.self.inside.thread
+    c.look.result c.self.invariant (subst
+    (λ k. Finds c.self.inside.thread k c.look.result c.self.inside.history.log c.look.new.history.log)
+    (c.next.ensures.0 ∙ ap (λ (v : Numbered). v.number) c.deref-generation.ensures) c.look.ensures.finds)
+    c.look.ensures.book (refl, refl, (refl, refl, refl))
+
+pub returns-then-lacks_token : goal.returns-then-lacks_token
+returns-then-lacks_token g c =
+    let T = g.row.T.Denot in
+    let i = c.self.invariant in
+    let log = c.self.inside.history.log in
+    let new = c.look.new.history.log in
+    let n = c.self.inside.generation.value.number in
+    let found = c.look.result in
+    let finds = subst (λ k. Finds c.self.inside.thread k found log new)
+    (c.next.ensures.0 ∙ ap (λ (v : Numbered). v.number) c.deref-generation.ensures) c.look.ensures.finds in
+    let now = c.args.self.now in
+    let looked = subst (Looked found new) c.self.view_is (
+      finds,
+      numbered-by (opening_of c.self.inside.shared.value.sizes) c.self.inside.shared.value.history.book c.self.inside.history.book
+          log c.self.inside.generation.value c.self.inside.newest c.self.inside.older.items i,
+    ) in
+    let h = c.self.inside.newest.held in
+    let r = c.give_late-then-lacks_token.result in
+    let end = c.give_late-then-lacks_token.new.self in
+    let is = same-but-seen new h now (ap (λ (v : Generations T). v.opened) c.self.view_is)
+    (ap (λ (v : Generations T). v.thread) c.self.view_is)
+    (c.look.ensures.book ∙ ap (λ (v : Generations T). v.book) c.self.view_is)
+    (ap (λ (v : Generations T). v.older) c.self.view_is) (ap (λ (v : Generations T). v.number) c.self.view_is) in
+    let here = is ∙ ap (λ (x : PayHeld T). with_newest (with_seen now new) x) (ap (λ (v : Generations T). v.newest) c.self.view_is) in
+    gives-after c.args.payload r now (with_seen now new) end (looked-follows found new now looked)
+    (subst (λ (v : Generations T). GivesToNewest c.args.payload r v end) here c.give_late-then-lacks_token.ensures)
 
 pub invariant_of-self-in-Worn : goal.invariant_of-self-in-Worn
 invariant_of-self-in-Worn g c = joins-after (opening_of c.self.inside.shared.value.sizes) c.self.inside.shared.value.history.book
@@ -75,10 +116,14 @@ returns-in-Worn g c =
     let finds = subst (λ k. Finds c.self.inside.thread k found log new)
     (c.next.ensures.0 ∙ ap (λ (v : Numbered). v.number) c.deref-generation.ensures) c.look.ensures.finds in
     let now = c.args.self.now in
-    let looked = subst (Looked found new) c.self.view_is (finds, i.3) in
-    let h = c.give.new.self in
+    let looked = subst (Looked found new) c.self.view_is (
+      finds,
+      numbered-by (opening_of c.self.inside.shared.value.sizes) c.self.inside.shared.value.history.book c.self.inside.history.book
+          log c.self.inside.generation.value c.self.inside.newest c.self.inside.older.items i,
+    ) in
+    let h = c.give.new.self.held in
     let none : found ≡ 0 = c.if-look-ne0.false in
-    let same = subst (λ (v : Generations T). IsSamePass v.newest.pass.pass h.pass.pass) c.self.view_is c.give.ensures.same in
+    let same = subst (λ (v : Generations T). IsSamePass v.newest.pass.pass h.pass.pass) c.self.view_is c.give.ensures.same.2 in
     let is = same-but-seen new h now (ap (λ (v : Generations T). v.opened) c.self.view_is)
     (ap (λ (v : Generations T). v.thread) c.self.view_is)
     (c.look.ensures.book ∙ ap (λ (v : Generations T). v.book) c.self.view_is)
@@ -108,10 +153,14 @@ returns-in_default g c =
     let finds = subst (λ k. Finds c.self.inside.thread k found log new)
     (c.next.ensures.0 ∙ ap (λ (v : Numbered). v.number) c.deref-generation.ensures) c.look.ensures.finds in
     let now = c.args.self.now in
-    let looked = subst (Looked found new) c.self.view_is (finds, i.3) in
-    let h = c.give.new.self in
+    let looked = subst (Looked found new) c.self.view_is (
+      finds,
+      numbered-by (opening_of c.self.inside.shared.value.sizes) c.self.inside.shared.value.history.book c.self.inside.history.book
+          log c.self.inside.generation.value c.self.inside.newest c.self.inside.older.items i,
+    ) in
+    let h = c.give.new.self.held in
     let none : found ≡ 0 = c.if-look-ne0.false in
-    let same = subst (λ (v : Generations T). IsSamePass v.newest.pass.pass h.pass.pass) c.self.view_is c.give.ensures.same in
+    let same = subst (λ (v : Generations T). IsSamePass v.newest.pass.pass h.pass.pass) c.self.view_is c.give.ensures.same.2 in
     let is = same-but-seen new h now (ap (λ (v : Generations T). v.opened) c.self.view_is)
     (ap (λ (v : Generations T). v.thread) c.self.view_is)
     (c.look.ensures.book ∙ ap (λ (v : Generations T). v.book) c.self.view_is)

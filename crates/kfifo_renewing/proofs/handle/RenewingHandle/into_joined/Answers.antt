@@ -1,11 +1,19 @@
-use Rattle.std.proofs.Common.{All, sym, subst}
+use Rattle.std.proofs.Common.{All, [], ◌∷◌, sym, ap, ◌∙◌, subst}
+use Rattle.std.proofs.lemmas.List.{map-append}
 use Rattle.std.proofs.lemmas.List.Elements.{All-push}
-use Rattle.kfifo_live.specs.Handles.{PayHeld}
-use Rattle.kfifo_renewing.specs.Renewing.{IsOpenedAs, opening_of}
+use Rattle.kfifo_renewing.specs.Joining.{PartView, held_by}
+use Rattle.kfifo_renewing.specs.Renewing.{Generations, IsOpenedAs, all_of, opening_of}
 use Rattle.kfifo_renewing.proofs.handle.RenewingHandle.into_joined.Goals as goal
+
+pub returns-clause-joined : goal.returns-clause-joined
+returns-clause-joined g c =
+    let T = g.row.T.Denot in
+    ap held_by c.in_ok-push.ensures.items
+    ∙ map-append (λ (p : PartView T). p.held) c.self.inside.older.items (c.self.inside.newest ∷ [])
+    ∙ ap (λ (v : Generations T). all_of v) c.self.view_is
 
 pub returns-clause-of : goal.returns-clause-of
 returns-clause-of g c =
-    let P : PayHeld g.row.T.Denot → Type 0 = IsOpenedAs (opening_of c.self.inside.shared.value.sizes) in
+    let P : PartView g.row.T.Denot → Type 0 = λ (p : PartView g.row.T.Denot). IsOpenedAs (opening_of c.self.inside.shared.value.sizes) p.held in
     subst (All P) (sym c.in_ok-push.ensures.items)
-    (All-push P c.self.inside.older.items c.self.inside.newest c.self.invariant.1 c.self.invariant.0)
+    (All-push P c.self.inside.older.items c.self.inside.newest c.self.invariant.older_opened c.self.invariant.newest_opened)

@@ -3,6 +3,8 @@ use mathlib.Core.List.{IsPrefix}
 use Rattle.kfifo_renewing.specs.History.{Finds}
 use Rattle.kfifo_renewing.specs.Renewing.{Generations, Numbered, opening_of}
 use Rattle.kfifo_renewing.proofs.Histories.{made-later, risen-from}
+use Rattle.kfifo_renewing.specs.Joining.{held_by}
+use Rattle.kfifo_renewing.proofs.Joining.{has-all, numbered-by}
 use Rattle.kfifo_renewing.proofs.Following.{found-or-newest, joins-after, was-prefix}
 use Rattle.kfifo_renewing.proofs.handle.RenewingHandle.is_behind.Goals as goal
 
@@ -13,7 +15,7 @@ invariant_of-self g c = joins-after (opening_of c.self.inside.shared.value.sizes
     c.look-found.result c.self.invariant (subst
     (λ k. Finds c.self.inside.thread k c.look-found.result c.self.inside.history.log c.look-found.new.history.log)
     (c.next.ensures.0 ∙ ap (λ (v : Numbered). v.number) c.deref.ensures) c.look-found.ensures.finds)
-    c.look-found.ensures.book (refl, refl, refl)
+    c.look-found.ensures.book (refl, refl, (refl, refl, refl))
 
 pub returns-clause-later : goal.returns-clause-later
 returns-clause-later g c =
@@ -36,7 +38,27 @@ returns-clause-newest g c =
     let number = c.next.ensures.0 ∙ ap (λ (v : Numbered). v.number) c.deref.ensures in
     let found = subst (λ l. Finds c.self.inside.thread n c.look-found.result l log) seen
     (subst (λ k. Finds c.self.inside.thread k c.look-found.result c.self.inside.history.log log) number c.look-found.ensures.finds) in
-    found-or-newest c.look-found.result n c.self.inside.thread c.args.self.now.seen log c.self.inside.newest.pass.pass.table
-    found (made-later c.self.inside.history.log log n c.self.inside.newest.pass.pass.table
+    found-or-newest c.look-found.result n c.self.inside.thread c.args.self.now.seen log c.self.inside.newest.held.pass.pass.table
+    found (made-later c.self.inside.history.log log n c.self.inside.newest.held.pass.pass.table
     (was-prefix c.self.inside.thread c.look-found.ensures.finds.number c.self.inside.history.log log c.look-found.ensures.finds.was)
-    c.self.invariant.3) (nat_eq c.look-found.result 0) refl
+    (numbered-by (opening_of c.self.inside.shared.value.sizes) c.self.inside.shared.value.history.book c.self.inside.history.book
+    c.self.inside.history.log c.self.inside.generation.value c.self.inside.newest c.self.inside.older.items c.self.invariant)) (nat_eq c.look-found.result 0) refl
+
+pub returns-clause-all : goal.returns-clause-all
+returns-clause-all g c =
+    let T = g.row.T.Denot in
+    let s = c.self.inside in
+    has-all (opening_of s.shared.value.sizes) s.shared.value.history.book c.look-found.new.history.book s.generation.value s.newest
+    s.older.items (record {
+      opened = opening_of s.shared.value.sizes;
+      thread = s.thread;
+      book = c.look-found.new.history.book;
+      seen = c.look-found.new.history.log;
+      older = held_by s.older.items;
+      newest = s.newest.held;
+      number = s.generation.value.number;
+    }) (joins-after (opening_of s.shared.value.sizes) s.shared.value.history.book s.history.book
+    c.look-found.new.history.book s.history.log c.look-found.new.history.log s.generation.value s.newest s.newest s.older.items s.thread
+    c.look-found.result c.self.invariant (subst (λ k. Finds s.thread k c.look-found.result s.history.log c.look-found.new.history.log)
+    (c.next.ensures.0 ∙ ap (λ (v : Numbered). v.number) c.deref.ensures) c.look-found.ensures.finds)
+    c.look-found.ensures.book (refl, refl, (refl, refl, refl))) refl refl refl

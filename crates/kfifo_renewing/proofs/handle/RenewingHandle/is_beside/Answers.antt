@@ -1,8 +1,9 @@
 -- What both have seen begins what the two know together.
 use Rattle.std.proofs.Common.{ap, ◌∙◌, subst}
 use mathlib.Core.List.{IsPrefix}
-use Rattle.kfifo_renewing.specs.Renewing.{Generations, IsNumbered}
+use Rattle.kfifo_renewing.specs.Renewing.{Generations, IsNumbered, opening_of}
 use Rattle.kfifo_renewing.proofs.Histories.{made-once}
+use Rattle.kfifo_renewing.proofs.Joining.{numbered-by}
 use Rattle.kfifo_renewing.proofs.handle.RenewingHandle.is_beside.Goals as goal
 
 pub returns-clause-same : goal.returns-clause-same
@@ -15,5 +16,7 @@ returns-clause-same g c =
     (ap (λ h. h.log) c.again-history.ensures ∙ ap (λ (v : Generations T). v.seen) c.self.view_is) c.learn.ensures.2 in
     let second = subst (λ l. IsPrefix l log) (ap (λ (v : Generations T). v.seen) c.other.view_is) c.learn.ensures.3 in
     made-once a.seen b.seen log a.number b.number a.newest.pass.pass.table b.newest.pass.pass.table first second
-    (subst (λ (v : Generations T). IsNumbered v) c.self.view_is c.self.invariant.3)
-    (subst (λ (v : Generations T). IsNumbered v) c.other.view_is c.other.invariant.3)
+    (subst (λ (v : Generations T). IsNumbered v) c.self.view_is (numbered-by (opening_of c.self.inside.shared.value.sizes) c.self.inside.shared.value.history.book c.self.inside.history.book
+    c.self.inside.history.log c.self.inside.generation.value c.self.inside.newest c.self.inside.older.items c.self.invariant))
+    (subst (λ (v : Generations T). IsNumbered v) c.other.view_is (numbered-by (opening_of c.other.inside.shared.value.sizes) c.other.inside.shared.value.history.book c.other.inside.history.book
+    c.other.inside.history.log c.other.inside.generation.value c.other.inside.newest c.other.inside.older.items c.other.invariant))

@@ -1,8 +1,9 @@
 -- The handle looks, and then looks how far others have come.
-use Rattle.std.proofs.Common.{ap, ◌∙◌, subst, sym}
+use Rattle.std.proofs.Common.{ap, ◌∙◌, subst}
 use mathlib.Core.List.{IsPrefix}
-use Rattle.kfifo_renewing.specs.Renewing.{Generations}
-use Rattle.kfifo_renewing.proofs.Histories.{made-later, prefix-trans, risen-from, was-later}
+use Rattle.kfifo_renewing.specs.Renewing.{Generations, opening_of}
+use Rattle.kfifo_renewing.proofs.Histories.{prefix-trans, risen-from}
+use Rattle.kfifo_renewing.proofs.Joining.{joined-later}
 use Rattle.kfifo_renewing.proofs.Following.{was-prefix}
 use Rattle.kfifo_renewing.proofs.handle.RenewingHandle.latest.Goals as goal
 
@@ -12,19 +13,11 @@ invariant_of-self g c =
     let log = c.self.inside.history.log in
     let mid = c.look-found.new.history.log in
     let new = c.newest.new.history.log in
-    let n = c.self.inside.generation.value.number in
     let finds = c.look-found.ensures.finds in
     let more = prefix-trans log mid new (was-prefix c.self.inside.thread finds.number log mid finds.was) c.newest.ensures.later.1 in
-    let book = c.newest.ensures.later.0 ∙ c.look-found.ensures.book in (
-      i.0,
-      i.1,
-      book ∙ i.2,
-      made-later log new n c.self.inside.newest.pass.pass.table more i.3,
-      was-later log new n more i.4,
-      c.newest.ensures.risen,
-      i.6,
-      i.7 ∙ sym book,
-    )
+    joined-later (opening_of c.self.inside.shared.value.sizes) c.self.inside.shared.value.history.book c.self.inside.history.book
+    c.newest.new.history.book log new c.self.inside.generation.value c.self.inside.newest c.self.inside.older.items i
+    (c.newest.ensures.later.0 ∙ c.look-found.ensures.book) more c.newest.ensures.risen
 
 pub returns-clause-later : goal.returns-clause-later
 returns-clause-later g c =

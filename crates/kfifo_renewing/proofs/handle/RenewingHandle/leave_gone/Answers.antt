@@ -1,8 +1,14 @@
--- A generation that is gone is left, and the others stay.
-use Rattle.std.proofs.Common.{sym, ap, subst}
-use Rattle.kfifo_renewing.specs.Renewing.{Generations, IsOpenedAs, IsPartOf, opening_of}
-use Rattle.kfifo_renewing.proofs.Following.{same-but-older}
-use Rattle.kfifo_renewing.proofs.Parts.{all-without, part-refl, part-trans, part-without}
+-- A generation that has gone is left, and the others stay.
+use Rattle.std.proofs.Common.{◌≡◌, [], Some, slice_get, arith, refl, sym, ap, ◌∙◌, subst}
+use Rattle.std.proofs.lemmas.List.{append-nil}
+use Rattle.kfifo_renewing.specs.History.{HasLeft, IsPlaced}
+use Rattle.kfifo_renewing.specs.Joining.{held_by}
+use Rattle.kfifo_renewing.specs.Renewing.{Generations, IsPartOf, opening_of}
+use Rattle.kfifo_renewing.proofs.Histories.{prefix-trans}
+use Rattle.kfifo_renewing.proofs.Keeping.{kept-risen}
+use Rattle.kfifo_renewing.proofs.Joining.{get-at, held-less, joined-later, joined-less, part-at}
+use Rattle.kfifo_renewing.proofs.Following.{later-by, same-but-both}
+use Rattle.kfifo_renewing.proofs.Parts.{part-refl, part-trans}
 use Rattle.kfifo_renewing.proofs.handle.RenewingHandle.leave_gone.Goals as goal
 
 pub loop-index-init : goal.loop-index-init
@@ -11,47 +17,66 @@ loop-index-init g c =
       opened = ap (λ (h : Generations T). h.opened) c.self.view_is;
       thread = ap (λ (h : Generations T). h.thread) c.self.view_is;
       book = ap (λ (h : Generations T). h.book) c.self.view_is;
-      seen = ap (λ (h : Generations T). h.seen) c.self.view_is;
+      more = ([], append-nil c.args.self.now.seen ∙ sym (ap (λ (h : Generations T). h.seen) c.self.view_is));
       newest = ap (λ (h : Generations T). h.newest) c.self.view_is;
       number = ap (λ (h : Generations T). h.number) c.self.view_is;
-      older = subst (IsPartOf c.self.inside.older.items) (ap (λ (h : Generations T). h.older) c.self.view_is)
-          (part-refl c.self.inside.older.items);
-      of_newest = c.self.invariant.0;
-      of_older = c.self.invariant.1;
-      same_book = c.self.invariant.2;
-      made = c.self.invariant.3;
-      was = c.self.invariant.4;
-      risen = c.self.invariant.5;
-      of = c.self.invariant.6;
-      books = c.self.invariant.7;
+      older = subst (IsPartOf (held_by c.self.inside.older.items)) (ap (λ (h : Generations T). h.older) c.self.view_is)
+          (part-refl (held_by c.self.inside.older.items));
+      joined = c.self.invariant;
+    }
+
+pub loop-index-preserved-then-has : goal.loop-index-preserved-then-has
+loop-index-preserved-then-has g c =
+    let i = c.loop-index.invariant in
+    let s = c.loop-index.self-inside in
+    let has = c.has.ensures in
+    let new = c.has.new.history.log in record {
+      opened = i.opened;
+      thread = i.thread;
+      book = has.later.0 ∙ i.book;
+      more = prefix-trans c.args.self.now.seen s.history.log new i.more has.later.1;
+      newest = i.newest;
+      number = i.number;
+      older = i.older;
+      joined = joined-later (opening_of s.shared.value.sizes) s.shared.value.history.book s.history.book c.has.new.history.book
+          s.history.log new s.generation.value s.newest s.older.items i.joined has.later.0 has.later.1
+          (kept-risen has.kept.0 new has.kept.1);
     }
 
 pub loop-index-preserved : goal.loop-index-preserved
 loop-index-preserved g c =
     let i = c.loop-index.invariant in
-    let olders = c.loop-index.self-inside.older.items in
+    let s = c.loop-index.self-inside in
+    let o = opening_of s.shared.value.sizes in
+    let has = c.has.ensures in
+    let new = c.has.new.history.log in
+    let p = c.index-joined.result.now in
     let without = c.remove-gone.ensures.by_index.2 in
-    record {
+    let at : slice_get s.older.items c.loop-index.index ≡ Some p = get-at s.older.items c.loop-index.index p p (omega (arith, c.loop-index-test.true, c.len.ensures, s.older.ok.0)) c.index-joined.ensures in
+    let left : HasLeft new p.number = subst (HasLeft new) c.number.ensures
+    (c.if-has.ensures.finds (subst (λ k. IsPlaced s.history.log c.number.result k) (sym c.place.ensures)
+    (subst (λ n. IsPlaced s.history.log n p.place) (sym c.number.ensures) (part-at s.history.log s.older.items c.loop-index.index p i.joined.older_parts at).placed))) in
+    let then = joined-later o s.shared.value.history.book s.history.book c.has.new.history.book s.history.log new s.generation.value
+    s.newest s.older.items i.joined has.later.0 has.later.1 (kept-risen has.kept.0 new has.kept.1) in record {
       opened = i.opened;
       thread = i.thread;
-      book = i.book;
-      seen = i.seen;
+      book = has.later.0 ∙ i.book;
+      more = prefix-trans c.args.self.now.seen s.history.log new i.more has.later.1;
       newest = i.newest;
       number = i.number;
-      older = part-trans c.remove-gone.new.self.items olders c.args.self.now.older
-          (subst (λ l. IsPartOf l olders) (sym without) (part-without olders c.loop-index.index)) i.older;
-      of_newest = i.of_newest;
-      of_older = all-without (IsOpenedAs (opening_of c.loop-index.self-inside.shared.value.sizes)) olders
-          c.remove-gone.new.self.items c.loop-index.index without i.of_older;
-      same_book = i.same_book;
-      made = i.made;
-      was = i.was;
-      risen = i.risen;
-      of = i.of;
-      books = i.books;
+      older = part-trans (held_by c.remove-gone.new.self.items) (held_by s.older.items) c.args.self.now.older
+          (held-less s.older.items c.remove-gone.new.self.items c.loop-index.index without) i.older;
+      joined = joined-less o s.shared.value.history.book c.has.new.history.book new has.kept.0 s.generation.value s.newest s.older.items
+          c.remove-gone.new.self.items c.loop-index.index p then without at has.kept.1 left;
     }
 
 pub returns-clause-same : goal.returns-clause-same
 returns-clause-same g c =
     let i = c.loop-index.invariant in
-    same-but-older c.loop-index.self-inside.older.items c.args.self.now i.opened i.thread i.book i.seen i.newest i.number
+    let s = c.loop-index.self-inside in
+    same-but-both (held_by s.older.items) s.history.log c.args.self.now i.opened i.thread i.book i.newest i.number
+
+pub returns-clause-later : goal.returns-clause-later
+returns-clause-later g c =
+    let i = c.loop-index.invariant in
+    later-by c.args.self.now _ c.args.self.now.seen i.opened i.thread i.book refl i.more i.joined.risen

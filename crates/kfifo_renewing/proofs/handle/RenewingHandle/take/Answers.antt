@@ -5,6 +5,8 @@ use Rattle.kfifo_live.specs.declared.payload.Taken.TheVariants as K
 use Rattle.kfifo_live.specs.Handles.{PayHeld}
 use Rattle.kfifo_renewing.specs.History.{Finds}
 use Rattle.kfifo_renewing.specs.Renewing.{Generations, IsLater, LooksAgain, Numbered, opening_of, TakesFromOldest, TakesThere, with_newest, with_seen}
+use Rattle.kfifo_renewing.specs.Joining.{held_by}
+use Rattle.kfifo_renewing.proofs.Joining.{has-all, numbered-by}
 use Rattle.kfifo_renewing.proofs.Following.{Looked, joins-after, looked-follows, same-but-seen}
 use Rattle.kfifo_renewing.proofs.Looking.{takes-from-after, took-other, took-some}
 use Rattle.kfifo_renewing.proofs.handle.RenewingHandle.take.Goals as goal
@@ -16,7 +18,7 @@ invariant_of-self g c = joins-after (opening_of c.self.inside.shared.value.sizes
     c.look-later.result c.self.invariant (subst
     (λ k. Finds c.self.inside.thread k c.look-later.result c.self.inside.history.log c.look-later.new.history.log)
     (c.next.ensures.0 ∙ ap (λ (v : Numbered). v.number) c.deref-generation.ensures) c.look-later.ensures.finds)
-    c.look-later.ensures.book (refl, refl, refl)
+    c.look-later.ensures.book (refl, refl, (refl, refl, refl))
 
 pub returns-then-later-len-ne0 : goal.returns-then-later-len-ne0
 returns-then-later-len-ne0 g c =
@@ -29,8 +31,12 @@ returns-then-later-len-ne0 g c =
     let finds = subst (λ k. Finds c.self.inside.thread k found log new)
     (c.next.ensures.0 ∙ ap (λ (v : Numbered). v.number) c.deref-generation.ensures) c.look-later.ensures.finds in
     let now = c.args.self.now in
-    let looked = subst (Looked found new) c.self.view_is (finds, i.3) in
-    let h = c.self.inside.newest in
+    let looked = subst (Looked found new) c.self.view_is (
+      finds,
+      numbered-by (opening_of c.self.inside.shared.value.sizes) c.self.inside.shared.value.history.book c.self.inside.history.book
+          log c.self.inside.generation.value c.self.inside.newest c.self.inside.older.items i,
+    ) in
+    let h = c.self.inside.newest.held in
     let r = c.take_late.result in
     let end = c.take_late.new.self in
     let is = same-but-seen new h now (ap (λ (v : Generations T). v.opened) c.self.view_is)
@@ -70,17 +76,28 @@ returns-in-Got g c =
     let finds = subst (λ k. Finds c.self.inside.thread k found log new)
     (c.next.ensures.0 ∙ ap (λ (v : Numbered). v.number) c.deref-generation.ensures) c.look-later.ensures.finds in
     let now = c.args.self.now in
-    let looked = subst (Looked found new) c.self.view_is (finds, i.3) in
-    let h = c.take.new.self in
+    let looked = subst (Looked found new) c.self.view_is (
+      finds,
+      numbered-by (opening_of c.self.inside.shared.value.sizes) c.self.inside.shared.value.history.book c.self.inside.history.book
+          log c.self.inside.generation.value c.self.inside.newest c.self.inside.older.items i,
+    ) in
+    let h = c.take.new.self.held in
     let none : found ≡ 0 = omega (arith, c.if-later-len-ne0.false) in
     let alone = sym (ap (λ (v : Generations T). v.older) c.self.view_is)
-    ∙ nil_from_length c.self.inside.older.items (omega (arith, c.if-later-len-ne0.false, c.len.ensures, c.self.inside.older.ok.0)) in
-    let takes = subst (λ (v : Generations T). TakesThere c.take.result v.newest h) c.self.view_is c.take.ensures in
+    ∙ ap held_by (nil_from_length c.self.inside.older.items (omega (arith, c.if-later-len-ne0.false, c.len.ensures, c.self.inside.older.ok.0))) in
+    let all = has-all (opening_of c.self.inside.shared.value.sizes) c.self.inside.shared.value.history.book c.look-later.new.history.book
+    c.self.inside.generation.value c.self.inside.newest c.self.inside.older.items (with_seen now new)
+    (joins-after (opening_of c.self.inside.shared.value.sizes) c.self.inside.shared.value.history.book c.self.inside.history.book
+    c.look-later.new.history.book log new c.self.inside.generation.value c.self.inside.newest c.self.inside.newest c.self.inside.older.items
+    c.self.inside.thread found i finds c.look-later.ensures.book (refl, refl, (refl, refl, refl)))
+    (ap (λ (v : Generations T). v.older) c.self.view_is) (ap (λ (v : Generations T). v.newest) c.self.view_is)
+    (ap (λ (v : Generations T). v.number) c.self.view_is) in
+    let takes = subst (λ (v : Generations T). TakesThere c.take.result v.newest h) c.self.view_is c.take.ensures.takes in
     let is = same-but-seen new h now (ap (λ (v : Generations T). v.opened) c.self.view_is)
     (ap (λ (v : Generations T). v.thread) c.self.view_is)
     (c.look-later.ensures.book ∙ ap (λ (v : Generations T). v.book) c.self.view_is)
     (ap (λ (v : Generations T). v.older) c.self.view_is) (ap (λ (v : Generations T). v.number) c.self.view_is) in
-    subst (λ (v : Generations T). TakesFromOldest (K.Got c.in-Got.payload) now v) (sym is) (took-some (K.Got c.in-Got.payload) now found new h looked none alone
+    subst (λ (v : Generations T). TakesFromOldest (K.Got c.in-Got.payload) now v) (sym is) (took-some (K.Got c.in-Got.payload) now found new h looked none all alone
     (subst (λ a. TakesThere a now.newest h) c.in-Got.is takes) (λ same. absurd cc))
 
 pub returns-in_default : goal.returns-in_default
@@ -94,19 +111,30 @@ returns-in_default g c =
     let finds = subst (λ k. Finds c.self.inside.thread k found log new)
     (c.next.ensures.0 ∙ ap (λ (v : Numbered). v.number) c.deref-generation.ensures) c.look-later.ensures.finds in
     let now = c.args.self.now in
-    let looked = subst (Looked found new) c.self.view_is (finds, i.3) in
-    let h = c.take.new.self in
+    let looked = subst (Looked found new) c.self.view_is (
+      finds,
+      numbered-by (opening_of c.self.inside.shared.value.sizes) c.self.inside.shared.value.history.book c.self.inside.history.book
+          log c.self.inside.generation.value c.self.inside.newest c.self.inside.older.items i,
+    ) in
+    let h = c.take.new.self.held in
     let none : found ≡ 0 = omega (arith, c.if-later-len-ne0.false) in
     let alone = sym (ap (λ (v : Generations T). v.older) c.self.view_is)
-    ∙ nil_from_length c.self.inside.older.items (omega (arith, c.if-later-len-ne0.false, c.len.ensures, c.self.inside.older.ok.0)) in
-    let takes = subst (λ (v : Generations T). TakesThere c.take.result v.newest h) c.self.view_is c.take.ensures in
+    ∙ ap held_by (nil_from_length c.self.inside.older.items (omega (arith, c.if-later-len-ne0.false, c.len.ensures, c.self.inside.older.ok.0))) in
+    let all = has-all (opening_of c.self.inside.shared.value.sizes) c.self.inside.shared.value.history.book c.look-later.new.history.book
+    c.self.inside.generation.value c.self.inside.newest c.self.inside.older.items (with_seen now new)
+    (joins-after (opening_of c.self.inside.shared.value.sizes) c.self.inside.shared.value.history.book c.self.inside.history.book
+    c.look-later.new.history.book log new c.self.inside.generation.value c.self.inside.newest c.self.inside.newest c.self.inside.older.items
+    c.self.inside.thread found i finds c.look-later.ensures.book (refl, refl, (refl, refl, refl)))
+    (ap (λ (v : Generations T). v.older) c.self.view_is) (ap (λ (v : Generations T). v.newest) c.self.view_is)
+    (ap (λ (v : Generations T). v.number) c.self.view_is) in
+    let takes = subst (λ (v : Generations T). TakesThere c.take.result v.newest h) c.self.view_is c.take.ensures.takes in
     let is = same-but-seen new h now (ap (λ (v : Generations T). v.opened) c.self.view_is)
     (ap (λ (v : Generations T). v.thread) c.self.view_is)
     (c.look-later.ensures.book ∙ ap (λ (v : Generations T). v.book) c.self.view_is)
     (ap (λ (v : Generations T). v.older) c.self.view_is) (ap (λ (v : Generations T). v.number) c.self.view_is) in
     let end = c.look_again.new.self in
     let r = c.look_again.result in
-    took-other c.take.result r now end found new h looked none alone takes
+    took-other c.take.result r now end found new h looked none all alone takes
     (subst (λ (v : Generations T). end ≡ with_seen v end.seen) is c.look_again.ensures.same)
     (subst (λ (v : Generations T). IsLater v end) is c.look_again.ensures.later)
     (subst (λ (v : Generations T). LooksAgain c.take.result r v end) is c.look_again.ensures.looks)

@@ -8,4 +8,4 @@ returns-then-not-keep_up g c =
 
 pub returns : goal.returns
 returns g c =
-    (c.keep_up.new.self, c.keep_up.ensures.follows, inl (c.if-not-keep_up.ensures.newest, c.take_oldest.ensures))
+    (c.keep_up.new.self, c.keep_up.ensures.follows, inl (c.if-not-keep_up.ensures.newest, c.keep_up.ensures.all, c.take_oldest.ensures))

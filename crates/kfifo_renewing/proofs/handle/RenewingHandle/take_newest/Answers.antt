@@ -10,7 +10,7 @@ returns g c =
     let T = g.row.T.Denot in
     let now = c.args.self.now in
     let new = c.look_again.new.self in
-    let h = c.take-taken.new.self in
+    let h = c.take-taken.new.self.held in
     let e = ap (λ (v : Generations T). with_newest v h) c.self.view_is in
     let same = c.look_again.ensures.same in
     let newest = ap (λ (v : Generations T). v.newest) same in record {
@@ -22,7 +22,7 @@ returns g c =
       takes = record {
         taken = c.take-taken.result;
         takes = subst (λ (x : PayHeld T). TakesThere c.take-taken.result now.newest x) (sym newest)
-            (subst (λ (v : Generations T). TakesThere c.take-taken.result v.newest h) c.self.view_is c.take-taken.ensures);
+            (subst (λ (v : Generations T). TakesThere c.take-taken.result v.newest h) c.self.view_is c.take-taken.ensures.takes);
         then = subst (λ (v : Generations T). LooksAgain c.take-taken.result c.look_again.result v new) e c.look_again.ensures.looks;
       };
     }

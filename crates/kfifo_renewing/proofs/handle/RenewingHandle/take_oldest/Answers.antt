@@ -1,8 +1,7 @@
 -- Each older generation was found empty, so the newest one is next.
 use Rattle.std.proofs.Common.{None, ap, inr, refl, sym, subst, ◌∙◌}
 use Rattle.kfifo_renewing.specs.Renewing.{Generations, IsPartOf}
-use Rattle.kfifo_renewing.proofs.Following.{later-older, later-trans}
-use Rattle.kfifo_renewing.proofs.Looking.{takes-after}
+use Rattle.kfifo_renewing.proofs.Following.{later-trans}
 use Rattle.kfifo_renewing.proofs.handle.RenewingHandle.take_oldest.Goals as goal
 
 pub returns-in-None : goal.returns-in-None
@@ -12,11 +11,19 @@ returns-in-None g c =
     let mid = c.take_older.new.self in
     let t = c.in-None.ensures.takes in
     record {
-      later = later-trans old mid c.take_newest.new.self (later-older old mid mid.older c.take_older.ensures.same) c.take_newest.ensures.later;
+      later = later-trans old mid c.take_newest.new.self c.take_older.ensures.later c.take_newest.ensures.later;
       number = c.take_newest.ensures.same.1 ∙ ap (λ (h : Generations T). h.number) c.take_older.ensures.same;
       found = None;
       looked = t.0;
       older = t.1;
       left = subst (λ hs. IsPartOf hs t.0) (sym c.take_newest.ensures.same.0) t.2;
-      newest = inr (refl, takes-after c.take_newest.result old mid c.take_newest.new.self mid.older c.take_older.ensures.same c.take_newest.ensures.takes);
+      newest = inr (
+        refl,
+        (
+          mid,
+          c.take_older.ensures.later,
+          ap (λ (h : Generations T). h.newest) c.take_older.ensures.same,
+          c.take_newest.ensures.takes,
+        ),
+      );
     }

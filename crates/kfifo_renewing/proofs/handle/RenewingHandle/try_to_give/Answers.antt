@@ -17,9 +17,9 @@ returns g c =
       inl (
         c.if-not-keep_up.ensures.newest,
         record {
-          others = ap (λ (h : Generations g.row.T.Denot). with_newest h c.give.new.self) c.self.view_is;
-          same = subst (λ (h : PayHeld g.row.T.Denot). IsSamePass h.pass.pass c.give.new.self.pass.pass) newest c.give.ensures.same;
-          gives = subst (λ (h : PayHeld g.row.T.Denot). PicksUpAndGives c.args.payload c.give.result h c.give.new.self) newest
+          others = ap (λ (h : Generations g.row.T.Denot). with_newest h c.give.new.self.held) c.self.view_is;
+          same = subst (λ (h : PayHeld g.row.T.Denot). IsSamePass h.pass.pass c.give.new.self.held.pass.pass) newest c.give.ensures.same.2;
+          gives = subst (λ (h : PayHeld g.row.T.Denot). PicksUpAndGives c.args.payload c.give.result h c.give.new.self.held) newest
               c.give.ensures.gives;
           promise = c.give.ensures.promise;
         },

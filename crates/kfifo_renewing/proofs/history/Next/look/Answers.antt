@@ -1,6 +1,6 @@
 use Rattle.std.proofs.Common.{sym, ap, ◌∙◌, subst}
 use Rattle.kfifo_renewing.specs.History.{Finds, NextView, WasNewest}
-use Rattle.kfifo_renewing.proofs.Histories.{looks-moves}
+use Rattle.kfifo_renewing.proofs.Keeping.{looks-moves}
 use Rattle.kfifo_renewing.proofs.history.Next.look.Goals as goal
 
 pub load-requires : goal.load-requires

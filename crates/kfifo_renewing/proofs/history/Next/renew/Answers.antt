@@ -1,6 +1,7 @@
 use Rattle.std.proofs.Common.{◌<◌, sym, ap, ◌∙◌, subst}
+use Rattle.kfifo_renewing.specs.declared.change.Change.TheVariants as C
 use Rattle.kfifo_renewing.specs.History.{NextView, WasNewest}
-use Rattle.kfifo_renewing.proofs.Histories.{renews-moves}
+use Rattle.kfifo_renewing.proofs.Keeping.{renews-moves}
 use Rattle.kfifo_renewing.proofs.history.Next.renew.Goals as goal
 
 pub compare_exchange-found-requires : goal.compare_exchange-found-requires
@@ -9,13 +10,14 @@ compare_exchange-found-requires c =
     let offer = c.plain-offer.ensures in
     let book = ap (λ (v : NextView). v.book) c.self.view_is in
     let number = ap (λ (v : NextView). v.number) c.self.view_is in
-    let log = c.args.history.now.log in (
+    let log = c.args.history.now.log in
+    let there = c.requires.there in (
       ap (λ w. w.tracked) h,
       c.requires.books.0 ∙ sym book,
       c.requires.books.1 ∙ sym book,
       offer.0,
       rw (ap (λ w. w.key) h, c.requires.pen, offer.3, c.from.ensures)
-          (renews-moves log c.self.inside.number c.args.number c.args.number c.requires.made.0
+          (renews-moves log c.self.inside.number c.args.number there.0 (C.Look c.args.number)
           (subst (WasNewest log) (sym number) c.requires.newest)
-          (subst (λ n. n < c.args.number) (sym number) c.requires.later) c.requires.made.1),
+          (subst (λ n. n < c.args.number) (sym number) c.requires.later) there.1 there.2),
     )

@@ -1,0 +1,78 @@
+-- The generation that was the newest is then among the older ones, and behind it those up to the one that is joined.
+use Rattle.std.proofs.Common.{◌≡◌, ◌<◌, ◌∷◌, [], ◌++◌, All, arith, sym, ap, ◌∙◌, subst}
+use Rattle.std.proofs.lemmas.List.{append-nil, map-append}
+use mathlib.Core.List.{IsPrefix}
+use Rattle.kfifo_live.specs.Pass.{IsPassOf}
+use Rattle.kfifo_renewing.specs.History.{WasNewest, newest_of}
+use Rattle.kfifo_renewing.specs.Joining.{AreAmong, IsPart, PartView, held_by}
+use Rattle.kfifo_renewing.specs.Renewing.{Generations, IsOpenedAs, IsPartOf, opening_of}
+use Rattle.kfifo_renewing.proofs.Histories.{risen-from}
+use Rattle.kfifo_renewing.proofs.Joining.{all-moved, among-later, joined-more, part-later, parts-later}
+use Rattle.kfifo_renewing.proofs.Keeping.{kept-risen}
+use Rattle.kfifo_renewing.proofs.Following.{follows-jump, follows-less}
+use Rattle.kfifo_renewing.proofs.Parts.{part-refl}
+use Rattle.kfifo_renewing.proofs.handle.RenewingHandle.join.Goals as goal
+
+pub invariant_of-self-2 : goal.invariant_of-self-2
+invariant_of-self-2 g c =
+    let T = g.row.T.Denot in
+    let s = c.self.inside in
+    let v = sym c.self.view_is in
+    let o = opening_of s.shared.value.sizes in
+    let log = c.learn.new.self.log in
+    let seen = c.args.history.now.log in
+    let next = c.args.generation.value in
+    let k = c.replace-before.new.dest in
+    let after = sym c.replace-before.ensures.after in
+    joined-more o s.shared.value.history.book s.history.book c.learn.new.self.book s.history.log log c.learn.ensures.4.0
+    s.generation.value next s.newest k s.older.items c.args.between.items c.append.new.self.items c.self.invariant c.learn.ensures.0
+    c.learn.ensures.2 c.learn.ensures.4.1 (kept-risen c.learn.ensures.4.0 log c.learn.ensures.4.1)
+    (subst (λ (x : Generations T). next.book ≡ x.book) v c.requires.books.1)
+    (subst (λ (p : PartView T). IsOpenedAs o p.held) after (subst (λ (x : Generations T). IsOpenedAs x.opened c.args.newest.held) v c.requires.of.0))
+    (subst (λ (p : PartView T). IsPassOf next.queue p.held.pass.pass) after c.requires.of.1)
+    (subst (λ (p : PartView T). p.number ≡ next.number) after c.requires.part.0)
+    (subst (IsPart log) after (part-later seen log c.args.newest c.learn.ensures.3 c.requires.part.1))
+    (subst (λ (x : Generations T). x.number < next.number) v c.requires.later)
+    (subst (λ (x : Generations T). WasNewest x.seen next.number) v c.requires.was)
+    (subst (λ (x : Generations T). All (λ (p : PartView T). IsOpenedAs x.opened p.held) c.args.between.items) v c.requires.opened)
+    (parts-later seen log c.args.between.items c.learn.ensures.3 c.requires.parts)
+    c.requires.below
+    (among-later s.generation.value.number next.number c.args.between.items s.history.log seen log c.learn.ensures.3
+    (subst (λ (x : Generations T). AreAmong x.number next.number c.args.between.items x.seen seen) v c.requires.all))
+    (all-moved c.append.result c.append.new.self.items c.push_reserved.new.self.items c.reserve.new.self.items s.older.items
+    c.args.between.items s.newest c.replace-before.result c.append.ensures.items (c.append.ensures.succeeds (omega (arith, c.in-Ok.ensures.ok, c.len.ensures, c.in-Some.ensures, c.reserve.ensures.len, c.push_reserved.ensures.len, c.push_reserved.ensures.capacity)))
+    c.push_reserved.ensures.items c.replace-before.ensures.value c.reserve.ensures.items)
+
+pub returns : goal.returns
+returns g c =
+    let T = g.row.T.Denot in
+    let s = c.self.inside in
+    let view_is = c.self.view_is in
+    let seen = ap (λ (h : Generations T). h.seen) view_is in
+    let more = subst (λ l. IsPrefix l c.learn.new.self.log) seen c.learn.ensures.2 in
+    follows-jump c.args.self.now _ (held_by c.args.between.items) (record {
+      opened = ap (λ (h : Generations T). h.opened) view_is;
+      thread = ap (λ (h : Generations T). h.thread) view_is;
+      book = c.learn.ensures.0 ∙ ap (λ (h : Generations T). h.book) view_is;
+      seen = more;
+      risen = risen-from c.args.self.now.seen c.learn.new.self.log more (kept-risen c.learn.ensures.4.0 c.learn.new.self.log c.learn.ensures.4.1);
+    }) (ap held_by (all-moved c.append.result c.append.new.self.items c.push_reserved.new.self.items c.reserve.new.self.items s.older.items
+    c.args.between.items s.newest c.replace-before.result c.append.ensures.items (c.append.ensures.succeeds (omega (arith, c.in-Ok.ensures.ok, c.len.ensures, c.in-Some.ensures, c.reserve.ensures.len, c.push_reserved.ensures.len, c.push_reserved.ensures.capacity)))
+    c.push_reserved.ensures.items c.replace-before.ensures.value c.reserve.ensures.items)
+    ∙ map-append (λ (p : PartView T). p.held) (s.older.items ++ s.newest ∷ []) c.args.between.items
+    ∙ ap (λ l. l ++ held_by c.args.between.items) (map-append (λ (p : PartView T). p.held) s.older.items (s.newest ∷ [])
+    ∙ ap (λ (h : Generations T). h.older ++ h.newest ∷ []) view_is))
+
+pub returns-in_default-reserve : goal.returns-in_default-reserve
+returns-in_default-reserve g c =
+    let T = g.row.T.Denot in
+    let view_is = c.self.view_is in
+    let older = ap held_by c.reserve.ensures.items ∙ ap (λ (h : Generations T). h.older) view_is in
+    follows-less c.args.self.now _ (record {
+      opened = ap (λ (h : Generations T). h.opened) view_is;
+      thread = ap (λ (h : Generations T). h.thread) view_is;
+      book = ap (λ (h : Generations T). h.book) view_is;
+      seen = ([], append-nil c.args.self.now.seen ∙ sym (ap (λ (h : Generations T). h.seen) view_is));
+      risen = omega (arith, ap (λ (h : Generations T). newest_of h.seen) view_is);
+    }) (subst (IsPartOf (held_by c.reserve.new.self.items)) older (part-refl (held_by c.reserve.new.self.items)))
+    (ap (λ (h : Generations T). h.newest) view_is)

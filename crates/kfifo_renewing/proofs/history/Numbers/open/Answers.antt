@@ -1,0 +1,6 @@
+-- The rule of a queue with one generation holds at first.
+use Rattle.kfifo_renewing.proofs.Keeping.{kept_first}
+use Rattle.kfifo_renewing.proofs.history.Numbers.open.Goals as goal
+
+pub open_row-history-requires : goal.open_row-history-requires
+open_row-history-requires g c = (kept_first c.args.queue.now.table, λ xs. tt, c.alone.ensures.1)

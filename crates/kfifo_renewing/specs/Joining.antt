@@ -1,0 +1,76 @@
+-- What a handle of a renewing queue has joined: parts in generations.
+use Rattle.std.specs.Prelude.{◌≡◌, ◌⊎◌, ◌<◌, ℕ, List, [], ◌∷◌, All, map}
+use Rattle.std.specs.List.{Contains}
+use Rattle.atomic_table.specs.Seated.{TableId}
+use Rattle.logbook.specs.Pages.{Book}
+use Rattle.kfifo_live.specs.declared.payload.Taken.TheVariants as K
+use Rattle.kfifo_live.specs.Handles.{PayHeld}
+use Rattle.kfifo_live.specs.Pass.{IsPassOf, IsSamePass}
+use Rattle.kfifo_live.specs.declared.view.Opening.{Opening}
+use Rattle.kfifo_renewing.specs.History.{HasLeft, HasRisen, IsGone, IsMade, IsPlaced, WasNewest, place_count}
+use Rattle.kfifo_renewing.specs.Renewing.{IsOpenedAs, Numbered, TakesThere}
+use Rattle.kfifo_renewing.specs.declared.change.Change.{Change}
+
+-- a part in a generation: the handle there, and the number and the place of the generation
+pub record PartView (T : Type 0) : Type 0 where
+  pub held : PayHeld T
+  pub number : ℕ
+  pub place : ℕ
+
+-- a take of a payload of this type found the queue with this table empty
+abbrev pub FoundEmpty : Type 0 → TableId → Type 0
+FoundEmpty T table = (before : PayHeld T) × (after : PayHeld T) × (before.pass.pass.table ≡ table) × TakesThere K.Empty before after
+
+-- a take of a payload of this type found the generation with this number empty
+abbrev pub WasFoundEmpty : Type 0 → List Change → ℕ → Type 0
+WasFoundEmpty T log n = (table : TableId) × IsMade log n table × FoundEmpty T table
+
+module _ {T : Type 0} where
+  -- the generation of a part has its number and its place in the history
+  pub record IsPart (log : List Change) (p : PartView T) : Type 0 where
+    pub made : IsMade log p.number p.held.pass.pass.table
+    pub inside : p.place < place_count
+    pub placed : IsPlaced log p.number p.place
+
+  -- a part in the same generation, with the same pass
+  abbrev pub IsSamePart : PartView T → PartView T → Type 0
+  IsSamePart old new = (new.number ≡ old.number) × (new.place ≡ old.place) × IsSamePass old.held.pass.pass new.held.pass.pass
+
+  -- parts in the same generations, in the same order
+  abbrev pub AreSameParts : List (PartView T) → List (PartView T) → Type 0
+  AreSameParts [] new = new ≡ []
+  AreSameParts (p ∷ ps) new = (q : PartView T) × (qs : List (PartView T)) × (new ≡ q ∷ qs) × IsSamePart p q × AreSameParts ps qs
+
+  -- the handles of these parts
+  abbrev pub held_by : List (PartView T) → List (PayHeld T)
+  held_by = map (λ p. p.held)
+
+  -- one of these parts is in the generation with this number
+  abbrev pub HasNumber : List (PartView T) → ℕ → Type 0
+  HasNumber parts n = (p : PartView T) × Contains parts p × (p.number ≡ n)
+
+  -- Each generation that was the newest has left its place, or one of these parts is in it: of those between these
+  -- numbers, and as two beginnings of the history tell
+  abbrev pub AreAmong : ℕ → ℕ → List (PartView T) → List Change → List Change → Type 0
+  AreAmong first end parts old new = (n : ℕ) → first < n → n < end → WasNewest old n → HasLeft new n ⊎ HasNumber parts n
+
+  -- each generation that was the newest before this one has gone, or one of these parts is in it
+  abbrev pub HasOlder : List Change → List (PartView T) → ℕ → Type 0
+  HasOlder log older number = (n : ℕ) → WasNewest log n → n < number → IsGone log n ⊎ HasNumber older n
+
+  -- What holds of a handle: of the opening of its queue, the book of that and its own, what it has seen, its newest
+  -- generation, and its parts
+  pub record HasJoined (o : Opening) (shared book : Book) (log : List Change) (g : Numbered) (newest : PartView T) (older : List (PartView T))
+      : Type 0 where
+    pub newest_opened : IsOpenedAs o newest.held
+    pub older_opened : All (λ p. IsOpenedAs o p.held) older
+    pub same_book : book ≡ shared
+    pub books : g.book ≡ book
+    pub of : IsPassOf g.queue newest.held.pass.pass
+    pub number : newest.number ≡ g.number
+    pub was : WasNewest log g.number
+    pub risen : HasRisen log
+    pub newest_part : IsPart log newest
+    pub older_parts : All (IsPart log) older
+    pub below : All (λ p. p.number < g.number) older
+    pub all : HasOlder log older g.number

@@ -1,0 +1,160 @@
+//! The words of the places in which generations are.
+ghost use Rattle.std.specs.Prelude.{◌≡◌, ◌<◌, ◌≤◌, ◌+◌, ◌^◌, ℕ, suc, List, IfOk, Some, true};
+ghost use mathlib.Core.List.{IsPrefix};
+ghost use Rattle.logbook.specs.Pages.{Cell, may_make_home, may_write, nib};
+ghost use Rattle.kfifo_renewing.specs.History.{AreLabels, FindsThere, HasLeft, IsKept, IsPlaced, key_of, label_of, newest_of, place_count};
+
+use crate::change::Change;
+use crate::history::{History, HistoryRule, Leaving, Looking, LookingThere, NoGain, Placing};
+use logbook::{Offer, Pen, Pens, Word};
+use std::alloc::{AllocError, Global};
+use std::marker::Model;
+
+/// How many places a queue has labels for: enough for 64 threads.
+pub(crate) const PLACES: u32 = 130;
+
+/// What a place says of the generation that is in it: one more than its number, and 0 where there is none.
+///
+/// Clauses see the place, and the book that has the word.
+#[derive(Drop)]
+pub(crate) struct Label {
+    place: u32,
+    word: Word<Change, u64, HistoryRule>,
+}
+
+impl Model for Label {
+    ghost use Rattle.std.specs.Prelude.{◌≡◌, ◌<◌};
+    ghost use Rattle.kfifo_renewing.specs.History.{LabelView, label_of, place_count, word_of};
+
+    ghost Value = { LabelView };
+
+    ghost view = { λ l. record { place = l.place; book = l.word.book } };
+
+    ghost invariant = { λ l. (l.word ≡ word_of l.word.book (label_of l.place)) × (l.place < place_count) };
+}
+
+impl Label {
+    /// The label of this place, which the pen may make. No generation is there.
+    pub(crate) fn new(place: u32, pen: &mut Pen) -> Label
+        requires place { place < place_count }
+        requires pen { pen.old.nib ≡ nib may_make_home (label_of place) 0 }
+        ensures { (result.place ≡ place) × (result.book ≡ pen.old.book) }
+    {
+        let word = Word::tracked(0, pen);
+        Label { place, word }
+    }
+
+    /// The number of the generation that is in the place, as one load finds it.
+    pub(crate) fn look(&self, history: &mut History) -> Option<u32>
+        requires { history.old.book ≡ self.now.book }
+        ensures later { (history.new.book ≡ history.old.book) × IsPrefix history.old.log history.new.log }
+        ensures finds { FindsThere self.now.place result history.old.log history.new.log }
+        ensures kept { (cells : List Cell) × IsKept cells history.new.log }
+    {
+        let mut offer: Offer<Change, u64, HistoryRule, NoGain> = history.plain::<
+            NoGain,
+            u32,
+            Looking,
+        >(&self.place);
+        let found = self.word.load::<LookingThere, NoGain>(history, &mut offer);
+        number_in(found)
+    }
+
+    /// Puts the generation with this number into the place, if none is there. Returns whether it did.
+    pub(crate) fn put(&self, number: u32, history: &mut History) -> bool
+        requires { history.old.book ≡ self.now.book }
+        ensures later { (history.new.book ≡ history.old.book) × IsPrefix history.old.log history.new.log }
+        ensures there { result ≡ true → IsPlaced history.new.log number self.now.place }
+    {
+        let mut offer: Offer<Change, u64, HistoryRule, NoGain> = history.plain::<
+            NoGain,
+            u32,
+            Looking,
+        >(&number);
+        let mut pen = history.no_pen();
+        let found = self
+            .word
+            .compare_exchange::<Placing, NoGain>(
+                0,
+                u64::from(number) + 1,
+                history,
+                &mut offer,
+                &mut pen,
+            );
+        found == 0
+    }
+
+    /// Takes the generation with this number, which was found empty and is the newest no more, out of the place, if no
+    /// other handle has.
+    pub(crate) fn leave(&self, number: u32, history: &mut History)
+        requires book { history.old.book ≡ self.now.book }
+        requires over { number < newest_of history.old.log }
+        ensures later { (history.new.book ≡ history.old.book) × IsPrefix history.old.log history.new.log }
+        ensures left { IsPlaced history.old.log number self.now.place → HasLeft history.new.log number }
+    {
+        let mut offer: Offer<Change, u64, HistoryRule, NoGain> = history.plain::<
+            NoGain,
+            u32,
+            Looking,
+        >(&number);
+        let mut pen = history.no_pen();
+        self.word
+            .compare_exchange::<Leaving, NoGain>(
+                u64::from(number) + 1,
+                0,
+                history,
+                &mut offer,
+                &mut pen,
+            );
+    }
+
+    /// Takes the generation with this number, which will never be the newest, out of the place. Who makes a generation
+    /// the newest needs the pen, which is used up here.
+    pub(crate) fn undo(&self, number: u32, mut pen: Pen, history: &mut History)
+        requires books { (history.old.book ≡ self.now.book) × (pen.book ≡ self.now.book) }
+        requires pen { pen.nib ≡ nib may_write (key_of number) 0 }
+        ensures later { (history.new.book ≡ history.old.book) × IsPrefix history.old.log history.new.log }
+        ensures left { IsPlaced history.old.log number self.now.place → HasLeft history.new.log number }
+    {
+        let mut offer: Offer<Change, u64, HistoryRule, NoGain> = history.plain::<
+            NoGain,
+            u32,
+            Looking,
+        >(&number);
+        self.word
+            .compare_exchange::<Leaving, NoGain>(
+                u64::from(number) + 1,
+                0,
+                history,
+                &mut offer,
+                &mut pen,
+            );
+    }
+}
+
+/// The number of the generation of which a label says this.
+fn number_in(word: u64) -> Option<u32>
+    requires { word ≤ 2 ^ 32 }
+    ensures some { (n : ℕ) → result ≡ Some n → word ≡ suc n }
+    ensures word { (n : ℕ) → word ≡ suc n → result ≡ Some n }
+{
+    if word == 0 {
+        None
+    } else {
+        Some((word - 1) as u32)
+    }
+}
+
+/// The labels of all places, which these pens may make.
+pub(crate) fn label_all(alloc: Global, pens: &mut Pens) -> Result<Vec<Label>, AllocError>
+    requires { (pens.old.next ≡ label_of 0) × (place_count ≤ pens.old.left) }
+    ensures labels { IfOk result (λ labels. AreLabels pens.old.book labels.items) }
+    ensures pens { IfOk result (λ _. (pens.new.book ≡ pens.old.book) × (pens.new.next ≡ key_of 0)
+        × (pens.new.left + place_count ≡ pens.old.left)) }
+{
+    let mut labels = Vec::with_capacity(alloc, PLACES as usize)?;
+    for place in 0..PLACES {
+        labels.push(Label::new(place, &mut pens.take()))?;
+    }
+    Ok(labels)
+}
