@@ -312,15 +312,15 @@ impl<T: Drop> Places<T> {
     /// never the newest.
     pub(crate) fn retire(&self, index: usize, number: u32, history: &mut History)
         requires book { history.old.book ≡ self.now.history.book }
+        requires inside { index < place_count }
         requires over { number < newest_of history.old.log }
         requires empty { WasNewest history.old.log number → IsGone history.old.log number ⊎ WasFoundEmpty T history.old.log number }
         ensures later { (history.new.book ≡ history.old.book) × IsPrefix history.old.log history.new.log }
+        ensures left { IsPlaced history.old.log number index → HasLeft history.new.log number }
         ensures risen { HasRisen history.new.log }
     {
         // The label goes first: who finds a label finds the generation, unless it goes meanwhile.
-        if let Some(label) = self.labels.get(index) {
-            label.leave(number, history);
-        }
+        self.labels[index].leave(number, history);
         self.empty(index, number);
         let seen = history.again();
         history.learn(&seen);
@@ -329,16 +329,16 @@ impl<T: Drop> Places<T> {
     /// Takes the generation with this number out of its place. It will never be the newest, since that needs the pen.
     pub(crate) fn undo(&self, index: usize, number: u32, pen: Pen, history: &mut History)
         requires books { (history.old.book ≡ self.now.history.book) × (pen.book ≡ self.now.history.book) }
+        requires inside { index < place_count }
         requires pen { pen.nib ≡ nib may_write (key_of number) 0 }
         ensures later { (history.new.book ≡ history.old.book) × IsPrefix history.old.log history.new.log }
+        ensures left { IsPlaced history.old.log number index → HasLeft history.new.log number }
     {
-        if let Some(label) = self.labels.get(index) {
-            label.undo(number, pen, history);
-        }
+        self.labels[index].undo(number, pen, history);
         self.empty(index, number);
     }
 
-    /// Empties a place whose label is gone, if the generation with this number is still there. Where others look at it,
+    /// Empties a place whose label says so, if the generation with this number is still there. Where others look at it,
     /// the last of them empties the place.
     fn empty(&self, index: usize, number: u32) {
         let Some(place) = self.places.get(index) else {

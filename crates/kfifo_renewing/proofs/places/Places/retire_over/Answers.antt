@@ -5,6 +5,13 @@ use Rattle.kfifo_renewing.specs.Joining.{IsPart, PartView}
 use Rattle.kfifo_renewing.proofs.Histories.{made-later, risen-from}
 use Rattle.kfifo_renewing.proofs.places.Places.retire_over.Goals as goal
 
+pub retire-requires-clause-inside : goal.retire-requires-clause-inside
+retire-requires-clause-inside g c =
+    let part : IsPart c.args.history.now.log c.part-item.result = subst (IsPart c.args.history.now.log) (sym c.part-item.is)
+    (c.requires.parts c.loop-part.part-index c.part-item.result (omega (arith, c.loop-part-test.true, c.loop-part.auto.part-index-end))) in
+    let inside = part.inside in
+    omega (arith, c.place.ensures, inside)
+
 pub retire-requires-clause-over : goal.retire-requires-clause-over
 retire-requires-clause-over g c =
     let i = c.loop-part.invariant in
