@@ -280,9 +280,10 @@ static inline kfifo_status kfifo_abandon(kfifo_pass *passes, size_t threads) {
    It does not wear out: before the versions of its words are used up, it goes on in a new *generation*, a queue of the
    same sizes. Takes empty the old one first. Where generations meet, some 2^40 calls apart, a take may pass over one
    older value more for each other handle. A generation takes as much memory as the opening did, and is freed when it is
-   empty and no handle gives to it any more. A handle that makes no calls keeps the one it is in. A give or a take asks
-   for memory only where it opens or joins a generation. Where there is none, later gives ask again; only when the
-   reserve is used up too, calls return WORN. Then close the queue to have what is left, and open another. */
+   empty and no handle gives to it any more. A handle that makes no calls keeps the one it is in, and each take of the
+   others looks into that too, which costs as much as a take of an empty queue. A take asks for no memory, and a give
+   only where it opens a generation. Where there is none, later gives ask again; only when the reserve is used up too,
+   calls return WORN. Then close the queue to have what is left, and open another. */
 
 /* Opens a queue of values with versions up to `last`, 2 to KFIFO_LAST, and a `reserve`, KFIFO_RESERVE unless you test
    something: with fewer versions left, the queue goes on in its next generation. With reserve 0 it does not, and wears
@@ -341,7 +342,7 @@ static inline kfifo_status kfifo_take_pointer(kfifo_value_pass *pass, void **poi
 
 /* Room for how many values kfifo_close_values needs: k * segments for each generation that may have some. That is one
    mostly, and more near a change, or where a handle made no calls since. 0 where these are not all handles of one
-   queue, or where there was no memory to look. */
+   queue. */
 static inline size_t kfifo_values_room(kfifo_value_pass *passes, size_t threads) {
     if (!passes || threads > KFIFO_MAX_THREADS) return 0;
     for (size_t i = 1; i < threads; i++)

@@ -333,9 +333,9 @@ template <typename T> struct TakenValue {
 // over-aligned, and needs no default constructor.
 //
 // The queue does not wear out: before the versions of its words are used up, it goes on in a new generation, as kfifo.h
-// says. Only the opening and a change of generations, after some 2^40 calls, allocate. Put::worn and Miss::worn come
-// where there was no memory for the next generation until the reserve was used up too: then close the queue, which
-// gives back what is left, and open another.
+// says. Only the opening, a close and a give that opens a generation, once in some 2^40 calls, allocate. Put::worn and
+// Miss::worn come where there was no memory for the next generation until the reserve was used up too: then close the
+// queue, which gives back what is left, and open another.
 template <typename T> class ValueQueue {
     static_assert(std::is_object_v<T> && std::is_move_constructible_v<T> && std::is_nothrow_destructible_v<T>,
                   "a value is moved or copied out of the queue, and what is left of it destroyed");

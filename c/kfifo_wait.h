@@ -16,8 +16,9 @@
       afterwards, its second look begins after the give had ended.
    2. If the giver's look comes before the announcement, the second look begins after the give had ended, too.
    3. A take that begins after a give has ended returns EMPTY only if the value was already taken: by proof EMPTY comes
-      only of a queue that was empty within the call. So nobody need be woken. Of a queue of values that is said of each
-      generation; that a take sees each of them is tested, and BUSY comes where a new one was opened meanwhile.
+      only of a queue that was empty within the call. So nobody need be woken. In a queue of values, also by proof, a
+      take that returns EMPTY found each generation empty that had not gone. That one which has gone stays empty is
+      argued and tested. BUSY comes where a new one was opened meanwhile.
 
    A look before the call, a word that is read after the second look, or no second look would break this. So would
    acquire and release alone: the giver's look and the taker's second look could then both miss.

@@ -2,7 +2,7 @@
 //!
 //! A value lies in a *cell*, which a handle has alone while it moves the value in or out. The cells are made with the
 //! queue. A queue does not wear out: before the versions of its words are used up, it goes on in its next *generation*,
-//! once in some 2^40 calls. A call of a handle allocates or frees there alone.
+//! once in some 2^40 calls. Only a push that opens it allocates, and the calls of a handle free memory there alone.
 //!
 //! The queue itself is proved, down to its atomic words, and so is whose a cell is. This crate is a wrapper around its
 //! C library and is not proved: it moves the values and drops them. Its README says what rests on what.
@@ -334,7 +334,7 @@ pub struct Handle<T> {
 
 impl<T> Handle<T> {
     /// Puts a value into the queue. What is refused hands it back. It never waits or locks, and allocates only where it
-    /// opens or joins a generation.
+    /// opens a generation.
     ///
     /// What this thread wrote before is seen by the thread that takes the value.
     ///
@@ -403,7 +403,7 @@ impl<T> Handle<T> {
         }
     }
 
-    /// Takes one of the k oldest values. It never waits or locks, and allocates only where it joins a generation.
+    /// Takes one of the k oldest values. It never waits, locks or allocates.
     ///
     /// ```
     /// let queue = kfifo::Queue::new(4, 64, 1)?;
