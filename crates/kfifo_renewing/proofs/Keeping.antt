@@ -14,8 +14,8 @@ use Rattle.logbook.specs.Pages.{Act, Away, Cell, Goes, Moves, Nib, Valid, View, 
 use Rattle.kfifo_renewing.specs.declared.change.Change.{Change}
 use Rattle.kfifo_renewing.specs.declared.change.Change.TheVariants as C
 use Rattle.kfifo_renewing.specs.declared.change.Made.{Made}
-use Rattle.kfifo_renewing.specs.History.{Finds, FindsThere, GivesNumber, HasLeft, HasRisen, Holds, IsGone, IsKept, IsPlaced, IsUndone, Leaves, Looks}
-use Rattle.kfifo_renewing.specs.History.{LooksThere, Places, Renews, TellsNext, TellsPlace, WasNewest, key_of, made, making_of, newest_of, place_count, label_of}
+use Rattle.kfifo_renewing.specs.History.{Finds, FindsThere, GivesNumber, HasLeft, HasRisen, Holds, IsGone, IsKept, IsPlaced, IsUndone, Empties, Looks}
+use Rattle.kfifo_renewing.specs.History.{LooksThere, Fills, Renews, TellsNext, TellsPlace, WasNewest, key_of, made, making_of, newest_of, place_count, label_of}
 use Rattle.kfifo_renewing.proofs.Histories.{contains-later, contains-more, get-last, left-later, made-append, newest-append, risen-from, risen-more, risen-none}
 use Rattle.kfifo_renewing.proofs.Histories.{risen-was, was-later, was-less, was-made, was-more, was-now}
 
@@ -370,7 +370,7 @@ undone-number n m e = cc
 puts-goes : (v log : List Change) (p : Nib) (n i g : ℕ) (a : Change) (labels nexts : List Cell) → length labels ≡ place_count → i < place_count
     → n < 2 ^ 32 → Holds log g labels nexts → (b : Bool) → ((cell labels i).0 == 0) ≡ b
     → Goes IsKept shown moved (label_of i) (v, (p, None)) (λ k. either (k == 0) (suc n) k)
-    (Places (step (label_of i) 0 (suc n) a) (v, (p, None))) (words-of g labels nexts) log
+    (Fills (step (label_of i) 0 (suc n) a) (v, (p, None))) (words-of g labels nexts) log
 puts-goes v log p n i g a labels nexts all inside few h true found =
     let e = C.Placed n i in
     let empty : (cell labels i).0 ≡ 0 = grind (arith, nat_tests) in
@@ -389,7 +389,7 @@ puts-goes v log p n i g a labels nexts all inside few h true found =
           (contains-more log e (C.Placed m i) is);
       small = omega (arith, few);
     } in
-    goes-by (label_of i) v p (λ k. either (k == 0) (suc n) k) (Places (step (label_of i) 0 (suc n) a) (v, (p, None)))
+    goes-by (label_of i) v p (λ k. either (k == 0) (suc n) k) (Fills (step (label_of i) 0 (suc n) a) (v, (p, None)))
     (words-of g labels nexts) (words-of g (slice_set labels i (suc n, true)) nexts) log (e ∷ []) (cell labels i) keeps
     (label-at g labels nexts i below) (rw found (set-label g labels nexts i (suc n, true) below)) tt
     (kept-of g (slice_set labels i (suc n, true)) nexts (log ++ e ∷ []) (length-set labels i (suc n, true) ∙ all)
@@ -402,18 +402,18 @@ puts-goes v log p n i g a labels nexts all inside few h true found =
     let place-is : i ≡ j = omega (arith, at) in
     subst (λ k. IsPlaced (log ++ e ∷ []) m k) place-is (subst (λ k. IsPlaced (log ++ e ∷ []) k i) number-is (Contains-push log e)))
 puts-goes v log p n i g a labels nexts all inside few h false found =
-    place-stays v log p i 0 (suc n) g labels nexts (Places (step (label_of i) 0 (suc n) a) (v, (p, None))) all inside h found
+    place-stays v log p i 0 (suc n) g labels nexts (Fills (step (label_of i) 0 (suc n) a) (v, (p, None))) all inside h found
     (λ m j number at is. absurd (let other : (cell labels i).0 ≡ 0 → ⊥ = λ same. grind (arith, nat_tests) in other is))
 
 -- a generation is put into a place, or nothing happens
 pub puts-moves : (v : List Change) (p : Nib) (n i : ℕ) (a : Change) → i < place_count → n < 2 ^ 32
     → Moves IsKept shown moved (label_of i) (v, (p, None)) (λ k. either (k == 0) (suc n) k)
-    (Places (step (label_of i) 0 (suc n) a) (v, (p, None)))
+    (Fills (step (label_of i) 0 (suc n) a) (v, (p, None)))
 puts-moves v p n i a inside few cs log kept pre away =
     let g = kept.greatest in
     let P : List Cell → Type 0 = λ c. (label_of i < length c) × ((cell c (label_of i)).1 ≡ true)
     × Goes IsKept shown moved (label_of i) (v, (p, None)) (λ k. either (k == 0) (suc n) k)
-    (Places (step (label_of i) 0 (suc n) a) (v, (p, None))) c log in
+    (Fills (step (label_of i) 0 (suc n) a) (v, (p, None))) c log in
     subst P (sym kept.words) (
       label-within g kept.labels kept.nexts i kept.all inside,
       ap (λ c. c.1) (label-at g kept.labels kept.nexts i (let all = kept.all in omega (arith, inside, all))) ∙ (kept.holds.labelled i inside).0,
@@ -438,7 +438,7 @@ empty-place g labels nexts log e n i inside h full other left = record {
 -- what a step tells that found another generation in the place, or none
 left-before : (v log : List Change) (n i g : ℕ) (a : Change) (new : ℕ) (p q : Nib) (labels nexts : List Cell) → i < place_count → IsPrefix v log
     → Holds log g labels nexts → (cell labels i).0 ≢ suc n
-    → Leaves (step (label_of i) (suc n) new a) (v, (p, None)) (cell labels i).0 (log ++ [], (q, None))
+    → Empties (step (label_of i) (suc n) new a) (v, (p, None)) (cell labels i).0 (log ++ [], (q, None))
 left-before v log n i g a new p q labels nexts inside pre h other m j number at is =
     let number-is : n ≡ m = omega (arith, number) in
     let place-is : i ≡ j = omega (arith, at) in
@@ -450,7 +450,7 @@ left-before v log n i g a new p q labels nexts inside pre h other m j number at 
 leaves-goes : (v log : List Change) (p : Nib) (n i g : ℕ) (a : Change) (labels nexts : List Cell) → length labels ≡ place_count → i < place_count
     → IsPrefix v log → n < newest_of log → Holds log g labels nexts → (b : Bool) → ((cell labels i).0 == suc n) ≡ b
     → Goes IsKept shown moved (label_of i) (v, (p, None)) (λ k. either (k == suc n) 0 k)
-    (Leaves (step (label_of i) (suc n) 0 a) (v, (p, None))) (words-of g labels nexts) log
+    (Empties (step (label_of i) (suc n) 0 a) (v, (p, None))) (words-of g labels nexts) log
 leaves-goes v log p n i g a labels nexts all inside pre over h true found =
     let e = C.Gone n in
     let full : (cell labels i).0 ≡ suc n = grind (arith, nat_tests) in
@@ -458,7 +458,7 @@ leaves-goes v log p n i g a labels nexts all inside pre over h true found =
     let same : newest_of (log ++ e ∷ []) ≡ newest_of log = newest-append 0 log (e ∷ []) in
     let left : HasLeft (log ++ e ∷ []) n = inl (Contains-push log e) in
     let here = empty-place g labels nexts log e n i inside h full (λ m is. absurd cc) left in
-    goes-by (label_of i) v p (λ k. either (k == suc n) 0 k) (Leaves (step (label_of i) (suc n) 0 a) (v, (p, None)))
+    goes-by (label_of i) v p (λ k. either (k == suc n) 0 k) (Empties (step (label_of i) (suc n) 0 a) (v, (p, None)))
     (words-of g labels nexts) (words-of g (slice_set labels i (0, true)) nexts) log (e ∷ []) (cell labels i) keeps
     (label-at g labels nexts i below) (rw found (set-label g labels nexts i (0, true) below)) tt
     (kept-of g (slice_set labels i (0, true)) nexts (log ++ e ∷ []) (length-set labels i (0, true) ∙ all)
@@ -469,18 +469,18 @@ leaves-goes v log p n i g a labels nexts all inside pre over h true found =
     (λ m j number at is. subst (HasLeft (log ++ e ∷ [])) (let number-is : n ≡ m = omega (arith, number) in number-is) left)
 leaves-goes v log p n i g a labels nexts all inside pre over h false found =
     let other : (cell labels i).0 ≢ suc n = λ same. grind (arith, nat_tests) in
-    place-stays v log p i (suc n) 0 g labels nexts (Leaves (step (label_of i) (suc n) 0 a) (v, (p, None))) all inside h found
+    place-stays v log p i (suc n) 0 g labels nexts (Empties (step (label_of i) (suc n) 0 a) (v, (p, None))) all inside h found
     (left-before v log n i g a 0 p p labels nexts inside pre h other)
 
 -- a generation that is the newest no more leaves its place, or has left it
 pub leaves-moves : (v : List Change) (p : Nib) (n i : ℕ) (a : Change) → i < place_count → n < newest_of v
     → Moves IsKept shown moved (label_of i) (v, (p, None)) (λ k. either (k == suc n) 0 k)
-    (Leaves (step (label_of i) (suc n) 0 a) (v, (p, None)))
+    (Empties (step (label_of i) (suc n) 0 a) (v, (p, None)))
 leaves-moves v p n i a inside over cs log kept pre away =
     let g = kept.greatest in
     let P : List Cell → Type 0 = λ c. (label_of i < length c) × ((cell c (label_of i)).1 ≡ true)
     × Goes IsKept shown moved (label_of i) (v, (p, None)) (λ k. either (k == suc n) 0 k)
-    (Leaves (step (label_of i) (suc n) 0 a) (v, (p, None))) c log in
+    (Empties (step (label_of i) (suc n) 0 a) (v, (p, None))) c log in
     let up = risen-from v log pre kept.holds.risen in
     subst P (sym kept.words) (
       label-within g kept.labels kept.nexts i kept.all inside,
@@ -497,7 +497,7 @@ never-newest g labels nexts log n h away was = absurd (let home = (h.told n was)
 undoes-goes : (v log : List Change) (n i g : ℕ) (a : Change) (labels nexts : List Cell) → length labels ≡ place_count → i < place_count
     → IsPrefix v log → n < length nexts → (cell nexts n).1 ≡ false → Holds log g labels nexts → (b : Bool) → ((cell labels i).0 == suc n) ≡ b
     → Goes IsKept shown moved (label_of i) (v, (nib may_write (key_of n) 0, None)) (λ k. either (k == suc n) 0 k)
-    (Leaves (step (label_of i) (suc n) 0 a) (v, (nib may_write (key_of n) 0, None))) (words-of g labels nexts) log
+    (Empties (step (label_of i) (suc n) 0 a) (v, (nib may_write (key_of n) 0, None))) (words-of g labels nexts) log
 undoes-goes v log n i g a labels nexts all inside pre below-n away h true found =
     let e = C.Undone n in
     let p = nib may_write (key_of n) 0 in
@@ -509,7 +509,7 @@ undoes-goes v log n i g a labels nexts all inside pre below-n away h true found 
     let nexts' = slice_set nexts n (0, true) in
     let never = never-newest g labels nexts log n h away in
     let all' : length (slice_set labels i (0, true)) ≡ place_count = length-set labels i (0, true) ∙ all in
-    goes-by (label_of i) v p (λ k. either (k == suc n) 0 k) (Leaves (step (label_of i) (suc n) 0 a) (v, (p, None)))
+    goes-by (label_of i) v p (λ k. either (k == suc n) 0 k) (Empties (step (label_of i) (suc n) 0 a) (v, (p, None)))
     (words-of g labels nexts) (words-of g (slice_set labels i (0, true)) nexts) log (e ∷ []) (cell labels i) gives
     (label-at g labels nexts i below) (rw found (set-label g labels nexts i (0, true) below)) refl
     (subst (λ l. IsKept l (log ++ e ∷ [])) (sym (set-next g (slice_set labels i (0, true)) nexts n (0, true) all'))
@@ -527,7 +527,7 @@ undoes-goes v log n i g a labels nexts all inside pre below-n away h true found 
 undoes-goes v log n i g a labels nexts all inside pre below-n away h false found =
     let p = nib may_write (key_of n) 0 in
     let other : (cell labels i).0 ≢ suc n = λ same. grind (arith, nat_tests) in
-    place-stays v log p i (suc n) 0 g labels nexts (Leaves (step (label_of i) (suc n) 0 a) (v, (p, None))) all inside h found
+    place-stays v log p i (suc n) 0 g labels nexts (Empties (step (label_of i) (suc n) 0 a) (v, (p, None))) all inside h found
     (left-before v log n i g a 0 p p labels nexts inside pre h other)
 
 -- the pen of a word that is not at home
@@ -541,13 +541,13 @@ away-next g labels nexts n all away =
 -- a generation that will never be the newest leaves its place, or has left it
 pub undoes-moves : (v : List Change) (n i : ℕ) (a : Change) → i < place_count
     → Moves IsKept shown moved (label_of i) (v, (nib may_write (key_of n) 0, None)) (λ k. either (k == suc n) 0 k)
-    (Leaves (step (label_of i) (suc n) 0 a) (v, (nib may_write (key_of n) 0, None)))
+    (Empties (step (label_of i) (suc n) 0 a) (v, (nib may_write (key_of n) 0, None)))
 undoes-moves v n i a inside cs log kept pre away =
     let g = kept.greatest in
     let p = nib may_write (key_of n) 0 in
     let P : List Cell → Type 0 = λ c. (label_of i < length c) × ((cell c (label_of i)).1 ≡ true)
     × Goes IsKept shown moved (label_of i) (v, (p, None)) (λ k. either (k == suc n) 0 k)
-    (Leaves (step (label_of i) (suc n) 0 a) (v, (p, None))) c log in
+    (Empties (step (label_of i) (suc n) 0 a) (v, (p, None))) c log in
     let out = away-next g kept.labels kept.nexts n kept.all (subst (Away p) kept.words away) in
     subst P (sym kept.words) (
       label-within g kept.labels kept.nexts i kept.all inside,

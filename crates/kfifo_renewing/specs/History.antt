@@ -174,9 +174,9 @@ LooksThere s v found w = (place : ℕ) → s.key ≡ label_of place
     → TellsPlace w.0 place found × IsPrefix v.0 w.0 × ((cells : List Cell) × IsKept cells w.0)
 
 -- what a step tells that puts a generation into a place: where it did, that is there
-abbrev pub Places : Step Change → View Change ℕ → ℕ → View Change ℕ → Type 0
-Places s v found w = (n place : ℕ) → s.new ≡ suc n → s.key ≡ label_of place → found ≡ s.old → IsPlaced w.0 n place
+abbrev pub Fills : Step Change → View Change ℕ → ℕ → View Change ℕ → Type 0
+Fills s v found w = (n place : ℕ) → s.new ≡ suc n → s.key ≡ label_of place → found ≡ s.old → IsPlaced w.0 n place
 
 -- what a step tells that takes a generation from its place: it has left
-abbrev pub Leaves : Step Change → View Change ℕ → ℕ → View Change ℕ → Type 0
-Leaves s v found w = (n place : ℕ) → s.old ≡ suc n → s.key ≡ label_of place → IsPlaced v.0 n place → HasLeft w.0 n
+abbrev pub Empties : Step Change → View Change ℕ → ℕ → View Change ℕ → Type 0
+Empties s v found w = (n place : ℕ) → s.old ≡ suc n → s.key ≡ label_of place → IsPlaced v.0 n place → HasLeft w.0 n

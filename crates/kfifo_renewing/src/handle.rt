@@ -460,7 +460,8 @@ impl<T: Drop> RenewingHandle<T> {
     /// Returns Done, or NoToken, Full, Busy or Worn with the payload. Busy comes where others changed the queue during
     /// the call. Worn comes only where the generation had no version left in both tries and was still the newest: memory
     /// is missing for the next one, old generations have all places, or the queue does not renew. It never waits or
-    /// locks, and allocates only where it opens or joins a generation.
+    /// locks, and allocates only where it opens a generation, or where more of them were opened during the call than the
+    /// queue has places.
     #[inline(always)]
     pub fn give(&mut self, payload: T) -> Given<T>
         ensures { GivesToNewest payload result self.old self.new }
@@ -573,10 +574,10 @@ impl<T: Drop> RenewingHandle<T> {
     /// and into the next one only where it found one empty. It leaves an older one that it found empty when nobody gave
     /// to it any more.
     ///
-    /// Returns Got with the payload; Empty where it found each generation empty, and the newest was still the newest
-    /// after that; Busy where others changed the queue during the call, or opened a generation; or Worn where a
-    /// generation used up all its versions, its reserve too. It never waits or locks, and allocates only where it joins
-    /// a generation.
+    /// Returns Got with the payload; Empty where it found each generation empty that had been the newest and had not
+    /// gone, and the newest was still the newest after that; Busy where others changed the queue during the call, or
+    /// opened a generation; or Worn where a generation used up all its versions, its reserve too. It never waits or
+    /// locks, and allocates only where more generations were opened during the call than the queue has places.
     #[inline(always)]
     pub fn take(&mut self) -> Taken<T>
         ensures { TakesFromOldest result self.old self.new }
@@ -597,7 +598,7 @@ impl<T: Drop> RenewingHandle<T> {
     /// Follows others that have opened a newer generation, and returns in how many generations the handle then is.
     ///
     /// That is 1, but for the time of a change: an older one stays until it is found empty and no handle can give to it
-    /// any more. Returns None where memory was missing, or others opened new ones all the time.
+    /// any more. Returns None where others opened new ones all the time.
     pub fn generations(&mut self) -> Option<usize>
         ensures follows { Follows self.old self.new }
         ensures count { IfSome result (λ n. n ≡ length (all_of self.new)) }

@@ -86,21 +86,21 @@ impl Play<Change, u64> for LookingThere {
 }
 
 /// A step that puts a generation into a place.
-pub struct Placing;
+pub struct Filling;
 
-impl Play<Change, u64> for Placing {
-    ghost use Rattle.kfifo_renewing.specs.History.{Places};
+impl Play<Change, u64> for Filling {
+    ghost use Rattle.kfifo_renewing.specs.History.{Fills};
 
-    ghost then = { Places };
+    ghost then = { Fills };
 }
 
 /// A step that takes a generation from its place.
-pub struct Leaving;
+pub struct Emptying;
 
-impl Play<Change, u64> for Leaving {
-    ghost use Rattle.kfifo_renewing.specs.History.{Leaves};
+impl Play<Change, u64> for Emptying {
+    ghost use Rattle.kfifo_renewing.specs.History.{Empties};
 
-    ghost then = { Leaves };
+    ghost then = { Empties };
 }
 
 /// A step that gives a queue its number as a generation.

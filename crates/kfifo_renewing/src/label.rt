@@ -1,11 +1,13 @@
 //! The words of the places in which generations are.
-ghost use Rattle.std.specs.Prelude.{◌≡◌, ◌<◌, ◌≤◌, ◌+◌, ◌^◌, ℕ, suc, List, IfOk, Some, true};
+ghost use Rattle.std.specs.Prelude.{◌≡◌, ◌<◌, ◌≤◌, ◌+◌, ◌^◌, ◌⊎◌, ℕ, suc, List, IfOk, Some, true};
 ghost use mathlib.Core.List.{IsPrefix};
 ghost use Rattle.logbook.specs.Pages.{Cell, may_make_home, may_write, nib};
-ghost use Rattle.kfifo_renewing.specs.History.{AreLabels, FindsThere, HasLeft, IsKept, IsPlaced, key_of, label_of, newest_of, place_count};
+ghost use Rattle.kfifo_renewing.specs.History.{AreLabels, FindsThere, HasLeft, IsGone, IsKept, IsPlaced, WasNewest, key_of, label_of, newest_of};
+ghost use Rattle.kfifo_renewing.specs.History.{place_count};
+ghost use Rattle.kfifo_renewing.specs.Joining.{WasFoundEmpty};
 
 use crate::change::Change;
-use crate::history::{History, HistoryRule, Leaving, Looking, LookingThere, NoGain, Placing};
+use crate::history::{Emptying, Filling, History, HistoryRule, Looking, LookingThere, NoGain};
 use logbook::{Offer, Pen, Pens, Word};
 use std::alloc::{AllocError, Global};
 use std::marker::Model;
@@ -74,7 +76,7 @@ impl Label {
         let mut pen = history.no_pen();
         let found = self
             .word
-            .compare_exchange::<Placing, NoGain>(
+            .compare_exchange::<Filling, NoGain>(
                 0,
                 u64::from(number) + 1,
                 history,
@@ -84,11 +86,12 @@ impl Label {
         found == 0
     }
 
-    /// Takes the generation with this number, which was found empty and is the newest no more, out of the place, if no
-    /// other handle has.
-    pub(crate) fn leave(&self, number: u32, history: &mut History)
+    /// Takes the generation with this number out of the place, if no other handle has. It is the newest no more, and was
+    /// found empty, or was never the newest.
+    pub(crate) fn leave<T: Drop>(&self, number: u32, history: &mut History)
         requires book { history.old.book ≡ self.now.book }
         requires over { number < newest_of history.old.log }
+        requires empty { WasNewest history.old.log number → IsGone history.old.log number ⊎ WasFoundEmpty T history.old.log number }
         ensures later { (history.new.book ≡ history.old.book) × IsPrefix history.old.log history.new.log }
         ensures left { IsPlaced history.old.log number self.now.place → HasLeft history.new.log number }
     {
@@ -99,7 +102,7 @@ impl Label {
         >(&number);
         let mut pen = history.no_pen();
         self.word
-            .compare_exchange::<Leaving, NoGain>(
+            .compare_exchange::<Emptying, NoGain>(
                 u64::from(number) + 1,
                 0,
                 history,
@@ -122,7 +125,7 @@ impl Label {
             Looking,
         >(&number);
         self.word
-            .compare_exchange::<Leaving, NoGain>(
+            .compare_exchange::<Emptying, NoGain>(
                 u64::from(number) + 1,
                 0,
                 history,

@@ -320,7 +320,7 @@ impl<T: Drop> Places<T> {
         ensures risen { HasRisen history.new.log }
     {
         // The label goes first: who finds a label finds the generation, unless it goes meanwhile.
-        self.labels[index].leave(number, history);
+        self.labels[index].leave::<T>(number, history);
         self.empty(index, number);
         let seen = history.again();
         history.learn(&seen);

@@ -75,7 +75,7 @@ fn write_values(values: &mut [u64], left: &[u64]) -> bool
 }
 
 /// How many values a close by these handles needs room for: one of each slot of each generation. Returns 0 where they
-/// are not all that a queue has, or memory is missing. The last of them follows others.
+/// are not all that a queue has, or others opened new generations all the time. The last of them follows others.
 #[unsafe(no_mangle)]
 pub extern "C" fn kfifo_c_values_room(passes: &mut [ValueHandle]) -> usize
     ensures follows { LastFollows (values_behind passes.old) (values_behind passes.new) }

@@ -66,7 +66,8 @@ impl ValueSeat {
         self.shape.n() as usize * self.shape.k() as usize
     }
 
-    /// In how many generations the handle is, once it has followed others. None where memory was missing for that.
+    /// In how many generations the handle is, once it has followed others. None where others opened new ones all the
+    /// time.
     pub(crate) fn generations(&mut self) -> Option<usize>
         ensures follows { Follows self.old self.new }
         ensures count { IfSome result (λ count. count ≡ length (all_of self.new)) }

@@ -2,12 +2,12 @@ use Rattle.std.proofs.Common.{◌≡◌, ◌+◌, ◌==◌, suc, None, arith, sy
 use prog.Atomic.{either}
 use Rattle.logbook.specs.Pages.{Moves, step}
 use Rattle.kfifo_renewing.specs.declared.change.Change.TheVariants as C
-use Rattle.kfifo_renewing.specs.History.{IsKept, IsPlaced, LabelView, Leaves, label_of}
+use Rattle.kfifo_renewing.specs.History.{IsKept, IsPlaced, LabelView, Empties, label_of}
 use Rattle.kfifo_renewing.proofs.Keeping.{leaves-moves, moved, shown}
 use Rattle.kfifo_renewing.proofs.label.Label.leave.Goals as goal
 
 pub compare_exchange-requires : goal.compare_exchange-requires
-compare_exchange-requires c =
+compare_exchange-requires g c =
     let h = c.self.invariant in
     let offer = c.plain-offer.ensures in
     let book = ap (λ (v : LabelView). v.book) c.self.view_is in
@@ -21,12 +21,12 @@ compare_exchange-requires c =
       c.no_pen-pen.ensures.0 ∙ c.requires.book ∙ sym book,
       offer.0,
       rw (ap (λ w. w.key) h.0, offer.3) (subst (λ m. Moves IsKept shown moved (label_of place) (log, (pen, None))
-          (λ k. either (k == m) 0 k) (Leaves (step (label_of place) m 0 (C.Look n)) (log, (pen, None)))) up
+          (λ k. either (k == m) 0 k) (Empties (step (label_of place) m 0 (C.Look n)) (log, (pen, None)))) up
           (leaves-moves log pen n place (C.Look n) h.1 c.requires.over)),
     )
 
 pub returns-clause-left : goal.returns-clause-left
-returns-clause-left c there =
+returns-clause-left g c there =
     let n = c.args.number in
     let log = c.args.history.now.log in
     let up : c.from.result + 1 ≡ suc n = omega (arith, c.from.ensures) in

@@ -2,7 +2,7 @@ use Rattle.std.proofs.Common.{◌≡◌, ◌+◌, ◌==◌, suc, None, arith, sy
 use prog.Atomic.{either}
 use Rattle.logbook.specs.Pages.{Moves, step}
 use Rattle.kfifo_renewing.specs.declared.change.Change.TheVariants as C
-use Rattle.kfifo_renewing.specs.History.{IsKept, IsPlaced, LabelView, Places, label_of}
+use Rattle.kfifo_renewing.specs.History.{IsKept, IsPlaced, LabelView, Fills, label_of}
 use Rattle.kfifo_renewing.proofs.Keeping.{moved, puts-moves, shown}
 use Rattle.kfifo_renewing.proofs.label.Label.put.Goals as goal
 
@@ -21,7 +21,7 @@ compare_exchange-found-requires c =
       c.no_pen-pen.ensures.0 ∙ c.requires ∙ sym book,
       offer.0,
       rw (ap (λ w. w.key) h.0, offer.3) (subst (λ m. Moves IsKept shown moved (label_of place) (log, (pen, None))
-          (λ k. either (k == 0) m k) (Places (step (label_of place) 0 m (C.Look n)) (log, (pen, None)))) up
+          (λ k. either (k == 0) m k) (Fills (step (label_of place) 0 m (C.Look n)) (log, (pen, None)))) up
           (puts-moves log pen n place (C.Look n) h.1 c.ranges.number.fits)),
     )
 

@@ -2,7 +2,7 @@ use Rattle.std.proofs.Common.{◌≡◌, ◌+◌, ◌==◌, suc, None, arith, sy
 use prog.Atomic.{either}
 use Rattle.logbook.specs.Pages.{Moves, step, may_write, nib}
 use Rattle.kfifo_renewing.specs.declared.change.Change.TheVariants as C
-use Rattle.kfifo_renewing.specs.History.{IsKept, IsPlaced, LabelView, Leaves, key_of, label_of}
+use Rattle.kfifo_renewing.specs.History.{IsKept, IsPlaced, LabelView, Empties, key_of, label_of}
 use Rattle.kfifo_renewing.proofs.Keeping.{undoes-moves, moved, shown}
 use Rattle.kfifo_renewing.proofs.label.Label.undo.Goals as goal
 
@@ -21,7 +21,7 @@ compare_exchange-requires c =
       c.requires.books.1 ∙ sym book,
       offer.0,
       rw (ap (λ w. w.key) h.0, offer.3, c.requires.pen) (subst (λ m. Moves IsKept shown moved (label_of place) (log, (pen, None))
-          (λ k. either (k == m) 0 k) (Leaves (step (label_of place) m 0 (C.Look n)) (log, (pen, None)))) up
+          (λ k. either (k == m) 0 k) (Empties (step (label_of place) m 0 (C.Look n)) (log, (pen, None)))) up
           (undoes-moves log n place (C.Look n) h.1)),
     )
 

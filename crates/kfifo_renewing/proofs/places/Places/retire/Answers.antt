@@ -1,5 +1,5 @@
 -- The generation has left, also as more of the history is seen.
-use Rattle.std.proofs.Common.{◌≡◌, Some, arith, ap, sym, subst}
+use Rattle.std.proofs.Common.{◌≡◌, arith, ap, sym, subst}
 use Rattle.kfifo_renewing.specs.History.{IsPlaced, LabelView}
 use Rattle.kfifo_renewing.proofs.Histories.{left-later}
 use Rattle.kfifo_renewing.proofs.Joining.{get-at}
