@@ -47,7 +47,8 @@ WasNewest log n = (before : List Change) × (after : List Change) × (log ≡ be
 
 -- the number of the newest generation only rises
 abbrev pub HasRisen : List Change → Type 0
-HasRisen log = (before more after : List Change) → log ≡ (before ++ more) ++ after → newest_of before ≤ newest_of (before ++ more)
+HasRisen log = (before more after : List Change) → log ≡ (before ++ more) ++ after
+    → newest_of before ≤ newest_of (before ++ more)
 
 -- the generation with this number was put into this place
 abbrev pub IsPlaced : List Change → ℕ → ℕ → Type 0

@@ -19,11 +19,16 @@ pub record PartView (T : Type 0) : Type 0 where
 
 -- a take of a payload of this type found the queue with this table empty
 abbrev pub FoundEmpty : Type 0 → TableId → Type 0
-FoundEmpty T table = (before : PayHeld T) × (after : PayHeld T) × (before.pass.pass.table ≡ table) × TakesThere K.Empty before after
+FoundEmpty T table = (before : PayHeld T) × (after : PayHeld T) × (before.pass.pass.table ≡ table)
+    × TakesThere K.Empty before after
 
 -- a take of a payload of this type found the generation with this number empty
 abbrev pub WasFoundEmpty : Type 0 → List Change → ℕ → Type 0
 WasFoundEmpty T log n = (table : TableId) × IsMade log n table × FoundEmpty T table
+
+-- the generation with this number may leave its place: it was never the newest, has gone, or was found empty
+abbrev pub MayGo : Type 0 → List Change → ℕ → Type 0
+MayGo T log n = WasNewest log n → IsGone log n ⊎ WasFoundEmpty T log n
 
 module _ {T : Type 0} where
   -- the generation of a part has its number and its place in the history
@@ -34,12 +39,14 @@ module _ {T : Type 0} where
 
   -- a part in the same generation, with the same pass
   abbrev pub IsSamePart : PartView T → PartView T → Type 0
-  IsSamePart old new = (new.number ≡ old.number) × (new.place ≡ old.place) × IsSamePass old.held.pass.pass new.held.pass.pass
+  IsSamePart old new = (new.number ≡ old.number) × (new.place ≡ old.place)
+      × IsSamePass old.held.pass.pass new.held.pass.pass
 
   -- parts in the same generations, in the same order
   abbrev pub AreSameParts : List (PartView T) → List (PartView T) → Type 0
   AreSameParts [] new = new ≡ []
-  AreSameParts (p ∷ ps) new = (q : PartView T) × (qs : List (PartView T)) × (new ≡ q ∷ qs) × IsSamePart p q × AreSameParts ps qs
+  AreSameParts (p ∷ ps) new = (q : PartView T) × (qs : List (PartView T)) × (new ≡ q ∷ qs) × IsSamePart p q
+      × AreSameParts ps qs
 
   -- the handles of these parts
   abbrev pub held_by : List (PartView T) → List (PayHeld T)
@@ -60,8 +67,8 @@ module _ {T : Type 0} where
 
   -- What holds of a handle: of the opening of its queue, the book of that and its own, what it has seen, its newest
   -- generation, and its parts
-  pub record HasJoined (o : Opening) (shared book : Book) (log : List Change) (g : Numbered) (newest : PartView T) (older : List (PartView T))
-      : Type 0 where
+  pub record HasJoined (o : Opening) (shared book : Book) (log : List Change) (g : Numbered) (newest : PartView T)
+      (older : List (PartView T)) : Type 0 where
     pub newest_opened : IsOpenedAs o newest.held
     pub older_opened : All (λ p. IsOpenedAs o p.held) older
     pub same_book : book ≡ shared

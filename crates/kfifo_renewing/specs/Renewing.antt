@@ -118,8 +118,7 @@ module _ {T : Type 0} where
   abbrev pub IsNumbered : Generations T → Type 0
   IsNumbered g = IsMade g.seen g.number g.newest.pass.pass.table
 
-  -- Each generation of the queue that was the newest, up to that of the handle, is one that the handle has joined, or it
-  -- has gone
+  -- Each generation of the queue that was the newest, up to that of the handle, has gone, or the handle has joined it
   abbrev pub HasAll : Generations T → Type 0
   HasAll g = (n : ℕ) → WasNewest g.seen n → n ≤ g.number
       → IsGone g.seen n ⊎ ((h : PayHeld T) × Contains (all_of g) h × IsMade g.seen n h.pass.pass.table)
@@ -211,10 +210,11 @@ module _ {T : Type 0} where
     pub older : TakesFirst found old.older looked
     pub left : IsPartOf new.older looked
     pub newest : ((found ≡ Some answer) × (new.newest ≡ old.newest))
-        ⊎ ((found ≡ None) × ((mid : Generations T) × IsLater old mid × (mid.newest ≡ old.newest) × TakesNewest answer mid new))
+        ⊎ ((found ≡ None)
+        × ((mid : Generations T) × IsLater old mid × (mid.newest ≡ old.newest) × TakesNewest answer mid new))
 
-  -- What `take` did: the handle follows others to the generation that was the newest of the queue at a look, so that it
-  -- is in each that has not gone, and takes. Busy: it has taken from none, and at a look another one than its newest was
+  -- What `take` did: the handle follows others to the generation that was the newest of the queue at a look, so it is
+  -- in each that has not gone, and takes. Busy: it has taken from none, and at a look another one than its newest was
   -- the newest
   abbrev pub TakesFromOldest : Taken T → Generations T → Generations T → Type 0
   TakesFromOldest answer old new = (here : Generations T) × Follows old here
@@ -236,7 +236,7 @@ module _ {T : Type 0} where
       × ClosesEach hs rest
 
   -- What a close returned by its last handle: the handle followed others to the generation that was the newest of the
-  -- queue at a look, so that it is in each that has not gone, and each of its generations was closed, the oldest first
+  -- queue at a look, so it is in each that has not gone, and each of its generations was closed, the oldest first
   abbrev pub ClosesAll : Generations T → List T → Type 0
   ClosesAll last payloads = (here : Generations T) × Follows last here × IsAtNewest last here × HasAll here
       × ClosesEach (all_of here) payloads

@@ -54,8 +54,8 @@ impl<T: Drop> Fits for Waiting<T> {
     ghost fits = { λ queue waiting. IsPassOf queue waiting.pass.inner.pass };
 }
 
-/// A queue of payloads with its number and what it says of the next one, the passes that wait in it, and how many handles
-/// may give to it.
+/// A queue of payloads with its number and what it says of the next one, the passes that wait in it, and how many
+/// handles may give to it.
 ///
 /// Clauses see it as its queue and its number, with a beginning of the history, in which it has that number.
 #[derive(Drop)]

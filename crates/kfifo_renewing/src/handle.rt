@@ -139,9 +139,10 @@ impl<T: Drop> RenewingHandle<T> {
         requires book { history.old.book ≡ self.now.book }
         requires inside { place < place_count }
         ensures later { (history.new.book ≡ history.old.book) × IsPrefix history.old.log history.new.log }
-        ensures of { IfSome result (λ r. IsOpenedAs self.now.opened r.1.held × IsPassOf r.0.value.queue r.1.held.pass.pass
-            × (r.0.value.book ≡ self.now.book)) }
-        ensures part { IfSome result (λ r. (r.0.value.number ≡ number) × (r.1.number ≡ number) × IsPart history.new.log r.1) }
+        ensures of { IfSome result (λ r. IsOpenedAs self.now.opened r.1.held
+            × IsPassOf r.0.value.queue r.1.held.pass.pass × (r.0.value.book ≡ self.now.book)) }
+        ensures part { IfSome result (λ r. (r.0.value.number ≡ number) × (r.1.number ≡ number)
+            × IsPart history.new.log r.1) }
     {
         if !self.shared.places().has(place, number, history) {
             return None;
@@ -164,10 +165,10 @@ impl<T: Drop> RenewingHandle<T> {
     ) -> Option<(Arc<Generation<T>, Global>, Leaving<Joined<T>>)>
         requires { history.old.book ≡ self.now.book }
         ensures later { (history.new.book ≡ history.old.book) × IsPrefix history.old.log history.new.log }
-        ensures of { IfSome result (λ r. IsOpenedAs self.now.opened r.1.held × IsPassOf r.0.value.queue r.1.held.pass.pass
-            × (r.0.value.book ≡ self.now.book)) }
-        ensures part { IfSome result (λ r. (r.0.value.number ≡ number) × (r.1.number ≡ number) × IsPart history.new.log r.1
-            × (self.now.number < number)) }
+        ensures of { IfSome result (λ r. IsOpenedAs self.now.opened r.1.held
+            × IsPassOf r.0.value.queue r.1.held.pass.pass × (r.0.value.book ≡ self.now.book)) }
+        ensures part { IfSome result (λ r. (r.0.value.number ≡ number) × (r.1.number ≡ number)
+            × IsPart history.new.log r.1 × (self.now.number < number)) }
     {
         let number = u32::try_from(number).ok()?;
         if number <= self.number() {
@@ -453,15 +454,15 @@ impl<T: Drop> RenewingHandle<T> {
     /// Gives a payload to the newest generation, as `PayHandle::give` does.
     ///
     /// The handle first follows others that have opened a newer one, so its generation was the newest of the queue at a
-    /// moment of the call. Each 4,096th call looks at the versions that the generation has left, and opens the next one
-    /// where they are fewer than the reserve. So does a call that comes to a generation with no version left, which then
-    /// tries once more.
+    /// moment of the call. Each 4,096th call looks at the versions that the generation has left, and opens the next
+    /// one where they are fewer than the reserve. So does a call that comes to a generation with no version left, which
+    /// then tries once more.
     ///
     /// Returns Done, or NoToken, Full, Busy or Worn with the payload. Busy comes where others changed the queue during
-    /// the call. Worn comes only where the generation had no version left in both tries and was still the newest: memory
-    /// is missing for the next one, old generations have all places, or the queue does not renew. It never waits or
-    /// locks, and allocates only where it opens a generation, or where more of them were opened during the call than the
-    /// queue has places.
+    /// the call. Worn comes only where the generation had no version left in both tries and was still the newest:
+    /// memory is missing for the next one, old generations have all places, or the queue does not renew. It never waits
+    /// or locks, and allocates only where it opens a generation, or where more of them were opened during the call than
+    /// the queue has places.
     #[inline(always)]
     pub fn give(&mut self, payload: T) -> Given<T>
         ensures { GivesToNewest payload result self.old self.new }
@@ -475,8 +476,8 @@ impl<T: Drop> RenewingHandle<T> {
         if generation.next().look(self.thread, &mut self.history) != 0 {
             return self.give_late(payload);
         }
-        // The give below then makes no such test, and no call that comes back. Before the look the count of tokens would
-        // be loaded twice.
+        // The give below then makes no such test, and no call that comes back. Before the look the count of tokens
+        // would be loaded twice.
         if self.newest.lacks_token() {
             return self.give_late(payload);
         }

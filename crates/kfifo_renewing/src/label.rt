@@ -1,10 +1,10 @@
 //! The words of the places in which generations are.
-ghost use Rattle.std.specs.Prelude.{◌≡◌, ◌<◌, ◌≤◌, ◌+◌, ◌^◌, ◌⊎◌, ℕ, suc, List, IfOk, Some, true};
+ghost use Rattle.std.specs.Prelude.{◌≡◌, ◌<◌, ◌≤◌, ◌+◌, ◌^◌, ℕ, suc, List, IfOk, Some, true};
 ghost use mathlib.Core.List.{IsPrefix};
 ghost use Rattle.logbook.specs.Pages.{Cell, may_make_home, may_write, nib};
-ghost use Rattle.kfifo_renewing.specs.History.{AreLabels, FindsThere, HasLeft, IsGone, IsKept, IsPlaced, WasNewest, key_of, label_of, newest_of};
+ghost use Rattle.kfifo_renewing.specs.History.{AreLabels, FindsThere, HasLeft, IsKept, IsPlaced, key_of, label_of, newest_of};
 ghost use Rattle.kfifo_renewing.specs.History.{place_count};
-ghost use Rattle.kfifo_renewing.specs.Joining.{WasFoundEmpty};
+ghost use Rattle.kfifo_renewing.specs.Joining.{MayGo};
 
 use crate::change::Change;
 use crate::history::{Emptying, Filling, History, HistoryRule, Looking, LookingThere, NoGain};
@@ -86,12 +86,12 @@ impl Label {
         found == 0
     }
 
-    /// Takes the generation with this number out of the place, if no other handle has. It is the newest no more, and was
-    /// found empty, or was never the newest.
+    /// Takes the generation with this number out of the place, if no other handle has. It is the newest no more, and
+    /// was found empty, or was never the newest.
     pub(crate) fn leave<T: Drop>(&self, number: u32, history: &mut History)
         requires book { history.old.book ≡ self.now.book }
         requires over { number < newest_of history.old.log }
-        requires empty { WasNewest history.old.log number → IsGone history.old.log number ⊎ WasFoundEmpty T history.old.log number }
+        requires empty { MayGo T history.old.log number }
         ensures later { (history.new.book ≡ history.old.book) × IsPrefix history.old.log history.new.log }
         ensures left { IsPlaced history.old.log number self.now.place → HasLeft history.new.log number }
     {

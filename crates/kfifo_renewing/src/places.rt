@@ -3,13 +3,13 @@
 //! A place has a word, which says whether a generation is there, its number and how many readers look at it. Its label
 //! says the number too, and proofs speak of labels: a label is written after the place is filled, and before it is
 //! emptied.
-ghost use Rattle.std.specs.Prelude.{◌≡◌, ◌≢◌, ◌<◌, ◌≤◌, ◌+◌, ◌%◌, ◌^◌, ◌⊎◌, ℕ, All, IfOk, IfSome, List, MatchBool, Some, length, true};
+ghost use Rattle.std.specs.Prelude.{◌≡◌, ◌≢◌, ◌<◌, ◌≤◌, ◌+◌, ◌%◌, ◌^◌, ℕ, All, IfOk, IfSome, List, MatchBool, Some, length, true};
 ghost use mathlib.Core.List.{IsPrefix};
 ghost use Rattle.counted_slot.specs.Counting.{readers};
 ghost use Rattle.logbook.specs.Pages.{Cell, may_write, nib};
 ghost use Rattle.kfifo_renewing.specs.declared.places.Lineage.{Lineage};
-ghost use Rattle.kfifo_renewing.specs.History.{AreLabels, FindsThere, HasLeft, HasRisen, IsGone, IsKept, IsPlaced, WasNewest, key_of, newest_of, place_count};
-ghost use Rattle.kfifo_renewing.specs.Joining.{AreAmong, HasNumber, HasOlder, IsPart, WasFoundEmpty};
+ghost use Rattle.kfifo_renewing.specs.History.{AreLabels, FindsThere, HasLeft, HasRisen, IsKept, IsPlaced, WasNewest, key_of, newest_of, place_count};
+ghost use Rattle.kfifo_renewing.specs.Joining.{AreAmong, HasNumber, HasOlder, IsPart, MayGo};
 ghost use Rattle.kfifo_renewing.specs.Renewing.{IsOfLineage};
 
 use crate::generation::{Generation, Sizes};
@@ -314,7 +314,7 @@ impl<T: Drop> Places<T> {
         requires book { history.old.book ≡ self.now.history.book }
         requires inside { index < place_count }
         requires over { number < newest_of history.old.log }
-        requires empty { WasNewest history.old.log number → IsGone history.old.log number ⊎ WasFoundEmpty T history.old.log number }
+        requires empty { MayGo T history.old.log number }
         ensures later { (history.new.book ≡ history.old.book) × IsPrefix history.old.log history.new.log }
         ensures left { IsPlaced history.old.log number index → HasLeft history.new.log number }
         ensures risen { HasRisen history.new.log }

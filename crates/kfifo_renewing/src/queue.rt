@@ -177,7 +177,8 @@ fn share<T: Drop>(
     requires threads { sizes.threads ≤ MAX_THREADS }
     requires of { generation.now.value.queue.opened ≡ opening_of sizes }
     requires numbers { (numbers ≡ generation.now.value.book) × AreLabels numbers labels.items }
-    ensures shared { IfOk result (λ r. (r.0.value.sizes ≡ sizes) × (r.0.value.history.book ≡ generation.now.value.book)) }
+    ensures shared { IfOk result (λ r. (r.0.value.sizes ≡ sizes)
+        × (r.0.value.history.book ≡ generation.now.value.book)) }
     ensures there { IfOk result (λ r. (r.2.book ≡ generation.now.value.book) × (r.1 < place_count)
         × IsPlaced r.2.log generation.now.value.number r.1) }
 {
@@ -216,7 +217,8 @@ fn join_first<T: Drop>(
 ) -> Result<RenewingHandle<T>, AllocError>
     requires of { IsOfLineage shared.now.value generation.now.value }
     requires first { generation.now.value.number ≡ 0 }
-    requires there { (seen.now.book ≡ generation.now.value.book) × (place < place_count) × IsPlaced seen.now.log 0 place }
+    requires there { (seen.now.book ≡ generation.now.value.book) × (place < place_count)
+        × IsPlaced seen.now.log 0 place }
     ensures one { IfOk result (HasOne generation.now.value.queue generation.now.value.book) }
     ensures thread { IfOk result (λ h. h.thread ≡ thread) }
 {

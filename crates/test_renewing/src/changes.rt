@@ -1,5 +1,5 @@
 //! Changes from one generation to the next, by one thread.
-ghost use Rattle.std.specs.Prelude.{◌≡◌};
+ghost use Rattle.std.specs.Prelude.{◌≡◌, All};
 
 use crate::plain::{close, give, open, open_with, take};
 use kfifo_live::{CloseFault, Given, OpenFault, Taken};
@@ -48,20 +48,21 @@ fn keeps_the_order_over_changes(rt: HostRuntime) -> Result<(), Fail> {
     Ok(())
 }
 
-fn are_beside(first: &RenewingHandle<u64>, second: &RenewingHandle<u64>) -> bool
-    requires { second.now.book ≡ first.now.book }
+fn are_both_beside(handles: &[RenewingHandle<u64>]) -> bool
+    requires { All (λ first. All (λ second. second.book ≡ first.book) handles.now) handles.now }
 {
-    first.is_beside(second)
+    match handles {
+        [first, second] => first.is_beside(second),
+        _ => false,
+    }
 }
 
 /// Two handles of a queue begin in one generation.
 #[test]
 fn begins_in_one_generation(rt: HostRuntime) -> Result<(), Fail> {
     let shape = Shape::new(1, 2, 8)?;
-    let mut handles = kfifo_renewing::open::<u64>(rt.alloc(), shape, 2, 4, 4)?;
-    let second = handles.pop().ok_or("a second handle")?;
-    let first = handles.pop().ok_or("a first handle")?;
-    assert!(rt; are_beside(&first, &second));
+    let handles = kfifo_renewing::open::<u64>(rt.alloc(), shape, 2, 4, 4)?;
+    assert!(rt; are_both_beside(handles.as_slice()));
     Ok(())
 }
 
