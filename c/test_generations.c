@@ -793,7 +793,8 @@ static void leavers(int kind, uint32_t threads) {
    is in the middle of a change: there are several generations. */
 static void closes_in_changes(int kind) {
     int several = 0;
-    for (uint64_t i = 0; i < CLOSES * times; i++) {
+    /* On a busy machine few closes are in the middle of a change: so it goes on until one was. */
+    for (uint64_t i = 0; i < CLOSES * times || (several == 0 && i < 40 * CLOSES); i++) {
         struct plan closed = plan_of(kind, i % 2 ? 4 : 1, i % 3 ? &mixed : &crews[2], 10000);
         closed.has_end = 0;
         closed.segments = closed.k == 1 ? 96 : 32;

@@ -333,8 +333,12 @@ Story stopped_after(Parcels &queue, long calls_of_all) {
 // back is each value once. It had several generations where more was left than one has slots.
 void stops_anywhere(bool closes) {
     constexpr std::uint32_t k = 2, segments = 8;
+    constexpr long LEAST = 20, NUMBERS = 7980, ROUNDS = NUMBERS / STEP + 1;
     std::size_t most = 0;
-    for (long calls = 20; calls < 8000; calls += STEP) {
+    // Where threads take turns on few processors, values of several generations are seldom left. So it goes on until
+    // some are, for forty times as many rounds at most.
+    for (long round = 0; round < ROUNDS || (most <= k * segments && round < 40 * ROUNDS); round++) {
+        const long calls = LEAST + round * STEP % NUMBERS;
         Parcels queue = few_versions(k, segments, 4, 32 * 4);
         Story story = stopped_after(queue, calls);
         const std::size_t inside = story.given.size() - story.taken.size();

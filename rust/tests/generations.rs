@@ -395,8 +395,16 @@ fn stopped_after(queue: &Queue<Parcel>, alive: &Arc<()>, calls: i64) -> [Vec<u64
 fn stops_anywhere(gives_back: bool) {
     let (k, segments) = (2, 8);
     let alive = Arc::new(());
+    let slots = (k * segments) as usize;
     let mut most = 0;
-    for calls in (20..8_000).step_by(40) {
+    let numbers = (20..8_000).step_by(40);
+    let rounds = numbers.clone().count();
+    // Where threads take turns on few processors, values of several generations are seldom left. So it goes on until
+    // some are, for forty times as many rounds at most.
+    for (round, calls) in numbers.cycle().take(40 * rounds).enumerate() {
+        if round >= rounds && most > slots {
+            break;
+        }
         let queue = few_versions(k, segments, 4, 32 * 4);
         let [mut pushed, mut popped] = stopped_after(&queue, &alive, calls);
         let inside = pushed.len() - popped.len();
@@ -413,7 +421,7 @@ fn stops_anywhere(gives_back: bool) {
         }
         assert_eq!(Arc::strong_count(&alive), 1);
     }
-    assert!(most > (k * segments) as usize, "{most}");
+    assert!(most > slots, "{most}");
 }
 
 #[test]
