@@ -281,9 +281,10 @@ static inline kfifo_status kfifo_abandon(kfifo_pass *passes, size_t threads) {
    same sizes. Takes empty the old one first. Where generations meet, some 2^40 calls apart, a take may pass over one
    older value more for each other handle. A generation takes as much memory as the opening did, and is freed when it is
    empty and no handle gives to it any more. A handle that makes no calls keeps the one it is in, and each take of the
-   others looks into that too, which costs as much as a take of an empty queue. A take asks for no memory, and a give
-   only where it opens a generation. Where there is none, later gives ask again; only when the reserve is used up too,
-   calls return WORN. Then close the queue to have what is left, and open another. */
+   others looks into that too, which costs as much as a take of an empty queue. A give asks for memory where it
+   opens a generation, and else a call does only where more of them are opened meanwhile than the queue has places.
+   Where there is none, later gives ask again; only when the reserve is used up too, calls return WORN. Then close the
+   queue to have what is left, and open another. */
 
 /* Opens a queue of values with versions up to `last`, 2 to KFIFO_LAST, and a `reserve`, KFIFO_RESERVE unless you test
    something: with fewer versions left, the queue goes on in its next generation. With reserve 0 it does not, and wears

@@ -403,7 +403,8 @@ impl<T> Handle<T> {
         }
     }
 
-    /// Takes one of the k oldest values. It never waits, locks or allocates.
+    /// Takes one of the k oldest values. It never waits or locks, and allocates only where more generations are opened
+    /// during the call than the queue has places.
     ///
     /// ```
     /// let queue = kfifo::Queue::new(4, 64, 1)?;
