@@ -84,43 +84,23 @@ fn wake_token<T>(shared: &Words<T>, pool: &[PoolWord<T>], index: usize) -> Optio
     pool[index].take()
 }
 
-/// A token that a pass has won, and how many words lie between the first one that it looked at and its own.
-struct Found<T> {
-    token: u32,
-    place: usize,
+/// A word of a pool, and the seat of the token that rested in it.
+struct Won<T> {
+    index: usize,
     resting: ThreadSeat<T>,
 }
 
-/// The first token that is won by a look at each of these words of a pool: `first` is the word from which they are
-/// counted, round the pool, `from` the first of them and `end` the one behind the last.
-fn find_token<T>(
-    shared: &Words<T>,
-    pool: &[PoolWord<T>],
-    first: usize,
-    from: usize,
-    end: usize,
-) -> Option<Found<T>>
+/// The first token that is won by a look at each word of a pool from `from` to before `end`.
+#[inline(always)]
+fn find_token<T>(shared: &Words<T>, pool: &[PoolWord<T>], from: usize, end: usize) -> Option<Won<T>>
     requires pool { IsPool shared.now.table_id shared.now.key 1 pool.now }
-    requires few { length pool.now < 2 ^ 32 }
-    ensures { IfSome result (λ r. (0 < r.token) × (r.token ≤ length pool.now) × (r.place < length pool.now)
-        × (r.resting.table_id ≡ shared.now.table_id) × (r.resting.me ≡ (resting_view shared.now.key r.token, []))) }
+    ensures within { IfSome result (λ r. (from ≤ r.index) × (r.index < end) × (r.index < length pool.now)) }
+    ensures won { IfSome result (λ r. (r.resting.table_id ≡ shared.now.table_id)
+        × (r.resting.me ≡ (resting_view shared.now.key (r.index + 1), []))) }
 {
-    for place in from..end.min(pool.len()) {
-        let behind = first.wrapping_add(place);
-        let index = if behind < pool.len() {
-            behind
-        } else {
-            behind - pool.len()
-        };
-        if index >= pool.len() {
-            return None;
-        }
+    for index in from..end.min(pool.len()) {
         if let Some(resting) = wake_token(shared, pool, index) {
-            return Some(Found {
-                token: index as u32 + 1,
-                place,
-                resting,
-            });
+            return Some(Won { index, resting });
         }
     }
     None
@@ -147,15 +127,17 @@ impl<T: Drop> PayPass<T> {
         false
     }
 
-    /// Picks up at most `most` tokens that rest in words `from` to before `end`, counted from word `first` on round the
-    /// pool. Returns how many. Behind the first one it looks at no more than 64 words. The pass uses the first one
-    /// found first, and its next look begins behind the last one.
+    /// Picks up at most `most` tokens that rest in words `from` to before `end`, and then in the first `rest` words of
+    /// the pool. Returns how many. Once it has found one, it looks at no more than 64 words behind it. The pass uses the
+    /// first one found first, and its next look begins behind the last one.
+    // The words at the end of the pool and those at its beginning are two ranges: in one that goes round, each look
+    // would cost twice as much.
     fn pick_up_among(
         &mut self,
         queue: &PayQueue<T>,
-        first: usize,
         from: usize,
         end: usize,
+        rest: usize,
         most: u32,
     ) -> u32
         requires of { IsPassOf queue.now self.old.pass }
@@ -164,24 +146,20 @@ impl<T: Drop> PayPass<T> {
         if most == 0 {
             return 0;
         }
-        let shared = &queue.table.shared;
-        let found = find_token(shared, queue.pool.as_slice(), first, from, end);
-        let Some(
-            Found {
-                token,
-                place,
-                resting,
-            },
-        ) = found
-        else {
-            return 0;
-        };
-        self.look_from = token as usize;
-        let last = end.min(place + 1 + LOOKS_FOR_MORE);
-        // Those behind it come first, since a pass uses first what it picked up last.
-        let more = self.pick_up_among(queue, first, place + 1, last, most - 1);
-        self.take_in(queue, Token::new(shared, resting, token, queue.clock()));
-        more + 1
+        match find_token(&queue.table.shared, queue.pool.as_slice(), from, end) {
+            Some(Won { index, resting }) => {
+                let next = index + 1;
+                self.look_from = next;
+                let last = end.min(next + LOOKS_FOR_MORE);
+                let rest = rest.min(LOOKS_FOR_MORE - (last - next));
+                // Those behind it come first, since a pass uses first what it picked up last.
+                let more = self.pick_up_among(queue, next, last, rest, most - 1);
+                self.take_seat(queue, resting, next as u32);
+                more + 1
+            }
+            None if rest > 0 => self.pick_up_among(queue, 0, rest, 0, most),
+            None => 0,
+        }
     }
 
     /// Picks up at most `most` tokens from the pool of the queue, and returns how many.
@@ -196,7 +174,7 @@ impl<T: Drop> PayPass<T> {
         ensures picks { PicksUpAtMost most result self.old self.new }
     {
         let first = self.look_from;
-        self.pick_up_among(queue, first, 0, queue.pool.len(), most)
+        self.pick_up_among(queue, first, queue.pool.len(), first, most)
     }
 
     /// Lays tokens down in the pool of the queue, until it has laid down `most` of them or cannot lay one down. Each is

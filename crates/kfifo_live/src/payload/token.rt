@@ -88,10 +88,22 @@ impl<T: Drop> PayPass<T> {
         ensures takes { TakesIn token.number self.old self.new }
     {
         let number = token.number();
+        self.take_seat(queue, token.into_seat(), number);
+    }
+
+    /// Takes in a token, by the seat that has it alone. The pass uses it next. It is no event, and the pass has seen no
+    /// more than before.
+    #[inline(always)]
+    pub(crate) fn take_seat(&mut self, queue: &PayQueue<T>, resting: ThreadSeat<T>, token: u32)
+        requires of { IsPassOf queue.now self.old.pass }
+        requires resting { (resting.table_id ≡ queue.now.table)
+            × (resting.me ≡ (resting_view queue.now.opened token, [])) }
+        ensures takes { TakesIn token self.old self.new }
+    {
         let shared = &queue.table.shared;
-        add_token::<_, Brand>(shared, &mut self.seat, token.into_seat(), number);
+        add_token::<_, Brand>(shared, &mut self.seat, resting, token);
         // This load tells the proof that the list of tokens has room for one more.
         count_tokens(shared, &mut self.seat, queue.clock());
-        self.at_home.push_reserved(number);
+        self.at_home.push_reserved(token);
     }
 }

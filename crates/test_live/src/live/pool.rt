@@ -213,6 +213,64 @@ fn moves_a_small_batch_of_few_tokens(rt: HostRuntime) -> Result<(), Fail> {
     Ok(())
 }
 
+/// The second pass has none of its 40 tokens, which rest in the words from 40 on. With ten of the first pass they make
+/// three batches, of which the third goes on from the last word of the pool to the first one, and two more.
+#[test]
+fn a_batch_goes_on_at_the_first_word(rt: HostRuntime) -> Result<(), Fail> {
+    let shape = Shape::new(8, 8, MAX_VERSION)?;
+    let (queue, mut first, mut second) = open_pool_two(rt.alloc(), shape, 40)?;
+    for left in (0..40).rev() {
+        check_moves(&rt, &queue, &mut second, &[(Move::Down, true, left)]);
+    }
+    for left in (30..40).rev() {
+        check_moves(&rt, &queue, &mut first, &[(Move::Down, true, left)]);
+    }
+    let mut giver = PayHandle::new(&queue, second);
+    for _batch in 0..3 {
+        check_handle(&rt, &queue, &mut giver, Way::Give, 1, 15);
+        check_handle(&rt, &queue, &mut giver, Way::Give, 15, 0);
+    }
+    check_handle(&rt, &queue, &mut giver, Way::Give, 1, 1);
+    check_handle(&rt, &queue, &mut giver, Way::Give, 1, 0);
+    assert_eq!(rt; give_by_handle(&queue, &mut giver, 1), Given::NoToken(1));
+    Ok(())
+}
+
+/// Of three passes with so many tokens the last and the first lay one down, in their first words. The second one has
+/// used up its own, finds that of the last pass, and has so many more then.
+fn check_looks_behind(
+    rt: &impl Abort,
+    alloc: Global,
+    tokens: u32,
+    more: usize,
+) -> Result<(), Fail> {
+    let shape = Shape::new(8, 10, MAX_VERSION)?;
+    let (queue, mut passes) = open_pool(alloc, shape, 3, tokens)?;
+    let (Some(mut last), Some(second), Some(mut first)) = (passes.pop(), passes.pop(), passes.pop())
+    else {
+        panic!(rt; "not three passes");
+    };
+    let down = [(Move::Down, true, tokens as usize - 1)];
+    check_moves(rt, &queue, &mut last, &down);
+    check_moves(rt, &queue, &mut first, &down);
+    let mut giver = PayHandle::new(&queue, second);
+    check_handle(rt, &queue, &mut giver, Way::Give, tokens, 0);
+    check_handle(rt, &queue, &mut giver, Way::Give, 1, more);
+    check_handle(rt, &queue, &mut giver, Way::Give, 1, 0);
+    assert_eq!(rt; give_by_handle(&queue, &mut giver, 1), Given::NoToken(1));
+    Ok(())
+}
+
+/// Behind a token that was found come 64 looks, round the end of the pool: with passes of 64 tokens the last look is at
+/// the first word, and with passes of 65 there is none at it.
+#[test]
+fn looks_at_64_words_behind_a_token(rt: HostRuntime) -> Result<(), Fail> {
+    for (tokens, more) in [(40, 1), (64, 1), (65, 0), (70, 0)] {
+        check_looks_behind(&rt, rt.alloc(), tokens, more)?;
+    }
+    Ok(())
+}
+
 #[test]
 fn nothing_rests_without_a_pool(rt: HostRuntime) -> Result<(), Fail> {
     let shape = Shape::new(1, 2, MAX_VERSION)?;

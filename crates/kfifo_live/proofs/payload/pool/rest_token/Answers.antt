@@ -1,4 +1,4 @@
-use Rattle.std.proofs.Common.{◌≡◌, ◌<◌, ◌+◌, ◌-◌, [], ap, sym, ◌∙◌, arith}
+use Rattle.std.proofs.Common.{◌≡◌, ◌+◌, ◌-◌, [], ap, sym, ◌∙◌, arith}
 use Rattle.kfifo_live.specs.Pass.{OpenQueue}
 use Rattle.kfifo_live.specs.Schedule.{resting_view}
 use Rattle.kfifo_live.proofs.Pools.{pool_at}

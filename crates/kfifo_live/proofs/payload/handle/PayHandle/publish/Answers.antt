@@ -1,5 +1,5 @@
 -- The pass takes the token in, gives with it, and parts with it again where it is refused.
-use Rattle.std.proofs.Common.{◌+◌, refl, sym, ap, ◌∙◌, subst, arith}
+use Rattle.std.proofs.Common.{refl, sym, ap, ◌∙◌, subst, arith}
 use Rattle.kfifo_live.specs.Calls.{IsDisturbed}
 use Rattle.kfifo_live.specs.Pass.{PassView}
 use Rattle.kfifo_live.specs.Payloads.{TakesIn}
