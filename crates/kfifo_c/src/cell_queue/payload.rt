@@ -11,9 +11,6 @@ use std::marker::Model;
 #[derive(Drop)]
 pub struct CellPayload {
     token: Token<()>,
-    // It has no bytes, and aligns the payload. Payloads lie side by side, and threads write to those of neighbours at
-    // once: so four share a line of the cache, and not eight.
-    apart: [u64; 0],
 }
 
 impl Model for CellPayload {
@@ -28,7 +25,7 @@ impl CellPayload {
     pub(crate) fn of(token: Token<()>) -> CellPayload
         ensures { result ≡ token }
     {
-        CellPayload { token, apart: [] }
+        CellPayload { token }
     }
 
     /// The token.
@@ -44,7 +41,7 @@ impl CellPayload {
     pub(crate) fn into_token(self) -> Token<()>
         ensures { result ≡ self }
     {
-        let CellPayload { token, apart: _ } = self;
+        let CellPayload { token } = self;
         token
     }
 }

@@ -1,12 +1,14 @@
 //! What a handle of a queue of cells stands for.
-ghost use Rattle.std.specs.Prelude.{◌≡◌, ◌<◌, ◌≤◌, ◌*◌, ◌^◌, None, SomeIff};
+ghost use Rattle.std.specs.Prelude.{◌≡◌, ◌<◌, ◌≤◌, ◌*◌, ◌^◌, None, Some, SomeIff};
 ghost use Rattle.kfifo_c.specs.CellSeats.{CellSeated, cell_seated};
 ghost use Rattle.kfifo_c.specs.Cells.{KeepsCell, MayCancel, MayPublish, MayRelease, ReceivesCell, ReservesCell, TakesCell};
 ghost use Rattle.kfifo_c.specs.Cells.{cell_in, cells_of, token_given_back, token_taken};
+ghost use Rattle.kfifo_c.specs.Values.{given_number};
 
 use crate::cell_queue::address::cell_address_of;
 use crate::cell_queue::free::FreeCells;
 use crate::cell_queue::payload::CellPayload;
+use crate::status::DONE;
 use crate::value_queue::status::given_status;
 use kfifo_live::{Given, Taken, Token};
 use kfifo_renewing::RenewingHandle;
@@ -189,10 +191,28 @@ impl CellSeat {
         ensures { MayPublish result self.old self.new }
     {
         let token = self.reserved.take()?;
-        let given = self.handle.give(CellPayload::of(token));
+        match self.handle.give(CellPayload::of(token)) {
+            Given::Done => Some(DONE),
+            given => Some(self.keep_reserved(given)),
+        }
+    }
+
+    /// Keeps the cell of a give that was refused, and returns the number of the give's answer.
+    // Out of line, it leaves a cell that is published a single test.
+    #[cold]
+    #[inline(never)]
+    fn keep_reserved(&mut self, given: Given<CellPayload>) -> u32
+        ensures number { result ≡ given_number (Some given) }
+        ensures keeps { self.new ≡ record {
+          held = self.old.held;
+          cells = self.old.cells;
+          reserved = token_given_back given;
+          received = self.old.received;
+        } }
+    {
         let status = given_status(&given);
         self.reserved = of_given(given);
-        Some(status)
+        status
     }
 
     /// Gives the cell that is reserved back. Returns false where none is.

@@ -1,5 +1,5 @@
 //! Tokens that are with no pass.
-ghost use Rattle.std.specs.Prelude.{◌≡◌, ◌<◌, ◌≤◌, ◌*◌, []};
+ghost use Rattle.std.specs.Prelude.{◌≡◌, ◌<◌, ◌≤◌, ◌*◌, ◌^◌, []};
 ghost use Rattle.kfifo_live.specs.Schedule.{resting_view};
 ghost use Rattle.kfifo_live.specs.Pass.{IsPassOf, queue_of};
 ghost use Rattle.kfifo_live.specs.Payloads.{IsAlone, PartsWith, TakesIn, TokenView};
@@ -15,7 +15,9 @@ use std::marker::{Brand, Model};
 /// Clauses see it as its queue and its number.
 #[derive(Drop)]
 pub struct Token<T> {
-    number: u32,
+    // It is below 2^32. With 64 bits a token fills half of a slot in a queue of tokens. So four slots share a line of the
+    // cache, not eight, and fewer threads write to one line at once.
+    number: u64,
     /// A seat of no thread, which has this token alone.
     seat: ThreadSeat<T>,
 }
@@ -25,7 +27,7 @@ impl<T> Model for Token<T> {
 
     ghost view = { λ t. record { queue = queue_of t.seat.table_id t.seat.me.0.opened; number = t.number } };
 
-    ghost invariant = { λ t. IsAlone t.number t.seat.me };
+    ghost invariant = { λ t. IsAlone t.number t.seat.me × (t.number < 2 ^ 32) };
 }
 
 impl<T> Token<T> {
@@ -41,7 +43,10 @@ impl<T> Token<T> {
         // This load tells the proof that the token names a slot. A load of the ends word would bring its line here, and
         // the next thread that moves an end would have to take it away again.
         count_tokens(shared, &mut seat, clock);
-        Token { number, seat }
+        Token {
+            number: u64::from(number),
+            seat,
+        }
     }
 
     /// The seat that has the token alone.
@@ -59,7 +64,7 @@ impl<T> Token<T> {
         ensures some { 0 < result }
         ensures within { result ≤ self.now.queue.opened.threads * self.now.queue.opened.tokens }
     {
-        self.number
+        self.number as u32
     }
 }
 
