@@ -265,50 +265,82 @@ struct CellPasses {
     std::vector<kfifo_cell_pass> all;
 };
 
-// The cells of a queue of values. Each says itself whether it has a value: so those that are left are destroyed once
-// with the array, whatever became of the queue.
+// The cells of a queue of values, and which of them have a value. Each handle has a bit for each cell, and flips it
+// when it makes a value in that cell or destroys one: a cell has a value where an odd number of its bits is set. So a
+// take marks the cell in memory of its own handle. A mark in the cell itself would make the take write to that line of
+// the cache, and the next handle to have the cell would fetch the line from it. The values that are left are destroyed
+// with the array, each once, whatever became of the queue.
 template <typename T> class Cells {
   public:
-    using Cell = std::optional<T>;
-
-    Cells(std::size_t threads, std::size_t tokens)
-        : count(threads * tokens), gap((line - tokens * sizeof(Cell) % line) % line),
-          reciprocal(((std::uint64_t(1) << 32) + tokens - 1) / tokens),
-          memory(static_cast<std::byte *>(::operator new(count * sizeof(Cell) + threads * gap, alignment))) {
-        for (std::size_t number = 0; number < count; number++) ::new (place(number)) Cell();
-    }
+    Cells(std::size_t handles, std::size_t tokens)
+        : count(handles * tokens), gap((line - tokens * sizeof(T) % line) % line),
+          reciprocal(((std::uint64_t(1) << 32) + tokens - 1) / tokens), lines((count + 511) / 512),
+          bits(handles * lines),
+          memory(static_cast<std::byte *>(::operator new(count * sizeof(T) + handles * gap, alignment))) {}
     Cells(const Cells &) = delete;
     Cells &operator=(const Cells &) = delete;
     ~Cells() {
-        for (std::size_t number = 0; number < count; number++) (*this)[number].~Cell();
+        for_each_value([this](std::uint64_t number) { (*this)[number].~T(); });
         ::operator delete(memory, alignment);
     }
 
-    Cell &operator[](std::uint64_t number) { return *std::launder(reinterpret_cast<Cell *>(place(number))); }
+    // The bits of 512 cells, on a line of the cache.
+    struct alignas(64) Bits {
+        std::uint64_t words[8] = {};
+        void flip(std::uint64_t number) { words[number / 64 % 8] ^= std::uint64_t(1) << number % 64; }
+    };
+
+    // The bits of a handle.
+    Bits *bits_of(std::size_t handle) { return &bits[handle * lines]; }
+
+    // The value of a cell that has one.
+    T &operator[](std::uint64_t number) { return *std::launder(reinterpret_cast<T *>(place(number))); }
+
+    // Makes a value in a cell that the handle with these bits has. If the constructor throws, the cell has none.
+    template <typename... Arguments> void make(Bits *own, std::uint64_t number, Arguments &&...arguments) {
+        ::new (place(number)) T(std::forward<Arguments>(arguments)...);
+        own[number / 512].flip(number);
+    }
+
+    // Destroys the value of a cell that the handle with these bits has.
+    void destroy(Bits *own, std::uint64_t number) {
+        (*this)[number].~T();
+        own[number / 512].flip(number);
+    }
 
     std::size_t size() const { return count; }
 
-    // The numbers of the cells that have a value.
-    std::vector<std::uint64_t> with_values() {
+    // The numbers of the cells that have a value. No handle makes a call meanwhile.
+    std::vector<std::uint64_t> with_values() const {
         std::vector<std::uint64_t> found;
-        for (std::size_t number = 0; number < count; number++)
-            if ((*this)[number]) found.push_back(number);
+        for_each_value([&](std::uint64_t number) { found.push_back(number); });
         return found;
     }
 
   private:
+    template <typename Use> void for_each_value(Use use) const {
+        for (std::size_t first = 0; first < count; first += 64) {
+            std::uint64_t odd = 0;
+            for (std::size_t at = first / 512; at < bits.size(); at += lines) odd ^= bits[at].words[first / 64 % 8];
+            for (std::uint64_t number = first; odd; number++, odd >>= 1)
+                if (odd & 1) use(number);
+        }
+    }
+
     // The cells that a thread begins with begin on a line of the cache, so that no other thread writes to it at first.
-    static constexpr std::size_t line = alignof(Cell) > 64 ? alignof(Cell) : 64;
+    static constexpr std::size_t line = alignof(T) > 64 ? alignof(T) : 64;
     static constexpr std::align_val_t alignment{line};
 
     // After the cells of each thread there is a gap. The product is number / tokens, rounded down, since a
     // number is less than 2^16 and there are at most 2^10 tokens a thread. A division would take longer than the rest.
     std::byte *place(std::uint64_t number) const {
-        return memory + number * sizeof(Cell) + (number * reciprocal >> 32) * gap;
+        return memory + number * sizeof(T) + (number * reciprocal >> 32) * gap;
     }
 
     std::size_t count, gap;
     std::uint64_t reciprocal;
+    std::size_t lines; // of the bits of each handle
+    std::vector<Bits> bits;
     std::byte *memory;
 };
 
@@ -339,7 +371,6 @@ template <typename T> struct TakenValue {
 template <typename T> class ValueQueue {
     static_assert(std::is_object_v<T> && std::is_move_constructible_v<T> && std::is_nothrow_destructible_v<T>,
                   "a value is moved or copied out of the queue, and what is left of it destroyed");
-    using Cell = std::optional<T>;
     static constexpr bool moves_throw = !std::is_nothrow_move_constructible_v<T>;
 
     struct State {
@@ -395,10 +426,11 @@ template <typename T> class ValueQueue {
     // room.
     class Handle {
       public:
-        Handle(Handle &&other) noexcept : state(std::move(other.state)), pass(other.pass) {}
+        Handle(Handle &&other) noexcept : state(std::move(other.state)), pass(other.pass), bits(other.bits) {}
         Handle &operator=(Handle &&other) noexcept {
             std::swap(state, other.state);
             std::swap(pass, other.pass);
+            std::swap(bits, other.bits);
             return *this;
         }
         Handle(const Handle &) = delete;
@@ -420,14 +452,14 @@ template <typename T> class ValueQueue {
         // Gives a copy, which is made in its cell. If that throws, nothing was done.
         Put give(const T &value) {
             return put(
-                detail::Once(), [&](Cell &cell) { cell.emplace(value); }, [](T &) {});
+                detail::Once(), [&](Reserved &cell) { cell.make(value); }, [](T &) {});
         }
 
         // Makes a value of these arguments in its cell, and gives it. If the constructor throws, nothing was given. On
         // any answer but done the value is destroyed, or none was made. It does not wait.
         template <typename... Arguments> Put emplace(Arguments &&...arguments) {
             return put(
-                detail::Once(), [&](Cell &cell) { cell.emplace(std::forward<Arguments>(arguments)...); }, [](T &) {});
+                detail::Once(), [&](Reserved &cell) { cell.make(std::forward<Arguments>(arguments)...); }, [](T &) {});
         }
 
         // Takes one of the k oldest values. It does not wait.
@@ -475,7 +507,7 @@ template <typename T> class ValueQueue {
       private:
         friend class ValueQueue;
         Handle(std::shared_ptr<State> of, std::size_t number)
-            : state(std::move(of)), pass(&state->passes.all[number]) {}
+            : state(std::move(of)), pass(&state->passes.all[number]), bits(state->cells.bits_of(number)) {}
 
         std::size_t which() const { return std::size_t(pass - state->passes.all.data()); }
 
@@ -491,17 +523,21 @@ template <typename T> class ValueQueue {
         // Ends a give that came to nothing, also by an exception: destroys what is left of the value, and gives the
         // cell back. A cell that stayed reserved would be one that no other handle can have.
         struct Reserved {
-            Reserved(kfifo_cell_pass *by, Cell &of) : pass(by), cell(of) {}
+            Reserved(Handle &by, std::uint64_t what) : handle(by), number(what) {}
             Reserved(const Reserved &) = delete;
             ~Reserved() {
                 // Once it is published another thread may have the cell.
                 if (is_published) return;
-                cell.reset();
-                kfifo_cancel(pass);
+                if (is_made) handle.state->cells.destroy(handle.bits, number);
+                kfifo_cancel(handle.pass);
             }
-            kfifo_cell_pass *pass;
-            Cell &cell;
-            bool is_published = false;
+            template <typename... Arguments> void make(Arguments &&...arguments) {
+                handle.state->cells.make(handle.bits, number, std::forward<Arguments>(arguments)...);
+                is_made = true;
+            }
+            Handle &handle;
+            std::uint64_t number;
+            bool is_made = false, is_published = false;
         };
 
         // Reserves a cell, makes a value in it and publishes it. A value that is refused is handed back.
@@ -510,11 +546,11 @@ template <typename T> class ValueQueue {
             std::uint64_t number = 0;
             kfifo_status status = calls([&] { return kfifo_try_reserve(pass, waits, &number); });
             if (status != KFIFO_DONE) return static_cast<Put>(detail::checked(status));
-            Reserved reserved(pass, state->cells[number]);
-            make(reserved.cell);
+            Reserved reserved(*this, number);
+            make(reserved);
             status = calls([&] { return kfifo_try_publish(pass, waits); });
             reserved.is_published = status == KFIFO_DONE;
-            if (!reserved.is_published) back(*reserved.cell);
+            if (!reserved.is_published) back(state->cells[number]);
             return static_cast<Put>(detail::checked(status));
         }
 
@@ -524,11 +560,11 @@ template <typename T> class ValueQueue {
                 static_assert(std::is_move_assignable_v<T>,
                               "a value that is refused cannot be moved or copied back: make it by emplace");
                 return put(
-                    calls, [&](Cell &cell) { cell.emplace(std::move(value)); },
+                    calls, [&](Reserved &cell) { cell.make(std::move(value)); },
                     [&](T &refused) { value = std::move(refused); });
             } else {
                 return put(
-                    calls, [&](Cell &cell) { cell.emplace(std::as_const(value)); }, [](T &) {});
+                    calls, [&](Reserved &cell) { cell.make(std::as_const(value)); }, [](T &) {});
             }
         }
 
@@ -541,7 +577,7 @@ template <typename T> class ValueQueue {
             ~Received() {
                 State &state = *handle.state;
                 if (!is_kept) {
-                    state.cells[number].reset();
+                    state.cells.destroy(handle.bits, number);
                     kfifo_release(handle.pass);
                 }
                 // Other threads look at this line of the cache at each take.
@@ -583,7 +619,7 @@ template <typename T> class ValueQueue {
             }
             Received received(*this, number, was_kept);
             try {
-                return use(*state->cells[number]);
+                return use(state->cells[number]);
             } catch (...) {
                 received.is_kept = true;
                 throw;
@@ -602,7 +638,8 @@ template <typename T> class ValueQueue {
         }
 
         std::shared_ptr<State> state;
-        kfifo_cell_pass *pass; // of the state
+        kfifo_cell_pass *pass;                 // of the state
+        typename detail::Cells<T>::Bits *bits; // of the state
     };
 
     // What comes out of a queue until its end, as a range. One pass, by the handle that it is of.
@@ -697,7 +734,7 @@ template <typename T> class ValueQueue {
         std::vector<T> values;
         values.reserve(state->is_closed ? state->left.size() : state->cells.with_values().size());
         state->close();
-        for (std::uint64_t number : state->left) values.push_back(std::move_if_noexcept(*state->cells[number]));
+        for (std::uint64_t number : state->left) values.push_back(std::move_if_noexcept(state->cells[number]));
         state.reset();
         return values;
     }

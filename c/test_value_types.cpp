@@ -474,16 +474,15 @@ void woken() {
 
 template <typename T> void places(std::size_t threads, std::size_t tokens) {
     kfifo::detail::Cells<T> cells(threads, tokens);
-    using Cell = std::optional<T>;
     auto address = [&](std::size_t number) { return reinterpret_cast<std::uintptr_t>(&cells[number]); };
     bool right = true;
     for (std::size_t number = 0; number < threads * tokens; number++) {
-        right = right && address(number) % alignof(Cell) == 0;
+        right = right && address(number) % alignof(T) == 0;
         if (number % tokens == 0)
             right = right && address(number) % 64 == 0 &&
-                    (number == 0 || address(number) >= address(number - 1) + sizeof(Cell));
+                    (number == 0 || address(number) >= address(number - 1) + sizeof(T));
         else
-            right = right && address(number) == address(number - 1) + sizeof(Cell);
+            right = right && address(number) == address(number - 1) + sizeof(T);
     }
     expect(right, "each cell has a place of its own, and each thread begins on a line");
 }
@@ -504,6 +503,23 @@ void all_places() {
         places<std::string>(3, tokens);
         places<Wide>(5, tokens);
     }
+}
+
+// A cell has a value from when a handle makes one there until any handle destroys it, and then anew.
+void values_of_cells() {
+    kfifo::detail::Cells<std::string> cells(3, 700);
+    std::vector<std::uint64_t> all{0, 63, 64, 511, 512, 700, 2099};
+    for (int round = 0; round < 5; round++) {
+        for (std::uint64_t number : all) cells.make(cells.bits_of(std::size_t(number + round) % 3), number, 40, 'x');
+        expect(cells.with_values() == all, "the cells with a value");
+        for (std::uint64_t number : all) cells.destroy(cells.bits_of(std::size_t(number + 2 * round) % 3), number);
+        expect(cells.with_values().empty(), "cells without a value");
+    }
+    // What is left is destroyed with the cells.
+    cells.make(cells.bits_of(1), 2099, 40, 'y');
+    cells.make(cells.bits_of(2), 1, 40, 'z');
+    expect(cells.with_values() == std::vector<std::uint64_t>{1, 2099}, "two cells with a value");
+    expect(cells[2099] == std::string(40, 'y'), "the value of a cell");
 }
 
 // ---- Memory ----
@@ -613,6 +629,7 @@ int main() {
     woken();
     balanced("threads that wait");
     all_places();
+    values_of_cells();
     expect(first_calls() == 0, "the first calls");
     no_requests();
     for (std::size_t pairs = 1; pairs <= 4; pairs *= 2) {
