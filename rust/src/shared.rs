@@ -159,15 +159,14 @@ impl<T> Shared<T> {
         if status != ffi::DONE {
             return status;
         }
-        let cell = self.cells.at(cell);
-        // SAFETY: `reserve` promises that the cell is this pass's alone until it is published. The caller gives up the
-        // value, or `forget` comes below.
-        unsafe { (*cell).copy_in(value) };
+        // SAFETY: `reserve` promises that the cell is this pass's alone until it is published, and had been released
+        // before. The caller gives up the value, or `forget` comes below.
+        unsafe { self.cells.copy_in(number, cell, value) };
         // SAFETY: as of `reserve`.
         let status = unsafe { ffi::kfifo_c_publish(pass) };
         if status != ffi::DONE {
             // SAFETY: `publish` promises that a refused cell is still reserved, and so this pass's alone.
-            unsafe { (*cell).forget() };
+            unsafe { self.cells.forget(number, cell) };
             // A cell that stayed reserved would be one that no other handle can have.
             // SAFETY: as of `reserve`.
             unsafe { ffi::kfifo_c_cancel(pass) };
@@ -225,7 +224,7 @@ impl<T> Shared<T> {
         let pass = self.passes.at(number);
         // SAFETY: `receive` promises that the cell is this pass's alone until it is released, and that it came out once
         // for each time that it was published. `publish` above puts a value into it each time.
-        let value = unsafe { (*self.cells.at(cell)).move_out() };
+        let value = unsafe { self.cells.move_out(number, cell) };
         // SAFETY: as of `receive` in `look`.
         let status = unsafe { ffi::kfifo_c_release(pass) };
         debug_assert_eq!(status, ffi::DONE);
