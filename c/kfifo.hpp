@@ -274,8 +274,8 @@ template <typename T> class Cells {
   public:
     Cells(std::size_t handles, std::size_t tokens)
         : count(handles * tokens), gap((line - tokens * sizeof(T) % line) % line),
-          reciprocal(((std::uint64_t(1) << 32) + tokens - 1) / tokens), lines((count + 511) / 512),
-          bits(handles * lines),
+          reciprocal(((std::uint64_t(1) << 32) + tokens - 1) / tokens), words((count + 511) / 512 * 8),
+          bits(zeros(handles * words)), end(bits.get() + handles * words),
           memory(static_cast<std::byte *>(::operator new(count * sizeof(T) + handles * gap, alignment))) {}
     Cells(const Cells &) = delete;
     Cells &operator=(const Cells &) = delete;
@@ -284,28 +284,22 @@ template <typename T> class Cells {
         ::operator delete(memory, alignment);
     }
 
-    // The bits of 512 cells, on a line of the cache.
-    struct alignas(64) Bits {
-        std::uint64_t words[8] = {};
-        void flip(std::uint64_t number) { words[number / 64 % 8] ^= std::uint64_t(1) << number % 64; }
-    };
-
     // The bits of a handle.
-    Bits *bits_of(std::size_t handle) { return &bits[handle * lines]; }
+    std::uint64_t *bits_of(std::size_t handle) { return &bits[handle * words]; }
 
     // The value of a cell that has one.
     T &operator[](std::uint64_t number) { return *std::launder(reinterpret_cast<T *>(place(number))); }
 
     // Makes a value in a cell that the handle with these bits has. If the constructor throws, the cell has none.
-    template <typename... Arguments> void make(Bits *own, std::uint64_t number, Arguments &&...arguments) {
+    template <typename... Arguments> void make(std::uint64_t *own, std::uint64_t number, Arguments &&...arguments) {
         ::new (place(number)) T(std::forward<Arguments>(arguments)...);
-        own[number / 512].flip(number);
+        own[number / 64] ^= std::uint64_t(1) << number % 64;
     }
 
     // Destroys the value of a cell that the handle with these bits has.
-    void destroy(Bits *own, std::uint64_t number) {
+    void destroy(std::uint64_t *own, std::uint64_t number) {
         (*this)[number].~T();
-        own[number / 512].flip(number);
+        own[number / 64] ^= std::uint64_t(1) << number % 64;
     }
 
     std::size_t size() const { return count; }
@@ -318,10 +312,21 @@ template <typename T> class Cells {
     }
 
   private:
+    // The bits of each handle have lines of the cache of their own.
+    static constexpr std::align_val_t apart{64};
+    struct Free {
+        void operator()(std::uint64_t *block) const { ::operator delete(block, apart); }
+    };
+    static std::uint64_t *zeros(std::size_t number) {
+        auto block = static_cast<std::uint64_t *>(::operator new(number * sizeof(std::uint64_t), apart));
+        std::uninitialized_fill_n(block, number, 0);
+        return block;
+    }
+
     template <typename Use> void for_each_value(Use use) const {
         for (std::size_t first = 0; first < count; first += 64) {
             std::uint64_t odd = 0;
-            for (std::size_t at = first / 512; at < bits.size(); at += lines) odd ^= bits[at].words[first / 64 % 8];
+            for (const std::uint64_t *own = bits.get(); own != end; own += words) odd ^= own[first / 64];
             for (std::uint64_t number = first; odd; number++, odd >>= 1)
                 if (odd & 1) use(number);
         }
@@ -339,8 +344,9 @@ template <typename T> class Cells {
 
     std::size_t count, gap;
     std::uint64_t reciprocal;
-    std::size_t lines; // of the bits of each handle
-    std::vector<Bits> bits;
+    std::size_t words; // of the bits of each handle
+    std::unique_ptr<std::uint64_t[], Free> bits;
+    std::uint64_t *end; // of the bits
     std::byte *memory;
 };
 
@@ -638,8 +644,8 @@ template <typename T> class ValueQueue {
         }
 
         std::shared_ptr<State> state;
-        kfifo_cell_pass *pass;                 // of the state
-        typename detail::Cells<T>::Bits *bits; // of the state
+        kfifo_cell_pass *pass; // of the state
+        std::uint64_t *bits;   // of the state
     };
 
     // What comes out of a queue until its end, as a range. One pass, by the handle that it is of.
