@@ -213,51 +213,67 @@ fn moves_a_small_batch_of_few_tokens(rt: HostRuntime) -> Result<(), Fail> {
     Ok(())
 }
 
+/// A pass lays so many tokens down.
+fn lay_down_some(rt: &impl Abort, queue: &PayQueue<u64>, pass: &mut PayPass<u64>, count: u32)
+    requires { IsPassOf queue.now pass.old.pass }
+    ensures { IsSamePass pass.old.pass pass.new.pass }
+{
+    for _token in 0..count {
+        assert!(rt; lay_down(queue, pass));
+    }
+}
+
+/// A handle without a token gives. It then has so many, and gives until it has none again.
+fn check_batch(rt: &impl Abort, queue: &PayQueue<u64>, giver: &mut PayHandle<u64>, more: u32)
+    requires { IsPassOf queue.now giver.old.pass.pass }
+    ensures { IsSamePass giver.old.pass.pass giver.new.pass.pass }
+{
+    check_handle(rt, queue, giver, Way::Give, 1, more as usize);
+    check_handle(rt, queue, giver, Way::Give, more, 0);
+}
+
 /// The second pass has none of its 40 tokens, which rest in the words from 40 on. With ten of the first pass they make
 /// three batches, of which the third goes on from the last word of the pool to the first one, and two more.
 #[test]
 fn a_batch_goes_on_at_the_first_word(rt: HostRuntime) -> Result<(), Fail> {
     let shape = Shape::new(8, 8, MAX_VERSION)?;
     let (queue, mut first, mut second) = open_pool_two(rt.alloc(), shape, 40)?;
-    for left in (0..40).rev() {
-        check_moves(&rt, &queue, &mut second, &[(Move::Down, true, left)]);
-    }
-    for left in (30..40).rev() {
-        check_moves(&rt, &queue, &mut first, &[(Move::Down, true, left)]);
-    }
+    lay_down_some(&rt, &queue, &mut second, 40);
+    lay_down_some(&rt, &queue, &mut first, 10);
     let mut giver = PayHandle::new(&queue, second);
-    for _batch in 0..3 {
-        check_handle(&rt, &queue, &mut giver, Way::Give, 1, 15);
-        check_handle(&rt, &queue, &mut giver, Way::Give, 15, 0);
-    }
-    check_handle(&rt, &queue, &mut giver, Way::Give, 1, 1);
-    check_handle(&rt, &queue, &mut giver, Way::Give, 1, 0);
+    check_batch(&rt, &queue, &mut giver, 15);
+    check_batch(&rt, &queue, &mut giver, 15);
+    check_batch(&rt, &queue, &mut giver, 15);
+    check_batch(&rt, &queue, &mut giver, 1);
     assert_eq!(rt; give_by_handle(&queue, &mut giver, 1), Given::NoToken(1));
     Ok(())
 }
 
+/// A queue with a pool for three threads, with the pass of each.
+fn open_pool_three(
+    alloc: Global,
+    shape: Shape,
+    tokens: u32,
+) -> Result<(PayQueue<u64>, PayPass<u64>, PayPass<u64>, PayPass<u64>), OpenFault>
+    ensures { IfOk result (λ r. IsPassOf r.0 r.1.pass × IsPassOf r.0 r.2.pass × IsPassOf r.0 r.3.pass) }
+{
+    let (queue, mut passes) = PayQueue::open_with_pool(alloc, shape, 3, tokens)?;
+    let (Some(last), Some(second), Some(first)) = (passes.pop(), passes.pop(), passes.pop()) else {
+        unreachable!()
+    };
+    Ok((queue, first, second, last))
+}
+
 /// Of three passes with so many tokens the last and the first lay one down, in their first words. The second one has
 /// used up its own, finds that of the last pass, and has so many more then.
-fn check_looks_behind(
-    rt: &impl Abort,
-    alloc: Global,
-    tokens: u32,
-    more: usize,
-) -> Result<(), Fail> {
+fn check_looks_behind(rt: &impl Abort, alloc: Global, tokens: u32, more: u32) -> Result<(), Fail> {
     let shape = Shape::new(8, 10, MAX_VERSION)?;
-    let (queue, mut passes) = open_pool(alloc, shape, 3, tokens)?;
-    let (Some(mut last), Some(second), Some(mut first)) = (passes.pop(), passes.pop(), passes.pop())
-    else {
-        panic!(rt; "not three passes");
-    };
-    let down = [(Move::Down, true, tokens as usize - 1)];
-    check_moves(rt, &queue, &mut last, &down);
-    check_moves(rt, &queue, &mut first, &down);
+    let (queue, mut first, second, mut last) = open_pool_three(alloc, shape, tokens)?;
+    lay_down_some(rt, &queue, &mut last, 1);
+    lay_down_some(rt, &queue, &mut first, 1);
     let mut giver = PayHandle::new(&queue, second);
     check_handle(rt, &queue, &mut giver, Way::Give, tokens, 0);
-    check_handle(rt, &queue, &mut giver, Way::Give, 1, more);
-    check_handle(rt, &queue, &mut giver, Way::Give, 1, 0);
-    assert_eq!(rt; give_by_handle(&queue, &mut giver, 1), Given::NoToken(1));
+    check_batch(rt, &queue, &mut giver, more);
     Ok(())
 }
 
@@ -265,10 +281,10 @@ fn check_looks_behind(
 /// the first word, and with passes of 65 there is none at it.
 #[test]
 fn looks_at_64_words_behind_a_token(rt: HostRuntime) -> Result<(), Fail> {
-    for (tokens, more) in [(40, 1), (64, 1), (65, 0), (70, 0)] {
-        check_looks_behind(&rt, rt.alloc(), tokens, more)?;
-    }
-    Ok(())
+    check_looks_behind(&rt, rt.alloc(), 40, 1)?;
+    check_looks_behind(&rt, rt.alloc(), 64, 1)?;
+    check_looks_behind(&rt, rt.alloc(), 65, 0)?;
+    check_looks_behind(&rt, rt.alloc(), 70, 0)
 }
 
 #[test]
