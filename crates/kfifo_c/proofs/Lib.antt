@@ -3,8 +3,10 @@ mod CellHeldValues
 mod Cells
 mod Closings
 mod HeldValues
+mod Keeping
 mod Minting
 mod Passes
+mod Places
 mod Tried
 mod ValueHandles
 mod ValueHeldValues

@@ -30,16 +30,28 @@ abbrev pub cell_reserved : ℕ → Option (Option ℕ) → ℕ
 cell_reserved old (Some (Some cell)) = cell
 cell_reserved old other = old
 
--- The last of the free cells is taken. Where there is none, it is one of the pool, if a batch was found there, and the
--- others of the batch come with it
-abbrev pub TakesLast : Option TokenView → List TokenView → List TokenView → Type 0
-TakesLast answer old new = ((token : TokenView) × (answer ≡ Some token) × (old ≡ new ++ token ∷ []))
+-- the cell is one of all these, and those are the others, in their order
+pub record IsOneOf (token : TokenView) (all others : List TokenView) : Type 0 where
+  pub before : List TokenView
+  pub behind : List TokenView
+  pub all_are : all ≡ before ++ token ∷ behind
+  pub others_are : others ≡ before ++ behind
+
+-- One of the free cells is taken. Where there is none, it is one of the pool, if a batch was found there, and the others
+-- of the batch come with it
+abbrev pub TakesOne : Option TokenView → List TokenView → List TokenView → Type 0
+TakesOne answer old new = ((token : TokenView) × (answer ≡ Some token) × IsOneOf token old new)
     ⊎ ((old ≡ []) × (answer ≡ None → new ≡ []))
 
--- A free cell is kept behind the others. Where these are so many, the last ones may go to the pool
-pub record KeepsBehind (token : TokenView) (many : ℕ) (old new : List TokenView) : Type 0 where
+-- A free cell is kept among the others. Where these are so many, some that follow each other may go to the pool
+pub record KeepsOne (token : TokenView) (many : ℕ) (old new : List TokenView) : Type 0 where
+  pub all : List TokenView
+  pub kept : IsOneOf token all old
+  pub before : List TokenView
   pub gone : List TokenView
-  pub cells : old ++ token ∷ [] ≡ new ++ gone
+  pub behind : List TokenView
+  pub all_are : all ≡ before ++ gone ++ behind
+  pub new_are : new ≡ before ++ behind
   pub few : length old < many → gone ≡ []
 
 -- the handle takes a cell
@@ -47,14 +59,14 @@ pub record TakesCell (answer : Option TokenView) (old new : CellSeated) : Type 0
   pub same_held : new.held ≡ old.held
   pub same_reserved : new.reserved ≡ old.reserved
   pub same_received : new.received ≡ old.received
-  pub cells : TakesLast answer old.cells new.cells
+  pub cells : TakesOne answer old.cells new.cells
 
 -- and keeps one: it lays none into the pool where it has fewer than it began with
 pub record KeepsCell (token : TokenView) (old new : CellSeated) : Type 0 where
   pub same_held : new.held ≡ old.held
   pub same_reserved : new.reserved ≡ old.reserved
   pub same_received : new.received ≡ old.received
-  pub cells : KeepsBehind token old.held.opened.tokens old.cells new.cells
+  pub cells : KeepsOne token old.held.opened.tokens old.cells new.cells
 
 -- the same seat, but for the cell that is reserved, or the one that was received
 abbrev pub with_reserved : Option TokenView → CellSeated → CellSeated

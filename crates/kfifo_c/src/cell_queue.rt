@@ -7,6 +7,7 @@ pub(crate) mod handle;
 pub(crate) mod held;
 pub(crate) mod lent;
 pub(crate) mod opening;
+pub(crate) mod ordered;
 pub(crate) mod payload;
 pub(crate) mod pool;
 pub(crate) mod seat;

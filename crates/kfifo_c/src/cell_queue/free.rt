@@ -1,9 +1,11 @@
 //! The free cells of a handle.
-ghost use Rattle.std.specs.Prelude.{◌≡◌, ◌≤◌, [], length, vec_capacity};
+ghost use Rattle.std.specs.Prelude.{◌≡◌, ◌≤◌, ◌++◌, List, [], vec_capacity};
+ghost use Rattle.kfifo_live.specs.Payloads.{TokenView};
 ghost use Rattle.kfifo_c.specs.declared.cell_queue.pool.TheConstants.{BATCH};
-ghost use Rattle.kfifo_c.specs.CellSeats.{FreeTokens};
-ghost use Rattle.kfifo_c.specs.Cells.{KeepsBehind, TakesLast};
+ghost use Rattle.kfifo_c.specs.CellSeats.{FreeTokens, all_free};
+ghost use Rattle.kfifo_c.specs.Cells.{KeepsOne, TakesOne};
 
+use crate::cell_queue::ordered::OrderedCells;
 use crate::cell_queue::pool::{BATCH, Batch, Pool};
 use kfifo_live::{PayQueue, Token};
 use std::alloc::Global;
@@ -12,11 +14,17 @@ use std::sync::Arc;
 
 /// The free cells that a handle has, and the pool of those that none has.
 ///
+/// Those that it released last, fewer than a batch, it reserves first: their lines are still in the cache. The others go
+/// to the pool, or are reserved, in the order of their numbers. So cells whose numbers follow each other stay together,
+/// and lie on the same lines or on lines that a processor fetches ahead. Batches of the cells that a handle released
+/// last would mix, until the cells of each lay anywhere.
+///
 /// Clauses see it as the tokens of these cells, and how many it keeps at most.
 #[derive(Drop)]
 pub(crate) struct FreeCells {
-    /// There is room for all cells of the queue, so that a handle keeps its cells where the pool takes none.
-    cells: Vec<Token<()>>,
+    /// Those that were released last, the last one last.
+    recent: Vec<Token<()>>,
+    others: OrderedCells,
     /// With one more than these it has a batch more than it began with, and lays a batch into the pool.
     most: u32,
     /// How many cells go to the pool or come from it at once.
@@ -32,27 +40,30 @@ pub(crate) struct FreeCells {
 impl Model for FreeCells {
     ghost Value = { FreeTokens };
 
-    ghost view = { λ f. record { tokens = f.cells.items; most = f.most } };
+    ghost view = { λ f. record { recent = f.recent.items; others = f.others; most = f.most } };
 
-    ghost invariant = { λ f. (f.most ≤ vec_capacity f.cells) × (f.batch ≤ BATCH) };
+    ghost invariant = { λ f. (f.most ≤ vec_capacity f.recent) × (f.batch ≤ f.most) × (f.batch ≤ BATCH) };
 }
 
 impl FreeCells {
-    /// These cells, of which so many are kept at most, with batches of so many. The first look begins at this place.
+    /// These cells, of which so many are kept at most, with batches of so many. `recent` is empty, with room for as many.
+    /// The first look begins at this place.
     pub(crate) fn new(
-        cells: Vec<Token<()>>,
+        recent: Vec<Token<()>>,
+        others: OrderedCells,
         most: u32,
         batch: u32,
         spare: Batch,
         pool: Arc<Pool, Global>,
         look_from: usize,
     ) -> FreeCells
-        requires room { most ≤ vec_capacity cells }
-        requires batch { batch ≤ BATCH }
-        ensures { result ≡ record { tokens = cells.items; most = most } }
+        requires room { most ≤ vec_capacity recent }
+        requires batch { (batch ≤ most) × (batch ≤ BATCH) }
+        ensures { result ≡ record { recent = recent.items; others = others; most = most } }
     {
         FreeCells {
-            cells,
+            recent,
+            others,
             most,
             batch,
             spare: Some(spare),
@@ -66,56 +77,112 @@ impl FreeCells {
         self.pool.source()
     }
 
-    /// The last of the cells, or else one of the pool, with the others of its batch.
+    /// One of the cells: the one that was released last, or else the next of the others. Where there is none, it is one
+    /// of the pool, with the others of its batch.
     #[inline(always)]
     pub(crate) fn take(&mut self) -> Option<Token<()>>
-        ensures tokens { TakesLast result self.old.tokens self.new.tokens }
+        ensures tokens { TakesOne result (all_free self.old) (all_free self.new) }
         ensures most { self.new.most ≡ self.old.most }
     {
-        match self.cells.pop() {
+        match self.recent.pop() {
             Some(token) => Some(token),
             None => self.find(),
         }
     }
 
-    /// A cell of the pool, with the others of its batch.
+    /// The next of the others, or else one of the pool.
     #[cold]
     #[inline(never)]
     fn find(&mut self) -> Option<Token<()>>
-        requires { self.old.tokens ≡ [] }
-        ensures tokens { TakesLast result self.old.tokens self.new.tokens }
+        requires { self.old.recent ≡ [] }
+        ensures tokens { TakesOne result (all_free self.old) (all_free self.new) }
         ensures most { self.new.most ≡ self.old.most }
     {
-        self.look_from = self
-            .pool
-            .take(self.look_from, &mut self.cells, &mut self.spare)?;
-        self.cells.pop()
+        match self.others.take() {
+            Some(token) => {
+                self.fetch();
+                Some(token)
+            }
+            None => {
+                self.look_from = self
+                    .pool
+                    .take(self.look_from, &mut self.recent, &mut self.spare)?;
+                self.recent.pop()
+            }
+        }
+    }
+
+    /// Moves the next of the others to the recent ones, so that with one more these would be a batch.
+    // So the next calls find a cell at once.
+    fn fetch(&mut self)
+        ensures tokens { all_free self.new ≡ all_free self.old }
+        ensures most { self.new.most ≡ self.old.most }
+    {
+        while self.recent.len() + 1 < self.batch as usize {
+            let Some(token) = self.others.take() else {
+                return;
+            };
+            self.recent.push_reserved(token);
+        }
     }
 
     /// Keeps a free cell. Where there is then a batch more than in the beginning, it lays a batch into the pool.
     #[inline(always)]
     pub(crate) fn keep(&mut self, token: Token<()>)
-        ensures tokens { KeepsBehind token self.old.most self.old.tokens self.new.tokens }
+        ensures tokens { KeepsOne token self.old.most (all_free self.old) (all_free self.new) }
         ensures most { self.new.most ≡ self.old.most }
     {
-        if self.cells.len() < self.most as usize {
-            self.cells.push_reserved(token);
+        // With a whole batch of recent ones it would have a batch more than in the beginning, and lay none.
+        if self.recent.len() + 1 < self.batch as usize {
+            self.recent.push_reserved(token);
         } else {
-            self.lay_batch(token);
+            self.keep_in_order(token);
         }
     }
 
-    /// Lays a batch into the pool, of this cell and the last of the others. Where no place is empty, it keeps them.
-    #[cold]
+    /// Keeps a free cell in its place.
     #[inline(never)]
-    fn lay_batch(&mut self, token: Token<()>)
-        requires { self.old.most ≤ length self.old.tokens }
-        ensures tokens { KeepsBehind token self.old.most self.old.tokens self.new.tokens }
+    fn keep_in_order(&mut self, token: Token<()>)
+        ensures tokens { KeepsOne token self.old.most (all_free self.old) (all_free self.new) }
         ensures most { self.new.most ≡ self.old.most }
     {
-        // There is room, since a handle has no more than all cells.
-        let _ = self.cells.push(token);
-        let laid = self.pool.lay(self.look_from, &mut self.cells, self.batch, &mut self.spare);
+        if let Some(back) = self.others.put(token) {
+            self.keep_recent(back);
+            return;
+        }
+        let count = self.recent.len().saturating_add(self.others.count());
+        if count > self.most as usize {
+            self.lay_batch();
+        }
+    }
+
+    /// Keeps a free cell whose place is not empty, behind the recent ones.
+    // No two cells have one number, so there is none. The proof does not see that.
+    #[cold]
+    #[inline(never)]
+    fn keep_recent(&mut self, token: Token<()>)
+        ensures tokens { KeepsOne token self.old.most (all_free self.old) (all_free self.new) }
+        ensures most { self.new.most ≡ self.old.most }
+    {
+        if self.recent.len() < self.recent.capacity() {
+            self.recent.push_reserved(token);
+        }
+    }
+
+    /// Lays a batch of the others into the pool. Where no place is empty, it keeps them.
+    #[cold]
+    #[inline(never)]
+    fn lay_batch(&mut self)
+        ensures recent { self.new.recent ≡ self.old.recent }
+        ensures others { (gone : List TokenView) × (self.old.others ≡ gone ++ self.new.others) }
+        ensures most { self.new.most ≡ self.old.most }
+    {
+        let laid = self.pool.lay(
+            self.look_from,
+            &mut self.others,
+            self.batch,
+            &mut self.spare,
+        );
         if let Some(index) = laid {
             self.look_from = index;
         }

@@ -1,6 +1,6 @@
 //! Opening a queue of cells.
 ghost use Rattle.std.specs.Prelude.{◌≡◌, ◌≢◌, ◌<◌, ◌≤◌, ◌⊎◌, ◌↔◌, None, Some, IfSome, IfOk, IsErrOf, All, length, map};
-ghost use Rattle.std.specs.Prelude.{reverse, vec_capacity};
+ghost use Rattle.std.specs.Prelude.{reverse};
 ghost use Rattle.kfifo_model.specs.declared.calls.TheConstants.{MAX_THREADS};
 ghost use Rattle.kfifo_live.specs.declared.payload.opening.TheConstants.{MAX_TOKENS};
 ghost use denote.RawPtr.{Ptr};
@@ -10,18 +10,20 @@ ghost use Rattle.kfifo_live.specs.Payloads.{new_pay_passes, pay_opening};
 ghost use Rattle.kfifo_live.specs.declared.fault.OpenFault.TheVariants.{ThreadsOutOfRange, TokensOutOfRange};
 ghost use Rattle.kfifo_renewing.specs.declared.fault.RenewFault.TheVariants.{Open, ReserveOutOfRange};
 ghost use Rattle.kfifo_c.specs.CellHandles.{cells_behind};
+ghost use Rattle.kfifo_c.specs.CellSeats.{all_free};
 ghost use Rattle.kfifo_c.specs.CellQueues.{IsOpenedLike, OpensCells, OpensCellSizes, seats_with, tokens_of};
 ghost use Rattle.kfifo_c.specs.Exports.{shape_number};
 
 use crate::address::no_address;
 use crate::cell_queue::free::FreeCells;
 use crate::cell_queue::handle::CellHandle;
+use crate::cell_queue::ordered::OrderedCells;
 use crate::cell_queue::payload::CellPayload;
 use crate::cell_queue::pool::{BATCH, Batch, Pool};
 use crate::cell_queue::seat::CellSeat;
 use crate::status::{BAD_RESERVE, BAD_THREADS, DONE, shape_status};
 use crate::value_queue::status::renew_status;
-use kfifo_live::{OpenFault, PayPass, PayQueue, Token};
+use kfifo_live::{OpenFault, PayPass, PayQueue};
 use kfifo_renewing::{RenewFault, RenewingHandle, open};
 use kfifo_words::Shape;
 use std::alloc::{AllocError, Global};
@@ -36,6 +38,11 @@ pub struct CellSizes {
 }
 
 impl CellSizes {
+    /// The cells of all handles.
+    fn all(&self) -> usize {
+        (self.threads as usize).saturating_mul(self.tokens as usize)
+    }
+
     /// How many cells go to the pool, or come from it, at once.
     // With few cells a batch is small. Else handles that only take would keep all cells, and the others find none.
     fn batch(&self) -> u32
@@ -44,36 +51,19 @@ impl CellSizes {
         (self.tokens / self.threads.max(1)).clamp(1, BATCH)
     }
 
-    /// How many free cells a handle keeps at most: with one more it has a batch more than it began with.
-    fn most(&self) -> u32
-        ensures { self.now.tokens ≤ result }
+    /// How many free cells a handle keeps at most, with batches of so many: with one more it has a batch more than it
+    /// began with.
+    fn most(&self, batch: u32) -> u32
+        requires { 1 ≤ batch }
+        ensures { (self.now.tokens ≤ result) × (batch ≤ result) }
     {
-        self.tokens.saturating_add(self.batch() - 1)
+        self.tokens.max(1).saturating_add(batch - 1)
     }
 
     /// The places of the pool for each thread. All together are enough for the cells of all handles.
     fn places(&self) -> usize {
         (self.tokens / self.batch()) as usize
     }
-}
-
-/// The tokens of a new pass, the one that it would use next first, in a list with room for so many.
-fn mint(
-    alloc: Global,
-    source: &PayQueue<()>,
-    mut pass: PayPass<()>,
-    room: u32,
-) -> Result<Vec<Token<()>>, AllocError>
-    requires of { IsPassOf source.now pass.pass }
-    requires count { length pass.tokens ≤ room }
-    ensures tokens { IfOk result (λ cells. cells.items ≡ tokens_of source.now pass) }
-    ensures room { IfOk result (λ cells. room ≤ vec_capacity cells) }
-{
-    let mut cells = Vec::with_capacity(alloc, room as usize)?;
-    while let Some(token) = pass.part_with(source) {
-        cells.push_reserved(token);
-    }
-    Ok(cells)
 }
 
 /// The free cells that the handle of this thread begins with, those of a new pass.
@@ -86,17 +76,19 @@ fn cells_of_pass(
 ) -> Result<FreeCells, AllocError>
     requires of { IsPassOf pool.now.value pass.pass }
     requires count { length pass.tokens ≡ sizes.now.tokens }
-    ensures tokens { IfOk result (λ free. free.tokens ≡ tokens_of pool.now.value pass) }
+    ensures tokens { IfOk result (λ free. all_free free ≡ tokens_of pool.now.value pass) }
     ensures most { IfOk result (λ free. sizes.now.tokens ≤ free.most) }
 {
-    let most = sizes.most();
-    let all = sizes.threads.saturating_mul(sizes.tokens);
-    let cells = mint(alloc, pool.source(), pass, most.max(all))?;
+    let batch = sizes.batch();
+    let most = sizes.most(batch);
+    let first = thread.saturating_mul(sizes.tokens as usize);
+    let others = OrderedCells::mint(alloc, pool.source(), pass, first, sizes.all())?;
+    let recent = Vec::with_capacity(alloc, most as usize)?;
     let spare = Batch::new(alloc)?;
     let pool = Arc::try_clone(pool)?;
     // The handles begin to look at places that lie apart.
     let look_from = thread.saturating_mul(sizes.places());
-    Ok(FreeCells::new(cells, most, sizes.batch(), spare, pool, look_from))
+    Ok(FreeCells::new(recent, others, most, batch, spare, pool, look_from))
 }
 
 /// A seat for each handle, with the tokens of the pass beside it, the last handle first.

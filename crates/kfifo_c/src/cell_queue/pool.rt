@@ -5,6 +5,7 @@ ghost use Rattle.kfifo_c.specs.declared.cell_queue.pool.TheConstants.{BATCH};
 ghost use Rattle.kfifo_live.specs.Pass.{OpenQueue};
 ghost use Rattle.kfifo_live.specs.Payloads.{TokenView};
 
+use crate::cell_queue::ordered::OrderedCells;
 use counted_slot::{Claim, Counted, FREE, Fits, PRESENT, TAKEN};
 use kfifo_live::{PayQueue, Token};
 use std::alloc::{AllocError, Global};
@@ -40,26 +41,28 @@ impl Batch {
         Ok(Batch { cells })
     }
 
-    /// Moves the last of these cells into the list, until it has so many.
-    fn fill(&mut self, cells: &mut Vec<Token<()>>, count: u32)
+    /// Moves the next of these cells into the list, until it has so many.
+    fn fill(&mut self, cells: &mut OrderedCells, count: u32)
         requires { count ≤ BATCH }
-        ensures moved { (gone : List TokenView) × (cells.old.items ≡ cells.new.items ++ gone) }
-        ensures room { vec_capacity cells.new ≡ vec_capacity cells.old }
+        ensures { (gone : List TokenView) × (cells.old ≡ gone ++ cells.new) }
     {
         while self.cells.len() < count as usize {
-            let Some(token) = cells.pop() else {
+            let Some(token) = cells.take() else {
                 return;
             };
             self.cells.push_reserved(token);
         }
     }
 
-    /// Moves the cells of the list behind these.
+    /// Moves the cells of the list behind these, the last one first.
+    // A handle reserves the last of its cells next. So it reserves these in the order of their numbers.
     fn empty_into(&mut self, cells: &mut Vec<Token<()>>)
         ensures moved { (found : List TokenView) × (cells.new.items ≡ cells.old.items ++ found) }
         ensures room { vec_capacity cells.old ≤ vec_capacity cells.new }
     {
-        let _ = cells.append(&mut self.cells);
+        while let Some(token) = self.cells.pop() {
+            let _ = cells.push(token);
+        }
     }
 }
 
@@ -150,7 +153,7 @@ impl Pool {
         }
     }
 
-    /// Lays the last of these cells, so many, into an empty place, which it returns. The look begins at this place.
+    /// Lays the next of these cells, so many, into an empty place, which it returns. The look begins at this place.
     /// `spare` is the list that they go into; the one that lay in the place is the next one.
     ///
     /// There are places for all batches, so one is empty at any time. It returns None, and moves no cell, only where
@@ -158,14 +161,13 @@ impl Pool {
     pub(crate) fn lay(
         &self,
         from: usize,
-        cells: &mut Vec<Token<()>>,
+        cells: &mut OrderedCells,
         count: u32,
         spare: &mut Option<Batch>,
     ) -> Option<usize>
         requires { count ≤ BATCH }
-        ensures moved { (gone : List TokenView) × (cells.old.items ≡ cells.new.items ++ gone) }
-        ensures none { result ≡ None → cells.new.items ≡ cells.old.items }
-        ensures room { vec_capacity cells.new ≡ vec_capacity cells.old }
+        ensures moved { (gone : List TokenView) × (cells.old ≡ gone ++ cells.new) }
+        ensures none { result ≡ None → cells.new ≡ cells.old }
     {
         let (index, claim) = self.claim_any(from, FREE)?;
         let mut laid = spare.take();

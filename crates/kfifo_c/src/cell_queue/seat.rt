@@ -1,6 +1,6 @@
 //! What a handle of a queue of cells stands for.
 ghost use Rattle.std.specs.Prelude.{◌≡◌, ◌<◌, ◌≤◌, ◌*◌, ◌^◌, None, Some, SomeIff};
-ghost use Rattle.kfifo_c.specs.CellSeats.{CellSeated, cell_seated};
+ghost use Rattle.kfifo_c.specs.CellSeats.{CellSeated, all_free, cell_seated};
 ghost use Rattle.kfifo_c.specs.Cells.{KeepsCell, MayCancel, MayPublish, MayRelease, ReceivesCell, ReservesCell, TakesCell};
 ghost use Rattle.kfifo_c.specs.Cells.{cell_in, cells_of, token_given_back, token_taken};
 ghost use Rattle.kfifo_c.specs.Values.{given_number};
@@ -37,7 +37,7 @@ impl Model for CellSeat {
 
     ghost view = { λ s. record {
       held = s.handle;
-      cells = s.free.tokens;
+      cells = all_free s.free;
       reserved = s.reserved;
       received = s.received;
     } };
@@ -96,7 +96,7 @@ impl CellSeat {
         requires sizes { (shape ≡ handle.opened.shape) × (threads ≡ handle.opened.threads)
             × (tokens ≡ handle.opened.tokens) }
         requires most { tokens ≤ free.most }
-        ensures { result ≡ cell_seated handle free.tokens }
+        ensures { result ≡ cell_seated handle (all_free free) }
     {
         CellSeat {
             handle,

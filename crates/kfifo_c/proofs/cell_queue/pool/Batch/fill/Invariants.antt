@@ -5,10 +5,9 @@ use Rattle.kfifo_c.proofs.cell_queue.pool.Batch.fill.Given as goal
 abbrev pub invariant-loop-self : goal.invariant-loop-self
 invariant-loop-self l = record {
   gone : List TokenView;
-  moved : l.fn.cells.items ≡ l.cells.items ++ gone;
+  moved : l.fn.cells ≡ gone ++ l.cells;
   list : 16 ≤ vec_capacity l.self-inside.cells;
-  room : vec_capacity l.cells ≡ vec_capacity l.fn.cells;
 }
 
 abbrev pub decreases-loop-self : goal.decreases-loop-self
-decreases-loop-self l = length l.cells.items
+decreases-loop-self l = length l.cells

@@ -4,7 +4,7 @@ use Rattle.kfifo_live.specs.Payloads.{TokenView}
 use Rattle.kfifo_live.specs.declared.payload.Given.{Given}
 use Rattle.kfifo_live.specs.declared.payload.Given.TheVariants as G
 use Rattle.kfifo_renewing.specs.Renewing.{GivesToNewest}
-use Rattle.kfifo_c.specs.CellSeats.{CellSeated}
+use Rattle.kfifo_c.specs.CellSeats.{CellSeated, all_free}
 use Rattle.kfifo_c.specs.Cells.{MayPublish, token_given_back}
 use Rattle.kfifo_c.proofs.Cells.{seat_with}
 use Rattle.kfifo_c.proofs.cell_queue.seat.CellSeat.publish.Goals as goal
@@ -12,7 +12,7 @@ use Rattle.kfifo_c.proofs.cell_queue.seat.CellSeat.publish.Goals as goal
 pub returns-in-Done : goal.returns-in-Done
 returns-in-Done c =
     subst (λ (s : CellSeated). MayPublish (Some 0) s
-    (seat_with c.give.new.self c.self.inside.free.tokens c.take.new.self c.self.inside.received)) c.self.view_is (
+    (seat_with c.give.new.self (all_free c.self.inside.free) c.take.new.self c.self.inside.received)) c.self.view_is (
       c.in_ok-token.token,
       sym c.in_ok-token.ensures.value,
       record {
@@ -30,7 +30,7 @@ pub returns-in_default : goal.returns-in_default
 returns-in_default c =
     subst (λ (s : CellSeated). MayPublish (Some c.keep_reserved.result) c.args.self.now s) (sym c.keep_reserved.ensures.keeps)
     (subst (λ (s : CellSeated). MayPublish (Some c.keep_reserved.result) s
-    (seat_with c.give.new.self c.self.inside.free.tokens (token_given_back c.give.result) c.self.inside.received))
+    (seat_with c.give.new.self (all_free c.self.inside.free) (token_given_back c.give.result) c.self.inside.received))
     c.self.view_is (
       c.in_ok-token.token,
       sym c.in_ok-token.ensures.value,

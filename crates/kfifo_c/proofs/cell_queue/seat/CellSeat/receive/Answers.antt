@@ -1,6 +1,6 @@
 -- The handle releases the cell of before, and takes a token.
 use Rattle.std.proofs.Common.{refl, subst}
-use Rattle.kfifo_c.specs.CellSeats.{CellSeated}
+use Rattle.kfifo_c.specs.CellSeats.{CellSeated, all_free}
 use Rattle.kfifo_c.specs.Cells.{ReceivesToken}
 use Rattle.kfifo_c.proofs.Cells.{seat_with}
 use Rattle.kfifo_c.proofs.cell_queue.seat.CellSeat.receive.Goals as goal
@@ -13,7 +13,7 @@ returns c =
       between = c.release.new.self;
       releases = c.release.ensures;
       receives = subst (λ (s : CellSeated). ReceivesToken c.of_taken-taken.result.0 s
-          (seat_with c.take.new.self c.self.inside.free.tokens c.self.inside.reserved c.of_taken-taken.result.1)) c.self.view_is (record {
+          (seat_with c.take.new.self (all_free c.self.inside.free) c.self.inside.reserved c.of_taken-taken.result.1)) c.self.view_is (record {
             taken = c.take.result;
             answer_is = said.0;
             takes = c.take.ensures;
