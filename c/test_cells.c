@@ -107,6 +107,23 @@ static void batches(uint32_t tokens) {
     expect(kfifo_abandon_cells(two, 2), KFIFO_DONE, "abandon");
 }
 
+/* A giver that has used up its own cells gets those of the taker, in the order of their numbers: a taker lays its cells
+   into the pool in that order, and not those that it released last. */
+static void in_order(void) {
+    enum { TOKENS = 64 };
+    kfifo_cell_pass two[2];
+    uint64_t cell;
+    expect(kfifo_open_cells(1, 2, TOKENS, two, 2), KFIFO_DONE, "open");
+    for (uint64_t i = 0; i < 2 * TOKENS; i++) {
+        expect(kfifo_reserve(&two[0], &cell), KFIFO_DONE, "a reserve by the one that gives");
+        if (i >= TOKENS) expect(cell, i, "the next cell of the one that takes");
+        expect(kfifo_publish(&two[0]), KFIFO_DONE, "its publish");
+        expect(kfifo_receive(&two[1], &cell), KFIFO_GOT, "a receive by the one that takes");
+        expect(kfifo_release(&two[1]), KFIFO_DONE, "its release");
+    }
+    expect(kfifo_abandon_cells(two, 2), KFIFO_DONE, "abandon");
+}
+
 static void refusals(void) {
     static kfifo_cell_pass one, many[65];
     static kfifo_waits waits;
@@ -444,6 +461,7 @@ int main(void) {
     batches(1);
     batches(5);
     batches(100);
+    in_order();
     refusals();
     too_many_threads();
     closes();
