@@ -12,8 +12,8 @@ pub record CellSeated : Type 0 where
   pub reserved : Option TokenView
   pub received : Option TokenView
 
--- the free cells that a handle released last, the last one last, the others, the one that comes next first, and how many
--- of all it keeps before it lays any into the pool
+-- the free cells that a handle released last, the last one last; the others, the one that comes next first; and how
+-- many of all it keeps before it lays any into the pool
 pub record FreeTokens : Type 0 where
   pub recent : List TokenView
   pub others : List TokenView

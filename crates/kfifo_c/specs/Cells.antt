@@ -37,8 +37,8 @@ pub record IsOneOf (token : TokenView) (all others : List TokenView) : Type 0 wh
   pub all_are : all ≡ before ++ token ∷ behind
   pub others_are : others ≡ before ++ behind
 
--- One of the free cells is taken. Where there is none, it is one of the pool, if a batch was found there, and the others
--- of the batch come with it
+-- One of the free cells is taken. Where there is none, it is one of the pool, if a batch was found there, and the
+-- others of the batch come with it
 abbrev pub TakesOne : Option TokenView → List TokenView → List TokenView → Type 0
 TakesOne answer old new = ((token : TokenView) × (answer ≡ Some token) × IsOneOf token old new)
     ⊎ ((old ≡ []) × (answer ≡ None → new ≡ []))

@@ -14,10 +14,10 @@ use std::sync::Arc;
 
 /// The free cells that a handle has, and the pool of those that none has.
 ///
-/// Those that it released last, fewer than a batch, it reserves first: their lines are still in the cache. The others go
-/// to the pool, or are reserved, in the order of their numbers. So cells whose numbers follow each other stay together,
-/// and lie on the same lines or on lines that a processor fetches ahead. Batches of the cells that a handle released
-/// last would mix, until the cells of each lay anywhere.
+/// Those that it released last, fewer than a batch, it reserves first: their lines are still in the cache. The others
+/// go to the pool, or are reserved, in the order of their numbers. So cells whose numbers follow each other stay
+/// together, and lie on the same lines or on lines that a processor fetches ahead. Batches of the cells that a handle
+/// released last would mix, until the cells of each lay anywhere.
 ///
 /// Clauses see it as the tokens of these cells, and how many it keeps at most.
 #[derive(Drop)]
@@ -46,8 +46,8 @@ impl Model for FreeCells {
 }
 
 impl FreeCells {
-    /// These cells, of which so many are kept at most, with batches of so many. `recent` is empty, with room for as many.
-    /// The first look begins at this place.
+    /// These cells, of which so many are kept at most, with batches of so many. `recent` is empty, with room for as
+    /// many. The first look begins at this place.
     pub(crate) fn new(
         recent: Vec<Token<()>>,
         others: OrderedCells,

@@ -75,8 +75,8 @@ fn push_tokens(
 }
 
 impl OrderedCells {
-    /// The tokens of a new pass, the one that it would use next first, in places from `first` on. There are `all` places,
-    /// or more where the tokens need them.
+    /// The tokens of a new pass, the one that it would use next first, in places from `first` on. There are `all`
+    /// places, or more where the tokens need them.
     pub(crate) fn mint(
         alloc: Global,
         source: &PayQueue<()>,
