@@ -1,6 +1,7 @@
--- What C is told of the calls with cells. Each cell has a token, with the cell's number and one more: it is a cell of an
--- array of the caller's. Who has the token has the cell. c/kfifo.h has the same numbers.
-use Rattle.std.specs.Prelude.{◌≡◌, ◌≢◌, ◌<◌, ◌⊎◌, ℕ, ◌-◌, Bool, true, false, Option, Some, None, List, [], ◌∷◌, ◌++◌, length}
+-- What C is told of the calls with cells. Each cell has a token, with the cell's number and one more: it is a cell of
+-- an array of the caller's. Who has the token has the cell. c/kfifo.h has the same numbers.
+use Rattle.std.specs.Prelude.{◌≡◌, ◌≢◌, ◌<◌, ◌⊎◌, ℕ, ◌-◌, Bool, true, false, Option, Some, None}
+use Rattle.std.specs.Prelude.{List, [], ◌∷◌, ◌++◌, length}
 use Rattle.kfifo_model.specs.declared.calls.Answer.{Answer}
 use Rattle.kfifo_model.specs.declared.calls.Answer.TheVariants as A
 use Rattle.kfifo_live.specs.declared.payload.Given.{Given}
@@ -70,15 +71,18 @@ pub record KeepsCell (token : TokenView) (old new : CellSeated) : Type 0 where
 
 -- the same seat, but for the cell that is reserved, or the one that was received
 abbrev pub with_reserved : Option TokenView → CellSeated → CellSeated
-with_reserved reserved seat = record { held = seat.held; cells = seat.cells; reserved = reserved; received = seat.received }
+with_reserved reserved seat =
+    record { held = seat.held; cells = seat.cells; reserved = reserved; received = seat.received }
 
 abbrev pub with_received : Option TokenView → CellSeated → CellSeated
-with_received received seat = record { held = seat.held; cells = seat.cells; reserved = seat.reserved; received = received }
+with_received received seat =
+    record { held = seat.held; cells = seat.cells; reserved = seat.reserved; received = received }
 
 -- What a `reserve` did: nothing where a cell was reserved before
 abbrev pub Reserved : Option TokenView → CellSeated → CellSeated → Type 0
 Reserved (Some token) old new = new ≡ old
-Reserved None old new = (taken : CellSeated) × TakesCell new.reserved old taken × (new ≡ with_reserved new.reserved taken)
+Reserved None old new =
+    (taken : CellSeated) × TakesCell new.reserved old taken × (new ≡ with_reserved new.reserved taken)
 
 pub record ReservesCell (answer : Option ℕ) (old new : CellSeated) : Type 0 where
   pub cell : answer ≡ cell_in new.reserved

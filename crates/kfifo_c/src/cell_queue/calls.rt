@@ -13,9 +13,10 @@ use crate::value_queue::status::taken_status;
 use kfifo_live::Taken;
 use std::alloc::Global;
 
-/// Writes the number of the cell that is reserved for the handle, which is the handle's alone until it is published, and
-/// returns DONE. Where none is reserved it reserves one: a free one that the handle has, or else one of those that no
-/// handle has. Returns NO_TOKEN, and writes nothing, where it found none; BAD_CALL, with nothing done, where it is closed.
+/// Writes the number of the cell that is reserved for the handle, which is the handle's alone until it is published,
+/// and returns DONE. Where none is reserved it reserves one: a free one that the handle has, or else one of those that
+/// no handle has. Returns NO_TOKEN, and writes nothing, where it found none; BAD_CALL, with nothing done, where it is
+/// closed.
 #[unsafe(no_mangle)]
 pub extern "C" fn kfifo_c_reserve(pass: &mut CellHandle, cell: &mut u64) -> u32
     ensures answer { (answer : Option (Option ℕ)) × (result ≡ reserve_number answer)
@@ -71,8 +72,8 @@ pub extern "C" fn kfifo_c_cancel(pass: &mut CellHandle) -> u32
 
 /// Takes one of the k oldest cells of the oldest generation that has one out of the queue of the handle, as
 /// `RenewingHandle::take`, and returns its answer's number. It releases the cell that the handle received before. It
-/// writes the number of the cell that it got, which is the handle's alone until its next `receive` or `release`. Returns
-/// BAD_CALL, with nothing done, where the handle is closed.
+/// writes the number of the cell that it got, which is the handle's alone until its next `receive` or `release`.
+/// Returns BAD_CALL, with nothing done, where the handle is closed.
 #[unsafe(no_mangle)]
 pub extern "C" fn kfifo_c_receive(pass: &mut CellHandle, cell: &mut u64) -> u32
     ensures answer { (answer : Option (HasTaken ℕ)) × (result ≡ taken_number answer)

@@ -73,8 +73,8 @@ fn numbers(alloc: Global, left: &[CellPayload]) -> Result<Vec<u64>, AllocError>
     Ok(numbers)
 }
 
-/// Writes the cells that are left, from the beginning on. Returns false, and writes nothing, where there is not room for
-/// all.
+/// Writes the cells that are left, from the beginning on. Returns false, and writes nothing, where there is not room
+/// for all.
 fn write_cells(cells: &mut [u64], left: &[u64]) -> bool
     ensures written { IsTrue result → cells.new ≡ left.now ++ drop (length left.now) cells.old }
     ensures kept { ¬ IsTrue result → cells.new ≡ cells.old }
@@ -86,11 +86,11 @@ fn write_cells(cells: &mut [u64], left: &[u64]) -> bool
     true
 }
 
-/// Closes a queue by all its handles, as `kfifo_renewing::close`, and writes the cells that are left in it, those of the
-/// oldest generation first, and how many. Returns BAD_CALL, with nothing done, where there are none, one is closed, they
-/// are not as many as the queue has, or there is not room for each cell of the queue; NO_MEMORY, with nothing done, and
-/// LOST, with the queue closed and nothing written, where an allocation failed. It also returns LOST where the handles
-/// are of two queues.
+/// Closes a queue by all its handles, as `kfifo_renewing::close`, and writes the cells that are left in it, those of
+/// the oldest generation first, and how many. Returns BAD_CALL, with nothing done, where there are none, one is closed,
+/// they are not as many as the queue has, or there is not room for each cell of the queue; NO_MEMORY, with nothing
+/// done, and LOST, with the queue closed and nothing written, where an allocation failed. It also returns LOST where
+/// the handles are of two queues.
 #[unsafe(no_mangle)]
 pub extern "C" fn kfifo_c_close_cells(
     alloc: Global,

@@ -42,7 +42,8 @@ impl Model for FreeCells {
 
     ghost view = { λ f. record { recent = f.recent.items; others = f.others; most = f.most } };
 
-    ghost invariant = { λ f. (f.most ≤ vec_capacity f.recent) × (f.batch ≤ f.most) × (f.batch ≤ BATCH) };
+    ghost invariant = { λ f. (f.most ≤ vec_capacity f.recent) × (1 ≤ f.batch) × (f.batch ≤ f.most)
+        × (f.batch ≤ BATCH) };
 }
 
 impl FreeCells {
@@ -58,7 +59,7 @@ impl FreeCells {
         look_from: usize,
     ) -> FreeCells
         requires room { most ≤ vec_capacity recent }
-        requires batch { (batch ≤ most) × (batch ≤ BATCH) }
+        requires batch { (1 ≤ batch) × (batch ≤ most) × (batch ≤ BATCH) }
         ensures { result ≡ record { recent = recent.items; others = others; most = most } }
     {
         FreeCells {
@@ -100,7 +101,9 @@ impl FreeCells {
     {
         match self.others.take() {
             Some(token) => {
-                self.fetch();
+                // So the next calls find a cell at once.
+                self.others
+                    .move_into(&mut self.recent, self.batch as usize - 1);
                 Some(token)
             }
             None => {
@@ -109,20 +112,6 @@ impl FreeCells {
                     .take(self.look_from, &mut self.recent, &mut self.spare)?;
                 self.recent.pop()
             }
-        }
-    }
-
-    /// Moves the next of the others to the recent ones, so that with one more these would be a batch.
-    // So the next calls find a cell at once.
-    fn fetch(&mut self)
-        ensures tokens { all_free self.new ≡ all_free self.old }
-        ensures most { self.new.most ≡ self.old.most }
-    {
-        while self.recent.len() + 1 < self.batch as usize {
-            let Some(token) = self.others.take() else {
-                return;
-            };
-            self.recent.push_reserved(token);
         }
     }
 

@@ -204,10 +204,10 @@ fn put_all(handles: &mut [CellHandle], mut seats: Vec<Box<CellSeat, Global>>, ad
 }
 
 /// Opens a queue of cells for as many threads as there are handles, with so many cells each, and puts a handle of it
-/// behind each, in their order. It renews as a queue of values does. What was behind the handles is lost. A refusal does
-/// nothing: BAD_K, BAD_SEGMENTS, BAD_LAST or BAD_PROBES where there is no such shape, BAD_RESERVE where the reserve is
-/// not below the greatest version, BAD_THREADS where the handles are not 1 to 64, BAD_TOKENS where the cells of a thread
-/// are not 1 to 1,024, NO_MEMORY where an allocation failed.
+/// behind each, in their order. It renews as a queue of values does. What was behind the handles is lost. A refusal
+/// does nothing: BAD_K, BAD_SEGMENTS, BAD_LAST or BAD_PROBES where there is no such shape, BAD_RESERVE where the
+/// reserve is not below the greatest version, BAD_THREADS where the handles are not 1 to 64, BAD_TOKENS where the cells
+/// of a thread are not 1 to 1,024, NO_MEMORY where an allocation failed.
 #[unsafe(no_mangle)]
 pub extern "C" fn kfifo_c_open_cells(
     alloc: Global,

@@ -1,6 +1,6 @@
 //! Free cells in the order of their numbers.
 ghost use Rattle.std.specs.Prelude.{◌≡◌, ◌<◌, ◌≤◌, ◌++◌, ◌∷◌, [], List, IfOk, MatchOption, None, Option, Some, length};
-ghost use Rattle.std.specs.Prelude.{map};
+ghost use Rattle.std.specs.Prelude.{map, vec_capacity};
 ghost use Rattle.kfifo_live.specs.Payloads.{TokenView};
 ghost use Rattle.kfifo_live.specs.Pass.{IsPassOf};
 ghost use Rattle.kfifo_c.specs.CellQueues.{tokens_of};
@@ -135,6 +135,22 @@ impl OrderedCells {
                 self.count -= 1;
                 return Some(token);
             }
+        }
+    }
+
+    /// Moves the next cells behind those of a list, until that has so many.
+    #[inline(always)]
+    pub(crate) fn move_into(&mut self, cells: &mut Vec<Token<()>>, count: usize)
+        requires { count ≤ vec_capacity cells.old }
+        ensures moved { (gone : List TokenView) × (self.old ≡ gone ++ self.new)
+            × (cells.new.items ≡ cells.old.items ++ gone) }
+        ensures room { vec_capacity cells.new ≡ vec_capacity cells.old }
+    {
+        while cells.len() < count {
+            let Some(token) = self.take() else {
+                return;
+            };
+            cells.push_reserved(token);
         }
     }
 }

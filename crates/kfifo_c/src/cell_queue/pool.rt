@@ -46,12 +46,7 @@ impl Batch {
         requires { count ≤ BATCH }
         ensures { (gone : List TokenView) × (cells.old ≡ gone ++ cells.new) }
     {
-        while self.cells.len() < count as usize {
-            let Some(token) = cells.take() else {
-                return;
-            };
-            self.cells.push_reserved(token);
-        }
+        cells.move_into(&mut self.cells, count as usize);
     }
 
     /// Moves the cells of the list behind these, the last one first.
@@ -66,8 +61,8 @@ impl Batch {
     }
 }
 
-/// Places for batches, and the queue that the cells' tokens are of. Nothing is ever given to that queue: it makes tokens
-/// of which no two have one number.
+/// Places for batches, and the queue that the cells' tokens are of. Nothing is ever given to that queue: it makes
+/// tokens of which no two have one number.
 ///
 /// In each place lies a list: a full one, or an empty one where the place is empty. Who lays a batch down exchanges a
 /// full list for an empty one, and who takes a batch out an empty one for a full one. So no call allocates.
@@ -178,8 +173,8 @@ impl Pool {
         Some(index)
     }
 
-    /// Takes a batch out of a place, which it returns, if one lies there, and puts it behind these cells. The look begins
-    /// at this place. `spare` is the empty list that is left there.
+    /// Takes a batch out of a place, which it returns, if one lies there, and puts it behind these cells. The look
+    /// begins at this place. `spare` is the empty list that is left there.
     pub(crate) fn take(
         &self,
         from: usize,

@@ -1,8 +1,8 @@
 //! What a handle of a queue of cells stands for.
 ghost use Rattle.std.specs.Prelude.{◌≡◌, ◌<◌, ◌≤◌, ◌*◌, ◌^◌, None, Some, SomeIff};
 ghost use Rattle.kfifo_c.specs.CellSeats.{CellSeated, all_free, cell_seated};
-ghost use Rattle.kfifo_c.specs.Cells.{KeepsCell, MayCancel, MayPublish, MayRelease, ReceivesCell, ReservesCell, TakesCell};
-ghost use Rattle.kfifo_c.specs.Cells.{cell_in, cells_of, token_given_back, token_taken};
+ghost use Rattle.kfifo_c.specs.Cells.{KeepsCell, MayCancel, MayPublish, MayRelease, ReceivesCell, ReservesCell};
+ghost use Rattle.kfifo_c.specs.Cells.{TakesCell, cell_in, cells_of, token_given_back, token_taken};
 ghost use Rattle.kfifo_c.specs.Values.{given_number};
 
 use crate::cell_queue::address::cell_address_of;
