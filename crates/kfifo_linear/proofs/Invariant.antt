@@ -24,7 +24,7 @@ is_gone other = false
 abbrev pub is_putting : Running → Bool
 is_putting (R.Enqueue item start left (E.ReloadSlot ends index filled)) = true
 is_putting (R.Enqueue item start left (E.ReloadEnds ends index filled)) = true
-is_putting (R.Enqueue item start left (E.HoldHead index filled held)) = true
+is_putting (R.Enqueue item start left (E.HoldHead ends index filled held)) = true
 is_putting (R.Enqueue item start left (E.Undo index filled worn)) = true
 is_putting other = false
 
@@ -40,7 +40,7 @@ pub record Own (shape : Shape) (w : ℕ → ℕ) (l : Ledger) (t index filled : 
 abbrev pub HasOwn : Shape → (ℕ → ℕ) → Ledger → ℕ → Running → Type 0
 HasOwn shape w l t (R.Enqueue item start left (E.ReloadSlot ends index filled)) = Own shape w l t index filled
 HasOwn shape w l t (R.Enqueue item start left (E.ReloadEnds ends index filled)) = Own shape w l t index filled
-HasOwn shape w l t (R.Enqueue item start left (E.HoldHead index filled held)) = Own shape w l t index filled
+HasOwn shape w l t (R.Enqueue item start left (E.HoldHead ends index filled held)) = Own shape w l t index filled
     × (head_of held ≡ l.tail_seen t % shape.n)
 HasOwn shape w l t (R.Enqueue item start left (E.Undo index filled worn)) = Own shape w l t index filled
 HasOwn shape w l t other = Unit {0}

@@ -68,9 +68,9 @@ module _ (shape : Shape) (w : ℕ → ℕ) (p : ℕ → Option Running) (l : Led
   can_enqueue item start left (E.ReloadEnds ends index filled) at =
       let s = ok.inv.base.sane t (R.Enqueue item start left (E.ReloadEnds ends index filled)) at in
       by_test (CanTell shape l n t) _ (ReloadEnds index (tail_of ends)) tt (λ e. (slot_known index s.3.1, s.3.0.tail))
-  can_enqueue item start left (E.HoldHead index filled held) at =
-      let s = ok.inv.base.sane t (R.Enqueue item start left (E.HoldHead index filled held)) at in
-      by_test (CanTell shape l n t) _ (HoldHead index) tt (λ e. slot_known index s.3.0)
+  can_enqueue item start left (E.HoldHead ends index filled held) at =
+      let s = ok.inv.base.sane t (R.Enqueue item start left (E.HoldHead ends index filled held)) at in
+      by_test (CanTell shape l n t) _ (HoldHead index) tt (λ e. slot_known index s.3.1)
   can_enqueue item start left (E.Undo index filled worn) at =
       let s = ok.inv.base.sane t (R.Enqueue item start left (E.Undo index filled worn)) at in
       by_test (CanTell shape l n t) _ (Undo index) tt (λ e. slot_known index s.3.0)

@@ -1,6 +1,6 @@
 -- A step keeps what the ledger says of slots and times.
 use Rattle.std.proofs.Common.{lit<, ◌≡◌, ◌≢◌, ℕ, ◌+◌, ◌-◌, ◌*◌, ◌/◌, ◌%◌, ◌<◌, ◌≤◌, ◌⊎◌, inl, inr, true, false, refl, sym, ◌∙◌, ap, arith}
-use Rattle.std.proofs.Common.{Some, None}
+use Rattle.std.proofs.Common.{Some, None, subst}
 use Rattle.std.proofs.Math.Nat.{mod-lt, add-mod-mod, add-mod_right, mod-eq_of_lt}
 use Rattle.std.proofs.lemmas.Nat.{div-add-mod'}
 use Rattle.std.proofs.lemmas.Bool.{cases_lt}
@@ -11,8 +11,8 @@ use Rattle.kfifo_machine.specs.declared.place.Running.TheVariants as R
 use Rattle.std.proofs.lemmas.Option.{same_Some}
 use Rattle.kfifo_linear.proofs.Abstract.{noted_tells, words_by}
 use Rattle.kfifo_linear.proofs.Base.{Sane}
-use Rattle.kfifo_linear.proofs.Claims.{EndsChange, ends_change, segment_of}
-use Rattle.kfifo_linear.proofs.Invariant.{AtHead, AtTail, Clear, HasClear, SlotOk, ThreadOk, Times}
+use Rattle.kfifo_linear.proofs.Claims.{EndsChange, HasLoaded, at_load, ends_change, segment_of}
+use Rattle.kfifo_linear.proofs.Invariant.{AtHead, AtTail, Clear, HasClear, HasOwn, SlotOk, ThreadOk, Times}
 use Rattle.kfifo_linear.proofs.Ring.{at_distance, distance-mod, place_below, value-slot_word}
 use Rattle.kfifo_linear.proofs.Threads.{Slots}
 use Rattle.kfifo_linear.specs.Ledger.{Inside, Ledger, item_of, settle_point, settle_visit, stepped}
@@ -28,6 +28,48 @@ filled_with-item item empty h = value-slot_word item (version_of empty + 1) h
 
 pub emptied-value : (filled : ℕ) → value_of (emptied filled) ≡ 0
 emptied-value filled = value-slot_word 0 (version_of filled + 1) (lit< tt)
+
+-- where an enqueue looks at the ends again, its slot is in the segment of the tail that it loaded
+abbrev SeenTail : Shape → Ledger → ℕ → Running → Type 0
+SeenTail shape l t (R.Enqueue item start left (E.ReloadEnds ends index filled)) = tail_of ends ≡ l.tail_seen t % shape.n
+SeenTail shape l t other = Unit {0}
+
+seen_tail : (shape : Shape) (w : ℕ → ℕ) (l : Ledger) (t : ℕ) (r : Running) → HasLoaded shape w l t r → SeenTail shape l t r
+seen_tail shape w l t r loaded = grind arith
+
+-- an item that a step settles, or that was settled before it, has a visit of its slot's segment
+settled_there : (shape : Shape) (w : ℕ → ℕ) (l : Ledger) (t : ℕ) (r : Running) (i : ℕ)
+    → (l.settled i ≡ true → l.visit i % shape.n ≡ segment_of shape i)
+    → ((x : ℕ) → x < shape.n → (l.head + distance shape.n (head_of (w 0)) x) % shape.n ≡ x) → HasOwn shape w l t r
+    → SeenTail shape l t r → head_of (w 0) ≡ l.head % shape.n → l.tail_seen t % shape.n < shape.n
+    → (stepped shape w t r l).settled i ≡ true → (stepped shape w t r l).visit i % shape.n ≡ segment_of shape i
+unfolding stepped settle_visit
+settled_there shape w l t r i old place own seen head within e = grind (arith, nat_tests, noted_tells)
+
+-- an item that a step settles was put in the round that the thread is in
+settled_now : (shape : Shape) (w : ℕ → ℕ) (l : Ledger) (t : ℕ) (r : Running) (i : ℕ) → HasOwn shape w l t r
+    → (stepped shape w t r l).settled i ≡ true
+    → (l.settled i ≡ true) ⊎ ((at_load r ≡ false) × (segment_of shape i ≡ l.tail_seen t % shape.n)
+    × ((stepped shape w t r l).owner i ≡ l.caller t))
+unfolding stepped
+settled_now shape w l t r i own e = grind (arith, nat_tests, noted_tells)
+
+-- a settled item's visit, its point and the first step of its call stay
+settled_stays : (shape : Shape) (w : ℕ → ℕ) (l : Ledger) (t : ℕ) (r : Running) (i : ℕ) → HasOwn shape w l t r
+    → l.settled i ≡ true → (stepped shape w t r l).settled i ≡ true
+    → ((stepped shape w t r l).point i ≡ l.point i) × ((stepped shape w t r l).owner i ≡ l.owner i)
+unfolding stepped
+settled_stays shape w l t r i own before after = grind (arith, nat_tests, noted_tells)
+
+-- an item is settled after its call began
+settles_after : (l : Ledger) (t v : ℕ) → l.first (l.caller t) ≤ l.now → (v < l.tail → l.first (l.caller t) ≤ l.tails v)
+    → l.first (l.caller t) ≤ settle_point l v
+unfolding settle_point
+settles_after l t v started left = grind (arith, nat_tests)
+
+firsts_stay : (shape : Shape) (w : ℕ → ℕ) (l : Ledger) (t : ℕ) (r : Running) (c : ℕ) → (stepped shape w t r l).first c ≡ l.first c
+unfolding stepped
+firsts_stay shape w l t r c = grind (arith, nat_tests, noted_tells)
 
 module _ (shape : Shape) (w : ℕ → ℕ) (l : Ledger) (t : ℕ) (r : Running) (s : Sane shape r) (ok : EndsOk shape (w 0) l.head l.tail)
     (me : ThreadOk shape w l t r) (times : Times l) where
@@ -206,15 +248,8 @@ module _ (shape : Shape) (w : ℕ → ℕ) (l : Ledger) (t : ℕ) (r : Running) 
       grind (arith, nat_tests, noted_tells)
 
   settled_place : (stepped shape w t r l).settled i ≡ true → (stepped shape w t r l).visit i % shape.n ≡ segment_of shape i
-  unfolding stepped settle_visit
-  settled_place e =
-      let h = here.settled in
-      let d = d_place in
-      let own = me.own in
-      let ld = me.loaded in
-      let hd = ok.head in
-      let m = mod-lt (l.tail_seen t) (zero_below shape.n shape.some_segments) in
-      grind (arith, nat_tests, noted_tells)
+  settled_place e = settled_there shape w l t r i (λ old. (here.settled old).place) d_place me.own
+      (seen_tail shape w l t r me.loaded) ok.head (mod-lt (l.tail_seen t) (zero_below shape.n shape.some_segments)) e
 
   settled_from_head : (stepped shape w t r l).settled i ≡ true → (stepped shape w t r l).head ≤ (stepped shape w t r l).visit i
   unfolding stepped settle_visit
@@ -261,21 +296,25 @@ module _ (shape : Shape) (w : ℕ → ℕ) (l : Ledger) (t : ℕ) (r : Running) 
 
   settled_started : (stepped shape w t r l).settled i ≡ true
       → (stepped shape w t r l).first ((stepped shape w t r l).owner i) ≤ (stepped shape w t r l).point i
-  unfolding stepped settle_visit settle_point
-  settled_started e =
-      let h = here.settled in
-      let d = d_tail in
-      let p = d_place in
-      let o = ok.ordered in
-      let nw = ok.no_wrap in
-      let own = me.own in
-      let rd = me.round in
-      let k = me.started in
-      let ld = me.loaded in
-      let hd = ok.head in
-      let m = mod-lt (l.tail_seen t) (zero_below shape.n shape.some_segments) in
-      let pb = place_below shape.n in
-      grind (arith, nat_tests, noted_tells)
+  settled_started e = elim (settled_old e) [
+    | inl p ↦ by_first (l.owner i) p.3 (subst (λ x. l.first (l.owner i) ≤ x) (sym p.2) (here.settled p.0).started)
+    | inr p ↦ elim (settled_now shape w l t r i me.own e) [
+      | inl old ↦ let same = settled_stays shape w l t r i me.own old e in
+          by_first (l.owner i) same.1 (subst (λ x. l.first (l.owner i) ≤ x) (sym same.0) (here.settled old).started)
+      | inr new ↦
+          let v = (stepped shape w t r l).visit i in
+          let round = me.round new.0 in
+          let there : v % shape.n ≡ l.tail_seen t % shape.n = settled_place e ∙ new.1 in
+          let head : l.head ≤ v = omega (arith, settled_from_head e, change.head_rise) in
+          let seen : l.tail_seen t ≤ v =
+          place_below shape.n v (l.tail_seen t) (omega (arith, round.tail_below, ok.no_wrap, head)) (sym there) in
+          by_first (l.caller t) new.2 (subst (λ x. l.first (l.caller t) ≤ x) (sym p.1) (settles_after l t v me.started (round.tails_after v seen)))
+    ]
+  ]
+    where
+      by_first : (c : ℕ) → (stepped shape w t r l).owner i ≡ c → l.first c ≤ (stepped shape w t r l).point i
+          → (stepped shape w t r l).first ((stepped shape w t r l).owner i) ≤ (stepped shape w t r l).point i
+      by_first c owner less = rw owner (subst (λ x. x ≤ (stepped shape w t r l).point i) (sym (firsts_stay shape w l t r c)) less)
 
   settled_at_tail : (stepped shape w t r l).settled i ≡ true
       → AtTail (stepped shape w t r l) ((stepped shape w t r l).visit i) ((stepped shape w t r l).point i)

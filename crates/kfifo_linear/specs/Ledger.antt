@@ -45,7 +45,7 @@ enqueue_action shape (E.Recheck ends seen) word = Recheck
 enqueue_action shape (E.Put ends index empty) word = action_if (word == empty) (Put index)
 enqueue_action shape (E.ReloadSlot ends index filled) word = Unnoted
 enqueue_action shape (E.ReloadEnds ends index filled) word = settles shape (tail_of ends) index word
-enqueue_action shape (E.HoldHead index filled held) word = action_if (word == held) (HoldHead index)
+enqueue_action shape (E.HoldHead ends index filled held) word = action_if (word == held) (HoldHead index)
 enqueue_action shape (E.Undo index filled worn) word = action_if (word == filled) (Undo index)
 enqueue_action shape (E.ScanHead ends offset) word = Unnoted
 enqueue_action shape (E.ConfirmFull ends) word = Unnoted

@@ -1,5 +1,5 @@
 -- Worked schedules of a ring of two segments of two slots, and their orders.
-use Rattle.std.specs.Prelude.{◌≡◌, ℕ, List, [], ◌∷◌, ◌++◌, replicate, Some, None}
+use Rattle.std.specs.Prelude.{◌≡◌, ℕ, List, [], ◌∷◌, ◌++◌, replicate, Some, None, false}
 use Rattle.kfifo_words.specs.declared.shape.Shape.{Shape}
 use Rattle.kfifo_machine.specs.declared.event.Event.{Event}
 use Rattle.kfifo_machine.specs.declared.event.Begin.{Begin}
@@ -39,9 +39,10 @@ taken_after = chosen_before ++ goes 2 1
 abbrev pub ended_after : List Event
 ended_after = taken_after ++ goes 0 1
 
--- two segments of two slots, and the greatest versions that there are
+-- two segments of two slots, the greatest versions that there are, and enqueues that do not hold again
 abbrev pub IsTwoByTwo : Shape → Type 0
 IsTwoByTwo shape = (shape.k ≡ 2) × (shape.n ≡ 2) × (shape.last ≡ 1099511627775) × (shape.probes ≡ 2)
+    × (shape.holds_again ≡ false)
 
 -- the orders of these schedules
 pub record RowsHold (shape : Shape) : Type 0 where

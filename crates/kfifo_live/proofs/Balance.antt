@@ -138,7 +138,7 @@ module _ (x : ℕ) (shape : Shape) (words : List ℕ) (size : length words ≡ 2
       by_test false is = stays (held x shape words)
   enqueue_held item start left (E.ReloadSlot ends index filled) place knows = stays (held x shape words)
   enqueue_held item start left (E.ReloadEnds ends index filled) place knows = stays (held x shape words)
-  enqueue_held item start left (E.HoldHead index filled ends) place knows = held-ends x shape words ends (head_held ends)
+  enqueue_held item start left (E.HoldHead ends index filled held) place knows = held-ends x shape words held (head_held held)
   enqueue_held item start left (E.Undo index filled worn) place knows = by_test (get_or words index 0 == filled) refl
     where
       by_test : (b : Bool) → (get_or words index 0 == filled) ≡ b

@@ -162,9 +162,9 @@ reload_ends : (shape : Shape) (item start left ends index filled word : ℕ) (q 
     → enqueue_advance shape item start left (E.ReloadEnds ends index filled) word ≡ Goes q → out_at q ≡ 0
 reload_ends shape item start left ends index filled word q is = grind (arith, nat_tests)
 
-hold_head : (shape : Shape) (item start left index filled held word : ℕ) (q : Running)
-    → enqueue_advance shape item start left (E.HoldHead index filled held) word ≡ Goes q → out_at q ≡ 0
-hold_head shape item start left index filled held word q is = grind (arith, nat_tests)
+hold_head : (shape : Shape) (item start left ends index filled held word : ℕ) (q : Running)
+    → enqueue_advance shape item start left (E.HoldHead ends index filled held) word ≡ Goes q → out_at q ≡ 0
+hold_head shape item start left ends index filled held word q is = grind (arith, nat_tests)
 
 -- what is out after a step was out before, or comes back by a won undo
 out_came : (shape : Shape) (r : Running) (word : ℕ) (q : Running) → advance shape r word ≡ Goes q → 0 < out_at q
@@ -175,8 +175,8 @@ out_came shape (R.Enqueue item start left (E.ReloadSlot ends index filled)) word
     (let none = reload_slot shape item start left ends index filled word q is in omega arith)
 out_came shape (R.Enqueue item start left (E.ReloadEnds ends index filled)) word q is some = absurd
     (let none = reload_ends shape item start left ends index filled word q is in omega arith)
-out_came shape (R.Enqueue item start left (E.HoldHead index filled held)) word q is some = absurd
-    (let none = hold_head shape item start left index filled held word q is in omega arith)
+out_came shape (R.Enqueue item start left (E.HoldHead ends index filled held)) word q is some = absurd
+    (let none = hold_head shape item start left ends index filled held word q is in omega arith)
 out_came shape (R.Enqueue item start left (E.Undo index filled worn)) word q is some =
     elim (cases_eq word filled) [
       | inl won ↦ inr record {
@@ -276,7 +276,7 @@ put_of_exchange shape (R.Enqueue item start left (E.Put ends index empty)) i fro
       place = (let a : index ≡ i = cc in let b : empty ≡ from = cc in λ k. R.Enqueue item start left (E.Put ends (a k) (b k)));
       puts = (let a : filled_with item empty ≡ to = cc in let b : empty ≡ from = cc in sym a ∙ ap (filled_with item) b);
     }
-put_of_exchange shape (R.Enqueue item start left (E.HoldHead index filled_word held)) i from to above filled is = absurd
+put_of_exchange shape (R.Enqueue item start left (E.HoldHead ends index filled_word held)) i from to above filled is = absurd
     (let e : 0 ≡ i = cc in omega arith)
 put_of_exchange shape (R.Enqueue item start left (E.Undo index filled_word worn)) i from to above filled is = absurd
     (filled (ap value_of (let e : to ≡ emptied filled_word = cc in e) ∙ value-emptied filled_word))
@@ -324,8 +324,8 @@ carried_word shape (R.Enqueue item start left phase) i word place knows c = of_p
         (slot index filled place.4.2.above place.4.2.below place.0 knows c)
     of_phase (E.ReloadEnds ends index filled) place knows c = made (E.ReloadEnds ends index filled)
         (slot index filled place.4.2.above place.4.2.below place.0 knows c)
-    of_phase (E.HoldHead index filled held) place knows c = made (E.HoldHead index filled held)
-        (slot index filled place.4.3.above place.4.3.below place.0 knows c)
+    of_phase (E.HoldHead ends index filled held) place knows c = made (E.HoldHead ends index filled held)
+        (slot index filled place.4.4.above place.4.4.below place.0 knows c)
     of_phase (E.Undo index filled worn) place knows c = made (E.Undo index filled worn)
         (slot index filled place.4.1.above place.4.1.below place.0 knows c)
     of_phase other place knows c = absurd c

@@ -88,7 +88,7 @@ module _ (shape : Shape) (w : ℕ → ℕ) where
       ]
   turns_enqueue item start left (E.ReloadSlot ends index filled) place knows = Quiet refl (λ i a b. refl)
   turns_enqueue item start left (E.ReloadEnds ends index filled) place knows = Quiet refl (λ i a b. refl)
-  turns_enqueue item start left (E.HoldHead index filled held) place knows = Quiet refl (λ i a b. slots_stay w held _ i a)
+  turns_enqueue item start left (E.HoldHead ends index filled held) place knows = Quiet refl (λ i a b. slots_stay w held _ i a)
   turns_enqueue item start left (E.Undo index filled worn) place knows =
       elim (cases_eq (w index) filled) [
         | inl won ↦ Lifted index item (inl (won_move (w index) filled (Lifts item) won)) place.4.1.above place.4.1.below
@@ -226,8 +226,8 @@ module _ {T : Type 0} (shape : Shape) (w v : ℕ → ℕ) (at at' : ℕ → Wher
       gift_put item index filled payload place.0 knows place.4.2.above place.4.2.below fits
   gift_other u item start left (E.ReloadEnds ends index filled) payload ne place knows out fits =
       gift_put item index filled payload place.0 knows place.4.2.above place.4.2.below fits
-  gift_other u item start left (E.HoldHead index filled held) payload ne place knows out fits =
-      gift_put item index filled payload place.0 knows place.4.3.above place.4.3.below fits
+  gift_other u item start left (E.HoldHead ends index filled held) payload ne place knows out fits =
+      gift_put item index filled payload place.0 knows place.4.4.above place.4.4.below fits
   gift_other u item start left (E.Undo index filled worn) payload ne place knows out fits =
       gift_put item index filled payload place.0 knows place.4.1.above place.4.1.below fits
   gift_other u item start left (E.ScanHead ends offset) payload ne place knows out fits =
@@ -323,7 +323,7 @@ enqueue_payload item start left (E.Put ends index empty) word gifts hand = by_te
     by_test false = refl
 enqueue_payload item start left (E.ReloadSlot ends index filled) word gifts hand = refl
 enqueue_payload item start left (E.ReloadEnds ends index filled) word gifts hand = refl
-enqueue_payload item start left (E.HoldHead index filled held) word gifts hand = refl
+enqueue_payload item start left (E.HoldHead ends index filled held) word gifts hand = refl
 enqueue_payload item start left (E.Undo index filled worn) word gifts hand = by_test (word == filled)
   where
     by_test : (b : Bool) → (hand_after (cond b (Lifts item) Stays) gifts hand).payload ≡ hand.payload
@@ -373,10 +373,10 @@ module _ {T : Type 0} (shape : Shape) (w : ℕ → ℕ) (gifts : Gifts T) (paylo
       put_on shape w gifts payload item start left (E.ReloadSlot ends index filled) w _ refl refl place.0 (λ i f p. p) fits
   gift_on item start left (E.ReloadEnds ends index filled) place fits =
       put_on shape w gifts payload item start left (E.ReloadEnds ends index filled) w _ refl refl place.0 (λ i f p. p) fits
-  gift_on item start left (E.HoldHead index filled held) place fits =
-      let v = words_by (access shape (R.Enqueue item start left (E.HoldHead index filled held))) w in
-      put_on shape v gifts payload item start left (E.HoldHead index filled held) v _ refl refl place.0 (λ i f p. p)
-      (put_same v item index filled (slots_stay w held _ index place.4.3.above) fits)
+  gift_on item start left (E.HoldHead ends index filled held) place fits =
+      let v = words_by (access shape (R.Enqueue item start left (E.HoldHead ends index filled held))) w in
+      put_on shape v gifts payload item start left (E.HoldHead ends index filled held) v _ refl refl place.0 (λ i f p. p)
+      (put_same v item index filled (slots_stay w held _ index place.4.4.above) fits)
   gift_on item start left (E.Undo index filled worn) place fits =
       elim (cases_eq (w index) filled) [
         | inl won ↦ undo_on item start left index filled (w index) worn _ won (fits.1 won)
@@ -428,7 +428,7 @@ out_gift w gifts hand (R.Enqueue item start left (E.Recheck ends seen)) fits pos
 out_gift w gifts hand (R.Enqueue item start left (E.Put ends index empty)) fits positive out = (fits.2, fits.1)
 out_gift w gifts hand (R.Enqueue item start left (E.ReloadSlot ends index filled)) fits positive out = absurd (omega arith)
 out_gift w gifts hand (R.Enqueue item start left (E.ReloadEnds ends index filled)) fits positive out = absurd (omega arith)
-out_gift w gifts hand (R.Enqueue item start left (E.HoldHead index filled held)) fits positive out = absurd (omega arith)
+out_gift w gifts hand (R.Enqueue item start left (E.HoldHead ends index filled held)) fits positive out = absurd (omega arith)
 out_gift w gifts hand (R.Enqueue item start left (E.Undo index filled worn)) fits positive out = absurd (omega arith)
 out_gift w gifts hand (R.Enqueue item start left (E.ScanHead ends offset)) fits positive out = (fits.2, fits.1)
 out_gift w gifts hand (R.Enqueue item start left (E.ConfirmFull ends)) fits positive out = (fits.2, fits.1)
@@ -453,7 +453,7 @@ undo_gift shape w gifts hand (R.Enqueue item start left (E.Put ends index empty)
     by_test false e = cc
 undo_gift shape w gifts hand (R.Enqueue item start left (E.ReloadSlot ends index filled)) x fits is = absurd (cc)
 undo_gift shape w gifts hand (R.Enqueue item start left (E.ReloadEnds ends index filled)) x fits is = absurd (cc)
-undo_gift shape w gifts hand (R.Enqueue item start left (E.HoldHead index filled held)) x fits is = absurd (cc)
+undo_gift shape w gifts hand (R.Enqueue item start left (E.HoldHead ends index filled held)) x fits is = absurd (cc)
 undo_gift shape w gifts hand (R.Enqueue item start left (E.Undo index filled worn)) x fits is =
     elim (cases_eq (w index) filled) [
       | inl won ↦

@@ -370,6 +370,14 @@ module _ {T : Type 0} {ring : Ring T} where
     so_far = λ next last more. on.so_far next last (runs_on (comes on.stands stepped is) more);
   }
 
+  -- and so do more steps
+  pub onward_on : {old mid new : Seat (Option T) (View T)} {place later : Running} → Onward ring old place mid → Comes mid (Goes later) new
+      → Onward ring old later new
+  onward_on on more = record {
+    stands = stands_on on.stands.of more;
+    so_far = λ next last rest. on.so_far next last (runs_on more rest);
+  }
+
   pub onward_comes : {old mid new : Seat (Option T) (View T)} {place : Running} {word : ℕ} {next : Next} → Onward ring old place mid
       → Stepped ring mid word new → advance ring.shape.now place word ≡ next → Comes old next new
   onward_comes {old} {mid} {new} {place} {word} {next} on stepped is = on.so_far next new (comes on.stands stepped is)

@@ -52,7 +52,7 @@ pub data Where : Type 0 where
 abbrev pub out_in : ℕ → EnqueuePhase → ℕ
 out_in item (E.ReloadSlot ends index filled) = 0
 out_in item (E.ReloadEnds ends index filled) = 0
-out_in item (E.HoldHead index filled held) = 0
+out_in item (E.HoldHead ends index filled held) = 0
 out_in item (E.Undo index filled worn) = 0
 out_in item phase = item
 
@@ -172,7 +172,7 @@ module _ {T : Type 0} where
   abbrev pub GiftFits : (ℕ → ℕ) → Gifts T → Option T → ℕ → EnqueuePhase → Type 0
   GiftFits words gifts payload item (E.ReloadSlot ends index filled) = PutFits words gifts payload item index filled
   GiftFits words gifts payload item (E.ReloadEnds ends index filled) = PutFits words gifts payload item index filled
-  GiftFits words gifts payload item (E.HoldHead index filled held) = PutFits words gifts payload item index filled
+  GiftFits words gifts payload item (E.HoldHead ends index filled held) = PutFits words gifts payload item index filled
   GiftFits words gifts payload item (E.Undo index filled worn) = PutFits words gifts payload item index filled
   GiftFits words gifts payload item phase = beside item gifts ≡ payload
 

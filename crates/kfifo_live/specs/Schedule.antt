@@ -241,6 +241,7 @@ small_opening =
       n = 2;
       last = 2;
       probes = 1;
+      holds_again = false;
       some_slot = lit≤ tt;
       few_slots = lit≤ tt;
       some_segments = lit≤ tt;

@@ -1,9 +1,9 @@
 //! The enqueue of the running queue, step by step.
 //!
 //! Each call of a method of `ring` that takes the seat is one atomic step, and a scan one for each slot.
-ghost use Rattle.std.specs.Prelude.{◌≡◌, ◌<◌, ◌≤◌, ◌^◌, Some};
+ghost use Rattle.std.specs.Prelude.{◌≡◌, ℕ, ◌<◌, ◌≤◌, ◌^◌, Some};
 ghost use Rattle.kfifo_live.specs.Step.{Comes, Rests, Runs, Stands};
-ghost use Rattle.kfifo_live.specs.Rounds.{enqueue_at, enqueue_round};
+ghost use Rattle.kfifo_live.specs.Rounds.{enqueue_at, enqueue_round, put_next, rounds_next, LeavesAtMost};
 
 use crate::ring::Ring;
 use crate::scan::{Empty, Filled};
@@ -30,26 +30,43 @@ impl<'a, T> Clone for Enqueue<'a, T> {
 
 impl<'a, T> Copy for Enqueue<'a, T> {}
 
+/// What an enqueue comes to once its item is put.
+enum PutOutcome {
+    /// The call returns.
+    Answered(Answer),
+    /// The item is out again, and the round lost.
+    TakenOut,
+    /// Another thread changed the ends before the head was held, which costs the round. The item is in its slot, or was
+    /// taken.
+    NotHeld,
+}
+
+/// What rounds of an enqueue come to.
+enum RoundOutcome {
+    /// The call returns.
+    Answered(Answer),
+    /// The last of them is lost, with `left` rounds left, that one among them.
+    Lost { left: u16 },
+}
+
 impl<T> Enqueue<'_, T> {
     /// Takes the item out again.
     #[inline(always)]
-    fn undo(
-        self,
-        seat: &mut ThreadSeat<T>,
-        index: usize,
-        filled: Word,
-        worn: bool,
-    ) -> Option<Answer>
+    fn undo(self, seat: &mut ThreadSeat<T>, index: usize, filled: Word, worn: bool) -> PutOutcome
         requires { Stands self.ring seat.old (enqueue_at self (EnqueuePhase.Undo index filled worn)) }
-        ensures { Comes seat.old (enqueue_round self.entry result) seat.new }
+        ensures { (ends : ℕ) → Comes seat.old (put_next self.entry ends index filled result) seat.new }
     {
         // The version rises. If it went back to the empty slot's, an enqueue that has read the slot as empty could put
         // its item long after, in a segment that is no longer the tail's (ABA).
         let emptied = Word::pack(0, filled.version() + 1);
         if self.ring.compare_exchange(seat, index, filled, emptied) != filled {
-            return Some(Answer::Done);
+            return PutOutcome::Answered(Answer::Done);
         }
-        if worn { Some(Answer::Worn) } else { None }
+        if worn {
+            PutOutcome::Answered(Answer::Worn)
+        } else {
+            PutOutcome::TakenOut
+        }
     }
 
     /// Holds the head at the item's segment, or takes the item out again.
@@ -58,35 +75,34 @@ impl<T> Enqueue<'_, T> {
         self,
         seat: &mut ThreadSeat<T>,
         ends: Ends,
+        now: Ends,
         index: usize,
         filled: Word,
-    ) -> Option<Answer>
-        requires { Stands self.ring seat.old (enqueue_at self (EnqueuePhase.HoldHead index filled ends)) }
-        ensures { Comes seat.old (enqueue_round self.entry result) seat.new }
+    ) -> PutOutcome
+        requires { Stands self.ring seat.old (enqueue_at self (EnqueuePhase.HoldHead ends index filled now)) }
+        ensures { Comes seat.old (put_next self.entry ends index filled result) seat.new }
     {
         // A dequeue may have seen this slot empty, before the put, and be about to move the head on. It
         // would pass the item: raising the version makes its compare-and-swap fail.
-        let held = Ends::pack(ends.head(), ends.tail(), ends.version() + 1);
+        let held = Ends::pack(now.head(), now.tail(), now.version() + 1);
         let found = self
             .ring
-            .compare_exchange(seat, ENDS_INDEX, ends.into(), held.into());
-        if found == ends.into() {
-            return Some(Answer::Done);
+            .compare_exchange(seat, ENDS_INDEX, now.into(), held.into());
+        if found == now.into() {
+            return PutOutcome::Answered(Answer::Done);
+        }
+        // If each such loss took the item out, two threads could keep each other busy for ever.
+        if self.ring.shape.holds_again() && self.left != 1 {
+            return PutOutcome::NotHeld;
         }
         self.undo(seat, index, filled, false)
     }
 
     /// Sees to it that the head will not pass the item, or takes the item out again.
     #[inline(always)]
-    fn settle(
-        self,
-        seat: &mut ThreadSeat<T>,
-        ends: Ends,
-        index: usize,
-        filled: Word,
-    ) -> Option<Answer>
+    fn settle(self, seat: &mut ThreadSeat<T>, ends: Ends, index: usize, filled: Word) -> PutOutcome
         requires { Stands self.ring seat.old (enqueue_at self (EnqueuePhase.ReloadEnds ends index filled)) }
-        ensures { Comes seat.old (enqueue_round self.entry result) seat.new }
+        ensures { Comes seat.old (put_next self.entry ends index filled result) seat.new }
     {
         let shape = self.ring.shape;
         let segment = ends.tail();
@@ -96,46 +112,65 @@ impl<T> Enqueue<'_, T> {
             if now.version() == shape.last() {
                 return self.undo(seat, index, filled, true);
             }
-            return self.hold_head(seat, now, index, filled);
+            return self.hold_head(seat, ends, now, index, filled);
         }
         // Between the look at the ends and the put, others may have filled and emptied the segment, and the head have
         // moved on past it. Done would then leave the item behind the head: a dequeue could return Empty while it is
         // there.
         let tail = now.tail();
         if segment == tail || shape.dist(head, segment) <= shape.dist(head, tail) {
-            return Some(Answer::Done);
+            return PutOutcome::Answered(Answer::Done);
         }
         self.undo(seat, index, filled, false)
     }
 
     /// Puts the item into an empty slot.
     #[inline(always)]
-    fn put(self, seat: &mut ThreadSeat<T>, ends: Ends, index: usize, empty: Word) -> Option<Answer>
+    fn put(self, seat: &mut ThreadSeat<T>, ends: Ends, index: usize, empty: Word) -> RoundOutcome
         requires { Stands self.ring seat.old (enqueue_at self (EnqueuePhase.Put ends index empty)) }
-        ensures { Comes seat.old (enqueue_round self.entry result) seat.new }
+        ensures comes { Comes seat.old (rounds_next self.entry result) seat.new }
+        ensures left { LeavesAtMost self.entry.left result }
     {
         let filled = Word::pack(self.item, empty.version() + 1);
         if self.ring.compare_exchange(seat, index, empty, filled) != empty {
-            return None;
+            return RoundOutcome::Lost { left: self.left };
         }
-        self.see_put(seat, ends, index, filled)
+        self.keep(seat, ends, index, filled)
+    }
+
+    /// Sees to it that the item stays, once more after each hold of the head that was lost.
+    #[inline(always)]
+    fn keep(self, seat: &mut ThreadSeat<T>, ends: Ends, index: usize, filled: Word) -> RoundOutcome
+        requires { Stands self.ring seat.old (enqueue_at self (EnqueuePhase.ReloadSlot ends index filled)) }
+        ensures comes { Comes seat.old (rounds_next self.entry result) seat.new }
+        ensures left { LeavesAtMost self.entry.left result }
+    {
+        let mut left = self.left;
+        'holds: loop {
+            let call = Enqueue {
+                ring: self.ring,
+                item: self.item,
+                start: self.start,
+                left,
+            };
+            match call.see_put(seat, ends, index, filled) {
+                PutOutcome::Answered(answer) => return RoundOutcome::Answered(answer),
+                PutOutcome::TakenOut => return RoundOutcome::Lost { left },
+                PutOutcome::NotHeld => {}
+            }
+            left -= 1;
+        }
     }
 
     /// Looks at the slot again, the item being put.
     #[inline(always)]
-    fn see_put(
-        self,
-        seat: &mut ThreadSeat<T>,
-        ends: Ends,
-        index: usize,
-        filled: Word,
-    ) -> Option<Answer>
+    fn see_put(self, seat: &mut ThreadSeat<T>, ends: Ends, index: usize, filled: Word) -> PutOutcome
         requires { Stands self.ring seat.old (enqueue_at self (EnqueuePhase.ReloadSlot ends index filled)) }
-        ensures { Comes seat.old (enqueue_round self.entry result) seat.new }
+        ensures { Comes seat.old (put_next self.entry ends index filled result) seat.new }
     {
         // Where a dequeue has taken the item already, no place in the queue is left to be made sure of.
         if self.ring.load(seat, index) != filled {
-            return Some(Answer::Done);
+            return PutOutcome::Answered(Answer::Done);
         }
         self.settle(seat, ends, index, filled)
     }
@@ -203,27 +238,29 @@ impl<T> Enqueue<'_, T> {
         ends: Ends,
         index: usize,
         empty: Word,
-    ) -> Option<Answer>
+    ) -> RoundOutcome
         requires { Stands self.ring seat.old (enqueue_at self (EnqueuePhase.Recheck ends (Found.Slot index empty))) }
-        ensures { Comes seat.old (enqueue_round self.entry result) seat.new }
+        ensures comes { Comes seat.old (rounds_next self.entry result) seat.new }
+        ensures left { LeavesAtMost self.entry.left result }
     {
         // The segment may no longer be the tail's. An item put there would stand behind items that came
         // later, and be overtaken by them.
         if self.ring.load_ends(seat) != ends {
-            return None;
+            return RoundOutcome::Lost { left: self.left };
         }
         // A put needs a version, and the one that empties the slot again another.
         if self.ring.shape.last() < empty.version() + 2 {
-            return Some(Answer::Worn);
+            return RoundOutcome::Answered(Answer::Worn);
         }
         self.put(seat, ends, index, empty)
     }
 
-    /// One round, after its first load of the ends word. None where it is lost.
+    /// One round, after its first load of the ends word, and those in which it tries again to hold the head.
     #[inline(always)]
-    fn round(self, seat: &mut ThreadSeat<T>, ends: Ends) -> Option<Answer>
+    fn round(self, seat: &mut ThreadSeat<T>, ends: Ends) -> RoundOutcome
         requires { Stands self.ring seat.old (enqueue_at self (EnqueuePhase.ScanTail ends 0)) }
-        ensures { Comes seat.old (enqueue_round self.entry result) seat.new }
+        ensures comes { Comes seat.old (rounds_next self.entry result) seat.new }
+        ensures left { LeavesAtMost self.entry.left result }
     {
         let probes = self.ring.shape.probes();
         match self
@@ -231,7 +268,10 @@ impl<T> Enqueue<'_, T> {
             .scan::<Empty>(seat, ends.tail(), self.start, probes)
         {
             Found::Slot { index, word } => self.fill_slot(seat, ends, index, word),
-            Found::Nothing => self.leave_segment(seat, ends),
+            Found::Nothing => match self.leave_segment(seat, ends) {
+                Some(answer) => RoundOutcome::Answered(answer),
+                None => RoundOutcome::Lost { left: self.left },
+            },
         }
     }
 }
@@ -261,8 +301,9 @@ impl<T> Ring<'_, T> {
                 start,
                 left,
             };
-            if let Some(answer) = call.round(seat, ends) {
-                return answer;
+            match call.round(seat, ends) {
+                RoundOutcome::Answered(answer) => return answer,
+                RoundOutcome::Lost { left: lost } => left = lost,
             }
             if left == 1 {
                 return Answer::Busy;

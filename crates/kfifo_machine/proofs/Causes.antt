@@ -1,7 +1,7 @@
 -- Full has its cause: what an enqueue has seen in its round so far.
 use Rattle.std.proofs.Common.{◌≡◌, ◌≢◌, ℕ, ◌+◌, ◌-◌, List, [], ◌∷◌, ◌++◌, length, Some, Bool, true, false, refl, sym, ap, ◌∙◌, subst, arith}
 use Rattle.std.proofs.Common.{cond, eqb-true, length-append}
-use Rattle.std.specs.Prelude.{◌==◌, not, nat_lt, nat_le}
+use Rattle.std.specs.Prelude.{◌==◌, ◌&&◌, not, nat_lt, nat_le}
 use Rattle.std.proofs.lemmas.Bool.{eqb-false}
 use Rattle.std.proofs.lemmas.Bool.Decides.{nat_tests}
 use Rattle.std.proofs.lemmas.List.{append_assoc}
@@ -310,7 +310,7 @@ enqueue_on shape begun_at item start left (E.ReloadEnds ends index filled) word 
   where
     by_last : (b : Bool) → NextSoFar shape begun_at
         (cond b (Goes (R.Enqueue item start left (E.Undo index filled true)))
-        (Goes (R.Enqueue item start left (E.HoldHead index filled word))))
+        (Goes (R.Enqueue item start left (E.HoldHead ends index filled word))))
         (past ++ look (R.Enqueue item start left (E.ReloadEnds ends index filled)) word ∷ [])
     by_last true = same
     by_last false = same
@@ -323,18 +323,27 @@ enqueue_on shape begun_at item start left (E.ReloadEnds ends index filled) word 
 
     by_head : (b : Bool) → NextSoFar shape begun_at
         (cond b (cond (version_of word == shape.last) (Goes (R.Enqueue item start left (E.Undo index filled true)))
-        (Goes (R.Enqueue item start left (E.HoldHead index filled word))))
+        (Goes (R.Enqueue item start left (E.HoldHead ends index filled word))))
         (cond (nat_le (distance shape.n (head_of word) (tail_of ends)) (distance shape.n (head_of word) (tail_of word))) (Answers A.Done)
         (Goes (R.Enqueue item start left (E.Undo index filled false)))))
         (past ++ look (R.Enqueue item start left (E.ReloadEnds ends index filled)) word ∷ [])
     by_head true = by_last (version_of word == shape.last)
     by_head false = by_window (nat_le (distance shape.n (head_of word) (tail_of ends)) (distance shape.n (head_of word) (tail_of word)))
-enqueue_on shape begun_at item start left (E.HoldHead index filled held) word past same = by_test (word == held)
+enqueue_on shape begun_at item start left (E.HoldHead ends index filled held) word past same = by_test (word == held)
   where
-    by_test : (b : Bool) → NextSoFar shape begun_at (cond b (Answers A.Done) (Goes (R.Enqueue item start left (E.Undo index filled false))))
-        (past ++ look (R.Enqueue item start left (E.HoldHead index filled held)) word ∷ [])
+    by_round : (b : Bool) → NextSoFar shape begun_at
+        (cond b (Goes (R.Enqueue item start (left - 1) (E.ReloadSlot ends index filled)))
+        (Goes (R.Enqueue item start left (E.Undo index filled false))))
+        (past ++ look (R.Enqueue item start left (E.HoldHead ends index filled held)) word ∷ [])
+    by_round true = same
+    by_round false = same
+
+    by_test : (b : Bool) → NextSoFar shape begun_at (cond b (Answers A.Done)
+        (cond (shape.holds_again && not (left == 1)) (Goes (R.Enqueue item start (left - 1) (E.ReloadSlot ends index filled)))
+        (Goes (R.Enqueue item start left (E.Undo index filled false)))))
+        (past ++ look (R.Enqueue item start left (E.HoldHead ends index filled held)) word ∷ [])
     by_test true = tt
-    by_test false = same
+    by_test false = by_round (shape.holds_again && not (left == 1))
 enqueue_on shape begun_at item start left (E.Undo index filled worn) word past same = by_test (word == filled)
   where
     by_worn : (b : Bool) → NextSoFar shape begun_at (cond b (Answers A.Worn) (enqueue_again item start left))

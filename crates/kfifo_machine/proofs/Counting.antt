@@ -38,7 +38,7 @@ EnqueueSees shape w start (E.ReloadSlot ends index filled) = (w 0 ≡ ends) × (
     × InSegment shape (tail_of ends) index
 EnqueueSees shape w start (E.ReloadEnds ends index filled) = (w 0 ≡ ends) × (w index ≡ filled) × (value_of filled ≢ 0)
     × InSegment shape (tail_of ends) index
-EnqueueSees shape w start (E.HoldHead index filled held) = w 0 ≡ held
+EnqueueSees shape w start (E.HoldHead ends index filled held) = w 0 ≡ held
 EnqueueSees shape w start (E.Undo index filled worn) = (worn ≡ true) × (w index ≡ filled) × (value_of filled ≢ 0)
     × (tail_of (w 0) ≡ head_of (w 0)) × InSegment shape (tail_of (w 0)) index
 EnqueueSees shape w start (E.ScanHead ends offset) = (w 0 ≡ ends) × (next_segment shape.n (tail_of ends) ≡ head_of ends)
@@ -68,7 +68,7 @@ Sees shape w (R.Dequeue start left phase) = DequeueSees shape w phase
 abbrev pub pending_in : EnqueuePhase → ℕ
 pending_in (E.ReloadSlot ends index filled) = 1
 pending_in (E.ReloadEnds ends index filled) = 1
-pending_in (E.HoldHead index filled held) = 1
+pending_in (E.HoldHead ends index filled held) = 1
 pending_in (E.Undo index filled worn) = 1
 pending_in other = 0
 

@@ -343,8 +343,8 @@ enqueue_alone shape w item start left (E.ReloadSlot ends index filled) word plac
     plain_alone shape w item start left (E.ReloadSlot ends index filled) word place tt alone is
 enqueue_alone shape w item start left (E.ReloadEnds ends index filled) word place alone is =
     plain_alone shape w item start left (E.ReloadEnds ends index filled) word place tt alone is
-enqueue_alone shape w item start left (E.HoldHead index filled held) word place alone is =
-    plain_alone shape w item start left (E.HoldHead index filled held) word place tt alone is
+enqueue_alone shape w item start left (E.HoldHead ends index filled held) word place alone is =
+    plain_alone shape w item start left (E.HoldHead ends index filled held) word place tt alone is
 enqueue_alone shape w item start left (E.Undo index filled worn) word place alone is =
     plain_alone shape w item start left (E.Undo index filled worn) word place tt alone is
 enqueue_alone shape w item start left (E.ConfirmFull ends) word place alone is =
@@ -417,8 +417,8 @@ enqueue_same shape w v item start left (E.ReloadSlot x index filled) same e plac
     plain_same shape w v item start left (E.ReloadSlot x index filled) tt place ends slot alone
 enqueue_same shape w v item start left (E.ReloadEnds x index filled) same e place ends slot alone =
     plain_same shape w v item start left (E.ReloadEnds x index filled) tt place ends slot alone
-enqueue_same shape w v item start left (E.HoldHead index filled held) same e place ends slot alone =
-    plain_same shape w v item start left (E.HoldHead index filled held) tt place ends slot alone
+enqueue_same shape w v item start left (E.HoldHead x index filled held) same e place ends slot alone =
+    plain_same shape w v item start left (E.HoldHead x index filled held) tt place ends slot alone
 enqueue_same shape w v item start left (E.Undo index filled worn) same e place ends slot alone =
     plain_same shape w v item start left (E.Undo index filled worn) tt place ends slot alone
 enqueue_same shape w v item start left (E.ConfirmFull x) same e place ends slot alone =

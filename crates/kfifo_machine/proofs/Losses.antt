@@ -3,6 +3,7 @@ use Rattle.std.proofs.Common.{◌≡◌, ◌≢◌, ◌⊎◌, ℕ, zero, suc, �
 use Rattle.std.proofs.Common.{Bool, true, false, refl, sym, ap, ◌∙◌, subst, inl, inr, arith, cond, eqb, eqb-true, eq-eqb}
 use Rattle.std.specs.Prelude.{◌==◌}
 use Rattle.std.proofs.lemmas.Bool.{cases_eq, cases_Bool}
+use Rattle.std.proofs.lemmas.Bool.Decides.{nat_tests}
 use Rattle.std.proofs.lemmas.Grind.{get_or-set_at}
 use Rattle.std.proofs.lemmas.List.{get_or-set_other, append_assoc}
 use Rattle.kfifo_machine.proofs.Types.{Access, Answer, Begin, Event, Next, Outcome, Running, Shape}
@@ -22,7 +23,7 @@ use Rattle.kfifo_machine.specs.Runs.{event, own, going, AllGoOn}
 use Rattle.kfifo_machine.specs.Places.{IsPlace}
 use Rattle.kfifo_machine.specs.Laws.{moves_head, moves_tail}
 use Rattle.kfifo_machine.specs.Causes.{Look, AllOfRound, looks, looks_from, round_of}
-use Rattle.kfifo_machine.specs.Rounds.{WinsSome, Disturbed, LostRound, LosesAll, turns_of, BusyHasCause}
+use Rattle.kfifo_machine.specs.Rounds.{WinsSome, Disturbed, LooksAgain, LostRound, LosesAll, reloads_slot, turns_of, BusyHasCause}
 use Rattle.kfifo_machine.proofs.Places.{in_table}
 use Rattle.kfifo_machine.proofs.Schedules.{Some-injective, run-append, run_on, first_made, made_within, stepped, other_place}
 use Rattle.kfifo_machine.proofs.Sound.{IsSound, sound, going_place, place_is, step_sound}
@@ -31,8 +32,8 @@ use Rattle.kfifo_machine.proofs.Budget.{own_place, own_first, tick_leaves}
 use Rattle.kfifo_machine.proofs.Refusals.{own_step}
 use Rattle.kfifo_machine.proofs.Causes.{all_of_round-append}
 use Rattle.kfifo_machine.proofs.Paths.{looks-own, looks-other, none_after, answered, begins_from, never_at_once}
-use Rattle.kfifo_machine.proofs.RoundsUndisturbed.{opens_round, RoundNext, round_next, words_by, Quiet, watched, watched-below, still_quiet, NextQuiet}
-use Rattle.kfifo_machine.proofs.RoundsUndisturbed.{enqueue_quiet, dequeue_quiet}
+use Rattle.kfifo_machine.proofs.RoundsUndisturbed.{opens_round, ends_round, Opens, opens_next, RoundNext, round_next, words_by, Quiet}
+use Rattle.kfifo_machine.proofs.RoundsUndisturbed.{watched, watched-below, still_quiet, NextQuiet, enqueue_quiet, dequeue_quiet}
 
 -- the words after a step
 exchanged_by : (words : List ℕ) (index from to i : ℕ) → index < length words
@@ -66,7 +67,7 @@ word-moved shape here thread running i sound place =
 
 pub quiet_step : (shape : Shape) (here : World) (running : Running) → IsPlace shape running → Quiet (word_at here) running
     → moves_head running (found shape here running) ≡ false → moves_tail running (found shape here running) ≡ false
-    → NextQuiet (words_by (access shape running) (word_at here)) (advance shape running (found shape here running))
+    → NextQuiet running (words_by (access shape running) (word_at here)) (advance shape running (found shape here running))
 unfolding found
 quiet_step shape here (R.Enqueue item start left phase) place quiet no_head no_tail =
     enqueue_quiet shape (word_at here) item start left phase (word_at here (accessed (access shape (R.Enqueue item start left phase))))
@@ -75,14 +76,15 @@ quiet_step shape here (R.Dequeue start left phase) place quiet no_head no_tail =
     dequeue_quiet shape (word_at here) start left phase (word_at here (accessed (access shape (R.Dequeue start left phase)))) place quiet
     refl no_head no_tail
 
-quiet_after : (w v : ℕ → ℕ) (next : Next) → ((i : ℕ) → v i ≡ w i) → NextQuiet w next → NextQuiet v next
-quiet_after w v (Goes running) same quiet = (quiet.0, still_quiet w v running (same 0) (same (watched running)) quiet.1)
-quiet_after w v (Answers A.Busy) same quiet = quiet
-quiet_after w v (Answers A.Done) same quiet = tt
-quiet_after w v (Answers A.Full) same quiet = tt
-quiet_after w v (Answers (A.Got item)) same quiet = tt
-quiet_after w v (Answers A.Empty) same quiet = tt
-quiet_after w v (Answers A.Worn) same quiet = tt
+quiet_after : (before : Running) (w v : ℕ → ℕ) (next : Next) → ((i : ℕ) → v i ≡ w i) → NextQuiet before w next
+    → NextQuiet before v next
+quiet_after before w v (Goes running) same quiet = (quiet.0, still_quiet w v running (same 0) (same (watched running)) quiet.1)
+quiet_after before w v (Answers A.Busy) same quiet = quiet
+quiet_after before w v (Answers A.Done) same quiet = tt
+quiet_after before w v (Answers A.Full) same quiet = tt
+quiet_after before w v (Answers (A.Got item)) same quiet = tt
+quiet_after before w v (Answers A.Empty) same quiet = tt
+quiet_after before w v (Answers A.Worn) same quiet = tt
 
 -- Disturbances stay
 disturbed_more : (shape : Shape) (thread : ℕ) (start : World) (xs ys : List Event) → Disturbed shape thread start xs
@@ -97,21 +99,42 @@ disturbed_more shape thread start xs ys d = record {
   by = d.by;
 }
 
--- how the round stands: disturbed already, or quiet
+-- the round began with a look at the slot again
+pub record BeganAgain (shape : Shape) (start : World) (past : List Event) : Type 0 where
+  pub first : Event
+  pub later : List Event
+  pub begins : past ≡ first ∷ later
+  pub looks : LooksAgain shape start first
+
+-- why a round may be lost
+abbrev Excused : Shape → ℕ → World → List Event → Type 0
+Excused shape thread start past = Disturbed shape thread start past ⊎ BeganAgain shape start past
+
+excused_more : (shape : Shape) (thread : ℕ) (start : World) (xs ys : List Event) → Excused shape thread start xs
+    → Excused shape thread start (xs ++ ys)
+excused_more shape thread start xs ys (inl disturbed) = inl (disturbed_more shape thread start xs ys disturbed)
+excused_more shape thread start xs ys (inr again) = inr (record {
+  first = again.first;
+  later = again.later ++ ys;
+  begins = ap (λ (zs : List Event). zs ++ ys) again.begins;
+  looks = again.looks;
+})
+
+-- how the round stands: it may be lost, or it is quiet
 abbrev Standing : Shape → ℕ → World → List Event → World → Running → Type 0
-Standing shape thread start past here running = Disturbed shape thread start past ⊎ Quiet (word_at here) running
+Standing shape thread start past here running = Excused shape thread start past ⊎ Quiet (word_at here) running
 
 -- the thread's own step
 own_standing : (shape : Shape) (start here next : World) (past : List Event) (e : Event) (outcome : Outcome) (running : Running)
     → IsSound shape here → step shape here e ≡ Ok (next, outcome) → e.begin ≡ None
     → place_of here e.thread ≡ Some running → run shape (Some start) past ≡ Some here → Standing shape e.thread start past here running
-    → Disturbed shape e.thread start (past ++ e ∷ []) ⊎ NextQuiet (word_at next) (advance shape running (found shape here running))
+    → Excused shape e.thread start (past ++ e ∷ []) ⊎ NextQuiet running (word_at next) (advance shape running (found shape here running))
 own_standing shape start here next past e outcome running sound made none at reached standing =
     let place : IsPlace shape running = place_is shape here e.thread running sound at in
     let goes : going shape (place_of here e.thread) e.begin ≡ Some running =
     ap (going shape (place_of here e.thread)) none ∙ ap (λ (p : Option Running). going shape p None) at in
     elim (cases_Bool (moves_head running (found shape here running))) [
-      | inl head ↦ inl (record {
+      | inl head ↦ inl (inl (record {
         before = past;
         event = e;
         after = [];
@@ -119,9 +142,9 @@ own_standing shape start here next past e outcome running sound made none at rea
         split = refl;
         reached = reached;
         by = inl (refl, record { running = running; stands = goes; moves = inl head });
-      })
+      }))
       | inr no_head ↦ elim (cases_Bool (moves_tail running (found shape here running))) [
-        | inl tail ↦ inl (record {
+        | inl tail ↦ inl (inl (record {
           before = past;
           event = e;
           after = [];
@@ -129,12 +152,12 @@ own_standing shape start here next past e outcome running sound made none at rea
           split = refl;
           reached = reached;
           by = inl (refl, record { running = running; stands = goes; moves = inr tail });
-        })
+        }))
         | inr no_tail ↦ elim standing [
-          | inl disturbed ↦ inl (disturbed_more shape e.thread start past (e ∷ []) disturbed)
+          | inl excused ↦ inl (excused_more shape e.thread start past (e ∷ []) excused)
           | inr quiet ↦
               let is_moved : next ≡ moved shape here e.thread running = (own_step shape here e next outcome running made at).0 in
-              inr (quiet_after (words_by (access shape running) (word_at here)) (word_at next)
+              inr (quiet_after running (words_by (access shape running) (word_at here)) (word_at next)
               (advance shape running (found shape here running))
               (λ i. ap (λ (w : World). word_at w i) is_moved ∙ word-moved shape here e.thread running i sound place)
               (quiet_step shape here running place quiet no_head no_tail))
@@ -162,11 +185,11 @@ other_standing : (shape : Shape) (thread : ℕ) (start here next : World) (past 
     → thread ≢ e.thread → place_of here thread ≡ Some running → run shape (Some start) past ≡ Some here
     → Standing shape thread start past here running
     → Standing shape thread start (past ++ e ∷ []) next running
-other_standing shape thread start here next past e outcome running sound made apart at reached (inl disturbed) =
-    inl (disturbed_more shape thread start past (e ∷ []) disturbed)
+other_standing shape thread start here next past e outcome running sound made apart at reached (inl excused) =
+    inl (excused_more shape thread start past (e ∷ []) excused)
 other_standing shape thread start here next past e outcome running sound made apart at reached (inr quiet) =
     let wins : WinsSome shape here e → Standing shape thread start (past ++ e ∷ []) next running =
-    λ w. inl (record {
+    λ w. inl (inl (record {
       before = past;
       event = e;
       after = [];
@@ -174,7 +197,7 @@ other_standing shape thread start here next past e outcome running sound made ap
       split = refl;
       reached = reached;
       by = inr ((λ same. apart (sym same)), w);
-    }) in
+    })) in
     let place : IsPlace shape running = place_is shape here thread running sound at in
     elim (won_or_same shape here next e outcome 0 sound made (omega arith)) [
       | inr w ↦ wins w
@@ -242,9 +265,9 @@ remains_more shape thread round start past events e r =
     }
 
 lost_round : (shape : Shape) (thread round : ℕ) (start : World) (past : List Event) (e : Event)
-    → RoundSoFar shape thread round start (past ++ e ∷ []) → e.thread ≡ thread → Disturbed shape thread start (past ++ e ∷ [])
+    → RoundSoFar shape thread round start (past ++ e ∷ []) → e.thread ≡ thread → Excused shape thread start (past ++ e ∷ [])
     → LostRound shape thread round start (past ++ e ∷ [])
-lost_round shape thread round start past e r mine disturbed = record {
+lost_round shape thread round start past e r mine excused = record {
   first = r.first;
   later = r.later;
   earlier = past;
@@ -254,7 +277,11 @@ lost_round shape thread round start past e r mine disturbed = record {
   first_own = r.first_own;
   last_own = mine;
   one_round = r.one_round;
-  disturbed = disturbed;
+  disturbed = elim excused [
+    | inl disturbed ↦ inl disturbed
+    | inr again ↦ inr (let same : again.first ≡ r.first = (let h : again.first ∷ again.later ≡ r.first ∷ r.later =
+        sym again.begins ∙ r.begins in cc) in subst (LooksAgain shape start) same again.looks)
+  ];
 }
 
 -- others' events before a round
@@ -303,19 +330,9 @@ loses_now shape thread (suc round) here events some r =
 open_quiet : (w : ℕ → ℕ) (running : Running) → opens_round running ≡ true → Quiet w running
 open_quiet w running opens = grind arith
 
-open_goes : (shape : Shape) (running : Running) (word : ℕ) → opens_round running ≡ true → (next : Next) → advance shape running word ≡ next
-    → (place : Running) × (next ≡ Goes place)
-open_goes shape running word opens (Goes place) is = (place, refl)
-open_goes shape running word opens (Answers answer) is = absurd (never shape running word answer opens is)
-  where
-    never : (shape : Shape) (running : Running) (word : ℕ) (answer : Answer) → opens_round running ≡ true
-        → advance shape running word ≡ Answers answer → ⊥
-    never shape running word answer opens is = grind arith
-
--- the step that opens a round stays in it
-open_next : (shape : Shape) (running place : Running) (word : ℕ) → opens_round running ≡ true → advance shape running word ≡ Goes place
-    → (opens_round place ≡ false) × (round_of place ≡ round_of running)
-open_next shape running place word opens is = grind arith
+-- no call returns Busy with the step that opens a round
+opens_not_busy : (shape : Shape) (running : Running) (word : ℕ) → Opens shape running → advance shape running word ≡ Answers A.Busy → ⊥
+opens_not_busy shape running word opens is = grind (arith, nat_tests)
 
 round-some : (shape : Shape) (running : Running) → IsPlace shape running → 0 < round_of running
 round-some shape running place = grind arith
@@ -325,7 +342,7 @@ module _ (shape : Shape) (thread : ℕ) (last : Event) (before there : World) (m
     (ends : step shape before last ≡ Ok (there, Ended A.Busy)) where
   abbrev Between : List Event → Type 0
   Between events = (here : World) (running : Running) → IsSound shape here → place_of here thread ≡ Some running
-      → opens_round running ≡ true → AllGoOn (own thread (events ++ last ∷ []))
+      → Opens shape running → AllGoOn (own thread (events ++ last ∷ []))
       → run shape (Some here) events ≡ Some before → LosesAll shape thread (round_of running) here (events ++ last ∷ [])
 
   abbrev Within : List Event → Type 0
@@ -358,7 +375,7 @@ module _ (shape : Shape) (thread : ℕ) (last : Event) (before there : World) (m
       → run shape (Some start) (past ++ e ∷ []) ≡ Some next_world → e.thread ≡ thread
       → RoundSoFar shape thread (round_of running) start (past ++ e ∷ [])
       → (next : Next) → advance shape running (found shape here running) ≡ next → place_of next_world thread ≡ place_after next
-      → Disturbed shape thread start (past ++ e ∷ []) ⊎ NextQuiet (word_at next_world) next
+      → Excused shape thread start (past ++ e ∷ []) ⊎ NextQuiet running (word_at next_world) next
       → AllGoOn (own thread (es ++ last ∷ [])) → run shape (Some next_world) es ≡ Some before
       → Remains shape thread (round_of running) start past (e ∷ (es ++ last ∷ []))
   after_own es between within start here next_world past e running safe place reached own_is so_far (Answers answer) goes at standing on
@@ -366,17 +383,17 @@ module _ (shape : Shape) (thread : ℕ) (last : Event) (before there : World) (m
       absurd (none_after shape next_world there thread es last safe at mine on (runs_to next_world es runs))
   after_own es between within start here next_world past e running safe place reached own_is so_far (Goes running_next) goes at standing on
       runs =
-      by_open (opens_round running_next) refl
+      by_open (ends_round running running_next) refl
     where
-      rounds : RoundNext (round_of running) (Goes running_next)
-      rounds = subst (RoundNext (round_of running)) goes (round_next shape running (found shape here running) place)
+      rounds : RoundNext running (Goes running_next)
+      rounds = subst (RoundNext running) goes (round_next shape running (found shape here running) place)
 
-      by_open : (b : Bool) → opens_round running_next ≡ b → Remains shape thread (round_of running) start past (e ∷ (es ++ last ∷ []))
+      by_open : (b : Bool) → ends_round running running_next ≡ b → Remains shape thread (round_of running) start past (e ∷ (es ++ last ∷ []))
       by_open true opens =
           let less : round_of running_next + 1 ≡ round_of running =
           subst (λ (b : Bool). cond b (round_of running_next + 1) (round_of running_next) ≡ round_of running) opens rounds in
           let less_one : round_of running_next ≡ round_of running - 1 = omega arith in
-          let disturbed : Disturbed shape thread start (past ++ e ∷ []) =
+          let excused : Excused shape thread start (past ++ e ∷ []) =
           elim standing [ inl d ↦ d | inr q ↦ absurd (let h : true ≡ false = sym opens ∙ q.0 in cc) ] in
           record {
             more = e ∷ [];
@@ -384,9 +401,10 @@ module _ (shape : Shape) (thread : ℕ) (last : Event) (before there : World) (m
             end = next_world;
             split = refl;
             reached = reached;
-            round_lost = lost_round shape thread (round_of running) start past e so_far own_is disturbed;
+            round_lost = lost_round shape thread (round_of running) start past e so_far own_is excused;
             others = subst (λ (m : ℕ). LosesAll shape thread m next_world (es ++ last ∷ [])) less_one
-                (between next_world running_next safe at opens on runs);
+                (between next_world running_next safe at
+                (opens_next shape running running_next (found shape here running) goes opens) on runs);
           }
       by_open false opens =
           let same : round_of running_next ≡ round_of running =
@@ -412,15 +430,15 @@ module _ (shape : Shape) (thread : ℕ) (last : Event) (before there : World) (m
       let answers : advance shape running (found shape here running) ≡ Answers A.Busy =
       answered (advance shape running (found shape here running)) A.Busy
       (own_step shape here last there (Ended A.Busy) running made place_at).1 in
-      let one_left : round_of running ≡ 1 = subst (RoundNext (round_of running)) answers
+      let one_left : round_of running ≡ 1 = subst (RoundNext running) answers
       (round_next shape running (found shape here running) place) in
       let none_left : zero ≡ round_of running - 1 = omega arith in
-      let stands : Disturbed shape last.thread start (past ++ last ∷ [])
-      ⊎ NextQuiet (word_at there) (advance shape running (found shape here running)) =
+      let stands : Excused shape last.thread start (past ++ last ∷ [])
+      ⊎ NextQuiet running (word_at there) (advance shape running (found shape here running)) =
       own_standing shape start here there past last (Ended A.Busy) running sound made none place_at reached
       (subst (λ (t : ℕ). Standing shape t start past here running) (sym mine) standing) in
-      let disturbed : Disturbed shape thread start (past ++ last ∷ []) = subst (λ (t : ℕ). Disturbed shape t start (past ++ last ∷ [])) mine
-      (elim stands [ inl d ↦ d | inr q ↦ absurd (subst (NextQuiet (word_at there)) answers q) ]) in
+      let excused : Excused shape thread start (past ++ last ∷ []) = subst (λ (t : ℕ). Excused shape t start (past ++ last ∷ [])) mine
+      (elim stands [ inl d ↦ d | inr q ↦ absurd (subst (NextQuiet running (word_at there)) answers q) ]) in
       let r : RoundSoFar shape thread (round_of running) start (past ++ last ∷ []) =
       so_far_more shape thread (round_of running) start here past last reached so_far
       (own_single here there (Ended A.Busy) last running mine made goes) in
@@ -430,7 +448,7 @@ module _ (shape : Shape) (thread : ℕ) (last : Event) (before there : World) (m
         end = there;
         split = refl;
         reached = run_on shape (Some start) here past (last ∷ []) reached ∙ ap world_of made;
-        round_lost = lost_round shape thread (round_of running) start past last r mine disturbed;
+        round_lost = lost_round shape thread (round_of running) start past last r mine excused;
         others = subst (λ (m : ℕ). LosesAll shape thread m there []) none_left refl;
       }
 
@@ -449,10 +467,10 @@ module _ (shape : Shape) (thread : ℕ) (last : Event) (before there : World) (m
             ap (going shape (place_of here e.thread)) both.0 ∙ ap (λ (p : Option Running). going shape p None) place_at in
             let stands = own_standing shape start here m.0 past e m.1.0 running sound m.1.1.0 both.0 place_at reached
             (subst (λ (t : ℕ). Standing shape t start past here running) (sym own_is.0) standing) in
-            let stands_so : Disturbed shape thread start (past ++ e ∷ [])
-            ⊎ NextQuiet (word_at m.0) (advance shape running (found shape here running)) =
-            subst (λ (t : ℕ). Disturbed shape t start (past ++ e ∷ [])
-            ⊎ NextQuiet (word_at m.0) (advance shape running (found shape here running))) own_is.0 stands in
+            let stands_so : Excused shape thread start (past ++ e ∷ [])
+            ⊎ NextQuiet running (word_at m.0) (advance shape running (found shape here running)) =
+            subst (λ (t : ℕ). Excused shape t start (past ++ e ∷ [])
+            ⊎ NextQuiet running (word_at m.0) (advance shape running (found shape here running))) own_is.0 stands in
             let at_next : place_of m.0 thread ≡ place_after (advance shape running (found shape here running)) =
             ap (place_of m.0) (sym own_is.0) ∙ ap (λ (w : World). place_of w e.thread)
             (own_step shape here e m.0 m.1.0 running m.1.1.0 place_at).0
@@ -475,17 +493,12 @@ module _ (shape : Shape) (thread : ℕ) (last : Event) (before there : World) (m
   opens_now : (e : Event) (es : List Event) → Between es → Within es → (here next_world : World) (outcome : Outcome) (running : Running)
       → IsSound shape next_world → IsPlace shape running → step shape here e ≡ Ok (next_world, outcome)
       → e.thread ≡ thread → going shape (place_of here e.thread) e.begin ≡ Some running → next_world ≡ moved shape here e.thread running
-      → opens_round running ≡ true → AllGoOn (own thread (es ++ last ∷ []))
+      → Opens shape running → AllGoOn (own thread (es ++ last ∷ []))
       → run shape (Some next_world) es ≡ Some before → IsSound shape here
       → LosesAll shape thread (round_of running) here (e ∷ (es ++ last ∷ []))
   opens_now e es between within here next_world outcome running safe place made own_is goes is_moved opens on runs sound =
-      let k = open_goes shape running (found shape here running) opens (advance shape running (found shape here running)) refl in
-      let n = open_next shape running k.0 (found shape here running) opens k.1 in
-      let no_moves = open_moves running (found shape here running) opens in
-      let quiet : NextQuiet (word_at next_world) (advance shape running (found shape here running)) =
-      quiet_after (words_by (access shape running) (word_at here)) (word_at next_world) (advance shape running (found shape here running))
-      (λ i. ap (λ (w : World). word_at w i) is_moved ∙ word-moved shape here e.thread running i sound place)
-      (quiet_step shape here running place (open_quiet (word_at here) running opens) no_moves.0 no_moves.1) in
+      let stands : Excused shape thread here (e ∷ [])
+      ⊎ NextQuiet running (word_at next_world) (advance shape running (found shape here running)) = begins opens in
       let at_next : place_of next_world thread ≡ place_after (advance shape running (found shape here running)) =
       ap (place_of next_world) (sym own_is) ∙ ap (λ (w : World). place_of w e.thread) is_moved
       ∙ own_place shape here e.thread running (made_within shape here e next_world outcome made) in
@@ -499,11 +512,26 @@ module _ (shape : Shape) (thread : ℕ) (last : Event) (before there : World) (m
       } in
       loses_now shape thread (round_of running) here (e ∷ (es ++ last ∷ [])) (round-some shape running place)
       (after_own es between within here here next_world [] e running safe place (ap world_of made) own_is r
-      (advance shape running (found shape here running)) refl at_next (inr quiet) on runs)
+      (advance shape running (found shape here running)) refl at_next stands on runs)
     where
       open_moves : (running : Running) (word : ℕ) → opens_round running ≡ true → (moves_head running word ≡ false)
           × (moves_tail running word ≡ false)
       open_moves running word opens = grind arith
+
+      begins : Opens shape running → Excused shape thread here (e ∷ [])
+          ⊎ NextQuiet running (word_at next_world) (advance shape running (found shape here running))
+      begins (inl loads) =
+          let no_moves = open_moves running (found shape here running) loads in
+          inr (quiet_after running (words_by (access shape running) (word_at here)) (word_at next_world)
+          (advance shape running (found shape here running))
+          (λ i. ap (λ (w : World). word_at w i) is_moved ∙ word-moved shape here e.thread running i sound place)
+          (quiet_step shape here running place (open_quiet (word_at here) running loads) no_moves.0 no_moves.1))
+      begins (inr again) = inl (inr (record {
+        first = e;
+        later = [];
+        begins = refl;
+        looks = record { running = running; stands = goes; looks = again.0; again = again.1 };
+      }))
 
   between_more : (e : Event) (es : List Event) → Between es → Within es → Between (e ∷ es)
   between_more e es between within here running sound at opens on is =
@@ -533,8 +561,7 @@ module _ (shape : Shape) (thread : ℕ) (last : Event) (before there : World) (m
       let answers : advance shape running (found shape here running) ≡ Answers A.Busy =
       answered (advance shape running (found shape here running)) A.Busy
       (own_step shape here last there (Ended A.Busy) running made place_at).1 in
-      let k = open_goes shape running (found shape here running) opens (advance shape running (found shape here running)) refl in
-      absurd (let h : Goes k.0 ≡ Answers A.Busy = sym k.1 ∙ answers in cc)
+      absurd (opens_not_busy shape running (found shape here running) opens answers)
 
   claims : (es : List Event) → Between es × Within es
   claims [] = (between_last, at_last)
@@ -571,7 +598,7 @@ first_own_step shape thread call last before there mine ends e es here next outc
             let same = opens.1 in omega arith,
             subst (λ (m : ℕ). LosesAll shape thread m here (e ∷ (es ++ last ∷ []))) opens.1
                 (opens_now shape thread last before there mine ends e es both.0 both.1 here next outcome s.running safe place made own_is
-                s.goes s.there_is opens.0 on runs sound),
+                s.goes s.there_is (inl opens.0) on runs sound),
           )
       | inr t ↦
           let idle : place_of next thread ≡ None =

@@ -25,7 +25,7 @@ use Rattle.kfifo_machine.proofs.Budget.{own_place, own_first, goes_on_from}
 abbrev pub Carries : EnqueuePhase → ℕ → ℕ → Type 0
 Carries (E.ReloadSlot ends i filled) index word = (i ≡ index) × (filled ≡ word)
 Carries (E.ReloadEnds ends i filled) index word = (i ≡ index) × (filled ≡ word)
-Carries (E.HoldHead i filled held) index word = (i ≡ index) × (filled ≡ word)
+Carries (E.HoldHead ends i filled held) index word = (i ≡ index) × (filled ≡ word)
 Carries (E.Undo i filled worn) index word = (i ≡ index) × (filled ≡ word)
 Carries other index word = ⊥
 
@@ -57,12 +57,12 @@ carry_on shape (R.Enqueue item start left (E.ReloadEnds ends i filled)) seen ind
     goes_so : (shape : Shape) (item start left ends i filled seen index word : ℕ) → (i ≡ index) × (filled ≡ word)
         → NextCarries (advance shape (R.Enqueue item start left (E.ReloadEnds ends i filled)) seen) index word
     goes_so shape item start left ends i filled seen index word c = grind (arith, nat_tests)
-carry_on shape (R.Enqueue item start left (E.HoldHead i filled held)) seen index word c =
-    inl (goes_so shape item start left held i filled seen index word c)
+carry_on shape (R.Enqueue item start left (E.HoldHead ends i filled held)) seen index word c =
+    inl (goes_so shape item start left ends held i filled seen index word c)
   where
-    goes_so : (shape : Shape) (item start left held i filled seen index word : ℕ) → (i ≡ index) × (filled ≡ word)
-        → NextCarries (advance shape (R.Enqueue item start left (E.HoldHead i filled held)) seen) index word
-    goes_so shape item start left held i filled seen index word c = grind (arith, nat_tests)
+    goes_so : (shape : Shape) (item start left ends held i filled seen index word : ℕ) → (i ≡ index) × (filled ≡ word)
+        → NextCarries (advance shape (R.Enqueue item start left (E.HoldHead ends i filled held)) seen) index word
+    goes_so shape item start left ends held i filled seen index word c = grind (arith, nat_tests)
 carry_on shape (R.Enqueue item start left (E.Undo i filled worn)) seen index word c = by_test (eqb seen filled) refl
   where
     lost : (shape : Shape) (item start left i filled seen index word : ℕ) (worn : Bool) → eqb seen filled ≡ false

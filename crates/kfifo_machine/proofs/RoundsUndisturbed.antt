@@ -1,5 +1,6 @@
 -- A round that nobody disturbs is not lost.
-use Rattle.std.proofs.Common.{◌≡◌, ℕ, ◌+◌, ◌<◌, Bool, true, false, arith, cond, eqb}
+use Rattle.std.proofs.Common.{◌≡◌, ◌⊎◌, ℕ, ◌+◌, ◌<◌, Bool, true, false, refl, inl, inr, arith, cond, eqb}
+use Rattle.std.specs.Prelude.{◌&&◌, ◌||◌}
 use Rattle.std.proofs.lemmas.Bool.Decides.{nat_tests}
 use Rattle.kfifo_machine.proofs.Types.{Access, DequeuePhase, EnqueuePhase, Next, Running, Shape}
 use Rattle.kfifo_words.specs.Ring.{clock_at}
@@ -14,6 +15,7 @@ use Rattle.kfifo_machine.specs.Program.{access, accessed, advance}
 use Rattle.kfifo_machine.specs.Places.{IsPlace}
 use Rattle.kfifo_machine.specs.Laws.{moves_head, moves_tail}
 use Rattle.kfifo_machine.specs.Causes.{round_of}
+use Rattle.kfifo_machine.specs.Rounds.{reloads_slot}
 use Rattle.kfifo_machine.proofs.Places.{scan_index-is_slot}
 
 -- a thread is about to begin a round
@@ -22,15 +24,37 @@ opens_round (R.Enqueue item start left E.LoadEnds) = true
 opens_round (R.Dequeue start left D.LoadEnds) = true
 opens_round other = false
 
--- the rounds go on one by one, and Busy comes with the last of them
-abbrev pub RoundNext : ℕ → Next → Type 0
-RoundNext round (Goes running) = cond (opens_round running) (round_of running + 1) (round_of running) ≡ round
-RoundNext round (Answers A.Busy) = round ≡ 1
-RoundNext round (Answers other) = Unit {0}
+abbrev pub holds_head : Running → Bool
+holds_head (R.Enqueue item start left (E.HoldHead ends index filled held)) = true
+holds_head other = false
 
-pub round_next : (shape : Shape) (running : Running) (word : ℕ) → IsPlace shape running
-    → RoundNext (round_of running) (advance shape running word)
+-- the step from one place to the next ends a round
+abbrev pub ends_round : Running → Running → Bool
+ends_round running next = opens_round next || (holds_head running && reloads_slot next)
+
+-- the rounds go on one by one, and Busy comes with the last of them
+abbrev pub RoundNext : Running → Next → Type 0
+RoundNext running (Goes next) = cond (ends_round running next) (round_of next + 1) (round_of next) ≡ round_of running
+RoundNext running (Answers A.Busy) = round_of running ≡ 1
+RoundNext running (Answers other) = Unit {0}
+
+pub round_next : (shape : Shape) (running : Running) (word : ℕ) → IsPlace shape running → RoundNext running (advance shape running word)
 round_next shape running word place = grind (arith, nat_tests)
+
+-- a place at which a round begins
+abbrev pub Opens : Shape → Running → Type 0
+Opens shape running = (opens_round running ≡ true) ⊎ ((reloads_slot running ≡ true) × (shape.holds_again ≡ true))
+
+pub opens_next : (shape : Shape) (running next : Running) (word : ℕ) → advance shape running word ≡ Goes next
+    → ends_round running next ≡ true → Opens shape next
+opens_next shape running next word is ends = by_test (opens_round next) refl
+  where
+    again : opens_round next ≡ false → (reloads_slot next ≡ true) × (shape.holds_again ≡ true)
+    again not_load = grind (arith, nat_tests)
+
+    by_test : (b : Bool) → opens_round next ≡ b → Opens shape next
+    by_test true opens = inl opens
+    by_test false not_load = inr (again not_load)
 
 -- the words after an access, by their indexes
 abbrev pub words_by : Access → (ℕ → ℕ) → ℕ → ℕ
@@ -46,7 +70,7 @@ EnqueueQuiet w (E.Recheck ends (Slot index seen)) = (w 0 ≡ ends) × (w index �
 EnqueueQuiet w (E.Put ends index empty) = (w 0 ≡ ends) × (w index ≡ empty)
 EnqueueQuiet w (E.ReloadSlot ends index filled) = (w 0 ≡ ends) × (w index ≡ filled)
 EnqueueQuiet w (E.ReloadEnds ends index filled) = (w 0 ≡ ends) × (w index ≡ filled)
-EnqueueQuiet w (E.HoldHead index filled held) = w 0 ≡ held
+EnqueueQuiet w (E.HoldHead ends index filled held) = w 0 ≡ held
 EnqueueQuiet w (E.Undo index filled worn) = worn ≡ true
 EnqueueQuiet w (E.ScanHead ends offset) = w 0 ≡ ends
 EnqueueQuiet w (E.ConfirmFull ends) = w 0 ≡ ends
@@ -92,21 +116,23 @@ pub still_quiet : (w v : ℕ → ℕ) (running : Running) → v 0 ≡ w 0 → v 
 still_quiet w v running ends slot quiet = grind arith
 
 -- a quiet step that moves neither head nor tail stays in its round, and is not Busy
-abbrev pub NextQuiet : (ℕ → ℕ) → Next → Type 0
-NextQuiet w (Goes running) = (opens_round running ≡ false) × Quiet w running
-NextQuiet w (Answers A.Busy) = ⊥
-NextQuiet w (Answers other) = Unit {0}
+abbrev pub NextQuiet : Running → (ℕ → ℕ) → Next → Type 0
+NextQuiet before w (Goes running) = (ends_round before running ≡ false) × Quiet w running
+NextQuiet before w (Answers A.Busy) = ⊥
+NextQuiet before w (Answers other) = Unit {0}
 
 pub enqueue_quiet : (shape : Shape) (w : ℕ → ℕ) (item start left : ℕ) (phase : EnqueuePhase) (word : ℕ)
     → IsPlace shape (R.Enqueue item start left phase) → EnqueueQuiet w phase
     → word ≡ w (accessed (access shape (R.Enqueue item start left phase))) → moves_head (R.Enqueue item start left phase) word ≡ false
     → moves_tail (R.Enqueue item start left phase) word ≡ false
-    → NextQuiet (words_by (access shape (R.Enqueue item start left phase)) w) (advance shape (R.Enqueue item start left phase) word)
+    → NextQuiet (R.Enqueue item start left phase) (words_by (access shape (R.Enqueue item start left phase)) w)
+    (advance shape (R.Enqueue item start left phase) word)
 enqueue_quiet shape w item start left phase word place quiet is no_head no_tail = grind (arith, nat_tests, scan_index-is_slot)
 
 pub dequeue_quiet : (shape : Shape) (w : ℕ → ℕ) (start left : ℕ) (phase : DequeuePhase) (word : ℕ)
     → IsPlace shape (R.Dequeue start left phase) → DequeueQuiet w phase
     → word ≡ w (accessed (access shape (R.Dequeue start left phase))) → moves_head (R.Dequeue start left phase) word ≡ false
     → moves_tail (R.Dequeue start left phase) word ≡ false
-    → NextQuiet (words_by (access shape (R.Dequeue start left phase)) w) (advance shape (R.Dequeue start left phase) word)
+    → NextQuiet (R.Dequeue start left phase) (words_by (access shape (R.Dequeue start left phase)) w)
+    (advance shape (R.Dequeue start left phase) word)
 dequeue_quiet shape w start left phase word place quiet is no_head no_tail = grind (arith, nat_tests, scan_index-is_slot)

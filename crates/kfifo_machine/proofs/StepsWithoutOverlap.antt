@@ -1,7 +1,7 @@
 -- A step of a call that no other overlaps.
-use Rattle.std.proofs.Common.{◌≡◌, ◌≢◌, ℕ, ◌+◌, ◌*◌, ◌%◌, ◌<◌, ◌≤◌, Bool, true, false, refl, sym, ap, ◌∙◌, subst, inl, inr, arith, cond}
+use Rattle.std.proofs.Common.{◌≡◌, ◌≢◌, ℕ, ◌+◌, ◌*◌, ◌-◌, ◌%◌, ◌<◌, ◌≤◌, Bool, true, false, refl, sym, ap, ◌∙◌, subst, inl, inr, arith, cond}
 use Rattle.std.proofs.Common.{eqb-true}
-use Rattle.std.specs.Prelude.{◌==◌, not, nat_lt, nat_le}
+use Rattle.std.specs.Prelude.{◌==◌, ◌&&◌, not, nat_lt, nat_le}
 use Rattle.std.proofs.lemmas.Bool.{cases_eq, eqb-false}
 use Rattle.std.proofs.lemmas.Bool.Decides.{nat_tests}
 use Rattle.kfifo_machine.proofs.Types.{DequeuePhase, EnqueuePhase, Running, Shape}
@@ -132,7 +132,7 @@ module _ (shape : Shape) (w : ℕ → ℕ) (done got item start left : ℕ) wher
 
       by_last : (b : Bool) → tail_of ends ≡ head_of word
           → After shape w done got (cond b (Goes (R.Enqueue item start left (E.Undo index filled true)))
-          (Goes (R.Enqueue item start left (E.HoldHead index filled word))))
+          (Goes (R.Enqueue item start left (E.HoldHead ends index filled word))))
       by_last true meet = record {
         sees = (
           refl,
@@ -157,18 +157,20 @@ module _ (shape : Shape) (w : ℕ → ℕ) (done got item start left : ℕ) wher
       by_head : (b : Bool) → (tail_of ends == head_of word) ≡ b
           → After shape w done got (cond b (cond (version_of word == shape.last)
           (Goes (R.Enqueue item start left (E.Undo index filled true)))
-          (Goes (R.Enqueue item start left (E.HoldHead index filled word))))
+          (Goes (R.Enqueue item start left (E.HoldHead ends index filled word))))
           (cond (nat_le (distance shape.n (head_of word) (tail_of ends)) (distance shape.n (head_of word) (tail_of word))) (Answers A.Done)
           (Goes (R.Enqueue item start left (E.Undo index filled false)))))
       by_head true meet = by_last (version_of word == shape.last) (eqb-true (tail_of ends) (head_of word) meet)
       by_head false apart = by_window (nat_le (distance shape.n (head_of word) (tail_of ends))
           (distance shape.n (head_of word) (tail_of word))) refl
-  enqueue_after (E.HoldHead index filled held) word place e k is = by_test (word == held) refl
+  enqueue_after (E.HoldHead ends index filled held) word place e k is = by_test (word == held) refl
     where
       by_test : (b : Bool) → (word == held) ≡ b
           → After shape (words_by (Exchange 0 held (head_held held)) w) done got
-          (cond b (Answers A.Done) (Goes (R.Enqueue item start left (E.Undo index filled false))))
-      by_test true same = hold_after shape w (done + 1) got held place.4.0 k.sees (record { between = k.between; items = k.items })
+          (cond b (Answers A.Done)
+          (cond (shape.holds_again && not (left == 1)) (Goes (R.Enqueue item start (left - 1) (E.ReloadSlot ends index filled)))
+          (Goes (R.Enqueue item start left (E.Undo index filled false)))))
+      by_test true same = hold_after shape w (done + 1) got held place.4.1 k.sees (record { between = k.between; items = k.items })
       by_test false other = absurd (eqb-false word held other (is ∙ k.sees))
   enqueue_after (E.Undo index filled true) word place e k is = by_test (word == filled) refl
     where

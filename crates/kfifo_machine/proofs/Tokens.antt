@@ -34,7 +34,7 @@ EnqueueKnows item (E.Recheck ends (Slot index seen)) = value_of seen ≡ 0
 EnqueueKnows item (E.Put ends index empty) = value_of empty ≡ 0
 EnqueueKnows item (E.ReloadSlot ends index filled) = value_of filled ≡ item
 EnqueueKnows item (E.ReloadEnds ends index filled) = value_of filled ≡ item
-EnqueueKnows item (E.HoldHead index filled held) = value_of filled ≡ item
+EnqueueKnows item (E.HoldHead ends index filled held) = value_of filled ≡ item
 EnqueueKnows item (E.Undo index filled worn) = value_of filled ≡ item
 EnqueueKnows item other = Unit {0}
 
@@ -126,8 +126,8 @@ module _ (shape : Shape) (w : ℕ → ℕ) where
       Leaves (λ i a b. refl) (λ x h. held_before shape item start left (E.ReloadSlot ends index filled) _ x refl h)
   touches_enqueue item start left (E.ReloadEnds ends index filled) place knows =
       Leaves (λ i a b. refl) (λ x h. held_before shape item start left (E.ReloadEnds ends index filled) _ x refl h)
-  touches_enqueue item start left (E.HoldHead index filled held) place knows =
-      Leaves (λ i a b. slots_stay w held _ i a) (λ x h. held_before shape item start left (E.HoldHead index filled held) _ x refl h)
+  touches_enqueue item start left (E.HoldHead ends index filled held) place knows =
+      Leaves (λ i a b. slots_stay w held _ i a) (λ x h. held_before shape item start left (E.HoldHead ends index filled held) _ x refl h)
   touches_enqueue item start left (E.Undo index filled worn) place knows =
       elim (cases_eq (w index) filled) [
         | inl won ↦ Empties index place.4.1.above place.4.1.below

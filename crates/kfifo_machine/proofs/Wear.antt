@@ -1,7 +1,7 @@
 -- Worn has its cause: a look of the last round.
 use Rattle.std.proofs.Common.{◌≡◌, ℕ, ◌+◌, ◌-◌, ◌<◌, List, [], ◌∷◌, ◌++◌, Some, Bool, true, false, refl, sym, ap, ◌∙◌, subst, inl, inr}
 use Rattle.std.proofs.Common.{arith, cond, eqb-true}
-use Rattle.std.specs.Prelude.{◌==◌, not, nat_lt, nat_le}
+use Rattle.std.specs.Prelude.{◌==◌, ◌&&◌, not, nat_lt, nat_le}
 use Rattle.std.proofs.lemmas.Bool.{ltb-true}
 use Rattle.std.proofs.lemmas.List.{append_assoc}
 use Rattle.kfifo_machine.proofs.Types.{Begin, DequeuePhase, EnqueuePhase, Next, Running, Shape}
@@ -202,7 +202,7 @@ enqueue_worn shape item start left (E.ReloadEnds ends index filled) word past so
   where
     by_last : (b : Bool) → (version_of word == shape.last) ≡ b
         → NextWorn shape (cond b (Goes (R.Enqueue item start left (E.Undo index filled true)))
-        (Goes (R.Enqueue item start left (E.HoldHead index filled word))))
+        (Goes (R.Enqueue item start left (E.HoldHead ends index filled word))))
         (past ++ look (R.Enqueue item start left (E.ReloadEnds ends index filled)) word ∷ [])
     by_last true is = record {
       word = word;
@@ -219,18 +219,27 @@ enqueue_worn shape item start left (E.ReloadEnds ends index filled) word past so
 
     by_head : (b : Bool) → NextWorn shape (cond b
         (cond (version_of word == shape.last) (Goes (R.Enqueue item start left (E.Undo index filled true)))
-        (Goes (R.Enqueue item start left (E.HoldHead index filled word))))
+        (Goes (R.Enqueue item start left (E.HoldHead ends index filled word))))
         (cond (nat_le (distance shape.n (head_of word) (tail_of ends)) (distance shape.n (head_of word) (tail_of word))) (Answers A.Done)
         (Goes (R.Enqueue item start left (E.Undo index filled false)))))
         (past ++ look (R.Enqueue item start left (E.ReloadEnds ends index filled)) word ∷ [])
     by_head true = by_last (version_of word == shape.last) refl
     by_head false = by_window (nat_le (distance shape.n (head_of word) (tail_of ends)) (distance shape.n (head_of word) (tail_of word)))
-enqueue_worn shape item start left (E.HoldHead index filled held) word past so = by_test (word == held)
+enqueue_worn shape item start left (E.HoldHead ends index filled held) word past so = by_test (word == held)
   where
-    by_test : (b : Bool) → NextWorn shape (cond b (Answers A.Done) (Goes (R.Enqueue item start left (E.Undo index filled false))))
-        (past ++ look (R.Enqueue item start left (E.HoldHead index filled held)) word ∷ [])
+    by_round : (b : Bool) → NextWorn shape
+        (cond b (Goes (R.Enqueue item start (left - 1) (E.ReloadSlot ends index filled)))
+        (Goes (R.Enqueue item start left (E.Undo index filled false))))
+        (past ++ look (R.Enqueue item start left (E.HoldHead ends index filled held)) word ∷ [])
+    by_round true = tt
+    by_round false = tt
+
+    by_test : (b : Bool) → NextWorn shape (cond b (Answers A.Done)
+        (cond (shape.holds_again && not (left == 1)) (Goes (R.Enqueue item start (left - 1) (E.ReloadSlot ends index filled)))
+        (Goes (R.Enqueue item start left (E.Undo index filled false)))))
+        (past ++ look (R.Enqueue item start left (E.HoldHead ends index filled held)) word ∷ [])
     by_test true = tt
-    by_test false = tt
+    by_test false = by_round (shape.holds_again && not (left == 1))
 enqueue_worn shape item start left (E.Undo index filled true) word past so = by_test (word == filled)
   where
     by_test : (b : Bool) → NextWorn shape (cond (not b) (Answers A.Done) (Answers A.Worn))

@@ -33,8 +33,8 @@ IsEnqueuePhase shape (E.ReloadSlot ends index filled) = IsEnds shape ends × (ve
     × IsSlotIndex shape index
 IsEnqueuePhase shape (E.ReloadEnds ends index filled) = IsEnds shape ends × (version_of filled < shape.last)
     × IsSlotIndex shape index
-IsEnqueuePhase shape (E.HoldHead index filled held) = IsEnds shape held × (version_of held < shape.last)
-    × (version_of filled < shape.last) × IsSlotIndex shape index
+IsEnqueuePhase shape (E.HoldHead ends index filled held) = IsEnds shape ends × IsEnds shape held
+    × (version_of held < shape.last) × (version_of filled < shape.last) × IsSlotIndex shape index
 IsEnqueuePhase shape (E.Undo index filled worn) = version_of filled < shape.last × IsSlotIndex shape index
 IsEnqueuePhase shape (E.ScanHead ends offset) = IsEnds shape ends × (offset < shape.k)
 IsEnqueuePhase shape (E.ConfirmFull ends) = IsEnds shape ends

@@ -1,6 +1,6 @@
 -- The two programs of Kirsch, Lippautz and Payer's bounded k-FIFO queue (2013), a step at a time: which atomic step
 -- comes next at each place in a call, and what the thread does with the word that it found.
-use Rattle.std.specs.Prelude.{ℕ, ◌+◌, ◌-◌, ◌%◌, ◌==◌, not, nat_lt, nat_le, if◌then◌else◌, true, false}
+use Rattle.std.specs.Prelude.{ℕ, ◌+◌, ◌-◌, ◌%◌, ◌==◌, ◌&&◌, not, nat_lt, nat_le, if◌then◌else◌, true, false}
 use Rattle.kfifo_words.specs.declared.shape.Shape.{Shape}
 use Rattle.kfifo_words.specs.Words.{slot_word, value_of, version_of, ends_word, head_of, tail_of}
 use Rattle.kfifo_words.specs.Ring.{next_segment, distance, slot_at}
@@ -46,7 +46,7 @@ enqueue_access shape item start (E.Recheck ends found) = Load 0
 enqueue_access shape item start (E.Put ends index empty) = Exchange index empty (filled_with item empty)
 enqueue_access shape item start (E.ReloadSlot ends index filled) = Load index
 enqueue_access shape item start (E.ReloadEnds ends index filled) = Load 0
-enqueue_access shape item start (E.HoldHead index filled held) = Exchange 0 held (head_held held)
+enqueue_access shape item start (E.HoldHead ends index filled held) = Exchange 0 held (head_held held)
 enqueue_access shape item start (E.Undo index filled worn) = Exchange index filled (emptied filled)
 enqueue_access shape item start (E.ScanHead ends offset) = Load (scan_index shape (head_of ends) 0 offset)
 enqueue_access shape item start (E.ConfirmFull ends) = Load 0
@@ -102,12 +102,15 @@ enqueue_advance shape item start left (E.ReloadEnds ends index filled) word =
     if tail_of ends == head_of word
     then (if version_of word == shape.last
     then Goes (R.Enqueue item start left (E.Undo index filled true))
-    else Goes (R.Enqueue item start left (E.HoldHead index filled word)))
+    else Goes (R.Enqueue item start left (E.HoldHead ends index filled word)))
     else if nat_le (distance shape.n (head_of word) (tail_of ends)) (distance shape.n (head_of word) (tail_of word))
     then Answers Done
     else Goes (R.Enqueue item start left (E.Undo index filled false))
-enqueue_advance shape item start left (E.HoldHead index filled held) word =
-    if word == held then Answers Done else Goes (R.Enqueue item start left (E.Undo index filled false))
+enqueue_advance shape item start left (E.HoldHead ends index filled held) word =
+    if word == held then Answers Done
+    else if shape.holds_again && not (left == 1)
+    then Goes (R.Enqueue item start (left - 1) (E.ReloadSlot ends index filled))
+    else Goes (R.Enqueue item start left (E.Undo index filled false))
 enqueue_advance shape item start left (E.Undo index filled worn) word =
     if not (word == filled) then Answers Done
     else if worn then Answers Worn

@@ -1,8 +1,10 @@
 -- Rounds that were lost, and what a call that returned Busy has behind it.
-use Rattle.std.specs.Prelude.{◌≡◌, ◌≢◌, ◌≤◌, ℕ, zero, suc, ◌+◌, ◌⊎◌, true, List, [], ◌∷◌, ◌++◌, Some}
+use Rattle.std.specs.Prelude.{◌≡◌, ◌≢◌, ◌≤◌, ℕ, zero, suc, ◌+◌, ◌⊎◌, Bool, true, false, List, [], ◌∷◌, ◌++◌, Some}
 use Rattle.kfifo_words.specs.declared.shape.Shape.{Shape}
 use Rattle.kfifo_model.specs.declared.calls.Answer.TheVariants.{Busy}
+use Rattle.kfifo_machine.specs.declared.place.EnqueuePhase.TheVariants as E
 use Rattle.kfifo_machine.specs.declared.place.Running.{Running}
+use Rattle.kfifo_machine.specs.declared.place.Running.TheVariants as R
 use Rattle.kfifo_machine.specs.declared.event.Begin.{Begin}
 use Rattle.kfifo_machine.specs.declared.event.Begin.TheVariants as B
 use Rattle.kfifo_machine.specs.declared.event.Event.{Event}
@@ -10,6 +12,11 @@ use Rattle.kfifo_machine.specs.Machine.{World, place_of, found, run, after}
 use Rattle.kfifo_machine.specs.Runs.{own, going, CompleteExecution}
 use Rattle.kfifo_machine.specs.Laws.{Wins, moves_head, moves_tail}
 use Rattle.kfifo_machine.specs.Causes.{AllOfRound, looks}
+
+-- the thread is about to load its slot again, the item being put
+abbrev pub reloads_slot : Running → Bool
+reloads_slot (R.Enqueue item start left (E.ReloadSlot ends index filled)) = true
+reloads_slot other = false
 
 -- the event is a won head-on or tail-on
 pub record MovesOn (shape : Shape) (here : World) (event : Event) : Type 0 where
@@ -35,7 +42,15 @@ pub record Disturbed (shape : Shape) (thread : ℕ) (here : World) (events : Lis
   pub by : ((event.thread ≡ thread) × MovesOn shape world event)
       ⊎ ((event.thread ≢ thread) × WinsSome shape world event)
 
--- a lost round: its first and last events are the thread's, its own steps are of this round, and it is disturbed
+-- an enqueue that could not hold the head looks at its slot again with this event, which begins its next round
+pub record LooksAgain (shape : Shape) (here : World) (event : Event) : Type 0 where
+  pub running : Running
+  pub stands : going shape (place_of here event.thread) event.begin ≡ Some running
+  pub looks : reloads_slot running ≡ true
+  pub again : shape.holds_again ≡ true
+
+-- A lost round: its first and last events are the thread's, and its own steps are of this round. It is disturbed, or it
+-- begins where the round before was lost as another thread changed the ends
 pub record LostRound (shape : Shape) (thread round : ℕ) (here : World) (events : List Event) : Type 0 where
   pub first : Event
   pub later : List Event
@@ -46,7 +61,7 @@ pub record LostRound (shape : Shape) (thread round : ℕ) (here : World) (events
   pub first_own : first.thread ≡ thread
   pub last_own : last.thread ≡ thread
   pub one_round : AllOfRound round (looks shape thread (Some here) events)
-  pub disturbed : Disturbed shape thread here events
+  pub disturbed : Disturbed shape thread here events ⊎ LooksAgain shape here first
 
 -- events of others, then a lost round, and then what is said of the rest
 pub record LosesThen (shape : Shape) (thread round : ℕ) (here : World) (events : List Event)

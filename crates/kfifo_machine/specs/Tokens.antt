@@ -17,7 +17,7 @@ use Rattle.kfifo_machine.specs.Machine.{World, opening, word_at, place_of, world
 abbrev pub held_in : ℕ → EnqueuePhase → Option ℕ
 held_in item (E.ReloadSlot ends index filled) = None
 held_in item (E.ReloadEnds ends index filled) = None
-held_in item (E.HoldHead index filled held) = None
+held_in item (E.HoldHead ends index filled held) = None
 held_in item (E.Undo index filled worn) = None
 held_in item phase = Some item
 

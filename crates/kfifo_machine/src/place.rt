@@ -17,7 +17,7 @@ pub enum Found {
     Nothing,
 }
 
-/// The step that an enqueue makes next. `ends` is the ends word with which its round began.
+/// The step that an enqueue makes next. `ends` is the ends word that the enqueue loaded before it scanned the segment.
 #[derive(Clone, Copy, PartialEq, Eq, Debug)]
 pub enum EnqueuePhase {
     /// Loads the ends word.
@@ -52,6 +52,7 @@ pub enum EnqueuePhase {
     },
     /// Raises the version of the ends word `held`.
     HoldHead {
+        ends: Ends,
         index: usize,
         filled: Word,
         held: Ends,

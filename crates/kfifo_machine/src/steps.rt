@@ -243,6 +243,7 @@ impl EnqueueRound {
             // A dequeue may have seen this slot empty and be about to move the head past the item. The greater version
             // makes its compare-and-swap fail.
             self.goes(EnqueuePhase::HoldHead {
+                ends,
                 index,
                 filled,
                 held: now,
@@ -341,12 +342,30 @@ impl EnqueueRound {
     }
 
     /// What follows an exchange that raises the version of the ends word.
-    fn head_held(self, shape: &Shape, index: usize, filled: Word, held: Ends, now: Ends) -> Next
+    fn head_held(
+        self,
+        shape: &Shape,
+        ends: Ends,
+        index: usize,
+        filled: Word,
+        held: Ends,
+        now: Ends,
+    ) -> Next
+        requires left { 0 < self.left }
         ensures { result ≡ enqueue_advance shape.now self.item self.start self.left
-            (EnqueuePhase.HoldHead index filled held) now }
+            (EnqueuePhase.HoldHead ends index filled held) now }
     {
         if now == held {
             Next::Answers(Answer::Done)
+        } else if shape.holds_again() && self.left != 1 {
+            // Another thread moved an end or held the head. If each such loss took the item out, two threads could keep
+            // each other busy for ever, although the item may well lie between head and tail.
+            let left = self.left - 1;
+            EnqueueRound { left, ..self }.goes(EnqueuePhase::ReloadSlot {
+                ends,
+                index,
+                filled,
+            })
         } else {
             self.goes(EnqueuePhase::Undo {
                 index,
@@ -401,10 +420,11 @@ impl EnqueueRound {
                 filled,
             } => self.placed(shape, ends, index, filled, now),
             Phase::HoldHead {
+                ends,
                 index,
                 filled,
                 held,
-            } => self.head_held(shape, index, filled, held, now),
+            } => self.head_held(shape, ends, index, filled, held, now),
             Phase::Undo {
                 index,
                 filled,

@@ -42,8 +42,8 @@ undo_told shape (R.Enqueue item start left (E.ReloadSlot ends index filled)) wor
     sym (takes_back-false (outcome_of (advance shape (R.Enqueue item start left (E.ReloadSlot ends index filled)) word)))
 undo_told shape (R.Enqueue item start left (E.ReloadEnds ends index filled)) word =
     sym (takes_back-false (outcome_of (advance shape (R.Enqueue item start left (E.ReloadEnds ends index filled)) word)))
-undo_told shape (R.Enqueue item start left (E.HoldHead index filled held)) word =
-    sym (takes_back-false (outcome_of (advance shape (R.Enqueue item start left (E.HoldHead index filled held)) word)))
+undo_told shape (R.Enqueue item start left (E.HoldHead ends index filled held)) word =
+    sym (takes_back-false (outcome_of (advance shape (R.Enqueue item start left (E.HoldHead ends index filled held)) word)))
 undo_told shape (R.Enqueue item start left (E.Undo index filled worn)) word = grind (arith, nat_tests)
 undo_told shape (R.Enqueue item start left (E.ScanHead ends offset)) word =
     sym (takes_back-false (outcome_of (advance shape (R.Enqueue item start left (E.ScanHead ends offset)) word)))

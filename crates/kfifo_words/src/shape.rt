@@ -1,5 +1,5 @@
 //! The shape of a ring.
-ghost use Rattle.std.specs.Prelude.{◌≡◌, ℕ, ◌+◌, ◌*◌, ◌^◌, ◌<◌, ◌≤◌, Some, None, MatchResult};
+ghost use Rattle.std.specs.Prelude.{◌≡◌, ℕ, ◌+◌, ◌*◌, ◌^◌, ◌<◌, ◌≤◌, Some, None, true, false, MatchResult};
 ghost use Rattle.kfifo_words.specs.declared.shape.TheConstants.{MAX_K, MAX_SEGMENTS};
 
 use crate::{MAX_VERSION, ShapeFault};
@@ -10,7 +10,8 @@ pub const MAX_K: u32 = 64;
 /// The most segments of a ring.
 pub const MAX_SEGMENTS: u32 = 1_024;
 
-/// The sizes of a ring: n segments of k slots, the greatest version, and how many slots an enqueue looks at.
+/// The sizes of a ring: n segments of k slots, the greatest version, how many slots an enqueue looks at, and what it
+/// does where it could not hold the head.
 ///
 /// `Shape::new` and `Shape::with_probes` make shapes. A ring holds at most n * k items, and the table of a queue of
 /// this shape has n * k + 2 words of 64 bits.
@@ -24,6 +25,8 @@ pub struct Shape {
     pub last: u64,
     /// Slots of a segment that an enqueue probes from its start, 1 to k.
     pub probes: u32,
+    /// Whether an enqueue that could not hold the head tries again before it takes its item out.
+    pub holds_again: bool,
     pub ghost some_slot: { 1 ≤ k },
     pub ghost few_slots: { k ≤ MAX_K },
     pub ghost some_segments: { 2 ≤ n },
@@ -52,8 +55,8 @@ impl Shape {
     /// Refuses the first size that is out of range: KOutOfRange where k is not 1 to 64, SegmentsOutOfRange where n is
     /// not 2 to 1,024, LastOutOfRange where `last` is not 2 to 2^40 - 1.
     pub fn new(k: u32, n: u32, last: u64) -> Result<Shape, ShapeFault>
-        ensures { MatchResult result (λ s. (s.k ≡ k) × (s.n ≡ n) × (s.last ≡ last) × (s.probes ≡ k))
-            (λ f. fault_of k n last k ≡ Some f) }
+        ensures { MatchResult result (λ s. (s.k ≡ k) × (s.n ≡ n) × (s.last ≡ last) × (s.probes ≡ k)
+            × (s.holds_again ≡ false)) (λ f. fault_of k n last k ≡ Some f) }
     {
         Shape::with_probes(k, n, last, k)
     }
@@ -69,8 +72,8 @@ impl Shape {
     ///
     /// Refuses as `new` does, and then ProbesOutOfRange where `probes` is not 1 to k.
     pub fn with_probes(k: u32, n: u32, last: u64, probes: u32) -> Result<Shape, ShapeFault>
-        ensures { MatchResult result (λ s. (s.k ≡ k) × (s.n ≡ n) × (s.last ≡ last) × (s.probes ≡ probes))
-            (λ f. fault_of k n last probes ≡ Some f) }
+        ensures { MatchResult result (λ s. (s.k ≡ k) × (s.n ≡ n) × (s.last ≡ last) × (s.probes ≡ probes)
+            × (s.holds_again ≡ false)) (λ f. fault_of k n last probes ≡ Some f) }
     {
         if k < 1 || k > MAX_K {
             return Err(ShapeFault::KOutOfRange);
@@ -84,7 +87,36 @@ impl Shape {
         if probes < 1 || probes > k {
             return Err(ShapeFault::ProbesOutOfRange);
         }
-        Ok(Shape { k, n, last, probes })
+        Ok(Shape {
+            k,
+            n,
+            last,
+            probes,
+            holds_again: false,
+        })
+    }
+
+    /// Returns this shape with enqueues that try again to hold the head.
+    ///
+    /// An enqueue that puts its item into the head's segment raises the version of the ends, so that no dequeue moves
+    /// the head past the item. Another thread may change the ends first. Then the enqueue of a plain shape takes its
+    /// item out and begins anew. That of this shape looks at its slot and at the ends again, and takes the item out only
+    /// where its segment no longer lies between head and tail, or where it has no round left. Each try costs a round.
+    ///
+    /// ```rust
+    /// let shape = Shape::new(4, 256, MAX_VERSION)?.holding_again();
+    /// ```
+    pub fn holding_again(self) -> Shape
+        ensures { (result.k ≡ self.k) × (result.n ≡ self.n) × (result.last ≡ self.last)
+            × (result.probes ≡ self.probes) × (result.holds_again ≡ true) }
+    {
+        Shape {
+            k: self.k,
+            n: self.n,
+            last: self.last,
+            probes: self.probes,
+            holds_again: true,
+        }
     }
 
     /// Slots in a segment.
@@ -113,6 +145,13 @@ impl Shape {
         ensures { result ≡ self.now.probes }
     {
         self.probes
+    }
+
+    /// Whether an enqueue that could not hold the head tries again before it takes its item out.
+    pub fn holds_again(&self) -> bool
+        ensures { result ≡ self.now.holds_again }
+    {
+        self.holds_again
     }
 
     /// The next segment round the ring.

@@ -7,7 +7,7 @@
 //! The kinds, and their keys:
 //!
 //! - `words`: `words`, each a slot word `[value, version]`, an ends word `[head, tail, version]`, or `["limits"]`.
-//! - `sizes`: `sizes`, each `[k, n]`, and then maybe the greatest version and the probes.
+//! - `sizes`: `sizes`, each `[k, n]`, and then maybe the greatest version, the probes, and `"holds again"`.
 //! - `ring`: `shape` with such sizes, and `ask`, each `["next", segment]`, `["dist", from, to]`, `["slot", segment,
 //!   slot]` or `["shape"]`.
 //! - `faults`: `of`, a group of faults (`events`, `runs`, `records` or `questions`); each prints its number and its

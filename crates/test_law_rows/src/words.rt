@@ -6,7 +6,12 @@ use serde_json::Value;
 use std::alloc::{AllocError, Global};
 use test_rows::{items, list, number, small};
 
-/// The shape with these sizes: k, n, and then maybe the greatest version and the probes.
+/// A shape whose enqueues hold again.
+fn holding_again(shape: Result<Shape, ShapeFault>) -> Result<Shape, ShapeFault> {
+    Ok(shape?.holding_again())
+}
+
+/// The shape with these sizes: k, n, and then maybe the greatest version, the probes, and that enqueues hold again.
 pub fn shape_of(sizes: &[Value]) -> Option<Result<Shape, ShapeFault>> {
     match sizes {
         [k, n] => Some(Shape::new(small(k), small(n), MAX_VERSION)),
@@ -14,6 +19,12 @@ pub fn shape_of(sizes: &[Value]) -> Option<Result<Shape, ShapeFault>> {
         [k, n, last, probes] => {
             Some(Shape::with_probes(small(k), small(n), number(last), small(probes)))
         }
+        [k, n, last, probes, _holds_again] => Some(holding_again(Shape::with_probes(
+            small(k),
+            small(n),
+            number(last),
+            small(probes),
+        ))),
         _ => None,
     }
 }

@@ -5,12 +5,12 @@ use Rattle.kfifo_machine.specs.declared.place.EnqueuePhase.TheVariants as P
 use Rattle.kfifo_live.proofs.Whole.{comes, comes_by, goes_to}
 use Rattle.kfifo_live.proofs.enqueue.Enqueue.put.Goals as goal
 
-pub returns-then-ne : goal.returns-then-ne
-returns-then-ne g c = comes c.requires c.compare_exchange.ensures (grind (arith, nat_tests))
+pub returns-then-ne-clause-comes : goal.returns-then-ne-clause-comes
+returns-then-ne-clause-comes g c = comes c.requires c.compare_exchange.ensures (grind (arith, nat_tests))
 
-pub see_put-requires : goal.see_put-requires
-see_put-requires g c = goes_to c.requires c.compare_exchange.ensures (grind (arith, nat_tests))
+pub keep-requires : goal.keep-requires
+keep-requires g c = goes_to c.requires c.compare_exchange.ensures (grind (arith, nat_tests))
 
-pub returns : goal.returns
-returns g c = comes_by (enqueue_at c.args.self (P.ReloadSlot c.args.ends c.args.index c.pack-filled.result)) c.requires
-    c.compare_exchange.ensures (grind (arith, nat_tests)) c.see_put.ensures
+pub returns-clause-comes : goal.returns-clause-comes
+returns-clause-comes g c = comes_by (enqueue_at c.args.self (P.ReloadSlot c.args.ends c.args.index c.pack-filled.result)) c.requires
+    c.compare_exchange.ensures (grind (arith, nat_tests)) c.keep.ensures.comes

@@ -14,10 +14,17 @@ pub leave_segment-requires : goal.leave_segment-requires
 leave_segment-requires g c = stands_on c.requires.of
     (c.in-Nothing.ensures (tail_scan c.args.self c.args.ends _ _ c.tail.ensures.value c.probes-probes.ensures) c.requires)
 
-pub returns-in-Slot : goal.returns-in-Slot
-returns-in-Slot g c = runs_on (c.in-Slot.ensures (tail_scan c.args.self c.args.ends _ _ c.tail.ensures.value c.probes-probes.ensures)
-    c.requires) c.fill_slot.ensures
+pub returns-in-Slot-clause-comes : goal.returns-in-Slot-clause-comes
+returns-in-Slot-clause-comes g c =
+    runs_on (c.in-Slot.ensures (tail_scan c.args.self c.args.ends _ _ c.tail.ensures.value c.probes-probes.ensures) c.requires)
+    c.fill_slot.ensures.comes
 
-pub returns-in-Nothing : goal.returns-in-Nothing
-returns-in-Nothing g c = runs_on (c.in-Nothing.ensures (tail_scan c.args.self c.args.ends _ _ c.tail.ensures.value c.probes-probes.ensures)
-    c.requires) c.leave_segment.ensures
+pub returns-in-Some-clause-comes : goal.returns-in-Some-clause-comes
+returns-in-Some-clause-comes g c =
+    runs_on (c.in-Nothing.ensures (tail_scan c.args.self c.args.ends _ _ c.tail.ensures.value c.probes-probes.ensures) c.requires)
+    c.in-Some.ensures
+
+pub returns-in-None-clause-comes : goal.returns-in-None-clause-comes
+returns-in-None-clause-comes g c =
+    runs_on (c.in-Nothing.ensures (tail_scan c.args.self c.args.ends _ _ c.tail.ensures.value c.probes-probes.ensures) c.requires)
+    c.in-None.ensures

@@ -11,13 +11,13 @@ undo-requires g c = goes_to c.requires c.load_ends-now.ensures (grind (arith, na
 
 pub returns-then-version-last : goal.returns-then-version-last
 returns-then-version-last g c = comes_by (enqueue_at c.args.self (P.Undo c.args.index c.args.filled true)) c.requires
-    c.load_ends-now.ensures (grind (arith, nat_tests)) c.undo.ensures
+    c.load_ends-now.ensures (grind (arith, nat_tests)) (c.undo.ensures c.args.ends)
 
 pub hold_head-requires : goal.hold_head-requires
 hold_head-requires g c = goes_to c.requires c.load_ends-now.ensures (grind (arith, nat_tests))
 
 pub returns-then-segment-head : goal.returns-then-segment-head
-returns-then-segment-head g c = comes_by (enqueue_at c.args.self (P.HoldHead c.args.index c.args.filled c.load_ends-now.result)) c.requires
+returns-then-segment-head g c = comes_by (enqueue_at c.args.self (P.HoldHead c.args.ends c.args.index c.args.filled c.load_ends-now.result)) c.requires
     c.load_ends-now.ensures (grind (arith, nat_tests)) c.hold_head.ensures
 
 pub dist-requires-clause-from_in : goal.dist-requires-clause-from_in
@@ -37,4 +37,4 @@ undo-requires-2 g c = goes_to c.requires c.load_ends-now.ensures (grind (arith, 
 
 pub returns : goal.returns
 returns g c = comes_by (enqueue_at c.args.self (P.Undo c.args.index c.args.filled false)) c.requires c.load_ends-now.ensures
-    (grind (arith, nat_tests)) c.undo-2.ensures
+    (grind (arith, nat_tests)) (c.undo-2.ensures c.args.ends)

@@ -18,29 +18,34 @@ rounds-init g c = c.begin-ends.ensures (R.Enqueue c.args.item c.args.start c.arg
 pub round-requires : goal.round-requires
 round-requires g c = stands_on c.requires.rests.of c.rounds.invariant
 
-pub returns-in-Some : goal.returns-in-Some
-returns-in-Some g c = runs_on c.rounds.invariant c.in-Some.ensures
+pub returns-in-Answered : goal.returns-in-Answered
+returns-in-Answered g c = runs_on c.rounds.invariant c.in-Answered.ensures.comes
 
 pub returns-then-left-eq1 : goal.returns-then-left-eq1
-returns-then-left-eq1 g c = runs_on c.rounds.invariant (comes_as c.in_default.ensures (grind (arith, nat_tests)))
+returns-then-left-eq1 g c = runs_on c.rounds.invariant (comes_as c.in-Lost.ensures.comes (grind (arith, nat_tests)))
 
 pub overflow_sub-left : goal.overflow_sub-left
-overflow_sub-left g c = (stands_on c.requires.rests.of c.rounds.invariant).is_place.3
+overflow_sub-left g c =
+    let again = comes_as {later = Goes (R.Enqueue c.args.item c.args.start (c.in-Lost.lost - 1) P.LoadEnds)} c.in-Lost.ensures.comes
+    (grind (arith, nat_tests)) in
+    let some : 0 < c.in-Lost.lost - 1 = (stands_on c.requires.rests.of (runs_on c.rounds.invariant again)).is_place.3 in
+    omega arith
 
 pub load_ends-ends-requires : goal.load_ends-ends-requires
 load_ends-ends-requires g c =
-    let again = comes_as {later = Goes (R.Enqueue c.args.item c.args.start (c.rounds.left - 1) P.LoadEnds)} c.in_default.ensures
+    let again = comes_as {later = Goes (R.Enqueue c.args.item c.args.start (c.in-Lost.lost - 1) P.LoadEnds)} c.in-Lost.ensures.comes
     (grind (arith, nat_tests)) in
     awaits (stands_on c.requires.rests.of (runs_on c.rounds.invariant again)) refl
 
 pub rounds-smaller : goal.rounds-smaller
 rounds-smaller g c =
+    let few = c.in-Lost.ensures.left in
     let some = (stands_on c.requires.rests.of c.rounds.invariant).is_place.3 in
-    let less : c.rounds.left - 1 < c.rounds.left = omega (arith, some) in
+    let less : c.in-Lost.lost - 1 < c.rounds.left = omega arith in
     less
 
 pub rounds-preserved : goal.rounds-preserved
 rounds-preserved g c =
-    let again = runs_on c.rounds.invariant (comes_as {later = Goes (R.Enqueue c.args.item c.args.start (c.rounds.left - 1) P.LoadEnds)}
-    c.in_default.ensures (grind (arith, nat_tests))) in
+    let again = runs_on c.rounds.invariant (comes_as {later = Goes (R.Enqueue c.args.item c.args.start (c.in-Lost.lost - 1) P.LoadEnds)}
+    c.in-Lost.ensures.comes (grind (arith, nat_tests))) in
     runs_on again (comes (stands_on c.requires.rests.of again) c.load_ends-ends.ensures refl)
