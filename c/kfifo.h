@@ -6,6 +6,20 @@
 #include <stdint.h>
 #include <string.h>
 
+#ifdef KFIFO_DEBUG
+#include <stdio.h>
+#include <stdlib.h>
+#endif
+
+/* Casts of which compilers for C++ do not warn. */
+#ifdef __cplusplus
+#define KFIFO_CAST(type, value) static_cast<type>(value)
+#define KFIFO_CAST_POINTER(type, value) reinterpret_cast<type>(value)
+#else
+#define KFIFO_CAST(type, value) ((type)(value))
+#define KFIFO_CAST_POINTER(type, value) ((type)(value))
+#endif
+
 #ifdef __cplusplus
 extern "C" {
 #endif
@@ -46,7 +60,7 @@ static inline const char *kfifo_status_name(kfifo_status status) {
         "KFIFO_NO_TOKEN",   "KFIFO_BAD_K",     "KFIFO_BAD_SEGMENTS", "KFIFO_BAD_LAST",    "KFIFO_BAD_PROBES",
         "KFIFO_BAD_TOKENS", "KFIFO_TIMED_OUT", "KFIFO_FINISHED",     "KFIFO_BAD_RESERVE",
     };
-    return (size_t)status < sizeof names / sizeof names[0] ? names[status] : "no status of this library";
+    return KFIFO_CAST(size_t, status) < sizeof names / sizeof names[0] ? names[status] : "no status of this library";
 }
 
 /* A line of text for a status, as "the queue was empty". kfifo_bad_call_text says which cause a BAD_CALL had. */
@@ -87,18 +101,19 @@ static inline int kfifo_may_retry(kfifo_status status) {
 /* The reserve of versions of a queue of values or cells, 2^32: with fewer left it goes on in its next generation. */
 #define KFIFO_RESERVE UINT64_C(4294967296)
 /* The greatest number of threads of a queue. The least is 1. */
-#define KFIFO_MAX_THREADS ((size_t)64)
+#define KFIFO_MAX_THREADS KFIFO_CAST(size_t, 64)
 /* The greatest item, 2^24 - 1. The least is 1. */
 #define KFIFO_MAX_ITEM UINT32_C(16777215)
 /* The greatest number of tokens a thread. */
 #define KFIFO_MAX_TOKENS UINT32_C(1024)
 
 /* A handle of a queue of items, one for each thread. All bytes 0 is a closed one. What it holds is the library's:
-   neither read it nor write it, and never copy it and use both. */
+   neither read it nor write it. Hand it on by a pointer, and never use a copy. */
 typedef struct kfifo_pass {
     void *inside;
     void *address;
     uint32_t starts;
+    uint32_t mark;
 } kfifo_pass;
 
 /* A handle of a queue of values, likewise. */
@@ -106,6 +121,7 @@ typedef struct kfifo_value_pass {
     void *inside;
     void *address;
     uint32_t starts;
+    uint32_t mark;
 } kfifo_value_pass;
 
 /* A handle of a queue of cells, likewise. */
@@ -113,6 +129,7 @@ typedef struct kfifo_cell_pass {
     void *inside;
     void *address;
     uint32_t starts;
+    uint32_t mark;
 } kfifo_cell_pass;
 
 /* The exports of the library, which test all but null pointers, and at a close that the handles are of one queue. Call
@@ -164,18 +181,84 @@ void AnnotateIgnoreWritesEnd(const char *file, int line);
 #define KFIFO_ENTER() AnnotateIgnoreWritesBegin(__FILE__, __LINE__)
 #define KFIFO_LEAVE() AnnotateIgnoreWritesEnd(__FILE__, __LINE__)
 #define KFIFO_BEFORE_PUT(pass) __tsan_release((pass)->address)
-#define KFIFO_AFTER_GOT(pass, status) ((status) == KFIFO_GOT ? __tsan_acquire((pass)->address) : (void)0)
-#define KFIFO_RELEASED(pass) ((void *)((char *)(pass)->address + 8))
-#define KFIFO_BEFORE_RELEASE(pass) ((pass)->starts ? __tsan_release(KFIFO_RELEASED(pass)) : (void)0)
-#define KFIFO_AFTER_RESERVE(pass, status) ((status) == KFIFO_DONE ? __tsan_acquire(KFIFO_RELEASED(pass)) : (void)0)
+#define KFIFO_AFTER_GOT(pass, status) ((status) == KFIFO_GOT ? __tsan_acquire((pass)->address) : KFIFO_CAST(void, 0))
+#define KFIFO_RELEASED(pass) KFIFO_CAST(void *, KFIFO_CAST(char *, (pass)->address) + 8)
+#define KFIFO_BEFORE_RELEASE(pass) ((pass)->starts ? __tsan_release(KFIFO_RELEASED(pass)) : KFIFO_CAST(void, 0))
+#define KFIFO_AFTER_RESERVE(pass, status)                                                                              \
+    ((status) == KFIFO_DONE ? __tsan_acquire(KFIFO_RELEASED(pass)) : KFIFO_CAST(void, 0))
 #else
-#define KFIFO_ENTER() ((void)0)
-#define KFIFO_LEAVE() ((void)0)
-#define KFIFO_BEFORE_PUT(pass) ((void)0)
-#define KFIFO_AFTER_GOT(pass, status) ((void)0)
-#define KFIFO_BEFORE_RELEASE(pass) ((void)0)
-#define KFIFO_AFTER_RESERVE(pass, status) ((void)0)
+#define KFIFO_ENTER() KFIFO_CAST(void, 0)
+#define KFIFO_LEAVE() KFIFO_CAST(void, 0)
+#define KFIFO_BEFORE_PUT(pass) KFIFO_CAST(void, 0)
+#define KFIFO_AFTER_GOT(pass, status) KFIFO_CAST(void, 0)
+#define KFIFO_BEFORE_RELEASE(pass) KFIFO_CAST(void, 0)
+#define KFIFO_AFTER_RESERVE(pass, status) KFIFO_CAST(void, 0)
 #endif
+
+/* With KFIFO_DEBUG each call marks its handle. A second call by a handle while one runs, or a call by a copy of a
+   handle, prints the name of the call and what is wrong, and aborts. Threads that share a handle, or use a copy, break
+   the queue: without KFIFO_DEBUG nothing says so. kfifo.hpp defines it where the compiler does not optimise, unless
+   NDEBUG is defined.
+
+   A mark has bits of the place in memory where its handle was opened, and two bits for the calls that run by it: one
+   of this header, and one of kfifo.hpp, which makes several of this header. */
+#define KFIFO_MARK_CALL UINT32_C(1)
+#define KFIFO_MARK_WRAPPER UINT32_C(2)
+#define KFIFO_MARK_CALLS (KFIFO_MARK_CALL | KFIFO_MARK_WRAPPER)
+
+static inline uint32_t kfifo_mark_of(const void *pass) {
+    return KFIFO_CAST(uint32_t, KFIFO_CAST_POINTER(uintptr_t, pass) >> 1) & ~KFIFO_MARK_CALLS;
+}
+
+/* Marks handles that were opened. */
+#define KFIFO_OPENED(passes, threads, status)                                                                          \
+    for (size_t i = 0; (status) == KFIFO_DONE && i < (threads); i++) (passes)[i].mark = kfifo_mark_of(&(passes)[i])
+
+#ifdef KFIFO_DEBUG
+static inline void kfifo_begin(const void *pass, uint32_t starts, uint32_t *mark, uint32_t kind, const char *call) {
+    if (starts == 0) return; /* it is closed, which the library refuses */
+    uint32_t was = __atomic_fetch_or(mark, kind, __ATOMIC_RELAXED);
+    int is_copy = (was & ~KFIFO_MARK_CALLS) != kfifo_mark_of(pass);
+    if (!is_copy && !(was & kind)) return;
+    fprintf(stderr, "%s: the handle at %p %s\n", call, pass,
+            is_copy ? "is a copy of one that was opened at another place: use that one, by a pointer to it"
+                    : "is in another call: one call at a time uses a handle");
+    abort();
+}
+static inline void kfifo_end(uint32_t *mark, uint32_t kind) { __atomic_fetch_and(mark, ~kind, __ATOMIC_RELAXED); }
+#define KFIFO_BEGIN(pass) kfifo_begin((pass), (pass)->starts, &(pass)->mark, KFIFO_MARK_CALL, __func__)
+#define KFIFO_END(pass) kfifo_end(&(pass)->mark, KFIFO_MARK_CALL)
+#define KFIFO_BEGIN_ALL(passes, threads)                                                                               \
+    for (size_t i = 0; i < (threads); i++) KFIFO_BEGIN(&(passes)[i])
+#define KFIFO_END_ALL(passes, threads)                                                                                 \
+    for (size_t i = 0; i < (threads); i++) KFIFO_END(&(passes)[i])
+#else
+#define KFIFO_BEGIN(pass) KFIFO_CAST(void, 0)
+#define KFIFO_END(pass) KFIFO_CAST(void, 0)
+#define KFIFO_BEGIN_ALL(passes, threads) KFIFO_CAST(void, 0)
+#define KFIFO_END_ALL(passes, threads) KFIFO_CAST(void, 0)
+#endif
+
+/* Whether one of these handles, of any kind, stands there twice, of which one is a copy: it would be freed twice. There
+   are 64 at most. */
+static inline int kfifo_has_copy(const void *passes, size_t threads) {
+    kfifo_pass all[64];
+    memcpy(all, passes, threads * sizeof *all);
+    for (size_t i = 1; i < threads; i++)
+        for (size_t j = 0; j < i; j++)
+            if (all[i].starts && all[j].starts && all[i].inside == all[j].inside) return 1;
+    return 0;
+}
+
+/* Whether these handles, of any kind, are of one queue, and each but once. `address` is that of the queue, which stays
+   as long as a handle of it is open. */
+static inline int kfifo_are_of_one_queue(const void *passes, size_t threads) {
+    kfifo_pass all[64];
+    memcpy(all, passes, threads * sizeof *all);
+    for (size_t i = 1; i < threads; i++)
+        if (all[i].address != all[0].address) return 0;
+    return !kfifo_has_copy(passes, threads);
+}
 
 /* A number of threads for the library, which refuses 65 as it does any more, and reads no handle then. */
 static inline size_t kfifo_at_most_one_over(size_t threads) {
@@ -197,7 +280,10 @@ static inline kfifo_status kfifo_open(uint32_t k, uint32_t segments, uint32_t pr
                                       size_t threads) {
     if (!passes) return KFIFO_BAD_CALL;
     kfifo_zero(passes, sizeof *passes, threads);
-    return (kfifo_status)kfifo_c_open(k, segments, probes, last, passes, kfifo_at_most_one_over(threads));
+    kfifo_status status =
+        KFIFO_CAST(kfifo_status, kfifo_c_open(k, segments, probes, last, passes, kfifo_at_most_one_over(threads)));
+    KFIFO_OPENED(passes, threads, status);
+    return status;
 }
 
 /* Why a put, get, enqueue or dequeue with these arguments returns BAD_CALL: the first cause that holds, or NULL where
@@ -216,15 +302,20 @@ static inline const char *kfifo_bad_call_text(const kfifo_pass *pass, uint32_t i
    again. */
 static inline kfifo_status kfifo_put(kfifo_pass *pass, uint32_t item) {
     if (!pass) return KFIFO_BAD_CALL;
+    KFIFO_BEGIN(pass);
     KFIFO_BEFORE_PUT(pass);
-    return (kfifo_status)kfifo_c_put(pass, item);
+    kfifo_status status = KFIFO_CAST(kfifo_status, kfifo_c_put(pass, item));
+    KFIFO_END(pass);
+    return status;
 }
 
 /* Takes one of the k oldest items: GOT, and writes it; else EMPTY, BUSY, WORN or BAD_CALL, and *item stays. */
 static inline kfifo_status kfifo_get(kfifo_pass *pass, uint32_t *item) {
     if (!pass || !item) return KFIFO_BAD_CALL;
-    kfifo_status status = (kfifo_status)kfifo_c_get(pass, item);
+    KFIFO_BEGIN(pass);
+    kfifo_status status = KFIFO_CAST(kfifo_status, kfifo_c_get(pass, item));
     KFIFO_AFTER_GOT(pass, status);
+    KFIFO_END(pass);
     return status;
 }
 
@@ -233,15 +324,20 @@ static inline kfifo_status kfifo_get(kfifo_pass *pass, uint32_t *item) {
    other. */
 static inline kfifo_status kfifo_enqueue(kfifo_pass *pass, uint32_t item, uint32_t start, uint16_t turns) {
     if (!pass) return KFIFO_BAD_CALL;
+    KFIFO_BEGIN(pass);
     KFIFO_BEFORE_PUT(pass);
-    return (kfifo_status)kfifo_c_enqueue(pass, item, start, turns);
+    kfifo_status status = KFIFO_CAST(kfifo_status, kfifo_c_enqueue(pass, item, start, turns));
+    KFIFO_END(pass);
+    return status;
 }
 
 /* As kfifo_get, with a start and turns of your own. */
 static inline kfifo_status kfifo_dequeue(kfifo_pass *pass, uint32_t *item, uint32_t start, uint16_t turns) {
     if (!pass || !item) return KFIFO_BAD_CALL;
-    kfifo_status status = (kfifo_status)kfifo_c_dequeue(pass, item, start, turns);
+    KFIFO_BEGIN(pass);
+    kfifo_status status = KFIFO_CAST(kfifo_status, kfifo_c_dequeue(pass, item, start, turns));
     KFIFO_AFTER_GOT(pass, status);
+    KFIFO_END(pass);
     return status;
 }
 
@@ -249,30 +345,42 @@ static inline kfifo_status kfifo_dequeue(kfifo_pass *pass, uint32_t *item, uint3
    writes it; else BAD_CALL, and *word stays. */
 static inline kfifo_status kfifo_word(kfifo_pass *pass, size_t index, uint64_t *word) {
     if (!pass || !word) return KFIFO_BAD_CALL;
-    return (kfifo_status)kfifo_c_word(pass, index, word);
+    KFIFO_BEGIN(pass);
+    kfifo_status status = KFIFO_CAST(kfifo_status, kfifo_c_word(pass, index, word));
+    KFIFO_END(pass);
+    return status;
 }
 
-/* Closes a queue by the handles of all its passes, in any order, and writes the items that are left, and how many:
-   DONE. There has to be room for an item of each slot, k * segments. BAD_CALL, also where they are of several queues,
+/* Closes a queue by all its handles, and writes the items that are left, and how many: DONE. There has to be room for
+   an item of each slot, k * segments. BAD_CALL, also where they are of several queues or one is missing or there twice,
    BAD_THREADS of more than 64, or NO_MEMORY: nothing was done. LOST: an allocation failed; the queue is closed, and the
    items are lost. To be sure of them, take them all before. */
 static inline kfifo_status kfifo_close(kfifo_pass *passes, size_t threads, uint32_t *items, size_t room,
                                        size_t *count) {
     if (!passes || !items || !count) return KFIFO_BAD_CALL;
     if (threads > KFIFO_MAX_THREADS) return KFIFO_BAD_THREADS;
-    /* `address` is that of the queue, which stays as long as a handle of it is open. */
-    for (size_t i = 1; i < threads; i++)
-        if (passes[i].address != passes[0].address) return KFIFO_BAD_CALL;
-    return (kfifo_status)kfifo_c_close(passes, threads, items, room, count);
+    KFIFO_BEGIN_ALL(passes, threads);
+    kfifo_status status = KFIFO_BAD_CALL;
+    if (kfifo_are_of_one_queue(passes, threads))
+        status = KFIFO_CAST(kfifo_status, kfifo_c_close(passes, threads, items, room, count));
+    KFIFO_END_ALL(passes, threads);
+    return status;
 }
 
-/* Closes these handles, at most 64: DONE; BAD_CALL of a null pointer, or BAD_THREADS, and nothing was done. With the
-   last open handle of a queue the queue goes, and the items that are left in it. */
+/* Closes these handles, at most 64: DONE; BAD_CALL of a null pointer or of a handle that is there twice, or
+   BAD_THREADS, and nothing was done. With the last open handle of a queue the queue goes, and the items that are left
+   in it. */
 static inline kfifo_status kfifo_abandon(kfifo_pass *passes, size_t threads) {
     if (!passes) return KFIFO_BAD_CALL;
     if (threads > KFIFO_MAX_THREADS) return KFIFO_BAD_THREADS;
-    kfifo_c_abandon(passes, threads);
-    return KFIFO_DONE;
+    KFIFO_BEGIN_ALL(passes, threads);
+    kfifo_status status = KFIFO_BAD_CALL;
+    if (!kfifo_has_copy(passes, threads)) {
+        kfifo_c_abandon(passes, threads);
+        status = KFIFO_DONE;
+    }
+    KFIFO_END_ALL(passes, threads);
+    return status;
 }
 
 /* ---- A queue of values, which are 64-bit numbers or pointers ----
@@ -286,20 +394,32 @@ static inline kfifo_status kfifo_abandon(kfifo_pass *passes, size_t threads) {
    Where there is none, later gives ask again; only when the reserve is used up too, calls return WORN. Then close the
    queue to have what is left, and open another. */
 
+/* How many tokens a thread it takes that a full ring returns FULL, not NO_TOKEN, whatever the other threads keep
+   between their calls: k * segments + 1 + 15 * (threads - 1), but KFIFO_MAX_TOKENS at most. A thread can always have
+   tokens - 15 * (threads - 1) values in the queue, and may find NO_TOKEN with more. Of cells those are missing besides
+   that others have reserved or received. */
+static inline uint32_t kfifo_enough_tokens(uint32_t k, uint32_t segments, size_t threads) {
+    uint64_t others = threads > 1 ? kfifo_at_most_one_over(threads) - 1 : 0;
+    uint64_t enough = KFIFO_CAST(uint64_t, k) * segments + 1 + 15 * others;
+    return enough < KFIFO_MAX_TOKENS ? KFIFO_CAST(uint32_t, enough) : KFIFO_MAX_TOKENS;
+}
+
 /* Opens a queue of values with versions up to `last`, 2 to KFIFO_LAST, and a `reserve`, KFIFO_RESERVE unless you test
    something: with fewer versions left, the queue goes on in its next generation. With reserve 0 it does not, and wears
    out as a queue of items does. A reserve has to last until the old generation is empty: half of a small `last` will
-   do. Each thread begins with `tokens` tokens, 1 to KFIFO_MAX_TOKENS. A value in the queue has a token, and the thread
-   that takes the value gets it. A thread that has a batch more than it began with, 16 or tokens / threads at most,
-   returns a batch to the pool. So a thread has at most about `tokens` values that it gave and nobody took. DONE;
-   BAD_CALL of a null pointer; BAD_K, BAD_SEGMENTS, BAD_LAST, BAD_RESERVE of one that is not below `last`, BAD_THREADS,
-   BAD_TOKENS, NO_MEMORY, and all handles are then closed, at most the first 64. */
+   do. Each thread begins with `tokens` tokens, 1 to KFIFO_MAX_TOKENS: kfifo_enough_tokens says with how many a full
+   ring returns FULL, not NO_TOKEN. A value in the queue has a token, and the thread that takes the value gets it. A
+   thread that has a batch more than it began with, 16 or tokens / threads at most, returns a batch to the pool, where
+   others find it. DONE; BAD_CALL of a null pointer; BAD_K, BAD_SEGMENTS, BAD_LAST, BAD_RESERVE of one that is not below
+   `last`, BAD_THREADS, BAD_TOKENS, NO_MEMORY, and all handles are then closed, at most the first 64. */
 static inline kfifo_status kfifo_open_values_with(uint32_t k, uint32_t segments, uint32_t tokens, uint64_t last,
                                                   uint64_t reserve, kfifo_value_pass *passes, size_t threads) {
     if (!passes) return KFIFO_BAD_CALL;
     kfifo_zero(passes, sizeof *passes, threads);
-    return (kfifo_status)kfifo_c_open_values(k, segments, k, last, tokens, reserve, passes,
-                                             kfifo_at_most_one_over(threads));
+    kfifo_status status = KFIFO_CAST(kfifo_status, kfifo_c_open_values(k, segments, k, last, tokens, reserve, passes,
+                                                                       kfifo_at_most_one_over(threads)));
+    KFIFO_OPENED(passes, threads, status);
+    return status;
 }
 
 /* Opens a queue of values that does not wear out. Returns what kfifo_open_values_with does. */
@@ -308,49 +428,55 @@ static inline kfifo_status kfifo_open_values(uint32_t k, uint32_t segments, uint
     return kfifo_open_values_with(k, segments, tokens, KFIFO_LAST, KFIFO_RESERVE, passes, threads);
 }
 
-/* Gives any value to the queue: DONE; else FULL, BUSY, WORN, NO_TOKEN or BAD_CALL, and the value stays the caller's. */
+/* Gives any value to the queue: DONE; else FULL, BUSY, WORN, NO_TOKEN or BAD_CALL, and the value stays the caller's.
+   Where there is no memory for the next generation until the reserve is used up, also a value whose give returned DONE
+   may be one that no take reaches any more: they return WORN, and a close gives it back. */
 static inline kfifo_status kfifo_give(kfifo_value_pass *pass, uint64_t value) {
     if (!pass) return KFIFO_BAD_CALL;
+    KFIFO_BEGIN(pass);
     KFIFO_BEFORE_PUT(pass);
     KFIFO_ENTER();
-    kfifo_status status = (kfifo_status)kfifo_c_give(pass, value);
+    kfifo_status status = KFIFO_CAST(kfifo_status, kfifo_c_give(pass, value));
     KFIFO_LEAVE();
+    KFIFO_END(pass);
     return status;
 }
 
 /* Takes one of the k oldest values: GOT, and writes it; else EMPTY, BUSY, WORN or BAD_CALL, and *value stays. */
 static inline kfifo_status kfifo_take(kfifo_value_pass *pass, uint64_t *value) {
     if (!pass || !value) return KFIFO_BAD_CALL;
+    KFIFO_BEGIN(pass);
     KFIFO_ENTER();
-    kfifo_status status = (kfifo_status)kfifo_c_take(pass, value);
+    kfifo_status status = KFIFO_CAST(kfifo_status, kfifo_c_take(pass, value));
     KFIFO_LEAVE();
     KFIFO_AFTER_GOT(pass, status);
+    KFIFO_END(pass);
     return status;
 }
 
 /* The same with a pointer for a value. */
 static inline kfifo_status kfifo_give_pointer(kfifo_value_pass *pass, void *pointer) {
-    return kfifo_give(pass, (uint64_t)(uintptr_t)pointer);
+    return kfifo_give(pass, KFIFO_CAST_POINTER(uintptr_t, pointer));
 }
 
 static inline kfifo_status kfifo_take_pointer(kfifo_value_pass *pass, void **pointer) {
     uint64_t value;
     if (!pointer) return KFIFO_BAD_CALL;
     kfifo_status status = kfifo_take(pass, &value);
-    if (status == KFIFO_GOT) *pointer = (void *)(uintptr_t)value;
+    if (status == KFIFO_GOT) *pointer = KFIFO_CAST_POINTER(void *, KFIFO_CAST(uintptr_t, value));
     return status;
 }
 
 /* Room for how many values kfifo_close_values needs: k * segments for each generation that may have some. That is one
    mostly, and more near a change, or where a handle made no calls since. 0 where these are not all handles of one
-   queue. */
+   queue, each open and there but once. */
 static inline size_t kfifo_values_room(kfifo_value_pass *passes, size_t threads) {
     if (!passes || threads > KFIFO_MAX_THREADS) return 0;
-    for (size_t i = 1; i < threads; i++)
-        if (passes[i].address != passes[0].address) return 0;
+    KFIFO_BEGIN_ALL(passes, threads);
     KFIFO_ENTER();
-    size_t room = kfifo_c_values_room(passes, threads);
+    size_t room = kfifo_are_of_one_queue(passes, threads) ? kfifo_c_values_room(passes, threads) : 0;
     KFIFO_LEAVE();
+    KFIFO_END_ALL(passes, threads);
     return room;
 }
 
@@ -365,11 +491,13 @@ static inline kfifo_status kfifo_close_values(kfifo_value_pass *passes, size_t t
                                               size_t *count) {
     if (!passes || !values || !count) return KFIFO_BAD_CALL;
     if (threads > KFIFO_MAX_THREADS) return KFIFO_BAD_THREADS;
-    for (size_t i = 1; i < threads; i++)
-        if (passes[i].address != passes[0].address) return KFIFO_BAD_CALL;
+    KFIFO_BEGIN_ALL(passes, threads);
     KFIFO_ENTER();
-    kfifo_status status = (kfifo_status)kfifo_c_close_values(passes, threads, values, room, count);
+    kfifo_status status = KFIFO_BAD_CALL;
+    if (kfifo_are_of_one_queue(passes, threads))
+        status = KFIFO_CAST(kfifo_status, kfifo_c_close_values(passes, threads, values, room, count));
     KFIFO_LEAVE();
+    KFIFO_END_ALL(passes, threads);
     return status;
 }
 
@@ -377,10 +505,16 @@ static inline kfifo_status kfifo_close_values(kfifo_value_pass *passes, size_t t
 static inline kfifo_status kfifo_abandon_values(kfifo_value_pass *passes, size_t threads) {
     if (!passes) return KFIFO_BAD_CALL;
     if (threads > KFIFO_MAX_THREADS) return KFIFO_BAD_THREADS;
+    KFIFO_BEGIN_ALL(passes, threads);
     KFIFO_ENTER();
-    kfifo_c_abandon_values(passes, threads);
+    kfifo_status status = KFIFO_BAD_CALL;
+    if (!kfifo_has_copy(passes, threads)) {
+        kfifo_c_abandon_values(passes, threads);
+        status = KFIFO_DONE;
+    }
     KFIFO_LEAVE();
-    return KFIFO_DONE;
+    KFIFO_END_ALL(passes, threads);
+    return status;
 }
 
 /* ---- A queue of cells, for values of any size ----
@@ -411,14 +545,16 @@ static inline kfifo_status kfifo_abandon_values(kfifo_value_pass *passes, size_t
 
 /* Opens a queue of cells with versions up to `last` and a reserve, as kfifo_open_values_with. Each thread begins with
    `tokens` tokens, 1 to KFIFO_MAX_TOKENS. Each token has a cell, so the cells are numbers from 0 to
-   threads * tokens - 1, in all generations. A thread has about `tokens` cells in the queue at most. Returns what
+   threads * tokens - 1, in all generations. How many are enough says kfifo_enough_tokens. Returns what
    kfifo_open_values_with returns. */
 static inline kfifo_status kfifo_open_cells_with(uint32_t k, uint32_t segments, uint32_t tokens, uint64_t last,
                                                  uint64_t reserve, kfifo_cell_pass *passes, size_t threads) {
     if (!passes) return KFIFO_BAD_CALL;
     kfifo_zero(passes, sizeof *passes, threads);
-    return (kfifo_status)kfifo_c_open_cells(k, segments, k, last, tokens, reserve, passes,
-                                            kfifo_at_most_one_over(threads));
+    kfifo_status status = KFIFO_CAST(kfifo_status, kfifo_c_open_cells(k, segments, k, last, tokens, reserve, passes,
+                                                                      kfifo_at_most_one_over(threads)));
+    KFIFO_OPENED(passes, threads, status);
+    return status;
 }
 
 /* Opens a queue of cells that does not wear out. Returns what kfifo_open_values_with does. */
@@ -432,19 +568,24 @@ static inline kfifo_status kfifo_open_cells(uint32_t k, uint32_t segments, uint3
    another one released, or BAD_CALL, and *cell stays. */
 static inline kfifo_status kfifo_reserve(kfifo_cell_pass *pass, uint64_t *cell) {
     if (!pass || !cell) return KFIFO_BAD_CALL;
-    kfifo_status status = (kfifo_status)kfifo_c_reserve(pass, cell);
+    KFIFO_BEGIN(pass);
+    kfifo_status status = KFIFO_CAST(kfifo_status, kfifo_c_reserve(pass, cell));
     KFIFO_AFTER_RESERVE(pass, status);
+    KFIFO_END(pass);
     return status;
 }
 
 /* Puts the reserved cell into the queue: DONE, and the cell is no longer the handle's. Else FULL, BUSY, NO_TOKEN or
-   WORN, and the cell is still reserved. BAD_CALL, also where none is reserved. */
+   WORN, and the cell is still reserved. BAD_CALL, also where none is reserved. After DONE too, takes may no longer
+   reach the cell where kfifo_give says so of a value. */
 static inline kfifo_status kfifo_publish(kfifo_cell_pass *pass) {
     if (!pass) return KFIFO_BAD_CALL;
+    KFIFO_BEGIN(pass);
     KFIFO_BEFORE_PUT(pass);
     KFIFO_ENTER();
-    kfifo_status status = (kfifo_status)kfifo_c_publish(pass);
+    kfifo_status status = KFIFO_CAST(kfifo_status, kfifo_c_publish(pass));
     KFIFO_LEAVE();
+    KFIFO_END(pass);
     return status;
 }
 
@@ -452,8 +593,11 @@ static inline kfifo_status kfifo_publish(kfifo_cell_pass *pass) {
    stays reserved is one that no other handle can have. */
 static inline kfifo_status kfifo_cancel(kfifo_cell_pass *pass) {
     if (!pass) return KFIFO_BAD_CALL;
+    KFIFO_BEGIN(pass);
     KFIFO_BEFORE_RELEASE(pass);
-    return (kfifo_status)kfifo_c_cancel(pass);
+    kfifo_status status = KFIFO_CAST(kfifo_status, kfifo_c_cancel(pass));
+    KFIFO_END(pass);
+    return status;
 }
 
 /* Takes one of the k oldest cells: GOT, and writes its number. Until the handle's next kfifo_receive or kfifo_release
@@ -462,11 +606,13 @@ static inline kfifo_status kfifo_cancel(kfifo_cell_pass *pass) {
    once. */
 static inline kfifo_status kfifo_receive(kfifo_cell_pass *pass, uint64_t *cell) {
     if (!pass || !cell) return KFIFO_BAD_CALL;
+    KFIFO_BEGIN(pass);
     KFIFO_BEFORE_RELEASE(pass);
     KFIFO_ENTER();
-    kfifo_status status = (kfifo_status)kfifo_c_receive(pass, cell);
+    kfifo_status status = KFIFO_CAST(kfifo_status, kfifo_c_receive(pass, cell));
     KFIFO_LEAVE();
     KFIFO_AFTER_GOT(pass, status);
+    KFIFO_END(pass);
     return status;
 }
 
@@ -474,8 +620,11 @@ static inline kfifo_status kfifo_receive(kfifo_cell_pass *pass, uint64_t *cell) 
    received, or it is released already. */
 static inline kfifo_status kfifo_release(kfifo_cell_pass *pass) {
     if (!pass) return KFIFO_BAD_CALL;
+    KFIFO_BEGIN(pass);
     KFIFO_BEFORE_RELEASE(pass);
-    return (kfifo_status)kfifo_c_release(pass);
+    kfifo_status status = KFIFO_CAST(kfifo_status, kfifo_c_release(pass));
+    KFIFO_END(pass);
+    return status;
 }
 
 /* Closes a queue of cells, as kfifo_close does, and writes the numbers of the cells that are in it, in the queue's
@@ -485,11 +634,13 @@ static inline kfifo_status kfifo_close_cells(kfifo_cell_pass *passes, size_t thr
                                              size_t *count) {
     if (!passes || !cells || !count) return KFIFO_BAD_CALL;
     if (threads > KFIFO_MAX_THREADS) return KFIFO_BAD_THREADS;
-    for (size_t i = 1; i < threads; i++)
-        if (passes[i].address != passes[0].address) return KFIFO_BAD_CALL;
+    KFIFO_BEGIN_ALL(passes, threads);
     KFIFO_ENTER();
-    kfifo_status status = (kfifo_status)kfifo_c_close_cells(passes, threads, cells, room, count);
+    kfifo_status status = KFIFO_BAD_CALL;
+    if (kfifo_are_of_one_queue(passes, threads))
+        status = KFIFO_CAST(kfifo_status, kfifo_c_close_cells(passes, threads, cells, room, count));
     KFIFO_LEAVE();
+    KFIFO_END_ALL(passes, threads);
     return status;
 }
 
@@ -497,10 +648,16 @@ static inline kfifo_status kfifo_close_cells(kfifo_cell_pass *passes, size_t thr
 static inline kfifo_status kfifo_abandon_cells(kfifo_cell_pass *passes, size_t threads) {
     if (!passes) return KFIFO_BAD_CALL;
     if (threads > KFIFO_MAX_THREADS) return KFIFO_BAD_THREADS;
+    KFIFO_BEGIN_ALL(passes, threads);
     KFIFO_ENTER();
-    kfifo_c_abandon_cells(passes, threads);
+    kfifo_status status = KFIFO_BAD_CALL;
+    if (!kfifo_has_copy(passes, threads)) {
+        kfifo_c_abandon_cells(passes, threads);
+        status = KFIFO_DONE;
+    }
     KFIFO_LEAVE();
-    return KFIFO_DONE;
+    KFIFO_END_ALL(passes, threads);
+    return status;
 }
 
 #ifdef __cplusplus

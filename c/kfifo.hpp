@@ -2,6 +2,12 @@
 #ifndef KFIFO_HPP
 #define KFIFO_HPP
 
+// Where the compiler does not optimise, a second call by a handle while one runs is told on stderr, and the program
+// aborts: kfifo.h says how. Where that was included before, it has decided.
+#if !defined(KFIFO_H) && !defined(NDEBUG) && !defined(__OPTIMIZE__) && !defined(KFIFO_DEBUG)
+#define KFIFO_DEBUG
+#endif
+
 #include "kfifo.h"
 #include "kfifo_wait.h"
 
@@ -88,8 +94,8 @@ struct Taken {
     Miss why = Miss::empty;            // else why not
 };
 
-// What a thread makes its calls with. One call at a time; it may go to another thread between two calls. It is good as
-// long as its Queue.
+// What a thread makes its calls with. One call at a time; it may go to another thread between two calls. When its Queue
+// is closed or gone, a call throws Error.
 class Pass {
   public:
     // Puts an item, 1 to KFIFO_MAX_ITEM.
@@ -122,9 +128,11 @@ class Pass {
 
   private:
     friend class Queue;
-    explicit Pass(kfifo_pass *of) : handle(of) {}
+    using Handles = std::shared_ptr<std::vector<kfifo_pass>>;
+    Pass(Handles of, std::size_t thread) : all(std::move(of)), handle(&(*all)[thread]) {}
     [[noreturn]] void refuse(std::uint32_t item, std::uint32_t start, std::uint16_t turns,
                              const char *otherwise) const {
+        if (handle->starts == 0) throw Error(KFIFO_BAD_CALL, "the queue is closed");
         const char *why = kfifo_bad_call_text(handle, item, start, turns);
         throw Error(KFIFO_BAD_CALL, why ? why : otherwise);
     }
@@ -138,6 +146,7 @@ class Pass {
         if (status == KFIFO_BAD_CALL) refuse(1, start, turns, kfifo_status_text(status));
         return {std::nullopt, static_cast<Miss>(status)};
     }
+    Handles all; // they stay where they are when the queue goes, closed
     kfifo_pass *handle;
 };
 
@@ -148,36 +157,37 @@ class Queue {
     Queue(std::uint32_t k, std::uint32_t segments, std::size_t threads) : Queue(k, segments, k, KFIFO_LAST, threads) {}
 
     Queue(std::uint32_t k, std::uint32_t segments, std::uint32_t probes, std::uint64_t last, std::size_t threads)
-        : slots(std::size_t(k) * segments), handles(threads <= 64 ? threads : 65) {
-        if (handles.empty()) throw Error(KFIFO_BAD_THREADS);
-        detail::checked(kfifo_open(k, segments, probes, last, handles.data(), handles.size()));
+        : slots(std::size_t(k) * segments),
+          handles(std::make_shared<std::vector<kfifo_pass>>(threads <= 64 ? threads : 65)) {
+        if (handles->empty()) throw Error(KFIFO_BAD_THREADS);
+        detail::checked(kfifo_open(k, segments, probes, last, handles->data(), handles->size()));
     }
 
     Queue(const Queue &) = delete;
     Queue &operator=(const Queue &) = delete;
 
     // The handles stay where they are, so passes stay good when the queue moves.
-    Queue(Queue &&other) noexcept : slots(other.slots), handles(std::move(other.handles)) { other.handles.clear(); }
+    Queue(Queue &&) noexcept = default;
     Queue &operator=(Queue &&) = delete;
 
     ~Queue() {
-        if (!handles.empty()) kfifo_abandon(handles.data(), handles.size());
+        if (handles) kfifo_abandon(handles->data(), handles->size());
     }
 
     // The pass of a thread, from 0. Throws Error where the queue has no such thread.
     Pass pass(std::size_t thread) {
-        if (handles.empty()) throw Error(KFIFO_BAD_CALL, "the queue was moved from");
-        if (thread >= handles.size())
-            throw Error(KFIFO_BAD_CALL, "the thread is not 0 to " + std::to_string(handles.size() - 1));
-        return Pass(&handles[thread]);
+        std::vector<kfifo_pass> &all = usable();
+        if (thread >= all.size())
+            throw Error(KFIFO_BAD_CALL, "the thread is not 0 to " + std::to_string(all.size() - 1));
+        return Pass(handles, thread);
     }
 
     // Closes the queue and gives back the items that are left. Nothing else may be called after.
     std::vector<std::uint32_t> close() {
-        if (handles.empty()) throw Error(KFIFO_BAD_CALL, "the queue was moved from");
+        std::vector<kfifo_pass> &all = usable();
         std::vector<std::uint32_t> items(slots);
         std::size_t count = 0;
-        kfifo_status status = kfifo_close(handles.data(), handles.size(), items.data(), items.size(), &count);
+        kfifo_status status = kfifo_close(all.data(), all.size(), items.data(), items.size(), &count);
         if (status == KFIFO_BAD_CALL) throw Error(status, "the queue is closed");
         detail::checked(status);
         items.resize(count);
@@ -185,8 +195,13 @@ class Queue {
     }
 
   private:
+    std::vector<kfifo_pass> &usable() const {
+        if (!handles) throw Error(KFIFO_BAD_CALL, "the queue was moved from");
+        return *handles;
+    }
+
     std::size_t slots;
-    std::vector<kfifo_pass> handles;
+    Pass::Handles handles;
 };
 
 // ---- A queue of values of any type that can be moved ----
@@ -249,6 +264,26 @@ template <typename Clock, typename Duration> class Until {
     kfifo_waits *of;
     std::uint32_t which;
     std::chrono::time_point<Clock, Duration> end;
+};
+
+// A call of this header by a handle, from its beginning to its end. With KFIFO_DEBUG it marks the handle.
+class InCall {
+  public:
+#ifdef KFIFO_DEBUG
+    InCall(kfifo_cell_pass *by, const char *call) : pass(by) {
+        kfifo_begin(pass, pass->starts, &pass->mark, KFIFO_MARK_WRAPPER, call);
+    }
+    ~InCall() { kfifo_end(&pass->mark, KFIFO_MARK_WRAPPER); }
+
+  private:
+    kfifo_cell_pass *pass;
+
+  public:
+#else
+    InCall(kfifo_cell_pass *, const char *) {}
+#endif
+    InCall(const InCall &) = delete;
+    InCall &operator=(const InCall &) = delete;
 };
 
 // The handles of a queue of cells.
@@ -382,16 +417,34 @@ template <typename T> class ValueQueue {
     struct State {
         State(std::uint32_t k, std::uint32_t segments, std::size_t threads, std::uint32_t tokens, Versions versions)
             : passes(k, segments, threads, tokens, versions), cells(passes.all.size(), tokens),
-              is_out(new std::atomic<bool>[passes.all.size()]()), kept(passes.all.size()) {}
+              free_passes(all_passes()), kept(passes.all.size()) {}
         State(const State &) = delete;
         State &operator=(const State &) = delete;
 
-        // Whether no handle is out. Then all calls that were made have ended.
-        bool is_idle() const {
-            for (std::size_t number = 0; number < passes.all.size(); number++)
-                if (is_out[number].load(std::memory_order_acquire)) return false;
-            return true;
+        // A bit for each pass, of which there are 1 to 64.
+        std::uint64_t all_passes() const { return ~std::uint64_t(0) >> (64 - passes.all.size()); }
+
+        // The number of a pass that nobody has, which is then in a Handle; none where each is in one. All are in one
+        // word, so that none comes only where each was in a Handle at one moment. A step fails only where another
+        // thread's step took that pass: some thread goes on.
+        std::optional<std::size_t> borrow_pass() {
+            std::uint64_t free = free_passes.load(std::memory_order_relaxed);
+            while (free != 0) {
+                std::uint64_t lowest = free & (~free + 1);
+                free = free_passes.fetch_and(~lowest, std::memory_order_acquire);
+                if (free & lowest) return static_cast<std::size_t>(__builtin_ctzll(lowest));
+            }
+            return std::nullopt;
         }
+
+        // Release here and acquire in borrow_pass suffice: all steps that the pass made come before those that it makes
+        // next, also in the one order of all sequentially consistent steps.
+        void return_pass(std::size_t number) {
+            free_passes.fetch_or(std::uint64_t(1) << number, std::memory_order_release);
+        }
+
+        // Whether no handle is out. Then all calls that were made have ended.
+        bool is_idle() const { return free_passes.load(std::memory_order_acquire) == all_passes(); }
 
         // Closes the queue. After it the cells with values are in `left`, in the queue's order. Throws std::bad_alloc,
         // and nothing changes, where there is no memory for it.
@@ -417,7 +470,7 @@ template <typename T> class ValueQueue {
 
         detail::CellPasses passes;
         detail::Cells<T> cells;
-        std::unique_ptr<std::atomic<bool>[]> is_out;    // whether a pass is in a Handle
+        std::atomic<std::uint64_t> free_passes;         // a bit for each pass that is in no Handle
         std::vector<std::optional<std::uint64_t>> kept; // by pass: the cell whose value a take could not move out
         bool is_closed = false;
         std::vector<std::uint64_t> left;
@@ -442,12 +495,14 @@ template <typename T> class ValueQueue {
         Handle(const Handle &) = delete;
         Handle &operator=(const Handle &) = delete;
         ~Handle() {
-            // Release here and acquire in handle() suffice: all steps that the pass made come before those that it
-            // makes next, also in the one order of all sequentially consistent steps.
-            if (state) state->is_out[which()].store(false, std::memory_order_release);
+            if (!state) return;
+            { detail::InCall in_call(pass, "the end of a kfifo::ValueQueue::Handle"); }
+            state->return_pass(which());
         }
 
-        // Gives a value to the queue. On any answer but done the value is what it was. It does not wait.
+        // Gives a value to the queue. On any answer but done the value is what it was. It does not wait. Where there
+        // was no memory for the next generation until the reserve was used up, takes may no longer reach a value whose
+        // give answered done: they answer Miss::worn, and ValueQueue::close gives it back.
         //
         // Where no move of T throws, the value is moved into a cell, and back where the queue refuses it. Else it is
         // copied, and not moved: if the copy throws, nothing was done. A T that cannot be copied and whose moves may
@@ -549,6 +604,7 @@ template <typename T> class ValueQueue {
         // Reserves a cell, makes a value in it and publishes it. A value that is refused is handed back.
         template <typename Calls, typename Make, typename Back> Put put(Calls calls, Make make, Back back) {
             kfifo_waits *waits = usable();
+            detail::InCall in_call(pass, "a give of kfifo::ValueQueue");
             std::uint64_t number = 0;
             kfifo_status status = calls([&] { return kfifo_try_reserve(pass, waits, &number); });
             if (status != KFIFO_DONE) return static_cast<Put>(detail::checked(status));
@@ -581,14 +637,14 @@ template <typename T> class ValueQueue {
             Received(Handle &of, std::uint64_t what, bool was) : handle(of), number(what), was_kept(was) {}
             Received(const Received &) = delete;
             ~Received() {
-                State &state = *handle.state;
+                State &of = *handle.state;
                 if (!is_kept) {
-                    state.cells.destroy(handle.bits, number);
+                    of.cells.destroy(handle.bits, number);
                     kfifo_release(handle.pass);
                 }
                 // Other threads look at this line of the cache at each take.
-                if (is_kept != was_kept) state.kept[handle.which()] = is_kept ? std::optional(number) : std::nullopt;
-                (void)kfifo_after_take(&state.waits, KFIFO_GOT);
+                if (is_kept != was_kept) of.kept[handle.which()] = is_kept ? std::optional(number) : std::nullopt;
+                (void)kfifo_after_take(&of.waits, KFIFO_GOT);
             }
             Handle &handle;
             std::uint64_t number;
@@ -612,6 +668,7 @@ template <typename T> class ValueQueue {
         // made where the caller wants it, since a move on the way could throw when the value's cell is gone.
         template <typename Calls, typename Use, typename None> auto receive(Calls calls, Use use, None none) {
             kfifo_waits *waits = usable();
+            detail::InCall in_call(pass, "a take of kfifo::ValueQueue");
             std::uint64_t number = 0;
             bool was_kept = false;
             if constexpr (moves_throw) {
@@ -693,12 +750,14 @@ template <typename T> class ValueQueue {
         Handle *handle;
     };
 
-    // k slots in each of these segments, for `threads` threads. A thread has at most about `tokens` values of its own
-    // in the queue: unless another number is given, one more than there are slots, so that a queue that is full says
-    // so, and KFIFO_MAX_TOKENS at most. The queue has room for threads * tokens values of T from the beginning. Throws
-    // Error where there is no such queue, and std::bad_alloc.
+    // k slots in each of these segments, for `threads` threads. A value in the queue has a token, and of those that a
+    // thread begins with the others keep up to 15 each. So a thread can always have `tokens - 15 * (threads - 1)`
+    // values in the queue, and may find Put::no_token with more. Unless another number is given, it is that of
+    // kfifo_enough_tokens: with it a give finds a token until the queue is full, whatever the others keep between their
+    // calls, but where that would be more than KFIFO_MAX_TOKENS. The queue has room for threads * tokens values of T
+    // from the beginning. Throws Error where there is no such queue, and std::bad_alloc.
     ValueQueue(std::uint32_t k, std::uint32_t segments, std::size_t threads)
-        : ValueQueue(k, segments, threads, enough(k, segments)) {}
+        : ValueQueue(k, segments, threads, kfifo_enough_tokens(k, segments, threads)) {}
 
     ValueQueue(std::uint32_t k, std::uint32_t segments, std::size_t threads, std::uint32_t tokens)
         : ValueQueue(k, segments, threads, tokens, Versions()) {}
@@ -712,21 +771,19 @@ template <typename T> class ValueQueue {
     ValueQueue(ValueQueue &&) noexcept = default;
     ValueQueue &operator=(ValueQueue &&) noexcept = default;
 
-    // A handle that nobody has. Throws Error where each is out.
+    // A handle that nobody has. Throws Error where each was out at one moment: never where there are as many handles as
+    // threads, and no thread has two.
     Handle handle() {
-        if (!state || state->is_closed) throw Error(KFIFO_BAD_CALL, "the queue is closed");
-        for (std::size_t number = 0; number < state->passes.all.size(); number++)
-            if (!state->is_out[number].exchange(true, std::memory_order_acquire)) return Handle(state, number);
-        throw Error(KFIFO_BAD_CALL, "each handle of the queue is in use");
+        if (usable().is_closed) throw Error(KFIFO_BAD_CALL, "the queue is closed");
+        std::optional<std::size_t> number = state->borrow_pass();
+        if (!number) throw Error(KFIFO_BAD_CALL, "each handle of the queue is in use");
+        return Handle(state, *number);
     }
 
     // Says that no more values will come, and wakes all that wait. Any thread may call it, and again. A give that
     // begins after it answers finished; a take does so once the queue is empty. A give that it meets halfway may still
     // put its value in: call it when the producers have ended, or close the queue to have what is left.
-    void finish() {
-        if (!state) throw Error(KFIFO_BAD_CALL, "the queue is closed");
-        kfifo_finish(&state->waits);
-    }
+    void finish() { kfifo_finish(&usable().waits); }
 
     // Closes the queue and gives back the values that are left, in its order. Throws Error, and nothing changes, where
     // a handle is still out, and std::bad_alloc, and no value is lost, where there is no memory for them. Where the
@@ -735,23 +792,24 @@ template <typename T> class ValueQueue {
     // Where a move of T may throw and T can be copied, the values are copied out. If that throws, no value is lost: the
     // queue takes no more calls, but a further close gives them all back.
     std::vector<T> close() {
-        if (!state) throw Error(KFIFO_BAD_CALL, "the queue is closed");
-        if (!state->is_idle()) throw Error(KFIFO_BAD_CALL, "a handle of the queue is in use");
+        if (!usable().is_idle()) throw Error(KFIFO_BAD_CALL, "a handle of the queue is in use");
         std::vector<T> values;
         values.reserve(state->is_closed ? state->left.size() : state->cells.with_values().size());
         state->close();
         for (std::uint64_t number : state->left) values.push_back(std::move_if_noexcept(state->cells[number]));
         state.reset();
+        was_closed = true;
         return values;
     }
 
   private:
-    static std::uint32_t enough(std::uint32_t k, std::uint32_t segments) {
-        std::uint64_t one_more = std::uint64_t(k) * segments + 1;
-        return one_more < KFIFO_MAX_TOKENS ? static_cast<std::uint32_t>(one_more) : KFIFO_MAX_TOKENS;
+    State &usable() const {
+        if (!state) throw Error(KFIFO_BAD_CALL, was_closed ? "the queue is closed" : "the queue was moved from");
+        return *state;
     }
 
     std::shared_ptr<State> state;
+    bool was_closed = false;
 };
 
 } // namespace kfifo

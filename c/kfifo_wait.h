@@ -16,9 +16,9 @@
       afterwards, its second look begins after the give had ended.
    2. If the giver's look comes before the announcement, the second look begins after the give had ended, too.
    3. A take that begins after a give has ended returns EMPTY only if the value was already taken: by proof EMPTY comes
-      only of a queue that was empty within the call. So nobody need be woken. In a queue of values, also by proof, a
-      take that returns EMPTY found each generation empty that had not gone. That one which has gone stays empty is
-      argued and tested. BUSY comes where a new one was opened meanwhile.
+      only of a queue that was empty within the call. So nobody need be woken. In a queue of values this is proved of
+      each generation; that EMPTY comes only where all are empty is argued and tested. BUSY comes where a new one was
+      opened meanwhile.
 
    A look before the call, a word that is read after the second look, or no second look would break this. So would
    acquire and release alone: the giver's look and the taker's second look could then both miss.
@@ -105,6 +105,21 @@ static inline kfifo_status kfifo_after_take(kfifo_waits *waits, kfifo_status sta
                                                                               : status;
 }
 
+/* Waits, and says whether to look again. With KFIFO_DEBUG the handle is in a call meanwhile. */
+#ifdef KFIFO_DEBUG
+static inline int kfifo_wait_again_by(const void *pass, uint32_t starts, uint32_t *mark, kfifo_waiter *waiter,
+                                      kfifo_status *status, const char *call) {
+    kfifo_begin(pass, starts, mark, KFIFO_MARK_CALL, call);
+    int again = kfifo_wait_again(waiter, status);
+    kfifo_end(mark, KFIFO_MARK_CALL);
+    return again;
+}
+#define KFIFO_WAIT_AGAIN(pass, waiter, status)                                                                         \
+    ((pass) && kfifo_wait_again_by((pass), (pass)->starts, &(pass)->mark, (waiter), (status), __func__))
+#else
+#define KFIFO_WAIT_AGAIN(pass, waiter, status) kfifo_wait_again((waiter), (status))
+#endif
+
 /* ---- Opening and finishing ---- */
 
 /* Opens what threads wait by, before any of them calls: DONE, or BAD_CALL of a null pointer. It takes no memory, so
@@ -164,7 +179,7 @@ static inline kfifo_status kfifo_give_wait(kfifo_value_pass *pass, kfifo_waits *
     kfifo_status status = kfifo_try_give(pass, waits, value);
     if (status == KFIFO_DONE || !kfifo_may_retry(status)) return status;
     kfifo_waiter waiter = kfifo_waiter_of(waits, KFIFO_WAITS_GIVER, nanoseconds);
-    while (kfifo_wait_again(&waiter, &status)) status = kfifo_try_give(pass, waits, value);
+    while (KFIFO_WAIT_AGAIN(pass, &waiter, &status)) status = kfifo_try_give(pass, waits, value);
     return status;
 }
 
@@ -175,14 +190,14 @@ static inline kfifo_status kfifo_take_wait(kfifo_value_pass *pass, kfifo_waits *
     kfifo_status status = kfifo_try_take(pass, waits, value);
     if (status == KFIFO_GOT || !kfifo_may_retry(status)) return status;
     kfifo_waiter waiter = kfifo_waiter_of(waits, KFIFO_WAITS_TAKER, nanoseconds);
-    while (kfifo_wait_again(&waiter, &status)) status = kfifo_try_take(pass, waits, value);
+    while (KFIFO_WAIT_AGAIN(pass, &waiter, &status)) status = kfifo_try_take(pass, waits, value);
     return status;
 }
 
 /* The same with a pointer for a value. */
 static inline kfifo_status kfifo_give_pointer_wait(kfifo_value_pass *pass, kfifo_waits *waits, void *pointer,
                                                    uint64_t nanoseconds) {
-    return kfifo_give_wait(pass, waits, (uint64_t)(uintptr_t)pointer, nanoseconds);
+    return kfifo_give_wait(pass, waits, KFIFO_CAST_POINTER(uintptr_t, pointer), nanoseconds);
 }
 
 static inline kfifo_status kfifo_take_pointer_wait(kfifo_value_pass *pass, kfifo_waits *waits, void **pointer,
@@ -190,7 +205,7 @@ static inline kfifo_status kfifo_take_pointer_wait(kfifo_value_pass *pass, kfifo
     uint64_t value;
     if (!pointer) return KFIFO_BAD_CALL;
     kfifo_status status = kfifo_take_wait(pass, waits, &value, nanoseconds);
-    if (status == KFIFO_GOT) *pointer = (void *)(uintptr_t)value;
+    if (status == KFIFO_GOT) *pointer = KFIFO_CAST_POINTER(void *, KFIFO_CAST(uintptr_t, value));
     return status;
 }
 
@@ -240,7 +255,7 @@ static inline kfifo_status kfifo_reserve_wait(kfifo_cell_pass *pass, kfifo_waits
     kfifo_status status = kfifo_try_reserve(pass, waits, cell);
     if (status == KFIFO_DONE || !kfifo_may_retry(status)) return status;
     kfifo_waiter waiter = kfifo_waiter_of(waits, KFIFO_WAITS_GIVER, nanoseconds);
-    while (kfifo_wait_again(&waiter, &status)) status = kfifo_try_reserve(pass, waits, cell);
+    while (KFIFO_WAIT_AGAIN(pass, &waiter, &status)) status = kfifo_try_reserve(pass, waits, cell);
     return status;
 }
 
@@ -249,7 +264,7 @@ static inline kfifo_status kfifo_publish_wait(kfifo_cell_pass *pass, kfifo_waits
     kfifo_status status = kfifo_try_publish(pass, waits);
     if (status == KFIFO_DONE || !kfifo_may_retry(status)) return status;
     kfifo_waiter waiter = kfifo_waiter_of(waits, KFIFO_WAITS_GIVER, nanoseconds);
-    while (kfifo_wait_again(&waiter, &status)) status = kfifo_try_publish(pass, waits);
+    while (KFIFO_WAIT_AGAIN(pass, &waiter, &status)) status = kfifo_try_publish(pass, waits);
     return status;
 }
 
@@ -260,7 +275,7 @@ static inline kfifo_status kfifo_receive_wait(kfifo_cell_pass *pass, kfifo_waits
     kfifo_status status = kfifo_try_receive(pass, waits, cell);
     if (status == KFIFO_GOT || !kfifo_may_retry(status)) return status;
     kfifo_waiter waiter = kfifo_waiter_of(waits, KFIFO_WAITS_TAKER, nanoseconds);
-    while (kfifo_wait_again(&waiter, &status)) status = kfifo_try_receive(pass, waits, cell);
+    while (KFIFO_WAIT_AGAIN(pass, &waiter, &status)) status = kfifo_try_receive(pass, waits, cell);
     return status;
 }
 
@@ -287,7 +302,7 @@ static inline kfifo_status kfifo_put_wait(kfifo_pass *pass, kfifo_waits *waits, 
     kfifo_status status = kfifo_try_put(pass, waits, item);
     if (status == KFIFO_DONE || !kfifo_may_retry(status)) return status;
     kfifo_waiter waiter = kfifo_waiter_of(waits, KFIFO_WAITS_GIVER, nanoseconds);
-    while (kfifo_wait_again(&waiter, &status)) status = kfifo_try_put(pass, waits, item);
+    while (KFIFO_WAIT_AGAIN(pass, &waiter, &status)) status = kfifo_try_put(pass, waits, item);
     return status;
 }
 
@@ -295,7 +310,7 @@ static inline kfifo_status kfifo_get_wait(kfifo_pass *pass, kfifo_waits *waits, 
     kfifo_status status = kfifo_try_get(pass, waits, item);
     if (status == KFIFO_GOT || !kfifo_may_retry(status)) return status;
     kfifo_waiter waiter = kfifo_waiter_of(waits, KFIFO_WAITS_TAKER, nanoseconds);
-    while (kfifo_wait_again(&waiter, &status)) status = kfifo_try_get(pass, waits, item);
+    while (KFIFO_WAIT_AGAIN(pass, &waiter, &status)) status = kfifo_try_get(pass, waits, item);
     return status;
 }
 

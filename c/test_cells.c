@@ -214,12 +214,21 @@ static void too_many_threads(void) {
         expect(kfifo_receive(&all[0], &cell), KFIFO_GOT, "a receive after calls with too many handles");
         expect(kfifo_abandon_cells(all, THREADS), KFIFO_DONE, "an abandon of 64 handles");
     }
+    uint64_t room[THREADS * 4];
+    expect(kfifo_open_cells(1, 2, 4, all, THREADS), KFIFO_DONE, "an open to be closed by 64 handles");
+    expect(kfifo_reserve(&all[63], &cell), KFIFO_DONE, "a cell to be left by 64 handles");
+    expect(kfifo_publish(&all[63]), KFIFO_DONE, "its publish");
+    expect(kfifo_close_cells(all, THREADS - 1, room, THREADS * 4, &count), KFIFO_BAD_CALL, "a close by 63 of 64");
+    expect(count, 77, "the count of a close by 63 of 64");
+    expect(kfifo_close_cells(all, THREADS, room, THREADS * 4, &count), KFIFO_DONE, "a close by 64 handles");
+    expect(count == 1 && room[0] == cell, 1, "the cell that 64 handles leave");
     free(all);
 }
 
 /* What a close writes: the cells that are in the queue, in its order, and neither a reserved one nor a received one. */
 static void closes(void) {
-    kfifo_cell_pass two[2], other[2], mixed[2];
+    /* `mixed` are the last handle of the one queue and the first of the other. */
+    kfifo_cell_pass all[4], *two = all, *other = &all[2], *mixed = &all[1];
     uint64_t left[16], published[5], cell = 77;
     size_t count = 77;
     expect(kfifo_open_cells(1, 8, 8, two, 2), KFIFO_DONE, "open for a close");
@@ -231,8 +240,6 @@ static void closes(void) {
     expect(cell, published[0], "the oldest cell");
     expect(kfifo_reserve(&two[1], &cell), KFIFO_DONE, "a reserve before a close");
     expect(kfifo_open_cells(1, 8, 8, other, 2), KFIFO_DONE, "open another");
-    mixed[0] = two[0];
-    mixed[1] = other[1];
     expect(kfifo_close_cells(mixed, 2, left, 16, &count), KFIFO_BAD_CALL, "a close by handles of two queues");
     expect(kfifo_close_cells(two, 1, left, 16, &count), KFIFO_BAD_CALL, "a close without one of the handles");
     expect(count, 77, "the count of a close that did nothing");

@@ -21,7 +21,7 @@ enum { VALUES = 4000, MANY = 10000, CLOSES = 30, STOPS = 10, CHANGES = 10 };
 #else
 enum { VALUES = 30000, MANY = 1000000, CLOSES = 300, STOPS = 40, CHANGES = 100 };
 #endif
-enum { MOST = 16, TOKENS = 64, CELLS = MOST * TOKENS, WORDS = 4, OF_VALUES = 0, OF_CELLS = 1 };
+enum { MOST = 16, HANDLES = 64, TOKENS = 64, CELLS = MOST * TOKENS, WORDS = 4, OF_VALUES = 0, OF_CELLS = 1 };
 
 static int failed;
 static uint64_t times = 1; /* how many times as much is done */
@@ -115,12 +115,12 @@ void __wrap_free(void *block) {
 struct queue {
     int kind; /* OF_VALUES or OF_CELLS */
     uint32_t threads, tokens;
-    kfifo_value_pass values[MOST];
-    kfifo_cell_pass cells[MOST];
+    kfifo_value_pass values[HANDLES];
+    kfifo_cell_pass cells[HANDLES];
 };
 
 /* What a cell holds: each word is the value, so that one that is torn is seen. */
-static uint64_t contents[CELLS][WORDS];
+static uint64_t contents[HANDLES * TOKENS][WORDS];
 
 static kfifo_status open_with(struct queue *queue, int kind, uint32_t k, uint32_t segments, uint32_t tokens,
                               uint64_t last, uint32_t threads) {
@@ -281,6 +281,34 @@ static void closes(int kind) {
         if (failed) return;
     }
     if (kind == OF_VALUES) expect(most > 16, 1, "closes of several generations");
+}
+
+/* Closes a queue of many handles, up to as many as there can be, each of which keeps a generation of its own. */
+static void closes_many(int kind) {
+    static const uint32_t threads[] = {31, 32, 33, HANDLES};
+    static struct queue queue;
+    for (size_t i = 0; i < sizeof threads / sizeof threads[0]; i++) {
+        uint64_t next = 0, oldest = 0, value = 0;
+        size_t count = 0;
+        expect(open_queue(&queue, kind, 1, 4, 24, threads[i]), KFIFO_DONE, "open for many");
+        for (uint32_t thread = threads[i]; thread-- > 0;) {
+            expect(give(&queue, thread, next++), KFIFO_DONE, "a give by each of many");
+            for (int pair = 0; pair < 24; pair++) {
+                expect(give(&queue, 0, next++), KFIFO_DONE, "a give by the first of many");
+                expect(take(&queue, 0, &value), KFIFO_GOT, "a take by the first of many");
+                expect(value, oldest++, "the oldest value of many");
+            }
+            expect(take(&queue, 0, &value), KFIFO_GOT, "one more take by the first of many");
+            expect(value, oldest++, "the last value of many");
+        }
+        for (int more = 0; more < 3; more++) expect(give(&queue, 0, next++), KFIFO_DONE, "a give that many leave");
+        if (kind == OF_VALUES)
+            expect(kfifo_values_room(queue.values, threads[i]) >= 4 * threads[i], 1, "room for each generation");
+        uint64_t *left = close_queue(&queue, &count);
+        expect(count, 3, "values that many leave");
+        for (uint64_t more = 0; more < count && more < 3; more++) expect(left[more], oldest + more, "what many leave");
+        free(left);
+    }
 }
 
 /* With reserve 0 a queue does not renew itself. What is left comes back. */
@@ -961,6 +989,7 @@ int main(int count, char **words) {
         one_stops(kind);
         one_leaves(kind);
         closes(kind);
+        closes_many(kind);
         does_not_renew(kind);
         many_threads(kind);
         stops_at_each_request(kind);

@@ -112,25 +112,21 @@ static void run(uint32_t k, uint32_t segments, uint32_t probes, uint32_t threads
     expect(kfifo_close(passes, threads, left, k * segments, &count), KFIFO_BAD_CALL, "close again");
 }
 
-/* Closes by handles of two queues. Both have two passes, so the numbers of a mixture are those of a whole queue. */
-static void mixtures(void) {
-    kfifo_pass one[2], other[2], mixed[2];
+/* Closes by handles of two queues. Both have two passes, so the numbers of a mixture are those of a whole queue. The
+   handles of one come before those of the other in an array, and `mixed` are the last of the former and the first of
+   the latter. */
+static void mixture(int turned) {
+    kfifo_pass all[4], *one = &all[2 * turned], *other = &all[2 - 2 * turned], *mixed = &all[1];
     uint32_t item = 0;
     size_t count = 77;
     expect(kfifo_open(1, 2, 1, KFIFO_LAST, one, 2), KFIFO_DONE, "open");
     expect(kfifo_open(1, 2, 1, KFIFO_LAST, other, 2), KFIFO_DONE, "open another");
     expect(kfifo_enqueue(&one[0], 1, 0, 4), KFIFO_DONE, "an item of the first");
     expect(kfifo_enqueue(&other[0], 2, 0, 4), KFIFO_DONE, "an item of the second");
-    for (int turned = 0; turned < 2; turned++) {
-        mixed[turned] = one[turned];
-        mixed[1 - turned] = other[1 - turned];
-        left[0] = 77;
-        expect(kfifo_close(mixed, 2, left, 2, &count), KFIFO_BAD_CALL, "a close by handles of two queues");
-        expect((int)count, 77, "the count of a close by handles of two queues");
-        expect((int)left[0], 77, "the items of a close by handles of two queues");
-        one[turned] = mixed[turned];
-        other[1 - turned] = mixed[1 - turned];
-    }
+    left[0] = 77;
+    expect(kfifo_close(mixed, 2, left, 2, &count), KFIFO_BAD_CALL, "a close by handles of two queues");
+    expect((int)count, 77, "the count of a close by handles of two queues");
+    expect((int)left[0], 77, "the items of a close by handles of two queues");
     expect(kfifo_dequeue(&one[1], &item, 0, 4), KFIFO_GOT, "the first works on");
     expect((int)item, 1, "the item of the first");
     expect(kfifo_dequeue(&other[1], &item, 0, 4), KFIFO_GOT, "the second works on");
@@ -139,8 +135,6 @@ static void mixtures(void) {
     expect((int)count, 0, "items left in the first");
     expect(kfifo_enqueue(&other[0], 3, 0, 4), KFIFO_DONE, "the second works after that");
     expect(kfifo_open(1, 2, 1, KFIFO_LAST, one, 2), KFIFO_DONE, "open one more");
-    mixed[0] = other[0];
-    mixed[1] = one[1];
     expect(kfifo_close(mixed, 2, left, 2, &count), KFIFO_BAD_CALL, "a close by a new queue's handle and an old one's");
     expect(kfifo_close(other, 2, left, 2, &count), KFIFO_DONE, "close the second");
     expect((int)count, 1, "items left in the second");
@@ -335,7 +329,7 @@ static void refusals(void) {
 int main(void) {
     static const uint32_t ks[] = {1, 2, 5, 64}, rings[] = {2, 3, 16, 1024};
     refusals();
-    mixtures();
+    for (int turned = 0; turned < 2; turned++) mixture(turned);
     starts();
     most_handles();
     too_many_threads();

@@ -25,12 +25,13 @@ void expect(bool holds, const char *what) {
     }
 }
 
-// Whether a call throws an Error with this status, whose text says so.
-template <typename Call> bool refuses(kfifo_status status, Call call) {
+// Whether a call throws an Error with this status, whose text has this word.
+template <typename Call> bool refuses(kfifo_status status, Call call, const char *word = "") {
     try {
         call();
     } catch (const kfifo::Error &error) {
-        return error.status() == status && std::string(error.what()).size() > sizeof("kfifo: ");
+        std::string text = error.what();
+        return error.status() == status && text.size() > sizeof("kfifo: ") && text.find(word) != text.npos;
     }
     return false;
 }
@@ -81,8 +82,20 @@ void refusals() {
     expect(refuses(KFIFO_BAD_CALL, [&] { second.take(); }), "a handle that was moved from");
     { Values::Handle one = std::move(first), other = std::move(moved); }
     expect(queue.close() == std::vector<std::string>{std::string(100, 'b')}, "what is left");
-    expect(refuses(KFIFO_BAD_CALL, [&] { queue.close(); }) && refuses(KFIFO_BAD_CALL, [&] { queue.handle(); }),
-           "a closed queue");
+    auto is_told = [](Values &of, const char *word) {
+        return refuses(
+                   KFIFO_BAD_CALL, [&] { of.close(); }, word) &&
+               refuses(
+                   KFIFO_BAD_CALL, [&] { of.handle(); }, word) &&
+               refuses(
+                   KFIFO_BAD_CALL, [&] { of.finish(); }, word);
+    };
+    expect(is_told(queue, "the queue is closed"), "a closed queue");
+    Values other(1, 2, 1), taker = std::move(other);
+    expect(is_told(other, "the queue was moved from"), "a queue that was moved from");
+    other = std::move(taker);
+    expect(is_told(taker, "the queue was moved from") && other.close().empty() && is_told(other, "the queue is closed"),
+           "a queue that was moved there and back");
 }
 
 // Values that fit in 64 bits, and values that need a cell of their own.
@@ -114,6 +127,64 @@ void ends() {
         expect(Parcel::alive == 9, "a value that was taken is destroyed");
     }
     expect(Parcel::alive == 0, "the values that are left are destroyed with the queue");
+}
+
+// As many handles as threads, which return theirs and take another: each finds one, and no two have the same. They
+// begin together, so that more are runnable than there are processors.
+void handles_go_round(std::size_t of) {
+    kfifo::ValueQueue<int> queue(1, 2, of, 1);
+    std::atomic<std::size_t> ready{0};
+    std::atomic<bool> stops{false};
+    std::atomic<int> refused{0};
+    std::vector<std::thread> all;
+    for (std::size_t thread = 0; thread < of; thread++) {
+        all.emplace_back([&] {
+            for (ready++; ready != of;) std::this_thread::yield();
+            try {
+                for (std::size_t i = 0; i < 2 * EACH && !stops; i++) queue.handle();
+            } catch (const kfifo::Error &) {
+                refused++;
+                stops = true;
+            }
+        });
+    }
+    for (std::thread &thread : all) thread.join();
+    expect(refused == 0, "a thread finds a handle where there are as many as threads");
+    std::vector<kfifo::ValueQueue<int>::Handle> each;
+    for (std::size_t i = 0; i < of; i++) each.push_back(queue.handle());
+    expect(refuses(KFIFO_BAD_CALL, [&] { queue.handle(); }), "one handle more than there are");
+    std::size_t given = 0;
+    for (auto &handle : each) given += handle.give(1) == kfifo::Put::done;
+    expect(given == 2, "two slots take two values of as many handles");
+    each.clear();
+    expect(queue.close().size() == 2, "a close after each handle came back");
+}
+
+// Handles that take keep tokens of the one that gives, 15 each at most. With the tokens that a queue has where no
+// number is given, that one gives until the ring is full all the same, and one that waits does not wait for ever.
+void keeping() {
+    constexpr std::size_t of = 16;
+    kfifo::ValueQueue<int> queue(1, 256, of);
+    std::vector<kfifo::ValueQueue<int>::Handle> handles;
+    for (std::size_t i = 0; i < of; i++) handles.push_back(queue.handle());
+    auto giver = std::move(handles.back());
+    handles.pop_back();
+    bool all_came = true;
+    for (auto &taker : handles)
+        for (int i = 0; i < 15; i++)
+            all_came = all_came && giver.give(i) == kfifo::Put::done && taker.take().value.has_value();
+    expect(all_came, "what takers keep comes to them");
+    int given = 0;
+    kfifo::Put why = kfifo::Put::done;
+    while ((why = giver.give_for(int(given), std::chrono::milliseconds(1))) == kfifo::Put::done) given++;
+    expect(given == 256 && why == kfifo::Put::timed_out, "one handle fills the ring, whatever the others keep");
+    expect(giver.give(0) == kfifo::Put::full, "a full ring says so");
+    expect(kfifo_enough_tokens(1, 256, of) == 257 + 15 * 15 && kfifo_enough_tokens(64, 1024, 1) == KFIFO_MAX_TOKENS &&
+               kfifo_enough_tokens(1, 2, 64) == 3 + 15 * 63 && kfifo_enough_tokens(1, 2, 1) == 3,
+           "how many tokens are enough");
+    expect(refuses(KFIFO_BAD_THREADS, [] { kfifo::ValueQueue<int>(1, 14, 0); }) &&
+               refuses(KFIFO_BAD_THREADS, [] { kfifo::ValueQueue<int>(1, 2, SIZE_MAX); }),
+           "the number of tokens hides no other refusal");
 }
 
 void threads(std::size_t pairs) {
@@ -164,6 +235,8 @@ int main() {
     refusals();
     sizes();
     ends();
+    for (std::size_t of : {2, 8, 64}) handles_go_round(of);
+    keeping();
     for (std::size_t pairs = 1; pairs <= 4; pairs *= 2) threads(pairs);
     std::puts(failures ? "the queue of values fails in C++"
                        : "1, 2 and 4 producers in C++: each value came out whole, and was destroyed once");

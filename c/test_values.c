@@ -136,6 +136,27 @@ static void tokens(void) {
     kfifo_abandon_values(two, 2);
 }
 
+/* Takers keep tokens of the one that gives, 15 each at most. With enough tokens that one still fills the ring, and is
+   then told that it is full; with one token fewer it is not. */
+static void enough_tokens(void) {
+    enum { THREADS = 16, SLOTS = 256 };
+    for (uint32_t fewer = 0; fewer < 2; fewer++) {
+        kfifo_value_pass all[THREADS], *giver = &all[THREADS - 1];
+        uint64_t value = 0;
+        uint32_t tokens = kfifo_enough_tokens(1, SLOTS, THREADS) - fewer;
+        expect(kfifo_open_values(1, SLOTS, tokens, all, THREADS), KFIFO_DONE, "open for enough tokens");
+        for (int taker = 0; taker < THREADS - 1; taker++) {
+            for (int i = 0; i < 15; i++) {
+                expect(kfifo_give(giver, 7), KFIFO_DONE, "a give whose token a taker keeps");
+                expect(kfifo_take(&all[taker], &value), KFIFO_GOT, "a take that keeps a token");
+            }
+        }
+        for (int i = 0; i < SLOTS; i++) expect(kfifo_give(giver, 7), KFIFO_DONE, "a give until the ring is full");
+        expect(kfifo_give(giver, 7), fewer ? KFIFO_NO_TOKEN : KFIFO_FULL, "a give into a full ring");
+        kfifo_abandon_values(all, THREADS);
+    }
+}
+
 /* More handles than a queue has: as of a queue of items. The array is on the heap and has just 64 handles. */
 static void too_many_threads(void) {
     static const size_t counts[] = {65, 200, SIZE_MAX};
@@ -223,6 +244,9 @@ static void refusals(void) {
     expect(kfifo_abandon_values(&one, 1), KFIFO_DONE, "abandon again");
     expect(kfifo_open_values(1, 2, 2, many, 64), KFIFO_DONE, "64 threads");
     expect(kfifo_give(&many[63], 5), KFIFO_DONE, "the last thread gives");
+    expect(kfifo_values_room(many, 64), 2, "room of 64 threads");
+    expect(kfifo_values_room(many, 63), 0, "room of 63 of 64 threads");
+    expect(kfifo_close_values(many, 63, left, 2, &count), KFIFO_BAD_CALL, "a close by 63 of 64");
     expect(kfifo_close_values(many, 64, left, 2, &count), KFIFO_DONE, "close 64");
     expect(count, 1, "values left of 64 threads");
     expect(left[0], 5, "the value left of 64 threads");
@@ -230,7 +254,8 @@ static void refusals(void) {
 
 /* A queue whose versions are used up, and a close by handles of two queues. */
 static void ends(void) {
-    kfifo_value_pass one = {0}, first[2], second[2], mixed[2];
+    /* `mixed` are the last handle of the first queue and the first of the second. */
+    kfifo_value_pass one = {0}, all[4], *first = all, *second = &all[2], *mixed = &all[1];
     uint64_t left[2], value = 0;
     size_t count = 77;
     kfifo_status status = KFIFO_DONE;
@@ -242,21 +267,20 @@ static void ends(void) {
     expect(kfifo_open_values(1, 2, 1, first, 2), KFIFO_DONE, "open the first");
     expect(kfifo_open_values(1, 2, 1, second, 2), KFIFO_DONE, "open the second");
     count = 77;
-    mixed[0] = first[0];
-    mixed[1] = second[1];
     expect(kfifo_values_room(mixed, 2), 0, "room of handles of two queues");
     expect(kfifo_values_room(first, 1), 0, "room of some of the handles");
     expect(kfifo_values_room(first, 2), 2, "room of all handles");
+    expect(kfifo_close_values(first, 1, left, 2, &count), KFIFO_BAD_CALL, "a close without one of two handles");
     expect(kfifo_close_values(mixed, 2, left, 2, &count), KFIFO_BAD_CALL, "a close by handles of two queues");
     expect(count, 77, "the count of a close by handles of two queues");
-    first[0] = mixed[0];
-    second[1] = mixed[1];
     kfifo_abandon_values(&second[1], 1);
     expect(kfifo_close_values(second, 2, left, 2, &count), KFIFO_BAD_CALL, "a closed handle among those of a close");
     expect(kfifo_give(&second[0], 9), KFIFO_DONE, "the open one still works");
     kfifo_abandon_values(second, 2);
     expect(kfifo_close_values(first, 2, left, 2, &count), KFIFO_DONE, "close the first");
     expect(count, 0, "values left in the first");
+    expect(kfifo_values_room(first, 2), 0, "room of a queue that was closed");
+    expect(kfifo_values_room(second, 2), 0, "room of a queue that was abandoned");
 }
 
 int main(void) {
@@ -264,6 +288,7 @@ int main(void) {
     too_many_threads();
     addresses();
     tokens();
+    enough_tokens();
     ends();
     for (uint32_t pairs = 1; pairs <= MOST; pairs *= 2) run(pairs);
     printf("%s\n", failed ? "the queue of values fails"

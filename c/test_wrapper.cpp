@@ -3,6 +3,7 @@
 
 #include <algorithm>
 #include <cstdio>
+#include <optional>
 #include <thread>
 
 namespace {
@@ -62,6 +63,20 @@ void one_thread() {
     expect(std::string(kfifo::text(kfifo::Put::full)) == "the ring was full", "the text of an answer");
 }
 
+// A pass whose queue is gone says so, and touches nothing of it.
+void pass_outlives_queue() {
+    std::optional<kfifo::Queue> queue(std::in_place, 1, 2, 1);
+    kfifo::Pass pass = queue->pass(0);
+    expect(pass.enqueue(7) == kfifo::Put::done, "a put while the queue is there");
+    queue.reset();
+    expect(refuses([&] { pass.enqueue(7); }, "the queue is closed") &&
+               refuses([&] { pass.enqueue(0, 5, 0); }, "the queue is closed") &&
+               refuses([&] { pass.dequeue(); }, "the queue is closed") &&
+               refuses([&] { pass.dequeue(0, 1); }, "the queue is closed") &&
+               refuses([&] { pass.word(0); }, "the queue is closed"),
+           "a pass whose queue is gone");
+}
+
 void refusals() {
     expect(refuses([] { kfifo::Queue(0, 2, 1); }, KFIFO_BAD_K) && refuses([] { kfifo::Queue(65, 2, 1); }, KFIFO_BAD_K),
            "k out of range");
@@ -97,6 +112,7 @@ void two_threads() {
 
 int main() {
     one_thread();
+    pass_outlives_queue();
     refusals();
     two_threads();
     std::puts(failures ? "the wrapper fails" : "the wrapper answers, throws and gives back what it should");

@@ -1,5 +1,5 @@
 -- What opening and closing a queue of cells say of its handles.
-use Rattle.std.specs.Prelude.{◌≡◌, ℕ, ◌*◌, ◌≤◌, Option, Some, None, List, [], ◌∷◌, ◌++◌, map, length, drop}
+use Rattle.std.specs.Prelude.{◌≡◌, ℕ, ◌*◌, ◌≤◌, Option, Some, None, List, [], ◌∷◌, ◌++◌, map, length, drop, true}
 use Rattle.kfifo_words.specs.declared.shape.Shape.{Shape}
 use Rattle.kfifo_live.specs.Pass.{OpenQueue}
 use Rattle.kfifo_live.specs.Payloads.{PayPassView, TokenView, new_pay_passes, pay_opening}
@@ -41,6 +41,7 @@ pub record OpensCellSizes (k segments last probes threads tokens : ℕ)
   pub segments_are : shape.n ≡ segments
   pub last_is : shape.last ≡ last
   pub probes_are : shape.probes ≡ probes
+  pub holds_again : shape.holds_again ≡ true
   pub seats : List CellSeated
   pub opens : OpensCells shape threads tokens seats
   pub handles_are : handles ≡ map Some seats

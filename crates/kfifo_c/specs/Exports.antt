@@ -141,6 +141,7 @@ pub record OpensSizes (k segments last probes threads : ℕ) (handles : List (Op
   pub segments_are : shape.n ≡ segments
   pub last_is : shape.last ≡ last
   pub probes_are : shape.probes ≡ probes
+  pub holds_again : shape.holds_again ≡ true
   pub seats : List Seated
   pub opens : Opens shape threads seats
   pub handles_are : handles ≡ map Some seats

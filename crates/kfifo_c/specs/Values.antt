@@ -1,7 +1,7 @@
 -- What C is told of the calls with values, and what opening and closing say of the handles. c/kfifo.h has the same
 -- numbers.
 use Rattle.std.specs.Prelude.{◌≡◌, ℕ, ◌*◌, ◌^◌, ◌≤◌, ◌⊎◌, Option, Some, None, List, [], ◌∷◌, ◌++◌, map, length}
-use Rattle.std.specs.Prelude.{drop}
+use Rattle.std.specs.Prelude.{drop, true}
 use Rattle.kfifo_words.specs.declared.shape.Shape.{Shape}
 use Rattle.kfifo_live.specs.declared.payload.Given.{Given}
 use Rattle.kfifo_live.specs.declared.payload.Given.TheVariants as G
@@ -55,6 +55,7 @@ pub record OpensValueSizes (k segments last probes threads tokens : ℕ)
   pub segments_are : shape.n ≡ segments
   pub last_is : shape.last ≡ last
   pub probes_are : shape.probes ≡ probes
+  pub holds_again : shape.holds_again ≡ true
   pub seats : List ValueSeated
   pub opens : OpensValues shape threads tokens seats
   pub handles_are : handles ≡ map Some seats

@@ -11,6 +11,7 @@ mod lent;
 mod loose;
 mod opening;
 mod seat;
+mod shape;
 mod status;
 mod value_queue;
 

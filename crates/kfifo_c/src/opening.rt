@@ -13,6 +13,7 @@ ghost use Rattle.kfifo_c.specs.Exports.{seats_of, Opens, OpensSizes, shape_numbe
 use crate::address::no_address;
 use crate::handle::Handle;
 use crate::seat::Seat;
+use crate::shape::shape_of;
 use crate::status::{BAD_THREADS, DONE, open_status, shape_status};
 use kfifo_live::{OpenFault, Pass, Queue};
 use kfifo_words::Shape;
@@ -98,7 +99,7 @@ pub extern "C" fn kfifo_c_open(
     ensures memory { fault_of k segments last probes ≡ None → 1 ≤ length passes.old → length passes.old ≤ MAX_THREADS
         → (result ≡ 0) ⊎ (result ≡ 7) }
 {
-    let shape = match Shape::with_probes(k, segments, last, probes) {
+    let shape = match shape_of(k, segments, last, probes) {
         Ok(shape) => shape,
         Err(fault) => return shape_status(fault),
     };

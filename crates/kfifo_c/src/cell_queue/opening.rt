@@ -21,6 +21,7 @@ use crate::cell_queue::ordered::OrderedCells;
 use crate::cell_queue::payload::CellPayload;
 use crate::cell_queue::pool::{BATCH, Batch, Pool};
 use crate::cell_queue::seat::CellSeat;
+use crate::shape::shape_of;
 use crate::status::{BAD_RESERVE, BAD_THREADS, DONE, shape_status};
 use crate::value_queue::status::renew_status;
 use kfifo_live::{OpenFault, PayPass, PayQueue};
@@ -234,7 +235,7 @@ pub extern "C" fn kfifo_c_open_cells(
         → length passes.old ≤ MAX_THREADS → 1 ≤ tokens → tokens ≤ MAX_TOKENS
         → (result ≡ 0) ⊎ (result ≡ 7) }
 {
-    let shape = match Shape::with_probes(k, segments, last, probes) {
+    let shape = match shape_of(k, segments, last, probes) {
         Ok(shape) => shape,
         Err(fault) => return shape_status(fault),
     };

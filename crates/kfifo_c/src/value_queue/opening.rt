@@ -12,6 +12,7 @@ ghost use Rattle.kfifo_c.specs.Exports.{shape_number};
 ghost use Rattle.kfifo_c.specs.Values.{OpensValues, OpensValueSizes};
 
 use crate::address::no_address;
+use crate::shape::shape_of;
 use crate::status::{BAD_RESERVE, BAD_THREADS, DONE, shape_status};
 use crate::value_queue::handle::ValueHandle;
 use crate::value_queue::seat::ValueSeat;
@@ -118,7 +119,7 @@ pub extern "C" fn kfifo_c_open_values(
         → length passes.old ≤ MAX_THREADS → 1 ≤ tokens → tokens ≤ MAX_TOKENS
         → (result ≡ 0) ⊎ (result ≡ 7) }
 {
-    let shape = match Shape::with_probes(k, segments, last, probes) {
+    let shape = match shape_of(k, segments, last, probes) {
         Ok(shape) => shape,
         Err(fault) => return shape_status(fault),
     };

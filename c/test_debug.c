@@ -1,0 +1,129 @@
+/* With KFIFO_DEBUG each call by a copy of a handle, and a second call by a handle while one runs, ends the program and
+   says which call it was. Each is made in a process of its own. */
+#define _GNU_SOURCE
+#ifndef KFIFO_DEBUG
+#define KFIFO_DEBUG
+#endif
+#include "kfifo_wait.h"
+#include "test_ends.h"
+#include <pthread.h>
+#include <sched.h>
+
+enum { THREADS = 2 };
+
+/* A queue of each kind, and copies of its handles. */
+static kfifo_pass items[THREADS], items_copy[THREADS];
+static kfifo_value_pass values[THREADS], values_copy[THREADS];
+static kfifo_cell_pass cells[THREADS], cells_copy[THREADS];
+static kfifo_waits waits;
+static uint32_t item, left_items[8];
+static uint64_t value, cell, word, left[16];
+static size_t count;
+
+static void open_all(void) {
+    if (kfifo_open(1, 8, 1, KFIFO_LAST, items, THREADS) != KFIFO_DONE) exit(2);
+    if (kfifo_open_values(1, 8, 8, values, THREADS) != KFIFO_DONE) exit(2);
+    if (kfifo_open_cells(1, 8, 8, cells, THREADS) != KFIFO_DONE) exit(2);
+    memcpy(items_copy, items, sizeof items);
+    memcpy(values_copy, values, sizeof values);
+    memcpy(cells_copy, cells, sizeof cells);
+}
+
+/* A name of a call, and the call by the handles in these arrays. */
+#define CALL(name, ...)                                                                                                \
+    static void call_##name(kfifo_pass *i, kfifo_value_pass *v, kfifo_cell_pass *c) {                                  \
+        (void)i, (void)v, (void)c;                                                                                     \
+        (void)name(__VA_ARGS__);                                                                                       \
+    }
+CALL(kfifo_put, i, 1)
+CALL(kfifo_get, i, &item)
+CALL(kfifo_enqueue, i, 1, 0, 1)
+CALL(kfifo_dequeue, i, &item, 0, 1)
+CALL(kfifo_word, i, 0, &word)
+CALL(kfifo_close, i, THREADS, left_items, 8, &count)
+CALL(kfifo_abandon, i, THREADS)
+CALL(kfifo_give, v, 1)
+CALL(kfifo_take, v, &value)
+CALL(kfifo_values_room, v, THREADS)
+CALL(kfifo_close_values, v, THREADS, left, 8, &count)
+CALL(kfifo_abandon_values, v, THREADS)
+CALL(kfifo_reserve, c, &cell)
+CALL(kfifo_publish, c)
+CALL(kfifo_cancel, c)
+CALL(kfifo_receive, c, &cell)
+CALL(kfifo_release, c)
+CALL(kfifo_close_cells, c, THREADS, left, 16, &count)
+CALL(kfifo_abandon_cells, c, THREADS)
+
+typedef void by_handles(kfifo_pass *, kfifo_value_pass *, kfifo_cell_pass *);
+static const struct {
+    const char *name;
+    by_handles *call;
+    char kind;
+} calls[] = {
+#define ROW(name, kind)                                                                                                \
+    { #name, call_##name, kind }
+    ROW(kfifo_put, 'i'),     ROW(kfifo_get, 'i'),         ROW(kfifo_enqueue, 'i'),       ROW(kfifo_dequeue, 'i'),
+    ROW(kfifo_word, 'i'),    ROW(kfifo_close, 'i'),       ROW(kfifo_abandon, 'i'),       ROW(kfifo_give, 'v'),
+    ROW(kfifo_take, 'v'),    ROW(kfifo_values_room, 'v'), ROW(kfifo_close_values, 'v'),  ROW(kfifo_abandon_values, 'v'),
+    ROW(kfifo_reserve, 'c'), ROW(kfifo_publish, 'c'),     ROW(kfifo_cancel, 'c'),        ROW(kfifo_receive, 'c'),
+    ROW(kfifo_release, 'c'), ROW(kfifo_close_cells, 'c'), ROW(kfifo_abandon_cells, 'c'),
+};
+enum { CALLS = sizeof calls / sizeof calls[0] };
+
+static void *wait_for_item(void *pass) {
+    (void)kfifo_get_wait(pass, &waits, &item, KFIFO_FOREVER);
+    return NULL;
+}
+
+static void *wait_for_value(void *pass) {
+    (void)kfifo_take_wait(pass, &waits, &value, KFIFO_FOREVER);
+    return NULL;
+}
+
+static void *wait_for_cell(void *pass) {
+    (void)kfifo_receive_wait(pass, &waits, &cell, KFIFO_FOREVER);
+    return NULL;
+}
+
+/* The call by the second handle, while another thread sleeps in one by it. */
+static void call_at_the_same_time(size_t index) {
+    pthread_t other;
+    char kind = calls[index].kind;
+    void *pass = kind == 'i' ? (void *)&items[1] : kind == 'v' ? (void *)&values[1] : (void *)&cells[1];
+    void *(*sleeps)(void *) = kind == 'i' ? wait_for_item : kind == 'v' ? wait_for_value : wait_for_cell;
+    if (pthread_create(&other, NULL, sleeps, pass)) exit(2);
+    while (kfifo_waits_state(&waits) < KFIFO_WAITS_TAKER) sched_yield();
+    /* Of an array the first handle is in no call. */
+    int has_all =
+        strstr(calls[index].name, "close") || strstr(calls[index].name, "abandon") || strstr(calls[index].name, "room");
+    calls[index].call(&items[!has_all], &values[!has_all], &cells[!has_all]);
+}
+
+static void call_by_copy(size_t index) { calls[index].call(items_copy, values_copy, cells_copy); }
+static void call_by_handle(size_t index) { calls[index].call(items, values, cells); }
+
+static int ends(void (*how)(size_t), size_t index, const char *says) {
+    char begin[64];
+    snprintf(begin, sizeof begin, "%s: the handle at ", calls[index].name);
+    return ends_so(how, index, begin, says);
+}
+
+int main(void) {
+    int failed = 0;
+    open_all();
+    for (size_t i = 0; i < CALLS; i++) {
+        failed += !ends(call_by_handle, i, NULL);
+        failed += !ends(call_by_copy, i, "is a copy of one that was opened at another place");
+        failed += !ends(call_at_the_same_time, i, "is in another call");
+    }
+    kfifo_abandon(items, THREADS);
+    kfifo_abandon_values(values, THREADS);
+    kfifo_abandon_cells(cells, THREADS);
+    /* A closed handle is no copy. */
+    memcpy(items_copy, items, sizeof items);
+    failed += kfifo_put(items_copy, 1) != KFIFO_BAD_CALL;
+    puts(failed ? "a call that breaks the queue is not told"
+                : "each call by a copy, and each second call at the same time, is told and ends the program");
+    return failed != 0;
+}
