@@ -49,6 +49,26 @@ typedef enum kfifo_judge_status {
     KFIFO_JUDGE_NO_MEMORY = 6  /* an allocation failed; nothing was done */
 } kfifo_judge_status;
 
+/* The kinds of evidence that a log has no legal order. Each number, and the name that kfifo_judge_evidence_name
+   returns, is that of docs/JUDGE.md. */
+typedef enum kfifo_judge_evidence {
+    KFIFO_JUDGE_NO_EVIDENCE = 0,
+    KFIFO_JUDGE_NEVER_PUT = 1,      /* an item came out that no call had put */
+    KFIFO_JUDGE_TAKEN_TWICE = 2,    /* an item came out more often than it went in */
+    KFIFO_JUDGE_NOT_EMPTY = 3,      /* a get found nothing, while the queue held items */
+    KFIFO_JUDGE_TOO_YOUNG = 4,      /* an item came out before k older ones */
+    KFIFO_JUDGE_TAKEN_TOO_SOON = 5, /* an item came out more often than it had gone in by then */
+    KFIFO_JUDGE_ITEMS_LEFT = 6,     /* a get found nothing, while an item had gone in more often than come out */
+    KFIFO_JUDGE_OLDER_LEFT = 7      /* an item came out before k older ones, where items repeat */
+} kfifo_judge_evidence;
+
+/* A call that a reason names. */
+typedef struct kfifo_judge_named {
+    size_t number;         /* of the call, in ascending order of first time, from 0 */
+    uint64_t line;         /* of the log that it stands in, from 1; 0 of a record */
+    kfifo_judge_call call; /* as it was logged; `item` is 0 of a get that found nothing, `last` of an unfinished call */
+} kfifo_judge_named;
+
 /* What was found. A call fills a report without looking at what is in it. Its pointers are its own, from malloc:
    kfifo_judge_clear frees them, and is to be called before the report is used again. */
 typedef struct kfifo_judge_report {
@@ -59,14 +79,22 @@ typedef struct kfifo_judge_report {
     char *text;     /* what the program prints, with a 0 after it; of a FAULT the line that says which; NULL of
                        BAD_CALL and NO_MEMORY */
     size_t length;  /* of the text, without the 0 */
-    size_t *named;  /* the calls that the reason of NO_ORDER names, by number, in its order; else NULL */
+    kfifo_judge_evidence evidence; /* of a verdict NO_ORDER: the kind of its evidence; else NO_EVIDENCE */
+    char *headline;                /* of such a verdict: what the evidence says of the queue, in words and without a
+                                      line feed, as "item 2 came out, and item 1, which went in before, had not"; else
+                                      empty, or NULL where `text` is */
+    size_t headline_length;        /* without the 0 */
+    kfifo_judge_named *named;      /* of such a verdict: the calls that the reason names, in its order; else NULL */
     size_t named_count;
-    size_t at_least;  /* of kfifo_least_calls that is LEGAL: the least k is no less */
+    size_t calls;    /* of a verdict: how many calls were judged */
+    size_t left;     /* of a verdict: how many items are left at their end */
+    size_t at_least; /* the least k is no less: of kfifo_least_calls that is LEGAL, and of a verdict NO_ORDER whose text
+                        says it; else 0 */
     uint32_t at_most; /* and no greater, 1 to 64; 0 where no order was found */
 } kfifo_judge_report;
 
 /* How many calls can be judged at a time. */
-#define KFIFO_JUDGE_MAX_CALLS ((size_t)65536)
+#define KFIFO_JUDGE_MAX_CALLS ((size_t)16777215)
 /* What `tries` should be: how many choices the search for an order may take back. */
 #define KFIFO_JUDGE_TRIES UINT64_C(1000000)
 
@@ -100,6 +128,9 @@ typedef enum kfifo_draw_style {
    BAD_CALL or NO_MEMORY. */
 kfifo_judge_status kfifo_draw_calls(const kfifo_judge_call *calls, size_t count, uint32_t k, kfifo_draw_part part,
                                     kfifo_draw_style style, kfifo_judge_report *report);
+
+/* The name of a kind of evidence, as "too young"; "" of NO_EVIDENCE, and of a number that is none. */
+const char *kfifo_judge_evidence_name(kfifo_judge_evidence evidence);
 
 /* Frees what the report has, and makes it all 0. A null pointer is left alone. */
 void kfifo_judge_clear(kfifo_judge_report *report);

@@ -47,11 +47,9 @@ same_count lines h calls r =
     let stamped : length h ≡ length r.sorted = r.stamped.sized ∙ mapped in
     rw (r.logged, stamped) logged
 
--- the record of a log is not longer than a record may be
-pub few_calls : (lines : List Line) (h : List Call) (calls : List LoggedCall) → IsLogOf lines h calls → length h ≤ 65536
-few_calls lines h calls r =
+-- the record of a log has a call for each line
+pub call_for_each : (lines : List Line) (h : List Call) (calls : List LoggedCall) → IsLogOf lines h calls → length h ≡ length lines
+call_for_each lines h calls r =
     let moved = length_permutation lines r.sorted r.by_first.moved in
     let mapped = length-map r.sorted (λ (x : Line). x.call) in
-    let sized : length h ≡ length lines = r.stamped.sized ∙ (mapped ∙ moved) in
-    let few = r.few in
-    omega (arith, sized, few)
+    r.stamped.sized ∙ (mapped ∙ moved)

@@ -114,17 +114,17 @@ module _ {R : Type 0} (rem : R → Option (List ℕ)) where
   ended rest a b s r = sym (s.front rest) ∙ rows-end rem a b [] default_config rest s.config s.source r
 
   -- what an error of the reader says of the text
-  pub read_fault : (text rest : List ℕ) (a b : Reader R) (columns : Option Columns) (lines : List Line) (place : Place) (kind : ErrorKind)
+  pub read_fault : (most : ℕ) (text rest : List ℕ) (a b : Reader R) (columns : Option Columns) (lines : List Line) (place : Place) (kind : ErrorKind)
       (fault : ImportFault)
       → Stands a rest → IsPlace text place → drop place.at text ≡ behind_ends rest → Holds text columns lines a.expected rest
-      → ExplainsRead rem a b false kind → IsReadFault kind place.line fault → IsTextFault text fault
-  read_fault text rest a b columns lines place (kinds.Io e) fault s is at h r f = rw f tt
-  read_fault text rest a b columns lines place kinds.OutOfMemory fault s is at h r f = rw f tt
-  read_fault text rest a b columns lines place (kinds.Serialize why) fault s is at h r f = absurd r
-  read_fault text rest a b columns lines place (kinds.Deserialize pos err) fault s is at h r f = absurd r
-  read_fault text rest a b columns lines place (kinds.Utf8 pos err) fault s is at h r f = absurd (cc (r.0))
-  read_fault text rest a b None lines place (kinds.UnequalLengths pos expected len) fault s is at h r f = absurd (cc (r.1, h.2))
-  read_fault text rest a b (Some columns) lines place (kinds.UnequalLengths pos expected len) fault s is at h r f =
+      → ExplainsRead rem a b false kind → IsReadFault kind place.line fault → IsTextFault most text fault
+  read_fault most text rest a b columns lines place (kinds.Io e) fault s is at h r f = rw f tt
+  read_fault most text rest a b columns lines place kinds.OutOfMemory fault s is at h r f = rw f tt
+  read_fault most text rest a b columns lines place (kinds.Serialize why) fault s is at h r f = absurd r
+  read_fault most text rest a b columns lines place (kinds.Deserialize pos err) fault s is at h r f = absurd r
+  read_fault most text rest a b columns lines place (kinds.Utf8 pos err) fault s is at h r f = absurd (cc (r.0))
+  read_fault most text rest a b None lines place (kinds.UnequalLengths pos expected len) fault s is at h r f = absurd (cc (r.1, h.2))
+  read_fault most text rest a b (Some columns) lines place (kinds.UnequalLengths pos expected len) fault s is at h r f =
       let t = took_row a b rest r.3 s r.4 in
       let wide : expected ≡ h.0 = cc (r.1, h.1) in
       let other : length r.3 ≢ h.0 = λ e. r.2 (wide ∙ sym e ∙ r.5) in
@@ -142,14 +142,14 @@ module _ {R : Type 0} (rem : R → Option (List ℕ)) where
 -- ---- one row
 
 -- a row that is not taken is the first with a fault
-pub not_taken : (text rest : List ℕ) (columns : Option Columns) (lines : List Line) (wide : Option ℕ) (number : ℕ) (fields : List (List ℕ))
+pub not_taken : (most : ℕ) (text rest : List ℕ) (columns : Option Columns) (lines : List Line) (wide : Option ℕ) (number : ℕ) (fields : List (List ℕ))
     (fault : ImportFault)
-    → IsNextRow text rest (row_at number fields) → ((width : ℕ) → wide ≡ Some width → length fields ≡ width) → length lines ≤ 65536
-    → Holds text columns lines wide rest → IsNotTaken columns lines number fields fault → IsTextFault text fault
-not_taken text rest columns lines wide number fields faults.Memory next same few h f = tt
-not_taken text rest None lines wide number fields (faults.Csv n) next same few h f =
+    → IsNextRow text rest (row_at number fields) → ((width : ℕ) → wide ≡ Some width → length fields ≡ width) → length lines ≤ most
+    → Holds text columns lines wide rest → IsNotTaken most columns lines number fields fault → IsTextFault most text fault
+not_taken most text rest columns lines wide number fields faults.Memory next same few h f = tt
+not_taken most text rest None lines wide number fields (faults.Csv n) next same few h f =
     inl (inl (row_at number fields, (next.0, ap first_row (sym h.0) ∙ next.1, next.2 ∙ ap (line_of text) h.0, next.3), f.0, f.1))
-not_taken text rest (Some columns) lines wide number fields faults.TooMany next same few h f = record {
+not_taken most text rest (Some columns) lines wide number fields faults.TooMany next same few h f = record {
   columns = columns;
   width = h.0;
   lines = lines;
@@ -159,7 +159,7 @@ not_taken text rest (Some columns) lines wide number fields faults.TooMany next 
   next = next;
   is = (same h.0 h.1, omega (arith, few, f));
 }
-not_taken text rest (Some columns) lines wide number fields (faults.NotACall n) next same few h f = record {
+not_taken most text rest (Some columns) lines wide number fields (faults.NotACall n) next same few h f = record {
   columns = columns;
   width = h.0;
   lines = lines;
@@ -169,26 +169,26 @@ not_taken text rest (Some columns) lines wide number fields (faults.NotACall n) 
   next = next;
   is = (f.0, same h.0 h.1, f.1, f.2);
 }
-not_taken text rest None lines wide number fields faults.TooMany next same few h f = absurd f
-not_taken text rest None lines wide number fields (faults.NotACall n) next same few h f = absurd f
-not_taken text rest None lines wide number fields (faults.NumberOutOfRange n) next same few h f = absurd f
-not_taken text rest None lines wide number fields (faults.WrongAnswer n) next same few h f = absurd f
-not_taken text rest None lines wide number fields (faults.EndsEarly n) next same few h f = absurd f
-not_taken text rest None lines wide number fields (faults.Overlap n) next same few h f = absurd f
-not_taken text rest (Some columns) lines wide number fields (faults.Csv n) next same few h f = absurd f
-not_taken text rest (Some columns) lines wide number fields (faults.NumberOutOfRange n) next same few h f = absurd f
-not_taken text rest (Some columns) lines wide number fields (faults.WrongAnswer n) next same few h f = absurd f
-not_taken text rest (Some columns) lines wide number fields (faults.EndsEarly n) next same few h f = absurd f
-not_taken text rest (Some columns) lines wide number fields (faults.Overlap n) next same few h f = absurd f
+not_taken most text rest None lines wide number fields faults.TooMany next same few h f = absurd f
+not_taken most text rest None lines wide number fields (faults.NotACall n) next same few h f = absurd f
+not_taken most text rest None lines wide number fields (faults.NumberOutOfRange n) next same few h f = absurd f
+not_taken most text rest None lines wide number fields (faults.WrongAnswer n) next same few h f = absurd f
+not_taken most text rest None lines wide number fields (faults.EndsEarly n) next same few h f = absurd f
+not_taken most text rest None lines wide number fields (faults.Overlap n) next same few h f = absurd f
+not_taken most text rest (Some columns) lines wide number fields (faults.Csv n) next same few h f = absurd f
+not_taken most text rest (Some columns) lines wide number fields (faults.NumberOutOfRange n) next same few h f = absurd f
+not_taken most text rest (Some columns) lines wide number fields (faults.WrongAnswer n) next same few h f = absurd f
+not_taken most text rest (Some columns) lines wide number fields (faults.EndsEarly n) next same few h f = absurd f
+not_taken most text rest (Some columns) lines wide number fields (faults.Overlap n) next same few h f = absurd f
 
 -- what is told of a row that is not taken is told of the text
-pub wrong_told : (text rest : List ℕ) (columns : Option Columns) (lines : List Line) (wide : Option ℕ) (number : ℕ) (fields : List (List ℕ))
+pub wrong_told : (most : ℕ) (text rest : List ℕ) (columns : Option Columns) (lines : List Line) (wide : Option ℕ) (number : ℕ) (fields : List (List ℕ))
     (wrong : Option WrongField) (fault : ImportFault)
     → IsNextRow text rest (row_at number fields) → ((width : ℕ) → wide ≡ Some width → length fields ≡ width)
-    → Holds text columns lines wide rest → IsNotTaken columns lines number fields fault → IsWrongIn columns number fields wrong fault
+    → Holds text columns lines wide rest → IsNotTaken most columns lines number fields fault → IsWrongIn columns number fields wrong fault
     → TellsWrong text wrong fault
-wrong_told text rest columns lines wide number fields None fault next same h t w = tt
-wrong_told text rest (Some columns) lines wide number fields (Some wrong) (faults.NotACall n) next same h t w = (
+wrong_told most text rest columns lines wide number fields None fault next same h t w = tt
+wrong_told most text rest (Some columns) lines wide number fields (Some wrong) (faults.NotACall n) next same h t w = (
   w.0 ∙ sym t.0,
   (
     columns,
@@ -198,19 +198,19 @@ wrong_told text rest (Some columns) lines wide number fields (Some wrong) (fault
     w.1,
   ),
 )
-wrong_told text rest (Some columns) lines wide number fields (Some wrong) faults.Memory next same h t w = absurd w
-wrong_told text rest (Some columns) lines wide number fields (Some wrong) (faults.Csv n) next same h t w = absurd w
-wrong_told text rest (Some columns) lines wide number fields (Some wrong) faults.TooMany next same h t w = absurd w
-wrong_told text rest (Some columns) lines wide number fields (Some wrong) (faults.NumberOutOfRange n) next same h t w = absurd w
-wrong_told text rest (Some columns) lines wide number fields (Some wrong) (faults.WrongAnswer n) next same h t w = absurd w
-wrong_told text rest (Some columns) lines wide number fields (Some wrong) (faults.EndsEarly n) next same h t w = absurd w
-wrong_told text rest (Some columns) lines wide number fields (Some wrong) (faults.Overlap n) next same h t w = absurd w
-wrong_told text rest None lines wide number fields (Some wrong) fault next same h t w = absurd w
+wrong_told most text rest (Some columns) lines wide number fields (Some wrong) faults.Memory next same h t w = absurd w
+wrong_told most text rest (Some columns) lines wide number fields (Some wrong) (faults.Csv n) next same h t w = absurd w
+wrong_told most text rest (Some columns) lines wide number fields (Some wrong) faults.TooMany next same h t w = absurd w
+wrong_told most text rest (Some columns) lines wide number fields (Some wrong) (faults.NumberOutOfRange n) next same h t w = absurd w
+wrong_told most text rest (Some columns) lines wide number fields (Some wrong) (faults.WrongAnswer n) next same h t w = absurd w
+wrong_told most text rest (Some columns) lines wide number fields (Some wrong) (faults.EndsEarly n) next same h t w = absurd w
+wrong_told most text rest (Some columns) lines wide number fields (Some wrong) (faults.Overlap n) next same h t w = absurd w
+wrong_told most text rest None lines wide number fields (Some wrong) fault next same h t w = absurd w
 
 -- a row more is none too many
-pub takes_few : (columns after : Option Columns) (lines more : List Line) (number : ℕ) (fields : List (List ℕ))
-    → Takes columns lines number fields after more → length lines ≤ 65536 → length more ≤ 65536
-takes_few None None lines more number fields t few = absurd t
-takes_few None (Some columns) lines more number fields t few = rw t.1 few
-takes_few (Some columns) after lines more number fields t few = let k = length-append lines (t.2 ∷ []) in let less = t.1 in
+pub takes_few : (most : ℕ) (columns after : Option Columns) (lines more : List Line) (number : ℕ) (fields : List (List ℕ))
+    → Takes most columns lines number fields after more → length lines ≤ most → length more ≤ most
+takes_few most None None lines more number fields t few = absurd t
+takes_few most None (Some columns) lines more number fields t few = rw t.1 few
+takes_few most (Some columns) after lines more number fields t few = let k = length-append lines (t.2 ∷ []) in let less = t.1 in
     rw t.4 (omega (arith, k, less))

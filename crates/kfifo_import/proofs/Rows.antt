@@ -55,13 +55,13 @@ Holds text None lines wide rest = (rest ≡ text) × (lines ≡ []) × (wide ≡
 Holds text (Some columns) lines wide rest = (width : ℕ) × (wide ≡ Some width) × HasRead text columns width lines rest
 
 -- a row that is taken, as wide as a row must be
-pub takes_row : (text rest : List ℕ) (columns after : Option Columns) (lines more : List Line) (wide : Option ℕ) (number : ℕ)
+pub takes_row : (most : ℕ) (text rest : List ℕ) (columns after : Option Columns) (lines more : List Line) (wide : Option ℕ) (number : ℕ)
     (fields : List (List ℕ))
     (next : IsNextRow text rest (row_at number fields)) → ((width : ℕ) → wide ≡ Some width → length fields ≡ width)
     → Holds text columns lines wide rest
-    → Takes columns lines number fields after more → Holds text after more (Some (length fields)) next.0.2
-takes_row text rest None None lines more wide number fields next same h t = absurd t
-takes_row text rest None (Some columns) lines more wide number fields next same h t =
+    → Takes most columns lines number fields after more → Holds text after more (Some (length fields)) next.0.2
+takes_row most text rest None None lines more wide number fields next same h t = absurd t
+takes_row most text rest None (Some columns) lines more wide number fields next same h t =
     let here : IsNextRow text text (row_at number fields) =
     (next.0, ap first_row (sym h.0) ∙ next.1, next.2 ∙ ap (line_of text) h.0, next.3) in (
       length fields,
@@ -69,7 +69,7 @@ takes_row text rest None (Some columns) lines more wide number fields next same 
       subst (λ (l : List Line). HasRead text columns (length fields) l next.0.2) (sym (t.1 ∙ h.1))
           (takes_header text columns (row_at number fields) here t.0),
     )
-takes_row text rest (Some columns) after lines more wide number fields next same h t =
+takes_row most text rest (Some columns) after lines more wide number fields next same h t =
     let w : length fields ≡ h.0 = same h.0 h.1 in
     let line : IsLineOf columns h.0 (row_at number fields) t.2 = subst (λ (n : ℕ). IsLineOf columns n (row_at number fields) t.2) w t.3 in
     rw (t.0, t.4) (h.0, ap Some w, takes_line text rest columns h.0 lines (row_at number fields) t.2 next h.2 line)

@@ -1,5 +1,5 @@
 -- A field gives one number or one text at most, and a row that lacks one is no call.
-use Rattle.std.proofs.Common.{ℕ, zero, suc, ◌∷◌, ◌≡◌, ◌∙◌, ◌<◌, ◌≤◌, ◌^◌, List, [], Option, Some, None, get_or, length, min, ap}
+use Rattle.std.proofs.Common.{ℕ, zero, suc, ◌∷◌, ◌≡◌, ◌∙◌, ◌<◌, ◌≤◌, ◌^◌, List, [], Option, Some, None, get_or, length, ap, option_map}
 use Rattle.std.proofs.Common.{refl, sym, subst, arith, Result, Ok, Err, MatchOption}
 use Rattle.std.specs.Result.{OkIff, result_ok}
 use Rattle.std.specs.Str.Parse.{digits_value, ParsesUnsigned}
@@ -11,7 +11,7 @@ use Rattle.kfifo_model.specs.declared.calls.End.{End}
 use Rattle.kfifo_model.specs.declared.calls.Op.{Op}
 use Rattle.kfifo_model.specs.declared.calls.Op.TheVariants.{Enqueue, Dequeue}
 use Rattle.kfifo_import.specs.declared.table.Columns.{Columns}
-use Rattle.kfifo_import.specs.Fields.{DoesNotApply, Gives, GivesText, IsDigits, IsEnd, IsOp, WritesSmall, WritesWhole}
+use Rattle.kfifo_import.specs.Fields.{DoesNotApply, Gives, GivesText, IsDigits, IsEnd, IsOp, WritesSmall, WritesWhole, small}
 use Rattle.kfifo_import.specs.Tables.{IsNoCall}
 
 own : IsNumeralModel IsDigits (digits_value 10)
@@ -42,7 +42,7 @@ whole_same : (text : List ℕ) (a b : ℕ) → WritesWhole text a → WritesWhol
 whole_same text a b p q = p.value ∙ sym q.value
 
 small_same : (text : List ℕ) (a b : ℕ) → WritesSmall text a → WritesSmall text b → a ≡ b
-small_same text a b p q = let e = whole_same text p.0 q.0 p.1 q.1 in p.2 ∙ ap (λ n. min n 4294967295) e ∙ sym q.2
+small_same text a b p q = let e = whole_same text p.0 q.0 p.1 q.1 in p.2 ∙ ap small e ∙ sym q.2
 
 not_empty : (given : Option (List ℕ)) (text : List ℕ) → given ≡ Some text → 1 ≤ length text → DoesNotApply given → ⊥
 not_empty None text e some d = cc
@@ -85,6 +85,11 @@ op_once text item (Enqueue x) (Enqueue y) p q = cc (p.1, q.1)
 op_once text item (Enqueue x) Dequeue p q = let e = ap (λ t. get_or t 0 0) (sym p.0 ∙ q) in absurd (omega (arith, e))
 op_once text item Dequeue (Enqueue y) p q = let e = ap (λ t. get_or t 0 0) (sym p ∙ q.0) in absurd (omega (arith, e))
 op_once text item Dequeue Dequeue p q = refl
+
+-- a field that gives a number gives it as one of 32 bits
+pub small_given : (given : Option (List ℕ)) (item : Option ℕ) → Gives WritesWhole given item → Gives WritesSmall given (option_map small item)
+small_given given None d = d
+small_given given (Some number) d = (d.0, d.1, (number, d.2, refl))
 
 -- a field that gives no number is that of no item
 pub no_item : (columns : Columns) (fields : List (List ℕ))

@@ -49,9 +49,13 @@ pub record WritesWhole (text : List ℕ) (number : ℕ) : Type 0 where
   pub value : number ≡ digits_value 10 text
   pub fits : number < 2 ^ 64
 
--- the same, where a number of over 32 bits, which is out of every range, is taken as the greatest of 32 bits
+-- a number as one of 32 bits: one of more bits, which is out of every range, is taken as the greatest
+abbrev pub small : ℕ → ℕ
+small number = min number 4294967295
+
+-- decimal digits write this number as one of 32 bits
 abbrev pub WritesSmall : List ℕ → ℕ → Type 0
-WritesSmall text number = (whole : ℕ) × WritesWhole text whole × (number ≡ min whole 4294967295)
+WritesSmall text number = (whole : ℕ) × WritesWhole text whole × (number ≡ small whole)
 
 -- a field that does not apply is empty, or is not there
 abbrev pub DoesNotApply : Option (List ℕ) → Type 0

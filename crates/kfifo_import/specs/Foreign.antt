@@ -1,7 +1,7 @@
 -- Logs that are to be judged. A get of an item that no call can put is no fault of the log, but one of its queue.
-use Rattle.std.specs.Prelude.{ℕ, ◌≡◌, ◌≢◌, ◌&&◌, not, ltb, leb, Bool, false, cond, List, [], ◌∷◌, map, option_map}
+use Rattle.std.specs.Prelude.{ℕ, ◌≡◌, ◌≢◌, ◌&&◌, not, ltb, leb, Bool, true, false, cond, List, [], ◌∷◌, map, option_map}
 use Rattle.std.specs.Prelude.{unwrap_or}
-use Rattle.std.specs.List.{All, flat_map}
+use Rattle.std.specs.List.{All, flat_map, list_any}
 use Rattle.csv.specs.Reading.{strip_bom}
 use Rattle.kfifo_model.specs.declared.calls.Answer.{Answer}
 use Rattle.kfifo_model.specs.declared.calls.Answer.TheVariants.{Got}
@@ -11,6 +11,7 @@ use Rattle.kfifo_model.specs.declared.calls.TheConstants.{MAX_ITEM}
 use Rattle.kfifo_model.specs.declared.calls.Op.{Op}
 use Rattle.kfifo_model.specs.declared.calls.Op.TheVariants.{Enqueue, Dequeue}
 use Rattle.kfifo_model.specs.Validity.{IsItem}
+use Rattle.kfifo_import.specs.declared.log.TheConstants.{MAX_LOG_CALLS}
 use Rattle.kfifo_import.specs.declared.log.ImportFault.{ImportFault}
 use Rattle.kfifo_import.specs.declared.log.ImportFault.TheVariants.{Csv, TooMany, NotACall, NumberOutOfRange}
 use Rattle.kfifo_import.specs.declared.log.ImportFault.TheVariants.{WrongAnswer, EndsEarly, Overlap, Memory}
@@ -31,33 +32,36 @@ items_asked Dequeue = []
 abbrev pub items_put : List Line → List ℕ
 items_put lines = flat_map (λ line. items_asked line.call.op) lines
 
--- the answer, but for a Got of an item that no call can put: that has this item in its place
-abbrev pub answer_with : ℕ → Answer → Answer
-answer_with free (Got x) = Got (cond (is_puttable x) x free)
-answer_with free answer = answer
+-- the answer, but for a dequeue's Got of an item that no call can put: that has this item in its place
+abbrev pub answer_with : ℕ → Op → Answer → Answer
+answer_with free Dequeue (Got x) = Got (cond (is_puttable x) x free)
+answer_with free op answer = answer
 
-abbrev pub end_with : ℕ → End → End
-end_with free end = record { last = end.last; answer = answer_with free end.answer }
+abbrev pub end_with : ℕ → Op → End → End
+end_with free op end = record { last = end.last; answer = answer_with free op end.answer }
 
 abbrev pub call_with : ℕ → Call → Call
-call_with free c = record { thread = c.thread; op = c.op; first = c.first; end = option_map (end_with free) c.end }
+call_with free c = record { thread = c.thread; op = c.op; first = c.first; end = option_map (end_with free c.op) c.end }
 
 -- the line, where a get of an item that no call can put has got this item in its place
 abbrev pub line_with : ℕ → Line → Line
 line_with free line = record { number = line.number; call = call_with free line.call; item = line.item }
 
--- whether the answer is a Got of an item that no call can put
-abbrev pub is_foreign_answer : Answer → Bool
-is_foreign_answer (Got x) = not (is_puttable x)
-is_foreign_answer answer = false
+-- whether the answer is a dequeue's Got of an item that no call can put
+abbrev pub is_foreign_answer : Op → Answer → Bool
+is_foreign_answer Dequeue (Got x) = not (is_puttable x)
+is_foreign_answer op answer = false
 
 -- whether the call of the line got an item that no call can put
 abbrev pub is_foreign : Line → Bool
-is_foreign line = unwrap_or (option_map (λ end. is_foreign_answer end.answer) line.call.end) false
+is_foreign line = unwrap_or (option_map (λ end. is_foreign_answer line.call.op end.answer) line.call.end) false
 
--- In the lines to be judged an item that a call can put, but that no line puts, stands for those that no call can put.
+-- In the lines to be judged an item that a call can put, but that no line puts, stands for those that no call can put,
+-- where a call got such.
 abbrev pub AreToJudge : List Line → List Line → Type 0
-AreToJudge lines judged = (free : ℕ) × IsItem free × All (λ x. x ≢ free) (items_put lines) × (judged ≡ map (line_with free) lines)
+AreToJudge lines judged = (free : ℕ)
+    × (list_any is_foreign lines ≡ true → IsItem free × All (λ x. x ≢ free) (items_put lines))
+    × (judged ≡ map (line_with free) lines)
 
 -- the lines are those of a table, to be judged
 abbrev pub ReadsToJudge : List ℕ → List Line → Type 0
@@ -75,9 +79,9 @@ IsOfJudged bytes fault = (lines : List Line) × ReadsToJudge bytes lines × IsIm
 
 -- why a text gives no record to be judged: the first fault of its rows, or of its lines, whose rows have none
 abbrev pub IsUnjudged : List ℕ → ImportFault → Type 0
-IsUnjudged bytes (Csv n) = IsTextFault (strip_bom bytes) (Csv n)
-IsUnjudged bytes TooMany = IsTextFault (strip_bom bytes) TooMany
-IsUnjudged bytes (NotACall n) = IsTextFault (strip_bom bytes) (NotACall n)
+IsUnjudged bytes (Csv n) = IsTextFault MAX_LOG_CALLS (strip_bom bytes) (Csv n)
+IsUnjudged bytes TooMany = IsTextFault MAX_LOG_CALLS (strip_bom bytes) TooMany
+IsUnjudged bytes (NotACall n) = IsTextFault MAX_LOG_CALLS (strip_bom bytes) (NotACall n)
 IsUnjudged bytes (NumberOutOfRange n) = IsOfJudged bytes (NumberOutOfRange n)
 IsUnjudged bytes (WrongAnswer n) = IsOfJudged bytes (WrongAnswer n)
 IsUnjudged bytes (EndsEarly n) = IsOfJudged bytes (EndsEarly n)

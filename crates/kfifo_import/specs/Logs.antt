@@ -2,12 +2,12 @@
 use Rattle.std.specs.Prelude.{ℕ, ◌≡◌, ◌<◌, ◌≤◌, List, None, length, map, option_map, slice_index_or}
 use Rattle.std.specs.List.Sorted.{IsNonDecreasingBy, IsPermutation, IsStableByKey}
 use Rattle.std.specs.Ordering.{nat_cmp}
-use Rattle.kfifo_model.specs.declared.reading.TheConstants.{MAX_CALLS}
 use Rattle.kfifo_model.specs.declared.calls.Call.{Call}
 use Rattle.kfifo_model.specs.declared.history.RecordFault.{RecordFault}
 use Rattle.kfifo_model.specs.declared.history.RecordFault.TheVariants as records
 use Rattle.kfifo_model.specs.Histories.{no_call}
 use Rattle.kfifo_model.specs.Validity.{IsFault, IsHistory}
+use Rattle.kfifo_import.specs.declared.log.TheConstants.{MAX_LOG_CALLS}
 use Rattle.kfifo_import.specs.declared.log.ImportFault.{ImportFault}
 use Rattle.kfifo_import.specs.declared.log.ImportFault.TheVariants.{Csv, TooMany, NotACall, NumberOutOfRange}
 use Rattle.kfifo_import.specs.declared.log.ImportFault.TheVariants.{WrongAnswer, EndsEarly, Overlap, Memory}
@@ -25,7 +25,7 @@ calls_of lines = map (λ line. line.call) lines
 abbrev pub line_number : List Line → ℕ → ℕ
 line_number lines place = (slice_index_or lines place (record { number = 0; call = no_call; item = None })).number
 
--- The lines by rising first time, of equal ones the earlier first.
+-- The lines in the order of their first times; where two are equal, the earlier line comes first.
 pub record AreByFirst (lines sorted : List Line) : Type 0 where
   pub moved : IsPermutation lines sorted
   pub rise : IsNonDecreasingBy first_time sorted
@@ -40,10 +40,10 @@ logged_call line = record {
   item = line.item;
 }
 
--- The history is the record of the log, which has at most 65,536 lines: its calls by rising first time, with stamps.
--- The calls of the log, by the numbers of the record, are these.
+-- The history is the record of the log, which has at most 16,777,215 lines: its calls by rising first time, with
+-- stamps. The calls of the log, by the numbers of the record, are these.
 pub record IsLogOf (lines : List Line) (h : List Call) (calls : List LoggedCall) : Type 0 where
-  pub few : length lines ≤ MAX_CALLS
+  pub few : length lines ≤ MAX_LOG_CALLS
   pub sorted : List Line
   pub by_first : AreByFirst lines sorted
   pub stamped : AreStamped (calls_of sorted) h
@@ -79,10 +79,10 @@ pub record IsFaultyLog (lines : List Line) (fault : ImportFault) : Type 0 where
 -- why a log has no record. Faults of texts come before
 abbrev pub IsImportFault : List Line → ImportFault → Type 0
 IsImportFault lines (Csv n) = ⊥
-IsImportFault lines TooMany = MAX_CALLS < length lines
+IsImportFault lines TooMany = MAX_LOG_CALLS < length lines
 IsImportFault lines (NotACall n) = ⊥
 IsImportFault lines (NumberOutOfRange n) = IsFaultyLog lines (NumberOutOfRange n)
 IsImportFault lines (WrongAnswer n) = IsFaultyLog lines (WrongAnswer n)
 IsImportFault lines (EndsEarly n) = IsFaultyLog lines (EndsEarly n)
 IsImportFault lines (Overlap n) = IsFaultyLog lines (Overlap n)
-IsImportFault lines Memory = length lines ≤ MAX_CALLS
+IsImportFault lines Memory = length lines ≤ MAX_LOG_CALLS

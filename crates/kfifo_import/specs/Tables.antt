@@ -54,17 +54,17 @@ LacksColumns names = (columns : Columns) → ¬ (HasColumns names columns)
 abbrev pub IsNoCall : Columns → List (List ℕ) → Type 0
 IsNoCall columns fields = (c : Call) → ¬ (IsCallOf columns fields c)
 
--- what is wrong with a row that comes behind these lines
-abbrev pub IsRowFault : Columns → ℕ → List Line → Row → ImportFault → Type 0
-IsRowFault columns width lines row (Csv n) = (n ≡ row.number) × (length row.fields ≢ width)
-IsRowFault columns width lines row TooMany = (length row.fields ≡ width) × (length lines ≡ MAX_CALLS)
-IsRowFault columns width lines row (NotACall n) = (n ≡ row.number) × (length row.fields ≡ width)
-    × (length lines < MAX_CALLS)
+-- what is wrong with a row that comes behind these lines, where so many lines may be there at most
+abbrev pub IsRowFault : ℕ → Columns → ℕ → List Line → Row → ImportFault → Type 0
+IsRowFault most columns width lines row (Csv n) = (n ≡ row.number) × (length row.fields ≢ width)
+IsRowFault most columns width lines row TooMany = (length row.fields ≡ width) × (length lines ≡ most)
+IsRowFault most columns width lines row (NotACall n) = (n ≡ row.number) × (length row.fields ≡ width)
+    × (length lines < most)
     × IsNoCall columns row.fields
-IsRowFault columns width lines row _ = ⊥
+IsRowFault most columns width lines row _ = ⊥
 
 -- The first row of a text that has a fault has this one: the rows before it are a header and lines.
-pub record IsFirstFault (text : List ℕ) (fault : ImportFault) : Type 0 where
+pub record IsFirstFault (most : ℕ) (text : List ℕ) (fault : ImportFault) : Type 0 where
   pub columns : Columns
   pub width : ℕ
   pub lines : List Line
@@ -72,7 +72,7 @@ pub record IsFirstFault (text : List ℕ) (fault : ImportFault) : Type 0 where
   pub read : HasRead text columns width lines rest
   pub row : Row
   pub next : IsNextRow text rest row
-  pub is : IsRowFault columns width lines row fault
+  pub is : IsRowFault most columns width lines row fault
 
 -- a text has no header: its first row, at this line, lacks a field or has one twice, or it has no row, which is said of
 -- line 1
@@ -80,13 +80,13 @@ abbrev pub HasNoHeader : List ℕ → ℕ → Type 0
 HasNoHeader text n = ((row : Row) × IsNextRow text text row × (n ≡ row.number) × LacksColumns row.fields)
     ⊎ ((first_row text ≡ None) × (n ≡ 1))
 
--- a fault that comes before records' faults
-abbrev pub IsTextFault : List ℕ → ImportFault → Type 0
-IsTextFault text (Csv n) = HasNoHeader text n ⊎ IsFirstFault text (Csv n)
-IsTextFault text TooMany = IsFirstFault text TooMany
-IsTextFault text (NotACall n) = IsFirstFault text (NotACall n)
-IsTextFault text Memory = Unit {0}
-IsTextFault text _ = ⊥
+-- a fault that comes before records' faults, where so many lines may be there at most
+abbrev pub IsTextFault : ℕ → List ℕ → ImportFault → Type 0
+IsTextFault most text (Csv n) = HasNoHeader text n ⊎ IsFirstFault most text (Csv n)
+IsTextFault most text TooMany = IsFirstFault most text TooMany
+IsTextFault most text (NotACall n) = IsFirstFault most text (NotACall n)
+IsTextFault most text Memory = Unit {0}
+IsTextFault most text _ = ⊥
 
 -- The history is the record of the lines of a text, and its calls stand in it and were as these say.
 pub record IsReadLog (bytes : List ℕ) (h : List Call) (calls : List LoggedCall) : Type 0 where
@@ -102,13 +102,18 @@ IsImported bytes h = (calls : List LoggedCall) × IsReadLog bytes h calls
 abbrev pub IsOfLines : List ℕ → ImportFault → Type 0
 IsOfLines bytes fault = (lines : List Line) × ReadsLog bytes lines × IsImportFault lines fault
 
--- why a text gives no record: the first fault of its rows, or the first of its lines, whose rows have none
+-- why a text gives no log of so many lines at most: the first fault of its rows, or the first of its lines, whose rows
+-- have none
+abbrev pub IsNoLog : ℕ → List ℕ → ImportFault → Type 0
+IsNoLog most bytes (Csv n) = IsTextFault most (strip_bom bytes) (Csv n)
+IsNoLog most bytes TooMany = IsTextFault most (strip_bom bytes) TooMany
+IsNoLog most bytes (NotACall n) = IsTextFault most (strip_bom bytes) (NotACall n)
+IsNoLog most bytes (NumberOutOfRange n) = IsOfLines bytes (NumberOutOfRange n)
+IsNoLog most bytes (WrongAnswer n) = IsOfLines bytes (WrongAnswer n)
+IsNoLog most bytes (EndsEarly n) = IsOfLines bytes (EndsEarly n)
+IsNoLog most bytes (Overlap n) = IsOfLines bytes (Overlap n)
+IsNoLog most bytes Memory = Unit {0}
+
+-- why a text gives no record
 abbrev pub IsUnimported : List ℕ → ImportFault → Type 0
-IsUnimported bytes (Csv n) = IsTextFault (strip_bom bytes) (Csv n)
-IsUnimported bytes TooMany = IsTextFault (strip_bom bytes) TooMany
-IsUnimported bytes (NotACall n) = IsTextFault (strip_bom bytes) (NotACall n)
-IsUnimported bytes (NumberOutOfRange n) = IsOfLines bytes (NumberOutOfRange n)
-IsUnimported bytes (WrongAnswer n) = IsOfLines bytes (WrongAnswer n)
-IsUnimported bytes (EndsEarly n) = IsOfLines bytes (EndsEarly n)
-IsUnimported bytes (Overlap n) = IsOfLines bytes (Overlap n)
-IsUnimported bytes Memory = Unit {0}
+IsUnimported bytes fault = IsNoLog MAX_CALLS bytes fault

@@ -1,9 +1,9 @@
 //! Gets of items that no call can put.
-ghost use Rattle.std.specs.Prelude.{◌≡◌, ◌≢◌, ◌≤◌, IfOk, length, map};
+ghost use Rattle.std.specs.Prelude.{◌≡◌, ◌≢◌, ◌<◌, ◌≤◌, IfOk, length, map, true};
 ghost use Rattle.std.specs.List.{All, list_any};
 ghost use Rattle.std.specs.List.Sorted.{IsNonDecreasingBy};
-ghost use Rattle.kfifo_model.specs.declared.reading.TheConstants.{MAX_CALLS};
 ghost use Rattle.kfifo_model.specs.Validity.{IsItem};
+ghost use Rattle.kfifo_import.specs.declared.log.TheConstants.{MAX_LOG_CALLS};
 ghost use Rattle.kfifo_import.specs.Foreign as specs;
 ghost use Rattle.kfifo_import.specs.Foreign.{AreToJudge, items_put};
 
@@ -18,12 +18,14 @@ fn is_puttable(item: u32) -> bool
     0 < item && item <= MAX_ITEM
 }
 
-/// The answer, with this item in place of one that no call can put.
-fn answer_with(answer: Answer, free: u32) -> Answer
-    ensures { result ≡ specs.answer_with free answer }
+/// The answer of a call, with this item in place of one that a dequeue got and no call can put.
+fn answer_with(op: Op, answer: Answer, free: u32) -> Answer
+    ensures { result ≡ specs.answer_with free op answer }
 {
-    match answer {
-        Answer::Got(item) => Answer::Got(if is_puttable(item) { item } else { free }),
+    match (op, answer) {
+        (Op::Dequeue, Answer::Got(item)) => {
+            Answer::Got(if is_puttable(item) { item } else { free })
+        }
         _ => answer,
     }
 }
@@ -35,7 +37,7 @@ fn call_with(call: Call, free: u32) -> Call
     let end = match call.end {
         Some(end) => Some(End {
             last: end.last,
-            answer: answer_with(end.answer, free),
+            answer: answer_with(call.op, end.answer, free),
         }),
         None => None,
     };
@@ -73,7 +75,7 @@ fn items_put(alloc: Global, lines: &[Line]) -> Result<Vec<u32>, AllocError>
 
 /// The least number from 1 on that is none of these, which rise.
 fn first_missing(sorted: &[u32]) -> u32
-    requires few { length sorted.now ≤ MAX_CALLS }
+    requires few { length sorted.now < MAX_LOG_CALLS }
     requires rise { IsNonDecreasingBy (λ x. x) sorted.now }
     ensures item { IsItem result }
     ensures missing { All (λ x. x ≢ result) sorted.now }
@@ -87,9 +89,10 @@ fn first_missing(sorted: &[u32]) -> u32
     free
 }
 
-/// An item that no line puts.
+/// An item that no line puts, where the call of some line puts none.
 fn free_item(alloc: Global, lines: &[Line]) -> Result<u32, AllocError>
-    requires { length lines.now ≤ MAX_CALLS }
+    requires few { length lines.now ≤ MAX_LOG_CALLS }
+    requires some { list_any specs.is_foreign lines.now ≡ true }
     ensures { IfOk result (λ free. IsItem free × All (λ x. x ≢ free) (items_put lines.now)) }
 {
     let mut items = items_put(alloc, lines)?;
@@ -111,12 +114,15 @@ fn all_with(alloc: Global, lines: &[Line], free: u32) -> Result<Vec<Line>, Alloc
 fn is_foreign(line: &Line) -> bool
     ensures { result ≡ specs.is_foreign line.now }
 {
-    match line.call.end {
-        Some(
-            End {
-                answer: Answer::Got(item),
-                ..
-            },
+    match (line.call.op, line.call.end) {
+        (
+            Op::Dequeue,
+            Some(
+                End {
+                    answer: Answer::Got(item),
+                    ..
+                },
+            ),
         ) => !is_puttable(item),
         _ => false,
     }
@@ -130,20 +136,19 @@ fn has_foreign(lines: &[Line]) -> bool
 }
 
 /// Returns the lines of a log as they are to be judged: an item that none of them puts stands for each that no call can
-/// put. There are at most 65,536 lines. An error means that an allocation failed.
+/// put. There are at most 16,777,215 lines. An error means that an allocation failed.
 ///
 /// ```rust
 /// let judged = with_puttable_items(alloc, lines)?;
 /// log_of(alloc, judged)
 /// ```
 pub fn with_puttable_items(alloc: Global, lines: Vec<Line>) -> Result<Vec<Line>, AllocError>
-    requires { length lines.items ≤ MAX_CALLS }
+    requires { length lines.items ≤ MAX_LOG_CALLS }
     ensures { IfOk result (λ judged. AreToJudge lines.items judged.items) }
 {
-    let free = free_item(alloc, lines.as_slice())?;
-    if has_foreign(lines.as_slice()) {
-        all_with(alloc, lines.as_slice(), free)
-    } else {
-        Ok(lines)
+    if !has_foreign(lines.as_slice()) {
+        return Ok(lines);
     }
+    let free = free_item(alloc, lines.as_slice())?;
+    all_with(alloc, lines.as_slice(), free)
 }

@@ -12,6 +12,6 @@ mod wrong;
 
 pub use foreign::with_puttable_items;
 pub use kfifo_model::LoggedCall;
-pub use log::{ImportFault, Line, Log, log_of, record_of};
-pub use table::{import_text, read_log, read_log_to_judge};
-pub use wrong::{Allowed, Field, Refusal, WrongField};
+pub use log::{ImportFault, Line, Log, MAX_LOG_CALLS, log_of, record_of};
+pub use table::{import_text, lines_of, read_log, read_log_to_judge, small};
+pub use wrong::{Allowed, Field, Refusal, WrongField, shown};

@@ -1,14 +1,17 @@
 //! Logs of calls, whose steps are times of a clock.
-ghost use Rattle.std.specs.Prelude.{◌≡◌, IfOk, MatchResult, map};
+ghost use Rattle.std.specs.Prelude.{◌≡◌, IfOk, List, MatchResult, map};
 ghost use Rattle.kfifo_import.specs.Lines as specs;
 ghost use Rattle.kfifo_import.specs.Lines.{fault_among, lines_by};
-ghost use Rattle.kfifo_import.specs.Logs.{AreByFirst, IsImportFault, IsLogOf, IsRecordOfLog, logged_call};
+ghost use Rattle.kfifo_import.specs.Logs.{AreByFirst, IsImportFault, IsLogOf, IsRecordOfLog, calls_of, logged_call};
 
 use crate::moments::{Moment, by_time};
 use crate::stamping::stamped;
-use kfifo_model::{Call, History, LoggedCall, MAX_CALLS, Op, RecordFault, logged_line};
+use kfifo_model::{Call, History, LoggedCall, Op, RecordFault, logged_line};
 use std::alloc::{AllocError, AllocFailed, Global};
 use thiserror::Error;
+
+/// The most calls of a log.
+pub const MAX_LOG_CALLS: usize = 16_777_215;
 
 /// A line of a log.
 #[derive(Clone, Copy, Debug, PartialEq, Eq)]
@@ -24,7 +27,8 @@ pub struct Line {
 /// A log that was read.
 #[derive(Drop)]
 pub struct Log {
-    /// The record: the calls by rising first time, of equal ones the earlier line first, with stamps in place of times.
+    /// The record: the calls in the order of their first times, with stamps in place of times. Where two first times
+    /// are equal, the earlier line comes first.
     pub history: History,
     /// Where each call of the history stands in the log and when it was, by its number.
     pub calls: Vec<LoggedCall>,
@@ -36,8 +40,8 @@ pub enum ImportFault {
     /// The line does not have the fields of the header, or the header lacks one.
     #[error("line {0} does not have the fields of the header, or is a header that lacks one of thread, op, item, first, last and answer or has one twice")]
     Csv(u64),
-    /// Record fault 2: there are over 65,536 calls.
-    #[error("the log has over 65,536 calls")]
+    /// Record fault 2: there are over 16,777,215 calls, or over 65,536 where the log is to give a record.
+    #[error("the log has over 16,777,215 calls, or over 65,536 and is to give a record")]
     TooMany,
     /// Record fault 3: a field is missing or not allowed there, a number is not whole, or the operation is unknown.
     #[error("line {0} is no call: thread, op and first; item in an enq and where the answer is got; last and answer both or neither; op enq or deq; whole numbers")]
@@ -190,24 +194,35 @@ fn all_logged(
         .collect(alloc)
 }
 
-/// The log that has these lines: its record, with the calls by rising first time, of equal ones the earlier line first,
-/// and with stamps in place of times; and where each of them stands and when it was. Stamps are the places of the
-/// calls' beginnings and ends by rising time, where at one time beginnings come before ends. So a call precedes another
-/// in the record exactly where its last time is less than the other's first.
-///
-/// Refused: TooMany of over 65,536 lines; else the first fault of the record, at the line of its call; Memory where an
-/// allocation failed.
-pub fn log_of(alloc: Global, lines: Vec<Line>) -> Result<Log, ImportFault>
-    ensures { MatchResult result (λ log. IsLogOf lines.items log.history log.calls.items) (IsImportFault lines.items) }
+/// The calls of the lines in the order of their first times, and where each call stands and when it was. Where two
+/// first times are equal, the earlier line comes first.
+fn by_beginning(alloc: Global, lines: Vec<Line>) -> Result<(Vec<Call>, Vec<LoggedCall>), AllocError>
+    ensures { IfOk result (λ both. (sorted : List Line) × AreByFirst lines.items sorted
+        × (both.0.items ≡ calls_of sorted) × (both.1.items ≡ map logged_call sorted)) }
 {
-    if lines.len() > MAX_CALLS {
-        return Err(ImportFault::TooMany);
-    }
     let lines = lines.as_slice();
     let order = by_first(alloc, lines)?;
     let calls = calls_of(alloc, lines, order.as_slice())?;
-    let found = stamped(alloc, calls.as_slice())?;
     let logged = all_logged(alloc, lines, order.as_slice())?;
+    Ok((calls, logged))
+}
+
+/// The log that has these lines. Its record has the calls in the order of their first times; where two are equal, the
+/// earlier line comes first. The log also has where each call stands and when it was. In the record, stamps stand in
+/// place of times: the places of the calls' beginnings and ends in the order of time, where at one time beginnings come
+/// before ends. So a call precedes another in the record exactly where its last time is less than the other's first.
+///
+/// Refused: TooMany of over 16,777,215 lines; else the first fault of the record, at the line of its call; Memory where
+/// an allocation failed.
+pub fn log_of(alloc: Global, lines: Vec<Line>) -> Result<Log, ImportFault>
+    ensures { MatchResult result (λ log. IsLogOf lines.items log.history log.calls.items) (IsImportFault lines.items) }
+{
+    if lines.len() > MAX_LOG_CALLS {
+        return Err(ImportFault::TooMany);
+    }
+    // The lines, which take the most memory, go before the stamps are made.
+    let (calls, logged) = by_beginning(alloc, lines)?;
+    let found = stamped(alloc, calls.as_slice())?;
     match History::new(found) {
         Ok(history) => Ok(Log {
             history,

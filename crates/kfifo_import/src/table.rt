@@ -7,16 +7,17 @@ ghost use Rattle.kfifo_model.specs.declared.calls.Op.{Op};
 ghost use Rattle.csv.specs.Reading.{strip_bom};
 ghost use Rattle.csv.specs.Records.{field_at, fields_of};
 ghost use Rattle.kfifo_model.specs.Words.{IsAnswerWord};
+ghost use Rattle.kfifo_import.specs.Fields as specs;
 ghost use Rattle.kfifo_import.specs.Fields.{Gives, GivesText, HasColumns, IsAnswer, IsCallOf, IsDigits, IsEnd, IsOp};
 ghost use Rattle.kfifo_import.specs.Fields.{IsOnlyAt, IsPutAnswer, IsTakeAnswer, WritesSmall, WritesWhole, name_of};
-ghost use Rattle.kfifo_import.specs.Tables.{IsImported, IsNoCall, IsReadLog, IsTextFault, IsUnimported, LacksColumns};
-ghost use Rattle.kfifo_import.specs.Tables.{ReadsLog};
+ghost use Rattle.kfifo_import.specs.Tables.{IsImported, IsNoCall, IsNoLog, IsReadLog, IsTextFault, IsUnimported};
+ghost use Rattle.kfifo_import.specs.Tables.{LacksColumns, ReadsLog};
 ghost use Rattle.kfifo_import.specs.Foreign.{IsJudgedLog, IsUnjudged};
 ghost use Rattle.kfifo_import.specs.Taking.{IsNotTaken, IsReadFault, IsWrongIn, Takes};
 ghost use Rattle.kfifo_import.specs.Wrong.{TellsWrong};
 
 use crate::foreign::with_puttable_items;
-use crate::log::{ImportFault, Line, Log, log_of};
+use crate::log::{ImportFault, Line, Log, MAX_LOG_CALLS, log_of};
 use crate::walk::{Place, row_end, row_front, without_mark};
 use crate::wrong::{Field, Refusal, wrong_field};
 use csv::{ByteRecord, ErrorKind, ReaderBuilder};
@@ -104,27 +105,32 @@ pub(crate) fn whole(text: &[u8]) -> Option<u64>
     digits.parse().ok()
 }
 
-/// The same as a number of 32 bits; one that is too great is out of every range.
-fn small(text: &[u8]) -> Option<u32>
-    ensures { MatchOption result ((number : ℕ) → ¬ (WritesSmall text.now number)) (WritesSmall text.now) }
+/// Returns a number as one of 32 bits: one that is too great is taken as the greatest, which is out of every range.
+pub fn small(number: u64) -> u32
+    ensures { result ≡ specs.small number }
 {
-    let number = whole(text)?;
     if number < 4_294_967_295 {
-        Some(number as u32)
+        number as u32
     } else {
-        Some(4_294_967_295)
+        4_294_967_295
     }
 }
 
-/// The item in this field, none where it is empty; none at all where it is no number.
-fn item_in(row: &ByteRecord, place: usize) -> Option<Option<u32>>
-    ensures { MatchOption result
-        ((number : Option ℕ) → ¬ (Gives WritesSmall (field_at (fields_of row.now) place) number))
-        (Gives WritesSmall (field_at (fields_of row.now) place)) }
+/// The number of 32 bits that digits write.
+fn small_whole(text: &[u8]) -> Option<u32>
+    ensures { MatchOption result ((number : ℕ) → ¬ (WritesSmall text.now number)) (WritesSmall text.now) }
 {
-    match field(row, place) {
-        Some(text) => Some(Some(small(text)?)),
-        None => Some(None),
+    let number = whole(text)?;
+    Some(small(number))
+}
+
+/// An item that may be there, as a number of 32 bits.
+fn small_item(item: Option<u64>) -> Option<u32>
+    ensures { result ≡ option_map specs.small item }
+{
+    match item {
+        Some(number) => Some(small(number)),
+        None => None,
     }
 }
 
@@ -226,13 +232,13 @@ fn end_of(
     }
 }
 
-/// The call of a line, or none where the line is no call.
-fn call_of(row: &ByteRecord, columns: &Columns) -> Option<Call>
+/// The call of a line with this item, or none where the line is no call.
+fn call_of(row: &ByteRecord, columns: &Columns, item: Option<u32>) -> Option<Call>
+    requires { Gives WritesSmall (field_at (fields_of row.now) columns.now.item) item }
     ensures { MatchOption result (IsNoCall columns.now (fields_of row.now)) (IsCallOf columns.now (fields_of row.now)) }
 {
-    let thread = small(field(row, columns.thread)?)?;
+    let thread = small_whole(field(row, columns.thread)?)?;
     let first = whole(field(row, columns.first)?)?;
-    let item = item_in(row, columns.item)?;
     let last = number_in(row, columns.last)?;
     let op = op_of(field(row, columns.op)?, item)?;
     let end = end_of(op, last, field(row, columns.answer), item)?;
@@ -251,7 +257,7 @@ fn line_of(row: &ByteRecord, columns: &Columns, number: u64) -> Option<Line>
         × Gives WritesWhole (field_at (fields_of row.now) columns.now.item) line.item) }
 {
     let item = number_in(row, columns.item)?;
-    let call = call_of(row, columns)?;
+    let call = call_of(row, columns, small_item(item))?;
     Some(Line { number, call, item })
 }
 
@@ -275,12 +281,18 @@ struct Table {
 }
 
 impl Table {
-    /// Takes in the next row, which begins at this line: the header, and then lines.
-    fn take(&mut self, alloc: Global, row: &ByteRecord, number: u64) -> Result<(), Refusal>
-        ensures ok { OnOk result (Takes self.old.columns self.old.lines.items number (fields_of row.now)
+    /// Takes in the next row, which begins at this line: the header, and then lines, so many at most.
+    fn take(
+        &mut self,
+        alloc: Global,
+        row: &ByteRecord,
+        number: u64,
+        most: usize,
+    ) -> Result<(), Refusal>
+        ensures ok { OnOk result (Takes most self.old.columns self.old.lines.items number (fields_of row.now)
             self.new.columns self.new.lines.items) }
         ensures err { IfErr result (λ refusal.
-            IsNotTaken self.old.columns self.old.lines.items number (fields_of row.now) refusal.fault) }
+            IsNotTaken most self.old.columns self.old.lines.items number (fields_of row.now) refusal.fault) }
         ensures wrong { IfErr result (λ refusal.
             IsWrongIn self.old.columns number (fields_of row.now) refusal.wrong refusal.fault) }
     {
@@ -289,7 +301,7 @@ impl Table {
             self.columns = Some(columns);
             return Ok(());
         };
-        if self.lines.len() >= MAX_CALLS {
+        if self.lines.len() >= most {
             return Err(Refusal::from(ImportFault::TooMany));
         }
         let Some(line) = line_of(row, &columns, number) else {
@@ -303,11 +315,17 @@ impl Table {
     }
 }
 
-/// The lines of a table with a header.
-pub(crate) fn lines_of(alloc: Global, text: &[u8]) -> Result<Vec<Line>, Refusal>
+/// Returns the lines of a log in CSV, each with its call, in their order.
+///
+/// ```rust
+/// let lines = lines_of(alloc, bytes, MAX_LOG_CALLS)?;
+/// ```
+///
+/// Refused is what a line itself has wrong, as `read_log` refuses it first, and a log of more than `most` lines.
+pub fn lines_of(alloc: Global, text: &[u8], most: usize) -> Result<Vec<Line>, Refusal>
     ensures ok { IfOk result (λ lines. ReadsLog text.now lines.items) }
-    ensures few { IfOk result (λ lines. length lines.items ≤ MAX_CALLS) }
-    ensures err { IfErr result (λ refusal. IsTextFault (strip_bom text.now) refusal.fault) }
+    ensures few { IfOk result (λ lines. length lines.items ≤ most) }
+    ensures err { IfErr result (λ refusal. IsTextFault most (strip_bom text.now) refusal.fault) }
     ensures wrong { IfErr result (λ refusal. TellsWrong (strip_bom text.now) refusal.wrong refusal.fault) }
 {
     let reader = ReaderBuilder::new()
@@ -322,7 +340,7 @@ pub(crate) fn lines_of(alloc: Global, text: &[u8]) -> Result<Vec<Line>, Refusal>
     for row in reader.into_byte_records() {
         let front = row_front(plain, place);
         match row {
-            Ok(row) => table.take(alloc, &row, front.line)?,
+            Ok(row) => table.take(alloc, &row, front.line, most)?,
             Err(error) => return Err(Refusal::from(fault_of(error.kind(), front.line))),
         }
         place = row_end(plain, front);
@@ -331,6 +349,20 @@ pub(crate) fn lines_of(alloc: Global, text: &[u8]) -> Result<Vec<Line>, Refusal>
         Some(_) => Ok(table.lines),
         None => Err(Refusal::from(ImportFault::Csv(1))),
     }
+}
+
+/// The log that a text in CSV is, of so many calls at most.
+fn log_in(alloc: Global, text: &[u8], most: usize) -> Result<Log, Refusal>
+    requires { most ≤ MAX_LOG_CALLS }
+    ensures read { MatchResult result (λ log. IsReadLog text.now log.history log.calls.items)
+        (λ refusal. IsNoLog most text.now refusal.fault) }
+    ensures wrong { IfErr result (λ refusal. TellsWrong (strip_bom text.now) refusal.wrong refusal.fault) }
+    ensures few { IfOk result (λ log. length log.history ≤ most) }
+    ensures each { IfOk result (λ log. length log.calls.items ≡ length log.history) }
+{
+    let lines = lines_of(alloc, text, most)?;
+    let log = log_of(alloc, lines)?;
+    Ok(log)
 }
 
 /// The log that a text in CSV is, with a header that has, in any order, `thread`, `op`, `item`, `first`, `last` and
@@ -342,17 +374,15 @@ pub(crate) fn lines_of(alloc: Global, text: &[u8]) -> Result<Vec<Line>, Refusal>
 /// ```
 ///
 /// Refused: first what a line itself has wrong, by lines: Csv, NotACall with the field that makes the line none, and
-/// TooMany at line 65,537; then as by `log_of`.
+/// TooMany of the 16,777,216th call; then as by `log_of`.
 pub fn read_log(alloc: Global, text: &[u8]) -> Result<Log, Refusal>
     ensures read { MatchResult result (λ log. IsReadLog text.now log.history log.calls.items)
-        (λ refusal. IsUnimported text.now refusal.fault) }
+        (λ refusal. IsNoLog MAX_LOG_CALLS text.now refusal.fault) }
     ensures wrong { IfErr result (λ refusal. TellsWrong (strip_bom text.now) refusal.wrong refusal.fault) }
-    ensures few { IfOk result (λ log. length log.history ≤ MAX_CALLS) }
+    ensures few { IfOk result (λ log. length log.history ≤ MAX_LOG_CALLS) }
     ensures each { IfOk result (λ log. length log.calls.items ≡ length log.history) }
 {
-    let lines = lines_of(alloc, text)?;
-    let log = log_of(alloc, lines)?;
-    Ok(log)
+    log_in(alloc, text, MAX_LOG_CALLS)
 }
 
 /// The log that a text in CSV is, to be judged: as `read_log` reads it, but for gets of items that no call can put, which
@@ -368,10 +398,10 @@ pub fn read_log_to_judge(alloc: Global, text: &[u8]) -> Result<Log, Refusal>
     ensures read { MatchResult result (λ log. IsJudgedLog text.now log.history log.calls.items)
         (λ refusal. IsUnjudged text.now refusal.fault) }
     ensures wrong { IfErr result (λ refusal. TellsWrong (strip_bom text.now) refusal.wrong refusal.fault) }
-    ensures few { IfOk result (λ log. length log.history ≤ MAX_CALLS) }
+    ensures few { IfOk result (λ log. length log.history ≤ MAX_LOG_CALLS) }
     ensures each { IfOk result (λ log. length log.calls.items ≡ length log.history) }
 {
-    let lines = lines_of(alloc, text)?;
+    let lines = lines_of(alloc, text, MAX_LOG_CALLS)?;
     let judged = with_puttable_items(alloc, lines)?;
     let log = log_of(alloc, judged)?;
     Ok(log)
@@ -379,13 +409,14 @@ pub fn read_log_to_judge(alloc: Global, text: &[u8]) -> Result<Log, Refusal>
 
 /// Returns the record of a log in CSV, without the lines and times of its calls.
 ///
-/// A log has a line for each of at most 65,536 calls, under the header `thread,op,item,first,last,answer`. `alloc`, the
-/// runtime's allocator, makes room for the lines and the calls. Refuses what `read_log` refuses.
+/// The log has a line for each of at most 65,536 calls, under the header `thread,op,item,first,last,answer`. `alloc`,
+/// the runtime's allocator, makes room for the lines and the calls. Refuses TooMany of the 65,537th call, and else what
+/// `read_log` refuses.
 pub fn import_text(alloc: Global, text: &[u8]) -> Result<History, Refusal>
     ensures record { MatchResult result (IsImported text.now) (λ refusal. IsUnimported text.now refusal.fault) }
     ensures wrong { IfErr result (λ refusal. TellsWrong (strip_bom text.now) refusal.wrong refusal.fault) }
     ensures few { IfOk result (λ history. length history ≤ MAX_CALLS) }
 {
-    let log = read_log(alloc, text)?;
+    let log = log_in(alloc, text, MAX_CALLS)?;
     Ok(log.history)
 }

@@ -262,7 +262,7 @@ fn wrong_in(row: &ByteRecord, columns: &Columns) -> Option<(Field, Allowed)>
 }
 
 /// A text as it is shown: in quotation marks, at most 40 bytes of it, with those escaped that are no printable ASCII.
-fn shown(alloc: Global, text: &[u8]) -> Result<String, AllocError> {
+pub fn shown(alloc: Global, text: &[u8]) -> Result<String, AllocError> {
     if text.is_empty() {
         return "empty".to_string(alloc);
     }

@@ -41,7 +41,12 @@ IsLeastAnswer logged h text Unordered = HasNoLeast logged h text
 IsLeastAnswer logged h text Answered = (bounds : Bounds) × HasBounds h bounds text
 IsLeastAnswer logged h text Undecided = ⊥
 
--- what follows the evidence against one k: what `least` says, unless the evidence is for each k
-abbrev pub FollowsReason : List LoggedCall → List Call → Evidence → List ℕ → Type 0
-FollowsReason logged h found text = (IsForEachK found × (text ≡ []))
-    ⊎ ((IsForEachK found → ⊥) × (said : Outcome) × IsLeastAnswer logged h text said)
+-- these bounds are told, or where there are none that no k has an order
+abbrev pub AreToldBounds : List LoggedCall → List Call → List ℕ → Option Bounds → Type 0
+AreToldBounds logged h text None = HasNoLeast logged h text
+AreToldBounds logged h text (Some bounds) = HasBounds h bounds text
+
+-- what follows the evidence against one k: what `least` says, with its bounds, unless the evidence is for each k
+abbrev pub FollowsReason : List LoggedCall → List Call → Evidence → List ℕ → Option Bounds → Type 0
+FollowsReason logged h found text bounds = (IsForEachK found × (text ≡ []) × (bounds ≡ None))
+    ⊎ ((IsForEachK found → ⊥) × AreToldBounds logged h text bounds)

@@ -1,7 +1,9 @@
 -- What `judge` says of a history.
-use Rattle.std.specs.Prelude.{ℕ, ◌≡◌, Bool, true, false, List, [], ◌++◌, codes, decimal, length}
+use Rattle.std.specs.Prelude.{ℕ, ◌≡◌, Bool, true, false, List, [], ◌++◌, Option, None, codes, decimal, length}
+use Rattle.std.specs.Prelude.{string_bytes}
 use Rattle.kfifo_model.specs.declared.calls.Call.{Call}
 use Rattle.kfifo_model.specs.Ranks.{ranks_of}
+use Rattle.kfifo_verdict.specs.declared.verdicts.Bounds.{Bounds}
 use Rattle.kfifo_verdict.specs.declared.verdicts.Evidence.{Evidence}
 use Rattle.kfifo_verdict.specs.declared.verdicts.Judgement.{Judgement}
 use Rattle.kfifo_verdict.specs.declared.verdicts.Judgement.TheVariants.{Legal, NoOrder, Undecided}
@@ -11,6 +13,7 @@ use Rattle.kfifo_verdict.specs.Judging.{IsJudgement}
 use Rattle.kfifo_verdict.specs.Remainder.{items_left}
 use Rattle.kfifo_model.specs.declared.logged.LoggedCall.{LoggedCall}
 use Rattle.kfifo_model.specs.RecordTexts.{line}
+use Rattle.kfifo_judge.specs.declared.judgement.Judged.{Judged}
 use Rattle.kfifo_judge.specs.declared.outcome.Outcome.{Outcome}
 use Rattle.kfifo_judge.specs.declared.outcome.Outcome.TheVariants as outcomes
 use Rattle.kfifo_judge.specs.Bounds.{FollowsReason}
@@ -39,10 +42,10 @@ abbrev pub legal_text : ℕ → Bool → List Call → List ℕ → List ℕ
 legal_text k show h order = about (codes "legal") k ++ worst_line (greatest (ranks_of k h order))
     ++ shown_line show order ++ counts_line h
 
--- the evidence with the calls that it names, the counts, and what follows them
-abbrev pub IsNoOrderText : ℕ → List LoggedCall → List Call → Evidence → List ℕ → Type 0
-IsNoOrderText k logged h found text =
-    (rest : List ℕ) × FollowsReason logged h found rest
+-- the evidence with the calls that it names, the counts, and what follows them, with these bounds
+abbrev pub IsNoOrderText : ℕ → List LoggedCall → List Call → Evidence → List ℕ → Option Bounds → Type 0
+IsNoOrderText k logged h found text bounds =
+    (rest : List ℕ) × FollowsReason logged h found rest bounds
     × (text ≡ about (codes "no order") k ++ reason_lines logged h found ++ counts_line h ++ rest)
 
 -- why the search stopped
@@ -55,11 +58,17 @@ abbrev pub IsUndecidedText : ℕ → List Call → Stuck → List ℕ → Type 0
 IsUndecidedText k h stuck text =
     (note : List ℕ) × IsRepeatNote h note × (text ≡ about (codes "undecided") k ++ line (stuck_text stuck ++ note))
 
--- the text says this verdict
-abbrev pub IsJudgementText : ℕ → Bool → List LoggedCall → List Call → Judgement → List ℕ → Type 0
-IsJudgementText k show logged h (Legal order) text = text ≡ legal_text k show h order.items
-IsJudgementText k show logged h (NoOrder found) text = IsNoOrderText k logged h found text
-IsJudgementText k show logged h (Undecided stuck) text = IsUndecidedText k h stuck text
+-- the text says this verdict, and these bounds of the least k where evidence is about one k alone
+abbrev pub IsJudgementText : ℕ → Bool → List LoggedCall → List Call → Judgement → List ℕ → Option Bounds → Type 0
+IsJudgementText k show logged h (Legal order) text bounds = (text ≡ legal_text k show h order.items) × (bounds ≡ None)
+IsJudgementText k show logged h (NoOrder found) text bounds = IsNoOrderText k logged h found text bounds
+IsJudgementText k show logged h (Undecided stuck) text bounds = IsUndecidedText k h stuck text × (bounds ≡ None)
+
+-- This is a verdict on a history, told in a text, with the bounds that the text says and the items that are left.
+pub record IsJudged (k : ℕ) (show : Bool) (logged : List LoggedCall) (h : List Call) (j : Judged) : Type 0 where
+  pub judged : IsJudgement k h j.judgement
+  pub told : IsJudgementText k show logged h j.judgement (string_bytes j.text) j.bounds
+  pub left : j.left ≡ items_left h
 
 abbrev pub outcome : Judgement → Outcome
 outcome (Legal order) = outcomes.Answered
@@ -71,5 +80,6 @@ pub record IsJudgeAnswer (k : ℕ) (show : Bool) (logged : List LoggedCall) (h :
     (said : Outcome) : Type 0 where
   pub judgement : Judgement
   pub judged : IsJudgement k h judgement
-  pub told : IsJudgementText k show logged h judgement text
+  pub bounds : Option Bounds
+  pub told : IsJudgementText k show logged h judgement text bounds
   pub ended : said ≡ outcome judgement

@@ -7,7 +7,9 @@ pub mod Measure
 pub mod StreamAnswers
 pub mod Numbers
 pub mod Calls
+pub mod Named
 pub mod Reasons
+pub mod Headlines
 pub mod Repeats
 pub mod Bounds
 pub mod Judgements

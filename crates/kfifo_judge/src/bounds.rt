@@ -1,6 +1,6 @@
 //! The answer of the command `least`.
-ghost use Rattle.std.specs.Prelude.{ℕ, ◌≡◌, ◌++◌, List, OnOk, IfOk, MatchOption, string_bytes};
-ghost use Rattle.kfifo_judge.specs.Bounds.{FollowsReason, HasBounds, HasNoLeast, IsLeastAnswer};
+ghost use Rattle.std.specs.Prelude.{ℕ, ◌≡◌, ◌++◌, List, OnOk, IfOk, string_bytes};
+ghost use Rattle.kfifo_judge.specs.Bounds.{AreToldBounds, FollowsReason, IsLeastAnswer};
 ghost use Rattle.kfifo_judge.specs.Bounds.{bounds_text, no_least_text};
 
 use crate::outcome::Outcome;
@@ -45,8 +45,7 @@ pub fn bounded_text(
     logged: &[LoggedCall],
     tries: u64,
 ) -> Result<(String, Option<Bounds>), AllocError>
-    ensures { IfOk result (λ a. MatchOption a.1 (HasNoLeast logged.now history.now (string_bytes a.0))
-        (λ bounds. HasBounds history.now bounds (string_bytes a.0))) }
+    ensures { IfOk result (λ a. AreToldBounds logged.now history.now (string_bytes a.0) a.1) }
 {
     let found = evidence_for_each_k(alloc, history)?;
     if let Some(found) = &found {
@@ -78,7 +77,7 @@ pub fn least_text(
     Ok((text, said))
 }
 
-/// Adds what `least` says, after evidence that is about one k alone.
+/// Adds what `least` says, after evidence that is about one k alone, and returns the bounds that it says.
 pub(crate) fn push_following(
     alloc: Global,
     text: &mut String,
@@ -86,13 +85,15 @@ pub(crate) fn push_following(
     logged: &[LoggedCall],
     tries: u64,
     found: &Evidence,
-) -> Result<(), AllocError>
-    ensures { OnOk result ((rest : List ℕ) × FollowsReason logged.now history.now found.now rest
+) -> Result<Option<Bounds>, AllocError>
+    ensures { IfOk result (λ bounds. (rest : List ℕ)
+        × FollowsReason logged.now history.now found.now rest bounds
         × (string_bytes text.new ≡ string_bytes text.old ++ rest)) }
 {
     if found.is_for_each_k() {
-        return Ok(());
+        return Ok(None);
     }
-    let (least, _outcome) = least_text(alloc, history, logged, tries)?;
-    text.push_str(&least)
+    let (least, bounds) = bounded_text(alloc, history, logged, tries)?;
+    text.push_str(&least)?;
+    Ok(bounds)
 }

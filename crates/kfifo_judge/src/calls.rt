@@ -20,17 +20,17 @@ const NO_CALL: Call = Call {
 
 /// When a call was, and where it stands in its log.
 #[derive(Clone, Copy)]
-struct Occurrence {
+pub(crate) struct Occurrence {
     /// The number of its line; none of a call of a record.
-    line: Option<u64>,
+    pub(crate) line: Option<u64>,
     /// When it began.
-    first: u64,
+    pub(crate) first: u64,
     /// When it ended; none of an unfinished call.
-    last: Option<u64>,
+    pub(crate) last: Option<u64>,
 }
 
 /// The call with this number.
-fn call_at(history: &History, number: usize) -> Call
+pub(crate) fn call_at(history: &History, number: usize) -> Call
     ensures { result ≡ call history.now number }
 {
     history.calls().get(number).copied().unwrap_or(NO_CALL)
@@ -66,7 +66,7 @@ fn in_log(logged: &LoggedCall) -> Occurrence
 }
 
 /// When the call with this number was, by the log if it is one of a log.
-fn occurrence_of(logged: &[LoggedCall], call: &Call, number: usize) -> Occurrence
+pub(crate) fn occurrence_of(logged: &[LoggedCall], call: &Call, number: usize) -> Occurrence
     ensures { result ≡ occurrence logged.now call.now number }
 {
     match logged.get(number) {

@@ -4,9 +4,8 @@ ghost use Rattle.kfifo_model.specs.RecordTexts.{line};
 ghost use Rattle.kfifo_model.specs.Histories.{IsLegal};
 ghost use Rattle.kfifo_model.specs.Ranks.{ranks_of};
 ghost use Rattle.kfifo_judge.specs.Bounds.{FollowsReason};
-ghost use Rattle.kfifo_verdict.specs.Judging.{IsJudgement};
 ghost use Rattle.kfifo_verdict.specs.Remainder.{items_left};
-ghost use Rattle.kfifo_judge.specs.Judgements.{IsJudgeAnswer, IsJudgementText, IsNoOrderText, IsUndecidedText};
+ghost use Rattle.kfifo_judge.specs.Judgements.{IsJudgeAnswer, IsJudged, IsNoOrderText, IsUndecidedText};
 ghost use Rattle.kfifo_judge.specs.Judgements.{about, legal_text};
 ghost use Rattle.kfifo_judge.specs.Judgements.{counts_line, outcome, shown_line, stuck_text, worst_line};
 ghost use Rattle.kfifo_judge.specs.Numbers.{greatest};
@@ -17,7 +16,7 @@ use crate::numbers::{greatest_of, push_numbers};
 use crate::outcome::Outcome;
 use crate::reasons::push_reasons;
 use kfifo_model::{History, LoggedCall, RankFault, items_repeat, ranks};
-use kfifo_verdict::{Evidence, Judgement, Stuck, judge_and_count};
+use kfifo_verdict::{Bounds, Evidence, Judgement, Stuck, judge_and_count};
 use std::alloc::{AllocError, Global};
 use std::fmt::Write;
 
@@ -104,7 +103,20 @@ fn legal(
     Ok(text)
 }
 
-/// What is said of evidence that there is no order.
+/// A verdict on a history, and what is said of it.
+#[derive(Drop)]
+pub struct Judged {
+    /// The verdict.
+    pub judgement: Judgement,
+    /// Its text, as `judge_text` says it.
+    pub text: String,
+    /// The bounds of the least k that the text says; none where it says none.
+    pub bounds: Option<Bounds>,
+    /// How many items are left at the end.
+    pub left: usize,
+}
+
+/// What is said of evidence that there is no order, and the bounds that are said.
 fn no_order(
     alloc: Global,
     history: &History,
@@ -113,16 +125,16 @@ fn no_order(
     tries: u64,
     found: &Evidence,
     left: usize,
-) -> Result<String, AllocError>
+) -> Result<(String, Option<Bounds>), AllocError>
     requires { left ≡ items_left history.now }
-    ensures { IfOk result (λ text. IsNoOrderText k logged.now history.now found.now (string_bytes text)) }
+    ensures { IfOk result (λ a. IsNoOrderText k logged.now history.now found.now (string_bytes a.0) a.1) }
 {
     let mut text = String::new(alloc);
     push_about(&mut text, "no order", k)?;
     push_reasons(alloc, &mut text, history, logged, found)?;
     push_counts(&mut text, history, left)?;
-    push_following(alloc, &mut text, history, logged, tries, found)?;
-    Ok(text)
+    let bounds = push_following(alloc, &mut text, history, logged, tries, found)?;
+    Ok((text, bounds))
 }
 
 /// Why the search stopped.
@@ -170,7 +182,7 @@ fn outcome_of(judgement: &Judgement) -> Outcome
     }
 }
 
-/// Returns a verdict on a history, as `judge_text` says it, with the verdict. An error means that an allocation failed.
+/// Returns a verdict on a history, with its text, as `judge_text` says it. An error means that an allocation failed.
 pub fn judged_text(
     alloc: Global,
     history: &History,
@@ -178,18 +190,22 @@ pub fn judged_text(
     k: u32,
     tries: u64,
     show: bool,
-) -> Result<(String, Judgement), AllocError>
+) -> Result<Judged, AllocError>
     requires { (1 ≤ k) × (k ≤ 64) }
-    ensures judged { IfOk result (λ a. IsJudgement k history.now a.1) }
-    ensures told { IfOk result (λ a. IsJudgementText k show logged.now history.now a.1 (string_bytes a.0)) }
+    ensures { IfOk result (IsJudged k show logged.now history.now) }
 {
     let (judgement, left) = judge_and_count(alloc, history, k, tries)?;
-    let text = match &judgement {
-        Judgement::Legal(order) => legal(alloc, history, k, order, show, left)?,
+    let (text, bounds) = match &judgement {
+        Judgement::Legal(order) => (legal(alloc, history, k, order, show, left)?, None),
         Judgement::NoOrder(found) => no_order(alloc, history, logged, k, tries, found, left)?,
-        Judgement::Undecided(stuck) => undecided(alloc, history, k, *stuck)?,
+        Judgement::Undecided(stuck) => (undecided(alloc, history, k, *stuck)?, None),
     };
-    Ok((text, judgement))
+    Ok(Judged {
+        judgement,
+        text,
+        bounds,
+        left,
+    })
 }
 
 /// Returns a verdict on a history for a queue that may give any of its k oldest items, 1 to 64, as a text: `legal` with
@@ -209,6 +225,7 @@ pub fn judge_text(
     requires { (1 ≤ k) × (k ≤ 64) }
     ensures { IfOk result (λ a. IsJudgeAnswer k show logged.now history.now (string_bytes a.0) a.1) }
 {
-    let (text, judgement) = judged_text(alloc, history, logged, k, tries, show)?;
-    Ok((text, outcome_of(&judgement)))
+    let judged = judged_text(alloc, history, logged, k, tries, show)?;
+    let said = outcome_of(&judged.judgement);
+    Ok((judged.text, said))
 }

@@ -5,8 +5,10 @@
 mod bounds;
 mod calls;
 mod check;
+mod headlines;
 mod judgement;
 mod measure;
+mod named;
 mod numbers;
 mod outcome;
 mod reasons;
@@ -16,8 +18,10 @@ mod streams;
 
 pub use bounds::{bounded_text, least_text};
 pub use check::check_text;
-pub use judgement::{judge_text, judged_text};
+pub use headlines::{headline, kind_name, kind_number};
+pub use judgement::{Judged, judge_text, judged_text};
 pub use measure::measure_text;
+pub use named::{NamedCall, named_call};
 pub use numbers::push_numbers;
 pub use outcome::Outcome;
 pub use reasons::{named_calls, title_of};

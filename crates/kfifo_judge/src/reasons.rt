@@ -28,7 +28,7 @@ fn taken(effect: Effect) -> u32
 }
 
 /// The item that the call with this number got, as its log has it if it is one of a log.
-fn item_got(history: &History, logged: &[LoggedCall], number: usize) -> u64
+pub(crate) fn item_got(history: &History, logged: &[LoggedCall], number: usize) -> u64
     ensures { result ≡ got_item logged.now history.now number }
 {
     item_in(logged_at(logged, number), taken(effect_at(history, number)))

@@ -27,6 +27,9 @@ pub trait Source {
         ensures bound { ReadsAtMost result piece.new }
         ensures bytes { ReadConsumes (remaining self.old) (remaining self.new) result piece.new }
         ensures failures { CountsRead result (failed self.old) (failed self.new) };
+
+    /// Why the last call of `read` that failed did so, where that is known.
+    fn reason(&self) -> Option<&io::Error>;
 }
 
 /// Where bytes go.
@@ -55,6 +58,8 @@ pub struct FromStd<T> {
     pub inner: T,
     /// How many of its calls failed.
     pub failed: u64,
+    /// Why the last of its reads that failed did so.
+    pub reason: Option<io::Error>,
 }
 
 impl<T> FromStd<T> {
@@ -63,7 +68,11 @@ impl<T> FromStd<T> {
         ensures inner { result.inner ≡ inner }
         ensures failed { result.failed ≡ 0 }
     {
-        FromStd { inner, failed: 0 }
+        FromStd {
+            inner,
+            failed: 0,
+            reason: None,
+        }
     }
 }
 
@@ -77,9 +86,15 @@ impl<R: Read> Source for FromStd<R> {
             Ok(count) => Ok(count),
             Err(error) => {
                 self.failed = self.failed.saturating_add(1);
-                Err(error)
+                let kind = error.kind();
+                self.reason = Some(error);
+                Err(io::Error::from(kind))
             }
         }
+    }
+
+    fn reason(&self) -> Option<&io::Error> {
+        self.reason.as_ref()
     }
 }
 

@@ -13,7 +13,7 @@ use Rattle.kfifo_import.specs.declared.log.Line.{Line}
 use Rattle.kfifo_import.specs.declared.log.Log.{Log}
 use Rattle.kfifo_import.specs.Foreign.{AreToJudge, line_with}
 use Rattle.kfifo_import.specs.Logs.{IsImportFault, IsLogOf}
-use Rattle.kfifo_model.specs.declared.reading.TheConstants.{MAX_CALLS}
+use Rattle.kfifo_import.specs.declared.log.TheConstants.{MAX_LOG_CALLS}
 use Rattle.kfifo_judge_c.specs.declared.calls.LogCall.{LogCall}
 use Rattle.kfifo_judge_c.specs.Lines.{AreKnownToTheLimit, IsCallsFault, IsLogOfCalls, is_unknown, line_of, lines_of}
 
@@ -22,14 +22,14 @@ pub as_many : (calls : List LogCall) → length (lines_of calls) ≡ length call
 as_many calls =
     length-map (enumerate_from 0 calls) (λ (e : ℕ × LogCall). line_of (e.0 + 2) e.1) ∙ length-enumerate_from 0 calls
 
-pub few : (calls : List LogCall) → length calls ≤ MAX_CALLS → length (lines_of calls) ≤ MAX_CALLS
+pub few : (calls : List LogCall) → length calls ≤ MAX_LOG_CALLS → length (lines_of calls) ≤ MAX_LOG_CALLS
 few calls small =
     let same = as_many calls in
     omega (arith, same, small)
 
 -- where the first unknown call would stand past the last one that may be there, there is none
-pub all_known : (calls : List LogCall) (place : ℕ) → position is_unknown calls ≡ Some place → MAX_CALLS ≤ place
-    → length calls ≤ MAX_CALLS → position is_unknown calls ≡ None
+pub all_known : (calls : List LogCall) (place : ℕ) → position is_unknown calls ≡ Some place → MAX_LOG_CALLS ≤ place
+    → length calls ≤ MAX_LOG_CALLS → position is_unknown calls ≡ None
 all_known calls place is far small =
     let none : LogCall = record { first = 0; last = 0; item = 0; thread = 0; op = 0; answer = 0 } in
     let inside = (position-Some is_unknown calls place none is).0 in
@@ -50,7 +50,7 @@ of_calls calls judged (Err (faults.Csv n)) known to_judge is = absurd is
 of_calls calls judged (Err faults.TooMany) known to_judge is =
     let mapped = length-map (lines_of calls) (line_with to_judge.0) in
     let same = as_many calls in
-    let many : MAX_CALLS < length (map (line_with to_judge.0) (lines_of calls)) = rw to_judge.3 at is in
+    let many : MAX_LOG_CALLS < length (map (line_with to_judge.0) (lines_of calls)) = rw to_judge.2 at is in
     (omega (arith, mapped, same, many), known_to_the_limit calls known)
 of_calls calls judged (Err (faults.NotACall n)) known to_judge is = absurd is
 of_calls calls judged (Err (faults.NumberOutOfRange n)) known to_judge is = (known, (judged, to_judge, is))

@@ -1,4 +1,5 @@
 pub mod Lines
+pub mod Named
 pub mod Pictures
 pub mod Reports
 pub mod Texts

@@ -8,21 +8,18 @@ use Rattle.kfifo_model.specs.declared.calls.Call.{Call}
 use Rattle.kfifo_model.specs.declared.calls.End.{End}
 use Rattle.kfifo_model.specs.declared.calls.Op.{Op}
 use Rattle.kfifo_model.specs.declared.calls.Op.TheVariants.{Enqueue, Dequeue}
-use Rattle.kfifo_model.specs.declared.reading.TheConstants.{MAX_CALLS}
+use Rattle.kfifo_import.specs.declared.log.TheConstants.{MAX_LOG_CALLS}
 use Rattle.kfifo_import.specs.declared.log.ImportFault.{ImportFault}
 use Rattle.kfifo_import.specs.declared.log.ImportFault.TheVariants.{Csv, TooMany, NotACall, NumberOutOfRange}
 use Rattle.kfifo_import.specs.declared.log.ImportFault.TheVariants.{WrongAnswer, EndsEarly, Overlap, Memory}
 use Rattle.kfifo_import.specs.declared.log.Line.{Line}
 use Rattle.kfifo_model.specs.declared.logged.LoggedCall.{LoggedCall}
+use Rattle.kfifo_import.specs.Fields.{small}
 use Rattle.kfifo_import.specs.Foreign.{AreToJudge}
 use Rattle.kfifo_import.specs.Logs.{IsImportFault, IsLogOf}
 use Rattle.kfifo_judge_c.specs.declared.calls.LogCall.{LogCall}
 use Rattle.kfifo_judge_c.specs.declared.calls.TheConstants as answers
-use Rattle.kfifo_judge_c.specs.declared.calls.TheConstants.{PUT, GET, UNFINISHED, TOO_GREAT}
-
--- an item as a number of 32 bits: one that is too great is out of every range
-abbrev pub small : ℕ → ℕ
-small x = cond (ltb x TOO_GREAT) x TOO_GREAT
+use Rattle.kfifo_judge_c.specs.declared.calls.TheConstants.{PUT, GET, UNFINISHED}
 
 -- the answer of a put; for a number that is none of a put's stands Empty, which is none of a put's either
 abbrev pub put_answer : ℕ → Answer
@@ -63,9 +60,9 @@ lines_of calls = map (λ e. line_of (e.0 + 2) e.1) (enumerate_from 0 calls)
 abbrev pub is_unknown : LogCall → Bool
 is_unknown c = ltb GET c.op
 
--- no call among the first MAX_CALLS is unknown
+-- no call among the first MAX_LOG_CALLS is unknown
 abbrev pub AreKnownToTheLimit : List LogCall → Type 0
-AreKnownToTheLimit calls = (place : ℕ) → position is_unknown calls ≡ Some place → MAX_CALLS ≤ place
+AreKnownToTheLimit calls = (place : ℕ) → position is_unknown calls ≡ Some place → MAX_LOG_CALLS ≤ place
 
 -- The history is the record of these calls, to be judged, and this is what the log says of its calls.
 pub record IsLogOfCalls (calls : List LogCall) (h : List Call) (logged : List LoggedCall) : Type 0 where
@@ -82,9 +79,9 @@ IsFaultOfLines calls fault = (position is_unknown calls ≡ None)
 -- Why the calls are no log: first of those that may be read one that is neither a put nor a get, then too many, and then
 -- the first fault of the lines.
 abbrev pub IsCallsFault : List LogCall → ImportFault → Type 0
-IsCallsFault calls (NotACall n) = (place : ℕ) × (position is_unknown calls ≡ Some place) × (place < MAX_CALLS)
+IsCallsFault calls (NotACall n) = (place : ℕ) × (position is_unknown calls ≡ Some place) × (place < MAX_LOG_CALLS)
     × (n ≡ place + 2)
-IsCallsFault calls TooMany = (MAX_CALLS < length calls) × AreKnownToTheLimit calls
+IsCallsFault calls TooMany = (MAX_LOG_CALLS < length calls) × AreKnownToTheLimit calls
 IsCallsFault calls (Csv n) = ⊥
 IsCallsFault calls (NumberOutOfRange n) = IsFaultOfLines calls (NumberOutOfRange n)
 IsCallsFault calls (WrongAnswer n) = IsFaultOfLines calls (WrongAnswer n)

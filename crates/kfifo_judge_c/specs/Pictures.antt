@@ -1,5 +1,5 @@
 -- Pictures of the calls of C. How a picture looks is not said.
-use Rattle.std.specs.Prelude.{ℕ, ◌≡◌, ◌⊎◌, List, [], Bool, true, false, length}
+use Rattle.std.specs.Prelude.{ℕ, ◌≡◌, ◌⊎◌, List, Bool, true, false, length}
 use denote.Ref.{Bor}
 use Rattle.kfifo_model.specs.declared.calls.Call.{Call}
 use Rattle.kfifo_model.specs.declared.logged.LoggedCall.{LoggedCall}
@@ -12,7 +12,7 @@ use Rattle.kfifo_draw.specs.declared.part.Part.TheVariants.{All, Near}
 use Rattle.kfifo_judge_c.specs.declared.drawing.TheConstants.{AROUND}
 use Rattle.kfifo_judge_c.specs.declared.report.Report.{Report}
 use Rattle.kfifo_judge_c.specs.declared.status.TheConstants.{DRAWN, FAULT}
-use Rattle.kfifo_judge_c.specs.Reports.{HasNoBounds}
+use Rattle.kfifo_judge_c.specs.Reports.{HasNoBounds, HasNoReason}
 
 -- The part of a history that is drawn: all of it; or, where the evidence is asked for and there is some, the calls near
 -- those that it names.
@@ -24,7 +24,7 @@ IsPart k true h part = (HasNoEvidence k h × (part ≡ All))
 
 -- the report has this status, and a text alone
 abbrev pub HasStatus : ℕ → Report → Type 0
-HasStatus status r = (r.status ≡ status) × (r.fault ≡ 0) × (r.place ≡ 0) × (r.named.items ≡ []) × HasNoBounds r
+HasStatus status r = (r.status ≡ status) × (r.fault ≡ 0) × (r.place ≡ 0) × HasNoReason r × HasNoBounds r
 
 -- The report is a picture of that part, or says that it has too many calls.
 pub record IsPictureOn (k : ℕ) (evidence : Bool) (h : List Call) (logged : List LoggedCall) (r : Report) : Type 0 where

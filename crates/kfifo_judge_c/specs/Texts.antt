@@ -1,6 +1,7 @@
 -- What is found of a text: a log in CSV, or a record in JSON.
-use Rattle.std.specs.Prelude.{ℕ, ◌≡◌, ◌⊎◌, List, [], unwrap_or}
+use Rattle.std.specs.Prelude.{ℕ, ◌≡◌, ◌⊎◌, ⊤, List, [], unwrap_or}
 use Rattle.kfifo_model.specs.declared.calls.Call.{Call}
+use Rattle.kfifo_model.specs.declared.history.RecordFault.TheVariants as records
 use Rattle.kfifo_model.specs.FaultNumbers.{fault_call, fault_number}
 use Rattle.kfifo_import.specs.declared.log.ImportFault.{ImportFault}
 use Rattle.kfifo_model.specs.declared.logged.LoggedCall.{LoggedCall}
@@ -13,7 +14,7 @@ use Rattle.kfifo_model.specs.RecordTexts.{IsRecordText}
 use Rattle.kfifo_judge.specs.TextFaults.{IsTextFault}
 use Rattle.kfifo_judge_c.specs.declared.report.Report.{Report}
 use Rattle.kfifo_judge_c.specs.declared.status.TheConstants.{FAULT}
-use Rattle.kfifo_judge_c.specs.Reports.{HasNoBounds, IsFaultReport, IsVerdictOn}
+use Rattle.kfifo_judge_c.specs.Reports.{HasNoBounds, HasNoReason, IsFaultReport, IsVerdictOn}
 
 -- The calls of the text are judged.
 abbrev pub IsJudgedText : ℕ → List ℕ → Report → Type 0
@@ -31,11 +32,22 @@ record_place RepeatedItem = (0, 0)
 record_place Memory = (0, 0)
 record_place Output = (0, 0)
 
+-- the fault is not that an allocation failed, in reading the text or in reading the record
+abbrev pub IsOfText : StreamFault → Type 0
+IsOfText (Record fault) = ¬ (fault ≡ records.Memory)
+IsOfText Memory = ⊥
+IsOfText Input = ⊤
+IsOfText NotJson = ⊤
+IsOfText (Search fault) = ⊤
+IsOfText RepeatedItem = ⊤
+IsOfText Output = ⊤
+
 -- the report is of this fault of a record
 pub record IsRecordReport (fault : StreamFault) (r : Report) : Type 0 where
+  pub of_text : IsOfText fault
   pub status_is : r.status ≡ FAULT
   pub place_is : (r.fault, r.place) ≡ record_place fault
-  pub none_named : r.named.items ≡ []
+  pub no_reason : HasNoReason r
   pub no_bounds : HasNoBounds r
 
 -- The text has a fault as a record, or as a log.

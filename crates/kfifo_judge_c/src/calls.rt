@@ -2,10 +2,10 @@
 ghost use Rattle.std.specs.Prelude.{◌≡◌, IfOk, MatchResult, position};
 ghost use Rattle.kfifo_judge_c.specs.Lines as specs;
 ghost use Rattle.kfifo_judge_c.specs.Lines.{IsCallsFault, IsLogOfCalls, end_of, item_of, op_of, put_answer};
-ghost use Rattle.kfifo_judge_c.specs.Lines.{answer_of, is_unknown, small, take_answer};
+ghost use Rattle.kfifo_judge_c.specs.Lines.{answer_of, is_unknown, take_answer};
 
-use kfifo_import::{ImportFault, Line, Log, log_of, with_puttable_items};
-use kfifo_model::{Answer, Call, End, MAX_CALLS, Op};
+use kfifo_import::{ImportFault, Line, Log, MAX_LOG_CALLS, log_of, small, with_puttable_items};
+use kfifo_model::{Answer, Call, End, Op};
 use std::alloc::{AllocError, Global};
 
 /// The operation of a put.
@@ -28,9 +28,6 @@ pub(crate) const BUSY: u8 = 5;
 /// The queue can never again take such a call.
 pub(crate) const WORN: u8 = 6;
 
-/// An item that is out of every range, for one that is too great for 32 bits.
-pub(crate) const TOO_GREAT: u32 = 4_294_967_295;
-
 /// A call of a log, as C has it: `kfifo_judge_call` in `c/kfifo_judge.h`.
 #[repr(C)]
 #[derive(Clone, Copy)]
@@ -47,17 +44,6 @@ pub struct LogCall {
     pub op: u8,
     /// What it answered.
     pub answer: u8,
-}
-
-/// An item as a number of 32 bits.
-fn small(item: u64) -> u32
-    ensures { result ≡ small item }
-{
-    if item < 4_294_967_295 {
-        item as u32
-    } else {
-        TOO_GREAT
-    }
 }
 
 /// The answer of a put. For one that no put returns stands Empty, by which the record refuses the call.
@@ -168,17 +154,17 @@ fn first_unknown(calls: &[LogCall]) -> Option<usize>
 }
 
 /// The log that these calls are, to be judged. The first of these faults is reported: a call that is neither a put nor
-/// a get, among the first MAX_CALLS; more than MAX_CALLS calls; and then the first fault of the lines.
+/// a get, among the first MAX_LOG_CALLS; more than MAX_LOG_CALLS calls; and then the first fault of the lines.
 pub(crate) fn log_from(alloc: Global, calls: &[LogCall]) -> Result<Log, ImportFault>
     ensures { MatchResult result (λ log. IsLogOfCalls calls.now log.history log.calls.items)
         (IsCallsFault calls.now) }
 {
     if let Some(place) = first_unknown(calls) {
-        if place < MAX_CALLS {
+        if place < MAX_LOG_CALLS {
             return Err(ImportFault::NotACall(place as u64 + 2));
         }
     }
-    if calls.len() > MAX_CALLS {
+    if calls.len() > MAX_LOG_CALLS {
         return Err(ImportFault::TooMany);
     }
     let lines = lines_of(alloc, calls)?;

@@ -1,15 +1,17 @@
 //! Verdicts on the calls of C.
 ghost use Rattle.std.specs.Prelude.{◌≡◌, ◌≤◌, IfOk, string_bytes};
 ghost use Rattle.kfifo_judge_c.specs.Reports.{IsFaultReport, IsFoundOf, IsK, IsLeastOn, IsVerdictOn, fault_line};
-ghost use Rattle.kfifo_judge_c.specs.Reports.{fault_number, named_in};
+ghost use Rattle.kfifo_judge_c.specs.Reports as specs;
+ghost use Rattle.kfifo_judge_c.specs.Reports.{bound_numbers, fault_number, judgement_headline, judgement_kind};
 
 use crate::calls::{LogCall, log_from};
+use crate::named::calls_named;
 use crate::report::Report;
 use crate::status::{FAULT, LEGAL, NO_ORDER, status_of};
 use kfifo_import::ImportFault;
-use kfifo_judge::{bounded_text, judged_text, named_calls};
+use kfifo_judge::{bounded_text, headline, judged_text, kind_number, named_calls};
 use kfifo_model::{History, LoggedCall};
-use kfifo_verdict::Judgement;
+use kfifo_verdict::{Bounds, Judgement};
 use std::alloc::{AllocError, Global};
 use std::fmt::Write;
 
@@ -55,17 +57,52 @@ pub(crate) fn fault_report(alloc: Global, fault: ImportFault) -> Result<Report, 
     Ok(report)
 }
 
-/// The calls that a verdict names.
-fn calls_named(
+/// The numbers of the calls that a verdict names.
+fn named_in(
     alloc: Global,
     history: &History,
     judgement: &Judgement,
 ) -> Result<Vec<usize>, AllocError>
-    ensures { IfOk result (λ named. named.items ≡ named_in history.now judgement.now) }
+    ensures { IfOk result (λ named. named.items ≡ specs.named_in history.now judgement.now) }
 {
     match judgement {
         Judgement::NoOrder(found) => named_calls(alloc, history, found),
         Judgement::Legal(_) | Judgement::Undecided(_) => Ok(Vec::new(alloc)),
+    }
+}
+
+/// The number of the kind of evidence of a verdict, 0 where it has none.
+fn kind_of(judgement: &Judgement) -> u32
+    ensures { result ≡ judgement_kind judgement.now }
+{
+    match judgement {
+        Judgement::NoOrder(found) => kind_number(found),
+        Judgement::Legal(_) | Judgement::Undecided(_) => 0,
+    }
+}
+
+/// What the evidence of a verdict says of the queue, empty where there is none.
+fn headline_of(
+    alloc: Global,
+    history: &History,
+    logged: &[LoggedCall],
+    judgement: &Judgement,
+) -> Result<String, AllocError>
+    ensures { IfOk result (λ text. string_bytes text ≡ judgement_headline logged.now history.now judgement.now) }
+{
+    match judgement {
+        Judgement::NoOrder(found) => headline(alloc, history, logged, found),
+        Judgement::Legal(_) | Judgement::Undecided(_) => Ok(String::new(alloc)),
+    }
+}
+
+/// Bounds of the least k as two numbers, 0 where there are none.
+fn bound_numbers(bounds: Option<Bounds>) -> (usize, u32)
+    ensures { result ≡ bound_numbers bounds }
+{
+    match bounds {
+        Some(bounds) => (bounds.at_least, bounds.at_most.unwrap_or(0)),
+        None => (0, 0),
     }
 }
 
@@ -80,10 +117,23 @@ pub(crate) fn verdict_on(
     requires { IsK k }
     ensures { IfOk result (IsVerdictOn k history.now logged.now) }
 {
-    let (text, judgement) = judged_text(alloc, history, logged, k, tries, false)?;
-    let mut report = Report::plain(alloc, status_of(&judgement), text);
-    report.named = calls_named(alloc, history, &judgement)?;
-    Ok(report)
+    let judged = judged_text(alloc, history, logged, k, tries, false)?;
+    let judgement = &judged.judgement;
+    let numbers = named_in(alloc, history, judgement)?;
+    let (at_least, at_most) = bound_numbers(judged.bounds);
+    Ok(Report {
+        status: status_of(judgement),
+        fault: 0,
+        place: 0,
+        kind: kind_of(judgement),
+        headline: headline_of(alloc, history, logged, judgement)?,
+        named: calls_named(alloc, history, logged, numbers.as_slice())?,
+        calls: history.calls().len(),
+        left: judged.left,
+        at_least,
+        at_most,
+        text: judged.text,
+    })
 }
 
 /// The report of the bounds of the least k of a history.
@@ -100,8 +150,9 @@ fn least_on(
         return Ok(Report::plain(alloc, NO_ORDER, text));
     };
     let mut report = Report::plain(alloc, LEGAL, text);
-    report.at_least = bounds.at_least;
-    report.at_most = bounds.at_most.unwrap_or(0);
+    let (at_least, at_most) = bound_numbers(Some(bounds));
+    report.at_least = at_least;
+    report.at_most = at_most;
     Ok(report)
 }
 

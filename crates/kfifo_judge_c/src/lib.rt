@@ -7,9 +7,11 @@ mod calls;
 mod drawing;
 mod exports;
 mod judging;
+mod named;
 mod report;
 mod status;
 mod texts;
 
 pub use calls::LogCall;
+pub use named::NamedCall;
 pub use report::{Found, Report};

@@ -8,6 +8,7 @@ use crate::report::Report;
 use crate::status::FAULT;
 use kfifo_import::read_log_to_judge;
 use kfifo_judge::{StreamFault, begins_record, read_record};
+use kfifo_model::RecordFault;
 use std::alloc::{AllocError, Global};
 use std::fmt::Write;
 
@@ -29,7 +30,7 @@ fn record_place(fault: StreamFault) -> (u32, u64)
 fn record_report(alloc: Global, fault: StreamFault) -> Result<Report, AllocError>
     ensures { IfOk result (IsRecordReport fault) }
 {
-    if let StreamFault::Memory = fault {
+    if let StreamFault::Memory | StreamFault::Record(RecordFault::Memory) = fault {
         return Err(AllocError);
     }
     let mut text = String::new(alloc);

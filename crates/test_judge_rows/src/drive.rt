@@ -15,6 +15,7 @@
 //! | `judge`, `least` | what is said of the record, and then its outcome; or its fault |
 //! | `evidence`, `witness`, `verdict`, `bounds` | what `evidence`, `witness`, `judge` and `least_k` return |
 //! | `import` | the calls of a log, or its fault |
+//! | `lines` | how many lines a log has below its header, or its fault |
 //! | `wrong` | what is said of the field that makes a line of a log no call, or `none` |
 //! | `draw`, `svg` | the picture in characters, or as SVG; or its fault |
 //! | `form` | whether the picture as SVG is well formed |
@@ -226,6 +227,20 @@ fn add_log(alloc: Global, input: &str, lines: &mut Vec<String>) -> Result<(), Al
     }
 }
 
+/// How many lines a log has, which is read in pieces.
+fn count_line(alloc: Global, input: &str) -> Result<String, AllocError> {
+    let file = Pieces {
+        bytes: input.as_bytes(),
+    };
+    let Ok(bytes) = plain::bytes_of(alloc, file) else {
+        return "not read".to_string(alloc);
+    };
+    match plain::count_lines(alloc, bytes.as_slice()) {
+        Ok(count) => format!(in alloc; "{count} lines"),
+        Err(refusal) => plain::told(alloc, &refusal.fault),
+    }
+}
+
 /// The line of the field of a log that is wrong.
 fn wrong_line(alloc: Global, input: &str) -> Result<String, AllocError> {
     match plain::import_text(alloc, input.as_bytes()) {
@@ -267,6 +282,8 @@ fn add_answer(
         add_of_record(alloc, input, ask, lines)
     } else if name == "import" {
         add_log(alloc, input, lines)
+    } else if name == "lines" {
+        Ok(lines.push(count_line(alloc, input)?)?)
     } else if name == "wrong" {
         Ok(lines.push(wrong_line(alloc, input)?)?)
     } else if name == "text" {

@@ -1,10 +1,10 @@
 //! The calls that the rows ask for, with nothing said of what they return. Where a call wants k to be 1 to 64, another
 //! k gives a line of its own.
 
-use crate::streams::{Input, Output};
+use crate::streams::{Input, Output, Pieces};
 use kfifo_draw::{DrawFault, Drawing, Marking, Part, Style};
-use kfifo_import::Refusal;
-use kfifo_judge::{Outcome, StreamFault};
+use kfifo_import::{MAX_LOG_CALLS, Refusal, lines_of};
+use kfifo_judge::{FromStd, Outcome, ReadFault, StreamFault, read_all};
 use kfifo_model::History;
 use serde_json::Value;
 use std::alloc::{AllocError, Global};
@@ -102,6 +102,17 @@ pub(crate) fn read_record(alloc: Global, bytes: &[u8]) -> Result<History, Stream
 
 pub(crate) fn import_text(alloc: Global, bytes: &[u8]) -> Result<History, Refusal> {
     kfifo_import::import_text(alloc, bytes)
+}
+
+/// The bytes of a file.
+pub(crate) fn bytes_of(alloc: Global, file: Pieces<'_>) -> Result<Vec<u8>, ReadFault> {
+    read_all(alloc, &mut FromStd::new(file))
+}
+
+/// How many lines a log has below its header.
+pub(crate) fn count_lines(alloc: Global, bytes: &[u8]) -> Result<usize, Refusal> {
+    let lines = lines_of(alloc, bytes, MAX_LOG_CALLS)?;
+    Ok(lines.len())
 }
 
 pub(crate) fn evidence(alloc: Global, history: &History, k: u32) -> Result<String, AllocError> {

@@ -17,6 +17,6 @@ returns-in_err-end c =
     let fields = fields_of c.args.row.now in
     let columns = c.args.columns.now in
     rw c.from_residual-in_err-end.ensures
-    (no_end columns fields c.in_ok-item.item c.in_ok-last.last c.in_ok-field-3.field-0.now (search rules) (search rules) c.in_ok-op.op
+    (no_end columns fields c.args.item c.in_ok-last.last c.in_ok-field-3.field-0.now (search rules) (search rules) c.in_ok-op.op
     (option_map (λ t. t.now) c.field-4.result)
     (search rules) (search rules) (search rules) (search rules))

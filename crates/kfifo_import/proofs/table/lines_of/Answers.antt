@@ -32,14 +32,14 @@ loop-row-preserved c =
     let first : first_row (drop front.at plain) ≡ Some next.0 = ap first_row at ∙ behind_same inv.3 ∙ next.1 in (
       step.2,
       inv.1,
-      takes_few table.columns c.take.new.self.columns table.lines.items c.take.new.self.lines.items front.line fields
+      takes_few c.args.most table.columns c.take.new.self.columns table.lines.items c.take.new.self.lines.items front.line fields
           c.in_ok-take-in-Ok.ensures.ok inv.2,
       next.0.2,
       stands_next rem inv.3 a b fields inv.4 step.0 step.1 flexible (next.0, next.1),
       c.row_end-place.ensures.is,
       c.row_end-place.ensures.rest next.0 first,
       subst (λ wide. Holds plain c.take.new.self.columns c.take.new.self.lines.items wide next.0.2) (sym width.0)
-          (takes_row plain inv.3 table.columns c.take.new.self.columns table.lines.items c.take.new.self.lines.items a.expected front.line
+          (takes_row c.args.most plain inv.3 table.columns c.take.new.self.columns table.lines.items c.take.new.self.lines.items a.expected front.line
           fields next width.1 inv.7
           c.in_ok-take-in-Ok.ensures.ok),
     )
@@ -58,9 +58,9 @@ returns-in_err-take-in-Ok-clause-err c =
     let next : IsNextRow plain inv.3 (row_at front.line fields) =
     next_row rem plain inv.3 a b front fields inv.4 c.row_front-front.ensures.is at step.0 in
     let width = width_same rem a b inv.3 fields inv.4 step.0 in
-    let refused : IsTextFault (strip_bom c.args.text.now) c.in_err-take-in-Ok.field-0.0.fault =
-    subst (λ t. IsTextFault t c.in_err-take-in-Ok.field-0.0.fault) inv.1
-    (not_taken plain inv.3 table.columns table.lines.items a.expected front.line fields c.in_err-take-in-Ok.field-0.0.fault next width.1
+    let refused : IsTextFault c.args.most (strip_bom c.args.text.now) c.in_err-take-in-Ok.field-0.0.fault =
+    subst (λ t. IsTextFault c.args.most t c.in_err-take-in-Ok.field-0.0.fault) inv.1
+    (not_taken c.args.most plain inv.3 table.columns table.lines.items a.expected front.line fields c.in_err-take-in-Ok.field-0.0.fault next width.1
     inv.2 inv.7 c.in_err-take-in-Ok.ensures.err) in
     search rules
 
@@ -74,8 +74,8 @@ returns-in-Err-clause-err c =
     let front = c.row_front-front.result in
     let step = rw (c.in-Some.is, c.in-Err.is) at ((c.next.ensures.steps inv.0 inv.4.trim).0 inv.4.ready) in
     let at : drop front.at plain ≡ behind_ends inv.3 = c.row_front-front.ensures.rest ∙ ap behind_ends inv.6 in
-    rw c.from.ensures.0 (subst (λ t. IsTextFault t c.fault_of.result) inv.1
-    (read_fault rem plain inv.3 a b table.columns table.lines.items front c.in-Err.error.kind c.fault_of.result inv.4
+    rw c.from.ensures.0 (subst (λ t. IsTextFault c.args.most t c.fault_of.result) inv.1
+    (read_fault rem c.args.most plain inv.3 a b table.columns table.lines.items front c.in-Err.error.kind c.fault_of.result inv.4
     c.row_front-front.ensures.is at inv.7 step (rw c.kind.ensures at c.fault_of.ensures)))
 
 pub returns-in_err-take-in-Ok-clause-wrong : goal.returns-in_err-take-in-Ok-clause-wrong
@@ -95,6 +95,6 @@ returns-in_err-take-in-Ok-clause-wrong c =
     let width = width_same rem a b inv.3 fields inv.4 step.0 in
     let told : TellsWrong (strip_bom c.args.text.now) refusal.wrong refusal.fault =
     subst (λ t. TellsWrong t refusal.wrong refusal.fault) inv.1
-    (wrong_told plain inv.3 table.columns table.lines.items a.expected front.line fields refusal.wrong refusal.fault next width.1
+    (wrong_told c.args.most plain inv.3 table.columns table.lines.items a.expected front.line fields refusal.wrong refusal.fault next width.1
     inv.7 c.in_err-take-in-Ok.ensures.err c.in_err-take-in-Ok.ensures.wrong) in
     search rules

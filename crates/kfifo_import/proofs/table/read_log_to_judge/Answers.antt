@@ -1,8 +1,12 @@
-use Rattle.kfifo_import.proofs.Logs.{few_calls, same_count}
+use Rattle.std.proofs.Common.{arith}
+use Rattle.kfifo_import.proofs.Logs.{call_for_each, same_count}
 use Rattle.kfifo_import.proofs.table.read_log_to_judge.Goals as goal
 
 pub returns-clause-few : goal.returns-clause-few
-returns-clause-few c = few_calls c.in_ok-judged.judged.items c.in_ok-log.log.history c.in_ok-log.log.calls.items c.in_ok-log.ensures
+returns-clause-few c =
+    let each = call_for_each c.in_ok-judged.judged.items c.in_ok-log.log.history c.in_ok-log.log.calls.items c.in_ok-log.ensures in
+    let few = c.in_ok-log.ensures.few in
+    omega (arith, each, few)
 
 pub returns-clause-each : goal.returns-clause-each
 returns-clause-each c = same_count c.in_ok-judged.judged.items c.in_ok-log.log.history c.in_ok-log.log.calls.items c.in_ok-log.ensures

@@ -2,23 +2,23 @@ use Rattle.std.proofs.Common.{◌≡◌, ◌≤◌, ◌∙◌, List, None, lengt
 use Rattle.std.specs.Prelude.{position}
 use Rattle.kfifo_import.specs.declared.log.Line.{Line}
 use Rattle.kfifo_import.specs.Foreign.{AreToJudge}
-use Rattle.kfifo_model.specs.declared.reading.TheConstants.{MAX_CALLS}
+use Rattle.kfifo_import.specs.declared.log.TheConstants.{MAX_LOG_CALLS}
 use Rattle.kfifo_judge_c.specs.Lines.{is_unknown, lines_of}
 use Rattle.kfifo_judge_c.proofs.Logs.{all_known, few, of_calls}
 use Rattle.kfifo_judge_c.proofs.calls.log_from.Goals as goal
-use Rattle.kfifo_judge_c.proofs.calls.log_from.Goals.{in-Some+else-place-lt-MAX_CALLS, in_default}
+use Rattle.kfifo_judge_c.proofs.calls.log_from.Goals.{in-Some+else-place-lt-MAX_LOG_CALLS, in_default}
 
 pub with_puttable_items-requires : goal.with_puttable_items-requires
 with_puttable_items-requires c =
-    subst (λ (lines : List Line). length lines ≤ MAX_CALLS) (sym c.in_ok-lines.ensures)
-    (few c.args.calls.now c.if-calls-gt-MAX_CALLS.false)
+    subst (λ (lines : List Line). length lines ≤ MAX_LOG_CALLS) (sym c.in_ok-lines.ensures)
+    (few c.args.calls.now c.if-calls-gt-MAX_LOG_CALLS.false)
 
 pub returns : goal.returns
 returns c =
     let calls = c.args.calls.now in
     let known : position is_unknown calls ≡ None = elim c.match-first_unknown.branch [
-      | in-Some+else-place-lt-MAX_CALLS w ↦ all_known calls w.in-Some.place (sym c.first_unknown.ensures ∙ w.in-Some.is)
-          w.if-place-lt-MAX_CALLS.false c.if-calls-gt-MAX_CALLS.false
+      | in-Some+else-place-lt-MAX_LOG_CALLS w ↦ all_known calls w.in-Some.place (sym c.first_unknown.ensures ∙ w.in-Some.is)
+          w.if-place-lt-MAX_LOG_CALLS.false c.if-calls-gt-MAX_LOG_CALLS.false
       | in_default w ↦ sym c.first_unknown.ensures ∙ w.in_default.is
     ] in
     let to_judge : AreToJudge (lines_of calls) c.in_ok-judged.judged.items =

@@ -7,5 +7,5 @@ use Rattle.kfifo_judge_c.proofs.exports.kfifo_judge_c_draw.Goals as goal
 pub returns : goal.returns
 returns c =
     answered (IsK c.args.k) (IsFoundOf (IsPictureOn c.args.k c.args.evidence) c.args.calls.now)
-    c.draw_calls.result c.hand_over.result _ _ _ _ _ _ (c.if-not-is_k.ensures.0 refl)
+    c.draw_calls.result c.hand_over.result _ _ _ _ _ _ _ _ (c.if-not-is_k.ensures.0 refl)
     c.draw_calls.ensures c.hand_over.ensures
